@@ -1,0 +1,62 @@
+//! Devices: what gives bytes, what takes them, and how a failed call shows.
+ghost use Rattle.std.specs.Prelude.{◌≡◌, ℕ, ◌-◌, ◌^◌, ◌<◌, List, Option, IfOk, length};
+ghost use Rattle.std.specs.Io.{ReadsAtMost, WritesAtMost};
+ghost use Rattle.std.specs.Io.KnownBytes.{Keeps, ReadConsumes, WriteAppends};
+ghost use Rattle.dimacs_io.specs.Device.{CountsFailure, LowersByCount};
+
+use thiserror::Error;
+
+/// A call on a device failed. It is answered exactly where the device's count of failed calls rose in that call.
+#[derive(Clone, Copy, Debug, PartialEq, Eq, Error)]
+#[error("a device failed")]
+pub struct Broken;
+
+/// Gives bytes up to an end.
+///
+/// A read of n bytes lowers `most_left` by n and a failed one keeps it, so that reading ends, and what was given is as many
+/// first bytes of what it had as `most_left` has fallen. Each call asks that the count of failed calls can still rise.
+pub trait Source {
+    /// The bytes that it still gives, where it tells them.
+    ghost remaining: { Self → Option (List ℕ) };
+
+    /// How many bytes it can still give at most.
+    ghost most_left: { Self → ℕ };
+
+    /// How many of its calls have failed.
+    ghost failures: { Self → ℕ };
+
+    /// Puts bytes at the start of `piece`, and says how many: one at least, unless `piece` is empty or the end is reached.
+    /// Fails with `Broken`, having given nothing.
+    fn read(&mut self, piece: &mut [u8]) -> Result<usize, Broken>
+        requires { failures self.old < 2 ^ 64 - 1 }
+        ensures bound { ReadsAtMost result piece.new }
+        ensures bytes { ReadConsumes (remaining self.old) (remaining self.new) result piece.new }
+        ensures left { LowersByCount result (most_left self.old) (most_left self.new) }
+        ensures failed { CountsFailure result (failures self.old) (failures self.new) };
+}
+
+/// Takes bytes. A failed call, and any `flush`, leaves what it holds.
+///
+/// Each call asks that the count of failed calls can still rise.
+pub trait Sink {
+    /// The bytes that it holds, where it tells them.
+    ghost contents: { Self → Option (List ℕ) };
+
+    /// How many of its calls have failed.
+    ghost failures: { Self → ℕ };
+
+    /// Takes bytes from the start of `piece`, and says how many: one at least, unless `piece` is empty. Fails with
+    /// `Broken`, having taken nothing.
+    fn write(&mut self, piece: &[u8]) -> Result<usize, Broken>
+        requires { failures self.old < 2 ^ 64 - 1 }
+        ensures bound { WritesAtMost result piece.now }
+        ensures progress { IfOk result (λ n. 0 < length piece.now → 0 < n) }
+        ensures bytes { WriteAppends (contents self.old) (contents self.new) result piece.now }
+        ensures failed { CountsFailure result (failures self.old) (failures self.new) };
+
+    /// Passes on what was taken. No clause can say that it does.
+    fn flush(&mut self) -> Result<(), Broken>
+        requires { failures self.old < 2 ^ 64 - 1 }
+        ensures bytes { Keeps (contents self.old) (contents self.new) }
+        ensures failed { CountsFailure result (failures self.old) (failures self.new) };
+}

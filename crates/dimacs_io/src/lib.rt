@@ -1,0 +1,17 @@
+//! Devices that give and take bytes, and the lines that are written to them.
+#![tactic(auto)]
+
+mod device;
+mod line;
+mod stream;
+mod testing;
+mod writer;
+
+pub use device::{Broken, Sink, Source};
+pub use line::Line;
+pub use stream::{ReadSource, WriteSink};
+pub use testing::{Pad, Script};
+pub use writer::{write_all, write_f, write_i, write_k, write_r, write_s, write_v};
+
+#[cfg(test)]
+mod tests;

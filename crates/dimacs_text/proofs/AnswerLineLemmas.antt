@@ -1,0 +1,68 @@
+-- What it means that a line of an answer text was read.
+use Rattle.std.proofs.Common.{◌≡◌, ℕ, ◌+◌, ◌≤◌, true, List, length, Option, Some, None, Result, Ok, Err, ℤ, pos, refl, ap, subst, ◌∙◌}
+use Rattle.std.specs.Prelude.{nat_lt, ◌==◌, is_none, is_some, unwrap_or}
+use Rattle.dimacs_text.specs.declared.fault.Fault.{Fault}
+use Rattle.dimacs_text.specs.declared.fault.Fault.TheVariants as fault
+use Rattle.dimacs_text.specs.Fields.{Word, natural, integer}
+use Rattle.dimacs_text.specs.Lawful.{IsNode}
+use Rattle.dimacs_text.specs.Problem.{◌>>=◌, demand, some_or, natural_in, natural_value, integer_value, field}
+use Rattle.dimacs_text.proofs.RowLemmas.{bind_ok, demand_ok, some_or_ok, ok_is, natural_in-ok}
+use Rattle.dimacs_text.specs.declared.answer.FlowLine.{FlowLine}
+use Rattle.dimacs_text.specs.Answer.{Said, claimed_value, value_said, flow_said, potential_said, read_value, read_flow, read_potential}
+
+none_is : (o : Option ℤ) → is_none o ≡ true → o ≡ None
+none_is None e = refl
+none_is (Some value) e = absurd cc
+
+-- what an `s` line says
+pub record ValueIsRead (said : Said) (fields : List Word) (claimed : ℤ) : Type 0 where
+  pub first : said.value ≡ None
+  pub value_is : value_said fields ≡ claimed
+
+pub read_value-ok : (said : Said) (fields : List Word) (value : ℤ) → read_value said fields ≡ Ok value → ValueIsRead said fields value
+unfolding read_value
+read_value-ok said fields value ok =
+    let s1 = bind_ok (demand (is_none said.value) fault.OutOfOrder) (λ _. demand (length fields == 1) fault.WrongFieldCount >>= λ _. some_or (claimed_value (field 0 fields)) fault.NotANumber) value ok in
+    let s2 = bind_ok (demand (length fields == 1) fault.WrongFieldCount) (λ _. some_or (claimed_value (field 0 fields)) fault.NotANumber) value s1.2 in
+    record {
+      first = none_is said.value (demand_ok _ _ s1.0 s1.1);
+      value_is = ap (λ (o : Option ℤ). unwrap_or o (pos 0)) (some_or_ok (claimed_value (field 0 fields)) fault.NotANumber value s2.2);
+    }
+
+-- what an `f` line says
+pub record FlowIsRead (nodes : ℕ) (fields : List Word) (line : FlowLine) : Type 0 where
+  pub tail : IsNode nodes line.tail
+  pub head : IsNode nodes line.head
+  pub line_is : flow_said fields ≡ line
+
+pub read_flow-ok : (nodes arcs : ℕ) (said : Said) (fields : List Word) (line : FlowLine) → read_flow nodes arcs said fields ≡ Ok line → FlowIsRead nodes fields line
+unfolding read_flow
+read_flow-ok nodes arcs said fields line ok =
+    let s1 = bind_ok (demand (is_some said.value) fault.OutOfOrder) (λ _. demand (nat_lt (length said.flows) arcs) fault.OutOfOrder >>= λ _. demand (length fields == 3) fault.WrongFieldCount >>= λ _. natural_in 1 nodes (field 0 fields) >>= λ tail. natural_in 1 nodes (field 1 fields) >>= λ head. some_or (natural (field 2 fields)) fault.NotANumber >>= λ flow. Ok (record { tail = tail; head = head; flow = pos flow })) line ok in
+    let s2 = bind_ok (demand (nat_lt (length said.flows) arcs) fault.OutOfOrder) (λ _. demand (length fields == 3) fault.WrongFieldCount >>= λ _. natural_in 1 nodes (field 0 fields) >>= λ tail. natural_in 1 nodes (field 1 fields) >>= λ head. some_or (natural (field 2 fields)) fault.NotANumber >>= λ flow. Ok (record { tail = tail; head = head; flow = pos flow })) line s1.2 in
+    let s3 = bind_ok (demand (length fields == 3) fault.WrongFieldCount) (λ _. natural_in 1 nodes (field 0 fields) >>= λ tail. natural_in 1 nodes (field 1 fields) >>= λ head. some_or (natural (field 2 fields)) fault.NotANumber >>= λ flow. Ok (record { tail = tail; head = head; flow = pos flow })) line s2.2 in
+    let s4 = bind_ok (natural_in 1 nodes (field 0 fields)) (λ tail. natural_in 1 nodes (field 1 fields) >>= λ head. some_or (natural (field 2 fields)) fault.NotANumber >>= λ flow. Ok (record { tail = tail; head = head; flow = pos flow })) line s3.2 in
+    let s5 = bind_ok (natural_in 1 nodes (field 1 fields)) (λ head. some_or (natural (field 2 fields)) fault.NotANumber >>= λ flow. Ok (record { tail = s4.0; head = head; flow = pos flow })) line s4.2 in
+    let s6 = bind_ok (some_or (natural (field 2 fields)) fault.NotANumber) (λ flow. Ok (record { tail = s4.0; head = s5.0; flow = pos flow })) line s5.2 in
+    let tail = natural_in-ok 1 nodes (field 0 fields) s4.0 s4.1 in
+    let head = natural_in-ok 1 nodes (field 1 fields) s5.0 s5.1 in
+    let flow : natural_value (field 2 fields) ≡ s6.0 = ap (λ (o : Option ℕ). unwrap_or o 0) (some_or_ok (natural (field 2 fields)) fault.NotANumber s6.0 s6.1) in
+    let is : ◌≡◌ {A = FlowLine} (record { tail = s4.0; head = s5.0; flow = pos s6.0 }) line = ok_is _ line s6.2 in
+    record {
+      tail = subst (λ (l : FlowLine). IsNode nodes l.tail) is (tail.above, tail.below);
+      head = subst (λ (l : FlowLine). IsNode nodes l.head) is (head.above, head.below);
+      line_is = rw (tail.value, head.value, flow) is;
+    }
+
+-- what a `v` line says
+pub read_potential-ok : (nodes arcs : ℕ) (said : Said) (fields : List Word) (value : ℤ) → read_potential nodes arcs said fields ≡ Ok value → potential_said fields ≡ value
+unfolding read_potential
+read_potential-ok nodes arcs said fields value ok =
+    let s1 = bind_ok (demand (is_some said.value) fault.OutOfOrder) (λ _. demand (length said.flows == arcs) fault.OutOfOrder >>= λ _. demand (nat_lt (length said.potentials) nodes) fault.OutOfOrder >>= λ _. demand (length fields == 2) fault.WrongFieldCount >>= λ _. natural_in 1 nodes (field 0 fields) >>= λ id. some_or (integer (field 1 fields)) fault.NotANumber >>= λ potential. demand (id == length said.potentials + 1) fault.OutOfOrder >>= λ _. Ok potential) value ok in
+    let s2 = bind_ok (demand (length said.flows == arcs) fault.OutOfOrder) (λ _. demand (nat_lt (length said.potentials) nodes) fault.OutOfOrder >>= λ _. demand (length fields == 2) fault.WrongFieldCount >>= λ _. natural_in 1 nodes (field 0 fields) >>= λ id. some_or (integer (field 1 fields)) fault.NotANumber >>= λ potential. demand (id == length said.potentials + 1) fault.OutOfOrder >>= λ _. Ok potential) value s1.2 in
+    let s3 = bind_ok (demand (nat_lt (length said.potentials) nodes) fault.OutOfOrder) (λ _. demand (length fields == 2) fault.WrongFieldCount >>= λ _. natural_in 1 nodes (field 0 fields) >>= λ id. some_or (integer (field 1 fields)) fault.NotANumber >>= λ potential. demand (id == length said.potentials + 1) fault.OutOfOrder >>= λ _. Ok potential) value s2.2 in
+    let s4 = bind_ok (demand (length fields == 2) fault.WrongFieldCount) (λ _. natural_in 1 nodes (field 0 fields) >>= λ id. some_or (integer (field 1 fields)) fault.NotANumber >>= λ potential. demand (id == length said.potentials + 1) fault.OutOfOrder >>= λ _. Ok potential) value s3.2 in
+    let s5 = bind_ok (natural_in 1 nodes (field 0 fields)) (λ id. some_or (integer (field 1 fields)) fault.NotANumber >>= λ potential. demand (id == length said.potentials + 1) fault.OutOfOrder >>= λ _. Ok potential) value s4.2 in
+    let s6 = bind_ok (some_or (integer (field 1 fields)) fault.NotANumber) (λ potential. demand (s5.0 == length said.potentials + 1) fault.OutOfOrder >>= λ _. Ok potential) value s5.2 in
+    let s7 = bind_ok (demand (s5.0 == length said.potentials + 1) fault.OutOfOrder) (λ _. Ok s6.0) value s6.2 in
+    ap (λ (o : Option ℤ). unwrap_or o (pos 0)) (some_or_ok (integer (field 1 fields)) fault.NotANumber s6.0 s6.1) ∙ ok_is s6.0 value s7.2

@@ -1,0 +1,124 @@
+-- No check of a problem text but that of its length says that a line is too long.
+use Rattle.std.proofs.Common.{◌≡◌, ◌≢◌, ℕ, Bool, true, false, cond, if◌then◌else◌, not, ◌&&◌, List, [], ◌∷◌, length, Option, Some, None, Result, Ok, Err, ℤ, pos, neg_ℤ, arith}
+use Rattle.std.specs.Prelude.{int_le, nat_le, nat_lt, ◌==◌, is_none}
+use Rattle.dimacs_text.specs.declared.fault.Fault.{Fault}
+use Rattle.dimacs_text.specs.declared.fault.Fault.TheVariants as fault
+use Rattle.dimacs_text.specs.declared.fault.TextFault.{TextFault}
+use Rattle.dimacs_text.specs.declared.fault.TextFault.TheVariants as text_fault
+use Rattle.dimacs_text.specs.declared.problem.Kind.TheVariants.{Min}
+use Rattle.dimacs_text.specs.declared.problem.NodeMark.TheVariants.{Supply}
+use Rattle.dimacs_text.specs.declared.problem.Size.{Size}
+use Rattle.dimacs_text.specs.declared.problem.TheConstants.{NODE_LIMIT, ARC_LIMIT, CAP_LIMIT, COST_LIMIT, SUPPLY_LIMIT}
+use Rattle.dimacs_text.specs.declared.words.Designator.{Designator}
+use Rattle.dimacs_text.specs.declared.words.Designator.TheVariants as designator
+use Rattle.dimacs_text.specs.Fault.{number_of}
+use Rattle.dimacs_text.specs.Lines.{Line}
+use Rattle.dimacs_text.specs.Fields.{Word, natural, integer, words_of}
+use Rattle.dimacs_text.specs.Problem.{Told, told_of, ◌>>=◌, demand, some_or, natural_in, integer_in, kind_in, read_size, read_mark, read_row, field, is_named, fault_of, fault_by, first_of, fields_of}
+use Rattle.dimacs_text.specs.Stream.{at_line, or_at}
+use Rattle.dimacs_text.specs.Reading.{ProblemValue, ending_by, problem_rule, problem_end}
+
+-- ---- no check of a line that fits says that it is too long
+
+abbrev pub IsOther : {A : Type 0} → Result A Fault → Type 0
+IsOther (Ok x) = Unit {0}
+IsOther (Err f) = f ≢ fault.LineTooLong
+
+pub bind_other : {A B : Type 0} (r : Result A Fault) (f : A → Result B Fault) → IsOther r → ((x : A) → IsOther (f x)) → IsOther (r >>= f)
+bind_other (Ok x) f h k = k x
+bind_other (Err e) f h k = h
+
+pub demand_other : (met : Bool) (f : Fault) → f ≢ fault.LineTooLong → IsOther (demand met f)
+demand_other true f ne = tt
+demand_other false f ne = ne
+
+pub some_or_other : {A : Type 0} (o : Option A) (f : Fault) → f ≢ fault.LineTooLong → IsOther (some_or o f)
+some_or_other None f ne = ne
+some_or_other (Some x) f ne = tt
+
+range_other : {A : Type 0} (met : Bool) (x : A) → IsOther (cond met (Ok x) (Err fault.OutOfRange))
+range_other true x = tt
+range_other false x = λ h. cc
+
+pub natural_in_other : (low high : ℕ) (word : Word) → IsOther (natural_in low high word)
+natural_in_other low high word = bind_other (some_or (natural word) fault.NotANumber) (λ n. if nat_le low n && nat_le n high then Ok n else Err fault.OutOfRange) (some_or_other (natural word) fault.NotANumber (λ h. cc)) (λ n. range_other (nat_le low n && nat_le n high) n)
+
+integer_in_other : (limit : ℤ) (word : Word) → IsOther (integer_in limit word)
+integer_in_other limit word = bind_other (some_or (integer word) fault.NotANumber) (λ z. if int_le (neg_ℤ limit) z && int_le z limit then Ok z else Err fault.OutOfRange) (some_or_other (integer word) fault.NotANumber (λ h. cc)) (λ z. range_other (int_le (neg_ℤ limit) z && int_le z limit) z)
+
+kind_by_other : (met : Bool) → IsOther (cond met (Ok Min) (Err fault.UnknownKind))
+kind_by_other true = tt
+kind_by_other false = λ h. cc
+
+kind_in_other : (word : Word) → IsOther (kind_in word)
+kind_in_other [] = λ h. cc
+kind_in_other (a ∷ []) = λ h. cc
+kind_in_other (a ∷ b ∷ []) = λ h. cc
+kind_in_other (a ∷ b ∷ c ∷ []) = kind_by_other (a == 109 && b == 105 && c == 110)
+kind_in_other (a ∷ b ∷ c ∷ d ∷ word) = λ h. cc
+
+read_size_other : (told : Told) (fields : List Word) → IsOther (read_size told fields)
+unfolding read_size
+read_size_other told fields =
+    bind_other (demand (is_none told.size) fault.SecondProblemLine) (λ _. demand (length fields == 3) fault.WrongFieldCount >>= λ _. kind_in (field 0 fields) >>= λ kind. natural_in 1 NODE_LIMIT (field 1 fields) >>= λ nodes. natural_in 0 ARC_LIMIT (field 2 fields) >>= λ arcs. Ok (record { kind = kind; nodes = nodes; arcs = arcs })) (demand_other _ fault.SecondProblemLine (λ h. cc)) (λ _.
+    bind_other (demand (length fields == 3) fault.WrongFieldCount) (λ _. kind_in (field 0 fields) >>= λ kind. natural_in 1 NODE_LIMIT (field 1 fields) >>= λ nodes. natural_in 0 ARC_LIMIT (field 2 fields) >>= λ arcs. Ok (record { kind = kind; nodes = nodes; arcs = arcs })) (demand_other _ fault.WrongFieldCount (λ h. cc)) (λ _.
+    bind_other (kind_in (field 0 fields)) (λ kind. natural_in 1 NODE_LIMIT (field 1 fields) >>= λ nodes. natural_in 0 ARC_LIMIT (field 2 fields) >>= λ arcs. Ok (record { kind = kind; nodes = nodes; arcs = arcs })) (kind_in_other (field 0 fields)) (λ kind.
+    bind_other (natural_in 1 NODE_LIMIT (field 1 fields)) (λ nodes. natural_in 0 ARC_LIMIT (field 2 fields) >>= λ arcs. Ok (record { kind = kind; nodes = nodes; arcs = arcs })) (natural_in_other 1 NODE_LIMIT (field 1 fields)) (λ nodes.
+    bind_other (natural_in 0 ARC_LIMIT (field 2 fields)) (λ arcs. Ok (record { kind = kind; nodes = nodes; arcs = arcs })) (natural_in_other 0 ARC_LIMIT (field 2 fields)) (λ arcs.
+    tt)))))
+
+read_mark_other : (told : Told) (fields : List Word) → IsOther (read_mark told fields)
+unfolding read_mark
+read_mark_other told fields =
+    bind_other (some_or told.size fault.BeforeProblemLine) (λ size. demand (length told.rows == 0) fault.NodeAfterArc >>= λ _. demand (length fields == 2) fault.WrongFieldCount >>= λ _. natural_in 1 size.nodes (field 0 fields) >>= λ id. integer_in SUPPLY_LIMIT (field 1 fields) >>= λ value. demand (not (is_named id told.marks)) fault.NamedTwice >>= λ _. Ok (Supply id value)) (some_or_other told.size fault.BeforeProblemLine (λ h. cc)) (λ size.
+    bind_other (demand (length told.rows == 0) fault.NodeAfterArc) (λ _. demand (length fields == 2) fault.WrongFieldCount >>= λ _. natural_in 1 size.nodes (field 0 fields) >>= λ id. integer_in SUPPLY_LIMIT (field 1 fields) >>= λ value. demand (not (is_named id told.marks)) fault.NamedTwice >>= λ _. Ok (Supply id value)) (demand_other _ fault.NodeAfterArc (λ h. cc)) (λ _.
+    bind_other (demand (length fields == 2) fault.WrongFieldCount) (λ _. natural_in 1 size.nodes (field 0 fields) >>= λ id. integer_in SUPPLY_LIMIT (field 1 fields) >>= λ value. demand (not (is_named id told.marks)) fault.NamedTwice >>= λ _. Ok (Supply id value)) (demand_other _ fault.WrongFieldCount (λ h. cc)) (λ _.
+    bind_other (natural_in 1 size.nodes (field 0 fields)) (λ id. integer_in SUPPLY_LIMIT (field 1 fields) >>= λ value. demand (not (is_named id told.marks)) fault.NamedTwice >>= λ _. Ok (Supply id value)) (natural_in_other 1 size.nodes (field 0 fields)) (λ id.
+    bind_other (integer_in SUPPLY_LIMIT (field 1 fields)) (λ value. demand (not (is_named id told.marks)) fault.NamedTwice >>= λ _. Ok (Supply id value)) (integer_in_other SUPPLY_LIMIT (field 1 fields)) (λ value.
+    bind_other (demand (not (is_named id told.marks)) fault.NamedTwice) (λ _. Ok (Supply id value)) (demand_other _ fault.NamedTwice (λ h. cc)) (λ _.
+    tt))))))
+
+read_row_other : (told : Told) (fields : List Word) → IsOther (read_row told fields)
+unfolding read_row
+read_row_other told fields =
+    bind_other (some_or told.size fault.BeforeProblemLine) (λ size. demand (nat_lt (length told.rows) size.arcs) fault.TooManyArcs >>= λ _. demand (length fields == 5) fault.WrongFieldCount >>= λ _. natural_in 1 size.nodes (field 0 fields) >>= λ tail. natural_in 1 size.nodes (field 1 fields) >>= λ head. natural_in 0 CAP_LIMIT (field 2 fields) >>= λ low. natural_in 0 CAP_LIMIT (field 3 fields) >>= λ cap. integer_in COST_LIMIT (field 4 fields) >>= λ cost. demand (nat_le low cap) fault.LowAboveCap >>= λ _. Ok (record { tail = tail; head = head; low = pos low; cap = pos cap; cost = cost })) (some_or_other told.size fault.BeforeProblemLine (λ h. cc)) (λ size.
+    bind_other (demand (nat_lt (length told.rows) size.arcs) fault.TooManyArcs) (λ _. demand (length fields == 5) fault.WrongFieldCount >>= λ _. natural_in 1 size.nodes (field 0 fields) >>= λ tail. natural_in 1 size.nodes (field 1 fields) >>= λ head. natural_in 0 CAP_LIMIT (field 2 fields) >>= λ low. natural_in 0 CAP_LIMIT (field 3 fields) >>= λ cap. integer_in COST_LIMIT (field 4 fields) >>= λ cost. demand (nat_le low cap) fault.LowAboveCap >>= λ _. Ok (record { tail = tail; head = head; low = pos low; cap = pos cap; cost = cost })) (demand_other _ fault.TooManyArcs (λ h. cc)) (λ _.
+    bind_other (demand (length fields == 5) fault.WrongFieldCount) (λ _. natural_in 1 size.nodes (field 0 fields) >>= λ tail. natural_in 1 size.nodes (field 1 fields) >>= λ head. natural_in 0 CAP_LIMIT (field 2 fields) >>= λ low. natural_in 0 CAP_LIMIT (field 3 fields) >>= λ cap. integer_in COST_LIMIT (field 4 fields) >>= λ cost. demand (nat_le low cap) fault.LowAboveCap >>= λ _. Ok (record { tail = tail; head = head; low = pos low; cap = pos cap; cost = cost })) (demand_other _ fault.WrongFieldCount (λ h. cc)) (λ _.
+    bind_other (natural_in 1 size.nodes (field 0 fields)) (λ tail. natural_in 1 size.nodes (field 1 fields) >>= λ head. natural_in 0 CAP_LIMIT (field 2 fields) >>= λ low. natural_in 0 CAP_LIMIT (field 3 fields) >>= λ cap. integer_in COST_LIMIT (field 4 fields) >>= λ cost. demand (nat_le low cap) fault.LowAboveCap >>= λ _. Ok (record { tail = tail; head = head; low = pos low; cap = pos cap; cost = cost })) (natural_in_other 1 size.nodes (field 0 fields)) (λ tail.
+    bind_other (natural_in 1 size.nodes (field 1 fields)) (λ head. natural_in 0 CAP_LIMIT (field 2 fields) >>= λ low. natural_in 0 CAP_LIMIT (field 3 fields) >>= λ cap. integer_in COST_LIMIT (field 4 fields) >>= λ cost. demand (nat_le low cap) fault.LowAboveCap >>= λ _. Ok (record { tail = tail; head = head; low = pos low; cap = pos cap; cost = cost })) (natural_in_other 1 size.nodes (field 1 fields)) (λ head.
+    bind_other (natural_in 0 CAP_LIMIT (field 2 fields)) (λ low. natural_in 0 CAP_LIMIT (field 3 fields) >>= λ cap. integer_in COST_LIMIT (field 4 fields) >>= λ cost. demand (nat_le low cap) fault.LowAboveCap >>= λ _. Ok (record { tail = tail; head = head; low = pos low; cap = pos cap; cost = cost })) (natural_in_other 0 CAP_LIMIT (field 2 fields)) (λ low.
+    bind_other (natural_in 0 CAP_LIMIT (field 3 fields)) (λ cap. integer_in COST_LIMIT (field 4 fields) >>= λ cost. demand (nat_le low cap) fault.LowAboveCap >>= λ _. Ok (record { tail = tail; head = head; low = pos low; cap = pos cap; cost = cost })) (natural_in_other 0 CAP_LIMIT (field 3 fields)) (λ cap.
+    bind_other (integer_in COST_LIMIT (field 4 fields)) (λ cost. demand (nat_le low cap) fault.LowAboveCap >>= λ _. Ok (record { tail = tail; head = head; low = pos low; cap = pos cap; cost = cost })) (integer_in_other COST_LIMIT (field 4 fields)) (λ cost.
+    bind_other (demand (nat_le low cap) fault.LowAboveCap) (λ _. Ok (record { tail = tail; head = head; low = pos low; cap = pos cap; cost = cost })) (demand_other _ fault.LowAboveCap (λ h. cc)) (λ _.
+    tt)))))))))
+
+pub fault_other : {A : Type 0} (r : Result A Fault) → IsOther r → fault_of r ≢ Some fault.LineTooLong
+fault_other (Ok x) h = λ e. cc
+fault_other (Err f) h = λ e. h cc
+
+fault_by_other : (told : Told) (first : Option Designator) (fields : List Word) → fault_by told first fields ≢ Some fault.LineTooLong
+fault_by_other told None fields = λ e. cc
+fault_by_other told (Some designator.Comment) fields = λ e. cc
+fault_by_other told (Some designator.Problem) fields = fault_other (read_size told fields) (read_size_other told fields)
+fault_by_other told (Some designator.Node) fields = fault_other (read_mark told fields) (read_mark_other told fields)
+fault_by_other told (Some designator.Arc) fields = fault_other (read_row told fields) (read_row_other told fields)
+fault_by_other told (Some designator.Unknown) fields = λ e. cc
+
+-- ---- nor does the end of a text
+
+number_of_fault : (f : Fault) (line other : ℕ) → ◌≡◌ {A = Result ProblemValue TextFault} (Err (at_line f line)) (Err (text_fault.Fault 1 other)) → number_of f ≡ 1
+number_of_fault f line other e = cc
+
+few_by : (few : Bool) (value : ProblemValue) (line other : ℕ) → or_at (cond few (Err fault.TooFewArcs) (Ok value)) line ≢ Err (text_fault.Fault 1 other)
+few_by true value line other = λ e. absurd (omega (arith, number_of_fault fault.TooFewArcs line other e))
+few_by false value line other = λ e. cc
+
+ending_other : (size : Option Size) (told : Told) (line other : ℕ) → or_at (ending_by size told) line ≢ Err (text_fault.Fault 1 other)
+ending_other None told line other = λ e. absurd (omega (arith, number_of_fault fault.NoProblemLine line other e))
+ending_other (Some size) told line other = few_by (nat_lt (length told.rows) size.arcs) _ line other
+
+pub rule_other : (before : List Line) (line : Line) → problem_rule before line ≢ Some fault.LineTooLong
+rule_other before line = fault_by_other (told_of before) (first_of (words_of line)) (fields_of (words_of line))
+
+pub end_other : (lines : List Line) (other : ℕ) → problem_end lines ≢ Err (text_fault.Fault 1 other)
+end_other lines other = ending_other (told_of lines).size (told_of lines) (length lines) other

@@ -1,0 +1,46 @@
+-- A problem text is read as its taker and its end say.
+use Rattle.std.proofs.Common.{◌≡◌, ℕ, List, [], ◌++◌, Some, None, Result, Ok, Err, length, refl, ◌∙◌}
+use Rattle.dimacs_text.specs.declared.fault.Fault.{Fault}
+use Rattle.dimacs_text.specs.declared.fault.LineError.{LineError}
+use Rattle.dimacs_text.specs.declared.fault.TextFault.{TextFault}
+use Rattle.dimacs_text.specs.declared.fault.TextFault.TheVariants as text_fault
+use Rattle.dimacs_text.specs.Fault.{number_of}
+use Rattle.dimacs_text.specs.Lines.{Line, lines_of, IsBytes}
+use Rattle.dimacs_text.specs.Problem.{Told, told_of}
+use Rattle.dimacs_text.specs.Reading.{ProblemValue, ending, Takes, problem_rule, problem_end, reads}
+use Rattle.dimacs_text.proofs.ProblemLemmas.{told_of_push}
+use Rattle.dimacs_text.proofs.DecidedLemmas.{decided_always, decided_only}
+use Rattle.dimacs_text.proofs.OtherLemmas.{rule_other, end_other}
+use Rattle.dimacs_text.specs.Stream.{counted, decided, first_fault, TakesLine}
+use Rattle.dimacs_text.specs.Reader as generic
+use Rattle.dimacs_text.specs.ProblemReader.{holds, Finishes}
+
+pub line_taken : (result : Result (Unit {0}) LineError) (old new : Told) (before : List Line) (line : Line) → Takes result line old new → old ≡ told_of before → TakesLine problem_rule holds result before line (record { draft = new })
+line_taken (Ok x) old new before line taken held = rw (← held) (taken.0, taken.1 ∙ rw (told_of_push, ← held) refl)
+line_taken (Err e) old new before line taken held = rw (← held) taken
+
+pub reads_ok : (text : List ℕ) (draft : Told) (problem : ProblemValue) → first_fault problem_rule [] (lines_of text) ≡ None → draft ≡ told_of (lines_of text) → Ok problem ≡ ending draft → reads text ≡ Ok problem
+unfolding reads
+reads_ok text draft problem found held closed = rw (found, ← held, ← closed) refl
+
+pub reads_end : (text : List ℕ) (draft : Told) (f : Fault) (lines : ℕ) → first_fault problem_rule [] (lines_of text) ≡ None → draft ≡ told_of (lines_of text) → lines ≡ counted (length (lines_of text)) → Err f ≡ ending draft
+    → reads text ≡ Err (text_fault.Fault (number_of f) lines)
+unfolding reads
+reads_end text draft f lines found held count closed = rw (found, ← held, ← closed, count) refl
+
+pub reads_fault : (e : TextFault) (text : List ℕ) → generic.Finishes problem_rule holds (Err e) text → Finishes (Err e) text
+unfolding reads
+reads_fault text_fault.Memory text found = tt
+reads_fault (text_fault.Fault number line) text found = rw found refl
+
+pub told_of_nothing : record { size = None; marks = []; rows = [] } ≡ told_of []
+unfolding told_of
+told_of_nothing = refl
+
+pub problem_always : (text more : List ℕ) (f : TextFault) → decided problem_rule text ≡ Some f → reads (text ++ more) ≡ Err f
+unfolding reads
+problem_always text more f e = decided_always problem_rule problem_end text more f e
+
+pub problem_only : (text : List ℕ) (f : TextFault) → ((more : List ℕ) → IsBytes more → reads (text ++ more) ≡ Err f) → decided problem_rule text ≡ Some f
+unfolding reads
+problem_only text f all = decided_only problem_rule problem_end rule_other end_other text f all

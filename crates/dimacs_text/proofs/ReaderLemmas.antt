@@ -1,0 +1,12 @@
+-- What a reader answers.
+use Rattle.std.proofs.Common.{◌≡◌, ℕ, List, Some, Err}
+use Rattle.dimacs_text.specs.declared.fault.TextFault.{TextFault}
+use Rattle.dimacs_text.specs.declared.fault.TextFault.TheVariants as text_fault
+use Rattle.dimacs_text.specs.Lines.{Line}
+use Rattle.dimacs_text.specs.declared.reader.TextReader.{TextReader}
+use Rattle.dimacs_text.specs.Stream.{Rule, Tells}
+use Rattle.dimacs_text.specs.Reader.{Feeds}
+
+pub feeds_failed : {T : Type 0} (rule : Rule) (holds : List Line → T → Type 0) (fault : TextFault) (reader : TextReader T) (text : List ℕ) → reader.failure ≡ Some fault → Tells rule fault text → Feeds rule holds (Err fault) reader text
+feeds_failed rule holds text_fault.Memory reader text e t = tt
+feeds_failed rule holds (text_fault.Fault number line) reader text e t = (t, rw e t)

@@ -1,0 +1,4 @@
+use Rattle.dimacs_text.proofs.answer_reader.AnswerReader.feed.Goals as goal
+
+pub returns-clause-text : goal.returns-clause-text
+returns-clause-text c = λ nodes arcs. c.feed.ensures.text (nodes, arcs)

@@ -1,0 +1,6 @@
+use Rattle.dimacs_text.proofs.AnswerLemmas.{answer_always}
+use Rattle.dimacs_text.proofs.AnswerDecidedLemmas.{answer_only}
+use Rattle.dimacs_text.proofs.answer_reader.answer_decided_for_all.Goals as goal
+
+pub returns : goal.returns
+returns c = record { always = answer_always; only = answer_only }

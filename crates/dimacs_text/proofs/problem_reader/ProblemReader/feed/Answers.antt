@@ -1,0 +1,4 @@
+use Rattle.dimacs_text.proofs.problem_reader.ProblemReader.feed.Goals as goal
+
+pub returns-clause-text : goal.returns-clause-text
+returns-clause-text c = c.feed.ensures.text tt

@@ -1,0 +1,5 @@
+use Rattle.dimacs_text.proofs.ReadLemmas.{problem_always, problem_only}
+use Rattle.dimacs_text.proofs.problem_reader.decided_for_all.Goals as goal
+
+pub returns : goal.returns
+returns c = record { always = problem_always; only = problem_only }

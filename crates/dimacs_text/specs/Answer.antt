@@ -1,0 +1,213 @@
+-- Answer texts: what each line says by itself, its fault among the lines before it, and what the whole text says.
+use Rattle.std.specs.Prelude.{◌≡◌, ℕ, ◌+◌, Bool, ◌&&◌, List, [], ◌∷◌, ◌++◌, Option, Some, None, Result, Ok, Err, length, unwrap_or, nat_le, nat_lt, ◌==◌, is_some, is_none, if◌then◌else◌, ℤ, pos, neg_ℤ}
+use Rattle.std.specs.List.{All, flat_map, list_all}
+use Rattle.std.specs.Option.{option_map}
+use Rattle.dimacs_text.specs.declared.fault.Fault.{Fault}
+use Rattle.dimacs_text.specs.declared.fault.Fault.TheVariants as fault
+use Rattle.dimacs_text.specs.declared.fault.LineError.{LineError}
+use Rattle.dimacs_text.specs.declared.fault.TextFault.{TextFault}
+use Rattle.dimacs_text.specs.Lines.{Line, lines_of}
+use Rattle.dimacs_text.specs.Fields.{Word, words_of, is_digit, digits_value, natural, integer}
+use Rattle.dimacs_text.specs.Lawful.{IsNode}
+use Rattle.dimacs_text.specs.Problem.{◌>>=◌, demand, some_or, natural_in, natural_value, integer_value, field, fields_of, fault_of}
+use Rattle.dimacs_text.specs.Stream.{Rule, Reports, first_fault, fault_or, or_at}
+use Rattle.dimacs_text.specs.declared.answer.Answer.{Answer}
+use Rattle.dimacs_text.specs.declared.answer.Answer.TheVariants.{Flow, Cut}
+use Rattle.dimacs_text.specs.declared.answer.FlowLine.{FlowLine}
+use Rattle.dimacs_text.specs.declared.answer_line.AnswerLine.{AnswerLine}
+use Rattle.dimacs_text.specs.declared.answer_line.AnswerLine.TheVariants as line
+use Rattle.dimacs_text.specs.declared.answer_value.TheConstants.{VALUE_DIGIT_LIMIT}
+
+-- ---- a line by itself
+
+-- what the first word makes of a line
+abbrev pub line_of : Word → AnswerLine
+line_of [] = line.Unknown
+line_of (byte ∷ []) =
+    if byte == 99 then line.Comment else
+    if byte == 115 then line.Value else
+    if byte == 102 then line.Flow else
+    if byte == 118 then line.Potential else line.Unknown
+line_of (byte ∷ _ ∷ _) = if byte == 99 then line.Comment else line.Unknown
+
+abbrev pub first_of : List Word → Option AnswerLine
+first_of [] = None
+first_of (word ∷ words) = Some (line_of word)
+
+-- one to 30 digits
+abbrev pub value_digits : Word → Option ℕ
+value_digits word = if nat_le 1 (length word) && nat_le (length word) VALUE_DIGIT_LIMIT && list_all is_digit word then Some (digits_value word) else None
+
+-- the same, after one `-` or none
+unfoldable pub claimed_value : Word → Option ℤ
+claimed_value [] = None
+claimed_value (byte ∷ word) = if byte == 45 then option_map (λ n. neg_ℤ (pos n)) (value_digits word) else option_map pos (value_digits (byte ∷ word))
+
+-- what the fields of a line say, where it has no fault
+abbrev pub value_said : List Word → ℤ
+value_said fields = unwrap_or (claimed_value (field 0 fields)) (pos 0)
+
+abbrev pub flow_said : List Word → FlowLine
+flow_said fields = record {
+  tail = natural_value (field 0 fields);
+  head = natural_value (field 1 fields);
+  flow = pos (natural_value (field 2 fields));
+}
+
+abbrev pub potential_said : List Word → ℤ
+potential_said fields = integer_value (field 1 fields)
+
+-- ---- what lines say
+
+-- the value of the `s` line, and what the `f` and the `v` lines say, in order
+pub record Said : Type 0 where
+  pub value : Option ℤ
+  pub flows : List FlowLine
+  pub potentials : List ℤ
+
+abbrev pub values_by : Option AnswerLine → List Word → List ℤ
+values_by (Some line.Value) fields = value_said fields ∷ []
+values_by _ fields = []
+
+abbrev pub flows_by : Option AnswerLine → List Word → List FlowLine
+flows_by (Some line.Flow) fields = flow_said fields ∷ []
+flows_by _ fields = []
+
+abbrev pub potentials_by : Option AnswerLine → List Word → List ℤ
+potentials_by (Some line.Potential) fields = potential_said fields ∷ []
+potentials_by _ fields = []
+
+abbrev pub values_in : Line → List ℤ
+values_in line = values_by (first_of (words_of line)) (fields_of (words_of line))
+
+abbrev pub flows_in : Line → List FlowLine
+flows_in line = flows_by (first_of (words_of line)) (fields_of (words_of line))
+
+abbrev pub potentials_in : Line → List ℤ
+potentials_in line = potentials_by (first_of (words_of line)) (fields_of (words_of line))
+
+abbrev pub first_value : List ℤ → Option ℤ
+first_value [] = None
+first_value (value ∷ values) = Some value
+
+unfoldable pub said_of : List Line → Said
+said_of lines = record {
+  value = first_value (flat_map values_in lines);
+  flows = flat_map flows_in lines;
+  potentials = flat_map potentials_in lines;
+}
+
+-- ---- a line among the lines before it
+
+-- an `s` line: it comes first, and once
+unfoldable pub read_value : Said → List Word → Result ℤ Fault
+read_value said fields = do
+  _ ← demand (is_none said.value) fault.OutOfOrder
+  _ ← demand (length fields == 1) fault.WrongFieldCount
+  some_or (claimed_value (field 0 fields)) fault.NotANumber
+
+-- an `f` line: one an arc, after the `s` line
+unfoldable pub read_flow : ℕ → ℕ → Said → List Word → Result FlowLine Fault
+read_flow nodes arcs said fields = do
+  _ ← demand (is_some said.value) fault.OutOfOrder
+  _ ← demand (nat_lt (length said.flows) arcs) fault.OutOfOrder
+  _ ← demand (length fields == 3) fault.WrongFieldCount
+  tail ← natural_in 1 nodes (field 0 fields)
+  head ← natural_in 1 nodes (field 1 fields)
+  flow ← some_or (natural (field 2 fields)) fault.NotANumber
+  Ok (record { tail = tail; head = head; flow = pos flow })
+
+-- a `v` line: one a node, after all `f` lines, by rising ID
+unfoldable pub read_potential : ℕ → ℕ → Said → List Word → Result ℤ Fault
+read_potential nodes arcs said fields = do
+  _ ← demand (is_some said.value) fault.OutOfOrder
+  _ ← demand (length said.flows == arcs) fault.OutOfOrder
+  _ ← demand (nat_lt (length said.potentials) nodes) fault.OutOfOrder
+  _ ← demand (length fields == 2) fault.WrongFieldCount
+  id ← natural_in 1 nodes (field 0 fields)
+  potential ← some_or (integer (field 1 fields)) fault.NotANumber
+  _ ← demand (id == length said.potentials + 1) fault.OutOfOrder
+  Ok potential
+
+-- the fault of a line that is not too long, by its words
+abbrev pub fault_by : ℕ → ℕ → Said → Option AnswerLine → List Word → Option Fault
+fault_by nodes arcs said None fields = None
+fault_by nodes arcs said (Some line.Comment) fields = None
+fault_by nodes arcs said (Some line.Value) fields = fault_of (read_value said fields)
+fault_by nodes arcs said (Some line.Flow) fields = fault_of (read_flow nodes arcs said fields)
+fault_by nodes arcs said (Some line.Potential) fields = fault_of (read_potential nodes arcs said fields)
+fault_by nodes arcs said (Some line.Unknown) fields = Some fault.UnknownDesignator
+
+abbrev pub line_fault : ℕ → ℕ → Said → Line → Option Fault
+line_fault nodes arcs said line = fault_by nodes arcs said (first_of (words_of line)) (fields_of (words_of line))
+
+-- the fault of a line that fits, by itself and what the lines before it say
+abbrev pub answer_rule : ℕ → ℕ → Rule
+answer_rule nodes arcs before line = line_fault nodes arcs (said_of before) line
+
+-- ---- the whole text
+
+-- what lines without a fault give at the end of the text: no line is missing
+abbrev pub ending_by : ℕ → ℕ → Option ℤ → Said → Result Answer Fault
+ending_by nodes arcs None said = Err fault.OutOfOrder
+ending_by nodes arcs (Some value) said =
+    if length said.flows == arcs && length said.potentials == nodes then Ok (Flow value said.flows said.potentials) else Err fault.OutOfOrder
+
+abbrev pub ending : ℕ → ℕ → Said → Result Answer Fault
+ending nodes arcs said = ending_by nodes arcs said.value said
+
+-- the nodes that an answer names are those of its problem
+abbrev pub JoinsNodes : ℕ → FlowLine → Type 0
+JoinsNodes nodes line = IsNode nodes line.tail × IsNode nodes line.head
+
+abbrev pub NamesNodes : ℕ → Answer → Type 0
+NamesNodes nodes (Flow value flows potentials) = All (JoinsNodes nodes) flows
+NamesNodes nodes (Cut shortage cut) = All (IsNode nodes) cut
+
+-- an `f` line for each arc and a `v` line for each node
+pub record IsWhole (nodes arcs : ℕ) (flows : List FlowLine) (potentials : List ℤ) : Type 0 where
+  pub each_arc : length flows ≡ arcs
+  pub each_node : length potentials ≡ nodes
+  pub ends : All (JoinsNodes nodes) flows
+
+-- the answer fits a problem of this size
+abbrev pub FitsSize : ℕ → ℕ → Answer → Type 0
+FitsSize nodes arcs (Flow value flows potentials) = IsWhole nodes arcs flows potentials
+FitsSize nodes arcs (Cut shortage cut) = All (IsNode nodes) cut
+
+-- the answer of lines without a fault, or the fault at their end with their number
+abbrev pub answer_end : ℕ → ℕ → List Line → Result Answer TextFault
+answer_end nodes arcs lines = or_at (ending nodes arcs (said_of lines)) (length lines)
+
+-- the first faulty line, or the fault at the end with the number of lines, or the answer
+unfoldable pub answers : ℕ → ℕ → List ℕ → Result Answer TextFault
+answers nodes arcs text = fault_or (first_fault (answer_rule nodes arcs) [] (lines_of text)) (answer_end nodes arcs (lines_of text))
+
+-- ---- what is held of lines
+
+-- what lines say, beside the size of the problem that they answer
+pub record Drafted : Type 0 where
+  pub nodes : ℕ
+  pub arcs : ℕ
+  pub said : Said
+
+-- what lines say with one line more
+abbrev pub or_value : Option ℤ → List ℤ → Option ℤ
+or_value None values = first_value values
+or_value (Some value) values = Some value
+
+unfoldable pub and_said : Said → Line → Said
+and_said said line = record {
+  value = or_value said.value (values_in line);
+  flows = said.flows ++ flows_in line;
+  potentials = said.potentials ++ potentials_in line;
+}
+
+-- what was taken is without a fault, and held as expected; or its fault is told, memory aside
+abbrev pub TakesAs : Result (Unit {0}) LineError → Option Fault → Drafted → Said → Drafted → Type 0
+TakesAs (Ok _) found old expected new = (found ≡ None) × (new ≡ record old { said = expected })
+TakesAs (Err e) found old expected new = Reports e found
+
+-- a line was taken
+abbrev pub Takes : Result (Unit {0}) LineError → Line → Drafted → Drafted → Type 0
+Takes result line old new = TakesAs result (line_fault old.nodes old.arcs old.said line) old (and_said old.said line) new

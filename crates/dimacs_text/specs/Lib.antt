@@ -1,0 +1,12 @@
+pub mod Lines
+pub mod Cut
+pub mod Fault
+pub mod Fields
+pub mod Problem
+pub mod Lawful
+pub mod Stream
+pub mod Reader
+pub mod Reading
+pub mod ProblemReader
+pub mod Answer
+pub mod AnswerReader

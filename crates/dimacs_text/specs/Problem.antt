@@ -1,0 +1,239 @@
+-- Problem texts: what each line says by itself, and its fault among the lines before it.
+use Rattle.std.specs.Prelude.{ℕ, Bool, true, false, not, ◌&&◌, List, [], ◌∷◌, ◌++◌, Option, Some, None, Result, Ok, Err, length, drop, unwrap_or, nat_le, nat_lt, ◌==◌, is_none, if◌then◌else◌, ℤ, pos, neg_ℤ, int_le, slice_index_or}
+use Rattle.std.specs.List.{flat_map, list_any}
+use Rattle.dimacs_text.specs.Lines.{Line}
+use Rattle.dimacs_text.specs.Fields.{Word, words_of, natural, integer}
+use Rattle.dimacs_text.specs.declared.fault.Fault.{Fault}
+use Rattle.dimacs_text.specs.declared.fault.Fault.TheVariants as fault
+use Rattle.dimacs_text.specs.declared.problem.Kind.{Kind}
+use Rattle.dimacs_text.specs.declared.problem.Kind.TheVariants.{Min}
+use Rattle.dimacs_text.specs.declared.problem.NodeMark.{NodeMark}
+use Rattle.dimacs_text.specs.declared.problem.NodeMark.TheVariants.{Supply, Source, Sink, Side}
+use Rattle.dimacs_text.specs.declared.problem.ArcRow.{ArcRow}
+use Rattle.dimacs_text.specs.declared.problem.Size.{Size}
+use Rattle.dimacs_text.specs.declared.problem.TheConstants.{NODE_LIMIT, ARC_LIMIT, CAP_LIMIT, COST_LIMIT, SUPPLY_LIMIT}
+use Rattle.dimacs_text.specs.declared.words.Designator.{Designator}
+use Rattle.dimacs_text.specs.declared.words.Designator.TheVariants as designator
+
+-- ---- a line by itself
+
+-- what the first word makes of a line
+abbrev pub designator_of : Word → Designator
+designator_of [] = designator.Unknown
+designator_of (byte ∷ []) =
+    if byte == 99 then designator.Comment else
+    if byte == 112 then designator.Problem else
+    if byte == 110 then designator.Node else
+    if byte == 97 then designator.Arc else designator.Unknown
+designator_of (byte ∷ _ ∷ _) = if byte == 99 then designator.Comment else designator.Unknown
+
+abbrev pub first_of : List Word → Option Designator
+first_of [] = None
+first_of (word ∷ words) = Some (designator_of word)
+
+abbrev pub is_problem : Option Designator → Bool
+is_problem (Some designator.Problem) = true
+is_problem _ = false
+
+abbrev pub is_node : Option Designator → Bool
+is_node (Some designator.Node) = true
+is_node _ = false
+
+abbrev pub is_arc : Option Designator → Bool
+is_arc (Some designator.Arc) = true
+is_arc _ = false
+
+-- the words after the designator
+abbrev pub fields_of : List Word → List Word
+fields_of words = drop 1 words
+
+abbrev pub field : ℕ → List Word → Word
+field place fields = slice_index_or fields place []
+
+-- the number of a field, where it is one
+abbrev pub natural_value : Word → ℕ
+natural_value word = unwrap_or (natural word) 0
+
+abbrev pub integer_value : Word → ℤ
+integer_value word = unwrap_or (integer word) (pos 0)
+
+abbrev pub kind_of : Word → Kind
+kind_of word = Min
+
+abbrev pub size_of : List Word → Size
+size_of fields = record { kind = kind_of (field 0 fields); nodes = natural_value (field 1 fields); arcs = natural_value (field 2 fields) }
+
+abbrev pub mark_of : Kind → List Word → NodeMark
+mark_of kind fields = Supply (natural_value (field 0 fields)) (integer_value (field 1 fields))
+
+abbrev pub row_of : Kind → List Word → ArcRow
+row_of kind fields = record {
+  tail = natural_value (field 0 fields);
+  head = natural_value (field 1 fields);
+  low = pos (natural_value (field 2 fields));
+  cap = pos (natural_value (field 3 fields));
+  cost = integer_value (field 4 fields);
+}
+
+-- ---- what lines tell
+
+-- the problem line, and what the node and arc lines after it say, in order
+pub record Told : Type 0 where
+  pub size : Option Size
+  pub marks : List NodeMark
+  pub rows : List ArcRow
+
+-- the mark of a node line, and the row of an arc line
+abbrev pub marks_of : Kind → Line → List NodeMark
+marks_of kind line = if is_node (first_of (words_of line)) then mark_of kind (fields_of (words_of line)) ∷ [] else []
+
+abbrev pub rows_of : Kind → Line → List ArcRow
+rows_of kind line = if is_arc (first_of (words_of line)) then row_of kind (fields_of (words_of line)) ∷ [] else []
+
+abbrev pub told_after : Size → List Line → Told
+told_after size lines = record { size = Some size; marks = flat_map (marks_of size.kind) lines; rows = flat_map (rows_of size.kind) lines }
+
+unfoldable pub told_of : List Line → Told
+told_of [] = record { size = None; marks = []; rows = [] }
+told_of (line ∷ lines) =
+    if is_problem (first_of (words_of line)) then told_after (size_of (fields_of (words_of line))) lines else told_of lines
+
+-- the same with one line more
+abbrev pub size_with : Option Size → Line → Option Size
+size_with None line = if is_problem (first_of (words_of line)) then Some (size_of (fields_of (words_of line))) else None
+size_with (Some size) line = Some size
+
+-- the mark and the row that fields say where the size is known
+abbrev pub new_marks : Option Size → List Word → List NodeMark
+new_marks None fields = []
+new_marks (Some size) fields = mark_of size.kind fields ∷ []
+
+abbrev pub new_rows : Option Size → List Word → List ArcRow
+new_rows None fields = []
+new_rows (Some size) fields = row_of size.kind fields ∷ []
+
+abbrev pub marks_with : Option Size → Line → List NodeMark
+marks_with None line = []
+marks_with (Some size) line = marks_of size.kind line
+
+abbrev pub rows_with : Option Size → Line → List ArcRow
+rows_with None line = []
+rows_with (Some size) line = rows_of size.kind line
+
+unfoldable pub and_told : Told → Line → Told
+and_told told line = record { size = size_with told.size line; marks = told.marks ++ marks_with told.size line; rows = told.rows ++ rows_with told.size line }
+
+-- ---- a line among the lines before it
+
+infixl 10 ◌>>=◌
+abbrev pub ◌>>=◌ : {A B : Type 0} → Result A Fault → (A → Result B Fault) → Result B Fault
+(Ok x) >>= f = f x
+(Err e) >>= f = Err e
+
+abbrev pub demand : Bool → Fault → Result (Unit {0}) Fault
+demand met fault = if met then Ok tt else Err fault
+
+abbrev pub some_or : {A : Type 0} → Option A → Fault → Result A Fault
+some_or None fault = Err fault
+some_or (Some x) fault = Ok x
+
+-- a field: first the shape, then the range
+abbrev pub natural_in : ℕ → ℕ → Word → Result ℕ Fault
+natural_in low high word = some_or (natural word) fault.NotANumber >>= λ n. if nat_le low n && nat_le n high then Ok n else Err fault.OutOfRange
+
+-- a field with a sign, at most limit either way
+abbrev pub integer_in : ℤ → Word → Result ℤ Fault
+integer_in limit word = some_or (integer word) fault.NotANumber >>= λ z. if int_le (neg_ℤ limit) z && int_le z limit then Ok z else Err fault.OutOfRange
+
+abbrev pub kind_in : Word → Result Kind Fault
+kind_in (a ∷ b ∷ c ∷ []) = if a == 109 && b == 105 && c == 110 then Ok Min else Err fault.UnknownKind
+kind_in _ = Err fault.UnknownKind
+
+-- the node that a mark names
+abbrev pub node_of : NodeMark → ℕ
+node_of (Supply id value) = id
+node_of (Source id) = id
+node_of (Sink id) = id
+node_of (Side id) = id
+
+-- whether a node is named
+abbrev pub is_named : ℕ → List NodeMark → Bool
+is_named id marks = list_any (λ mark. node_of mark == id) marks
+
+-- the supply that a mark gives
+abbrev pub supply_of : NodeMark → ℤ
+supply_of (Supply id value) = value
+supply_of (Source id) = pos 0
+supply_of (Sink id) = pos 0
+supply_of (Side id) = pos 0
+
+-- the supply of a node, 0 where no mark names it
+abbrev pub supply_at : List NodeMark → ℕ → ℤ
+supply_at [] id = pos 0
+supply_at (mark ∷ marks) id = if node_of mark == id then supply_of mark else supply_at marks id
+
+-- the source, and the sink; 0, which is no node, where none is named
+abbrev pub source_of : List NodeMark → ℕ
+source_of [] = 0
+source_of (Source id ∷ marks) = id
+source_of (Supply id value ∷ marks) = source_of marks
+source_of (Sink id ∷ marks) = source_of marks
+source_of (Side id ∷ marks) = source_of marks
+
+abbrev pub sink_of : List NodeMark → ℕ
+sink_of [] = 0
+sink_of (Sink id ∷ marks) = id
+sink_of (Supply id value ∷ marks) = sink_of marks
+sink_of (Source id ∷ marks) = sink_of marks
+sink_of (Side id ∷ marks) = sink_of marks
+
+-- the problem line, after its designator
+unfoldable pub read_size : Told → List Word → Result Size Fault
+read_size told fields = do
+  _ ← demand (is_none told.size) fault.SecondProblemLine
+  _ ← demand (length fields == 3) fault.WrongFieldCount
+  kind ← kind_in (field 0 fields)
+  nodes ← natural_in 1 NODE_LIMIT (field 1 fields)
+  arcs ← natural_in 0 ARC_LIMIT (field 2 fields)
+  Ok (record { kind = kind; nodes = nodes; arcs = arcs })
+
+-- a node line
+unfoldable pub read_mark : Told → List Word → Result NodeMark Fault
+read_mark told fields = do
+  size ← some_or told.size fault.BeforeProblemLine
+  _ ← demand (length told.rows == 0) fault.NodeAfterArc
+  _ ← demand (length fields == 2) fault.WrongFieldCount
+  id ← natural_in 1 size.nodes (field 0 fields)
+  value ← integer_in SUPPLY_LIMIT (field 1 fields)
+  _ ← demand (not (is_named id told.marks)) fault.NamedTwice
+  Ok (Supply id value)
+
+-- an arc line
+unfoldable pub read_row : Told → List Word → Result ArcRow Fault
+read_row told fields = do
+  size ← some_or told.size fault.BeforeProblemLine
+  _ ← demand (nat_lt (length told.rows) size.arcs) fault.TooManyArcs
+  _ ← demand (length fields == 5) fault.WrongFieldCount
+  tail ← natural_in 1 size.nodes (field 0 fields)
+  head ← natural_in 1 size.nodes (field 1 fields)
+  low ← natural_in 0 CAP_LIMIT (field 2 fields)
+  cap ← natural_in 0 CAP_LIMIT (field 3 fields)
+  cost ← integer_in COST_LIMIT (field 4 fields)
+  _ ← demand (nat_le low cap) fault.LowAboveCap
+  Ok (record { tail = tail; head = head; low = pos low; cap = pos cap; cost = cost })
+
+abbrev pub fault_of : {A : Type 0} → Result A Fault → Option Fault
+fault_of (Ok x) = None
+fault_of (Err fault) = Some fault
+
+-- the fault of a line that is not too long, by its words
+abbrev pub fault_by : Told → Option Designator → List Word → Option Fault
+fault_by told None fields = None
+fault_by told (Some designator.Comment) fields = None
+fault_by told (Some designator.Problem) fields = fault_of (read_size told fields)
+fault_by told (Some designator.Node) fields = fault_of (read_mark told fields)
+fault_by told (Some designator.Arc) fields = fault_of (read_row told fields)
+fault_by told (Some designator.Unknown) fields = Some fault.UnknownDesignator
+
+abbrev pub line_fault : Told → Line → Option Fault
+line_fault told line = fault_by told (first_of (words_of line)) (fields_of (words_of line))

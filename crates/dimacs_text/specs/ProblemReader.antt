@@ -1,0 +1,32 @@
+-- What a reader of problem texts stands for.
+use Rattle.std.specs.Prelude.{◌≡◌, ℕ, List, Result, Ok, Err}
+use Rattle.dimacs_text.specs.declared.fault.TextFault.{TextFault}
+use Rattle.dimacs_text.specs.declared.fault.TextFault.TheVariants as text_fault
+use Rattle.dimacs_text.specs.Lines.{Line}
+use Rattle.dimacs_text.specs.Problem.{told_of}
+use Rattle.dimacs_text.specs.Reader as generic
+use Rattle.dimacs_text.specs.declared.problem_reader.ProblemTaker.{ProblemTaker}
+use Rattle.dimacs_text.specs.declared.problem_reader.ProblemReader.{ProblemReader}
+use Rattle.dimacs_text.specs.Reading.{ProblemValue, problem_rule, reads}
+
+-- the taker holds what the lines tell
+abbrev pub holds : List Line → ProblemTaker → Type 0
+holds before taker = taker.draft ≡ told_of before
+
+-- the reader holds what reading takes from the text
+abbrev pub StandsFor : ProblemReader → List ℕ → Type 0
+StandsFor reader text = generic.StandsFor problem_rule holds reader.reader text
+
+-- after a piece: memory aside, the fault that is decided or none, and the reader stands for the text
+abbrev pub Feeds : Result (Unit {0}) TextFault → ProblemReader → List ℕ → Type 0
+Feeds result reader text = generic.Feeds problem_rule holds result reader.reader text
+
+-- at the end: memory aside, what reading gives
+abbrev pub Finishes : Result ProblemValue TextFault → List ℕ → Type 0
+Finishes (Ok problem) text = reads text ≡ Ok problem
+Finishes (Err text_fault.Memory) text = Unit {0}
+Finishes (Err (text_fault.Fault number line)) text = reads text ≡ Err (text_fault.Fault number line)
+
+-- the reader answered this, and answers it from then on
+abbrev pub HasFailed : ProblemReader → TextFault → Type 0
+HasFailed reader fault = generic.HasFailed reader.reader fault

@@ -1,0 +1,27 @@
+//! What an answer text says.
+
+use crate::sequence::Sequence;
+
+/// What an `f` line says: the flow of an arc, with its ends.
+#[derive(Clone, Copy, Debug, PartialEq, Eq)]
+pub struct FlowLine {
+    pub tail: u32,
+    pub head: u32,
+    pub flow: i64,
+}
+
+/// An answer to a problem, as it was read: nothing says yet that it is right.
+#[derive(Debug, Drop)]
+pub enum Answer {
+    /// A flow, with one line an arc and one potential a node, in order.
+    Flow {
+        value: i128,
+        flows: Sequence<FlowLine>,
+        potentials: Sequence<i64>,
+    },
+    /// A cut that shows that no legal flow exists, by its nodes in rising order.
+    Cut {
+        shortage: i64,
+        nodes: Sequence<u32>,
+    },
+}

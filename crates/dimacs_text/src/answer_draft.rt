@@ -1,0 +1,179 @@
+//! What the lines of an answer text say so far.
+
+ghost use Rattle.std.specs.Prelude.{◌≡◌, [], ◌∷◌, ◌++◌, Some, None, IfOk};
+ghost use Rattle.dimacs_text.specs.Problem.{fault_of};
+ghost use Rattle.dimacs_text.specs.Answer.{Takes, TakesAs, read_value, read_flow, read_potential, value_said, flow_said, potential_said, ending, NamesNodes};
+
+use crate::answer::{Answer, FlowLine};
+use crate::answer_line::AnswerLine;
+use crate::answer_value::claimed_value;
+use crate::fault::{Fault, LineError};
+use crate::numbers::{integer, natural, natural_in};
+use crate::sequence::Sequence;
+use crate::words::Words;
+use std::alloc::Global;
+use std::marker::Model;
+
+/// What the lines of an answer text say so far.
+#[derive(Drop)]
+pub struct AnswerDraft {
+    nodes: u32,
+    arcs: u32,
+    value: Option<i128>,
+    flows: Vec<FlowLine>,
+    potentials: Vec<i64>,
+}
+
+impl Model for AnswerDraft {
+    ghost use Rattle.dimacs_text.specs.Answer.{Drafted};
+
+    ghost Value = { Drafted };
+
+    ghost view = { λ d. record { nodes = d.nodes; arcs = d.arcs; said = record { value = d.value; flows = d.flows.items; potentials = d.potentials.items } } };
+
+    ghost use Rattle.std.specs.List.{All};
+    ghost use Rattle.dimacs_text.specs.Answer.{JoinsNodes};
+
+    ghost invariant = { λ d. All (JoinsNodes d.nodes) d.flows.items };
+}
+
+impl AnswerDraft {
+    /// Before any line of an answer to a problem of this size.
+    pub fn new(alloc: Global, nodes: u32, arcs: u32) -> Self
+        ensures { result ≡ record { nodes = nodes; arcs = arcs; said = record { value = None; flows = []; potentials = [] } } }
+    {
+        AnswerDraft {
+            nodes,
+            arcs,
+            value: None,
+            flows: Vec::new(alloc),
+            potentials: Vec::new(alloc),
+        }
+    }
+
+    /// Takes a line that is not too long.
+    pub fn take(&mut self, line: &[u8]) -> Result<(), LineError>
+        ensures { Takes result line.now self.old self.new }
+    {
+        let mut words = Words::new(line);
+        let Some(first) = words.next() else {
+            return Ok(());
+        };
+        match AnswerLine::of(first) {
+            AnswerLine::Comment => Ok(()),
+            AnswerLine::Value => self.take_value(words),
+            AnswerLine::Flow => self.take_flow(words),
+            AnswerLine::Potential => self.take_potential(words),
+            AnswerLine::Unknown => Err(LineError::Fault(Fault::UnknownDesignator)),
+        }
+    }
+
+    /// Takes an `s` line, after its designator.
+    fn take_value(&mut self, fields: Words) -> Result<(), LineError>
+        ensures { TakesAs result (fault_of (read_value self.old.said fields.entry)) self.old
+            (record self.old.said { value = Some (value_said fields.entry) }) self.new }
+    {
+        let value = self.read_value(fields)?;
+        self.value = Some(value);
+        Ok(())
+    }
+
+    /// Takes an `f` line, after its designator.
+    fn take_flow(&mut self, fields: Words) -> Result<(), LineError>
+        ensures { TakesAs result (fault_of (read_flow self.old.nodes self.old.arcs self.old.said fields.entry)) self.old
+            (record self.old.said { flows = self.old.said.flows ++ flow_said fields.entry ∷ [] }) self.new }
+    {
+        let flow = self.read_flow(fields)?;
+        self.flows.push(flow)?;
+        Ok(())
+    }
+
+    /// Takes a `v` line, after its designator.
+    fn take_potential(&mut self, fields: Words) -> Result<(), LineError>
+        ensures { TakesAs result (fault_of (read_potential self.old.nodes self.old.arcs self.old.said fields.entry)) self.old
+            (record self.old.said { potentials = self.old.said.potentials ++ potential_said fields.entry ∷ [] }) self.new }
+    {
+        let potential = self.read_potential(fields)?;
+        self.potentials.push(potential)?;
+        Ok(())
+    }
+
+    /// What an `s` line says, after its designator.
+    #[tactic(auto, unfolding(crate::specs::Answer::read_value))]
+    fn read_value(&self, mut fields: Words) -> Result<i128, Fault>
+        ensures { result ≡ read_value self.now.said fields.entry }
+    {
+        if self.value.is_some() {
+            return Err(Fault::OutOfOrder);
+        }
+        if fields.count() != 1 {
+            return Err(Fault::WrongFieldCount);
+        }
+        claimed_value(fields.word()).ok_or(Fault::NotANumber)
+    }
+
+    /// What an `f` line says, after its designator.
+    #[tactic(auto, unfolding(crate::specs::Answer::read_flow))]
+    fn read_flow(&self, mut fields: Words) -> Result<FlowLine, Fault>
+        ensures { result ≡ read_flow self.now.nodes self.now.arcs self.now.said fields.entry }
+    {
+        if self.value.is_none() || self.flows.len() >= self.arcs as usize {
+            return Err(Fault::OutOfOrder);
+        }
+        if fields.count() != 3 {
+            return Err(Fault::WrongFieldCount);
+        }
+        let nodes = u64::from(self.nodes);
+        let tail = natural_in(fields.word(), 1, nodes)? as u32;
+        let head = natural_in(fields.word(), 1, nodes)? as u32;
+        let flow = natural(fields.word()).ok_or(Fault::NotANumber)? as i64;
+        Ok(FlowLine { tail, head, flow })
+    }
+
+    /// What a `v` line says, after its designator.
+    #[tactic(auto, unfolding(crate::specs::Answer::read_potential))]
+    fn read_potential(&self, mut fields: Words) -> Result<i64, Fault>
+        ensures { result ≡ read_potential self.now.nodes self.now.arcs self.now.said fields.entry }
+    {
+        if self.value.is_none()
+            || self.flows.len() != self.arcs as usize
+            || self.potentials.len() >= self.nodes as usize
+        {
+            return Err(Fault::OutOfOrder);
+        }
+        if fields.count() != 2 {
+            return Err(Fault::WrongFieldCount);
+        }
+        let id = natural_in(fields.word(), 1, u64::from(self.nodes))?;
+        let potential = integer(fields.word()).ok_or(Fault::NotANumber)?;
+        if id != self.potentials.len() as u64 + 1 {
+            return Err(Fault::OutOfOrder);
+        }
+        Ok(potential)
+    }
+
+    /// The answer, where no line is missing.
+    pub fn close(self) -> Result<Answer, Fault>
+        ensures value { result ≡ ending self.nodes self.arcs self.said }
+        ensures ends { IfOk result (NamesNodes self.nodes) }
+    {
+        let AnswerDraft {
+            nodes,
+            arcs,
+            value,
+            flows,
+            potentials,
+        } = self;
+        let Some(value) = value else {
+            return Err(Fault::OutOfOrder);
+        };
+        if flows.len() != arcs as usize || potentials.len() != nodes as usize {
+            return Err(Fault::OutOfOrder);
+        }
+        Ok(Answer::Flow {
+            value,
+            flows: Sequence::new(flows),
+            potentials: Sequence::new(potentials),
+        })
+    }
+}

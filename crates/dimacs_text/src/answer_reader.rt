@@ -1,0 +1,88 @@
+//! A reader of answer texts.
+
+ghost use Rattle.std.specs.Prelude.{◌≡◌, List, ℕ, [], ◌++◌, Some, Err, IfOk, IfErr};
+ghost use Rattle.dimacs_text.specs.Lines.{IsBytes};
+ghost use Rattle.dimacs_text.specs.Stream.{decided};
+ghost use Rattle.dimacs_text.specs.Answer.{FitsSize, answer_rule, answers};
+ghost use Rattle.dimacs_text.specs.declared.fault.TextFault.{TextFault};
+
+use crate::answer::Answer;
+use crate::answer_draft::AnswerDraft;
+use crate::fault::{LineError, TextFault};
+use crate::reader::{LineTaker, TextReader};
+use std::alloc::Global;
+
+impl LineTaker for AnswerDraft {
+    ghost use Rattle.std.specs.Prelude.{ℕ};
+    ghost use Rattle.dimacs_text.specs.Answer.{answer_rule};
+    ghost use Rattle.dimacs_text.specs.AnswerReader.{holds as holds_lines};
+
+    ghost Setting = { ℕ × ℕ };
+
+    ghost rule = { λ size. answer_rule size.0 size.1 };
+
+    ghost holds = { λ size. holds_lines size.0 size.1 };
+
+    fn take_line(&mut self, line: &[u8]) -> Result<(), LineError> {
+        self.take(line)
+    }
+}
+
+/// A reader of an answer text, which holds one line of it beside what it has read.
+#[derive(Drop)]
+pub struct AnswerReader {
+    reader: TextReader<AnswerDraft>,
+}
+
+impl AnswerReader {
+    ghost use Rattle.dimacs_text.specs.AnswerReader.{StandsFor, Feeds, Finishes, HasFailed};
+
+    /// A reader of the empty text, as an answer to a problem with so many nodes and arcs.
+    pub fn new(alloc: Global, nodes: u32, arcs: u32) -> Self
+        ensures { StandsFor nodes arcs result [] }
+    {
+        AnswerReader {
+            reader: TextReader::new(AnswerDraft::new(alloc, nodes, arcs)),
+        }
+    }
+
+    /// Takes the next piece of the text, and answers the fault that is decided by now.
+    pub fn feed(&mut self, piece: &[u8]) -> Result<(), TextFault>
+        ensures text { (nodes arcs : ℕ) (text : List ℕ) → StandsFor nodes arcs self.old text
+            → Feeds nodes arcs result self.new (text ++ piece.now) }
+        // Every later call answers the same.
+        ensures err { IfErr result (HasFailed self.new) }
+        ensures failed { (e : TextFault) → HasFailed self.old e → result ≡ Err e }
+    {
+        self.reader.feed(piece)
+    }
+
+    /// Ends the text.
+    pub fn finish(self) -> Result<Answer, TextFault>
+        ensures text { (nodes arcs : ℕ) (text : List ℕ) → StandsFor nodes arcs self text
+            → Finishes nodes arcs result text }
+        ensures fits { (nodes arcs : ℕ) (text : List ℕ) → StandsFor nodes arcs self text
+            → IfOk result (FitsSize nodes arcs) }
+        ensures failed { (e : TextFault) → HasFailed self e → result ≡ Err e }
+    {
+        let AnswerReader { reader } = self;
+        let (draft, lines) = reader.finish()?;
+        match draft.close() {
+            Ok(answer) => Ok(answer),
+            Err(fault) => Err(LineError::Fault(fault).at_line(lines)),
+        }
+    }
+}
+
+/// A law, with nothing to run: a fault is decided by a text exactly where each text has it that goes on from there, as an
+/// answer to a problem with so many nodes and arcs.
+pub fn answer_decided_for_all()
+    ensures always { (nodes arcs : ℕ) (text more : List ℕ) (fault : TextFault)
+        → decided (answer_rule nodes arcs) text ≡ Some fault → answers nodes arcs (text ++ more) ≡ Err fault }
+    ensures only { (nodes arcs : ℕ) (text : List ℕ) (fault : TextFault)
+        → ((more : List ℕ) → IsBytes more → answers nodes arcs (text ++ more) ≡ Err fault)
+        → decided (answer_rule nodes arcs) text ≡ Some fault }
+{}
+
+#[cfg(test)]
+mod tests;

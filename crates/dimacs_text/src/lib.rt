@@ -1,0 +1,30 @@
+//! Readers of DIMACS network texts that come in pieces.
+#![tactic(auto)]
+
+mod answer;
+mod answer_draft;
+mod answer_line;
+mod answer_reader;
+mod answer_value;
+mod cutter;
+mod draft;
+mod fault;
+mod numbers;
+mod problem;
+mod problem_reader;
+mod reader;
+mod sequence;
+#[cfg(test)]
+mod tests;
+mod words;
+
+pub use answer::{Answer, FlowLine};
+pub use answer_reader::{AnswerReader, answer_decided_for_all};
+pub use cutter::{LINE_LIMIT, LineCutter};
+pub use fault::{Fault, TextFault};
+pub use problem::{
+    ARC_LIMIT, ArcRow, CAP_LIMIT, COST_LIMIT, Kind, NODE_LIMIT, NodeMark, Problem, SUPPLY_LIMIT,
+};
+pub use problem_reader::{ProblemReader, decided_for_all};
+pub use sequence::Sequence;
+pub use words::is_blank;

@@ -1,0 +1,141 @@
+//! What a problem text says.
+
+ghost use Rattle.std.specs.Prelude.{◌≡◌};
+
+use std::marker::Model;
+
+/// The kinds of problems of the DIMACS network formats (First DIMACS Implementation Challenge, 1991).
+#[derive(Clone, Copy, Debug, PartialEq, Eq)]
+pub enum Kind {
+    /// Minimum-cost flow.
+    Min,
+    /// Maximum flow.
+    Max,
+    /// Assignment.
+    Asn,
+}
+
+/// What a node line says.
+#[derive(Clone, Copy, Debug, PartialEq, Eq)]
+pub enum NodeMark {
+    /// `min`: a node and its supply, -`SUPPLY_LIMIT` to `SUPPLY_LIMIT`; a negative one is a demand.
+    Supply { id: u32, value: i64 },
+    /// `max`: the source.
+    Source(u32),
+    /// `max`: the sink.
+    Sink(u32),
+    /// `asn`: a node of the source side.
+    Side(u32),
+}
+
+impl NodeMark {
+    ghost use Rattle.dimacs_text.specs.Problem.{node_of};
+
+    /// The node that it names, counted from 1.
+    pub fn node(&self) -> u32
+        ensures { result ≡ node_of self.now }
+    {
+        match self {
+            NodeMark::Supply { id, .. } => *id,
+            NodeMark::Source(id) => *id,
+            NodeMark::Sink(id) => *id,
+            NodeMark::Side(id) => *id,
+        }
+    }
+}
+
+/// What an arc line says: nodes are counted from 1, and `0 <= low <= cap`.
+#[derive(Clone, Copy, Debug, PartialEq, Eq)]
+pub struct ArcRow {
+    pub tail: u32,
+    pub head: u32,
+    pub low: i64,
+    pub cap: i64,
+    pub cost: i64,
+}
+
+/// What the problem line says.
+#[derive(Clone, Copy, Debug, PartialEq, Eq)]
+pub struct Size {
+    pub kind: Kind,
+    pub nodes: u32,
+    pub arcs: u32,
+}
+
+/// The most nodes of a problem.
+pub const NODE_LIMIT: u32 = 10_000;
+/// The most arcs of a problem.
+pub const ARC_LIMIT: u32 = 100_000;
+/// The greatest capacity, and lower bound.
+pub const CAP_LIMIT: u64 = 1_000_000_000;
+/// The greatest cost, either way.
+pub const COST_LIMIT: i64 = 1_000_000_000;
+/// The greatest supply, either way.
+pub const SUPPLY_LIMIT: i64 = 1_000_000_000;
+
+/// A problem that was read. A `ProblemReader` alone makes it, so it keeps the limits and the rules of its kind.
+#[derive(Drop)]
+pub struct Problem {
+    kind: Kind,
+    nodes: u32,
+    marks: Vec<NodeMark>,
+    arcs: Vec<ArcRow>,
+}
+
+impl Model for Problem {
+    ghost use Rattle.dimacs_text.specs.Reading.{ProblemValue};
+
+    ghost Value = { ProblemValue };
+
+    ghost view = { λ p. record { kind = p.kind; nodes = p.nodes; marks = p.marks.items; arcs = p.arcs.items } };
+
+    ghost use Rattle.dimacs_text.specs.Lawful.{IsProblem};
+
+    ghost invariant = { λ p. IsProblem p.kind p.nodes p.marks.items p.arcs.items };
+}
+
+impl Problem {
+    ghost use Rattle.dimacs_text.specs.Lawful.{IsProblem};
+
+    /// A problem of these parts.
+    pub(crate) fn new(size: Size, marks: Vec<NodeMark>, arcs: Vec<ArcRow>) -> Self
+        requires { IsProblem size.kind size.nodes marks.items arcs.items }
+        ensures { result ≡ record { kind = size.kind; nodes = size.nodes; marks = marks.items; arcs = arcs.items } }
+    {
+        Problem {
+            kind: size.kind,
+            nodes: size.nodes,
+            marks,
+            arcs,
+        }
+    }
+
+    /// The kind.
+    pub fn kind(&self) -> Kind
+        ensures { result ≡ self.now.kind }
+    {
+        self.kind
+    }
+
+    /// The number of nodes, 1 to `NODE_LIMIT`. Each problem is lawful.
+    pub fn nodes(&self) -> u32
+        ensures value { result ≡ self.now.nodes }
+        ensures lawful { IsProblem self.now.kind self.now.nodes self.now.marks self.now.arcs }
+    {
+        self.nodes
+    }
+
+    /// What the node lines say, in order.
+    pub fn marks(&self) -> &[NodeMark]
+        ensures { result.now ≡ self.now.marks }
+    {
+        self.marks.as_slice()
+    }
+
+    /// What the arc lines say, in order.
+    pub fn arcs(&self) -> &[ArcRow]
+        ensures { result.now ≡ self.now.arcs }
+    {
+        self.arcs.as_slice()
+    }
+}

@@ -1,0 +1,86 @@
+//! Reading a problem text in pieces.
+
+ghost use Rattle.std.specs.Prelude.{◌≡◌, List, ℕ, [], ◌++◌, Some, Err, IfErr};
+ghost use Rattle.dimacs_text.specs.Lines.{IsBytes};
+ghost use Rattle.dimacs_text.specs.Stream.{decided};
+ghost use Rattle.dimacs_text.specs.Reading.{problem_rule, reads};
+ghost use Rattle.dimacs_text.specs.declared.fault.TextFault.{TextFault};
+
+use crate::draft::Draft;
+use crate::fault::{LineError, TextFault};
+use crate::problem::Problem;
+use crate::reader::{LineTaker, TextReader};
+use std::alloc::Global;
+
+/// Takes the lines of a problem text.
+#[derive(Drop)]
+pub struct ProblemTaker {
+    draft: Draft,
+}
+
+impl LineTaker for ProblemTaker {
+    ghost use Rattle.dimacs_text.specs.Reading.{problem_rule};
+    ghost use Rattle.dimacs_text.specs.ProblemReader.{holds as holds_lines};
+
+    ghost rule = { λ _. problem_rule };
+
+    ghost holds = { λ _. holds_lines };
+
+    fn take_line(&mut self, line: &[u8]) -> Result<(), LineError> {
+        self.draft.take_line(line)
+    }
+}
+
+/// A reader of a problem text, which holds one line of it beside what it has read. However the text is cut into pieces,
+/// it is read the same.
+#[derive(Drop)]
+pub struct ProblemReader {
+    reader: TextReader<ProblemTaker>,
+}
+
+impl ProblemReader {
+    ghost use Rattle.dimacs_text.specs.ProblemReader.{StandsFor, Feeds, Finishes, HasFailed};
+
+    /// A reader of the empty text.
+    pub fn new(alloc: Global) -> Self
+        ensures { StandsFor result [] }
+    {
+        ProblemReader {
+            reader: TextReader::new(ProblemTaker {
+                draft: Draft::new(alloc),
+            }),
+        }
+    }
+
+    /// Takes the next piece of the text, and answers the fault that is decided by now: the first one, at its line's LF, or
+    /// at the byte that makes the line too long. After a fault or want of memory every later call answers the same.
+    pub fn feed(&mut self, piece: &[u8]) -> Result<(), TextFault>
+        ensures text { (text : List ℕ) → StandsFor self.old text → Feeds result self.new (text ++ piece.now) }
+        ensures err { IfErr result (HasFailed self.new) }
+        ensures failed { (e : TextFault) → HasFailed self.old e → result ≡ Err e }
+    {
+        self.reader.feed(piece)
+    }
+
+    /// Ends the text, and answers its problem, or its first fault.
+    pub fn finish(self) -> Result<Problem, TextFault>
+        ensures text { (text : List ℕ) → StandsFor self text → Finishes result text }
+        ensures failed { (e : TextFault) → HasFailed self e → result ≡ Err e }
+    {
+        let ProblemReader { reader } = self;
+        let (taker, lines) = reader.finish()?;
+        let ProblemTaker { draft } = taker;
+        match draft.close() {
+            Ok(problem) => Ok(problem),
+            Err(fault) => Err(LineError::Fault(fault).at_line(lines)),
+        }
+    }
+}
+
+/// A law, with nothing to run: a fault is decided by a text exactly where each text has it that goes on from there.
+pub fn decided_for_all()
+    ensures always { (text more : List ℕ) (fault : TextFault)
+        → decided problem_rule text ≡ Some fault → reads (text ++ more) ≡ Err fault }
+    ensures only { (text : List ℕ) (fault : TextFault)
+        → ((more : List ℕ) → IsBytes more → reads (text ++ more) ≡ Err fault) → decided problem_rule text ≡ Some fault }
+{}

@@ -1,0 +1,113 @@
+ghost use Rattle.std.specs.Prelude.{◌<◌};
+
+use crate::{LineCutter, NodeMark, Problem, ProblemReader, TextFault, is_blank};
+use std::alloc::Global;
+use std::process::Abort;
+
+/// Reads texts in a row, each in pieces of so many bytes.
+fn read(alloc: Global, texts: [&[u8]; 3], step: usize) -> Result<Problem, TextFault>
+    requires { 0 < step }
+{
+    let mut reader = ProblemReader::new(alloc);
+    for text in texts {
+        for piece in text.chunks(step) {
+            reader.feed(piece)?;
+        }
+    }
+    reader.finish()
+}
+
+/// The text has the fault in pieces of any of these lengths, with its last LF and without, and two lines later after a
+/// blank line and a comment.
+fn expect_fault(rt: &impl Abort, alloc: Global, text: &[u8], number: u8, line: u64)
+    requires { line < 10 }
+{
+    for step in [1, 2, 7, 1024, 1025] {
+        for (before, after, line) in [
+            (&b""[..], &b""[..], line),
+            (b"", b"\n", line),
+            (b" \t\r\nc two lines\n", b"", line + 2),
+            (b" \t\r\nc two lines\n", b"\n", line + 2),
+        ] {
+            match read(alloc, [before, text, after], step) {
+                Ok(_) => panic!(rt; "fault {number} is missed"),
+                Err(fault) => assert_eq!(rt; fault, TextFault::Fault { number, line }),
+            }
+        }
+    }
+}
+
+#[test]
+fn faults(rt: HostRuntime) {
+    let mut long = [b'x'; 1025];
+    long[0] = b'c';
+    expect_fault(&rt, rt.alloc(), &long, 1, 1);
+    let cases: [(&[u8], u8, u64); 17] = [
+        (b"x 1", 2, 1),
+        (b"p min 2", 3, 1),
+        (b"p min +2 1", 4, 1),
+        (b"p min 2 1\na 1 2 -1 1 1", 4, 2),
+        (b"p min 10001 0", 5, 1),
+        (b"p min 2 1\na 1 3 x 1 1", 5, 2),
+        (b"a 1 2 0 1 1", 6, 1),
+        (b"p min 1 0\np min 1 0", 7, 2),
+        (b"p sp 2 1", 8, 1),
+        (b"p max 2 1", 8, 1),
+        (b"p min 2 1\na 1 2 0 1 1\nn 1 0", 9, 3),
+        (b"p min 2 0\nn 1 1\nn 1 1", 10, 3),
+        (b"p min 2 0\na 1 2 0 1 1", 12, 2),
+        (b"p min 2 2\na 1 2 0 1 1", 13, 2),
+        (b"c only", 14, 1),
+        (b"p min 2 1\na 1 2 2 1 0", 15, 2),
+        (b"n 1 s\np max 2 0", 6, 1),
+    ];
+    for (text, number, line) in cases {
+        expect_fault(&rt, rt.alloc(), text, number, line);
+    }
+}
+
+#[test]
+fn problem(rt: HostRuntime) {
+    let text = b"c a comment\n \t\r\np min 2 1\nn 1 3\nn 2 -3\na 1 2 0 5 4";
+    for step in [1, 2, 7, 1024] {
+        match read(rt.alloc(), [text, b"", b""], step) {
+            Ok(problem) => {
+                assert_eq!(rt; problem.nodes(), 2);
+                assert_eq!(rt; problem.marks().len(), 2);
+                assert_eq!(rt; problem.marks()[1], NodeMark::Supply { id: 2, value: -3 });
+                assert_eq!(rt; problem.arcs().len(), 1);
+                assert_eq!(rt; problem.arcs()[0].cap, 5);
+            }
+            Err(_) => panic!(rt; "the text is read"),
+        }
+    }
+}
+
+#[test]
+fn nothing_is_read(rt: HostRuntime) {
+    match ProblemReader::new(rt.alloc()).finish() {
+        Ok(_) => panic!(rt; "fault 14 is missed"),
+        Err(fault) => {
+            assert_eq!(rt;
+                fault,
+                TextFault::Fault {
+                    number: 14,
+                    line: 0
+                }
+            );
+        }
+    }
+}
+
+#[test]
+fn a_line_is_cut(rt: HostRuntime) {
+    let mut cutter = LineCutter::new();
+    assert_eq!(rt; cutter.take(b" \t"), (2, false));
+    assert!(rt; cutter.begun());
+    assert_eq!(rt; cutter.take(b"\r\nn 1"), (2, true));
+    assert!(rt; !cutter.begun());
+    match cutter.line() {
+        Some(line) => assert!(rt; line == b" \t\r".as_slice() && is_blank(line)),
+        None => panic!(rt; "the line fits"),
+    }
+}

@@ -1,0 +1,137 @@
+//! The words of a line.
+
+ghost use Rattle.std.specs.Prelude.{◌≡◌, ◌↔◌, IsTrue, ◌∷◌, [], ◌<◌, ◌≤◌, length, not, MatchOption};
+ghost use Rattle.std.specs.List.{position_or_len};
+ghost use Rattle.dimacs_text.specs.Fields.{is_blank, words_of};
+
+use std::marker::Model;
+
+/// What the first word makes of a line.
+#[derive(Clone, Copy, Debug, PartialEq, Eq)]
+pub enum Designator {
+    Comment,
+    Problem,
+    Node,
+    Arc,
+    Unknown,
+}
+
+impl Designator {
+    ghost use Rattle.dimacs_text.specs.Problem.{designator_of};
+
+    /// What a first word makes of its line.
+    pub fn of(word: &[u8]) -> Self
+        ensures { result ≡ designator_of word.now }
+    {
+        match word {
+            [b'c', ..] => Designator::Comment,
+            [b'p'] => Designator::Problem,
+            [b'n'] => Designator::Node,
+            [b'a'] => Designator::Arc,
+            _ => Designator::Unknown,
+        }
+    }
+}
+
+/// The words that are left of a line.
+#[derive(Drop)]
+pub struct Words<'a> {
+    rest: &'a [u8],
+}
+
+impl<'a> Model for Words<'a> {
+    ghost use Rattle.std.specs.Prelude.{List, ℕ};
+    ghost use Rattle.dimacs_text.specs.Fields.{words_of};
+
+    ghost Value = { List (List ℕ) };
+
+    ghost view = { λ w. words_of w.rest.now };
+}
+
+impl<'a> Words<'a> {
+    /// The words of a line.
+    pub fn new(line: &'a [u8]) -> Self
+        ensures { result ≡ words_of line.now }
+    {
+        Words { rest: line }
+    }
+
+    /// How many words are left.
+    pub fn count(&self) -> usize
+        ensures { result ≡ length self.now }
+    {
+        let mut rest = self.rest;
+        let mut count = 0;
+        while let Some((_, after)) = split_word(rest) {
+            count += 1;
+            rest = after;
+        }
+        count
+    }
+
+    /// Takes the next word, if there is one.
+    pub fn next(&mut self) -> Option<&'a [u8]>
+        ensures { MatchOption result ((self.old ≡ []) × (self.new ≡ [])) (λ word. self.old ≡ word.now ∷ self.new) }
+    {
+        let (word, rest) = split_word(self.rest)?;
+        self.rest = rest;
+        Some(word)
+    }
+
+    /// Takes the next word.
+    pub fn word(&mut self) -> &'a [u8]
+        requires { 0 < length self.old }
+        ensures { self.old ≡ result.now ∷ self.new }
+    {
+        match self.next() {
+            Some(word) => word,
+            None => unreachable!(),
+        }
+    }
+}
+
+/// Whether a line has no word: a blank line, which every text skips.
+pub fn is_blank(line: &[u8]) -> bool
+    ensures { IsTrue result ↔ (words_of line.now ≡ []) }
+{
+    split_word(line).is_none()
+}
+
+/// The first word of a line, and the line after it.
+fn split_word(line: &[u8]) -> Option<(&[u8], &[u8])>
+    ensures words { MatchOption result (words_of line.now ≡ []) (λ parts. words_of line.now ≡ parts.0.now ∷ words_of parts.1.now) }
+    ensures shorter { MatchOption result (0 ≤ length line.now) (λ parts. length parts.1.now < length line.now) }
+{
+    let begun = &line[blanks(line)..];
+    if begun.is_empty() {
+        return None;
+    }
+    Some(begun.split_at(word_length(begun)))
+}
+
+/// How many blanks a line begins with.
+fn blanks(line: &[u8]) -> usize
+    ensures place { result ≡ position_or_len (λ byte. not (is_blank byte)) line.now }
+    ensures within { result ≤ length line.now }
+{
+    line.iter()
+        .position(|byte| !is_blank_byte(*byte))
+        .unwrap_or(line.len())
+}
+
+/// How many bytes stand before the first blank.
+fn word_length(line: &[u8]) -> usize
+    ensures place { result ≡ position_or_len is_blank line.now }
+    ensures within { result ≤ length line.now }
+{
+    line.iter()
+        .position(|byte| is_blank_byte(*byte))
+        .unwrap_or(line.len())
+}
+
+/// Space, tab and CR.
+fn is_blank_byte(byte: u8) -> bool
+    ensures { result ≡ is_blank byte }
+{
+    byte == b' ' || byte == b'\t' || byte == b'\r'
+}

@@ -1,0 +1,211 @@
+-- What the end of all searches tells of the instance.
+use Rattle.std.proofs.Common.{◌≡◌, ℕ, zero, suc, ◌+◌, ◌-◌, ◌*◌, ◌<◌, ◌≤◌, ℤ, pos, negsuc, neg_ℤ, ◌-ℤ◌, ◌+ℤ◌, ◌≤ℤ◌, List, [], ◌∷◌, length, drop, refl, sym, ap, subst, ◌∙◌, inl, inr, ◌⊎◌, arith, Bool, true, false, cond, not, ◌&&◌}
+use Rattle.std.specs.Prelude.{◌<ℤ◌, slice_index_or}
+use Rattle.std.proofs.lemmas.Int.{ints}
+use Rattle.std.proofs.lemmas.Bool.{cases_lt}
+use Rattle.std.proofs.lemmas.List.Sums.{sum_by-cons}
+use Rattle.dimacs_text.specs.declared.problem.ArcRow.{ArcRow}
+use Rattle.network.specs.Flow.{MinCost, IsNode, AllWithinBounds, IsCertifiedFlow, IsGreatestPotential, IsLegalFlow, surplus_of, shortfall_of, total_excess, IsLeastGreatestSurplus, IsLeastGreatestShortfall}
+use Rattle.network.specs.Instance.{Demand, Supplies, Terminals, Sides, Instance, IsLawful, IsCertified as IsCertifiedBy, IsLegal, IsBreach, at_node, is_marked, reduced, reduced_arcs, reduced_flow, numbered_flow, worth}
+use Rattle.network.proofs.Reduction.{made, reduced_ends, certified_is_best, breach_rules_out, from_reduced}
+use Rattle.network.proofs.Reach.{surplus_at_most}
+use Rattle.flow_solver.specs.declared.verdict.Verdict.{Verdict}
+use Rattle.flow_solver.specs.declared.verdict.Verdict.TheVariants.{Best, Infeasible}
+use Rattle.flow_solver.specs.Limits.{supply_limit, entry_limit, cap_sum_limit}
+use Rattle.flow_solver.specs.Residual.{IsCertified, AreGreatest, ArePathsAbove, IsRow, number_at, arc_at}
+use Rattle.flow_solver.specs.Push.{IsExcess, AreSupplies, positive_part, left, cap_total}
+use Rattle.flow_solver.specs.Cut.{in_set, sum_in, sum_leaving, sum_entering, surplus, shortfall, lack, IsLeastSet, IsChosenSet}
+use Rattle.flow_solver.specs.Nodes.{held}
+use Rattle.flow_solver.specs.Answer.{IsBestMoment, IsInfeasibleMoment, IsVerdict, IsChosenBreach, IsChosenCut, IsJudged, worth_by}
+use Rattle.flow_solver.proofs.NodeLemmas.{IsNodeOf}
+use Rattle.flow_solver.proofs.FlowLaws.{AgreesAt, bounds_from, certified_same, certified_flow, greatest_flow}
+use Rattle.flow_solver.proofs.CutLaws.{IsMarkedBy, least_surplus, least_shortfall}
+use Rattle.flow_solver.proofs.PushLaws.{legal_flow, left_is}
+use Rattle.flow_solver.proofs.InstanceLemmas.{range_of_labels}
+
+-- ---- entries 1 to n of a table
+
+entry_after : {A : Type 0} (xs : List A) (v : ℕ) (d : A) → slice_index_or (drop 1 xs) v d ≡ slice_index_or xs (suc v) d
+entry_after [] v d = refl
+entry_after (x ∷ xs) v d = refl
+
+pub node_entry : {A : Type 0} (xs : List A) (n v : ℕ) (d : A) → (1 ≤ v) × (v ≤ n) → slice_index_or (drop 1 xs) (v - 1) d ≡ slice_index_or xs v d
+node_entry xs n zero d node = absurd (omega (arith, node.0))
+node_entry xs n (suc v) d node = (let e : suc v - 1 ≡ v = omega arith in ap (λ (w : ℕ). slice_index_or (drop 1 xs) w d) e ∙ entry_after xs v d)
+
+pub agrees_at : (n : ℕ) (p : List ℤ) → AgreesAt n (at_node (drop 1 p)) p
+agrees_at n p v node = node_entry p n v (pos 0) node
+
+pub marked_by : (n : ℕ) (set : List Bool) → IsMarkedBy n (is_marked (drop 1 set)) set
+marked_by n set v node = node_entry set n v false node
+
+none_marked : (set : List Bool) → ((v : ℕ) → in_set set v ≡ false) → (v : ℕ) → is_marked (drop 1 set) v ≡ false
+none_marked set none v = entry_after set (v - 1) false ∙ none (suc (v - 1))
+
+-- a flow that the potentials of the nodes certify is certified by the table
+pub certified_at : (I : Instance) (x p : List ℤ) → IsLawful I → IsCertifiedFlow (reduced I) x (at_node (drop 1 p)) → IsCertifiedFlow (reduced I) x (number_at p)
+certified_at I x p lawful certified = certified_same (reduced I) x (at_node (drop 1 p)) (number_at p) (reduced_ends I lawful) (λ v node. sym (agrees_at I.nodes p v node)) certified
+
+-- ---- the worth
+
+worth_is : (n : ℕ) (D : Demand) (arcs : List ArcRow) (room : ℕ) (y : List ℤ) → y ≡ reduced_flow (made n D arcs room) (numbered_flow D y) → worth_by D (reduced_arcs D arcs) y ≡ worth (made n D arcs room) (numbered_flow D y)
+worth_is n (Supplies s) arcs room y same = refl
+worth_is n (Terminals source sink) arcs room y same = ap (λ (z : List ℤ). number_at z 0) same
+worth_is n (Sides marks) arcs room y same = refl
+
+-- ---- the end of all searches
+
+-- what stands in the tables when no search finds a node in deficit any more
+pub record IsEnd (I : Instance) (y p e : List ℤ) (set : List Bool) : Type 0 where
+  pub lawful : IsLawful I
+  pub potentials_in : length p ≡ I.nodes + 1
+  pub excess_in : length e ≡ I.nodes + 1
+  pub cut_in : length set ≡ I.nodes + 1
+  pub certified : IsCertified (reduced I).arcs y p
+  pub greatest : AreGreatest (reduced I).arcs y p
+  pub above : ArePathsAbove (reduced I).arcs p
+  pub excess_is : IsExcess (reduced I).arcs (held I.nodes (reduced I).supply) y e
+  pub chosen : IsChosenSet (reduced I).arcs (held I.nodes (reduced I).supply) e set
+
+pub end_of : (I : Instance) (rows : List ArcRow) (y p e : List ℤ) (set : List Bool) → IsLawful I → rows ≡ (reduced I).arcs → length p ≡ I.nodes + 1 → length e ≡ I.nodes + 1 → length set ≡ I.nodes + 1
+    → IsCertified rows y p → AreGreatest rows y p → ArePathsAbove rows p → IsExcess rows (held I.nodes (reduced I).supply) y e → IsChosenSet rows (held I.nodes (reduced I).supply) e set → IsEnd I y p e set
+end_of I rows y p e set lawful same potentials_in excess_in cut_in certified greatest above excess_is chosen = record {
+  lawful = lawful;
+  potentials_in = potentials_in;
+  excess_in = excess_in;
+  cut_in = cut_in;
+  certified = subst (λ (r : List ArcRow). IsCertified r y p) same certified;
+  greatest = subst (λ (r : List ArcRow). AreGreatest r y p) same greatest;
+  above = subst (λ (r : List ArcRow). ArePathsAbove r p) same above;
+  excess_is = subst (λ (r : List ArcRow). IsExcess r (held I.nodes (reduced I).supply) y e) same excess_is;
+  chosen = subst (λ (r : List ArcRow). IsChosenSet r (held I.nodes (reduced I).supply) e set) same chosen;
+}
+
+module _ (I : Instance) (y p e : List ℤ) (set : List Bool) (end : IsEnd I y p e set) where
+  bounds : AllWithinBounds (reduced I).arcs y
+  bounds = bounds_from (reduced I).arcs y end.certified.flow.same_length end.certified.flow.within
+
+  sized_set : length set ≡ suc I.nodes
+  sized_set = omega (arith, end.cut_in)
+
+  pub end_certified : IsCertifiedFlow (reduced I) y (at_node (drop 1 p))
+  end_certified =
+      certified_flow (reduced I) y p (at_node (drop 1 p)) (reduced_ends I end.lawful) end.certified (agrees_at I.nodes p)
+      (range_of_labels I p end.lawful end.potentials_in end.above end.certified.potentials.at_most_0)
+
+  pub end_greatest : IsGreatestPotential (reduced I) y (at_node (drop 1 p))
+  end_greatest = greatest_flow (reduced I) y p (at_node (drop 1 p)) (reduced_ends I end.lawful) (agrees_at I.nodes p) end.greatest
+
+  cut_of_excess : 0 < left e → IsLeastGreatestSurplus (reduced I) (is_marked (drop 1 set)) (pos (left e))
+  cut_of_excess some = least_surplus (reduced I) set (is_marked (drop 1 set)) (pos (left e)) (reduced_ends I end.lawful) sized_set (marked_by I.nodes set) (end.chosen.in_excess some)
+
+  cut_of_deficit : left e ≡ 0 → 0 < lack e → IsLeastGreatestShortfall (reduced I) (is_marked (drop 1 set)) (pos (lack e))
+  cut_of_deficit none some = least_shortfall (reduced I) set (is_marked (drop 1 set)) (pos (lack e)) (reduced_ends I end.lawful) sized_set (marked_by I.nodes set) (end.chosen.in_deficit none some)
+
+  infeasible : (d : ℤ) → IsBreach I (is_marked (drop 1 set)) d → IsInfeasibleMoment I (is_marked (drop 1 set)) d
+  infeasible d breach = record { none_legal = breach_rules_out I (is_marked (drop 1 set)) d end.lawful breach; breach = breach }
+
+  excess_verdict : 0 < left e → IsInfeasibleMoment I (is_marked (drop 1 set)) (pos (left e))
+  excess_verdict some = infeasible (pos (left e)) (record { positive = omega (arith, ints, some); value = inl (sym (cut_of_excess some).value) })
+
+  deficit_verdict : left e ≡ 0 → 0 < lack e → IsInfeasibleMoment I (is_marked (drop 1 set)) (pos (lack e))
+  deficit_verdict none some = infeasible (pos (lack e)) (record { positive = omega (arith, ints, some); value = inr (sym (cut_of_deficit none some).value) })
+
+  best_verdict : left e ≡ 0 → lack e ≡ 0 → IsBestMoment I y (is_marked (drop 1 set)) (worth_by I.demand (reduced I).arcs y)
+  best_verdict none no_lack =
+      let legal = from_reduced I y end.lawful (legal_flow (reduced I) y e end.excess_is bounds none no_lack) in
+      let certified : IsCertifiedBy I (numbered_flow I.demand y) (at_node (drop 1 p)) = subst (λ (z : List ℤ). IsCertifiedFlow (reduced I) z (at_node (drop 1 p))) legal.1 end_certified in
+      record {
+        best = certified_is_best I (numbered_flow I.demand y) (at_node (drop 1 p)) end.lawful legal.0 certified;
+        worth_is = worth_is I.nodes I.demand I.arcs I.room y legal.1;
+        none_marked = none_marked set (end.chosen.in_neither none no_lack);
+      }
+
+  -- no set has a surplus where nothing lies in excess
+  surplus_none : left e ≡ 0 → (other : ℕ → Bool) → surplus_of (reduced I) other ≤ℤ pos 0
+  surplus_none none other =
+      let all = left_is (reduced I) y e (reduced_ends I end.lawful) end.excess_is (omega (arith, end.excess_in)) in
+      let most = surplus_at_most (reduced I) y other (reduced_ends I end.lawful) bounds in
+      omega (arith, ints, all, most, none)
+
+  excess_chosen : 0 < left e → IsChosenBreach (reduced I) (is_marked (drop 1 set)) (pos (left e))
+  excess_chosen some = record {
+    surplus = λ other above. cut_of_excess some;
+    shortfall = λ none. absurd (omega (arith, ints, some, none (is_marked (drop 1 set)), (cut_of_excess some).value));
+  }
+
+  deficit_chosen : left e ≡ 0 → 0 < lack e → IsChosenBreach (reduced I) (is_marked (drop 1 set)) (pos (lack e))
+  deficit_chosen none some = record {
+    surplus = λ other above. absurd (omega (arith, ints, above, surplus_none none other));
+    shortfall = λ all. cut_of_deficit none some;
+  }
+
+  module _ (verdict : Verdict) (judged : IsJudged (worth_by I.demand (reduced I).arcs y) e verdict) where
+    by_sums : (P : Verdict → Type 0) → (0 < left e → P (Infeasible (pos (left e)))) → (left e ≡ 0 → 0 < lack e → P (Infeasible (pos (lack e)))) → (left e ≡ 0 → lack e ≡ 0 → P (Best (worth_by I.demand (reduced I).arcs y))) → P verdict
+    by_sums P excess deficit neither = elim (cases_lt 0 (left e)) [
+      | inl some ↦ subst P (sym (judged.in_excess some)) (excess some)
+      | inr le ↦ (let none : left e ≡ 0 = omega arith in elim (cases_lt 0 (lack e)) [
+        | inl some ↦ subst P (sym (judged.in_deficit none some)) (deficit none some)
+        | inr le2 ↦ (let no_lack : lack e ≡ 0 = omega arith in subst P (sym (judged.in_neither none no_lack)) (neither none no_lack))
+      ])
+    ]
+
+    pub end_verdict : IsVerdict verdict I y (is_marked (drop 1 set))
+    end_verdict = by_sums (λ (v : Verdict). IsVerdict v I y (is_marked (drop 1 set))) excess_verdict deficit_verdict best_verdict
+
+    pub end_chosen : IsChosenCut verdict (reduced I) (is_marked (drop 1 set))
+    end_chosen = by_sums (λ (v : Verdict). IsChosenCut v (reduced I) (is_marked (drop 1 set))) excess_chosen deficit_chosen (λ none no_lack. tt)
+
+-- ---- the shortage fits its type
+
+sum_in-small : (set : List Bool) (f : ℕ → ℤ) → ((v : ℕ) → f v ≤ℤ pos supply_limit) → sum_in set f ≤ℤ pos (supply_limit * length set)
+sum_in-small [] f small = omega (arith, ints)
+sum_in-small (true ∷ set) f small = omega (arith, ints, small 0, sum_in-small set (λ v. f (suc v)) (λ v. small (suc v)))
+sum_in-small (false ∷ set) f small = omega (arith, ints, sum_in-small set (λ v. f (suc v)) (λ v. small (suc v)))
+
+sum_in-low : (set : List Bool) (f : ℕ → ℤ) → ((v : ℕ) → neg_ℤ (pos supply_limit) ≤ℤ f v) → neg_ℤ (pos (supply_limit * length set)) ≤ℤ sum_in set f
+sum_in-low [] f small = omega (arith, ints)
+sum_in-low (true ∷ set) f small = omega (arith, ints, small 0, sum_in-low set (λ v. f (suc v)) (λ v. small (suc v)))
+sum_in-low (false ∷ set) f small = omega (arith, ints, sum_in-low set (λ v. f (suc v)) (λ v. small (suc v)))
+
+part_between : (b : Bool) (z c : ℤ) → pos 0 ≤ℤ z → z ≤ℤ c → (pos 0 ≤ℤ cond b z (pos 0)) × (cond b z (pos 0) ≤ℤ pos (positive_part c))
+part_between true (pos n) (pos m) low high = (low, high)
+part_between true (pos n) (negsuc m) low high = absurd (omega (arith, ints, high))
+part_between true (negsuc n) c low high = absurd (omega (arith, ints, low))
+part_between false z c low high = (omega (arith, ints), omega (arith, ints))
+
+abbrev pub AreRows : List ArcRow → Type 0
+AreRows arcs = (k : ℕ) → k < length arcs → (pos 0 ≤ℤ (arc_at arcs k).low) × ((arc_at arcs k).low ≤ℤ (arc_at arcs k).cap)
+
+leaving_between : (set : List Bool) (arcs : List ArcRow) → AreRows arcs → (pos 0 ≤ℤ sum_leaving set (λ a. a.cap) arcs) × (sum_leaving set (λ a. a.low) arcs ≤ℤ pos (cap_total arcs))
+leaving_between set [] rows = (omega (arith, ints), omega (arith, ints))
+leaving_between set (a ∷ arcs) rows =
+    let here = rows 0 (omega arith) in
+    let rest = leaving_between set arcs (λ k lt. rows (suc k) (omega arith)) in
+    let cap = part_between (in_set set a.tail && not (in_set set a.head)) a.cap a.cap (omega (arith, ints, here.0, here.1)) (omega (arith, ints)) in
+    let low = part_between (in_set set a.tail && not (in_set set a.head)) a.low a.cap here.0 here.1 in
+    (omega (arith, ints, rest.0, cap.0), omega (arith, ints, rest.1, low.1, sum_by-cons (λ (b : ArcRow). positive_part b.cap) a arcs))
+
+entering_between : (set : List Bool) (arcs : List ArcRow) → AreRows arcs → (pos 0 ≤ℤ sum_entering set (λ a. a.cap) arcs) × (sum_entering set (λ a. a.low) arcs ≤ℤ pos (cap_total arcs))
+entering_between set [] rows = (omega (arith, ints), omega (arith, ints))
+entering_between set (a ∷ arcs) rows =
+    let here = rows 0 (omega arith) in
+    let rest = entering_between set arcs (λ k lt. rows (suc k) (omega arith)) in
+    let cap = part_between (in_set set a.head && not (in_set set a.tail)) a.cap a.cap (omega (arith, ints, here.0, here.1)) (omega (arith, ints)) in
+    let low = part_between (in_set set a.head && not (in_set set a.tail)) a.low a.cap here.0 here.1 in
+    (omega (arith, ints, rest.0, cap.0), omega (arith, ints, rest.1, low.1, sum_by-cons (λ (b : ArcRow). positive_part b.cap) a arcs))
+
+module _ (arcs : List ArcRow) (supply : ℕ → ℤ) (e : List ℤ) (set : List Bool) (supplies : AreSupplies supply)
+    (rows : AreRows arcs) (caps : cap_total arcs ≤ cap_sum_limit) (few : length set ≤ entry_limit) (chosen : IsChosenSet arcs supply e set)
+  where
+    pub left_fits : left e < 9223372036854775808
+    left_fits = elim (cases_lt 0 (left e)) [
+      | inl some ↦ omega (arith, ints, (chosen.in_excess some).value_is, sum_in-small set supply supplies.high, (leaving_between set arcs rows).0, (entering_between set arcs rows).1, caps, few)
+      | inr le ↦ omega arith
+    ]
+
+    pub lack_fits : left e ≡ 0 → lack e < 9223372036854775808
+    lack_fits none = elim (cases_lt 0 (lack e)) [
+      | inl some ↦ omega (arith, ints, (chosen.in_deficit none some).value_is, sum_in-low set supply supplies.low, (leaving_between set arcs rows).1, (entering_between set arcs rows).0, caps, few)
+      | inr le ↦ omega arith
+    ]

@@ -1,0 +1,101 @@
+-- The chosen set, in the words of violated cuts.
+use Rattle.std.proofs.Common.{◌≡◌, ℕ, zero, suc, ◌<◌, ◌≤◌, ℤ, pos, ◌-ℤ◌, ◌+ℤ◌, ◌≤ℤ◌, List, [], ◌∷◌, length, refl, sym, ap, subst, ◌∙◌, arith, Bool, true, false, cond, not, ◌&&◌, IsTrue}
+use Rattle.std.proofs.lemmas.Int.{ints}
+use Rattle.dimacs_text.specs.declared.problem.ArcRow.{ArcRow}
+use Rattle.network.specs.Flow.{MinCost, IsNode, AllEndsAreNodes, nodes_sum, arcs_sum, supply_of, crosses, outside, cap_out, cap_into, low_out, low_into, surplus_of, shortfall_of, IsLeastGreatestSurplus, IsLeastGreatestShortfall}
+use Rattle.network.proofs.Sums.{nodes_sum-same}
+use Rattle.flow_solver.specs.Cut.{in_set, sum_in, sum_leaving, sum_entering, surplus, shortfall, IsLeastSet}
+use Rattle.flow_solver.specs.Nodes.{table, held}
+use Rattle.flow_solver.proofs.NodeLemmas.{AllEndsIn, length-table, table_at, held_node, sum_in-marked}
+
+leaving_is : (set : List Bool) (f : ArcRow → ℤ) (arcs : List ArcRow) → sum_leaving set f arcs ≡ arcs_sum (λ arc. cond (crosses (in_set set) (outside (in_set set)) arc) (f arc) (pos 0)) arcs
+leaving_is set f [] = refl
+leaving_is set f (a ∷ arcs) = omega (arith, ints, leaving_is set f arcs)
+
+turned : (t h : Bool) (z : ℤ) → cond (h && not t) z (pos 0) ≡ cond (not t && h) z (pos 0)
+turned true true z = refl
+turned true false z = refl
+turned false true z = refl
+turned false false z = refl
+
+entering_is : (set : List Bool) (f : ArcRow → ℤ) (arcs : List ArcRow) → sum_entering set f arcs ≡ arcs_sum (λ arc. cond (crosses (outside (in_set set)) (in_set set) arc) (f arc) (pos 0)) arcs
+entering_is set f [] = refl
+entering_is set f (a ∷ arcs) = omega (arith, ints, entering_is set f arcs, turned (in_set set a.tail) (in_set set a.head) (f a))
+
+-- the supply of a table of marks
+supply_is : (I : MinCost) (set : List Bool) → length set ≡ suc I.nodes → sum_in set (held I.nodes I.supply) ≡ supply_of I (in_set set)
+supply_is I set sized =
+    sum_in-marked I.nodes set (held I.nodes I.supply) sized refl
+    ∙ nodes_sum-same I.nodes (λ v. cond (in_set set v) (held I.nodes I.supply v) (pos 0)) (λ v. cond (in_set set v) (I.supply v) (pos 0)) (λ v node. ap (λ (z : ℤ). cond (in_set set v) z (pos 0)) (held_node I.nodes I.supply v node))
+
+pub surplus_is : (I : MinCost) (set : List Bool) → length set ≡ suc I.nodes → surplus I.arcs (held I.nodes I.supply) set ≡ surplus_of I (in_set set)
+surplus_is I set sized = omega (arith, ints, supply_is I set sized, leaving_is set (λ a. a.cap) I.arcs, entering_is set (λ a. a.low) I.arcs)
+
+pub shortfall_is : (I : MinCost) (set : List Bool) → length set ≡ suc I.nodes → shortfall I.arcs (held I.nodes I.supply) set ≡ shortfall_of I (in_set set)
+shortfall_is I set sized = omega (arith, ints, supply_is I set sized, leaving_is set (λ a. a.low) I.arcs, entering_is set (λ a. a.cap) I.arcs)
+
+-- ---- sets of the same nodes
+
+module _ (n : ℕ) (f g : ℕ → Bool) (same : (v : ℕ) → (1 ≤ v) × (v ≤ n) → f v ≡ g v) where
+  out_same : (h : ArcRow → ℤ) (arcs : List ArcRow) → AllEndsIn n arcs → arcs_sum (λ arc. cond (crosses f (outside f) arc) (h arc) (pos 0)) arcs ≡ arcs_sum (λ arc. cond (crosses g (outside g) arc) (h arc) (pos 0)) arcs
+  out_same h [] ends = refl
+  out_same h (a ∷ arcs) ends =
+      let here : cond (f a.tail && not (f a.head)) (h a) (pos 0) ≡ cond (g a.tail && not (g a.head)) (h a) (pos 0) =
+      ap (λ (b : Bool). cond (b && not (f a.head)) (h a) (pos 0)) (same a.tail ends.0.0) ∙ ap (λ (b : Bool). cond (g a.tail && not b) (h a) (pos 0)) (same a.head ends.0.1) in
+      omega (arith, ints, here, out_same h arcs ends.1)
+
+  into_same : (h : ArcRow → ℤ) (arcs : List ArcRow) → AllEndsIn n arcs → arcs_sum (λ arc. cond (crosses (outside f) f arc) (h arc) (pos 0)) arcs ≡ arcs_sum (λ arc. cond (crosses (outside g) g arc) (h arc) (pos 0)) arcs
+  into_same h [] ends = refl
+  into_same h (a ∷ arcs) ends =
+      let here : cond (not (f a.tail) && f a.head) (h a) (pos 0) ≡ cond (not (g a.tail) && g a.head) (h a) (pos 0) =
+      ap (λ (b : Bool). cond (not b && f a.head) (h a) (pos 0)) (same a.tail ends.0.0) ∙ ap (λ (b : Bool). cond (not (g a.tail) && b) (h a) (pos 0)) (same a.head ends.0.1) in
+      omega (arith, ints, here, into_same h arcs ends.1)
+
+  supply_same : (supply : ℕ → ℤ) → nodes_sum n (λ v. cond (f v) (supply v) (pos 0)) ≡ nodes_sum n (λ v. cond (g v) (supply v) (pos 0))
+  supply_same supply = nodes_sum-same n (λ v. cond (f v) (supply v) (pos 0)) (λ v. cond (g v) (supply v) (pos 0)) (λ v node. ap (λ (b : Bool). cond b (supply v) (pos 0)) (same v node))
+
+pub surplus_same : (I : MinCost) (f g : ℕ → Bool) → AllEndsAreNodes I → ((v : ℕ) → IsNode I v → f v ≡ g v) → surplus_of I f ≡ surplus_of I g
+surplus_same I f g ends same = omega (arith, ints, supply_same I.nodes f g same I.supply, out_same I.nodes f g same (λ a. a.cap) I.arcs ends, into_same I.nodes f g same (λ a. a.low) I.arcs ends)
+
+pub shortfall_same : (I : MinCost) (f g : ℕ → Bool) → AllEndsAreNodes I → ((v : ℕ) → IsNode I v → f v ≡ g v) → shortfall_of I f ≡ shortfall_of I g
+shortfall_same I f g ends same = omega (arith, ints, supply_same I.nodes f g same I.supply, out_same I.nodes f g same (λ a. a.low) I.arcs ends, into_same I.nodes f g same (λ a. a.cap) I.arcs ends)
+
+-- ---- the least set of the greatest value
+
+-- a set of nodes as a table of marks
+abbrev marks_of : ℕ → (ℕ → Bool) → List Bool
+marks_of n set = table (suc n) set
+
+marked_at : (n : ℕ) (set : ℕ → Bool) (v : ℕ) → (1 ≤ v) × (v ≤ n) → in_set (marks_of n set) v ≡ set v
+marked_at n set v node = table_at (suc n) set v false (omega (arith, node.1))
+
+length-marks : (n : ℕ) (set : ℕ → Bool) → length (marks_of n set) ≡ suc n
+length-marks n set = length-table (suc n) set
+
+-- the set `cut` holds the marked nodes
+abbrev pub IsMarkedBy : ℕ → (ℕ → Bool) → List Bool → Type 0
+IsMarkedBy n cut set = (v : ℕ) → (1 ≤ v) × (v ≤ n) → cut v ≡ in_set set v
+
+pub least_surplus : (I : MinCost) (set : List Bool) (cut : ℕ → Bool) (d : ℤ) → AllEndsAreNodes I → length set ≡ suc I.nodes → IsMarkedBy I.nodes cut set → IsLeastSet (surplus I.arcs (held I.nodes I.supply)) set d → IsLeastGreatestSurplus I cut d
+least_surplus I set cut d ends sized marks least = record {
+  value = surplus_same I cut (in_set set) ends marks ∙ sym (surplus_is I set sized) ∙ least.value_is;
+  greatest = λ other. (let le = least.greatest (marks_of I.nodes other) (length-marks I.nodes other ∙ sym sized) in omega (arith, ints, le, value_of other));
+  least = λ other full v node inside.
+      (let there = least.smallest (marks_of I.nodes other) (length-marks I.nodes other ∙ sym sized) (sym (value_of other) ∙ full) v (sym (marks v node) ∙ inside) in
+      sym (marked_at I.nodes other v node) ∙ there);
+}
+  where
+    value_of : (other : ℕ → Bool) → surplus_of I other ≡ surplus I.arcs (held I.nodes I.supply) (marks_of I.nodes other)
+    value_of other = surplus_same I other (in_set (marks_of I.nodes other)) ends (λ v node. sym (marked_at I.nodes other v node)) ∙ sym (surplus_is I (marks_of I.nodes other) (length-marks I.nodes other))
+
+pub least_shortfall : (I : MinCost) (set : List Bool) (cut : ℕ → Bool) (d : ℤ) → AllEndsAreNodes I → length set ≡ suc I.nodes → IsMarkedBy I.nodes cut set → IsLeastSet (shortfall I.arcs (held I.nodes I.supply)) set d → IsLeastGreatestShortfall I cut d
+least_shortfall I set cut d ends sized marks least = record {
+  value = shortfall_same I cut (in_set set) ends marks ∙ sym (shortfall_is I set sized) ∙ least.value_is;
+  greatest = λ other. (let le = least.greatest (marks_of I.nodes other) (length-marks I.nodes other ∙ sym sized) in omega (arith, ints, le, value_of other));
+  least = λ other full v node inside.
+      (let there = least.smallest (marks_of I.nodes other) (length-marks I.nodes other ∙ sym sized) (sym (value_of other) ∙ full) v (sym (marks v node) ∙ inside) in
+      sym (marked_at I.nodes other v node) ∙ there);
+}
+  where
+    value_of : (other : ℕ → Bool) → shortfall_of I other ≡ shortfall I.arcs (held I.nodes I.supply) (marks_of I.nodes other)
+    value_of other = shortfall_same I other (in_set (marks_of I.nodes other)) ends (λ v node. sym (marked_at I.nodes other v node)) ∙ sym (shortfall_is I (marks_of I.nodes other) (length-marks I.nodes other))

@@ -1,0 +1,142 @@
+-- How large an excess can be, and how it follows from the flow arc by arc.
+use Rattle.flow_solver.specs.Limits.{cap_sum_limit}
+use Rattle.std.proofs.Common.{◌≡◌, ℕ, zero, suc, ◌+◌, ◌<◌, ◌≤◌, ℤ, pos, negsuc, ◌+ℤ◌, ◌≤ℤ◌, List, [], ◌∷◌, length, take, add-one, refl, sym, ap, subst, ◌∙◌, inl, inr, arith, Bool, true, false, cond, eqb}
+use Rattle.std.specs.Prelude.{slice_set}
+use Rattle.std.proofs.lemmas.Int.{ints}
+use Rattle.std.proofs.lemmas.Bool.{cases_eq}
+use Rattle.std.proofs.lemmas.List.{length-take-le, get_or-take, get_or-set_same, get_or-set_other}
+use Rattle.std.proofs.lemmas.List.Sums.{sum_by-cons, sum_by-take-le}
+use Rattle.dimacs_text.specs.declared.problem.ArcRow.{ArcRow}
+use Rattle.flow_solver.specs.Residual.{IsFlow, number_at, arc_at}
+use Rattle.network.specs.Flow.{outflow, inflow}
+use Rattle.flow_solver.specs.Push.{IsExcess, at_node, IsTransfer, AreSmall, positive_part, left, cap_total, AreSupplies}
+use Rattle.flow_solver.proofs.PushLemmas.{at_same, at_other}
+
+pub at_node_bounds : (u : ℕ) (m : ℤ) (v : ℕ) → pos 0 ≤ℤ m → (pos 0 ≤ℤ at_node u m v) × (at_node u m v ≤ℤ m)
+at_node_bounds u m v h = by_test (eqb u v)
+  where
+    by_test : (t : Bool) → (pos 0 ≤ℤ cond t m (pos 0)) × (cond t m (pos 0) ≤ℤ m)
+    by_test true = (h, omega (arith, ints))
+    by_test false = (omega (arith, ints), h)
+
+below_part : (z : ℤ) → z ≤ℤ pos (positive_part z)
+below_part (pos n) = omega (arith, ints)
+below_part (negsuc n) = omega (arith, ints)
+
+-- each flow is at least 0 and at most its capacity
+abbrev pub AreWithinCaps : List ArcRow → List ℤ → Type 0
+AreWithinCaps arcs x = (k : ℕ) → k < length arcs → (pos 0 ≤ℤ number_at x k) × (number_at x k ≤ℤ (arc_at arcs k).cap)
+
+pub flow_out-bounds : (arcs : List ArcRow) (x : List ℤ) (v : ℕ) → length x ≡ length arcs → AreWithinCaps arcs x → (pos 0 ≤ℤ outflow arcs x v) × (outflow arcs x v ≤ℤ pos (cap_total arcs))
+flow_out-bounds [] x v sized within = (omega (arith, ints), omega (arith, ints))
+flow_out-bounds (a ∷ arcs) [] v sized within = absurd (omega arith)
+flow_out-bounds (a ∷ arcs) (y ∷ x) v sized within =
+    let here = within 0 (omega arith) in
+    let rest = flow_out-bounds arcs x v (omega arith) (λ k lt. within (suc k) (omega arith)) in
+    let term = at_node_bounds a.tail y v here.0 in
+    (omega (arith, ints, rest.0, term.0), omega (arith, ints, rest.1, term.1, here.1, below_part a.cap, sum_by-cons (λ (b : ArcRow). positive_part b.cap) a arcs))
+
+pub flow_in-bounds : (arcs : List ArcRow) (x : List ℤ) (v : ℕ) → length x ≡ length arcs → AreWithinCaps arcs x → (pos 0 ≤ℤ inflow arcs x v) × (inflow arcs x v ≤ℤ pos (cap_total arcs))
+flow_in-bounds [] x v sized within = (omega (arith, ints), omega (arith, ints))
+flow_in-bounds (a ∷ arcs) [] v sized within = absurd (omega arith)
+flow_in-bounds (a ∷ arcs) (y ∷ x) v sized within =
+    let here = within 0 (omega arith) in
+    let rest = flow_in-bounds arcs x v (omega arith) (λ k lt. within (suc k) (omega arith)) in
+    let term = at_node_bounds a.head y v here.0 in
+    (omega (arith, ints, rest.0, term.0), omega (arith, ints, rest.1, term.1, here.1, below_part a.cap, sum_by-cons (λ (b : ArcRow). positive_part b.cap) a arcs))
+
+pub caps_of_flow : {nodes : ℕ} {arcs : List ArcRow} {x : List ℤ} → IsFlow nodes arcs x → AreWithinCaps arcs x
+caps_of_flow flow k lt =
+    (omega (arith, ints, (flow.rows k lt).low_at_least_0, (flow.within k lt).low_kept), (flow.within k lt).cap_kept)
+
+-- no excess is above what the supplies and all capacities make it
+pub small_within : (nodes : ℕ) (arcs : List ArcRow) (supply : ℕ → ℤ) (x e : List ℤ) → length x ≡ length arcs → AreWithinCaps arcs x → AreSupplies supply → cap_total arcs ≤ cap_sum_limit → IsExcess arcs supply x e → AreSmall e
+small_within nodes arcs supply x e sized within supplies caps is = record {
+  low = λ v. omega (arith, ints, is v, supplies.low v, (flow_out-bounds arcs x v sized within).1, (flow_in-bounds arcs x v sized within).0, caps);
+  high = λ v. omega (arith, ints, is v, supplies.high v, (flow_out-bounds arcs x v sized within).0, (flow_in-bounds arcs x v sized within).1, caps);
+}
+
+pub small_excess : (nodes : ℕ) (arcs : List ArcRow) (supply : ℕ → ℤ) (x e : List ℤ) → IsFlow nodes arcs x → AreSupplies supply → cap_total arcs ≤ cap_sum_limit → IsExcess arcs supply x e → AreSmall e
+small_excess nodes arcs supply x e flow supplies caps is = small_within nodes arcs supply x e flow.same_length (caps_of_flow flow) supplies caps is
+
+-- one more arc
+pub flow_out-more : (arcs : List ArcRow) (x : List ℤ) (k v : ℕ) → k < length arcs → length x ≡ length arcs → outflow (take (k + 1) arcs) (take (k + 1) x) v ≡ outflow (take k arcs) (take k x) v +ℤ at_node (arc_at arcs k).tail (number_at x k) v
+flow_out-more [] x k v lt sized = absurd (omega arith)
+flow_out-more (a ∷ arcs) [] k v lt sized = absurd (omega arith)
+flow_out-more (a ∷ arcs) (y ∷ x) zero v lt sized = omega (arith, ints)
+flow_out-more (a ∷ arcs) (y ∷ x) (suc k) v lt sized = rw add-one (omega (arith, ints, (rw add-one at (flow_out-more arcs x k v (omega arith) (omega arith)))))
+
+pub flow_in-more : (arcs : List ArcRow) (x : List ℤ) (k v : ℕ) → k < length arcs → length x ≡ length arcs → inflow (take (k + 1) arcs) (take (k + 1) x) v ≡ inflow (take k arcs) (take k x) v +ℤ at_node (arc_at arcs k).head (number_at x k) v
+flow_in-more [] x k v lt sized = absurd (omega arith)
+flow_in-more (a ∷ arcs) [] k v lt sized = absurd (omega arith)
+flow_in-more (a ∷ arcs) (y ∷ x) zero v lt sized = omega (arith, ints)
+flow_in-more (a ∷ arcs) (y ∷ x) (suc k) v lt sized = rw add-one (omega (arith, ints, (rw add-one at (flow_in-more arcs x k v (omega arith) (omega arith)))))
+
+-- the same of the first k arcs
+pub small_part : (nodes : ℕ) (arcs : List ArcRow) (supply : ℕ → ℤ) (x e : List ℤ) (k : ℕ) → k ≤ length arcs → IsFlow nodes arcs x → AreSupplies supply → cap_total arcs ≤ cap_sum_limit → IsExcess (take k arcs) supply (take k x) e → AreSmall e
+small_part nodes arcs supply x e k le flow supplies caps is =
+    small_within nodes (take k arcs) supply (take k x) e
+    (omega (arith, length-take-le k x (omega (arith, flow.same_length)), length-take-le k arcs le))
+    (λ j lt. (let below : j < k = omega (arith, length-take-le k arcs le) in
+    let there = caps_of_flow flow j (omega arith) in
+    rw (get_or-take k x j (pos 0) below, get_or-take k arcs j _ below) there))
+    supplies (omega (arith, sum_by-take-le (λ (a : ArcRow). positive_part a.cap) arcs k)) is
+
+pub excess_none : (supply : ℕ → ℤ) (e : List ℤ) → ((v : ℕ) → number_at e v ≡ supply v) → (x : List ℤ) → IsExcess [] supply x e
+excess_none supply e same x v = omega (arith, ints, same v)
+
+pub excess_more : (nodes : ℕ) (arcs : List ArcRow) (supply : ℕ → ℤ) (x e f : List ℤ) (k : ℕ) → k < length arcs → IsFlow nodes arcs x → IsExcess (take k arcs) supply (take k x) e → IsTransfer (arc_at arcs k).tail (arc_at arcs k).head (number_at x k) e f → IsExcess (take (k + 1) arcs) supply (take (k + 1) x) f
+excess_more nodes arcs supply x e f k lt flow is moved v =
+    omega (arith, ints, is v, moved.by_node v, flow_out-more arcs x k v lt flow.same_length, flow_in-more arcs x k v lt flow.same_length)
+
+-- where one node gains at most m, what lies in excess grows by at most m
+pub left-gain : (e f : List ℤ) (u : ℕ) (m : ℕ) → length f ≡ length e → ((v : ℕ) → number_at f v ≤ℤ (number_at e v +ℤ at_node u (pos m) v)) → left f ≤ left e + m
+left-gain [] [] u m sized le = omega arith
+left-gain [] (y ∷ f) u m sized le = absurd (omega arith)
+left-gain (z ∷ e) [] u m sized le = absurd (omega arith)
+left-gain (z ∷ e) (y ∷ f) zero m sized le =
+    omega (
+      arith,
+      sum_by-cons positive_part z e,
+      sum_by-cons positive_part y f,
+      gained z y m (omega (arith, ints, le 0, at_same 0 (pos m))),
+      left-gain e f (length e) 0 (omega arith) (λ v. omega (arith, ints, le (suc v), at_other 0 (pos m) (suc v) (λ h. omega arith), at_zero (length e) v)),
+    )
+  where
+    at_zero : (u v : ℕ) → at_node u (pos 0) v ≡ pos 0
+    at_zero u v = by_test (eqb u v)
+      where
+        by_test : (t : Bool) → cond t (pos 0) (pos 0) ≡ pos 0
+        by_test true = refl
+        by_test false = refl
+
+    gained : (z y : ℤ) (m : ℕ) → y ≤ℤ (z +ℤ pos m) → positive_part y ≤ positive_part z + m
+    gained (pos a) (pos b) m h = omega (arith, ints)
+    gained (negsuc a) (pos b) m h = omega (arith, ints)
+    gained z (negsuc b) m h = omega arith
+left-gain (z ∷ e) (y ∷ f) (suc u) m sized le =
+    omega (
+      arith,
+      sum_by-cons positive_part z e,
+      sum_by-cons positive_part y f,
+      mono z y (omega (arith, ints, le 0, at_other (suc u) (pos m) 0 (λ h. omega arith))),
+      left-gain e f u m (omega arith) (λ v. omega (arith, ints, le (suc v), at_suc u (pos m) v)),
+    )
+  where
+    at_suc : (u : ℕ) (m : ℤ) (v : ℕ) → at_node (suc u) m (suc v) ≡ at_node u m v
+    at_suc u m v = elim (cases_eq v u) [
+      | inl same ↦ subst (λ (q : ℕ). at_node (suc u) m (suc q) ≡ at_node u m q) (sym same) (at_same (suc u) m ∙ sym (at_same u m))
+      | inr ne ↦ at_other (suc u) m (suc v) (λ h. ne (omega arith)) ∙ sym (at_other u m v ne)
+    ]
+
+    mono : (z y : ℤ) → y ≤ℤ z → positive_part y ≤ positive_part z
+    mono (pos a) (pos b) h = omega (arith, ints)
+    mono (negsuc a) (pos b) h = absurd (omega (arith, ints))
+    mono z (negsuc b) h = omega arith
+
+-- an entry of a list with one entry changed is within what bounds both
+pub set_bounds : (e : List ℤ) (u w : ℕ) (a low high : ℤ) → u < length e → low ≤ℤ a → a ≤ℤ high → low ≤ℤ number_at e w → number_at e w ≤ℤ high → (low ≤ℤ number_at (slice_set e u a) w) × (number_at (slice_set e u a) w ≤ℤ high)
+set_bounds e u w a low high u_in la ah lw wh = elim (cases_eq w u) [
+  | inl same ↦ (let new : number_at (slice_set e u a) w ≡ a = ap (number_at (slice_set e u a)) same ∙ get_or-set_same e u a (pos 0) u_in in (omega (arith, ints, new), omega (arith, ints, new)))
+  | inr ne ↦ (let kept : number_at (slice_set e u a) w ≡ number_at e w = get_or-set_other e u w a (pos 0) ne in (omega (arith, ints, kept), omega (arith, ints, kept)))
+]

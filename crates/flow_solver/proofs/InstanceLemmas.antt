@@ -1,0 +1,235 @@
+-- What the limits of an instance give the tables of a solver.
+use Rattle.std.proofs.Common.{◌≡◌, ℕ, zero, suc, ◌+◌, ◌-◌, ◌*◌, ◌<◌, ◌≤◌, ℤ, pos, negsuc, neg_ℤ, ◌-ℤ◌, ◌+ℤ◌, ◌≤ℤ◌, List, [], ◌∷◌, length, refl, sym, ap, subst, ◌∙◌, inl, inr, arith, Bool, true, false, cond, unsigned_abs, ◌*ℤ◌, ◌^◌, None, ◌++◌, drop, map, replicate}
+use Rattle.std.specs.Prelude.{◌<ℤ◌, int_lt}
+use Rattle.std.specs.List.{AllByRecursion, AllZip}
+use Rattle.std.proofs.lemmas.Int.{ints}
+use Rattle.std.proofs.lemmas.Bool.{cases_lt}
+use Rattle.std.proofs.lemmas.List.{get_or_past}
+use Rattle.std.proofs.lemmas.List.Sums.{sum_by-cons}
+use Rattle.std.proofs.lemmas.List.Elements.{All-get_or}
+use Rattle.dimacs_text.specs.declared.problem.ArcRow.{ArcRow}
+use Rattle.dimacs_text.specs.Lawful.{IsLawfulRow, IsWithin}
+use Rattle.network.specs.Flow.{AllWithinBounds, FollowsSign, IsCertifiedFlow, IsPotential}
+use Rattle.flow_solver.specs.Moment.{start}
+use Rattle.network.specs.Instance.{Demand, Supplies, Terminals, Sides, Instance, IsLawful, return_arc_of, ArcFits, DemandFits, at_node, is_marked, return_arc, reduced, reduced_arcs, reduced_supply, numbered_flow}
+use Rattle.network.proofs.Reduction.{rows_of, reduced_ends}
+use Rattle.network.proofs.Answering.{costs_small}
+use Rattle.flow_solver.specs.declared.residual.Way.{Way}
+use Rattle.flow_solver.specs.declared.residual.Way.TheVariants.{Forward, Backward}
+use Rattle.flow_solver.specs.Limits.{entry_limit, row_limit, cap_sum_limit, supply_limit, label_floor, potential_floor, cost_limit, flow_limit}
+use Rattle.flow_solver.specs.Residual.{IsRow, IsFlow, IsCertified, ArePotentials, ArePathsAbove, IsCheap, NoneBelow, number_at, arc_at, cost_of}
+use Rattle.flow_solver.specs.Push.{AreSupplies, positive_part, cap_total}
+use Rattle.flow_solver.specs.Nodes.{held, IsIdleEntry}
+use Rattle.flow_solver.proofs.NodeLemmas.{IsNodeOf, is_node_or_not, held_node, held_other}
+use Rattle.flow_solver.proofs.FlowLaws.{bounds_length, bounds_at, none_below_of}
+
+-- an arc of the instance is a row of the tables, and costs no more than 10^9 a unit either way
+record IsCheapRow (n : ℕ) (a : ArcRow) : Type 0 where
+  row : IsRow (n + 1) a
+  cheap : (way : Way) → neg_ℤ (pos 1000000000) ≤ℤ cost_of a way
+
+cheap_row : (n : ℕ) (a : ArcRow) → IsLawfulRow n a → IsCheapRow n a
+cheap_row n a keeps = record {
+  row = record {
+    tail_in = omega (arith, keeps.tail.1);
+    head_in = omega (arith, keeps.head.1);
+    low_at_least_0 = keeps.low;
+    low_at_most_cap = keeps.cap;
+    cap_in = omega (arith, ints, keeps.limit);
+    cost_low = omega (arith, ints, keeps.cost.0, keeps.cost.1);
+    cost_high = omega (arith, ints, keeps.cost.0, keeps.cost.1);
+  };
+  cheap = by_way;
+}
+  where
+    by_way : (way : Way) → neg_ℤ (pos 1000000000) ≤ℤ cost_of a way
+    by_way Forward = omega (arith, ints, keeps.cost.0, keeps.cost.1)
+    by_way Backward = omega (arith, ints, keeps.cost.0, keeps.cost.1)
+
+return_row : (n source sink : ℕ) → DemandFits n (Terminals source sink) → IsCheapRow n (return_arc source sink)
+return_row n source sink fits = record {
+  row = record {
+    tail_in = omega (arith, fits.1.1);
+    head_in = omega (arith, fits.0.1);
+    low_at_least_0 = omega (arith, ints);
+    low_at_most_cap = omega (arith, ints);
+    cap_in = omega (arith, ints);
+    cost_low = omega (arith, ints);
+    cost_high = omega (arith, ints);
+  };
+  cheap = by_way;
+}
+  where
+    by_way : (way : Way) → neg_ℤ (pos 1000000000) ≤ℤ cost_of (return_arc source sink) way
+    by_way Forward = omega (arith, ints)
+    by_way Backward = omega (arith, ints)
+
+rows_at : (n : ℕ) (D : Demand) (arcs : List ArcRow) → AllByRecursion (λ arc. IsLawfulRow n arc × ArcFits D arc) arcs → (k : ℕ) → k < length arcs → IsCheapRow n (arc_at arcs k)
+rows_at n D [] keeps k lt = absurd (omega arith)
+rows_at n D (a ∷ arcs) keeps zero lt = cheap_row n a keeps.0.0
+rows_at n D (a ∷ arcs) keeps (suc k) lt = rows_at n D arcs keeps.1 k (omega arith)
+
+reduced_rows : (n : ℕ) (D : Demand) (arcs : List ArcRow) → DemandFits n D → AllByRecursion (λ arc. IsLawfulRow n arc × ArcFits D arc) arcs → (k : ℕ) → k < length (reduced_arcs D arcs) → IsCheapRow n (arc_at (reduced_arcs D arcs) k)
+reduced_rows n (Supplies s) arcs fits keeps k lt = rows_at n (Supplies s) arcs keeps k lt
+reduced_rows n (Terminals source sink) arcs fits keeps zero lt = return_row n source sink fits
+reduced_rows n (Terminals source sink) arcs fits keeps (suc k) lt = rows_at n (Terminals source sink) arcs keeps k (omega arith)
+reduced_rows n (Sides marks) arcs fits keeps k lt = rows_at n (Sides marks) arcs keeps k lt
+
+pub rows_of_instance : (I : Instance) → IsLawful I → (k : ℕ) → k < length (reduced I).arcs → IsRow (I.nodes + 1) (arc_at (reduced I).arcs k)
+rows_of_instance I lawful k lt = (reduced_rows I.nodes I.demand I.arcs lawful.demand (rows_of lawful) k lt).row
+
+pub cheap_instance : (I : Instance) → IsLawful I → IsCheap (reduced I).arcs 1000000000
+cheap_instance I lawful k way lt = (reduced_rows I.nodes I.demand I.arcs lawful.demand (rows_of lawful) k lt).cheap way
+
+rows_counted : (D : Demand) (arcs : List ArcRow) → length (reduced_arcs D arcs) ≤ length arcs + 1
+rows_counted (Supplies s) arcs = omega arith
+rows_counted (Terminals source sink) arcs = omega arith
+rows_counted (Sides marks) arcs = omega arith
+
+pub few_rows : (I : Instance) → IsLawful I → length (reduced I).arcs ≤ row_limit
+few_rows I lawful = omega (arith, rows_counted I.demand I.arcs, lawful.count, lawful.room)
+
+pub few_entries : (I : Instance) → IsLawful I → I.nodes + 1 ≤ entry_limit
+few_entries I lawful = omega (arith, lawful.nodes.1)
+
+-- ---- capacities and supplies
+
+part_small : (z : ℤ) → z ≤ℤ pos 1000000000 → positive_part z ≤ 1000000000
+part_small (pos n) h = omega (arith, ints, h)
+part_small (negsuc n) h = omega arith
+
+caps_small : (n : ℕ) (D : Demand) (arcs : List ArcRow) → AllByRecursion (λ arc. IsLawfulRow n arc × ArcFits D arc) arcs → cap_total arcs ≤ 1000000000 * length arcs
+caps_small n D [] keeps = omega arith
+caps_small n D (a ∷ arcs) keeps =
+    let cap : a.cap ≤ℤ pos 1000000000 = keeps.0.0.limit in
+    omega (arith, part_small a.cap cap, caps_small n D arcs keeps.1, sum_by-cons (λ (b : ArcRow). positive_part b.cap) a arcs)
+
+caps_reduced : (n : ℕ) (D : Demand) (arcs : List ArcRow) → AllByRecursion (λ arc. IsLawfulRow n arc × ArcFits D arc) arcs → cap_total (reduced_arcs D arcs) ≤ 100000000000000 + 1000000000 * length arcs
+caps_reduced n (Supplies s) arcs keeps = omega (arith, caps_small n (Supplies s) arcs keeps)
+caps_reduced n (Terminals source sink) arcs keeps = omega (arith, caps_small n (Terminals source sink) arcs keeps, sum_by-cons (λ (b : ArcRow). positive_part b.cap) (return_arc source sink) arcs)
+caps_reduced n (Sides marks) arcs keeps = omega (arith, caps_small n (Sides marks) arcs keeps)
+
+pub caps_of_instance : (I : Instance) → IsLawful I → cap_total (reduced I).arcs ≤ cap_sum_limit
+caps_of_instance I lawful = omega (arith, caps_reduced I.nodes I.demand I.arcs (rows_of lawful), lawful.count, lawful.room)
+
+supply_small : (n : ℕ) (D : Demand) → DemandFits n D → (v : ℕ) → IsNodeOf n v → IsWithin (pos 1000000000) (reduced_supply D v)
+supply_small n (Supplies s) fits v node = All-get_or (IsWithin (pos 1000000000)) s (v - 1) (pos 0) (omega (arith, fits.0, node.0, node.1)) fits.1
+supply_small n (Terminals source sink) fits v node = (omega (arith, ints), omega (arith, ints))
+supply_small n (Sides marks) fits v node = by_mark (is_marked marks v)
+  where
+    by_mark : (b : Bool) → IsWithin (pos 1000000000) (cond b (pos 1) (neg_ℤ (pos 1)))
+    by_mark true = (omega (arith, ints), omega (arith, ints))
+    by_mark false = (omega (arith, ints), omega (arith, ints))
+
+pub supplies_of_instance : (I : Instance) → IsLawful I → AreSupplies (held I.nodes (reduced I).supply)
+supplies_of_instance I lawful = record { low = λ v. (both v).0; high = λ v. (both v).1 }
+  where
+    both : (v : ℕ) → (neg_ℤ (pos supply_limit) ≤ℤ held I.nodes (reduced I).supply v) × (held I.nodes (reduced I).supply v ≤ℤ pos supply_limit)
+    both v = elim (is_node_or_not I.nodes v) [
+      | inl node ↦ (let small = supply_small I.nodes I.demand lawful.demand v node in
+          let at = held_node I.nodes (reduced I).supply v node in
+          (omega (arith, ints, small.0, at), omega (arith, ints, small.1, at)))
+      | inr none ↦ (let at = held_other I.nodes (reduced I).supply v none in (omega (arith, ints, at), omega (arith, ints, at)))
+    ]
+
+-- ---- flows and potentials
+
+pub flow_of_instance : (I : Instance) (x : List ℤ) → IsLawful I → AllWithinBounds (reduced I).arcs x → IsFlow (I.nodes + 1) (reduced I).arcs x
+flow_of_instance I x lawful bounds = record {
+  few_nodes = few_entries I lawful;
+  few_arcs = few_rows I lawful;
+  same_length = bounds_length (reduced I).arcs x bounds;
+  rows = rows_of_instance I lawful;
+  within = bounds_at (reduced I).arcs x bounds;
+}
+
+pub potentials_of : (n : ℕ) (p : List ℤ) → length p ≡ n + 1 → IsIdleEntry p → ((v : ℕ) → IsNodeOf n v → IsPotential (number_at p v)) → ArePotentials (length p) label_floor p
+potentials_of n p sized idle range = record { sized = refl; at_most_0 = λ v. (both v).1; at_least = λ v. (both v).0 }
+  where
+    both : (v : ℕ) → (neg_ℤ (pos label_floor) ≤ℤ number_at p v) × (number_at p v ≤ℤ pos 0)
+    both zero = idle
+    both (suc v) = elim (cases_lt v n) [
+      | inl lt ↦ (let h = range (suc v) (omega arith, omega arith) in (omega (arith, ints, h.0), omega (arith, ints, h.1)))
+      | inr past ↦ (let none : number_at p (suc v) ≡ pos 0 = get_or_past p (suc v) (pos 0) (omega (arith, sized)) in (omega (arith, ints, none), omega (arith, ints, none)))
+    ]
+
+pub certified_of : (I : Instance) (x p : List ℤ) → IsLawful I → length p ≡ I.nodes + 1 → IsIdleEntry p → IsCertifiedFlow (reduced I) x (number_at p) → IsCertified (reduced I).arcs x p
+certified_of I x p lawful sized idle certified =
+    let potentials = potentials_of I.nodes p sized idle certified.range in
+    record {
+      flow = subst (λ (n : ℕ). IsFlow n (reduced I).arcs x) (sym sized) (flow_of_instance I x lawful certified.bounds);
+      potentials = record { sized = refl; at_most_0 = potentials.at_most_0; at_least = λ v. omega (arith, ints, potentials.at_least v) };
+      none_below = none_below_of (reduced I) x (number_at p) (number_at p) (reduced_ends I lawful) certified (λ v node. refl);
+    }
+
+-- shortest labels keep the range of potentials
+pub range_of_labels : (I : Instance) (p : List ℤ) → IsLawful I → length p ≡ I.nodes + 1 → ArePathsAbove (reduced I).arcs p → ((v : ℕ) → number_at p v ≤ℤ pos 0) → (v : ℕ) → IsPotential (number_at p v)
+range_of_labels I p lawful sized above low v =
+    (omega (arith, ints, above 1000000000 I.nodes (cheap_instance I lawful) sized v, lawful.nodes.1), low v)
+
+-- what each arc of the reduced instance costs, where there is no return arc
+pub terms_small : (n : ℕ) (D : Demand) (arcs : List ArcRow) (flow : List ℤ) → return_arc_of D ≡ None → AllByRecursion (λ arc. IsLawfulRow n arc × ArcFits D arc) arcs → AllWithinBounds (reduced_arcs D arcs) flow → AllZip (λ arc x. unsigned_abs (arc.cost *ℤ x) ≤ 10 ^ 21) (reduced_arcs D arcs) flow
+terms_small n (Supplies s) arcs flow none rows bounds = costs_small n (Supplies s) arcs flow rows bounds
+terms_small n (Terminals source sink) arcs flow none rows bounds = cc
+terms_small n (Sides marks) arcs flow none rows bounds = costs_small n (Sides marks) arcs flow rows bounds
+
+-- ---- the rows of the tables, and the start flow
+
+pub rows_push : (D : Demand) (xs : List ArcRow) (a : ArcRow) → reduced_arcs D xs ++ a ∷ [] ≡ reduced_arcs D (xs ++ a ∷ [])
+rows_push (Supplies s) xs a = refl
+rows_push (Terminals source sink) xs a = refl
+rows_push (Sides marks) xs a = refl
+
+pub numbered_is : (D : Demand) (arcs : List ArcRow) (flow : List ℤ) → drop (length (reduced_arcs D arcs) - length arcs) flow ≡ numbered_flow D flow
+numbered_is (Supplies s) arcs flow = (let none : length arcs - length arcs ≡ 0 = omega arith in ap (λ (n : ℕ). drop n flow) none)
+numbered_is (Terminals source sink) arcs flow = (let one : suc (length arcs) - length arcs ≡ 1 = omega arith in ap (λ (n : ℕ). drop n flow) one)
+numbered_is (Sides marks) arcs flow = (let none : length arcs - length arcs ≡ 0 = omega arith in ap (λ (n : ℕ). drop n flow) none)
+
+pub numbered_length : (D : Demand) (arcs : List ArcRow) (flow : List ℤ) → length flow ≡ length (reduced_arcs D arcs) → length (numbered_flow D flow) ≡ length arcs
+numbered_length (Supplies s) arcs flow sized = sized
+numbered_length (Terminals source sink) arcs [] sized = absurd (omega arith)
+numbered_length (Terminals source sink) arcs (x ∷ flow) sized = omega arith
+numbered_length (Sides marks) arcs flow sized = sized
+
+start_within : (n : ℕ) (a : ArcRow) → IsCheapRow n a → (b : Bool) → (a.low ≤ℤ cond b a.cap a.low) × (cond b a.cap a.low ≤ℤ a.cap)
+start_within n a row true = (row.row.low_at_most_cap, omega (arith, ints))
+start_within n a row false = (omega (arith, ints), row.row.low_at_most_cap)
+
+-- with potentials 0 the reduced cost is the cost
+start_sign : (q : ℕ → ℤ) (a : ArcRow) → ((v : ℕ) → q v ≡ pos 0) → FollowsSign q a (start a)
+start_sign q a zero_at = by_test (int_lt a.cost (pos 0)) refl
+  where
+    by_test : (b : Bool) → int_lt a.cost (pos 0) ≡ b → FollowsSign q a (cond b a.cap a.low)
+    by_test true e = record {
+      dear = λ dear. absurd (omega (arith, ints, dear, e, zero_at a.tail, zero_at a.head));
+      cheap = λ cheap. refl;
+    }
+    by_test false e = record {
+      dear = λ dear. refl;
+      cheap = λ cheap. absurd (omega (arith, ints, cheap, e, zero_at a.tail, zero_at a.head));
+    }
+
+start_bounds : (n : ℕ) (arcs : List ArcRow) → ((k : ℕ) → k < length arcs → IsCheapRow n (arc_at arcs k)) → AllWithinBounds arcs (map start arcs)
+start_bounds n [] rows = tt
+start_bounds n (a ∷ arcs) rows =
+    (start_within n a (rows 0 (omega arith)) (int_lt a.cost (pos 0)), start_bounds n arcs (λ k lt. rows (suc k) (omega arith)))
+
+start_signs : (q : ℕ → ℤ) (arcs : List ArcRow) → ((v : ℕ) → q v ≡ pos 0) → AllZip (FollowsSign q) arcs (map start arcs)
+start_signs q [] zero_at = tt
+start_signs q (a ∷ arcs) zero_at = (start_sign q a zero_at, start_signs q arcs zero_at)
+
+pub start_certified : (I : Instance) (q : ℕ → ℤ) → IsLawful I → ((v : ℕ) → q v ≡ pos 0) → IsCertifiedFlow (reduced I) (map start (reduced I).arcs) q
+start_certified I q lawful zero_at = record {
+  bounds = start_bounds I.nodes (reduced I).arcs (reduced_rows I.nodes I.demand I.arcs lawful.demand (rows_of lawful));
+  signs = start_signs q (reduced I).arcs zero_at;
+  range = λ v node. (omega (arith, ints, zero_at v), omega (arith, ints, zero_at v));
+}
+
+pub zero_entries : (n v : ℕ) → at_node (drop 1 (replicate n (pos 0))) v ≡ pos 0
+zero_entries zero v = refl
+zero_entries (suc n) v = zero_at n (v - 1)
+  where
+    zero_at : (n w : ℕ) → number_at (replicate n (pos 0)) w ≡ pos 0
+    zero_at zero w = refl
+    zero_at (suc n) zero = refl
+    zero_at (suc n) (suc w) = zero_at n w

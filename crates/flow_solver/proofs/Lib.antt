@@ -1,0 +1,15 @@
+pub mod SearchLemmas
+pub mod RunLemmas
+pub mod PushLemmas
+pub mod SettleLemmas
+pub mod CutLemmas
+pub mod HeapLemmas
+pub mod ExcessLemmas
+pub mod EditLemmas
+pub mod SignLemmas
+pub mod NodeLemmas
+pub mod FlowLaws
+pub mod CutLaws
+pub mod PushLaws
+pub mod InstanceLemmas
+pub mod AnswerLemmas

@@ -1,0 +1,10 @@
+use Rattle.std.proofs.Common.{◌≡◌, ℕ, ◌<◌, ◌≤◌, ◌+ℤ◌}
+use Rattle.flow_solver.specs.Residual.{number_at}
+use Rattle.flow_solver.specs.Search.{key_at}
+use Rattle.flow_solver.proofs.potentials.take_labels.Given as goal
+
+abbrev pub invariant-loop-v : goal.invariant-loop-v
+invariant-loop-v l = record {
+  done : (k : ℕ) → k < l.v → number_at l.potentials k ≡ number_at l.initial.potentials k +ℤ key_at l.visits k;
+  rest : (k : ℕ) → l.v ≤ k → number_at l.potentials k ≡ number_at l.initial.potentials k;
+}

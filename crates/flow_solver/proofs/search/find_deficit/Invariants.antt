@@ -1,0 +1,14 @@
+use Rattle.flow_solver.specs.Queue.{IsQueueOf}
+use Rattle.flow_solver.specs.Search.{IsSearch, AllRelaxed, IsFromExcess, unsettled}
+use Rattle.flow_solver.proofs.search.find_deficit.Given as goal
+
+abbrev pub invariant-loop-u : goal.invariant-loop-u
+invariant-loop-u l = record {
+  queue : IsQueueOf l.visits l.queue;
+  known : IsSearch l.rows l.flow l.potentials l.visits;
+  relaxed : AllRelaxed l.rows l.flow l.potentials l.visits;
+  from_excess : IsFromExcess l.excess l.visits;
+}
+
+abbrev pub decreases-loop-u : goal.decreases-loop-u
+decreases-loop-u l = unsettled l.visits

@@ -1,0 +1,19 @@
+use Rattle.std.proofs.Common.{◌∙◌, ap}
+use Rattle.flow_solver.specs.declared.residual.Way.{Way}
+use Rattle.flow_solver.specs.declared.residual.Way.TheVariants.{Forward, Backward}
+use Rattle.flow_solver.specs.Residual.{IsResidualFrom}
+use Rattle.flow_solver.specs.Search.{IsRelaxed, mark_at}
+use Rattle.flow_solver.proofs.SearchLemmas.{Improves-trans, IsLastSettled-improves, IsRelaxed-improves}
+use Rattle.flow_solver.proofs.search.relax_both.Goals as goal
+
+pub returns-clause-improves : goal.returns-clause-improves
+returns-clause-improves c = Improves-trans c.relax.ensures.improves c.relax-2.ensures.improves
+
+pub returns-clause-relaxed : goal.returns-clause-relaxed
+returns-clause-relaxed c = by_way
+  where
+    by_way : (way : Way) → IsResidualFrom c.args.rows.now c.args.flow.now c.args.u c.args.k way → IsRelaxed c.args.rows.now c.args.potentials.now c.relax-2.new.visits c.args.k way
+    by_way Forward h =
+        let last = IsLastSettled-improves c.requires.last c.relax.ensures.improves in
+        IsRelaxed-improves (ap (mark_at c.relax.new.visits) h.starts ∙ last.settled) c.relax-2.ensures.improves (c.relax.ensures.relaxed h)
+    by_way Backward h = c.relax-2.ensures.relaxed h

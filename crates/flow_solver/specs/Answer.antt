@@ -1,0 +1,50 @@
+-- When a verdict is right of an instance, and which potentials and cut are chosen.
+use Rattle.std.specs.Prelude.{◌≡◌, ℕ, ◌<◌, ℤ, pos, ◌<ℤ◌, ◌≤ℤ◌, Bool, false, List}
+use Rattle.dimacs_text.specs.declared.problem.ArcRow.{ArcRow}
+use Rattle.network.specs.Flow.{MinCost, total_cost, surplus_of, IsGreatestPotential, IsLeastGreatestSurplus, IsLeastGreatestShortfall}
+use Rattle.network.specs.Instance.{Demand, Supplies, Terminals, Sides, Instance, reduced, numbered_flow, worth, IsLegal, IsBest, IsBreach}
+use Rattle.flow_solver.specs.declared.verdict.Verdict.{Verdict}
+use Rattle.flow_solver.specs.declared.verdict.Verdict.TheVariants.{Best, Infeasible}
+use Rattle.flow_solver.specs.Residual.{number_at}
+use Rattle.flow_solver.specs.Push.{left}
+use Rattle.flow_solver.specs.Cut.{lack}
+
+-- the numbered arcs of a flow of the reduced instance carry a best flow of this worth, and no node is marked
+pub record IsBestMoment (I : Instance) (flow : List ℤ) (set : ℕ → Bool) (w : ℤ) : Type 0 where
+  pub best : IsBest I (numbered_flow I.demand flow)
+  pub worth_is : w ≡ worth I (numbered_flow I.demand flow)
+  pub none_marked : (v : ℕ) → set v ≡ false
+
+-- no legal flow exists, and the set shows it
+pub record IsInfeasibleMoment (I : Instance) (set : ℕ → Bool) (d : ℤ) : Type 0 where
+  pub none_legal : (flow : List ℤ) → IsLegal I flow → ⊥
+  pub breach : IsBreach I set d
+
+abbrev pub IsVerdict : Verdict → Instance → List ℤ → (ℕ → Bool) → Type 0
+IsVerdict (Best w) I flow set = IsBestMoment I flow set w
+IsVerdict (Infeasible d) I flow set = IsInfeasibleMoment I set d
+
+-- no certifying potentials of the flow are above these at any node
+pub record AreGreatestPotentials (I : MinCost) (flow : List ℤ) (potential : ℕ → ℤ) : Type 0 where
+  pub none_above : IsGreatestPotential I flow potential
+
+-- where some set has a surplus, the set is the smallest of the greatest surplus; where none has, of the greatest shortfall
+pub record IsChosenBreach (I : MinCost) (set : ℕ → Bool) (d : ℤ) : Type 0 where
+  pub surplus : (other : ℕ → Bool) → pos 0 <ℤ surplus_of I other → IsLeastGreatestSurplus I set d
+  pub shortfall : ((other : ℕ → Bool) → surplus_of I other ≤ℤ pos 0) → IsLeastGreatestShortfall I set d
+
+abbrev pub IsChosenCut : Verdict → MinCost → (ℕ → Bool) → Type 0
+IsChosenCut (Best w) I set = Unit {0}
+IsChosenCut (Infeasible d) I set = IsChosenBreach I set d
+
+-- the worth of a flow of the reduced instance: its cost, or what the return arc carries
+abbrev pub worth_by : Demand → List ArcRow → List ℤ → ℤ
+worth_by (Supplies supplies) arcs flow = total_cost arcs flow
+worth_by (Terminals source sink) arcs flow = number_at flow 0
+worth_by (Sides marks) arcs flow = total_cost arcs flow
+
+-- the verdict by what lies in excess and in deficit
+pub record IsJudged (worth : ℤ) (e : List ℤ) (verdict : Verdict) : Type 0 where
+  pub in_excess : 0 < left e → verdict ≡ Infeasible (pos (left e))
+  pub in_deficit : left e ≡ 0 → 0 < lack e → verdict ≡ Infeasible (pos (lack e))
+  pub in_neither : left e ≡ 0 → lack e ≡ 0 → verdict ≡ Best worth

@@ -1,0 +1,12 @@
+pub mod Limits
+pub mod Residual
+pub mod Nodes
+pub mod Search
+pub mod Push
+pub mod Settle
+pub mod Cut
+pub mod Heap
+pub mod Edit
+pub mod Queue
+pub mod Answer
+pub mod Moment

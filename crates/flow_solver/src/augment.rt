@@ -1,0 +1,176 @@
+//! Flow pushed along the path that a search found.
+
+ghost use Rattle.std.specs.Prelude.{◌≡◌, ◌≢◌, ℕ, ℤ, List, length, slice_set, pos, neg_ℤ, ◌≤ℤ◌, ◌<ℤ◌, ◌+ℤ◌, ◌-ℤ◌, ◌<◌, ◌≤◌, ◌+◌};
+ghost use Rattle.flow_solver.specs.Residual.{IsRow, IsWithin, IsFlow, NoneBelow, number_at, arc_at, start_at, room_of};
+ghost use Rattle.flow_solver.specs.Search.{visit_at, depth_at, IsReached, IsFromExcess};
+ghost use Rattle.flow_solver.specs.Push.{IsCameBy, HavePaths, HasRoom, path_of, path_to, root_of, root_to, push_along, moved, IsExcess, IsPush, IsTight, left, AreSmall, IsTransfer, IsAugmented};
+
+use crate::residual::Way;
+use crate::visit::Visit;
+use dimacs_text::ArcRow;
+
+/// Where the path to a node begins, and how much fits along it, at most `limit`.
+fn bottleneck(
+    rows: &[ArcRow],
+    flow: &[i64],
+    visits: &[Visit],
+    target: usize,
+    limit: i64,
+) -> (usize, i64)
+    requires flow { IsFlow (length visits.now) rows.now flow.now }
+    requires paths { HavePaths rows.now flow.now visits.now }
+    requires reached { IsReached visits.now target }
+    requires limit { pos 1 ≤ℤ limit }
+    ensures root { result.0 ≡ root_of rows.now visits.now (depth_at visits.now target) target }
+    ensures at_least_1 { pos 1 ≤ℤ result.1 }
+    ensures at_most { result.1 ≤ℤ limit }
+    ensures room { HasRoom rows.now flow.now result.1 (path_to rows.now visits.now target) }
+{
+    let mut node = target;
+    let mut room = limit;
+    while visits[node].depth > 0 {
+        (node, room) = step_back(rows, flow, visits, node, room);
+    }
+    (node, room)
+}
+
+/// The node before this one on its path, and what fits along the hop between the two, at most `room`.
+fn step_back(
+    rows: &[ArcRow],
+    flow: &[i64],
+    visits: &[Visit],
+    node: usize,
+    room: i64,
+) -> (usize, i64)
+    requires flow { IsFlow (length visits.now) rows.now flow.now }
+    requires node_in { node < length visits.now }
+    requires came { IsCameBy rows.now flow.now visits.now node (visit_at visits.now node).arc (visit_at visits.now node).way }
+    requires room { pos 1 ≤ℤ room }
+    ensures node { result.0 ≡ start_at rows.now (visit_at visits.now node).arc (visit_at visits.now node).way }
+    ensures at_least_1 { pos 1 ≤ℤ result.1 }
+    ensures at_most { result.1 ≤ℤ room }
+    ensures fits { result.1 ≤ℤ room_of (arc_at rows.now (visit_at visits.now node).arc) (number_at flow.now (visit_at visits.now node).arc) (visit_at visits.now node).way }
+{
+    let visit = visits[node];
+    let row = rows[visit.arc as usize];
+    let fits = visit.way.room(&row, flow[visit.arc as usize]);
+    (visit.way.start(&row) as usize, room.min(fits))
+}
+
+/// Moves `amount` along the path to `target`.
+fn shift(rows: &[ArcRow], flow: &mut [i64], visits: &[Visit], target: usize, amount: i64)
+    requires flow { IsFlow (length visits.now) rows.now flow.old }
+    requires paths { HavePaths rows.now flow.old visits.now }
+    requires reached { IsReached visits.now target }
+    requires amount { pos 1 ≤ℤ amount }
+    requires room { HasRoom rows.now flow.old amount (path_to rows.now visits.now target) }
+    ensures { flow.new ≡ push_along (path_to rows.now visits.now target) amount flow.old }
+{
+    let mut node = target;
+    while visits[node].depth > 0 {
+        node = shift_back(rows, flow, visits, node, amount);
+    }
+}
+
+/// Moves `amount` along the hop to this node, and gives the node before it.
+fn shift_back(
+    rows: &[ArcRow],
+    flow: &mut [i64],
+    visits: &[Visit],
+    node: usize,
+    amount: i64,
+) -> usize
+    requires flow { IsFlow (length visits.now) rows.now flow.old }
+    requires node_in { node < length visits.now }
+    requires arc_in { (visit_at visits.now node).arc < length rows.now }
+    requires amount { pos 1 ≤ℤ amount }
+    requires fits { amount ≤ℤ room_of (arc_at rows.now (visit_at visits.now node).arc) (number_at flow.old (visit_at visits.now node).arc) (visit_at visits.now node).way }
+    ensures node { result ≡ start_at rows.now (visit_at visits.now node).arc (visit_at visits.now node).way }
+    ensures flow { flow.new ≡ slice_set flow.old (visit_at visits.now node).arc (moved (visit_at visits.now node).way (number_at flow.old (visit_at visits.now node).arc) amount) }
+{
+    let visit = visits[node];
+    let arc = visit.arc as usize;
+    let row = rows[arc];
+    flow[arc] = shifted(&row, flow[arc], visit.way, amount);
+    visit.way.start(&row) as usize
+}
+
+/// A flow with `amount` more in this direction.
+fn shifted(row: &ArcRow, flow: i64, way: Way, amount: i64) -> i64
+    requires row { (nodes : ℕ) × IsRow nodes row.now }
+    requires within { IsWithin row.now flow }
+    requires amount { pos 1 ≤ℤ amount }
+    requires fits { amount ≤ℤ room_of row.now flow way }
+    ensures { result ≡ moved way flow amount }
+{
+    match way {
+        Way::Forward => flow + amount,
+        Way::Backward => flow - amount,
+    }
+}
+
+/// Moves `amount` from the excess of `source` to the deficit of `target`.
+fn transfer(excess: &mut [i64], source: usize, target: usize, amount: i64)
+    requires source_in { source < length excess.old }
+    requires target_in { target < length excess.old }
+    requires small { AreSmall excess.old }
+    requires apart { source ≢ target }
+    requires amount { pos 1 ≤ℤ amount }
+    requires in_excess { amount ≤ℤ number_at excess.old source }
+    requires in_deficit { number_at excess.old target ≤ℤ neg_ℤ amount }
+    ensures { IsTransfer source target amount excess.old excess.new }
+{
+    excess[source] -= amount;
+    excess[target] += amount;
+}
+
+/// Pushes as much flow as fits along the path that the search found to a node in deficit.
+pub fn augment(
+    rows: &[ArcRow],
+    flow: &mut [i64],
+    excess: &mut [i64],
+    visits: &[Visit],
+    target: usize,
+)
+    requires flow { IsFlow (length visits.now) rows.now flow.old }
+    requires paths { HavePaths rows.now flow.old visits.now }
+    requires excess_in { length excess.old ≡ length visits.now }
+    requires small { AreSmall excess.old }
+    requires roots { (v : ℕ) → IsReached visits.now v → depth_at visits.now v ≡ 0 → pos 0 <ℤ number_at excess.old v }
+    requires reached { IsReached visits.now target }
+    requires deficit { number_at excess.old target <ℤ pos 0 }
+    ensures { IsAugmented rows.now visits.now target flow.old flow.new excess.old excess.new }
+{
+    let (root, amount) = amount_along(rows, flow, excess, visits, target);
+    shift(rows, flow, visits, target, amount);
+    transfer(excess, root, target, amount);
+}
+
+/// Where the path to `target` begins, and how much can be pushed along it.
+fn amount_along(
+    rows: &[ArcRow],
+    flow: &[i64],
+    excess: &[i64],
+    visits: &[Visit],
+    target: usize,
+) -> (usize, i64)
+    requires flow { IsFlow (length visits.now) rows.now flow.now }
+    requires paths { HavePaths rows.now flow.now visits.now }
+    requires excess_in { length excess.now ≡ length visits.now }
+    requires small { AreSmall excess.now }
+    requires roots { (v : ℕ) → IsReached visits.now v → depth_at visits.now v ≡ 0 → pos 0 <ℤ number_at excess.now v }
+    requires reached { IsReached visits.now target }
+    requires deficit { number_at excess.now target <ℤ pos 0 }
+    ensures root { result.0 ≡ root_to rows.now visits.now target }
+    ensures root_in { result.0 < length excess.now }
+    ensures apart { result.0 ≢ target }
+    ensures at_least_1 { pos 1 ≤ℤ result.1 }
+    ensures in_excess { result.1 ≤ℤ number_at excess.now result.0 }
+    ensures in_deficit { number_at excess.now target ≤ℤ neg_ℤ result.1 }
+    ensures room { HasRoom rows.now flow.now result.1 (path_to rows.now visits.now target) }
+{
+    let limit = -excess[target];
+    let (root, room) = bottleneck(rows, flow, visits, target, limit);
+    let surplus = excess[root];
+    (root, room.min(surplus))
+}

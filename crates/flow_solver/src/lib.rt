@@ -1,0 +1,21 @@
+//! Successive shortest paths over residual arcs, with reduced costs that stay at least 0.
+#![tactic(auto)]
+
+mod answer;
+mod augment;
+mod cut;
+mod edit;
+mod excess;
+mod heap;
+mod potentials;
+mod queue;
+mod residual;
+mod search;
+mod settle;
+mod start;
+mod tables;
+mod verdict;
+mod visit;
+
+pub use tables::Tables;
+pub use verdict::Verdict;

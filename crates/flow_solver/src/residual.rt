@@ -1,0 +1,58 @@
+//! The residual arcs that a flow leaves.
+
+ghost use Rattle.std.specs.Prelude.{◌≡◌, FitsSigned};
+ghost use Rattle.std.specs.Int.{w64};
+ghost use Rattle.flow_solver.specs.Residual.{start_of, end_of, cost_of, room_of};
+
+use dimacs_text::ArcRow;
+
+/// The way in which a residual arc goes along its arc.
+#[derive(Clone, Copy)]
+pub enum Way {
+    Forward,
+    Backward,
+}
+
+impl Way {
+    /// The node from which the residual arc goes.
+    pub fn start(self, row: &ArcRow) -> u32
+        ensures { result ≡ start_of row.now self }
+    {
+        match self {
+            Way::Forward => row.tail,
+            Way::Backward => row.head,
+        }
+    }
+
+    /// The node to which the residual arc goes.
+    pub fn end(self, row: &ArcRow) -> u32
+        ensures { result ≡ end_of row.now self }
+    {
+        match self {
+            Way::Forward => row.head,
+            Way::Backward => row.tail,
+        }
+    }
+
+    /// What a unit of flow along the residual arc costs.
+    pub fn unit_cost(self, row: &ArcRow) -> i64
+        requires { FitsSigned w64 (cost_of row.now self) }
+        ensures { result ≡ cost_of row.now self }
+    {
+        match self {
+            Way::Forward => row.cost,
+            Way::Backward => -row.cost,
+        }
+    }
+
+    /// How much more flow fits along the residual arc.
+    pub fn room(self, row: &ArcRow, flow: i64) -> i64
+        requires { FitsSigned w64 (room_of row.now flow self) }
+        ensures { result ≡ room_of row.now flow self }
+    {
+        match self {
+            Way::Forward => row.cap - flow,
+            Way::Backward => flow - row.low,
+        }
+    }
+}

@@ -1,0 +1,280 @@
+//! Shortest paths over reduced costs: from the nodes in excess, or from all nodes at once.
+
+ghost use Rattle.std.specs.Prelude.{◌≡◌, ℕ, pos, ◌≤ℤ◌, ◌+ℤ◌, ◌-ℤ◌, ◌<◌, ◌≤◌, IsTrue, ◌↔◌, length, slice_index, MatchOption};
+ghost use Rattle.flow_solver.specs.Limits.{entry_limit, key_limit, potential_floor};
+ghost use Rattle.flow_solver.specs.Residual.{IsRow, IsFlow, IsCertified, ArePotentials, IsResidual, IsResidualFrom, number_at, start_at, start_of, end_of, cost_of};
+ghost use Rattle.flow_solver.specs.Search.{IsSearch, IsLastSettled, Improves, IsRelaxed, IsRelaxedFrom, AllRelaxed, Settles, visit_at, key_at, source_visit, root_visit, IsFromExcess, IsFromAll, IsNearestDeficit, NoneOpen};
+ghost use Rattle.flow_solver.specs.Queue.{IsQueueOf, IsQueueFor};
+ghost use Rattle.flow_solver.specs.declared.residual.Way.{Way};
+
+use crate::queue::Queue;
+use crate::residual::Way;
+use crate::visit::{Mark, Visit};
+use dimacs_text::ArcRow;
+
+/// The length of the path to the end of a residual arc by way of its start.
+fn key_through(row: &ArcRow, way: Way, potentials: &[i64], visits: &[Visit]) -> i64
+    requires row { IsRow (length potentials.now) row.now }
+    requires visits_in { length visits.now ≡ length potentials.now }
+    requires potentials_in { ArePotentials (length potentials.now) potential_floor potentials.now }
+    requires key_low { pos 0 ≤ℤ key_at visits.now (start_of row.now way) }
+    requires key_high { key_at visits.now (start_of row.now way) ≤ℤ pos key_limit }
+    ensures { result ≡ key_at visits.now (start_of row.now way) +ℤ ((cost_of row.now way +ℤ number_at potentials.now (start_of row.now way)) -ℤ number_at potentials.now (end_of row.now way)) }
+{
+    let start = way.start(row) as usize;
+    let end = way.end(row) as usize;
+    visits[start].key + (way.unit_cost(row) + potentials[start] - potentials[end])
+}
+
+/// Whether there is a residual arc from node `u` along arc `k`.
+fn is_residual_from(rows: &[ArcRow], flow: &[i64], u: usize, k: usize, way: Way) -> bool
+    requires flow { (nodes : ℕ) × IsFlow nodes rows.now flow.now }
+    requires arc_in { k < length rows.now }
+    ensures { IsTrue result ↔ IsResidualFrom rows.now flow.now u k way }
+{
+    let row = rows[k];
+    way.start(&row) as usize == u && way.room(&row, flow[k]) > 0
+}
+
+/// Takes a residual arc from the node `u` that was settled last into account at its end.
+fn relax_residual(
+    rows: &[ArcRow],
+    flow: &[i64],
+    potentials: &[i64],
+    visits: &mut [Visit],
+    queue: &mut Queue,
+    u: usize,
+    k: usize,
+    way: Way,
+)
+    requires certified { IsCertified rows.now flow.now potentials.now }
+    requires search { IsSearch rows.now flow.now potentials.now visits.old }
+    requires queue { IsQueueOf visits.old queue.old }
+    requires last { IsLastSettled visits.old u }
+    requires residual { IsResidual rows.now flow.now k way }
+    requires starts { start_at rows.now k way ≡ u }
+    ensures search { IsSearch rows.now flow.now potentials.now visits.new }
+    ensures queue { IsQueueOf visits.new queue.new }
+    ensures improves { Improves visits.old visits.new }
+    ensures relaxed { IsRelaxed rows.now potentials.now visits.new k way }
+{
+    let row = rows[k];
+    let end = way.end(&row) as usize;
+    let key = key_through(&row, way, potentials, visits);
+    if visits[end].takes(key) {
+        let depth = visits[u].depth + 1;
+        queue.improve(
+            visits,
+            end,
+            Visit {
+                mark: Mark::Open,
+                key,
+                depth,
+                arc: k as u32,
+                way,
+            },
+        );
+    }
+}
+
+/// Takes arc `k` into account in this way, where it is a residual arc from the node settled last.
+fn relax(
+    rows: &[ArcRow],
+    flow: &[i64],
+    potentials: &[i64],
+    visits: &mut [Visit],
+    queue: &mut Queue,
+    u: usize,
+    k: usize,
+    way: Way,
+)
+    requires certified { IsCertified rows.now flow.now potentials.now }
+    requires search { IsSearch rows.now flow.now potentials.now visits.old }
+    requires queue { IsQueueOf visits.old queue.old }
+    requires last { IsLastSettled visits.old u }
+    requires arc_in { k < length rows.now }
+    ensures search { IsSearch rows.now flow.now potentials.now visits.new }
+    ensures queue { IsQueueOf visits.new queue.new }
+    ensures improves { Improves visits.old visits.new }
+    ensures relaxed { IsResidualFrom rows.now flow.now u k way → IsRelaxed rows.now potentials.now visits.new k way }
+{
+    if is_residual_from(rows, flow, u, k, way) {
+        relax_residual(rows, flow, potentials, visits, queue, u, k, way);
+    }
+}
+
+/// Takes arc `k` into account in both ways.
+fn relax_both(
+    rows: &[ArcRow],
+    flow: &[i64],
+    potentials: &[i64],
+    visits: &mut [Visit],
+    queue: &mut Queue,
+    u: usize,
+    k: usize,
+)
+    requires certified { IsCertified rows.now flow.now potentials.now }
+    requires search { IsSearch rows.now flow.now potentials.now visits.old }
+    requires queue { IsQueueOf visits.old queue.old }
+    requires last { IsLastSettled visits.old u }
+    requires arc_in { k < length rows.now }
+    ensures search { IsSearch rows.now flow.now potentials.now visits.new }
+    ensures queue { IsQueueOf visits.new queue.new }
+    ensures improves { Improves visits.old visits.new }
+    ensures relaxed { (way : Way) → IsResidualFrom rows.now flow.now u k way → IsRelaxed rows.now potentials.now visits.new k way }
+{
+    relax(rows, flow, potentials, visits, queue, u, k, Way::Forward);
+    relax(rows, flow, potentials, visits, queue, u, k, Way::Backward);
+}
+
+/// Takes each residual arc from the node settled last into account.
+fn relax_all(
+    rows: &[ArcRow],
+    flow: &[i64],
+    potentials: &[i64],
+    visits: &mut [Visit],
+    queue: &mut Queue,
+    u: usize,
+)
+    requires certified { IsCertified rows.now flow.now potentials.now }
+    requires search { IsSearch rows.now flow.now potentials.now visits.old }
+    requires queue { IsQueueOf visits.old queue.old }
+    requires last { IsLastSettled visits.old u }
+    ensures search { IsSearch rows.now flow.now potentials.now visits.new }
+    ensures queue { IsQueueOf visits.new queue.new }
+    ensures improves { Improves visits.old visits.new }
+    ensures relaxed { IsRelaxedFrom rows.now flow.now potentials.now visits.new u (length rows.now) }
+{
+    for k in 0..rows.len() {
+        relax_both(rows, flow, potentials, visits, queue, u, k);
+    }
+}
+
+/// Settles the open node of the least key.
+fn settle_node(
+    rows: &[ArcRow],
+    flow: &[i64],
+    potentials: &[i64],
+    visits: &mut [Visit],
+    queue: &mut Queue,
+) -> usize
+    requires certified { IsCertified rows.now flow.now potentials.now }
+    requires search { IsSearch rows.now flow.now potentials.now visits.old }
+    requires queue { IsQueueOf visits.old queue.old }
+    requires relaxed { AllRelaxed rows.now flow.now potentials.now visits.old }
+    requires some { 0 < queue.old.len }
+    ensures search { IsSearch rows.now flow.now potentials.now visits.new }
+    ensures queue { IsQueueOf visits.new queue.new }
+    ensures relaxed { AllRelaxed rows.now flow.now potentials.now visits.new }
+    ensures first { slice_index queue.old.order.items 0 ≡ result }
+    ensures settles { Settles visits.old visits.new result }
+{
+    let first = queue.settle_first(visits);
+    relax_all(rows, flow, potentials, visits, queue, first);
+    first
+}
+
+/// Opens the nodes in excess.
+fn open_sources(excess: &[i64], visits: &mut [Visit], queue: &mut Queue)
+    requires queue { IsQueueOf visits.old queue.old }
+    requires few { length visits.old ≤ entry_limit }
+    requires same_length { length visits.old ≡ length excess.now }
+    requires fresh { (v : ℕ) → visit_at visits.old v ≡ source_visit (pos 0) }
+    ensures visits { (v : ℕ) → visit_at visits.new v ≡ source_visit (number_at excess.now v) }
+    ensures queue { IsQueueOf visits.new queue.new }
+{
+    for v in 0..visits.len() {
+        if excess[v] > 0 {
+            queue.improve(
+                visits,
+                v,
+                Visit {
+                    mark: Mark::Open,
+                    key: 0,
+                    depth: 0,
+                    arc: 0,
+                    way: Way::Forward,
+                },
+            );
+        }
+    }
+}
+
+/// Searches from the nodes in excess until a node in deficit is the nearest.
+pub fn find_deficit(
+    rows: &[ArcRow],
+    flow: &[i64],
+    potentials: &[i64],
+    excess: &[i64],
+    visits: &mut [Visit],
+    queue: &mut Queue,
+) -> Option<usize>
+    requires certified { IsCertified rows.now flow.now potentials.now }
+    requires excess_in { length excess.now ≡ length potentials.now }
+    requires visits_in { length visits.old ≡ length potentials.now }
+    requires sized { IsQueueFor (length potentials.now) queue.old }
+    ensures search { IsSearch rows.now flow.now potentials.now visits.new }
+    ensures relaxed { AllRelaxed rows.now flow.now potentials.now visits.new }
+    ensures from_excess { IsFromExcess excess.now visits.new }
+    ensures found { MatchOption result (NoneOpen visits.new (length visits.new)) (IsNearestDeficit excess.now visits.new) }
+    ensures sized { IsQueueFor (length potentials.now) queue.new }
+{
+    queue.reset(visits);
+    open_sources(excess, visits, queue);
+    while let Some(u) = queue.first(visits) {
+        if excess[u] < 0 {
+            return Some(u);
+        }
+        let _settled = settle_node(rows, flow, potentials, visits, queue);
+    }
+    None
+}
+
+/// Opens every node, with label 0.
+fn open_all(potentials: &[i64], visits: &mut [Visit], queue: &mut Queue)
+    requires queue { IsQueueOf visits.old queue.old }
+    requires few { length visits.old ≤ entry_limit }
+    requires same_length { length visits.old ≡ length potentials.now }
+    requires potentials_in { ArePotentials (length potentials.now) potential_floor potentials.now }
+    requires fresh { (v : ℕ) → visit_at visits.old v ≡ source_visit (pos 0) }
+    ensures visits { (v : ℕ) → v < length potentials.now → visit_at visits.new v ≡ root_visit (number_at potentials.now v) }
+    ensures queue { IsQueueOf visits.new queue.new }
+{
+    for v in 0..visits.len() {
+        queue.improve(
+            visits,
+            v,
+            Visit {
+                mark: Mark::Open,
+                key: -potentials[v],
+                depth: 0,
+                arc: 0,
+                way: Way::Forward,
+            },
+        );
+    }
+}
+
+/// Searches from all nodes at once, until each is settled.
+pub fn search_all(
+    rows: &[ArcRow],
+    flow: &[i64],
+    potentials: &[i64],
+    visits: &mut [Visit],
+    queue: &mut Queue,
+)
+    requires certified { IsCertified rows.now flow.now potentials.now }
+    requires visits_in { length visits.old ≡ length potentials.now }
+    requires sized { IsQueueFor (length potentials.now) queue.old }
+    ensures search { IsSearch rows.now flow.now potentials.now visits.new }
+    ensures relaxed { AllRelaxed rows.now flow.now potentials.now visits.new }
+    ensures from_all { IsFromAll potentials.now visits.new }
+    ensures done { NoneOpen visits.new (length visits.new) }
+    ensures sized { IsQueueFor (length potentials.now) queue.new }
+{
+    queue.reset(visits);
+    open_all(potentials, visits, queue);
+    while let Some(u) = queue.first(visits) {
+        let _settled = settle_node(rows, flow, potentials, visits, queue);
+    }
+}

@@ -1,0 +1,115 @@
+//! Searches and pushes in turn, until no node in excess reaches a node in deficit.
+
+ghost use Rattle.flow_solver.specs.Limits.{label_floor};
+ghost use Rattle.std.specs.Prelude.{◌≡◌, ◌≢◌, ℕ, ℤ, List, length, pos, neg_ℤ, ◌≤ℤ◌, ◌<ℤ◌, ◌+ℤ◌, ◌-ℤ◌, ◌<◌, ◌≤◌, ◌+◌, IsTrue, ◌↔◌};
+ghost use Rattle.flow_solver.specs.Residual.{IsFlow, IsCertified, ArePotentials, AreGreatest, ArePathsAbove, number_at};
+ghost use Rattle.flow_solver.specs.Search.{IsSearch, AllRelaxed, IsFromExcess, NoneOpen};
+ghost use Rattle.flow_solver.specs.Push.{IsExcess, Pushes, left, AreSmall};
+ghost use Rattle.flow_solver.specs.Queue.{IsQueueFor};
+ghost use Rattle.flow_solver.specs.Cut.{IsChosenSet, IsSettledSet, IsBehindDeficit};
+
+use crate::augment::augment;
+use crate::cut::{mark_behind_deficit, mark_settled};
+use crate::potentials::{lower, raise};
+use crate::queue::Queue;
+use crate::search::find_deficit;
+use crate::visit::Visit;
+use dimacs_text::ArcRow;
+
+/// Pushes flow along shortest paths until no node in excess reaches a node in deficit, and counts the pushes.
+pub fn push_all(
+    rows: &[ArcRow],
+    flow: &mut [i64],
+    potentials: &mut [i64],
+    excess: &mut [i64],
+    visits: &mut [Visit],
+    queue: &mut Queue,
+) -> u64
+    requires certified { IsCertified rows.now flow.old potentials.old }
+    requires potentials_in { ArePotentials (length potentials.old) label_floor potentials.old }
+    requires excess_in { length excess.old ≡ length potentials.old }
+    requires visits_in { length visits.old ≡ length potentials.old }
+    requires sized { IsQueueFor (length potentials.old) queue.old }
+    requires small { AreSmall excess.old }
+    ensures certified { IsCertified rows.now flow.new potentials.new }
+    ensures small { AreSmall excess.new }
+    ensures excess { (supply : ℕ → ℤ) → IsExcess rows.now supply flow.old excess.old → IsExcess rows.now supply flow.new excess.new }
+    ensures pushes { (supply : ℕ → ℤ) → IsExcess rows.now supply flow.old excess.old → Pushes rows.now supply result flow.old flow.new }
+    ensures count { result + left excess.new ≤ left excess.old }
+    ensures search { IsSearch rows.now flow.new potentials.new visits.new }
+    ensures relaxed { AllRelaxed rows.now flow.new potentials.new visits.new }
+    ensures from_excess { IsFromExcess excess.new visits.new }
+    ensures done { NoneOpen visits.new (length visits.new) }
+    ensures sized { IsQueueFor (length potentials.new) queue.new }
+{
+    let mut pushes = 0;
+    while let Some(target) = find_deficit(rows, flow, potentials, excess, visits, queue) {
+        let reach = visits[target].key;
+        lower(potentials, visits, reach);
+        augment(rows, flow, excess, visits, target);
+        pushes += 1;
+    }
+    pushes
+}
+
+/// Whether some node is in excess.
+fn has_excess(excess: &[i64]) -> bool
+    ensures { IsTrue result ↔ (0 < left excess.now) }
+{
+    for e in excess {
+        if *e > 0 {
+            return true;
+        }
+    }
+    false
+}
+
+/// Marks the set that tells why some supply is left over or some demand is not met.
+fn mark_cut(rows: &[ArcRow], flow: &[i64], excess: &[i64], visits: &[Visit], cut: &mut [bool])
+    requires flow { IsFlow (length excess.now) rows.now flow.now }
+    requires cut_in { length cut.old ≡ length excess.now }
+    requires visits_in { length visits.now ≡ length excess.now }
+    ensures in_excess { 0 < left excess.now → IsSettledSet visits.now cut.new }
+    ensures no_excess { left excess.now ≡ 0 → IsBehindDeficit rows.now flow.now excess.now cut.new }
+{
+    if has_excess(excess) {
+        mark_settled(visits, cut);
+    } else {
+        mark_behind_deficit(rows, flow, excess, cut);
+    }
+}
+
+/// Makes the flow a best one, or marks the cut that tells why there is none, with the greatest
+/// potentials that certify it, and counts the pushes.
+pub fn settle(
+    rows: &[ArcRow],
+    flow: &mut [i64],
+    potentials: &mut [i64],
+    excess: &mut [i64],
+    visits: &mut [Visit],
+    queue: &mut Queue,
+    cut: &mut [bool],
+) -> u64
+    requires certified { IsCertified rows.now flow.old potentials.old }
+    requires potentials_in { ArePotentials (length potentials.old) label_floor potentials.old }
+    requires excess_in { length excess.old ≡ length potentials.old }
+    requires visits_in { length visits.old ≡ length potentials.old }
+    requires cut_in { length cut.old ≡ length potentials.old }
+    requires sized { IsQueueFor (length potentials.old) queue.old }
+    requires small { AreSmall excess.old }
+    ensures certified { IsCertified rows.now flow.new potentials.new }
+    ensures potentials_in { ArePotentials (length potentials.new) label_floor potentials.new }
+    ensures greatest { AreGreatest rows.now flow.new potentials.new }
+    ensures above { ArePathsAbove rows.now potentials.new }
+    ensures small { AreSmall excess.new }
+    ensures excess { (supply : ℕ → ℤ) → IsExcess rows.now supply flow.old excess.old → IsExcess rows.now supply flow.new excess.new }
+    ensures pushes { (supply : ℕ → ℤ) → IsExcess rows.now supply flow.old excess.old → Pushes rows.now supply result flow.old flow.new }
+    ensures count { result + left excess.new ≤ left excess.old }
+    ensures sized { IsQueueFor (length potentials.new) queue.new }
+    ensures cut { (supply : ℕ → ℤ) → IsExcess rows.now supply flow.old excess.old → IsChosenSet rows.now supply excess.new cut.new }
+{
+    let pushes = push_all(rows, flow, potentials, excess, visits, queue);
+    mark_cut(rows, flow, excess, visits, cut);
+    raise(rows, flow, potentials, visits, queue);
+    pushes
+}

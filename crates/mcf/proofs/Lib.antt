@@ -1,0 +1,4 @@
+pub mod SourceLemmas
+pub mod ReadLemmas
+pub mod CheckLemmas
+pub mod MatchLemmas

@@ -1,0 +1,14 @@
+use Rattle.std.proofs.Common.{refl, sym, ap, ◌∙◌, codes}
+use Rattle.std.specs.Prelude.{option_map}
+use Rattle.clap.specs.Words.{found_of, rows_of}
+use Rattle.clap.proofs.WalkLemmas.{first_value-rows}
+use Rattle.mcf.proofs.parse.check.Goals as goal
+
+pub returns : goal.returns
+returns c =
+    let found = found_of c.args.found.now in (
+      rows_of found,
+      refl,
+      sym (first_value-rows found (codes "problem")) ∙ (sym c.get_str.ensures ∙ ap (option_map (λ s. s.now)) c.in-Some-Some.is-0),
+      sym (first_value-rows found (codes "answer")) ∙ (sym c.get_str-2.ensures ∙ ap (option_map (λ s. s.now)) c.in-Some-Some.is-1),
+    )

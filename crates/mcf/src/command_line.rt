@@ -1,0 +1,32 @@
+//! What a command line asks for.
+
+use clap::Error;
+use std::alloc::AllocError;
+
+/// What the program is asked to do.
+#[derive(Clone, Copy, Debug, PartialEq, Eq)]
+pub enum Task<'a> {
+    /// Check the answer in one file to the problem in another.
+    Check { problem: &'a str, answer: &'a str },
+}
+
+/// Why words name no task: a mistake in them, a request for help, or want of memory.
+#[derive(Drop)]
+pub enum Usage {
+    /// As `clap` tells it.
+    Words(Error),
+    /// Words without a part that `clap` was told to ask for.
+    Missing,
+}
+
+impl From<Error> for Usage {
+    fn from(error: Error) -> Usage {
+        Usage::Words(error)
+    }
+}
+
+impl From<AllocError> for Usage {
+    fn from(error: AllocError) -> Usage {
+        Usage::Words(Error::from(error))
+    }
+}

@@ -1,0 +1,95 @@
+//! The program `mcf`: checks answers to minimum-cost flow problems in the DIMACS formats.
+#![tactic(auto)]
+
+mod check;
+mod command_line;
+mod commands;
+mod end;
+mod parse;
+mod read;
+#[cfg(test)]
+mod tests;
+
+use check::check;
+use clap::error::ErrorKind;
+use command_line::{Task, Usage};
+use dimacs_io::{ReadSource, WriteSink};
+use end::{End, Text};
+use parse::task;
+use std::fs::File;
+use std::process::ExitCode;
+use std::{env, io};
+
+/// The exit status of a command line that names no task.
+const USAGE_STATUS: u8 = 2;
+
+fn main(rt: HostRuntime) -> ExitCode {
+    ExitCode::from(run(&rt))
+}
+
+/// Does what the command line asks for, and answers the exit status.
+fn run(rt: &HostRuntime) -> u8 {
+    let words: Vec<String> = match env::args(rt).and_then(|words| Ok(words.collect(rt.alloc())?)) {
+        Ok(words) => words,
+        Err(error) => return refuse_words(rt, &error),
+    };
+    match task(rt.alloc(), words.as_slice()) {
+        Ok(Task::Check { problem, answer }) => tell(rt, check_files(rt, problem, answer)),
+        Err(usage) => tell_usage(rt, &usage),
+    }
+}
+
+/// Checks the answer in one file to the problem in another. Both are opened before either is read.
+fn check_files(rt: &HostRuntime, problem: &str, answer: &str) -> End {
+    let problem = match File::open(rt, problem) {
+        Ok(file) => file,
+        Err(error) => return not_opened(&error, Text::Problem),
+    };
+    let answer = match File::open(rt, answer) {
+        Ok(file) => file,
+        Err(error) => return not_opened(&error, Text::Answer),
+    };
+    check(
+        rt.alloc(),
+        &mut ReadSource::new(problem),
+        &mut ReadSource::new(answer),
+        &mut WriteSink::new(rt.stdout()),
+    )
+}
+
+/// A file that is not opened is told as a failed read of it.
+fn not_opened(error: &io::Error, text: Text) -> End {
+    match error.kind() {
+        io::ErrorKind::OutOfMemory => End::Memory,
+        _ => End::ReadFailed(text),
+    }
+}
+
+/// Tells on the standard error how the run ended, and answers its status, whether or not the line was written.
+fn tell(rt: &HostRuntime, end: End) -> u8 {
+    let _ = end.tell(&mut WriteSink::new(rt.stderr()));
+    end.status()
+}
+
+/// Prints the help that was asked for, or the mistake in the words.
+fn tell_usage(rt: &HostRuntime, usage: &Usage) -> u8 {
+    match usage {
+        Usage::Words(error) if error.kind() == ErrorKind::OutOfMemory => tell(rt, End::Memory),
+        Usage::Words(error) => {
+            let _ = error.print(rt);
+            if error.use_stderr() { USAGE_STATUS } else { 0 }
+        }
+        Usage::Missing => USAGE_STATUS,
+    }
+}
+
+/// Tells of words that could not be taken: memory was refused, or one of them is not UTF-8.
+fn refuse_words(rt: &HostRuntime, error: &io::Error) -> u8 {
+    match error.kind() {
+        io::ErrorKind::OutOfMemory => tell(rt, End::Memory),
+        _ => {
+            let _ = eprintln!(rt; "mcf: an argument is not UTF-8");
+            USAGE_STATUS
+        }
+    }
+}

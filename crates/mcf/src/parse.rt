@@ -1,0 +1,32 @@
+//! The task that a command line names.
+ghost use Rattle.std.specs.Prelude.{◌≡◌, IfOk, Some, codes, map, string_bytes};
+ghost use Rattle.clap.specs.Words.{found_of, rows_of, subcommand_of};
+ghost use Rattle.mcf.specs.Tasks.{Names, program as program_command};
+
+use crate::command_line::{Task, Usage};
+use crate::commands::program;
+use clap::ArgMatches;
+use std::alloc::Global;
+
+/// Reads the words of a command line, the program's own name first.
+pub fn task<'a>(alloc: Global, words: &'a [String]) -> Result<Task<'a>, Usage>
+    ensures { IfOk result (Names (subcommand_of program_command (map string_bytes words.entry.now))) }
+{
+    let matches = program(alloc)?.try_get_matches_from(words)?;
+    let Some((name, found)) = matches.subcommand() else {
+        return Err(Usage::Missing);
+    };
+    match name {
+        "check" => check(found),
+        _ => Err(Usage::Missing),
+    }
+}
+
+fn check<'a>(found: &ArgMatches<'a>) -> Result<Task<'a>, Usage>
+    ensures { IfOk result (Names (Some (codes "check", rows_of (found_of found.now)))) }
+{
+    let (Some(problem), Some(answer)) = (found.get_str("problem"), found.get_str("answer")) else {
+        return Err(Usage::Missing);
+    };
+    Ok(Task::Check { problem, answer })
+}

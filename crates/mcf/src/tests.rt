@@ -1,0 +1,234 @@
+use crate::check::check;
+use crate::command_line::{Task, Usage};
+use crate::end::{End, Text};
+use crate::parse::task;
+use clap::error::ErrorKind;
+use dimacs_io::{Pad, ReadSource, Script, WriteSink};
+use std::alloc::AllocError;
+use std::test::Fail;
+
+const PROBLEM: &[u8] = b"p min 2 1\nn 1 3\nn 2 -3\na 1 2 0 5 4\n";
+
+const ANSWER: &[u8] = b"s 12\nf 1 2 3\nv 1 -4\nv 2 0\n";
+
+const LONE_NODE: &[u8] = b"p min 1 0\n";
+
+fn refused(input: Text, number: u8, line: u64) -> End {
+    End::Refused {
+        input,
+        number,
+        line,
+    }
+}
+
+/// Checks texts that come in pieces of at most `most` bytes, and says how that ends and what is written.
+fn checked(rt: &HostRuntime, problem: &[u8], answer: &[u8], most: usize) -> (End, Pad) {
+    let most = most.max(1);
+    let mut out = Pad::new(most, None);
+    let end = check(
+        rt.alloc(),
+        &mut Script::new(problem, most, None),
+        &mut Script::new(answer, most, None),
+        &mut out,
+    );
+    (end, out)
+}
+
+#[test]
+fn worked_examples_end_so_in_any_pieces(rt: HostRuntime) {
+    let no_problem = b"".as_slice();
+    let too_few = b"p min 2 2\na 1 2 0 1 1\n".as_slice();
+    let cases = [
+        (PROBLEM, ANSWER, End::Valid),
+        (PROBLEM, b"s 12\nf 1 2 3\nv 1 -5\nv 2 -1", End::Valid),
+        (PROBLEM, b"s 13\nf 1 2 3\nv 1 -4\nv 2 0\n", End::NotValid),
+        (PROBLEM, b"s 12\nf 2 1 3\nv 1 -4\nv 2 0\n", End::NotValid),
+        (PROBLEM, b"s 12\nf 1 2 3\nv 1 0\nv 2 0\n", End::NotValid),
+        (
+            PROBLEM,
+            b"s 12\nf 1 2 3\nv 1 -10000000000001\nv 2 -9999999999997\n",
+            End::NotValid,
+        ),
+        (LONE_NODE, b"s 0\nv 1 0\n", End::Valid),
+        (LONE_NODE, b"s 0\nv 1 1\n", End::NotValid),
+        (
+            PROBLEM,
+            b"s 12\nf 1 2 3\nv 1 -4\n",
+            refused(Text::Answer, 40, 3),
+        ),
+        (PROBLEM, b"s 12\nf 1 2 3\n", refused(Text::Answer, 40, 2)),
+        (b"a 1 2 0 1 1\n", ANSWER, refused(Text::Problem, 6, 1)),
+        (
+            b"p min 2 1\na 1 3 0 1 1\n",
+            ANSWER,
+            refused(Text::Problem, 5, 2),
+        ),
+        (too_few, ANSWER, refused(Text::Problem, 13, 2)),
+        (no_problem, ANSWER, refused(Text::Problem, 14, 0)),
+    ];
+    for (problem, answer, want) in cases {
+        for most in [1, 2, 7, 1024, 1025, 100_000] {
+            let (end, out) = checked(&rt, problem, answer, most);
+            assert_eq!(rt; end, want);
+            let line = match want {
+                End::Valid => b"valid\n".as_slice(),
+                End::NotValid => b"not valid\n".as_slice(),
+                _ => b"".as_slice(),
+            };
+            assert_eq!(rt; out.held(), line);
+        }
+    }
+}
+
+#[test]
+fn a_failed_read_is_told_unless_a_fault_came_first(rt: HostRuntime) {
+    let cases = [
+        (b"x 1\n".as_slice(), refused(Text::Problem, 2, 1)),
+        (b"p min".as_slice(), End::ReadFailed(Text::Problem)),
+        (PROBLEM, End::ReadFailed(Text::Problem)),
+    ];
+    for (problem, want) in cases {
+        let mut out = Pad::new(1, None);
+        let end = check(
+            rt.alloc(),
+            &mut Script::new(problem, 100, Some(2)),
+            &mut Script::new(ANSWER, 100, None),
+            &mut out,
+        );
+        assert_eq!(rt; end, want);
+        assert!(rt; out.held().is_empty());
+    }
+    for fails in 1..=6 {
+        let mut out = Pad::new(1, None);
+        let end = check(
+            rt.alloc(),
+            &mut Script::new(PROBLEM, 100, None),
+            &mut Script::new(ANSWER, 5, Some(fails)),
+            &mut out,
+        );
+        assert_eq!(rt; end, End::ReadFailed(Text::Answer));
+        assert!(rt; out.held().is_empty());
+    }
+}
+
+#[test]
+fn nothing_follows_a_failed_write(rt: HostRuntime) {
+    let line = b"valid\n".as_slice();
+    for written in 0..=line.len() {
+        let mut out = Pad::new(1, Some(written as u64 + 1));
+        let end = check(
+            rt.alloc(),
+            &mut Script::new(PROBLEM, 100, None),
+            &mut Script::new(ANSWER, 100, None),
+            &mut out,
+        );
+        assert_eq!(rt; end, End::WriteFailed);
+        assert_eq!(rt; out.held(), &line[..written]);
+    }
+}
+
+#[test]
+fn std_streams_serve(rt: HostRuntime) {
+    let end = check(
+        rt.alloc(),
+        &mut ReadSource::new(PROBLEM),
+        &mut ReadSource::new(ANSWER),
+        &mut WriteSink::new(Vec::new(rt.alloc())),
+    );
+    assert_eq!(rt; end, End::Valid);
+}
+
+#[test]
+fn an_end_has_a_status_and_a_line(rt: HostRuntime) {
+    let cases = [
+        (End::Solved, 0, b"".as_slice()),
+        (End::Ended, 0, b""),
+        (End::Valid, 0, b""),
+        (End::Infeasible, 1, b""),
+        (End::NotValid, 1, b""),
+        (
+            refused(Text::Problem, 14, 0),
+            3,
+            b"mcf: problem line 0: fault 14\n",
+        ),
+        (
+            refused(Text::Answer, 40, 18_446_744_073_709_551_615),
+            3,
+            b"mcf: answer line 18446744073709551615: fault 40\n",
+        ),
+        (
+            End::ReadFailed(Text::Problem),
+            4,
+            b"mcf: problem: read failed\n",
+        ),
+        (
+            End::ReadFailed(Text::Answer),
+            4,
+            b"mcf: answer: read failed\n",
+        ),
+        (
+            End::ReadFailed(Text::Commands),
+            4,
+            b"mcf: commands: read failed\n",
+        ),
+        (End::WriteFailed, 4, b"mcf: output: write failed\n"),
+        (End::Memory, 5, b"mcf: want of memory\n"),
+    ];
+    for (end, status, line) in cases {
+        let mut err = Pad::new(3, None);
+        assert!(rt; end.tell(&mut err).is_ok());
+        assert_eq!(rt; err.held(), line);
+        assert_eq!(rt; end.status(), status);
+    }
+}
+
+fn words(rt: &HostRuntime, line: &str) -> Result<Vec<String>, AllocError> {
+    let mut words = Vec::new(rt.alloc());
+    for word in line.split(' ') {
+        words.push(String::from_str(rt.alloc(), word)?)?;
+    }
+    Ok(words)
+}
+
+#[test]
+fn check_has_two_files(rt: HostRuntime) -> Result<(), Fail> {
+    let line = words(&rt, "mcf check net.min net.sol")?;
+    let want = Task::Check {
+        problem: "net.min",
+        answer: "net.sol",
+    };
+    assert!(rt; matches!(task(rt.alloc(), &line), Ok(found) if found == want));
+    let line = words(&rt, "mcf check -- --proof -")?;
+    let want = Task::Check {
+        problem: "--proof",
+        answer: "-",
+    };
+    assert!(rt; matches!(task(rt.alloc(), &line), Ok(found) if found == want));
+    Ok(())
+}
+
+#[test]
+fn other_words_are_refused(rt: HostRuntime) -> Result<(), Fail> {
+    let cases = [
+        ("mcf", ErrorKind::MissingSubcommand),
+        ("mcf check", ErrorKind::MissingRequiredArgument),
+        ("mcf check net.min", ErrorKind::MissingRequiredArgument),
+        ("mcf check net.min net.sol more", ErrorKind::UnknownArgument),
+        (
+            "mcf check --proof net.min net.sol",
+            ErrorKind::UnknownArgument,
+        ),
+        ("mcf chek net.min net.sol", ErrorKind::InvalidSubcommand),
+        ("mcf --help", ErrorKind::DisplayHelp),
+        ("mcf check --help", ErrorKind::DisplayHelp),
+        ("mcf help", ErrorKind::DisplayHelp),
+    ];
+    for (line, want) in cases {
+        let line = words(&rt, line)?;
+        match task(rt.alloc(), &line) {
+            Err(Usage::Words(error)) => assert_eq!(rt; error.kind(), want),
+            _ => assert!(rt; false),
+        }
+    }
+    Ok(())
+}

@@ -1,0 +1,26 @@
+//! What a flow costs.
+ghost use Rattle.std.specs.Prelude.{◌≡◌, ◌^◌, ◌≤◌, ◌*ℤ◌, length, unsigned_abs};
+ghost use Rattle.std.specs.List.{AllZip};
+ghost use Rattle.network.specs.Flow.{total_cost};
+
+use dimacs_text::{ARC_LIMIT, ArcRow};
+
+/// The product of two numbers, which always fits.
+fn product(a: i64, b: i64) -> i128
+    ensures { result ≡ a *ℤ b }
+{
+    i128::from(a) * i128::from(b)
+}
+
+/// The cost of a flow: the sum of cost times flow over the arcs.
+pub fn total_cost(arcs: &[ArcRow], flow: &[i64]) -> i128
+    requires few { length arcs.now ≤ ARC_LIMIT }
+    requires terms { AllZip (λ arc x. unsigned_abs (arc.cost *ℤ x) ≤ 10 ^ 21) arcs.now flow.now }
+    ensures { result ≡ total_cost arcs.now flow.now }
+{
+    let mut total = 0;
+    for (arc, x) in arcs.iter().zip(flow) {
+        total += product(arc.cost, *x);
+    }
+    total
+}

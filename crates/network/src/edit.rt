@@ -1,0 +1,113 @@
+//! How an instance is made, and how it grows.
+ghost use Rattle.std.specs.Prelude.{◌≡◌, ℕ, ◌+◌, ◌-◌, ◌<◌, ◌≤◌, [], ◌∷◌, ◌++◌, All, IfOk, length, slice_index_or, slice_set, vec_capacity, vec_len};
+ghost use Rattle.network.specs.Ends.{AddsEnd, RemovesEnd};
+ghost use Rattle.dimacs_text.specs.Lawful.{IsLawfulRow, IsNode, IsWithin};
+ghost use Rattle.network.specs.Instance.{ArcFits, at_node, kind_of, with_supply};
+ghost use Rattle.network.specs.Representation.{instance_of, IsStart};
+
+use crate::{Goal, Network};
+use dimacs_text::{ArcRow, Kind, SUPPLY_LIMIT};
+use std::alloc::{AllocError, Global};
+
+/// Makes an end the greatest one of its node.
+fn link_end(first: &mut [Option<u32>], next: &mut Vec<Option<u32>>, node: u32, end: u32)
+    requires node { (1 ≤ node) × (node ≤ length first.old) }
+    requires room { vec_len next.old < vec_capacity next.old }
+    ensures added { AddsEnd first.old next.old.items node end first.new next.new.items }
+    ensures capacity { vec_capacity next.old ≤ vec_capacity next.new }
+{
+    let before = first[node as usize - 1];
+    let Ok(()) = next.push(before) else {
+        unreachable!()
+    };
+    first[node as usize - 1] = Some(end);
+}
+
+/// Takes the greatest end of all off its node's list.
+fn unlink_end(first: &mut [Option<u32>], next: &mut Vec<Option<u32>>, node: u32)
+    requires node { (1 ≤ node) × (node ≤ length first.old) }
+    requires some { 0 < vec_len next.old }
+    ensures removed { RemovesEnd first.old next.old.items node first.new next.new.items }
+    ensures capacity { vec_capacity next.old ≤ vec_capacity next.new }
+{
+    let Some(before) = next.pop() else {
+        unreachable!()
+    };
+    first[node as usize - 1] = before;
+}
+
+impl Network {
+    /// An instance without arcs. The supplies are those of the reduced instance.
+    pub(crate) fn new(
+        alloc: Global,
+        goal: Goal,
+        supplies: Vec<i64>,
+        room: usize,
+    ) -> Result<Network, AllocError>
+        requires { IsStart goal supplies.items room }
+        ensures { IfOk result (λ n. n ≡ instance_of (vec_len supplies) goal supplies.items [] room) }
+    {
+        let arcs = Vec::with_capacity(alloc, room)?;
+        let next = Vec::with_capacity(alloc, 2 * room)?;
+        let first = vec![in alloc; None; supplies.len()]?;
+        Ok(Network {
+            nodes: supplies.len() as u32,
+            goal,
+            supplies,
+            arcs,
+            room,
+            first,
+            next,
+        })
+    }
+
+    /// Adds an arc at the end. The room for it was taken when the instance was built.
+    pub fn push_arc(&mut self, row: ArcRow)
+        requires room { length self.old.arcs < self.old.room }
+        requires limits { IsLawfulRow self.old.nodes row }
+        requires fits { ArcFits self.old.demand row }
+        ensures { self.new ≡ record self.old { arcs = self.old.arcs ++ row ∷ [] } }
+    {
+        let end = 2 * self.arcs.len() as u32;
+        link_end(&mut self.first, &mut self.next, row.tail, end);
+        link_end(&mut self.first, &mut self.next, row.head, end + 1);
+        let Ok(()) = self.arcs.push(row) else {
+            unreachable!()
+        };
+    }
+
+    /// Takes the last arc off, and gives its room back.
+    pub fn pop_arc(&mut self) -> ArcRow
+        requires { 0 < length self.old.arcs }
+        ensures { self.old ≡ record self.new { arcs = self.new.arcs ++ result ∷ [] } }
+    {
+        let Some(row) = self.arcs.pop() else {
+            unreachable!()
+        };
+        unlink_end(&mut self.first, &mut self.next, row.head);
+        unlink_end(&mut self.first, &mut self.next, row.tail);
+        row
+    }
+
+    /// Changes the bounds and the cost of the arc with this number, counted from 1.
+    pub fn set_row(&mut self, k: u32, row: ArcRow)
+        requires arc { (1 ≤ k) × (k ≤ length self.old.arcs) }
+        requires tail { row.tail ≡ (slice_index_or self.old.arcs (k - 1) row).tail }
+        requires head { row.head ≡ (slice_index_or self.old.arcs (k - 1) row).head }
+        requires limits { IsLawfulRow self.old.nodes row }
+        requires fits { ArcFits self.old.demand row }
+        ensures { self.new ≡ record self.old { arcs = slice_set self.old.arcs (k - 1) row } }
+    {
+        self.arcs[k as usize - 1] = row;
+    }
+
+    /// Changes what a node of a least-cost problem has to send out.
+    pub fn set_supply(&mut self, id: u32, value: i64)
+        requires kind { kind_of self.old.demand ≡ Kind.Min }
+        requires node { IsNode self.old.nodes id }
+        requires limit { IsWithin SUPPLY_LIMIT value }
+        ensures { self.new ≡ record self.old { demand = with_supply self.old.demand id value } }
+    {
+        self.supplies[id as usize - 1] = value;
+    }
+}

@@ -1,0 +1,70 @@
+//! Networks, flows, and the checkers of answers to a flow problem.
+#![tactic(auto)]
+
+mod bounds;
+mod check;
+mod cost;
+mod cut;
+mod edit;
+mod net;
+mod signs;
+mod start;
+#[cfg(test)]
+mod tests;
+mod views;
+
+ghost use Rattle.std.specs.Prelude.{vec_capacity};
+ghost use Rattle.network.specs.Instance.{Instance};
+ghost use Rattle.network.specs.Representation.{instance_of, IsSound};
+
+pub use check::{check_best, check_cut};
+pub use cost::total_cost;
+use dimacs_text::ArcRow;
+pub use start::build;
+use std::marker::Model;
+
+/// The least potential, in cost a unit of flow; the greatest is 0.
+pub const LEAST_POTENTIAL: i64 = -10_000_000_000_000;
+/// The capacity of the return arc, in units of flow. No flow exceeds it: it is what all arcs together can carry at most.
+pub const RETURN_CAP: i64 = 100_000_000_000_000;
+
+/// What is asked for.
+#[derive(Clone, Copy, Debug, PartialEq, Eq)]
+pub(crate) enum Goal {
+    /// A least-cost flow that sends out each node's supply.
+    LeastCost,
+    /// A greatest flow from the source to the sink.
+    GreatestFlow { source: u32, sink: u32 },
+    /// A cheapest perfect assignment.
+    Assignment,
+}
+
+/// The two forms of the value of a cut.
+#[derive(Clone, Copy, Debug, PartialEq, Eq)]
+pub(crate) enum CutForm {
+    /// What a set has to send out beyond what its arcs can carry off.
+    Surplus,
+    /// What a set has to send out by its lower bounds beyond what it has and can receive.
+    Shortfall,
+}
+
+/// An instance, with the list of the arcs' ends at each node.
+#[derive(Drop)]
+pub struct Network {
+    nodes: u32,
+    goal: Goal,
+    supplies: Vec<i64>,
+    arcs: Vec<ArcRow>,
+    room: usize,
+    first: Vec<Option<u32>>,
+    next: Vec<Option<u32>>,
+}
+
+impl Model for Network {
+    ghost Value = { Instance };
+
+    ghost view = { λ n. instance_of n.nodes n.goal n.supplies.items n.arcs.items n.room };
+
+    ghost invariant = { λ n. IsSound n.nodes n.goal n.supplies.items n.arcs.items n.room n.first.items n.next.items
+        (vec_capacity n.arcs) (vec_capacity n.next) };
+}

@@ -1,0 +1,89 @@
+use crate::{Network, build, check_best, check_cut};
+use dimacs_text::{Kind, ProblemReader, TextFault};
+use std::alloc::Global;
+
+/// The instance of a problem text, with room for one arc more.
+fn network(alloc: Global, text: &[u8]) -> Result<Network, TextFault> {
+    let mut reader = ProblemReader::new(alloc);
+    reader.feed(text)?;
+    let problem = reader.finish()?;
+    match build(alloc, &problem, 1) {
+        Ok(network) => Ok(network),
+        Err(_) => Err(TextFault::Memory),
+    }
+}
+
+/// One arc.
+const SINGLE_ARC: &[u8] = b"p min 2 1\nn 1 3\nn 2 -3\na 1 2 0 5 4\n";
+/// Two ways from node 1 to node 4, joined in the middle.
+const DIAMOND: &[u8] =
+    b"p min 4 5\nn 1 4\nn 4 -4\na 1 2 0 4 2\na 1 3 0 2 2\na 2 3 0 2 1\na 2 4 0 3 3\na 3 4 0 5 1\n";
+/// Node 1 has nowhere to send its unit, and node 2 is fed one of three.
+const BOTH_FORMS: &[u8] = b"p min 3 1\nn 1 1\nn 2 -3\na 3 2 0 1 1\n";
+/// A lower bound that nothing feeds.
+const UNFED: &[u8] = b"p min 2 1\na 1 2 2 5 1\n";
+
+#[test]
+fn best_flows(rt: HostRuntime) -> Result<(), TextFault> {
+    let cases: [(&[u8], &[i64], &[i64], i128, bool); 11] = [
+        (SINGLE_ARC, &[3], &[-4, 0], 12, true),
+        (SINGLE_ARC, &[3], &[-5, -1], 12, true),
+        (SINGLE_ARC, &[3], &[-4, 0], 13, false),
+        (SINGLE_ARC, &[3], &[0, 0], 12, false),
+        (SINGLE_ARC, &[3], &[1, 5], 12, false),
+        (
+            SINGLE_ARC,
+            &[3],
+            &[-10_000_000_000_001, -9_999_999_999_997],
+            12,
+            false,
+        ),
+        (SINGLE_ARC, &[2], &[-4, 0], 8, false),
+        (SINGLE_ARC, &[3, 0], &[-4, 0], 12, false),
+        (SINGLE_ARC, &[3], &[-4], 12, false),
+        (DIAMOND, &[2, 2, 2, 0, 4], &[-4, -2, -1, 0], 14, true),
+        (DIAMOND, &[2, 2, 1, 1, 3], &[-4, -2, -1, 0], 15, false),
+    ];
+    for (text, flow, potentials, worth, valid) in cases {
+        let net = network(rt.alloc(), text)?;
+        assert_eq!(rt; check_best(&net, flow, potentials, worth), valid);
+    }
+    Ok(())
+}
+
+#[test]
+fn cuts(rt: HostRuntime) -> Result<(), TextFault> {
+    let cases: [(&[u8], &[bool], i64, bool); 8] = [
+        (BOTH_FORMS, &[true, false, false], 1, true),
+        (BOTH_FORMS, &[false, true, false], 2, true),
+        (BOTH_FORMS, &[true, true, true], 2, true),
+        (BOTH_FORMS, &[false, true, false], 3, false),
+        (BOTH_FORMS, &[false, true], 2, false),
+        (UNFED, &[false, true], 2, true),
+        (UNFED, &[true, false], 2, true),
+        (SINGLE_ARC, &[true, false], 3, false),
+    ];
+    for (text, cut, shortage, valid) in cases {
+        let net = network(rt.alloc(), text)?;
+        assert_eq!(rt; check_cut(&net, cut, shortage), valid);
+    }
+    Ok(())
+}
+
+#[test]
+fn parts(rt: HostRuntime) -> Result<(), TextFault> {
+    let net = network(rt.alloc(), DIAMOND)?;
+    assert_eq!(rt; net.kind(), Kind::Min);
+    assert_eq!(rt; (net.nodes(), net.arcs()), (4, 5));
+    assert_eq!(rt;
+        net.arc(5).map(|row| (row.tail, row.head, row.cap)),
+        Some((3, 4, 5))
+    );
+    assert_eq!(rt; net.reduced_arc(6), None);
+    assert_eq!(rt; net.return_arc(), None);
+    assert_eq!(rt;
+        (net.reduced_supply(4), net.reduced_supply(5)),
+        (Some(-4), None)
+    );
+    Ok(())
+}

@@ -1,0 +1,64 @@
+//! What an instance is made of, and its reduction to minimum cost.
+ghost use Rattle.std.specs.Prelude.{◌≡◌, Some, None, length, option_map};
+ghost use Rattle.network.specs.Flow.{IsNode};
+ghost use Rattle.network.specs.Instance.{IsLawful, arc_at, kind_of, reduced, reduced_supply};
+
+use crate::{Goal, Network};
+use dimacs_text::{ArcRow, Kind};
+
+impl Network {
+    /// The kind of problem.
+    pub fn kind(&self) -> Kind
+        ensures { result ≡ kind_of self.now.demand }
+    {
+        match self.goal {
+            Goal::LeastCost => Kind::Min,
+            Goal::GreatestFlow { .. } => Kind::Max,
+            Goal::Assignment => Kind::Asn,
+        }
+    }
+
+    /// The number of nodes, which are numbered from 1.
+    pub fn nodes(&self) -> u32
+        ensures value { result ≡ self.now.nodes }
+        ensures lawful { IsLawful self.now }
+    {
+        self.nodes
+    }
+
+    /// The number of arcs, which are numbered from 1.
+    pub fn arcs(&self) -> u32
+        ensures { result ≡ length self.now.arcs }
+    {
+        self.arcs.len() as u32
+    }
+
+    /// The arc with this number, if it is there.
+    pub fn arc(&self, k: u32) -> Option<ArcRow>
+        ensures { result ≡ arc_at self.now.arcs k }
+    {
+        if k == 0 {
+            return None;
+        }
+        self.arcs.get(k as usize - 1).copied()
+    }
+
+    /// The arc with this number in the instance's reduction to minimum cost, if it is there. It is the arc itself:
+    /// the return arc has no number.
+    pub fn reduced_arc(&self, k: u32) -> Option<ArcRow>
+        ensures { result ≡ arc_at self.now.arcs k }
+    {
+        self.arc(k)
+    }
+
+    /// What a node has to send out in the instance's reduction to minimum cost, if it is a node.
+    pub fn reduced_supply(&self, id: u32) -> Option<i64>
+        ensures node { IsNode (reduced self.now) id → result ≡ Some (reduced_supply self.now.demand id) }
+        ensures no_node { ¬ IsNode (reduced self.now) id → result ≡ None }
+    {
+        if id == 0 {
+            return None;
+        }
+        self.supplies.get(id as usize - 1).copied()
+    }
+}
