@@ -35,6 +35,7 @@ too_long_by fault.LowAboveCap e = absurd (omega arith)
 too_long_by fault.NotAcrossSides e = absurd (omega arith)
 too_long_by fault.UnknownNodeWord e = absurd (omega arith)
 too_long_by fault.OutOfOrder e = absurd (omega arith)
+too_long_by fault.NotForKind e = absurd (omega arith)
 
 letters_too_long : (rest : Line) → is_too_long (rest ++ replicate 1025 120) ≡ true
 letters_too_long rest = le-leb 1025 _ (omega (arith, length-append rest (replicate 1025 120), length-replicate {A = ℕ} 1025 120))

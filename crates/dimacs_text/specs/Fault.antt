@@ -26,6 +26,7 @@ number_of fault.LowAboveCap = 15
 number_of fault.NotAcrossSides = 16
 number_of fault.UnknownNodeWord = 17
 number_of fault.OutOfOrder = 40
+number_of fault.NotForKind = 23
 
 -- why a line was not taken, at its place in the text
 abbrev pub located : LineError → ℕ → TextFault

@@ -72,7 +72,7 @@ pub record IsMax (nodes : ℕ) (marks : List NodeMark) (rows : List ArcRow) : Ty
   pub different : source_of marks ≢ sink_of marks
   pub rows_fit : All (λ row. (row.low ≡ pos 0) × (row.cost ≡ pos 0)) rows
 
--- `asn`: the nodes that are named are the source side, and each arc leads from it to the other side, once at most
+-- `asn`: the nodes that are named are the source side, and each arc leads from it to the other side and has capacity 1
 pub record IsAsn (marks : List NodeMark) (rows : List ArcRow) : Type 0 where
   pub sides : All IsSide marks
   pub rows_fit : All (λ row. (row.low ≡ pos 0) × (row.cap ≡ pos 1) × (is_named row.tail marks ≡ true) × (is_named row.head marks ≡ false)) rows

@@ -8,5 +8,6 @@ pub mod Stream
 pub mod Reader
 pub mod Reading
 pub mod ProblemReader
+pub mod Command
 pub mod Answer
 pub mod AnswerReader

@@ -2,7 +2,7 @@
 
 use crate::sequence::Sequence;
 
-/// What an `f` line says: the flow of an arc, with its ends.
+/// What an `f` line says: the flow of an arc, with its ends, which are nodes counted from 1.
 #[derive(Clone, Copy, Debug, PartialEq, Eq)]
 pub struct FlowLine {
     pub tail: u32,
@@ -13,13 +13,13 @@ pub struct FlowLine {
 /// An answer to a problem, as it was read: nothing says yet that it is right.
 #[derive(Debug, Drop)]
 pub enum Answer {
-    /// A flow, with one line an arc and one potential a node, in order.
+    /// A flow and its total cost, with a line for each arc and a potential for each node, in order.
     Flow {
         value: i128,
         flows: Sequence<FlowLine>,
         potentials: Sequence<i64>,
     },
-    /// A cut that shows that no legal flow exists, by its nodes in rising order.
+    /// A cut that shows by how much no legal flow exists, with its nodes in rising order.
     Cut {
         shortage: i64,
         nodes: Sequence<u32>,

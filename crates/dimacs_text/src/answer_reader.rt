@@ -28,7 +28,8 @@ impl LineTaker for AnswerDraft {
     }
 }
 
-/// A reader of an answer text, which holds one line of it beside what it has read.
+/// A reader of an answer text: an `s VALUE` line, an `f SRC DST FLOW` line for each arc, and then a `v ID POTENTIAL` line
+/// for each node. It holds one line of the text beside what it has read.
 #[derive(Drop)]
 pub struct AnswerReader {
     reader: TextReader<AnswerDraft>,
@@ -57,7 +58,7 @@ impl AnswerReader {
         self.reader.feed(piece)
     }
 
-    /// Ends the text.
+    /// Ends the text, and answers what it says. A line that is missing is a fault of the last line.
     pub fn finish(self) -> Result<Answer, TextFault>
         ensures text { (nodes arcs : ℕ) (text : List ℕ) → StandsFor nodes arcs self text
             → Finishes nodes arcs result text }

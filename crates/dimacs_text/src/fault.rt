@@ -11,7 +11,7 @@ use thiserror::Error;
 pub enum Fault {
     /// A line has more bytes before its LF than `LINE_LIMIT`.
     LineTooLong,
-    /// The first word is none of those that begin a line of this text.
+    /// The first word is no designator of this text, or no command.
     UnknownDesignator,
     WrongFieldCount,
     /// A field is not 1 to 18 digits, after one `-` where a sign is allowed.
@@ -37,6 +37,8 @@ pub enum Fault {
     UnknownNodeWord,
     /// A line of an answer stands at the wrong place, or one is missing.
     OutOfOrder,
+    /// Problems of this kind do not have the command.
+    NotForKind,
 }
 
 impl Fault {
@@ -63,6 +65,7 @@ impl Fault {
             Fault::NotAcrossSides => 16,
             Fault::UnknownNodeWord => 17,
             Fault::OutOfOrder => 40,
+            Fault::NotForKind => 23,
         }
     }
 }

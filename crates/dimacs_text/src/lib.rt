@@ -6,6 +6,7 @@ mod answer_draft;
 mod answer_line;
 mod answer_reader;
 mod answer_value;
+mod command;
 mod cutter;
 mod draft;
 mod fault;
@@ -20,6 +21,7 @@ mod words;
 
 pub use answer::{Answer, FlowLine};
 pub use answer_reader::{AnswerReader, answer_decided_for_all};
+pub use command::{Command, Edit, read_command};
 pub use cutter::{LINE_LIMIT, LineCutter};
 pub use fault::{Fault, TextFault};
 pub use problem::{

@@ -1,6 +1,9 @@
 ghost use Rattle.std.specs.Prelude.{◌<◌};
 
-use crate::{LineCutter, NodeMark, Problem, ProblemReader, TextFault, is_blank};
+use crate::{
+    Command, Edit, Kind, LineCutter, NodeMark, Problem, ProblemReader, TextFault, is_blank,
+    read_command,
+};
 use std::alloc::Global;
 use std::process::Abort;
 
@@ -109,5 +112,49 @@ fn a_line_is_cut(rt: HostRuntime) {
     match cutter.line() {
         Some(line) => assert!(rt; line == b" \t\r".as_slice() && is_blank(line)),
         None => panic!(rt; "the line fits"),
+    }
+}
+
+#[test]
+fn commands(rt: HostRuntime) {
+    let cases: [(Kind, &[u8], Result<Command, u8>); 11] = [
+        (
+            Kind::Min,
+            b"cap 2 1",
+            Ok(Command::Edit(Edit::Cap { arc: 2, cap: 1 })),
+        ),
+        (
+            Kind::Min,
+            b" supply 3 -1\r",
+            Ok(Command::Edit(Edit::Supply { node: 3, value: -1 })),
+        ),
+        (
+            Kind::Max,
+            b"add 1 2 5",
+            Ok(Command::Edit(Edit::Add {
+                tail: 1,
+                head: 2,
+                low: 0,
+                cap: 5,
+                cost: 0,
+            })),
+        ),
+        (
+            Kind::Asn,
+            b"close 1",
+            Ok(Command::Edit(Edit::Close { arc: 1 })),
+        ),
+        (Kind::Min, b"undo", Ok(Command::Undo)),
+        (Kind::Min, b"undone", Err(2)),
+        (Kind::Asn, b"cap 1", Err(23)),
+        (Kind::Min, b"cap 1", Err(3)),
+        (Kind::Min, b"cap x 1000000001", Err(4)),
+        (Kind::Min, b"low 1 -1", Err(4)),
+        (Kind::Min, b"cost 1 -1000000001", Err(5)),
+    ];
+    for (kind, line, expected) in cases {
+        if !is_blank(line) {
+            assert_eq!(rt; read_command(kind, line), expected);
+        }
     }
 }

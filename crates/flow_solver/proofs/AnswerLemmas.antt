@@ -1,23 +1,22 @@
 -- What the end of all searches tells of the instance.
-use Rattle.std.proofs.Common.{◌≡◌, ℕ, zero, suc, ◌+◌, ◌-◌, ◌*◌, ◌<◌, ◌≤◌, ℤ, pos, negsuc, neg_ℤ, ◌-ℤ◌, ◌+ℤ◌, ◌≤ℤ◌, List, [], ◌∷◌, length, drop, refl, sym, ap, subst, ◌∙◌, inl, inr, ◌⊎◌, arith, Bool, true, false, cond, not, ◌&&◌}
-use Rattle.std.specs.Prelude.{◌<ℤ◌, slice_index_or}
+use Rattle.std.proofs.Common.{◌≡◌, ℕ, zero, suc, ◌+◌, ◌-◌, ◌*◌, ◌<◌, ◌≤◌, ℤ, pos, negsuc, neg_ℤ, ◌≤ℤ◌, List, [], ◌∷◌, length, drop, refl, sym, ap, subst, ◌∙◌, inl, inr, arith, Bool, true, false, cond, not, ◌&&◌}
+use Rattle.std.specs.Prelude.{slice_index_or}
 use Rattle.std.proofs.lemmas.Int.{ints}
 use Rattle.std.proofs.lemmas.Bool.{cases_lt}
 use Rattle.std.proofs.lemmas.List.Sums.{sum_by-cons}
 use Rattle.dimacs_text.specs.declared.problem.ArcRow.{ArcRow}
-use Rattle.network.specs.Flow.{MinCost, IsNode, AllWithinBounds, IsCertifiedFlow, IsGreatestPotential, IsLegalFlow, surplus_of, shortfall_of, total_excess, IsLeastGreatestSurplus, IsLeastGreatestShortfall}
-use Rattle.network.specs.Instance.{Demand, Supplies, Terminals, Sides, Instance, IsLawful, IsCertified as IsCertifiedBy, IsLegal, IsBreach, at_node, is_marked, reduced, reduced_arcs, reduced_flow, numbered_flow, worth}
+use Rattle.network.specs.Flow.{AllWithinBounds, IsCertifiedFlow, IsGreatestPotential, surplus_of, IsLeastGreatestSurplus, IsLeastGreatestShortfall}
+use Rattle.network.specs.Instance.{Demand, Supplies, Terminals, Sides, Instance, IsLawful, IsCertified as IsCertifiedBy, IsBreach, at_node, is_marked, reduced, reduced_arcs, reduced_flow, numbered_flow, worth}
 use Rattle.network.proofs.Reduction.{made, reduced_ends, certified_is_best, breach_rules_out, from_reduced}
 use Rattle.network.proofs.Reach.{surplus_at_most}
 use Rattle.flow_solver.specs.declared.verdict.Verdict.{Verdict}
 use Rattle.flow_solver.specs.declared.verdict.Verdict.TheVariants.{Best, Infeasible}
 use Rattle.flow_solver.specs.Limits.{supply_limit, entry_limit, cap_sum_limit}
-use Rattle.flow_solver.specs.Residual.{IsCertified, AreGreatest, ArePathsAbove, IsRow, number_at, arc_at}
+use Rattle.flow_solver.specs.Residual.{IsCertified, AreGreatest, ArePathsAbove, number_at, arc_at}
 use Rattle.flow_solver.specs.Push.{IsExcess, AreSupplies, positive_part, left, cap_total}
-use Rattle.flow_solver.specs.Cut.{in_set, sum_in, sum_leaving, sum_entering, surplus, shortfall, lack, IsLeastSet, IsChosenSet}
+use Rattle.flow_solver.specs.Cut.{in_set, sum_in, sum_leaving, sum_entering, lack, IsChosenSet}
 use Rattle.flow_solver.specs.Nodes.{held}
 use Rattle.flow_solver.specs.Answer.{IsBestMoment, IsInfeasibleMoment, IsVerdict, IsChosenBreach, IsChosenCut, IsJudged, worth_by}
-use Rattle.flow_solver.proofs.NodeLemmas.{IsNodeOf}
 use Rattle.flow_solver.proofs.FlowLaws.{AgreesAt, bounds_from, certified_same, certified_flow, greatest_flow}
 use Rattle.flow_solver.proofs.CutLaws.{IsMarkedBy, least_surplus, least_shortfall}
 use Rattle.flow_solver.proofs.PushLaws.{legal_flow, left_is}

@@ -1,8 +1,8 @@
 -- The chosen set, in the words of violated cuts.
-use Rattle.std.proofs.Common.{◌≡◌, ℕ, zero, suc, ◌<◌, ◌≤◌, ℤ, pos, ◌-ℤ◌, ◌+ℤ◌, ◌≤ℤ◌, List, [], ◌∷◌, length, refl, sym, ap, subst, ◌∙◌, arith, Bool, true, false, cond, not, ◌&&◌, IsTrue}
+use Rattle.std.proofs.Common.{◌≡◌, ℕ, suc, ◌≤◌, ℤ, pos, List, [], ◌∷◌, length, refl, sym, ap, ◌∙◌, arith, Bool, true, false, cond, not, ◌&&◌}
 use Rattle.std.proofs.lemmas.Int.{ints}
 use Rattle.dimacs_text.specs.declared.problem.ArcRow.{ArcRow}
-use Rattle.network.specs.Flow.{MinCost, IsNode, AllEndsAreNodes, nodes_sum, arcs_sum, supply_of, crosses, outside, cap_out, cap_into, low_out, low_into, surplus_of, shortfall_of, IsLeastGreatestSurplus, IsLeastGreatestShortfall}
+use Rattle.network.specs.Flow.{MinCost, IsNode, AllEndsAreNodes, nodes_sum, arcs_sum, supply_of, crosses, outside, surplus_of, shortfall_of, IsLeastGreatestSurplus, IsLeastGreatestShortfall}
 use Rattle.network.proofs.Sums.{nodes_sum-same}
 use Rattle.flow_solver.specs.Cut.{in_set, sum_in, sum_leaving, sum_entering, surplus, shortfall, IsLeastSet}
 use Rattle.flow_solver.specs.Nodes.{table, held}

@@ -1,13 +1,11 @@
 -- What the search keeps of a flow, in the words of minimum-cost flows.
-use Rattle.std.proofs.Common.{◌≡◌, ℕ, zero, suc, ◌+◌, ◌<◌, ◌≤◌, ℤ, pos, neg_ℤ, ◌-ℤ◌, ◌+ℤ◌, ◌≤ℤ◌, List, [], ◌∷◌, length, refl, sym, ap, subst, ◌∙◌, inl, inr, arith}
-use Rattle.std.specs.Prelude.{◌<ℤ◌}
+use Rattle.std.proofs.Common.{◌≡◌, ℕ, zero, suc, ◌<◌, ◌≤◌, ℤ, pos, List, [], ◌∷◌, length, refl, sym, subst, arith}
 use Rattle.std.specs.List.{AllZip, AllByRecursion}
 use Rattle.std.proofs.lemmas.Int.{ints, by_lt_z}
 use Rattle.dimacs_text.specs.declared.problem.ArcRow.{ArcRow}
 use Rattle.network.specs.Flow.{MinCost, IsNode, AllEndsAreNodes, AllWithinBounds, FollowsSign, IsCertifiedFlow, IsGreatestPotential, IsPotential, reduced_cost}
-use Rattle.flow_solver.specs.declared.residual.Way.{Way}
 use Rattle.flow_solver.specs.declared.residual.Way.TheVariants.{Forward, Backward}
-use Rattle.flow_solver.specs.Residual.{IsWithin, NoneBelowBy, IsCertified, KeepsSigns, AreGreatest, ArePathsAbove, IsCheap, IsResidual, number_at, arc_at, start_at, end_at, cost_at}
+use Rattle.flow_solver.specs.Residual.{IsWithin, NoneBelowBy, IsCertified, KeepsSigns, AreGreatest, number_at, arc_at}
 use Rattle.flow_solver.specs.Nodes.{held}
 use Rattle.flow_solver.proofs.NodeLemmas.{held_node, held_at_most_0}
 use Rattle.flow_solver.proofs.SignLemmas.{signs_from_none_below}

@@ -1,6 +1,6 @@
 -- What the limits of an instance give the tables of a solver.
-use Rattle.std.proofs.Common.{◌≡◌, ℕ, zero, suc, ◌+◌, ◌-◌, ◌*◌, ◌<◌, ◌≤◌, ℤ, pos, negsuc, neg_ℤ, ◌-ℤ◌, ◌+ℤ◌, ◌≤ℤ◌, List, [], ◌∷◌, length, refl, sym, ap, subst, ◌∙◌, inl, inr, arith, Bool, true, false, cond, unsigned_abs, ◌*ℤ◌, ◌^◌, None, ◌++◌, drop, map, replicate}
-use Rattle.std.specs.Prelude.{◌<ℤ◌, int_lt}
+use Rattle.std.proofs.Common.{◌≡◌, ℕ, zero, suc, ◌+◌, ◌-◌, ◌*◌, ◌<◌, ◌≤◌, ℤ, pos, negsuc, neg_ℤ, ◌≤ℤ◌, List, [], ◌∷◌, length, refl, sym, ap, subst, inl, inr, arith, Bool, true, false, cond, unsigned_abs, ◌*ℤ◌, ◌^◌, None, ◌++◌, drop, map, replicate}
+use Rattle.std.specs.Prelude.{int_lt}
 use Rattle.std.specs.List.{AllByRecursion, AllZip}
 use Rattle.std.proofs.lemmas.Int.{ints}
 use Rattle.std.proofs.lemmas.Bool.{cases_lt}
@@ -16,8 +16,8 @@ use Rattle.network.proofs.Reduction.{rows_of, reduced_ends}
 use Rattle.network.proofs.Answering.{costs_small}
 use Rattle.flow_solver.specs.declared.residual.Way.{Way}
 use Rattle.flow_solver.specs.declared.residual.Way.TheVariants.{Forward, Backward}
-use Rattle.flow_solver.specs.Limits.{entry_limit, row_limit, cap_sum_limit, supply_limit, label_floor, potential_floor, cost_limit, flow_limit}
-use Rattle.flow_solver.specs.Residual.{IsRow, IsFlow, IsCertified, ArePotentials, ArePathsAbove, IsCheap, NoneBelow, number_at, arc_at, cost_of}
+use Rattle.flow_solver.specs.Limits.{entry_limit, row_limit, cap_sum_limit, supply_limit, label_floor}
+use Rattle.flow_solver.specs.Residual.{IsRow, IsFlow, IsCertified, ArePotentials, ArePathsAbove, IsCheap, number_at, arc_at, cost_of}
 use Rattle.flow_solver.specs.Push.{AreSupplies, positive_part, cap_total}
 use Rattle.flow_solver.specs.Nodes.{held, IsIdleEntry}
 use Rattle.flow_solver.proofs.NodeLemmas.{IsNodeOf, is_node_or_not, held_node, held_other}

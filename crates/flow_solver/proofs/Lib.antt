@@ -13,3 +13,4 @@ pub mod CutLaws
 pub mod PushLaws
 pub mod InstanceLemmas
 pub mod AnswerLemmas
+pub mod WalkLemmas

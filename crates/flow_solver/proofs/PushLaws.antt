@@ -1,11 +1,10 @@
 -- Pushes, excesses and what is left, in the words of minimum-cost flows.
-use Rattle.std.proofs.Common.{◌≡◌, ℕ, zero, suc, ◌+◌, ◌<◌, ◌≤◌, ℤ, pos, negsuc, neg_ℤ, ◌-ℤ◌, ◌+ℤ◌, ◌≤ℤ◌, List, [], ◌∷◌, length, refl, sym, ap, subst, ◌∙◌, inl, inr, arith}
+use Rattle.std.proofs.Common.{◌≡◌, ℕ, zero, suc, ◌<◌, ℤ, pos, negsuc, ◌-ℤ◌, List, [], ◌∷◌, length, refl, sym, ap, inl, inr, arith}
 use Rattle.std.proofs.lemmas.Int.{ints}
 use Rattle.std.proofs.lemmas.List.Sums.{sum_by-cons}
 use Rattle.dimacs_text.specs.declared.problem.ArcRow.{ArcRow}
 use Rattle.network.specs.Flow.{MinCost, IsNode, AllEndsAreNodes, IsLegalFlow, AllWithinBounds, nodes_sum, net, excess, total_excess, total_deficit}
 use Rattle.network.specs.Flow as flow
-use Rattle.network.proofs.Sums.{nodes_sum-same}
 use Rattle.flow_solver.specs.Residual.{number_at}
 use Rattle.flow_solver.specs.Push.{IsExcess, IsPush, Pushes, positive_part, left}
 use Rattle.flow_solver.specs.Cut.{lack}

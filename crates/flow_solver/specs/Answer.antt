@@ -2,7 +2,7 @@
 use Rattle.std.specs.Prelude.{◌≡◌, ℕ, ◌<◌, ℤ, pos, ◌<ℤ◌, ◌≤ℤ◌, Bool, false, List}
 use Rattle.dimacs_text.specs.declared.problem.ArcRow.{ArcRow}
 use Rattle.network.specs.Flow.{MinCost, total_cost, surplus_of, IsGreatestPotential, IsLeastGreatestSurplus, IsLeastGreatestShortfall}
-use Rattle.network.specs.Instance.{Demand, Supplies, Terminals, Sides, Instance, reduced, numbered_flow, worth, IsLegal, IsBest, IsBreach}
+use Rattle.network.specs.Instance.{Demand, Supplies, Terminals, Sides, Instance, numbered_flow, worth, IsLegal, IsBest, IsBreach}
 use Rattle.flow_solver.specs.declared.verdict.Verdict.{Verdict}
 use Rattle.flow_solver.specs.declared.verdict.Verdict.TheVariants.{Best, Infeasible}
 use Rattle.flow_solver.specs.Residual.{number_at}

@@ -8,5 +8,6 @@ pub mod Cut
 pub mod Heap
 pub mod Edit
 pub mod Queue
+pub mod Walk
 pub mod Answer
 pub mod Moment

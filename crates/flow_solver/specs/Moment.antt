@@ -1,5 +1,5 @@
 -- What the tables of a solver hold of an instance.
-use Rattle.std.specs.Prelude.{◌≡◌, ℕ, ◌+◌, ℤ, pos, int_lt, Bool, List, length, map, replicate, if◌then◌else◌}
+use Rattle.std.specs.Prelude.{◌≡◌, ◌+◌, ℤ, pos, int_lt, Bool, List, length, map, replicate, if◌then◌else◌}
 use Rattle.dimacs_text.specs.declared.problem.ArcRow.{ArcRow}
 use Rattle.network.specs.Instance.{Instance, IsLawful, reduced}
 use Rattle.flow_solver.specs.declared.verdict.Verdict.{Verdict}

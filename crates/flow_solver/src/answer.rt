@@ -152,6 +152,6 @@ pub fn solve(
     ensures chosen { IsChosenCut result.1 (reduced net.now) (is_marked (drop 1 cut.new)) }
 {
     fill_excess(net, rows, flow, excess);
-    let pushes = settle(rows, flow, potentials, excess, visits, queue, cut);
+    let pushes = settle(net, rows, flow, potentials, excess, visits, queue, cut);
     (pushes, judge(net, rows, flow, excess))
 }

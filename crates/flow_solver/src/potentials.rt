@@ -6,11 +6,13 @@ ghost use Rattle.flow_solver.specs.Limits.{key_limit, label_floor, potential_flo
 ghost use Rattle.flow_solver.specs.Residual.{AreGreatest, ArePathsAbove, IsCertified, ArePotentials, number_at};
 ghost use Rattle.flow_solver.specs.Search.{key_at, AreLabels, IsReach, lowered, IsLowered};
 ghost use Rattle.flow_solver.specs.Queue.{IsQueueFor};
+ghost use Rattle.flow_solver.specs.Walk.{AreRowsOf};
 
 use crate::queue::Queue;
 use crate::search::search_all;
 use crate::visit::Visit;
 use dimacs_text::ArcRow;
+use network::Network;
 
 /// Makes each label a potential.
 fn take_labels(potentials: &mut [i64], visits: &[Visit])
@@ -25,12 +27,14 @@ fn take_labels(potentials: &mut [i64], visits: &[Visit])
 
 /// Raises the potentials to the shortest labels, the greatest that certify the flow.
 pub fn raise(
+    net: &Network,
     rows: &[ArcRow],
     flow: &[i64],
     potentials: &mut [i64],
     visits: &mut [Visit],
     queue: &mut Queue,
 )
+    requires net { AreRowsOf net.now rows.now }
     requires certified { IsCertified rows.now flow.now potentials.old }
     requires visits_in { length visits.old ≡ length potentials.old }
     requires sized { IsQueueFor (length potentials.old) queue.old }
@@ -40,7 +44,7 @@ pub fn raise(
     ensures above { ArePathsAbove rows.now potentials.new }
     ensures sized { IsQueueFor (length potentials.old) queue.new }
 {
-    search_all(rows, flow, potentials, visits, queue);
+    search_all(net, rows, flow, potentials, visits, queue);
     take_labels(potentials, visits);
 }
 

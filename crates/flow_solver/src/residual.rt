@@ -3,6 +3,7 @@
 ghost use Rattle.std.specs.Prelude.{◌≡◌, FitsSigned};
 ghost use Rattle.std.specs.Int.{w64};
 ghost use Rattle.flow_solver.specs.Residual.{start_of, end_of, cost_of, room_of};
+ghost use Rattle.flow_solver.specs.Walk.{end_way};
 
 use dimacs_text::ArcRow;
 
@@ -14,6 +15,18 @@ pub enum Way {
 }
 
 impl Way {
+    /// The way in which the residual arc from an end of an arc goes along it: end 2k is the tail of arc k, end
+    /// 2k + 1 its head.
+    pub fn of_end(end: u32) -> Self
+        ensures { result ≡ end_way end }
+    {
+        if end % 2 == 0 {
+            Way::Forward
+        } else {
+            Way::Backward
+        }
+    }
+
     /// The node from which the residual arc goes.
     pub fn start(self, row: &ArcRow) -> u32
         ensures { result ≡ start_of row.now self }

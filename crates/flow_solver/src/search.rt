@@ -1,16 +1,18 @@
 //! Shortest paths over reduced costs: from the nodes in excess, or from all nodes at once.
 
-ghost use Rattle.std.specs.Prelude.{◌≡◌, ℕ, pos, ◌≤ℤ◌, ◌+ℤ◌, ◌-ℤ◌, ◌<◌, ◌≤◌, IsTrue, ◌↔◌, length, slice_index, MatchOption};
+ghost use Rattle.std.specs.Prelude.{◌≡◌, ℕ, pos, ◌≤ℤ◌, ◌+ℤ◌, ◌-ℤ◌, ◌<◌, ◌≤◌, IsTrue, ◌↔◌, length, slice_index, None, MatchOption, ◌+◌};
 ghost use Rattle.flow_solver.specs.Limits.{entry_limit, key_limit, potential_floor};
 ghost use Rattle.flow_solver.specs.Residual.{IsRow, IsFlow, IsCertified, ArePotentials, IsResidual, IsResidualFrom, number_at, start_at, start_of, end_of, cost_of};
 ghost use Rattle.flow_solver.specs.Search.{IsSearch, IsLastSettled, Improves, IsRelaxed, IsRelaxedFrom, AllRelaxed, Settles, visit_at, key_at, source_visit, root_visit, IsFromExcess, IsFromAll, IsNearestDeficit, NoneOpen};
 ghost use Rattle.flow_solver.specs.Queue.{IsQueueOf, IsQueueFor};
+ghost use Rattle.flow_solver.specs.Walk.{AreRowsOf, ArePassedRelaxed};
 ghost use Rattle.flow_solver.specs.declared.residual.Way.{Way};
 
 use crate::queue::Queue;
 use crate::residual::Way;
 use crate::visit::{Mark, Visit};
 use dimacs_text::ArcRow;
+use network::Network;
 
 /// The length of the path to the end of a residual arc by way of its start.
 fn key_through(row: &ArcRow, way: Way, potentials: &[i64], visits: &[Visit]) -> i64
@@ -127,8 +129,74 @@ fn relax_both(
     relax(rows, flow, potentials, visits, queue, u, k, Way::Backward);
 }
 
+/// Takes the return arc, which stands in the rows before the arcs of the network, into account in both ways.
+fn relax_return(
+    rows: &[ArcRow],
+    flow: &[i64],
+    potentials: &[i64],
+    visits: &mut [Visit],
+    queue: &mut Queue,
+    u: usize,
+    row: usize,
+)
+    requires certified { IsCertified rows.now flow.now potentials.now }
+    requires search { IsSearch rows.now flow.now potentials.now visits.old }
+    requires queue { IsQueueOf visits.old queue.old }
+    requires last { IsLastSettled visits.old u }
+    requires row { row ≤ length rows.now }
+    ensures search { IsSearch rows.now flow.now potentials.now visits.new }
+    ensures queue { IsQueueOf visits.new queue.new }
+    ensures improves { Improves visits.old visits.new }
+    ensures relaxed { 0 < row → (way : Way) → IsResidualFrom rows.now flow.now u 0 way → IsRelaxed rows.now potentials.now visits.new 0 way }
+{
+    if row > 0 {
+        relax_both(rows, flow, potentials, visits, queue, u, 0);
+    }
+}
+
+/// Takes each residual arc from the node settled last into account that goes along an arc of the network. The first
+/// of these has row `row`.
+fn relax_ends(
+    net: &Network,
+    rows: &[ArcRow],
+    flow: &[i64],
+    potentials: &[i64],
+    visits: &mut [Visit],
+    queue: &mut Queue,
+    u: usize,
+    row: usize,
+)
+    requires net { AreRowsOf net.now rows.now }
+    requires split { row + length net.now.arcs ≡ length rows.now }
+    requires certified { IsCertified rows.now flow.now potentials.now }
+    requires search { IsSearch rows.now flow.now potentials.now visits.old }
+    requires queue { IsQueueOf visits.old queue.old }
+    requires last { IsLastSettled visits.old u }
+    ensures search { IsSearch rows.now flow.now potentials.now visits.new }
+    ensures queue { IsQueueOf visits.new queue.new }
+    ensures improves { Improves visits.old visits.new }
+    ensures relaxed { ArePassedRelaxed rows.now flow.now potentials.now visits.new u net.now.arcs row None }
+{
+    let mut current = net.first_end(u as u32);
+    while let Some(end) = current {
+        let k = end as usize / 2 + row;
+        relax(
+            rows,
+            flow,
+            potentials,
+            visits,
+            queue,
+            u,
+            k,
+            Way::of_end(end),
+        );
+        current = net.next_end(end);
+    }
+}
+
 /// Takes each residual arc from the node settled last into account.
 fn relax_all(
+    net: &Network,
     rows: &[ArcRow],
     flow: &[i64],
     potentials: &[i64],
@@ -136,6 +204,7 @@ fn relax_all(
     queue: &mut Queue,
     u: usize,
 )
+    requires net { AreRowsOf net.now rows.now }
     requires certified { IsCertified rows.now flow.now potentials.now }
     requires search { IsSearch rows.now flow.now potentials.now visits.old }
     requires queue { IsQueueOf visits.old queue.old }
@@ -145,19 +214,21 @@ fn relax_all(
     ensures improves { Improves visits.old visits.new }
     ensures relaxed { IsRelaxedFrom rows.now flow.now potentials.now visits.new u (length rows.now) }
 {
-    for k in 0..rows.len() {
-        relax_both(rows, flow, potentials, visits, queue, u, k);
-    }
+    let row = rows.len() - net.arcs() as usize;
+    relax_return(rows, flow, potentials, visits, queue, u, row);
+    relax_ends(net, rows, flow, potentials, visits, queue, u, row);
 }
 
 /// Settles the open node of the least key.
 fn settle_node(
+    net: &Network,
     rows: &[ArcRow],
     flow: &[i64],
     potentials: &[i64],
     visits: &mut [Visit],
     queue: &mut Queue,
 ) -> usize
+    requires net { AreRowsOf net.now rows.now }
     requires certified { IsCertified rows.now flow.now potentials.now }
     requires search { IsSearch rows.now flow.now potentials.now visits.old }
     requires queue { IsQueueOf visits.old queue.old }
@@ -170,7 +241,7 @@ fn settle_node(
     ensures settles { Settles visits.old visits.new result }
 {
     let first = queue.settle_first(visits);
-    relax_all(rows, flow, potentials, visits, queue, first);
+    relax_all(net, rows, flow, potentials, visits, queue, first);
     first
 }
 
@@ -202,6 +273,7 @@ fn open_sources(excess: &[i64], visits: &mut [Visit], queue: &mut Queue)
 
 /// Searches from the nodes in excess until a node in deficit is the nearest.
 pub fn find_deficit(
+    net: &Network,
     rows: &[ArcRow],
     flow: &[i64],
     potentials: &[i64],
@@ -209,6 +281,7 @@ pub fn find_deficit(
     visits: &mut [Visit],
     queue: &mut Queue,
 ) -> Option<usize>
+    requires net { AreRowsOf net.now rows.now }
     requires certified { IsCertified rows.now flow.now potentials.now }
     requires excess_in { length excess.now ≡ length potentials.now }
     requires visits_in { length visits.old ≡ length potentials.now }
@@ -225,7 +298,7 @@ pub fn find_deficit(
         if excess[u] < 0 {
             return Some(u);
         }
-        let _settled = settle_node(rows, flow, potentials, visits, queue);
+        let _settled = settle_node(net, rows, flow, potentials, visits, queue);
     }
     None
 }
@@ -257,12 +330,14 @@ fn open_all(potentials: &[i64], visits: &mut [Visit], queue: &mut Queue)
 
 /// Searches from all nodes at once, until each is settled.
 pub fn search_all(
+    net: &Network,
     rows: &[ArcRow],
     flow: &[i64],
     potentials: &[i64],
     visits: &mut [Visit],
     queue: &mut Queue,
 )
+    requires net { AreRowsOf net.now rows.now }
     requires certified { IsCertified rows.now flow.now potentials.now }
     requires visits_in { length visits.old ≡ length potentials.now }
     requires sized { IsQueueFor (length potentials.now) queue.old }
@@ -275,6 +350,6 @@ pub fn search_all(
     queue.reset(visits);
     open_all(potentials, visits, queue);
     while let Some(u) = queue.first(visits) {
-        let _settled = settle_node(rows, flow, potentials, visits, queue);
+        let _settled = settle_node(net, rows, flow, potentials, visits, queue);
     }
 }

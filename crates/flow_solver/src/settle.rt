@@ -6,6 +6,7 @@ ghost use Rattle.flow_solver.specs.Residual.{IsFlow, IsCertified, ArePotentials,
 ghost use Rattle.flow_solver.specs.Search.{IsSearch, AllRelaxed, IsFromExcess, NoneOpen};
 ghost use Rattle.flow_solver.specs.Push.{IsExcess, Pushes, left, AreSmall};
 ghost use Rattle.flow_solver.specs.Queue.{IsQueueFor};
+ghost use Rattle.flow_solver.specs.Walk.{AreRowsOf};
 ghost use Rattle.flow_solver.specs.Cut.{IsChosenSet, IsSettledSet, IsBehindDeficit};
 
 use crate::augment::augment;
@@ -15,9 +16,11 @@ use crate::queue::Queue;
 use crate::search::find_deficit;
 use crate::visit::Visit;
 use dimacs_text::ArcRow;
+use network::Network;
 
 /// Pushes flow along shortest paths until no node in excess reaches a node in deficit, and counts the pushes.
 pub fn push_all(
+    net: &Network,
     rows: &[ArcRow],
     flow: &mut [i64],
     potentials: &mut [i64],
@@ -25,6 +28,7 @@ pub fn push_all(
     visits: &mut [Visit],
     queue: &mut Queue,
 ) -> u64
+    requires net { AreRowsOf net.now rows.now }
     requires certified { IsCertified rows.now flow.old potentials.old }
     requires potentials_in { ArePotentials (length potentials.old) label_floor potentials.old }
     requires excess_in { length excess.old ≡ length potentials.old }
@@ -43,7 +47,7 @@ pub fn push_all(
     ensures sized { IsQueueFor (length potentials.new) queue.new }
 {
     let mut pushes = 0;
-    while let Some(target) = find_deficit(rows, flow, potentials, excess, visits, queue) {
+    while let Some(target) = find_deficit(net, rows, flow, potentials, excess, visits, queue) {
         let reach = visits[target].key;
         lower(potentials, visits, reach);
         augment(rows, flow, excess, visits, target);
@@ -82,6 +86,7 @@ fn mark_cut(rows: &[ArcRow], flow: &[i64], excess: &[i64], visits: &[Visit], cut
 /// Makes the flow a best one, or marks the cut that tells why there is none, with the greatest
 /// potentials that certify it, and counts the pushes.
 pub fn settle(
+    net: &Network,
     rows: &[ArcRow],
     flow: &mut [i64],
     potentials: &mut [i64],
@@ -90,6 +95,7 @@ pub fn settle(
     queue: &mut Queue,
     cut: &mut [bool],
 ) -> u64
+    requires net { AreRowsOf net.now rows.now }
     requires certified { IsCertified rows.now flow.old potentials.old }
     requires potentials_in { ArePotentials (length potentials.old) label_floor potentials.old }
     requires excess_in { length excess.old ≡ length potentials.old }
@@ -108,8 +114,8 @@ pub fn settle(
     ensures sized { IsQueueFor (length potentials.new) queue.new }
     ensures cut { (supply : ℕ → ℤ) → IsExcess rows.now supply flow.old excess.old → IsChosenSet rows.now supply excess.new cut.new }
 {
-    let pushes = push_all(rows, flow, potentials, excess, visits, queue);
+    let pushes = push_all(net, rows, flow, potentials, excess, visits, queue);
     mark_cut(rows, flow, excess, visits, cut);
-    raise(rows, flow, potentials, visits, queue);
+    raise(net, rows, flow, potentials, visits, queue);
     pushes
 }

@@ -1,4 +1,4 @@
-use Rattle.std.proofs.Common.{◌≡◌, ◌∙◌, inl, inr, sym, pos, arith, length}
+use Rattle.std.proofs.Common.{◌∙◌, inl, inr, sym, pos, arith, length}
 use Rattle.std.proofs.lemmas.Bool.{cases_lt}
 use Rattle.std.proofs.lemmas.List.{get_or_past}
 use Rattle.network.specs.Instance.{reduced}

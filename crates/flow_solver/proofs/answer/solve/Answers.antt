@@ -1,11 +1,11 @@
-use Rattle.std.proofs.Common.{◌≡◌, ◌∙◌, ◌+◌, ◌<◌, ◌≤◌, ℕ, ℤ, List, length, arith, sym, ap, subst}
+use Rattle.std.proofs.Common.{◌∙◌, ◌+◌, ◌≤◌, List, arith, sym, subst}
 use Rattle.std.proofs.lemmas.Int.{ints}
 use Rattle.dimacs_text.specs.declared.problem.ArcRow.{ArcRow}
 use Rattle.network.specs.Flow.{AllWithinBounds}
-use Rattle.network.specs.Instance.{Instance, reduced}
+use Rattle.network.specs.Instance.{reduced}
 use Rattle.network.proofs.Reduction.{reduced_ends}
-use Rattle.flow_solver.specs.Limits.{cap_sum_limit, entry_limit, label_floor}
-use Rattle.flow_solver.specs.Residual.{IsCertified, ArePotentials, number_at}
+use Rattle.flow_solver.specs.Limits.{cap_sum_limit, entry_limit}
+use Rattle.flow_solver.specs.Residual.{IsCertified}
 use Rattle.flow_solver.specs.Push.{IsExcess, Pushes, cap_total}
 use Rattle.flow_solver.specs.Answer.{IsJudged, worth_by}
 use Rattle.flow_solver.specs.Nodes.{held}

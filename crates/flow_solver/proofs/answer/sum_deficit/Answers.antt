@@ -1,4 +1,4 @@
-use Rattle.std.proofs.Common.{◌≡◌, ◌-ℤ◌, w64, to_z, of_z, ap, ◌+◌, ◌<◌, ◌^◌, ℤ, length, pos, neg_ℤ, arith, rules}
+use Rattle.std.proofs.Common.{◌≡◌, ◌-ℤ◌, w64, to_z, of_z, ap, ◌+◌, ◌<◌, ◌^◌, ℤ, pos, neg_ℤ, arith, rules}
 use Rattle.std.proofs.lemmas.List.Sums.{sum_by_more_le}
 use Rattle.std.proofs.lemmas.Int.{ints}
 use Rattle.flow_solver.specs.Residual.{number_at}

@@ -1,4 +1,4 @@
-use Rattle.std.proofs.Common.{◌≡◌, ◌∙◌, ◌≤◌, ◌^◌, ◌*ℤ◌, sym, subst, List, unsigned_abs}
+use Rattle.std.proofs.Common.{◌∙◌, ◌≤◌, ◌^◌, ◌*ℤ◌, sym, subst, List, unsigned_abs}
 use Rattle.std.specs.List.{AllZip}
 use Rattle.dimacs_text.specs.declared.problem.ArcRow.{ArcRow}
 use Rattle.network.specs.Flow.{AllWithinBounds}

@@ -1,4 +1,4 @@
-use Rattle.std.proofs.Common.{ℕ, length, ◌+◌, ◌≤◌, ℤ, List}
+use Rattle.std.proofs.Common.{ℕ, length, ◌+◌, ◌≤◌, ℤ}
 use Rattle.flow_solver.specs.Residual.{IsCertified}
 use Rattle.flow_solver.specs.Push.{IsExcess, Pushes, left, AreSmall}
 use Rattle.flow_solver.specs.Queue.{IsQueueFor}

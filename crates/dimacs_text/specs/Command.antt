@@ -1,0 +1,150 @@
+-- Command texts: what a line by itself asks for, or the number of its first check that fails.
+use Rattle.std.specs.Prelude.{ℕ, Bool, true, false, ◌&&◌, List, [], ◌∷◌, Option, Some, None, Result, Ok, Err, length, ◌==◌, if◌then◌else◌, pos}
+use Rattle.dimacs_text.specs.declared.fault.Fault.{Fault}
+use Rattle.dimacs_text.specs.declared.fault.Fault.TheVariants as fault
+use Rattle.dimacs_text.specs.declared.problem.Kind.{Kind}
+use Rattle.dimacs_text.specs.declared.problem.Kind.TheVariants.{Min, Max, Asn}
+use Rattle.dimacs_text.specs.declared.problem.TheConstants.{CAP_LIMIT, COST_LIMIT, SUPPLY_LIMIT}
+use Rattle.dimacs_text.specs.declared.command.Edit.{Edit}
+use Rattle.dimacs_text.specs.declared.command.Edit.TheVariants as edits
+use Rattle.dimacs_text.specs.declared.command.Command.{Command}
+use Rattle.dimacs_text.specs.declared.command.Command.TheVariants as commands
+use Rattle.dimacs_text.specs.declared.command.Verb.{Verb}
+use Rattle.dimacs_text.specs.declared.command.Verb.TheVariants as verbs
+use Rattle.dimacs_text.specs.Fault.{number_of}
+use Rattle.dimacs_text.specs.Lines.{Line, is_too_long}
+use Rattle.dimacs_text.specs.Fields.{Word, words_of, natural}
+use Rattle.dimacs_text.specs.Problem.{◌>>=◌, demand, some_or, natural_in, integer_in, field}
+
+-- the verb that a word is: `cap`, `low`, `add`, `cost`, `undo`, `redo`, `show`, `close`, `proof` or `supply`
+abbrev pub verb_of : Word → Option Verb
+verb_of (a ∷ b ∷ c ∷ []) =
+    if a == 99 && b == 97 && c == 112 then Some verbs.Cap else
+    if a == 108 && b == 111 && c == 119 then Some verbs.Low else
+    if a == 97 && b == 100 && c == 100 then Some verbs.Add else None
+verb_of (a ∷ b ∷ c ∷ d ∷ []) =
+    if a == 99 && b == 111 && c == 115 && d == 116 then Some verbs.Cost else
+    if a == 117 && b == 110 && c == 100 && d == 111 then Some verbs.Undo else
+    if a == 114 && b == 101 && c == 100 && d == 111 then Some verbs.Redo else
+    if a == 115 && b == 104 && c == 111 && d == 119 then Some verbs.Show else None
+verb_of (a ∷ b ∷ c ∷ d ∷ e ∷ []) =
+    if a == 99 && b == 108 && c == 111 && d == 115 && e == 101 then Some verbs.Close else
+    if a == 112 && b == 114 && c == 111 && d == 111 && e == 102 then Some verbs.Proof else None
+verb_of (a ∷ b ∷ c ∷ d ∷ e ∷ f ∷ []) = if a == 115 && b == 117 && c == 112 && d == 112 && e == 108 && f == 121 then Some verbs.Supply else None
+verb_of _ = None
+
+-- the kinds that have the command
+abbrev pub is_for : Kind → Verb → Bool
+is_for Asn verbs.Cap = false
+is_for Max verbs.Low = false
+is_for Asn verbs.Low = false
+is_for Max verbs.Cost = false
+is_for Max verbs.Supply = false
+is_for Asn verbs.Supply = false
+is_for kind verb = true
+
+-- ---- the fields after the verb; arcs and nodes have no range here
+
+unfoldable pub read_cap : List Word → Result Edit Fault
+read_cap fields = do
+  _ ← demand (length fields == 2) fault.WrongFieldCount
+  arc ← some_or (natural (field 0 fields)) fault.NotANumber
+  cap ← natural_in 0 CAP_LIMIT (field 1 fields)
+  Ok (edits.Cap arc (pos cap))
+
+unfoldable pub read_low : List Word → Result Edit Fault
+read_low fields = do
+  _ ← demand (length fields == 2) fault.WrongFieldCount
+  arc ← some_or (natural (field 0 fields)) fault.NotANumber
+  low ← natural_in 0 CAP_LIMIT (field 1 fields)
+  Ok (edits.Low arc (pos low))
+
+unfoldable pub read_cost : List Word → Result Edit Fault
+read_cost fields = do
+  _ ← demand (length fields == 2) fault.WrongFieldCount
+  arc ← some_or (natural (field 0 fields)) fault.NotANumber
+  cost ← integer_in COST_LIMIT (field 1 fields)
+  Ok (edits.Cost arc cost)
+
+unfoldable pub read_supply : List Word → Result Edit Fault
+read_supply fields = do
+  _ ← demand (length fields == 2) fault.WrongFieldCount
+  node ← some_or (natural (field 0 fields)) fault.NotANumber
+  value ← integer_in SUPPLY_LIMIT (field 1 fields)
+  Ok (edits.Supply node value)
+
+-- the fields of the kind's arc line
+unfoldable pub read_min_arc : List Word → Result Edit Fault
+read_min_arc fields = do
+  _ ← demand (length fields == 5) fault.WrongFieldCount
+  tail ← some_or (natural (field 0 fields)) fault.NotANumber
+  head ← some_or (natural (field 1 fields)) fault.NotANumber
+  low ← natural_in 0 CAP_LIMIT (field 2 fields)
+  cap ← natural_in 0 CAP_LIMIT (field 3 fields)
+  cost ← integer_in COST_LIMIT (field 4 fields)
+  Ok (edits.Add tail head (pos low) (pos cap) cost)
+
+unfoldable pub read_max_arc : List Word → Result Edit Fault
+read_max_arc fields = do
+  _ ← demand (length fields == 3) fault.WrongFieldCount
+  tail ← some_or (natural (field 0 fields)) fault.NotANumber
+  head ← some_or (natural (field 1 fields)) fault.NotANumber
+  cap ← natural_in 0 CAP_LIMIT (field 2 fields)
+  Ok (edits.Add tail head (pos 0) (pos cap) (pos 0))
+
+unfoldable pub read_asn_arc : List Word → Result Edit Fault
+read_asn_arc fields = do
+  _ ← demand (length fields == 3) fault.WrongFieldCount
+  tail ← some_or (natural (field 0 fields)) fault.NotANumber
+  head ← some_or (natural (field 1 fields)) fault.NotANumber
+  cost ← integer_in COST_LIMIT (field 2 fields)
+  Ok (edits.Add tail head (pos 0) (pos 1) cost)
+
+abbrev pub read_add : Kind → List Word → Result Edit Fault
+read_add Min fields = read_min_arc fields
+read_add Max fields = read_max_arc fields
+read_add Asn fields = read_asn_arc fields
+
+unfoldable pub read_close : List Word → Result Edit Fault
+read_close fields = do
+  _ ← demand (length fields == 1) fault.WrongFieldCount
+  arc ← some_or (natural (field 0 fields)) fault.NotANumber
+  Ok (edits.Close arc)
+
+abbrev pub as_edit : Result Edit Fault → Result Command Fault
+as_edit (Ok edit) = Ok (commands.Edit edit)
+as_edit (Err fault) = Err fault
+
+abbrev pub read_bare : List Word → Command → Result Command Fault
+read_bare fields command = if length fields == 0 then Ok command else Err fault.WrongFieldCount
+
+-- ---- a line
+
+abbrev pub read_by : Kind → Verb → List Word → Result Command Fault
+read_by kind verbs.Cap fields = as_edit (read_cap fields)
+read_by kind verbs.Low fields = as_edit (read_low fields)
+read_by kind verbs.Cost fields = as_edit (read_cost fields)
+read_by kind verbs.Supply fields = as_edit (read_supply fields)
+read_by kind verbs.Add fields = as_edit (read_add kind fields)
+read_by kind verbs.Close fields = as_edit (read_close fields)
+read_by kind verbs.Undo fields = read_bare fields commands.Undo
+read_by kind verbs.Redo fields = read_bare fields commands.Redo
+read_by kind verbs.Show fields = read_bare fields commands.Show
+read_by kind verbs.Proof fields = read_bare fields commands.Proof
+
+-- the words of a line that is not blank
+unfoldable pub read_words : Kind → List Word → Result Command Fault
+read_words kind [] = Err fault.UnknownDesignator
+read_words kind (word ∷ fields) = do
+  verb ← some_or (verb_of word) fault.UnknownDesignator
+  _ ← demand (is_for kind verb) fault.NotForKind
+  read_by kind verb fields
+
+-- an error by its number
+abbrev pub numbered : Result Command Fault → Result Command ℕ
+numbered (Ok command) = Ok command
+numbered (Err fault) = Err (number_of fault)
+
+-- what a line asks for
+abbrev pub command : Kind → Line → Result Command ℕ
+command kind line = numbered (if is_too_long line then Err fault.LineTooLong else read_words kind (words_of line))

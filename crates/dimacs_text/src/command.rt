@@ -1,0 +1,321 @@
+//! One line of a command text.
+
+ghost use Rattle.std.specs.Prelude.{◌≡◌, ◌≢◌, [], ◌<◌, length, Ok};
+ghost use Rattle.dimacs_text.specs.Fields.{words_of};
+ghost use Rattle.dimacs_text.specs.Command.{command, verb_of, is_for, read_words, read_by, read_bare, read_cap, read_low, read_cost, read_supply, read_add, read_min_arc, read_max_arc, read_asn_arc, read_close, as_edit};
+
+use crate::cutter::LINE_LIMIT;
+use crate::fault::Fault;
+use crate::numbers::{integer_in, natural, natural_in};
+use crate::problem::{CAP_LIMIT, COST_LIMIT, Kind, SUPPLY_LIMIT};
+use crate::words::Words;
+
+/// A change of an instance. Arcs and nodes are named by their numbers, counted from 1, of which nothing is known yet.
+#[derive(Clone, Copy, Debug, PartialEq, Eq)]
+pub enum Edit {
+    /// Sets the capacity of an arc, 0 to `CAP_LIMIT`.
+    Cap {
+        arc: u64,
+        cap: i64,
+    },
+    /// Sets the lower bound of an arc, 0 to `CAP_LIMIT`.
+    Low {
+        arc: u64,
+        low: i64,
+    },
+    /// Sets the cost of an arc, -`COST_LIMIT` to `COST_LIMIT`.
+    Cost {
+        arc: u64,
+        cost: i64,
+    },
+    /// Sets the supply of a node, -`SUPPLY_LIMIT` to `SUPPLY_LIMIT`.
+    Supply {
+        node: u64,
+        value: i64,
+    },
+    /// Adds an arc, with numbers in these ranges; nothing says yet that `low <= cap`.
+    Add {
+        tail: u64,
+        head: u64,
+        low: i64,
+        cap: i64,
+        cost: i64,
+    },
+    /// Sets the lower bound and the capacity of an arc to 0.
+    Close {
+        arc: u64,
+    },
+}
+
+/// What a line asks for.
+#[derive(Clone, Copy, Debug, PartialEq, Eq)]
+pub enum Command {
+    /// Changes the instance.
+    Edit(Edit),
+    /// Moves one moment back.
+    Undo,
+    /// Moves one moment forward.
+    Redo,
+    /// Prints the solution.
+    Show,
+    /// Prints the solution with its potentials.
+    Proof,
+}
+
+/// The first word of a command.
+#[derive(Clone, Copy, Debug, PartialEq, Eq)]
+pub enum Verb {
+    Cap,
+    Low,
+    Cost,
+    Supply,
+    Add,
+    Close,
+    Undo,
+    Redo,
+    Show,
+    Proof,
+}
+
+impl Verb {
+    /// The verb that a word is, if it is one.
+    pub fn of(word: &[u8]) -> Option<Self>
+        ensures { result ≡ verb_of word.now }
+    {
+        match word {
+            [b'c', b'a', b'p'] => Some(Verb::Cap),
+            [b'l', b'o', b'w'] => Some(Verb::Low),
+            [b'c', b'o', b's', b't'] => Some(Verb::Cost),
+            [b's', b'u', b'p', b'p', b'l', b'y'] => Some(Verb::Supply),
+            [b'a', b'd', b'd'] => Some(Verb::Add),
+            [b'c', b'l', b'o', b's', b'e'] => Some(Verb::Close),
+            [b'u', b'n', b'd', b'o'] => Some(Verb::Undo),
+            [b'r', b'e', b'd', b'o'] => Some(Verb::Redo),
+            [b's', b'h', b'o', b'w'] => Some(Verb::Show),
+            [b'p', b'r', b'o', b'o', b'f'] => Some(Verb::Proof),
+            _ => None,
+        }
+    }
+
+    /// Whether problems of the kind have the command.
+    pub fn is_for(self, kind: Kind) -> bool
+        ensures { result ≡ is_for kind self }
+    {
+        match (self, kind) {
+            (Verb::Cap, Kind::Asn) => false,
+            (Verb::Low, Kind::Max) => false,
+            (Verb::Low, Kind::Asn) => false,
+            (Verb::Cost, Kind::Max) => false,
+            (Verb::Supply, Kind::Max) => false,
+            (Verb::Supply, Kind::Asn) => false,
+            _ => true,
+        }
+    }
+}
+
+/// Reads a line of a command text that is not blank, for a problem of the kind.
+///
+/// An error is the number of the first check that fails: the line is too long (1), no command (2), not for this kind
+/// (23), it has the wrong number of fields (3), a field is not a number (4) or out of range (5).
+pub fn read_command(kind: Kind, line: &[u8]) -> Result<Command, u8>
+    requires { words_of line.now ≢ [] }
+    ensures { result ≡ command kind line.now }
+{
+    if line.len() > LINE_LIMIT {
+        return Err(Fault::LineTooLong.number());
+    }
+    match read_words(kind, Words::new(line)) {
+        Ok(command) => Ok(command),
+        Err(fault) => Err(fault.number()),
+    }
+}
+
+/// Reads the words of a line.
+#[tactic(auto, unfolding(crate::specs::Command::read_words))]
+fn read_words(kind: Kind, mut words: Words) -> Result<Command, Fault>
+    ensures { result ≡ read_words kind words.entry }
+{
+    let Some(first) = words.next() else {
+        return Err(Fault::UnknownDesignator);
+    };
+    let verb = Verb::of(first).ok_or(Fault::UnknownDesignator)?;
+    if !verb.is_for(kind) {
+        return Err(Fault::NotForKind);
+    }
+    read_by(kind, verb, words)
+}
+
+/// Reads the fields after the verb.
+fn read_by(kind: Kind, verb: Verb, fields: Words) -> Result<Command, Fault>
+    ensures { result ≡ read_by kind verb fields.entry }
+{
+    match verb {
+        Verb::Cap => as_edit(read_cap(fields)),
+        Verb::Low => as_edit(read_low(fields)),
+        Verb::Cost => as_edit(read_cost(fields)),
+        Verb::Supply => as_edit(read_supply(fields)),
+        Verb::Add => as_edit(read_add(kind, fields)),
+        Verb::Close => as_edit(read_close(fields)),
+        Verb::Undo => read_bare(fields, Command::Undo),
+        Verb::Redo => read_bare(fields, Command::Redo),
+        Verb::Show => read_bare(fields, Command::Show),
+        Verb::Proof => read_bare(fields, Command::Proof),
+    }
+}
+
+/// An edit is a command.
+fn as_edit(edit: Result<Edit, Fault>) -> Result<Command, Fault>
+    ensures { result ≡ as_edit edit }
+{
+    match edit {
+        Ok(edit) => Ok(Command::Edit(edit)),
+        Err(fault) => Err(fault),
+    }
+}
+
+/// A command without fields.
+fn read_bare(fields: Words, command: Command) -> Result<Command, Fault>
+    ensures { result ≡ read_bare fields.entry command }
+{
+    if fields.count() != 0 {
+        return Err(Fault::WrongFieldCount);
+    }
+    Ok(command)
+}
+
+/// The fields of `cap K V`.
+#[tactic(auto, unfolding(crate::specs::Command::read_cap))]
+fn read_cap(mut fields: Words) -> Result<Edit, Fault>
+    ensures { result ≡ read_cap fields.entry }
+{
+    if fields.count() != 2 {
+        return Err(Fault::WrongFieldCount);
+    }
+    let arc = natural(fields.word()).ok_or(Fault::NotANumber)?;
+    let cap = natural_in(fields.word(), 0, CAP_LIMIT)? as i64;
+    Ok(Edit::Cap { arc, cap })
+}
+
+/// The fields of `low K V`.
+#[tactic(auto, unfolding(crate::specs::Command::read_low))]
+fn read_low(mut fields: Words) -> Result<Edit, Fault>
+    ensures { result ≡ read_low fields.entry }
+{
+    if fields.count() != 2 {
+        return Err(Fault::WrongFieldCount);
+    }
+    let arc = natural(fields.word()).ok_or(Fault::NotANumber)?;
+    let low = natural_in(fields.word(), 0, CAP_LIMIT)? as i64;
+    Ok(Edit::Low { arc, low })
+}
+
+/// The fields of `cost K V`.
+#[tactic(auto, unfolding(crate::specs::Command::read_cost))]
+fn read_cost(mut fields: Words) -> Result<Edit, Fault>
+    ensures { result ≡ read_cost fields.entry }
+{
+    if fields.count() != 2 {
+        return Err(Fault::WrongFieldCount);
+    }
+    let arc = natural(fields.word()).ok_or(Fault::NotANumber)?;
+    let cost = integer_in(fields.word(), COST_LIMIT)?;
+    Ok(Edit::Cost { arc, cost })
+}
+
+/// The fields of `supply ID V`.
+#[tactic(auto, unfolding(crate::specs::Command::read_supply))]
+fn read_supply(mut fields: Words) -> Result<Edit, Fault>
+    ensures { result ≡ read_supply fields.entry }
+{
+    if fields.count() != 2 {
+        return Err(Fault::WrongFieldCount);
+    }
+    let node = natural(fields.word()).ok_or(Fault::NotANumber)?;
+    let value = integer_in(fields.word(), SUPPLY_LIMIT)?;
+    Ok(Edit::Supply { node, value })
+}
+
+/// The fields of `add`, which are those of the kind's arc line.
+fn read_add(kind: Kind, fields: Words) -> Result<Edit, Fault>
+    ensures { result ≡ read_add kind fields.entry }
+{
+    match kind {
+        Kind::Min => read_min_arc(fields),
+        Kind::Max => read_max_arc(fields),
+        Kind::Asn => read_asn_arc(fields),
+    }
+}
+
+/// The fields `SRC DST LOW CAP COST`.
+#[tactic(auto, unfolding(crate::specs::Command::read_min_arc))]
+fn read_min_arc(mut fields: Words) -> Result<Edit, Fault>
+    ensures { result ≡ read_min_arc fields.entry }
+{
+    if fields.count() != 5 {
+        return Err(Fault::WrongFieldCount);
+    }
+    let tail = natural(fields.word()).ok_or(Fault::NotANumber)?;
+    let head = natural(fields.word()).ok_or(Fault::NotANumber)?;
+    let low = natural_in(fields.word(), 0, CAP_LIMIT)? as i64;
+    let cap = natural_in(fields.word(), 0, CAP_LIMIT)? as i64;
+    let cost = integer_in(fields.word(), COST_LIMIT)?;
+    Ok(Edit::Add {
+        tail,
+        head,
+        low,
+        cap,
+        cost,
+    })
+}
+
+/// The fields `SRC DST CAP`.
+#[tactic(auto, unfolding(crate::specs::Command::read_max_arc))]
+fn read_max_arc(mut fields: Words) -> Result<Edit, Fault>
+    ensures { result ≡ read_max_arc fields.entry }
+{
+    if fields.count() != 3 {
+        return Err(Fault::WrongFieldCount);
+    }
+    let tail = natural(fields.word()).ok_or(Fault::NotANumber)?;
+    let head = natural(fields.word()).ok_or(Fault::NotANumber)?;
+    let cap = natural_in(fields.word(), 0, CAP_LIMIT)? as i64;
+    Ok(Edit::Add {
+        tail,
+        head,
+        low: 0,
+        cap,
+        cost: 0,
+    })
+}
+
+/// The fields `SRC DST COST`.
+#[tactic(auto, unfolding(crate::specs::Command::read_asn_arc))]
+fn read_asn_arc(mut fields: Words) -> Result<Edit, Fault>
+    ensures { result ≡ read_asn_arc fields.entry }
+{
+    if fields.count() != 3 {
+        return Err(Fault::WrongFieldCount);
+    }
+    let tail = natural(fields.word()).ok_or(Fault::NotANumber)?;
+    let head = natural(fields.word()).ok_or(Fault::NotANumber)?;
+    let cost = integer_in(fields.word(), COST_LIMIT)?;
+    Ok(Edit::Add {
+        tail,
+        head,
+        low: 0,
+        cap: 1,
+        cost,
+    })
+}
+
+/// The field of `close K`.
+#[tactic(auto, unfolding(crate::specs::Command::read_close))]
+fn read_close(mut fields: Words) -> Result<Edit, Fault>
+    ensures { result ≡ read_close fields.entry }
+{
+    if fields.count() != 1 {
+        return Err(Fault::WrongFieldCount);
+    }
+    let arc = natural(fields.word()).ok_or(Fault::NotANumber)?;
+    Ok(Edit::Close { arc })
+}
