@@ -6,6 +6,7 @@ mod check;
 mod cost;
 mod cut;
 mod edit;
+mod edited;
 mod net;
 mod signs;
 mod start;
@@ -53,10 +54,14 @@ pub(crate) enum CutForm {
 pub struct Network {
     nodes: u32,
     goal: Goal,
+    /// Those of the reduced instance, so that every kind is balanced alike.
     supplies: Vec<i64>,
     arcs: Vec<ArcRow>,
+    /// How many arcs there may be; all room for them is reserved.
     room: usize,
+    /// The greatest end at each node.
     first: Vec<Option<u32>>,
+    /// The greatest end below each end at its node.
     next: Vec<Option<u32>>,
 }
 

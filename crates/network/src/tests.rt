@@ -1,5 +1,5 @@
 use crate::{Network, build, check_best, check_cut};
-use dimacs_text::{Kind, ProblemReader, TextFault};
+use dimacs_text::{Edit, Kind, ProblemReader, TextFault};
 use std::alloc::Global;
 
 /// The instance of a problem text, with room for one arc more.
@@ -66,6 +66,49 @@ fn cuts(rt: HostRuntime) -> Result<(), TextFault> {
     for (text, cut, shortage, valid) in cases {
         let net = network(rt.alloc(), text)?;
         assert_eq!(rt; check_cut(&net, cut, shortage), valid);
+    }
+    Ok(())
+}
+
+#[test]
+fn edits(rt: HostRuntime) -> Result<(), TextFault> {
+    let net = network(rt.alloc(), UNFED)?;
+    let cases: [(Edit, Result<(), u8>); 8] = [
+        (Edit::Cap { arc: 1, cap: 2 }, Ok(())),
+        (Edit::Cap { arc: 1, cap: 1 }, Err(22)),
+        (
+            Edit::Cap {
+                arc: 2,
+                cap: 1_000_000_001,
+            },
+            Err(5),
+        ),
+        (Edit::Low { arc: 2, low: 1 }, Err(20)),
+        (Edit::Cost { arc: 0, cost: 1 }, Err(20)),
+        (Edit::Supply { node: 3, value: 1 }, Err(21)),
+        (
+            Edit::Add {
+                tail: 1,
+                head: 2,
+                low: 0,
+                cap: 5,
+                cost: 1,
+            },
+            Ok(()),
+        ),
+        (
+            Edit::Add {
+                tail: 1,
+                head: 2,
+                low: 6,
+                cap: 5,
+                cost: 1,
+            },
+            Err(22),
+        ),
+    ];
+    for (edit, answer) in cases {
+        assert_eq!(rt; net.edited(&edit), answer);
     }
     Ok(())
 }

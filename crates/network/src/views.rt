@@ -37,10 +37,7 @@ impl Network {
     pub fn arc(&self, k: u32) -> Option<ArcRow>
         ensures { result ≡ arc_at self.now.arcs k }
     {
-        if k == 0 {
-            return None;
-        }
-        self.arcs.get(k as usize - 1).copied()
+        self.numbered_arc(u64::from(k))
     }
 
     /// The arc with this number in the instance's reduction to minimum cost, if it is there. It is the arc itself:
