@@ -1,5 +1,5 @@
 -- No check of an answer text but that of its length says that a line is too long.
-use Rattle.std.proofs.Common.{◌≡◌, ◌≢◌, ℕ, ◌+◌, Bool, true, false, cond, if◌then◌else◌, ◌&&◌, List, ◌++◌, length, Option, Some, None, Result, Ok, Err, ℤ, pos, arith}
+use Rattle.std.proofs.Common.{◌≡◌, ◌≢◌, ℕ, ◌+◌, Bool, true, false, cond, ◌&&◌, List, ◌++◌, length, Option, Some, None, Result, Ok, Err, ℤ, pos, arith}
 use Rattle.std.specs.Prelude.{nat_lt, ◌==◌, is_some, is_none}
 use Rattle.dimacs_text.specs.declared.fault.Fault.{Fault}
 use Rattle.dimacs_text.specs.declared.fault.Fault.TheVariants as fault
@@ -11,7 +11,7 @@ use Rattle.dimacs_text.specs.declared.answer_line.AnswerLine.TheVariants as line
 use Rattle.dimacs_text.specs.Fault.{number_of}
 use Rattle.dimacs_text.specs.Lines.{Line, IsBytes}
 use Rattle.dimacs_text.specs.Fields.{Word, natural, integer, words_of}
-use Rattle.dimacs_text.specs.Problem.{◌>>=◌, demand, some_or, natural_in, field, fault_of, fields_of}
+use Rattle.dimacs_text.specs.Problem.{◌>>=◌, demand, some_or, natural_in, field, fields_of}
 use Rattle.dimacs_text.specs.Stream.{at_line, or_at, decided}
 use Rattle.dimacs_text.specs.Answer.{Said, said_of, first_of, claimed_value, read_value, read_flow, read_potential, fault_by, ending_by, answer_rule, answer_end, answers}
 use Rattle.dimacs_text.proofs.OtherLemmas.{IsOther, bind_other, demand_other, some_or_other, natural_in_other, fault_other}

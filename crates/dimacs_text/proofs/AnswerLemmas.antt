@@ -1,5 +1,5 @@
 -- An answer text is read as its draft and its end say.
-use Rattle.std.proofs.Common.{◌≡◌, ℕ, Bool, true, false, cond, ◌&&◌, ◌==◌, List, [], ◌∷◌, ◌++◌, Option, Some, None, Result, Ok, Err, ℤ, length, refl, sym, ap, subst, ◌∙◌}
+use Rattle.std.proofs.Common.{◌≡◌, ℕ, Bool, true, false, cond, ◌&&◌, ◌==◌, List, [], ◌++◌, Option, Some, None, Result, Ok, Err, ℤ, length, refl, sym, ap, subst, ◌∙◌}
 use Rattle.std.proofs.lemmas.Bool.{eqb-true}
 use Rattle.dimacs_text.specs.declared.fault.Fault.{Fault}
 use Rattle.dimacs_text.specs.declared.fault.Fault.TheVariants as fault

@@ -1,5 +1,5 @@
 -- A line of an answer text that is taken, by its designator.
-use Rattle.std.proofs.Common.{◌≡◌, ℕ, List, [], ◌∷◌, ◌++◌, Option, Some, None, Result, Ok, Err, ℤ, refl, sym, ap, ◌∙◌}
+use Rattle.std.proofs.Common.{◌≡◌, List, [], ◌∷◌, ◌++◌, Option, Some, None, Result, Ok, Err, ℤ, refl, sym, ap, ◌∙◌}
 use Rattle.std.proofs.lemmas.List.{append-nil}
 use Rattle.dimacs_text.specs.declared.fault.Fault.{Fault}
 use Rattle.dimacs_text.specs.declared.fault.Fault.TheVariants as fault
@@ -7,7 +7,6 @@ use Rattle.dimacs_text.specs.declared.fault.LineError.{LineError}
 use Rattle.dimacs_text.specs.Lines.{Line}
 use Rattle.dimacs_text.specs.Fields.{Word, words_of}
 use Rattle.dimacs_text.specs.Problem.{fields_of, fault_of}
-use Rattle.dimacs_text.specs.declared.answer.FlowLine.{FlowLine}
 use Rattle.dimacs_text.specs.declared.answer_line.AnswerLine.{AnswerLine}
 use Rattle.dimacs_text.specs.declared.answer_line.AnswerLine.TheVariants as line_kind
 use Rattle.dimacs_text.specs.Answer.{Said, Drafted, Takes, TakesAs, line_of, first_of, line_fault, and_said, or_value, value_said, flow_said, potential_said, read_value, read_flow, read_potential}

@@ -1,5 +1,5 @@
 -- Whether a line is begun.
-use Rattle.std.proofs.Common.{◌≡◌, ◌≢◌, Bool, true, false, cond, List, [], ◌∷◌, Option, Some, None, refl}
+use Rattle.std.proofs.Common.{◌≡◌, ◌≢◌, Bool, true, false, cond, [], ◌∷◌, Option, Some, None, refl}
 use Rattle.dimacs_text.specs.Lines.{Line}
 use Rattle.dimacs_text.specs.Cut.{Cut, begun_line, has_bytes}
 

@@ -12,7 +12,7 @@ use Rattle.dimacs_text.specs.declared.problem.NodeMark.{NodeMark}
 use Rattle.dimacs_text.specs.declared.problem.ArcRow.{ArcRow}
 use Rattle.dimacs_text.specs.declared.problem.Size.{Size}
 use Rattle.dimacs_text.specs.Problem.{node_of, is_named}
-use Rattle.dimacs_text.specs.Lawful.{IsNode, IsLawfulSize, IsLawfulMark, IsLawfulRow, NamesOthers, FlagNamed, IsSupply, IsByKind, KeepsKind, IsProblem, IsSized, IsSound}
+use Rattle.dimacs_text.specs.Lawful.{IsNode, IsLawfulSize, IsLawfulMark, IsLawfulRow, NamesOthers, FlagNamed, IsSupply, KeepsKind, IsSized, IsSound}
 
 -- ---- marks
 
@@ -76,11 +76,6 @@ kept_more Min marks mark kept supply = All-push IsSupply marks mark kept supply
 kept_more Max marks mark kept supply = kept
 kept_more Asn marks mark kept supply = kept
 
-kept_by : (kind : Kind) (nodes : ℕ) (marks : List NodeMark) (rows : List ArcRow) → KeepsKind kind marks → IsByKind kind nodes marks rows
-kept_by Min nodes marks rows kept = kept
-kept_by Max nodes marks rows kept = absurd kept
-kept_by Asn nodes marks rows kept = absurd kept
-
 pub sized : (known : Option Size) (size : Size) (flags : List Bool) (marks : List NodeMark) (rows : List ArcRow) → known ≡ Some size → IsSound known flags marks rows → IsSized size flags marks rows
 sized known size flags marks rows e sound = rw e at sound
 
@@ -142,15 +137,3 @@ sound_resized known flags new marks rows size len e sound lawful kind len_is new
     let none : len ≡ 0 = len_is ∙ ap (λ (f : List Bool). length f) empty.0 in
     let made : new ≡ replicate size.nodes false = new_is ∙ rw (empty.0, none, take_all {A = Bool} size.nodes [] (omega arith), sub-zero) refl in
     rw made (sound_size flags marks rows size empty lawful kind)
-
--- a draft that no line is missing from is a problem
-pub sound_problem : (known : Option Size) (size : Size) (flags : List Bool) (marks : List NodeMark) (rows : List ArcRow) → known ≡ Some size → IsSound known flags marks rows → IsProblem size.kind size.nodes marks rows
-sound_problem known size flags marks rows e sound =
-    let before = sized known size flags marks rows e sound in
-    record {
-      some_node = before.sized.some_node;
-      node_limit = before.sized.nodes;
-      arc_limit = omega (arith, before.count, before.sized.arcs);
-      lawful = before.lawful;
-      by_kind = kept_by size.kind size.nodes marks rows before.kept;
-    }

@@ -1,6 +1,6 @@
 -- Answer texts: `s VALUE` and an `f SRC DST FLOW` line for each arc, as in the solutions of the first DIMACS challenge,
 -- and then a `v ID POTENTIAL` line for each node.
-use Rattle.std.specs.Prelude.{◌≡◌, ℕ, ◌+◌, Bool, ◌&&◌, List, [], ◌∷◌, ◌++◌, Option, Some, None, Result, Ok, Err, length, unwrap_or, nat_le, nat_lt, ◌==◌, is_some, is_none, if◌then◌else◌, ℤ, pos, neg_ℤ}
+use Rattle.std.specs.Prelude.{◌≡◌, ℕ, ◌+◌, ◌&&◌, List, [], ◌∷◌, ◌++◌, Option, Some, None, Result, Ok, Err, length, unwrap_or, nat_le, nat_lt, ◌==◌, is_some, is_none, if◌then◌else◌, ℤ, pos, neg_ℤ}
 use Rattle.std.specs.List.{All, flat_map, list_all}
 use Rattle.std.specs.Option.{option_map}
 use Rattle.dimacs_text.specs.declared.fault.Fault.{Fault}

@@ -90,7 +90,7 @@ module _ (I : Instance) (y p e : List ℤ) (set : List Bool) (end : IsEnd I y p 
   pub end_certified : IsCertifiedFlow (reduced I) y (at_node (drop 1 p))
   end_certified =
       certified_flow (reduced I) y p (at_node (drop 1 p)) (reduced_ends I end.lawful) end.certified (agrees_at I.nodes p)
-      (range_of_labels I p end.lawful end.potentials_in end.above end.certified.potentials.at_most_0)
+      (λ v node. range_of_labels I p end.lawful end.potentials_in end.above end.certified.potentials.at_most_0 v)
 
   pub end_greatest : IsGreatestPotential (reduced I) y (at_node (drop 1 p))
   end_greatest = greatest_flow (reduced I) y p (at_node (drop 1 p)) (reduced_ends I end.lawful) (agrees_at I.nodes p) end.greatest

@@ -75,7 +75,7 @@ module _ (arcs : List ArcRow) (x p : List ℤ) (k : ℕ) (a : ArcRow) (z : ℤ) 
   pub certified_replaced : IsCertified (slice_set arcs k a) (slice_set x k z) p
   certified_replaced = record { flow = flow_replaced; potentials = certified.potentials; none_below = fits_replaced }
 
-  net_replaced : (v : ℕ) → net (slice_set arcs k a) (slice_set x k z) v ≡ (net arcs x v +ℤ at_node a.tail (z -ℤ number_at x k) v) -ℤ at_node a.head (z -ℤ number_at x k) v
+  pub net_replaced : (v : ℕ) → net (slice_set arcs k a) (slice_set x k z) v ≡ (net arcs x v +ℤ at_node a.tail (z -ℤ number_at x k) v) -ℤ at_node a.head (z -ℤ number_at x k) v
   net_replaced v =
       let out = flow_out-row arcs (slice_set x k z) k a v same_tail in
       let into = flow_in-row arcs (slice_set x k z) k a v same_head in

@@ -67,11 +67,11 @@ abbrev pub AgreesAt : ℕ → (ℕ → ℤ) → List ℤ → Type 0
 AgreesAt n q p = (v : ℕ) → (1 ≤ v) × (v ≤ n) → q v ≡ number_at p v
 
 module _ (I : MinCost) (x p : List ℤ) (q : ℕ → ℤ) (ends : AllEndsAreNodes I) (certified : IsCertified I.arcs x p) (agrees : AgreesAt I.nodes q p) where
-  pub certified_flow : ((v : ℕ) → IsPotential (number_at p v)) → IsCertifiedFlow I x q
+  pub certified_flow : ((v : ℕ) → IsNode I v → IsPotential (number_at p v)) → IsCertifiedFlow I x q
   certified_flow in_range = record {
     bounds = bounds_from I.arcs x certified.flow.same_length certified.flow.within;
     signs = signs_same I.nodes (number_at p) q I.arcs x ends agrees (signs_all I.arcs x p certified.flow.same_length (signs_from_none_below p certified.flow certified.none_below));
-    range = λ v node. subst IsPotential (sym (agrees v node)) (in_range v);
+    range = λ v node. subst IsPotential (sym (agrees v node)) (in_range v node);
   }
 
 -- no residual arc has a reduced cost below 0 where each arc keeps the rule

@@ -14,3 +14,4 @@ pub mod PushLaws
 pub mod InstanceLemmas
 pub mod AnswerLemmas
 pub mod WalkLemmas
+pub mod ChangeLemmas

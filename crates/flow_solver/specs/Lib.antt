@@ -11,3 +11,4 @@ pub mod Queue
 pub mod Walk
 pub mod Answer
 pub mod Moment
+pub mod Swap

@@ -20,7 +20,7 @@ use dimacs_text::ArcRow;
 use network::{Network, total_cost};
 
 /// What a node has to send out in the reduced instance; 0 where there is no such node.
-fn supply_at(net: &Network, id: u32) -> i64
+pub fn supply_at(net: &Network, id: u32) -> i64
     ensures { result ≡ held net.now.nodes (reduced net.now).supply id }
 {
     match net.reduced_supply(id) {

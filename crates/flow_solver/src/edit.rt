@@ -1,41 +1,26 @@
-//! A change of one arc, with the flow and the excesses that follow from it.
+//! Changes of an instance, from the flow that stands.
 
-ghost use Rattle.flow_solver.specs.Limits.{potential_floor, flow_limit};
-ghost use Rattle.std.specs.Prelude.{◌≡◌, ◌≢◌, ℕ, ℤ, List, length, pos, neg_ℤ, ◌≤ℤ◌, ◌<ℤ◌, ◌+ℤ◌, ◌-ℤ◌, ◌<◌, ◌≤◌, ◌+◌, slice_set, unsigned_abs, FitsSigned};
-ghost use Rattle.std.specs.Int.{w64};
-ghost use Rattle.flow_solver.specs.Residual.{IsRow, IsWithin, IsCertified, ArePotentials, number_at, arc_at};
-ghost use Rattle.flow_solver.specs.Push.{IsExcess, IsTransfer, AreSmall, left};
-ghost use Rattle.flow_solver.specs.Edit.{reduced_cost, IsNearest};
+ghost use Rattle.std.specs.Prelude.{◌≡◌, ℕ, ◌+◌, ◌-◌, ◌<◌, ◌≤◌, drop, length, slice_index_or, slice_set};
+ghost use Rattle.dimacs_text.specs.Lawful.{IsLawfulRow, IsNode, IsWithin};
+ghost use Rattle.dimacs_text.specs.declared.problem.TheConstants.{SUPPLY_LIMIT};
+ghost use Rattle.dimacs_text.specs.declared.problem.Kind.TheVariants.{Min};
+ghost use Rattle.network.specs.Flow.{IsCertifiedFlow};
+ghost use Rattle.network.specs.Instance.{ArcFits, at_node, is_marked, kind_of, reduced, with_supply};
+ghost use Rattle.flow_solver.specs.Limits.{potential_floor};
+ghost use Rattle.flow_solver.specs.Residual.{IsRow, IsCertified, ArePotentials, number_at, arc_at};
+ghost use Rattle.flow_solver.specs.Nodes.{IsIdleEntry};
+ghost use Rattle.flow_solver.specs.Queue.{IsQueueFor};
+ghost use Rattle.flow_solver.specs.Walk.{AreRowsOf};
+ghost use Rattle.flow_solver.specs.Swap.{supplies_in};
+ghost use Rattle.flow_solver.specs.Answer.{AreGreatestPotentials, IsChosenCut, IsVerdict};
+ghost use Rattle.flow_solver.specs.Edit.{reduced_cost, IsNearest, IsRowChanged, IsSupplyChanged};
 
-use crate::excess::carry;
+use crate::answer::{solve, supply_at};
+use crate::queue::Queue;
+use crate::verdict::Verdict;
+use crate::visit::Visit;
 use dimacs_text::ArcRow;
-
-/// Replaces an arc by one with the same ends, and its flow by the nearest that is allowed.
-pub fn replace_row(
-    rows: &mut [ArcRow],
-    flow: &mut [i64],
-    potentials: &[i64],
-    excess: &mut [i64],
-    k: usize,
-    row: ArcRow,
-)
-    requires certified { IsCertified rows.old flow.old potentials.now }
-    requires arc_in { k < length rows.old }
-    requires row { IsRow (length potentials.now) row }
-    requires same_tail { row.tail ≡ (arc_at rows.old k).tail }
-    requires same_head { row.head ≡ (arc_at rows.old k).head }
-    requires excess_in { length excess.old ≡ length potentials.now }
-    requires small { AreSmall excess.old }
-    ensures rows { rows.new ≡ slice_set rows.old k row }
-    ensures flow { flow.new ≡ slice_set flow.old k (number_at flow.new k) }
-    ensures nearest { IsNearest row (reduced_cost potentials.now row) (number_at flow.old k) (number_at flow.new k) }
-    ensures certified { IsCertified rows.new flow.new potentials.now }
-    ensures excess { (supply : ℕ → ℤ) → IsExcess rows.old supply flow.old excess.old → IsExcess rows.new supply flow.new excess.new }
-    ensures left { left excess.new ≤ left excess.old + unsigned_abs (number_at flow.new k -ℤ number_at flow.old k) }
-{
-    let after = nearest(&row, reduced(&row, potentials), flow[k]);
-    put(rows, flow, excess, k, row, after);
-}
+use network::Network;
 
 /// The reduced cost of an arc.
 fn reduced(row: &ArcRow, potentials: &[i64]) -> i64
@@ -44,33 +29,6 @@ fn reduced(row: &ArcRow, potentials: &[i64]) -> i64
     ensures { result ≡ reduced_cost potentials.now row.now }
 {
     row.cost + potentials[row.tail as usize] - potentials[row.head as usize]
-}
-
-/// Puts an arc and its flow in place of another arc with the same ends.
-fn put(rows: &mut [ArcRow], flow: &mut [i64], excess: &mut [i64], k: usize, row: ArcRow, after: i64)
-    requires arc_in { k < length rows.old }
-    requires inflow { k < length flow.old }
-    requires row { IsRow (length excess.old) row }
-    requires small { AreSmall excess.old }
-    requires before_low { pos 0 ≤ℤ number_at flow.old k }
-    requires before_high { number_at flow.old k ≤ℤ pos flow_limit }
-    requires after_low { pos 0 ≤ℤ after }
-    requires after_high { after ≤ℤ pos flow_limit }
-    ensures rows { rows.new ≡ slice_set rows.old k row }
-    ensures flow { flow.new ≡ slice_set flow.old k after }
-    ensures excess { IsTransfer row.tail row.head (after -ℤ number_at flow.old k) excess.old excess.new }
-{
-    let more = difference(after, flow[k]);
-    rows[k] = row;
-    flow[k] = after;
-    carry(excess, row.tail as usize, row.head as usize, more);
-}
-
-fn difference(after: i64, before: i64) -> i64
-    requires { FitsSigned w64 (after -ℤ before) }
-    ensures { result ≡ after -ℤ before }
-{
-    after - before
 }
 
 /// The flow nearest to this one that the bounds of the arc and the sign of its reduced cost allow.
@@ -85,4 +43,137 @@ fn nearest(row: &ArcRow, reduced: i64, flow: i64) -> i64
     } else {
         flow
     }
+}
+
+/// Replaces a row by one with the same ends, and its flow by the nearest that is allowed.
+fn replace_row(rows: &mut [ArcRow], flow: &mut [i64], potentials: &[i64], place: usize, row: ArcRow)
+    requires certified { IsCertified rows.old flow.old potentials.now }
+    requires place { place < length rows.old }
+    requires row { IsRow (length potentials.now) row }
+    requires same_tail { row.tail ≡ (arc_at rows.old place).tail }
+    requires same_head { row.head ≡ (arc_at rows.old place).head }
+    ensures rows { rows.new ≡ slice_set rows.old place row }
+    ensures flow { flow.new ≡ slice_set flow.old place (number_at flow.new place) }
+    ensures nearest { IsNearest row (reduced_cost potentials.now row) (number_at flow.old place) (number_at flow.new place) }
+    ensures certified { IsCertified rows.new flow.new potentials.now }
+{
+    let after = nearest(&row, reduced(&row, potentials), flow[place]);
+    rows[place] = row;
+    flow[place] = after;
+}
+
+/// Changes the bounds and the cost of the arc with this number, counted from 1, and settles the flow again. The arc's
+/// flow goes to the nearest value that is allowed; gives the number of pushes after that, and the verdict.
+pub fn change_row(
+    net: &mut Network,
+    rows: &mut [ArcRow],
+    flow: &mut [i64],
+    potentials: &mut [i64],
+    excess: &mut [i64],
+    visits: &mut [Visit],
+    queue: &mut Queue,
+    cut: &mut [bool],
+    k: u32,
+    row: ArcRow,
+) -> (u64, Verdict)
+    requires rows { AreRowsOf net.old rows.old }
+    requires arc { (1 ≤ k) × (k ≤ length net.old.arcs) }
+    requires tail { row.tail ≡ (slice_index_or net.old.arcs (k - 1) row).tail }
+    requires head { row.head ≡ (slice_index_or net.old.arcs (k - 1) row).head }
+    requires limits { IsLawfulRow net.old.nodes row }
+    requires fits { ArcFits net.old.demand row }
+    requires certified { IsCertifiedFlow (reduced net.old) flow.old (at_node (drop 1 potentials.old)) }
+    requires idle { IsIdleEntry potentials.old }
+    requires potentials_in { length potentials.old ≡ net.old.nodes + 1 }
+    requires excess_in { length excess.old ≡ net.old.nodes + 1 }
+    requires visits_in { length visits.old ≡ net.old.nodes + 1 }
+    requires cut_in { length cut.old ≡ net.old.nodes + 1 }
+    requires sized { IsQueueFor (net.old.nodes + 1) queue.old }
+    ensures net { net.new ≡ record net.old { arcs = slice_set net.old.arcs (k - 1) row } }
+    ensures rows { AreRowsOf net.new rows.new }
+    ensures idle { IsIdleEntry potentials.new }
+    ensures sized { IsQueueFor (net.new.nodes + 1) queue.new }
+    ensures certified { IsCertifiedFlow (reduced net.new) flow.new (at_node (drop 1 potentials.new)) }
+    ensures verdict { IsVerdict result.1 net.new flow.new (is_marked (drop 1 cut.new)) }
+    ensures changed { IsRowChanged net.old net.new k row (at_node (drop 1 potentials.old)) flow.old flow.new result.0 }
+    ensures greatest { AreGreatestPotentials (reduced net.new) flow.new (at_node (drop 1 potentials.new)) }
+    ensures chosen { IsChosenCut result.1 (reduced net.new) (is_marked (drop 1 cut.new)) }
+{
+    let place = rows.len() - net.arcs() as usize + (k as usize - 1);
+    net.set_row(k, row);
+    replace_row(rows, flow, potentials, place, row);
+    solve(net, rows, flow, potentials, excess, visits, queue, cut)
+}
+
+/// Changes what a node of a least-cost problem has to send out, and settles the flow again; gives the number of pushes
+/// and the verdict.
+pub fn change_supply(
+    net: &mut Network,
+    rows: &[ArcRow],
+    flow: &mut [i64],
+    potentials: &mut [i64],
+    excess: &mut [i64],
+    visits: &mut [Visit],
+    queue: &mut Queue,
+    cut: &mut [bool],
+    id: u32,
+    value: i64,
+) -> (u64, Verdict)
+    requires rows { AreRowsOf net.old rows.now }
+    requires kind { kind_of net.old.demand ≡ Min }
+    requires node { IsNode net.old.nodes id }
+    requires limit { IsWithin SUPPLY_LIMIT value }
+    requires certified { IsCertifiedFlow (reduced net.old) flow.old (at_node (drop 1 potentials.old)) }
+    requires idle { IsIdleEntry potentials.old }
+    requires potentials_in { length potentials.old ≡ net.old.nodes + 1 }
+    requires excess_in { length excess.old ≡ net.old.nodes + 1 }
+    requires visits_in { length visits.old ≡ net.old.nodes + 1 }
+    requires cut_in { length cut.old ≡ net.old.nodes + 1 }
+    requires sized { IsQueueFor (net.old.nodes + 1) queue.old }
+    ensures net { net.new ≡ record net.old { demand = with_supply net.old.demand id value } }
+    ensures rows { AreRowsOf net.new rows.now }
+    ensures idle { IsIdleEntry potentials.new }
+    ensures sized { IsQueueFor (net.new.nodes + 1) queue.new }
+    ensures certified { IsCertifiedFlow (reduced net.new) flow.new (at_node (drop 1 potentials.new)) }
+    ensures verdict { IsVerdict result.1 net.new flow.new (is_marked (drop 1 cut.new)) }
+    ensures changed { IsSupplyChanged net.old net.new id value flow.old flow.new result.0 }
+    ensures greatest { AreGreatestPotentials (reduced net.new) flow.new (at_node (drop 1 potentials.new)) }
+    ensures chosen { IsChosenCut result.1 (reduced net.new) (is_marked (drop 1 cut.new)) }
+{
+    net.set_supply(id, value);
+    solve(net, rows, flow, potentials, excess, visits, queue, cut)
+}
+
+/// Exchanges the bounds and the cost of the arc with this number, counted from 1.
+pub fn swap_row(net: &mut Network, rows: &mut [ArcRow], k: u32, row: &mut ArcRow)
+    requires rows { AreRowsOf net.old rows.old }
+    requires arc { (1 ≤ k) × (k ≤ length net.old.arcs) }
+    requires tail { row.old.tail ≡ (slice_index_or net.old.arcs (k - 1) row.old).tail }
+    requires head { row.old.head ≡ (slice_index_or net.old.arcs (k - 1) row.old).head }
+    requires limits { IsLawfulRow net.old.nodes row.old }
+    requires fits { ArcFits net.old.demand row.old }
+    ensures net { net.new ≡ record net.old { arcs = slice_set net.old.arcs (k - 1) row.old } }
+    ensures rows { AreRowsOf net.new rows.new }
+    ensures row { row.new ≡ slice_index_or net.old.arcs (k - 1) row.old }
+{
+    let place = rows.len() - net.arcs() as usize + (k as usize - 1);
+    let before = rows[place];
+    net.set_row(k, *row);
+    rows[place] = *row;
+    *row = before;
+}
+
+/// Exchanges what a node of a least-cost problem has to send out.
+pub fn swap_supply(net: &mut Network, rows: &[ArcRow], id: u32, value: &mut i64)
+    requires rows { AreRowsOf net.old rows.now }
+    requires kind { kind_of net.old.demand ≡ Min }
+    requires node { IsNode net.old.nodes id }
+    requires limit { IsWithin SUPPLY_LIMIT value.old }
+    ensures net { net.new ≡ record net.old { demand = with_supply net.old.demand id value.old } }
+    ensures rows { AreRowsOf net.new rows.now }
+    ensures value { value.new ≡ slice_index_or (supplies_in net.old.demand) (id - 1) value.old }
+{
+    let before = supply_at(net, id);
+    net.set_supply(id, *value);
+    *value = before;
 }

@@ -13,6 +13,7 @@ mod residual;
 mod search;
 mod settle;
 mod start;
+mod swaps;
 mod tables;
 mod verdict;
 mod visit;

@@ -1,15 +1,22 @@
 //! The tables of a solver, which have their final size from the start.
 
-ghost use Rattle.std.specs.Prelude.{◌≡◌, pos, ◌≤ℤ◌, IfOk, length};
-ghost use Rattle.network.specs.Flow.{IsCertifiedFlow, total_excess};
-ghost use Rattle.network.specs.Instance.{at_node, is_marked, numbered_flow, reduced};
+ghost use Rattle.std.specs.Prelude.{◌≡◌, pos, ◌≤ℤ◌, IfOk, length, ◌≤◌, ◌-◌, slice_index_or, slice_set, None};
+ghost use Rattle.network.specs.Flow.{IsCertifiedFlow, IsPotential, total_excess};
+ghost use Rattle.network.specs.Instance.{ArcFits, at_node, is_marked, kind_of, numbered_flow, reduced, return_arc_of, with_supply};
 ghost use Rattle.flow_solver.specs.Push.{Pushes};
+ghost use Rattle.dimacs_text.specs.Lawful.{IsLawfulRow, IsNode, IsWithin};
+ghost use Rattle.dimacs_text.specs.declared.problem.TheConstants.{SUPPLY_LIMIT};
+ghost use Rattle.dimacs_text.specs.declared.problem.Kind.TheVariants.{Min};
+ghost use Rattle.flow_solver.specs.Edit.{IsRowChanged, IsSupplyChanged};
 ghost use Rattle.flow_solver.specs.Moment.{IsStart};
+ghost use Rattle.flow_solver.specs.Swap.{IsFlowValue, flow_index, supplies_in};
 ghost use Rattle.flow_solver.specs.Answer.{AreGreatestPotentials, IsChosenCut, IsVerdict};
 
 use crate::answer::solve;
+use crate::edit::{change_row, change_supply, swap_row, swap_supply};
 use crate::queue::Queue;
 use crate::start::{reduced_rows, start_flow};
+use crate::swaps::{exchange, exchange_node};
 use crate::verdict::Verdict;
 use crate::visit::Visit;
 use dimacs_text::ArcRow;
@@ -138,5 +145,132 @@ impl Tables {
         );
         self.verdict = verdict;
         pushes
+    }
+
+    /// Changes the bounds and the cost of the arc with this number, counted from 1, and settles the flow again from where
+    /// it stands: the arc's flow goes to the nearest value that is allowed. Gives the number of pushes after that.
+    pub fn change_row(&mut self, k: u32, row: ArcRow) -> u64
+        requires certified { IsCertifiedFlow (reduced self.old.instance) self.old.flow (at_node self.old.potentials) }
+        requires arc { (1 ≤ k) × (k ≤ length self.old.instance.arcs) }
+        requires tail { row.tail ≡ (slice_index_or self.old.instance.arcs (k - 1) row).tail }
+        requires head { row.head ≡ (slice_index_or self.old.instance.arcs (k - 1) row).head }
+        requires limits { IsLawfulRow self.old.instance.nodes row }
+        requires fits { ArcFits self.old.instance.demand row }
+        ensures instance { self.new.instance ≡ record self.old.instance { arcs = slice_set self.old.instance.arcs (k - 1) row } }
+        ensures certified { IsCertifiedFlow (reduced self.new.instance) self.new.flow (at_node self.new.potentials) }
+        ensures verdict { IsVerdict self.new.verdict self.new.instance self.new.flow (is_marked self.new.cut) }
+        ensures changed { IsRowChanged self.old.instance self.new.instance k row (at_node self.old.potentials) self.old.flow self.new.flow result }
+        ensures greatest { AreGreatestPotentials (reduced self.new.instance) self.new.flow (at_node self.new.potentials) }
+        ensures chosen { IsChosenCut self.new.verdict (reduced self.new.instance) (is_marked self.new.cut) }
+    {
+        let (pushes, verdict) = change_row(
+            &mut self.net,
+            &mut self.rows,
+            &mut self.flow,
+            &mut self.potentials,
+            &mut self.excess,
+            &mut self.visits,
+            &mut self.queue,
+            &mut self.cut,
+            k,
+            row,
+        );
+        self.verdict = verdict;
+        pushes
+    }
+
+    /// Changes what a node of a least-cost problem has to send out, and settles the flow again from where it stands.
+    /// Gives the number of pushes.
+    pub fn change_supply(&mut self, id: u32, value: i64) -> u64
+        requires certified { IsCertifiedFlow (reduced self.old.instance) self.old.flow (at_node self.old.potentials) }
+        requires kind { kind_of self.old.instance.demand ≡ Min }
+        requires node { IsNode self.old.instance.nodes id }
+        requires limit { IsWithin SUPPLY_LIMIT value }
+        ensures instance { self.new.instance ≡ record self.old.instance { demand = with_supply self.old.instance.demand id value } }
+        ensures certified { IsCertifiedFlow (reduced self.new.instance) self.new.flow (at_node self.new.potentials) }
+        ensures verdict { IsVerdict self.new.verdict self.new.instance self.new.flow (is_marked self.new.cut) }
+        ensures changed { IsSupplyChanged self.old.instance self.new.instance id value self.old.flow self.new.flow result }
+        ensures greatest { AreGreatestPotentials (reduced self.new.instance) self.new.flow (at_node self.new.potentials) }
+        ensures chosen { IsChosenCut self.new.verdict (reduced self.new.instance) (is_marked self.new.cut) }
+    {
+        let (pushes, verdict) = change_supply(
+            &mut self.net,
+            &self.rows,
+            &mut self.flow,
+            &mut self.potentials,
+            &mut self.excess,
+            &mut self.visits,
+            &mut self.queue,
+            &mut self.cut,
+            id,
+            value,
+        );
+        self.verdict = verdict;
+        pushes
+    }
+
+    /// Exchanges the flow of the arc with this number, counted from 1.
+    pub fn swap_flow(&mut self, k: u32, value: &mut i64)
+        requires there { (1 ≤ k) × (k ≤ length self.old.instance.arcs) }
+        requires flow { IsFlowValue value.old }
+        ensures moment { self.new ≡ record self.old { flow = slice_set self.old.flow (flow_index self.old.instance.demand k) value.old } }
+        ensures value { value.new ≡ slice_index_or self.old.flow (flow_index self.old.instance.demand k) value.old }
+    {
+        let place = self.rows.len() - self.net.arcs() as usize + (k as usize - 1);
+        exchange(&mut self.flow, place, value);
+    }
+
+    /// Exchanges the potential of a node.
+    pub fn swap_potential(&mut self, id: u32, value: &mut i64)
+        requires node { IsNode self.old.instance.nodes id }
+        requires potential { IsPotential value.old }
+        ensures moment { self.new ≡ record self.old { potentials = slice_set self.old.potentials (id - 1) value.old } }
+        ensures value { value.new ≡ slice_index_or self.old.potentials (id - 1) value.old }
+    {
+        exchange_node(&mut self.potentials, id, value);
+    }
+
+    /// Exchanges the mark of a node.
+    pub fn swap_mark(&mut self, id: u32, value: &mut bool)
+        requires { IsNode self.old.instance.nodes id }
+        ensures moment { self.new ≡ record self.old { cut = slice_set self.old.cut (id - 1) value.old } }
+        ensures value { value.new ≡ slice_index_or self.old.cut (id - 1) value.old }
+    {
+        exchange_node(&mut self.cut, id, value);
+    }
+
+    /// Exchanges what is told of an instance that has no return arc.
+    pub fn swap_verdict(&mut self, verdict: &mut Verdict)
+        requires { return_arc_of self.old.instance.demand ≡ None }
+        ensures moment { self.new ≡ record self.old { verdict = verdict.old } }
+        ensures value { verdict.new ≡ self.old.verdict }
+    {
+        let before = self.verdict;
+        self.verdict = *verdict;
+        *verdict = before;
+    }
+
+    /// Exchanges the bounds and the cost of the arc with this number, counted from 1.
+    pub fn swap_row(&mut self, k: u32, row: &mut ArcRow)
+        requires arc { (1 ≤ k) × (k ≤ length self.old.instance.arcs) }
+        requires tail { row.old.tail ≡ (slice_index_or self.old.instance.arcs (k - 1) row.old).tail }
+        requires head { row.old.head ≡ (slice_index_or self.old.instance.arcs (k - 1) row.old).head }
+        requires limits { IsLawfulRow self.old.instance.nodes row.old }
+        requires fits { ArcFits self.old.instance.demand row.old }
+        ensures moment { self.new ≡ record self.old { instance = record self.old.instance { arcs = slice_set self.old.instance.arcs (k - 1) row.old } } }
+        ensures row { row.new ≡ slice_index_or self.old.instance.arcs (k - 1) row.old }
+    {
+        swap_row(&mut self.net, &mut self.rows, k, row);
+    }
+
+    /// Exchanges what a node of a least-cost problem has to send out.
+    pub fn swap_supply(&mut self, id: u32, value: &mut i64)
+        requires kind { kind_of self.old.instance.demand ≡ Min }
+        requires node { IsNode self.old.instance.nodes id }
+        requires limit { IsWithin SUPPLY_LIMIT value.old }
+        ensures moment { self.new ≡ record self.old { instance = record self.old.instance { demand = with_supply self.old.instance.demand id value.old } } }
+        ensures value { value.new ≡ slice_index_or (supplies_in self.old.instance.demand) (id - 1) value.old }
+    {
+        swap_supply(&mut self.net, &self.rows, id, value);
     }
 }

@@ -18,3 +18,4 @@ pub mod Growth
 pub mod ReachBack
 pub mod Labels
 pub mod Opening
+pub mod EditedLemmas

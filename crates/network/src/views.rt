@@ -33,6 +33,13 @@ impl Network {
         self.arcs.len() as u32
     }
 
+    /// How many arcs there may be.
+    pub fn room(&self) -> u32
+        ensures { result ≡ self.now.room }
+    {
+        self.room as u32
+    }
+
     /// The arc with this number, if it is there.
     pub fn arc(&self, k: u32) -> Option<ArcRow>
         ensures { result ≡ arc_at self.now.arcs k }

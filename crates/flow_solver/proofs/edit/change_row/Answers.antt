@@ -1,0 +1,84 @@
+use Rattle.std.proofs.Common.{◌≡◌, ◌∙◌, ◌+◌, ◌-◌, ℕ, ℤ, pos, ◌-ℤ◌, ◌+ℤ◌, ◌≤ℤ◌, List, length, arith, sym, ap, subst, slice_set, slice_index_or, unsigned_abs}
+use Rattle.std.proofs.lemmas.Int.{ints}
+use Rattle.dimacs_text.specs.declared.problem.ArcRow.{ArcRow}
+use Rattle.network.specs.Flow.{total_excess}
+use Rattle.network.specs.Instance.{Instance, IsLawful, reduced}
+use Rattle.flow_solver.specs.Residual.{IsCertified, number_at, arc_at}
+use Rattle.flow_solver.specs.Push.{Pushes}
+use Rattle.flow_solver.specs.Edit.{reduced_cost, IsNearest, place_of}
+use Rattle.flow_solver.proofs.InstanceLemmas.{certified_of}
+use Rattle.flow_solver.proofs.AnswerLemmas.{certified_at}
+use Rattle.flow_solver.proofs.ChangeLemmas.{with_row, lawful_row, rows_changed, row_is, reduced_is, certified_after, excess_changed}
+use Rattle.flow_solver.proofs.edit.change_row.Goals as goal
+use Rattle.flow_solver.proofs.edit.change_row.Goals.{After-set_row, After-replace_row}
+
+place_is : (c : After-set_row) → (length c.args.rows.now - c.arcs.result) + (c.args.k - 1) ≡ place_of c.args.net.now c.args.k
+place_is c = omega (arith, ap (λ (r : List ArcRow). length r) c.requires.rows.rows_are, c.arcs.ensures)
+
+row_there : (c : After-set_row) → arc_at c.args.rows.now ((length c.args.rows.now - c.arcs.result) + (c.args.k - 1)) ≡ slice_index_or c.args.net.now.arcs (c.args.k - 1) c.args.row
+row_there c =
+    ap (arc_at c.args.rows.now) (place_is c) ∙ ap (λ (r : List ArcRow). arc_at r (place_of c.args.net.now c.args.k)) c.requires.rows.rows_are ∙ row_is c.args.net.now c.args.k c.args.row c.requires.arc
+
+certified_before : (c : After-set_row) → IsCertified c.args.rows.now c.args.flow.now c.args.potentials.now
+certified_before c =
+    subst (λ (r : List ArcRow). IsCertified r c.args.flow.now c.args.potentials.now) (sym c.requires.rows.rows_are)
+    (certified_of c.args.net.now c.args.flow.now c.args.potentials.now c.requires.rows.lawful c.requires.potentials_in c.requires.idle (certified_at c.args.net.now c.args.flow.now c.args.potentials.now c.requires.rows.lawful c.requires.certified))
+
+pub replace_row-requires-clause-certified : goal.replace_row-requires-clause-certified
+replace_row-requires-clause-certified c = certified_before (goal.at.replace_row-requires-clause-certified c).After-set_row
+
+pub replace_row-requires-clause-same_tail : goal.replace_row-requires-clause-same_tail
+replace_row-requires-clause-same_tail c = c.requires.tail ∙ ap (λ (a : ArcRow). a.tail) (sym (row_there (goal.at.replace_row-requires-clause-same_tail c).After-set_row))
+
+pub replace_row-requires-clause-same_head : goal.replace_row-requires-clause-same_head
+replace_row-requires-clause-same_head c = c.requires.head ∙ ap (λ (a : ArcRow). a.head) (sym (row_there (goal.at.replace_row-requires-clause-same_head c).After-set_row))
+
+lawful_after : (c : After-replace_row) → IsLawful c.set_row.new.self
+lawful_after c = subst IsLawful (sym c.set_row.ensures) (lawful_row c.args.net.now (c.args.k - 1) c.args.row c.requires.rows.lawful c.requires.limits c.requires.fits)
+
+rows_after : (c : After-replace_row) → c.replace_row.new.rows ≡ (reduced c.set_row.new.self).arcs
+rows_after c =
+    let same : (length c.args.rows.now - c.arcs.result) + (c.args.k - 1) ≡ place_of c.args.net.now c.args.k = omega (arith, ap (λ (r : List ArcRow). length r) c.requires.rows.rows_are, c.arcs.ensures) in
+    c.replace_row.ensures.rows
+    ∙ ap (λ (j : ℕ). slice_set c.args.rows.now j c.args.row) same
+    ∙ ap (λ (r : List ArcRow). slice_set r (place_of c.args.net.now c.args.k) c.args.row) c.requires.rows.rows_are
+    ∙ rows_changed c.args.net.now c.args.k c.args.row
+    ∙ ap (λ (J : Instance). (reduced J).arcs) (sym c.set_row.ensures)
+
+pub solve-requires-clause-lawful : goal.solve-requires-clause-lawful
+solve-requires-clause-lawful c = lawful_after (goal.at.solve-requires-clause-lawful c).After-replace_row
+
+pub solve-requires-clause-rows : goal.solve-requires-clause-rows
+solve-requires-clause-rows c = rows_after (goal.at.solve-requires-clause-rows c).After-replace_row
+
+pub solve-requires-clause-certified : goal.solve-requires-clause-certified
+solve-requires-clause-certified c =
+    let s = (goal.at.solve-requires-clause-certified c).After-replace_row in
+    certified_after c.args.net.now c.set_row.new.self c.args.flow.now c.replace_row.new.flow c.args.potentials.now (lawful_after s) (ap (λ (J : Instance). J.nodes) c.set_row.ensures) c.requires.certified
+    (subst (λ (r : List ArcRow). IsCertified r c.replace_row.new.flow c.args.potentials.now) (rows_after s) c.replace_row.ensures.certified)
+
+pub returns-clause-rows : goal.returns-clause-rows
+returns-clause-rows c =
+    let s = (goal.at.returns-clause-rows c).After-replace_row in
+    record { lawful = lawful_after s; rows_are = rows_after s }
+
+pub returns-clause-changed : goal.returns-clause-changed
+returns-clause-changed c =
+    let s = (goal.at.returns-clause-changed c).After-replace_row in
+    let I = c.args.net.now in
+    let place = place_of I c.args.k in
+    let z = number_at c.replace_row.new.flow place in
+    let p = c.args.potentials.now in
+    let same = place_is (goal.at.returns-clause-changed c).After-set_row in
+    let flow_is : c.replace_row.new.flow ≡ slice_set c.args.flow.now place z = subst (λ (j : ℕ). c.replace_row.new.flow ≡ slice_set c.args.flow.now j (number_at c.replace_row.new.flow j)) same c.replace_row.ensures.flow in
+    let near : IsNearest c.args.row (reduced_cost p c.args.row) (number_at c.args.flow.now place) z = subst (λ (j : ℕ). IsNearest c.args.row (reduced_cost p c.args.row) (number_at c.args.flow.now j) (number_at c.replace_row.new.flow j)) same c.replace_row.ensures.nearest in
+    let most = excess_changed I c.args.flow.now p c.args.k c.args.row z c.requires.rows.lawful c.requires.limits c.requires.fits c.requires.arc c.requires.tail c.requires.head c.requires.potentials_in c.requires.idle c.requires.certified near in
+    let most_after : total_excess (reduced c.set_row.new.self) c.replace_row.new.flow ≤ℤ (total_excess (reduced I) c.args.flow.now +ℤ pos (unsigned_abs (z -ℤ number_at c.args.flow.now place))) =
+    subst (λ (J : Instance). total_excess (reduced J) c.replace_row.new.flow ≤ℤ (total_excess (reduced I) c.args.flow.now +ℤ pos (unsigned_abs (z -ℤ number_at c.args.flow.now place)))) (sym c.set_row.ensures)
+    (subst (λ (x : List ℤ). total_excess (reduced (with_row I (c.args.k - 1) c.args.row)) x ≤ℤ (total_excess (reduced I) c.args.flow.now +ℤ pos (unsigned_abs (z -ℤ number_at c.args.flow.now place)))) (sym flow_is) most) in
+    record {
+      after = z;
+      nearest = subst (λ (r : ℤ). IsNearest c.args.row r (number_at c.args.flow.now place) z) (sym (reduced_is I.nodes p c.args.row c.requires.limits)) near;
+      pushes = subst (λ (x : List ℤ). Pushes (reduced c.set_row.new.self).arcs (reduced c.set_row.new.self).supply c.solve.result.0 x c.solve.new.flow) flow_is c.solve.ensures.pushes;
+      count = omega (arith, ints, c.solve.ensures.count, most_after);
+    }
