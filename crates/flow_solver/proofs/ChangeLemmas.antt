@@ -1,10 +1,11 @@
 -- What a change of the instance leaves of its tables, its flow and its excesses.
-use Rattle.std.proofs.Common.{◌≡◌, ℕ, zero, suc, ◌+◌, ◌-◌, ◌<◌, ◌≤◌, ℤ, pos, ◌-ℤ◌, ◌+ℤ◌, ◌≤ℤ◌, List, [], ◌∷◌, length, drop, refl, sym, ap, subst, ◌∙◌, inl, inr, arith, slice_set, slice_index_or, unsigned_abs, All}
+use Rattle.std.proofs.Common.{◌≡◌, ℕ, zero, suc, ◌+◌, ◌-◌, ◌<◌, ◌≤◌, ℤ, pos, ◌-ℤ◌, ◌+ℤ◌, ◌≤ℤ◌, List, [], ◌∷◌, length, drop, refl, sym, ap, subst, ◌∙◌, inl, inr, arith, slice_set, slice_index_or, unsigned_abs, All, ◌++◌, take}
 use Rattle.std.specs.List.{AllZip}
 use Rattle.std.proofs.lemmas.Int.{ints}
 use Rattle.std.proofs.lemmas.Bool.{cases_lt, cases_eq}
-use Rattle.std.proofs.lemmas.List.{length-set, get_or_default, get_or_past, get_or-set_same, get_or-set_other}
-use Rattle.std.proofs.lemmas.List.Elements.{All-set}
+use Rattle.std.proofs.lemmas.List.{length-set, get_or_default, get_or_past, length-append, get_or_append_left, get_or-set_same, get_or-set_other}
+use Rattle.std.proofs.lemmas.List.Elements.{All-set, All-push}
+use Rattle.std.proofs.Math.Seq.{take-append_seam}
 use Rattle.dimacs_text.specs.declared.problem.ArcRow.{ArcRow}
 use Rattle.dimacs_text.specs.Lawful.{IsLawfulRow, IsWithin}
 use Rattle.dimacs_text.specs.declared.problem.TheConstants.{SUPPLY_LIMIT}
@@ -24,7 +25,7 @@ use Rattle.flow_solver.proofs.ExcessLemmas.{left-gain, at_node_bounds}
 use Rattle.flow_solver.proofs.FlowLaws.{certified_flow}
 use Rattle.flow_solver.proofs.PushLaws.{left_is}
 use Rattle.flow_solver.proofs.EditLemmas.{net_replaced, left-carried}
-use Rattle.flow_solver.proofs.InstanceLemmas.{row_in_tables, certified_of}
+use Rattle.flow_solver.proofs.InstanceLemmas.{row_in_tables, certified_of, rows_push}
 use Rattle.flow_solver.proofs.AnswerLemmas.{agrees_at, certified_at}
 
 -- ---- the instance and its rows
@@ -229,3 +230,39 @@ pub supply_entry : (n : ℕ) (D : Demand) (v : ℕ) (d : ℤ) → kind_of D ≡ 
 supply_entry n (Supplies s) v d kind fits node = get_or_default s (v - 1) (pos 0) d (omega (arith, fits.0, node.0, node.1))
 supply_entry n (Terminals source sink) v d kind fits node = cc
 supply_entry n (Sides marks) v d kind fits node = cc
+
+-- ---- one arc more or less at the end
+
+-- the instance with an arc more
+abbrev pub with_last : Instance → ArcRow → Instance
+with_last I row = record { nodes = I.nodes; demand = I.demand; arcs = I.arcs ++ row ∷ []; room = I.room }
+
+pub lawful_more : (I : Instance) (row : ArcRow) → IsLawful I → length I.arcs < I.room → IsLawfulRow I.nodes row → ArcFits I.demand row → IsLawful (with_last I row)
+lawful_more I row lawful free limits fits = record {
+  nodes = lawful.nodes;
+  demand = lawful.demand;
+  arcs = All-push (λ arc. IsLawfulRow I.nodes arc × ArcFits I.demand arc) I.arcs row lawful.arcs (limits, fits);
+  count = omega (arith, length-append I.arcs (row ∷ []));
+  room = lawful.room;
+}
+
+pub lawful_less : (I : Instance) (row : ArcRow) → IsLawful (with_last I row) → IsLawful I
+lawful_less I row lawful =
+    let more = length-append I.arcs (row ∷ []) in
+    record {
+      nodes = lawful.nodes;
+      demand = lawful.demand;
+      arcs = λ k d h. rw (get_or_append_left I.arcs (row ∷ []) d k h) at (lawful.arcs k d (omega arith));
+      count = omega (arith, lawful.count);
+      room = lawful.room;
+    }
+
+pub rows_more : (I : Instance) (row : ArcRow) → (reduced I).arcs ++ row ∷ [] ≡ (reduced (with_last I row)).arcs
+rows_more I row = rows_push I.demand I.arcs row
+
+pub rows_less : (I : Instance) (row : ArcRow) → take (length (reduced (with_last I row)).arcs - 1) (reduced (with_last I row)).arcs ≡ (reduced I).arcs
+rows_less I row =
+    let more = length-append (reduced I).arcs (row ∷ []) in
+    let same = rows_more I row in
+    let count : length (reduced (with_last I row)).arcs - 1 ≡ length (reduced I).arcs = omega (arith, ap (λ (r : List ArcRow). length r) same) in
+    ap (λ (n : ℕ). take n (reduced (with_last I row)).arcs) count ∙ ap (λ (r : List ArcRow). take (length (reduced I).arcs) r) (sym same) ∙ take-append_seam (reduced I).arcs (row ∷ [])

@@ -1,5 +1,5 @@
 -- What the tables of a solver hold of an instance.
-use Rattle.std.specs.Prelude.{◌≡◌, ◌+◌, ℤ, pos, int_lt, Bool, List, length, map, replicate, if◌then◌else◌}
+use Rattle.std.specs.Prelude.{◌≡◌, ℕ, ◌+◌, ◌≤◌, ℤ, pos, int_lt, Bool, List, length, map, replicate, if◌then◌else◌}
 use Rattle.dimacs_text.specs.declared.problem.ArcRow.{ArcRow}
 use Rattle.network.specs.Instance.{Instance, IsLawful, reduced}
 use Rattle.flow_solver.specs.declared.verdict.Verdict.{Verdict}
@@ -16,8 +16,13 @@ pub record Moment : Type 0 where
   pub verdict : Verdict
   pub cut : List Bool
 
+-- one potential and one mark for each node
+pub record IsSized (m : Moment) : Type 0 where
+  pub one_potential : length m.potentials ≡ m.instance.nodes
+  pub one_mark : length m.cut ≡ m.instance.nodes
+
 -- one entry for each row, one for each node and one for no node, and the rows are the arcs of the reduced instance
-pub record AreTables (I : Instance) (rows : List ArcRow) (flow potentials excess : List ℤ) (cut : List Bool) (visits : List Visit) (queue : Queue) : Type 0 where
+pub record AreTables (I : Instance) (rows : List ArcRow) (flow potentials excess : List ℤ) (cut : List Bool) (visits : List Visit) (queue : Queue) (rows_room flow_room : ℕ) : Type 0 where
   pub lawful : IsLawful I
   pub rows_are : rows ≡ (reduced I).arcs
   pub flow_in : length flow ≡ length rows
@@ -27,6 +32,8 @@ pub record AreTables (I : Instance) (rows : List ArcRow) (flow potentials excess
   pub cut_in : length cut ≡ I.nodes + 1
   pub visits_in : length visits ≡ I.nodes + 1
   pub sized : IsQueueFor (I.nodes + 1) queue
+  pub rows_fit : I.room + 1 ≤ rows_room
+  pub flow_fits : I.room + 1 ≤ flow_room
 
 -- the flow of an arc at the start: its cap where its cost is below 0, else its low
 abbrev pub start : ArcRow → ℤ

@@ -1,6 +1,6 @@
 //! Changes of an instance, from the flow that stands.
 
-ghost use Rattle.std.specs.Prelude.{◌≡◌, ℕ, ◌+◌, ◌-◌, ◌<◌, ◌≤◌, drop, length, slice_index_or, slice_set};
+ghost use Rattle.std.specs.Prelude.{◌≡◌, ℕ, ◌+◌, ◌-◌, ◌<◌, ◌≤◌, drop, length, slice_index_or, slice_set, ◌++◌, ◌∷◌, [], vec_capacity};
 ghost use Rattle.dimacs_text.specs.Lawful.{IsLawfulRow, IsNode, IsWithin};
 ghost use Rattle.dimacs_text.specs.declared.problem.TheConstants.{SUPPLY_LIMIT};
 ghost use Rattle.dimacs_text.specs.declared.problem.Kind.TheVariants.{Min};
@@ -176,4 +176,36 @@ pub fn swap_supply(net: &mut Network, rows: &[ArcRow], id: u32, value: &mut i64)
     let before = supply_at(net, id);
     net.set_supply(id, *value);
     *value = before;
+}
+
+/// Takes the last arc off.
+pub fn drop_row(net: &mut Network, rows: &mut Vec<ArcRow>) -> ArcRow
+    requires rows { AreRowsOf net.old rows.old.items }
+    requires some { 0 < length net.old.arcs }
+    ensures net { net.old ≡ record net.new { arcs = net.new.arcs ++ result ∷ [] } }
+    ensures rows { AreRowsOf net.new rows.new.items }
+    ensures one_less { length rows.new.items + 1 ≡ length rows.old.items }
+    ensures room { vec_capacity rows.old ≤ vec_capacity rows.new }
+{
+    let row = net.pop_arc();
+    let _ = rows.pop();
+    row
+}
+
+/// Adds an arc at the end, for which there is room.
+pub fn put_row(net: &mut Network, rows: &mut Vec<ArcRow>, row: ArcRow)
+    requires rows { AreRowsOf net.old rows.old.items }
+    requires room { length net.old.arcs < net.old.room }
+    requires rows_room { net.old.room + 1 ≤ vec_capacity rows.old }
+    requires limits { IsLawfulRow net.old.nodes row }
+    requires fits { ArcFits net.old.demand row }
+    ensures net { net.new ≡ record net.old { arcs = net.old.arcs ++ row ∷ [] } }
+    ensures rows { AreRowsOf net.new rows.new.items }
+    ensures one_more { length rows.new.items ≡ length rows.old.items + 1 }
+    ensures capacity { vec_capacity rows.old ≤ vec_capacity rows.new }
+{
+    net.push_arc(row);
+    let Ok(()) = rows.push(row) else {
+        unreachable!()
+    };
 }

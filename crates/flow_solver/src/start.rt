@@ -1,6 +1,6 @@
 //! What the tables begin with.
 
-ghost use Rattle.std.specs.Prelude.{◌≡◌, [], IfOk, map};
+ghost use Rattle.std.specs.Prelude.{◌≡◌, ◌+◌, ◌≤◌, [], IfOk, map, vec_capacity};
 ghost use Rattle.network.specs.Instance.{reduced, reduced_arcs};
 ghost use Rattle.flow_solver.specs.Moment.{start};
 
@@ -8,20 +8,22 @@ use dimacs_text::ArcRow;
 use network::Network;
 use std::alloc::{AllocError, Global};
 
-/// A table with the return arc, where there is one.
+/// A table with the return arc, where there is one, and with room for all arcs.
 fn return_row(alloc: Global, net: &Network) -> Result<Vec<ArcRow>, AllocError>
-    ensures { IfOk result (λ rows. rows.items ≡ reduced_arcs net.now.demand []) }
+    ensures rows { IfOk result (λ rows. rows.items ≡ reduced_arcs net.now.demand []) }
+    ensures room { IfOk result (λ rows. net.now.room + 1 ≤ vec_capacity rows) }
 {
-    let mut rows = Vec::with_capacity(alloc, net.arcs() as usize + 1)?;
+    let mut rows = Vec::with_capacity(alloc, net.room() as usize + 1)?;
     if let Some(row) = net.return_arc() {
         rows.push(row)?;
     }
     Ok(rows)
 }
 
-/// The arcs of the reduced instance, in order.
+/// The arcs of the reduced instance, in order, with room for all that may be added.
 pub fn reduced_rows(alloc: Global, net: &Network) -> Result<Vec<ArcRow>, AllocError>
-    ensures { IfOk result (λ rows. rows.items ≡ (reduced net.now).arcs) }
+    ensures rows { IfOk result (λ rows. rows.items ≡ (reduced net.now).arcs) }
+    ensures room { IfOk result (λ rows. net.now.room + 1 ≤ vec_capacity rows) }
 {
     let mut rows = return_row(alloc, net)?;
     for k in 0..net.arcs() {
@@ -40,9 +42,14 @@ fn start(row: &ArcRow) -> i64
     if row.cost < 0 { row.cap } else { row.low }
 }
 
-/// The start flow.
-pub fn start_flow(alloc: Global, rows: &[ArcRow]) -> Result<Vec<i64>, AllocError>
-    ensures { IfOk result (λ flow. flow.items ≡ map start rows.now) }
+/// The start flow, with room for so many arcs.
+pub fn start_flow(alloc: Global, rows: &[ArcRow], room: usize) -> Result<Vec<i64>, AllocError>
+    ensures flow { IfOk result (λ flow. flow.items ≡ map start rows.now) }
+    ensures room { IfOk result (λ flow. room ≤ vec_capacity flow) }
 {
-    rows.iter().map(|row| start(row)).collect(alloc)
+    let mut flow = Vec::with_capacity(alloc, room)?;
+    for row in rows {
+        flow.push(start(row))?;
+    }
+    Ok(flow)
 }

@@ -1,6 +1,6 @@
 //! The tables of a solver, which have their final size from the start.
 
-ghost use Rattle.std.specs.Prelude.{◌≡◌, pos, ◌≤ℤ◌, IfOk, length, ◌≤◌, ◌-◌, slice_index_or, slice_set, None};
+ghost use Rattle.std.specs.Prelude.{◌≡◌, pos, ◌≤ℤ◌, IfOk, length, ◌≤◌, ◌-◌, slice_index_or, slice_set, None, ◌<◌, ◌++◌, ◌∷◌, [], ◌+◌};
 ghost use Rattle.network.specs.Flow.{IsCertifiedFlow, IsPotential, total_excess};
 ghost use Rattle.network.specs.Instance.{ArcFits, at_node, is_marked, kind_of, numbered_flow, reduced, return_arc_of, with_supply};
 ghost use Rattle.flow_solver.specs.Push.{Pushes};
@@ -8,18 +8,18 @@ ghost use Rattle.dimacs_text.specs.Lawful.{IsLawfulRow, IsNode, IsWithin};
 ghost use Rattle.dimacs_text.specs.declared.problem.TheConstants.{SUPPLY_LIMIT};
 ghost use Rattle.dimacs_text.specs.declared.problem.Kind.TheVariants.{Min};
 ghost use Rattle.flow_solver.specs.Edit.{IsRowChanged, IsSupplyChanged};
-ghost use Rattle.flow_solver.specs.Moment.{IsStart};
+ghost use Rattle.flow_solver.specs.Moment.{IsSized, IsStart};
 ghost use Rattle.flow_solver.specs.Swap.{IsFlowValue, flow_index, supplies_in};
 ghost use Rattle.flow_solver.specs.Answer.{AreGreatestPotentials, IsChosenCut, IsVerdict};
 
 use crate::answer::solve;
-use crate::edit::{change_row, change_supply, swap_row, swap_supply};
+use crate::edit::{change_row, change_supply, drop_row, put_row, swap_row, swap_supply};
 use crate::queue::Queue;
 use crate::start::{reduced_rows, start_flow};
 use crate::swaps::{exchange, exchange_node};
 use crate::verdict::Verdict;
 use crate::visit::Visit;
-use dimacs_text::ArcRow;
+use dimacs_text::{ArcRow, NODE_LIMIT};
 use network::Network;
 use std::alloc::{AllocError, Global};
 use std::marker::Model;
@@ -39,14 +39,14 @@ pub struct Tables {
 }
 
 impl Model for Tables {
-    ghost use Rattle.std.specs.Prelude.{drop};
+    ghost use Rattle.std.specs.Prelude.{drop, vec_capacity};
     ghost use Rattle.flow_solver.specs.Moment.{Moment, AreTables};
 
     ghost Value = { Moment };
 
     ghost view = { λ t. record { instance = t.net; flow = t.flow.items; potentials = drop 1 t.potentials.items; verdict = t.verdict; cut = drop 1 t.cut.items } };
 
-    ghost invariant = { λ t. AreTables t.net t.rows.items t.flow.items t.potentials.items t.excess.items t.cut.items t.visits.items t.queue };
+    ghost invariant = { λ t. AreTables t.net t.rows.items t.flow.items t.potentials.items t.excess.items t.cut.items t.visits.items t.queue (vec_capacity t.rows) (vec_capacity t.flow) };
 }
 
 impl Tables {
@@ -62,7 +62,7 @@ impl Tables {
     {
         let entries = net.nodes() as usize + 1;
         let rows = reduced_rows(alloc, &net)?;
-        let flow = start_flow(alloc, &rows)?;
+        let flow = start_flow(alloc, &rows, net.room() as usize + 1)?;
         let potentials = vec![in alloc; 0; entries]?;
         let excess = vec![in alloc; 0; entries]?;
         let cut = vec![in alloc; false; entries]?;
@@ -101,6 +101,7 @@ impl Tables {
     pub fn potentials(&self) -> &[i64]
         ensures value { result.now ≡ self.now.potentials }
         ensures one_a_node { length result.now ≡ self.now.instance.nodes }
+        ensures few { length result.now ≤ NODE_LIMIT }
     {
         &self.potentials[1..]
     }
@@ -109,6 +110,7 @@ impl Tables {
     pub fn cut(&self) -> &[bool]
         ensures value { result.now ≡ self.now.cut }
         ensures one_a_node { length result.now ≡ self.now.instance.nodes }
+        ensures few { length result.now ≤ NODE_LIMIT }
     {
         &self.cut[1..]
     }
@@ -126,6 +128,7 @@ impl Tables {
     pub fn settle(&mut self) -> u64
         requires { IsCertifiedFlow (reduced self.old.instance) self.old.flow (at_node self.old.potentials) }
         ensures instance { self.new.instance ≡ self.old.instance }
+        ensures sized { IsSized self.new }
         ensures certified { IsCertifiedFlow (reduced self.new.instance) self.new.flow (at_node self.new.potentials) }
         ensures verdict { IsVerdict self.new.verdict self.new.instance self.new.flow (is_marked self.new.cut) }
         ensures pushes { Pushes (reduced self.old.instance).arcs (reduced self.old.instance).supply result self.old.flow self.new.flow }
@@ -272,5 +275,36 @@ impl Tables {
         ensures value { value.new ≡ slice_index_or (supplies_in self.old.instance.demand) (id - 1) value.old }
     {
         swap_supply(&mut self.net, &self.rows, id, value);
+    }
+
+    /// Takes the last arc off, and gives its row and its flow.
+    pub fn drop_last(&mut self) -> (ArcRow, i64)
+        requires { 0 < length self.old.instance.arcs }
+        ensures instance { self.old.instance ≡ record self.new.instance { arcs = self.new.instance.arcs ++ result.0 ∷ [] } }
+        ensures flow { self.old.flow ≡ self.new.flow ++ result.1 ∷ [] }
+        ensures rest { self.new ≡ record self.old { instance = self.new.instance; flow = self.new.flow } }
+    {
+        let row = drop_row(&mut self.net, &mut self.rows);
+        let Some(flow) = self.flow.pop() else {
+            unreachable!()
+        };
+        (row, flow)
+    }
+
+    /// Adds an arc with its flow at the end. The room for it was taken at the start.
+    pub fn put_last(&mut self, row: ArcRow, flow: i64)
+        requires room { length self.old.instance.arcs < self.old.instance.room }
+        requires limits { IsLawfulRow self.old.instance.nodes row }
+        requires fits { ArcFits self.old.instance.demand row }
+        requires flow { IsFlowValue flow }
+        ensures { self.new ≡ record self.old {
+          instance = record self.old.instance { arcs = self.old.instance.arcs ++ row ∷ [] };
+          flow = self.old.flow ++ flow ∷ [];
+        } }
+    {
+        put_row(&mut self.net, &mut self.rows, row);
+        let Ok(()) = self.flow.push(flow) else {
+            unreachable!()
+        };
     }
 }

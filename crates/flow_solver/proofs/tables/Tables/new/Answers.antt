@@ -10,6 +10,6 @@ returns-clause-certified c =
     let I = c.args.net in
     let potentials = c.in_ok-potentials.potentials.items in
     let zeros : c.in_ok-potentials.potentials.items ≡ replicate (c.nodes.result + 1) (pos 0) = search rules in
-    let flow : c.in_ok-flow.flow.items ≡ map start (reduced I).arcs = c.in_ok-flow.ensures ∙ ap (map start) (c.deref.ensures.value ∙ c.in_ok-rows.ensures) in
+    let flow : c.in_ok-flow.flow.items ≡ map start (reduced I).arcs = c.in_ok-flow.ensures.flow ∙ ap (map start) (c.deref.ensures.value ∙ c.in_ok-rows.ensures.rows) in
     subst (λ (x : List ℤ). IsCertifiedFlow (reduced I) x (at_node (drop 1 potentials))) (sym flow)
     (start_certified I (at_node (drop 1 potentials)) c.nodes.ensures.lawful (λ v. ap (λ (p : List ℤ). at_node (drop 1 p) v) zeros ∙ zero_entries (c.nodes.result + 1) v))
