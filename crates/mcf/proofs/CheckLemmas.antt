@@ -1,6 +1,5 @@
 -- What a whole check has written, by where it ends.
-use Rattle.std.proofs.Common.{◌≡◌, ◌≢◌, ◌↔◌, IsTrue, ℕ, ◌+◌, ◌-◌, Bool, true, false, List, [], ◌++◌, length, take, Option, None, Some, Result, Ok, Err, inl, inr, refl, sym, ap, ◌∙◌, arith, append-nil, if◌then◌else◌, subst}
-use Rattle.std.proofs.lemmas.List.{take_at}
+use Rattle.std.proofs.Common.{◌≡◌, ◌≢◌, ◌↔◌, IsTrue, ℕ, ◌+◌, ◌-◌, Bool, true, false, List, [], length, take, Option, None, Some, Result, Ok, Err, inl, inr, refl, sym, ap, ◌∙◌, arith, append-nil, if◌then◌else◌, subst}
 use Rattle.std.specs.Io.KnownBytes.{Appends, Consumes, IsAtEnd}
 use Rattle.dimacs_io.specs.Device.{AppendsBeginning}
 use Rattle.dimacs_text.specs.declared.answer.Answer.{Answer}
@@ -9,41 +8,18 @@ use Rattle.dimacs_text.specs.declared.fault.TextFault.TheVariants as text_fault
 use Rattle.dimacs_text.specs.Stream.{decided}
 use Rattle.dimacs_text.specs.Reading.{ProblemValue, problem_rule, reads}
 use Rattle.dimacs_text.specs.Answer.{answer_rule, answers}
-use Rattle.dimacs_text.proofs.ReadLemmas.{problem_always}
 use Rattle.dimacs_text.proofs.AnswerLemmas.{answer_always}
 use Rattle.mcf.specs.declared.end.Text.{Text}
 use Rattle.mcf.specs.declared.end.Text.TheVariants as the
 use Rattle.mcf.specs.declared.end.End.{End}
-use Rattle.mcf.specs.declared.end.End.TheVariants.{Valid, NotValid, Refused, ReadFailed, WriteFailed, Memory}
+use Rattle.mcf.specs.declared.end.End.TheVariants.{Valid, NotValid, WriteFailed, Memory}
 use Rattle.mcf.specs.declared.read.ReadError.{ReadError}
 use Rattle.mcf.specs.declared.read.ReadError.TheVariants as read_error
 use Rattle.mcf.specs.Reading.{Gives, ReadsText, CountsRead, end_of}
+use Rattle.mcf.proofs.SourceLemmas.{text_at_end, text_given, all_given, problem_text, reads_decided, appended}
 use Rattle.mcf.specs.Check.{IsProblemText, IsAnswerText, Judges, CheckWrites, CheckTells, IsRight, Settles, ValidSettles, problem_failures, answer_failures, write_failures, verdict_line}
 
 -- ---- the bytes that came
-
--- a source that came to its end gave its whole text
-text_at_end : (text given : List ℕ) (rest : Option (List ℕ)) → Consumes (Some text) rest given → IsAtEnd rest → text ≡ given
-text_at_end text given None gave end = absurd gave
-text_at_end text given (Some rest) gave end = gave ∙ ap (λ l. given ++ l) end ∙ append-nil given
-
--- what came are the first bytes of the text
-text_given : (text given : List ℕ) (rest : Option (List ℕ)) (left_old left_new : ℕ) → Gives (Some text) rest given left_old left_new → take (left_old - left_new) text ≡ given
-text_given text given None left_old left_new gives = absurd gives.bytes
-text_given text given (Some rest) left_old left_new gives =
-    let count : left_old - left_new ≡ length given = omega (arith, gives.count) in
-    rw (count, gives.bytes) (take_at given rest (length given) refl)
-
--- all of the text came
-all_given : (text given : List ℕ) (rest : Option (List ℕ)) (left_old left_new : ℕ) → Gives (Some text) rest given left_old left_new → IsAtEnd rest → take (left_old - left_new) text ≡ text
-all_given text given rest left_old left_new gives end = text_given text given rest left_old left_new gives ∙ sym (text_at_end text given rest gives.bytes end)
-
-problem_text : (text given : List ℕ) (rest : Option (List ℕ)) (left_old left_new : ℕ) (problem : ProblemValue) → Gives (Some text) rest given left_old left_new
-    → IsAtEnd rest → reads given ≡ Ok problem → IsProblemText text (take (left_old - left_new) text) problem
-problem_text text given rest left_old left_new problem gives end is = record {
-  whole = all_given text given rest left_old left_new gives end;
-  problem_is = ap reads (text_at_end text given rest gives.bytes end) ∙ is;
-}
 
 answer_text : (problem : ProblemValue) (text given : List ℕ) (rest : Option (List ℕ)) (left_old left_new : ℕ) (answer : Answer) → Gives (Some text) rest given left_old left_new
     → IsAtEnd rest → answers problem.nodes (length problem.arcs) given ≡ Ok answer → IsAnswerText problem text (take (left_old - left_new) text) answer
@@ -53,10 +29,6 @@ answer_text problem text given rest left_old left_new answer gives end is = reco
 }
 
 -- a fault that is decided stays
-reads_decided : (text given : List ℕ) (rest : Option (List ℕ)) (f : TextFault) → Consumes (Some text) rest given → decided problem_rule given ≡ Some f → reads text ≡ Err f
-reads_decided text given None f gave e = absurd gave
-reads_decided text given (Some rest) f gave e = rw gave (problem_always given rest f e)
-
 answers_decided : (nodes arcs : ℕ) (text given : List ℕ) (rest : Option (List ℕ)) (f : TextFault) → Consumes (Some text) rest given
     → decided (answer_rule nodes arcs) given ≡ Some f → answers nodes arcs text ≡ Err f
 answers_decided nodes arcs text given None f gave e = absurd gave
@@ -68,12 +40,6 @@ pub ReadsText-sized : (nodes arcs n a : ℕ) → nodes ≡ n → arcs ≡ a → 
 ReadsText-sized nodes arcs n a p q result given rest is =
     let P : ℕ → ℕ → Type 0 = λ n a. ReadsText (decided (answer_rule n a)) (answers n a) result given rest in
     subst (λ a. P n a) q (subst (λ n. P n arcs) p is)
-
--- ---- the bytes that were written
-
-appended : (held written : List ℕ) (after : Option (List ℕ)) → Appends (Some held) after written → after ≡ Some (held ++ written)
-appended held written None more = absurd more
-appended held written (Some all) more = ap (λ l. Some l) more
 
 -- ---- the ends
 

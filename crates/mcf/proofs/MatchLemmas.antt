@@ -1,8 +1,9 @@
 -- What the getters of a parse say of its rows.
-use Rattle.std.proofs.Common.{◌≡◌, true, List, Option, None, Some, refl, sym, ap, ap₂, ◌∙◌}
-use Rattle.std.specs.Prelude.{option_map, Box}
+use Rattle.std.proofs.Common.{◌≡◌, ℕ, Bool, true, false, List, length, Option, None, Some, Result, Ok, Err, refl, sym, ap, ap₂, ◌∙◌, arith}
+use Rattle.std.specs.Prelude.{option_map, unwrap_or, codes, ◌↔◌, Box}
 use Rattle.std.specs.Box.{box_value}
-use Rattle.clap.specs.Words.{App, Row, Text, is_simple, subcommand_of, subcommand_rows}
+use Rattle.std.specs.Str.Parse.{ParsesBool}
+use Rattle.clap.specs.Words.{App, Row, Text, ReadsOne, is_simple, subcommand_of, subcommand_rows}
 use Rattle.clap.specs.declared.parser.matches.SubCommand.{SubCommand}
 use Rattle.clap.specs.declared.parser.matches.ArgMatches.TheViews.{out-SubCommand}
 use Rattle.clap.proofs.OnLiterals.{clap_on_literals}
@@ -14,6 +15,26 @@ program_is_simple = refl
 
 some_same : {A : Type 0} (x y : A) → Some x ≡ Some y → x ≡ y
 some_same x y e = cc
+
+false_text_differs : codes "false" ≡ codes "true" → ⊥
+false_text_differs e =
+    let five : ◌≡◌ {A = ℕ} 5 4 = ap length e in
+    omega arith
+
+-- a flag is set where its text is `true`
+pub flag_is : {E : Type 0} (gives : List ℕ → Result Bool E → Type 0) (said : Option Text) (read : Option Bool) (set : Bool)
+    → ((text : List ℕ) (r : Result Bool E) → gives text r → ParsesBool text r) → (said ≡ None → read ≡ None)
+    → ((text : List ℕ) → said ≡ Some text → ReadsOne gives text read) → set ≡ unwrap_or read false → (set ≡ true) ↔ (said ≡ Some (codes "true"))
+flag_is gives None read set says none value e =
+    let nothing : read ≡ None = none refl in
+    let off : set ≡ false = rw nothing at e in
+    (λ on. cc, λ on. cc)
+flag_is gives (Some text) None set says none value e =
+    let other = value text refl in
+    (λ on. cc, λ on. absurd ((says text (Err other.0) other.1).0 (some_same text (codes "true") on)))
+flag_is gives (Some text) (Some true) set says none value e = (λ on. ap (λ t. Some t) (says text (Ok true) (value text refl)), λ on. e)
+flag_is gives (Some text) (Some false) set says none value e =
+    (λ on. cc, λ on. absurd (false_text_differs (sym (says text (Ok false) (value text refl)) ∙ some_same text (codes "true") on)))
 
 -- the subcommand that was used, by its name and its rows
 module _ {Z : Type 0} where

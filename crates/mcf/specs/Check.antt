@@ -1,5 +1,5 @@
 -- When an answer is right, and what `check` writes of it.
-use Rattle.std.specs.Prelude.{◌≡◌, ℕ, ℤ, ◌-◌, ◌↔◌, IsTrue, Bool, true, false, List, [], ◌∷◌, ◌++◌, length, take, map, replicate, set, Option, None, Some, Result, Ok, Err, IfSome, codes}
+use Rattle.std.specs.Prelude.{◌≡◌, ℕ, ℤ, ◌-◌, ◌↔◌, IsTrue, Bool, true, false, List, [], ◌∷◌, ◌++◌, length, take, map, replicate, set, Option, None, Some, Ok, Err, IfSome, codes}
 use Rattle.std.specs.List.{AllZip}
 use Rattle.dimacs_io.specs.Device.{IsBeginning}
 use Rattle.dimacs_text.specs.declared.problem.ArcRow.{ArcRow}

@@ -2,3 +2,5 @@ pub mod End
 pub mod Reading
 pub mod Check
 pub mod Tasks
+pub mod Printing
+pub mod Solve

@@ -1,15 +1,26 @@
 -- The commands of the program, and the task that the matches of a command line name.
-use Rattle.std.specs.Prelude.{◌≡◌, List, Option, Some, codes}
+use Rattle.std.specs.Prelude.{◌≡◌, ◌↔◌, true, List, Option, Some, codes, option_map}
 use Rattle.clap.specs.Simple.{on_top}
-use Rattle.clap.specs.Words.{App, Row, Rule, Text, first_of, new_app, new_rule, with_rule, with_subcommand}
-use Rattle.clap.specs.declared.builder.ArgAction.TheVariants.{Set}
-use Rattle.std.specs.Prelude.{true}
+use Rattle.clap.specs.Words.{App, Row, Rule, Text, first_of, one_of, new_app, new_rule, with_rule, with_subcommand}
+use Rattle.clap.specs.declared.builder.ArgAction.TheVariants.{Set, SetTrue}
 use Rattle.mcf.specs.declared.command_line.Task.{Task}
-use Rattle.mcf.specs.declared.command_line.Task.TheVariants.{Check}
+use Rattle.mcf.specs.declared.command_line.Task.TheVariants.{Solve, Check}
+
+-- `--proof`
+abbrev pub proof_rule : Rule
+proof_rule = record (new_rule (codes "proof")) { long = Some (codes "proof"); action = Some SetTrue }
+
+-- a file that may be left out
+abbrev pub file_rule : Rule
+file_rule = record (new_rule (codes "file")) { action = Some Set }
 
 -- a file that has to be named
 abbrev pub needed_rule : Text → Rule
 needed_rule id = record (new_rule id) { action = Some Set; required = true }
+
+-- `solve [--proof] [FILE]`
+abbrev pub solve_command : App
+solve_command = with_rule (with_rule (new_app (codes "solve")) proof_rule) file_rule
 
 -- `check PROBLEM ANSWER`
 abbrev pub check_command : App
@@ -17,9 +28,11 @@ check_command = with_rule (with_rule (new_app (codes "check")) (needed_rule (cod
 
 -- `mcf` with its commands, one of which has to be named
 abbrev pub program : App
-program = with_subcommand (on_top (λ top. record top { subcommand_required = true }) (new_app (codes "mcf"))) check_command.top
+program = with_subcommand (with_subcommand (on_top (λ top. record top { subcommand_required = true }) (new_app (codes "mcf"))) solve_command.top) check_command.top
 
 -- the name and the matches of a command say this task
 abbrev pub Names : Option (Text × List Row) → Task → Type 0
+Names used (Solve proof file) = (rows : List Row) × (used ≡ Some (codes "solve", rows))
+    × ((proof ≡ true) ↔ (one_of (codes "proof") rows ≡ Some (codes "true"))) × (option_map (λ f. f.now) file ≡ first_of (codes "file") rows)
 Names used (Check problem answer) = (rows : List Row) × (used ≡ Some (codes "check", rows))
     × (first_of (codes "problem") rows ≡ Some problem.now) × (first_of (codes "answer") rows ≡ Some answer.now)

@@ -6,6 +6,8 @@ use std::alloc::AllocError;
 /// What the program is asked to do.
 #[derive(Clone, Copy, Debug, PartialEq, Eq)]
 pub enum Task<'a> {
+    /// Solve the problem in a file, or on the standard input, with a proof or not.
+    Solve { proof: bool, file: Option<&'a str> },
     /// Check the answer in one file to the problem in another.
     Check { problem: &'a str, answer: &'a str },
 }

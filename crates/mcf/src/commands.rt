@@ -2,10 +2,28 @@
 ghost use Rattle.std.specs.Prelude.{◌≡◌, IfOk, false};
 ghost use Rattle.clap.specs.Words.{app_of, rule_of};
 ghost use Rattle.clap.specs.declared.builder.command.Command.TheViews.{out-Command};
-ghost use Rattle.mcf.specs.Tasks.{check_command, needed_rule, program as program_command};
+ghost use Rattle.mcf.specs.Tasks.{check_command, file_rule, needed_rule, program as program_command, proof_rule, solve_command};
 
 use clap::{Arg, ArgAction, Command};
 use std::alloc::{AllocError, Global};
+
+/// `--proof`
+fn proof<'a>(alloc: Global) -> Arg<'a>
+    ensures rule { rule_of result ≡ proof_rule }
+    ensures local { result.global ≡ false }
+{
+    Arg::new(alloc, "proof")
+        .long("proof")
+        .action(ArgAction::SetTrue)
+}
+
+/// A file that may be left out.
+fn file<'a>(alloc: Global) -> Arg<'a>
+    ensures rule { rule_of result ≡ file_rule }
+    ensures local { result.global ≡ false }
+{
+    Arg::new(alloc, "file").action(ArgAction::Set)
+}
 
 /// A file that has to be named.
 fn needed<'a>(alloc: Global, id: &'a str) -> Arg<'a>
@@ -13,6 +31,16 @@ fn needed<'a>(alloc: Global, id: &'a str) -> Arg<'a>
     ensures local { result.global ≡ false }
 {
     Arg::new(alloc, id).action(ArgAction::Set).required(true)
+}
+
+/// `solve [--proof] [FILE]`
+fn solve<'a>(alloc: Global) -> Result<Command<'a>, AllocError>
+    ensures app { IfOk result (λ c. app_of c ≡ solve_command) }
+    ensures local { IfOk result (λ c. (out-Command c).has_globals ≡ false) }
+{
+    Command::new(alloc, "solve")
+        .arg(proof(alloc))?
+        .arg(file(alloc))
 }
 
 /// `check PROBLEM ANSWER`
@@ -31,5 +59,6 @@ pub fn program<'a>(alloc: Global) -> Result<Command<'a>, AllocError>
 {
     Command::new(alloc, "mcf")
         .subcommand_required(true)
+        .subcommand(solve(alloc)?)?
         .subcommand(check(alloc)?)
 }

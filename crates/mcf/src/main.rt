@@ -1,4 +1,4 @@
-//! The program `mcf`: checks answers to minimum-cost flow problems in the DIMACS formats.
+//! The program `mcf`: solves minimum-cost flow problems in the DIMACS formats, and checks answers to them.
 #![tactic(auto)]
 
 mod check;
@@ -7,6 +7,8 @@ mod commands;
 mod end;
 mod parse;
 mod read;
+mod solution;
+mod solve;
 #[cfg(test)]
 mod tests;
 
@@ -16,6 +18,7 @@ use command_line::{Task, Usage};
 use dimacs_io::{ReadSource, WriteSink};
 use end::{End, Text};
 use parse::task;
+use solve::solve;
 use std::fs::File;
 use std::process::ExitCode;
 use std::{env, io};
@@ -34,8 +37,26 @@ fn run(rt: &HostRuntime) -> u8 {
         Err(error) => return refuse_words(rt, &error),
     };
     match task(rt.alloc(), words.as_slice()) {
+        Ok(Task::Solve { proof, file }) => tell(rt, solve_file(rt, file, proof)),
         Ok(Task::Check { problem, answer }) => tell(rt, check_files(rt, problem, answer)),
         Err(usage) => tell_usage(rt, &usage),
+    }
+}
+
+/// Solves the problem in a file, or on the standard input.
+fn solve_file(rt: &HostRuntime, file: Option<&str>, proof: bool) -> End {
+    let mut out = WriteSink::new(rt.stdout());
+    match file {
+        None => solve(
+            rt.alloc(),
+            &mut ReadSource::new(rt.stdin()),
+            &mut out,
+            proof,
+        ),
+        Some(path) => match File::open(rt, path) {
+            Ok(file) => solve(rt.alloc(), &mut ReadSource::new(file), &mut out, proof),
+            Err(error) => not_opened(&error, Text::Problem),
+        },
     }
 }
 

@@ -17,8 +17,18 @@ pub fn task<'a>(alloc: Global, words: &'a [String]) -> Result<Task<'a>, Usage>
         return Err(Usage::Missing);
     };
     match name {
+        "solve" => Ok(solve(found)),
         "check" => check(found),
         _ => Err(Usage::Missing),
+    }
+}
+
+fn solve<'a>(found: &ArgMatches<'a>) -> Task<'a>
+    ensures { Names (Some (codes "solve", rows_of (found_of found.now))) result }
+{
+    Task::Solve {
+        proof: found.get_one("proof").unwrap_or(false),
+        file: found.get_str("file"),
     }
 }
 

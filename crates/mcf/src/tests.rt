@@ -2,6 +2,7 @@ use crate::check::check;
 use crate::command_line::{Task, Usage};
 use crate::end::{End, Text};
 use crate::parse::task;
+use crate::solve::solve;
 use clap::error::ErrorKind;
 use dimacs_io::{Pad, ReadSource, Script, WriteSink};
 use std::alloc::AllocError;
@@ -76,6 +77,43 @@ fn worked_examples_end_so_in_any_pieces(rt: HostRuntime) {
                 _ => b"".as_slice(),
             };
             assert_eq!(rt; out.held(), line);
+        }
+    }
+}
+
+#[test]
+fn problems_are_solved_in_any_pieces(rt: HostRuntime) {
+    let diamond =
+        b"p min 4 5\nn 1 4\nn 4 -4\na 1 2 0 4 2\na 1 3 0 2 2\na 2 3 0 2 1\na 2 4 0 3 3\na 3 4 0 5 1\n";
+    let cases = [
+        (PROBLEM, false, End::Solved, b"s 12\nf 1 2 3\n".as_slice()),
+        (
+            diamond,
+            true,
+            End::Solved,
+            b"s 14\nf 1 2 2\nf 1 3 2\nf 2 3 2\nf 2 4 0\nf 3 4 4\nv 1 -4\nv 2 -2\nv 3 -1\nv 4 0\n",
+        ),
+        (LONE_NODE, true, End::Solved, b"s 0\nv 1 0\n"),
+        (
+            b"p min 2 1\nn 1 1\na 1 2 0 5 1\n",
+            true,
+            End::Infeasible,
+            b"i 1\nk 1\nk 2\n",
+        ),
+        (
+            b"p min 2 2\na 1 2 0 1 1\n",
+            false,
+            refused(Text::Problem, 13, 2),
+            b"",
+        ),
+    ];
+    for (problem, proof, want, text) in cases {
+        for most in [1, 7, 100_000] {
+            let mut out = Pad::new(most, None);
+            let mut input = Script::new(problem, most, None);
+            let end = solve(rt.alloc(), &mut input, &mut out, proof);
+            assert_eq!(rt; end, want);
+            assert_eq!(rt; out.held(), text);
         }
     }
 }
@@ -188,6 +226,23 @@ fn words(rt: &HostRuntime, line: &str) -> Result<Vec<String>, AllocError> {
         words.push(String::from_str(rt.alloc(), word)?)?;
     }
     Ok(words)
+}
+
+#[test]
+fn solve_has_a_flag_and_a_file(rt: HostRuntime) -> Result<(), Fail> {
+    let line = words(&rt, "mcf solve --proof net.min")?;
+    let want = Task::Solve {
+        proof: true,
+        file: Some("net.min"),
+    };
+    assert!(rt; matches!(task(rt.alloc(), &line), Ok(found) if found == want));
+    let line = words(&rt, "mcf solve")?;
+    let want = Task::Solve {
+        proof: false,
+        file: None,
+    };
+    assert!(rt; matches!(task(rt.alloc(), &line), Ok(found) if found == want));
+    Ok(())
 }
 
 #[test]

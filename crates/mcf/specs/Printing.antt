@@ -1,0 +1,40 @@
+-- The lines of a solution.
+use Rattle.std.specs.Prelude.{ℕ, ℤ, ◌+◌, Bool, List, [], ◌∷◌, ◌++◌, if◌then◌else◌}
+use Rattle.dimacs_io.specs.Line.{value_line, flow_line, potential_line, shortage_line, cut_line}
+use Rattle.dimacs_text.specs.declared.problem.ArcRow.{ArcRow}
+use Rattle.network.specs.Instance.{numbered_flow}
+use Rattle.flow_solver.specs.declared.verdict.Verdict.{Verdict}
+use Rattle.flow_solver.specs.declared.verdict.Verdict.TheVariants.{Best, Infeasible}
+use Rattle.flow_solver.specs.Moment.{Moment}
+
+-- one `f` line an arc, in the order of the arcs
+abbrev pub flow_lines : List ArcRow → List ℤ → List ℕ
+flow_lines [] flow = []
+flow_lines (arc ∷ arcs) [] = []
+flow_lines (arc ∷ arcs) (x ∷ flow) = flow_line arc.tail arc.head x ++ flow_lines arcs flow
+
+-- one `v` line a node, of which this is the first
+abbrev pub potential_lines : ℕ → List ℤ → List ℕ
+potential_lines id [] = []
+potential_lines id (potential ∷ potentials) = potential_line id potential ++ potential_lines (id + 1) potentials
+
+-- one `k` line a marked node, where this is the first node
+abbrev pub cut_lines : ℕ → List Bool → List ℕ
+cut_lines id [] = []
+cut_lines id (mark ∷ marks) = (if mark then cut_line id else []) ++ cut_lines (id + 1) marks
+
+-- a best flow, with its potentials where a proof is asked for
+abbrev pub best_text : ℤ → Bool → List ArcRow → List ℤ → List ℤ → List ℕ
+best_text worth proof arcs flow potentials = value_line worth ++ flow_lines arcs flow ++ (if proof then potential_lines 1 potentials else [])
+
+-- a violated cut
+abbrev pub violated_text : ℤ → List Bool → List ℕ
+violated_text shortage cut = shortage_line shortage ++ cut_lines 1 cut
+
+abbrev pub solution_by : Verdict → Bool → Moment → List ℕ
+solution_by (Best worth) proof m = best_text worth proof m.instance.arcs (numbered_flow m.instance.demand m.flow) m.potentials
+solution_by (Infeasible shortage) proof m = violated_text shortage m.cut
+
+-- what is printed of a moment, by its verdict
+abbrev pub solution : Bool → Moment → List ℕ
+solution proof m = solution_by m.verdict proof m
