@@ -11,9 +11,9 @@ use Rattle.dimacs_text.specs.Lines.{Line, lines_of}
 use Rattle.dimacs_text.specs.Stream.{counted, decided, first_fault, TakesLine}
 use Rattle.dimacs_text.specs.Reader as generic
 use Rattle.dimacs_text.specs.declared.answer.Answer.{Answer}
-use Rattle.dimacs_text.specs.declared.answer.Answer.TheVariants.{Flow}
+use Rattle.dimacs_text.specs.declared.answer.Answer.TheVariants.{Flow, Cut}
 use Rattle.dimacs_text.specs.declared.answer.FlowLine.{FlowLine}
-use Rattle.dimacs_text.specs.Answer.{Drafted, Said, NamesNodes, FitsSize, ending_by, Takes, said_of, and_said, line_fault, ending, answer_rule, answer_end, answers}
+use Rattle.dimacs_text.specs.Answer.{Drafted, Said, NamesNodes, FitsSize, flow_ending, ending_by, Takes, said_of, and_said, line_fault, ending, answer_rule, answer_end, answers}
 use Rattle.dimacs_text.specs.AnswerReader.{holds, Finishes}
 use Rattle.dimacs_text.proofs.DecidedLemmas.{decided_always}
 use Rattle.dimacs_text.proofs.SaidLemmas.{said_of_push, said_of_nothing}
@@ -24,7 +24,7 @@ line_taken (Ok x) nodes arcs old new before line taken held =
     (t.0, t.1 ∙ rw said_of_push refl)
 line_taken (Err e) nodes arcs old new before line taken held = rw held at taken
 
-pub nothing_held : (nodes arcs : ℕ) (draft : Drafted) → draft ≡ record { nodes = nodes; arcs = arcs; said = record { value = None; flows = []; potentials = [] } } → holds nodes arcs [] draft
+pub nothing_held : (nodes arcs : ℕ) (draft : Drafted) → draft ≡ record { nodes = nodes; arcs = arcs; said = record { value = None; flows = []; potentials = []; shortage = None; cut = [] } } → holds nodes arcs [] draft
 nothing_held nodes arcs draft e = rw said_of_nothing e
 
 both_true : (a b : Bool) → (a && b) ≡ true → (a ≡ true) × (b ≡ true)
@@ -40,13 +40,20 @@ whole_by true nodes arcs value flows potentials answer met e named =
     subst (λ (a : Answer). NamesNodes nodes a → FitsSize nodes arcs a) is whole named
 whole_by false nodes arcs value flows potentials answer met e named = absurd cc
 
-ending_fits : (nodes arcs : ℕ) (value : Option ℤ) (said : Said) (answer : Answer) → Ok answer ≡ ending_by nodes arcs value said → NamesNodes nodes answer → FitsSize nodes arcs answer
-ending_fits nodes arcs None said answer e named = absurd cc
-ending_fits nodes arcs (Some value) said answer e named = whole_by (length said.flows == arcs && length said.potentials == nodes) nodes arcs value said.flows said.potentials answer refl e named
+flow_fits : (nodes arcs : ℕ) (value : Option ℤ) (said : Said) (answer : Answer) → Ok answer ≡ flow_ending nodes arcs value said → NamesNodes nodes answer → FitsSize nodes arcs answer
+flow_fits nodes arcs None said answer e named = absurd cc
+flow_fits nodes arcs (Some value) said answer e named = whole_by (length said.flows == arcs && length said.potentials == nodes) nodes arcs value said.flows said.potentials answer refl e named
+
+ending_fits : (nodes arcs : ℕ) (shortage : Option ℤ) (said : Said) (answer : Answer) → Ok answer ≡ ending_by nodes arcs shortage said → NamesNodes nodes answer → FitsSize nodes arcs answer
+ending_fits nodes arcs None said answer e named = flow_fits nodes arcs said.value said answer e named
+ending_fits nodes arcs (Some shortage) said answer e named =
+    let is : Cut shortage said.cut ≡ answer = cc in
+    let fits : NamesNodes nodes (Cut shortage said.cut) → FitsSize nodes arcs (Cut shortage said.cut) = λ n. n in
+    subst (λ (a : Answer). NamesNodes nodes a → FitsSize nodes arcs a) is fits named
 
 pub answer_fits : (nodes arcs : ℕ) (lines : List Line) (draft : Drafted) (answer : Answer) → holds nodes arcs lines draft → Ok answer ≡ ending draft.nodes draft.arcs draft.said → NamesNodes draft.nodes answer → FitsSize nodes arcs answer
 answer_fits nodes arcs lines draft answer held closed named =
-    ending_fits nodes arcs (said_of lines).value (said_of lines) answer (closed ∙ ap (λ (d : Drafted). ending d.nodes d.arcs d.said) held) (subst (λ (d : Drafted). NamesNodes d.nodes answer) held named)
+    ending_fits nodes arcs (said_of lines).shortage (said_of lines) answer (closed ∙ ap (λ (d : Drafted). ending d.nodes d.arcs d.said) held) (subst (λ (d : Drafted). NamesNodes d.nodes answer) held named)
 
 module _ (nodes arcs : ℕ) (text : List ℕ) where
   module _ (draft : Drafted) (found : first_fault (answer_rule nodes arcs) [] (lines_of text) ≡ None) (held : holds nodes arcs (lines_of text) draft) where

@@ -7,7 +7,7 @@ use Rattle.dimacs_text.specs.Lawful.{IsNode}
 use Rattle.dimacs_text.specs.Problem.{◌>>=◌, demand, some_or, natural_in, natural_value, field}
 use Rattle.dimacs_text.proofs.RowLemmas.{bind_ok, demand_ok, some_or_ok, ok_is, natural_in-ok}
 use Rattle.dimacs_text.specs.declared.answer.FlowLine.{FlowLine}
-use Rattle.dimacs_text.specs.Answer.{Said, claimed_value, value_said, flow_said, potential_said, read_value, read_flow, read_potential}
+use Rattle.dimacs_text.specs.Answer.{Said, claimed_value, value_said, flow_said, potential_said, shortage_said, cut_node_said, last_node, read_value, read_flow, read_potential, read_shortage, read_cut_node}
 
 none_is : (o : Option ℤ) → is_none o ≡ true → o ≡ None
 none_is None e = refl
@@ -21,11 +21,12 @@ pub record ValueIsRead (said : Said) (fields : List Word) (claimed : ℤ) : Type
 pub read_value-ok : (said : Said) (fields : List Word) (value : ℤ) → read_value said fields ≡ Ok value → ValueIsRead said fields value
 unfolding read_value
 read_value-ok said fields value ok =
-    let s1 = bind_ok (demand (is_none said.value) fault.OutOfOrder) (λ _. demand (length fields == 1) fault.WrongFieldCount >>= λ _. some_or (claimed_value (field 0 fields)) fault.NotANumber) value ok in
-    let s2 = bind_ok (demand (length fields == 1) fault.WrongFieldCount) (λ _. some_or (claimed_value (field 0 fields)) fault.NotANumber) value s1.2 in
+    let s1 = bind_ok (demand (is_none said.value) fault.OutOfOrder) (λ _. demand (is_none said.shortage) fault.OutOfOrder >>= λ _. demand (length fields == 1) fault.WrongFieldCount >>= λ _. some_or (claimed_value (field 0 fields)) fault.NotANumber) value ok in
+    let s2 = bind_ok (demand (is_none said.shortage) fault.OutOfOrder) (λ _. demand (length fields == 1) fault.WrongFieldCount >>= λ _. some_or (claimed_value (field 0 fields)) fault.NotANumber) value s1.2 in
+    let s3 = bind_ok (demand (length fields == 1) fault.WrongFieldCount) (λ _. some_or (claimed_value (field 0 fields)) fault.NotANumber) value s2.2 in
     record {
       first = none_is said.value (demand_ok _ _ s1.0 s1.1);
-      value_is = ap (λ (o : Option ℤ). unwrap_or o (pos 0)) (some_or_ok (claimed_value (field 0 fields)) fault.NotANumber value s2.2);
+      value_is = ap (λ (o : Option ℤ). unwrap_or o (pos 0)) (some_or_ok (claimed_value (field 0 fields)) fault.NotANumber value s3.2);
     }
 
 -- what an `f` line says
@@ -65,3 +66,40 @@ read_potential-ok nodes arcs said fields value ok =
     let s6 = bind_ok (some_or (integer (field 1 fields)) fault.NotANumber) (λ potential. demand (s5.0 == length said.potentials + 1) fault.OutOfOrder >>= λ _. Ok potential) value s5.2 in
     let s7 = bind_ok (demand (s5.0 == length said.potentials + 1) fault.OutOfOrder) (λ _. Ok s6.0) value s6.2 in
     ap (λ (o : Option ℤ). unwrap_or o (pos 0)) (some_or_ok (integer (field 1 fields)) fault.NotANumber s6.0 s6.1) ∙ ok_is s6.0 value s7.2
+
+-- what an `i` line says
+pub record ShortageIsRead (said : Said) (fields : List Word) (claimed : ℤ) : Type 0 where
+  pub first : said.shortage ≡ None
+  pub shortage_is : shortage_said fields ≡ claimed
+
+pub read_shortage-ok : (said : Said) (fields : List Word) (shortage : ℤ) → read_shortage said fields ≡ Ok shortage → ShortageIsRead said fields shortage
+unfolding read_shortage
+read_shortage-ok said fields shortage ok =
+    let s1 = bind_ok (demand (is_none said.value) fault.OutOfOrder) (λ _. demand (is_none said.shortage) fault.OutOfOrder >>= λ _. demand (length fields == 1) fault.WrongFieldCount >>= λ _. some_or (natural (field 0 fields)) fault.NotANumber >>= λ shortage. Ok (pos shortage)) shortage ok in
+    let s2 = bind_ok (demand (is_none said.shortage) fault.OutOfOrder) (λ _. demand (length fields == 1) fault.WrongFieldCount >>= λ _. some_or (natural (field 0 fields)) fault.NotANumber >>= λ shortage. Ok (pos shortage)) shortage s1.2 in
+    let s3 = bind_ok (demand (length fields == 1) fault.WrongFieldCount) (λ _. some_or (natural (field 0 fields)) fault.NotANumber >>= λ shortage. Ok (pos shortage)) shortage s2.2 in
+    let s4 = bind_ok (some_or (natural (field 0 fields)) fault.NotANumber) (λ shortage. Ok (pos shortage)) shortage s3.2 in
+    let number : natural_value (field 0 fields) ≡ s4.0 = ap (λ (o : Option ℕ). unwrap_or o 0) (some_or_ok (natural (field 0 fields)) fault.NotANumber s4.0 s4.1) in
+    record {
+      first = none_is said.shortage (demand_ok _ _ s2.0 s2.1);
+      shortage_is = ap pos number ∙ ok_is (pos s4.0) shortage s4.2;
+    }
+
+-- what a `k` line says
+pub record CutNodeIsRead (nodes : ℕ) (fields : List Word) (id : ℕ) : Type 0 where
+  pub node : IsNode nodes id
+  pub node_is : cut_node_said fields ≡ id
+
+pub read_cut_node-ok : (nodes : ℕ) (said : Said) (fields : List Word) (id : ℕ) → read_cut_node nodes said fields ≡ Ok id → CutNodeIsRead nodes fields id
+unfolding read_cut_node
+read_cut_node-ok nodes said fields id ok =
+    let s1 = bind_ok (demand (is_some said.shortage) fault.OutOfOrder) (λ _. demand (length fields == 1) fault.WrongFieldCount >>= λ _. natural_in 1 nodes (field 0 fields) >>= λ id. demand (nat_lt (last_node said.cut) id) fault.OutOfOrder >>= λ _. Ok id) id ok in
+    let s2 = bind_ok (demand (length fields == 1) fault.WrongFieldCount) (λ _. natural_in 1 nodes (field 0 fields) >>= λ id. demand (nat_lt (last_node said.cut) id) fault.OutOfOrder >>= λ _. Ok id) id s1.2 in
+    let s3 = bind_ok (natural_in 1 nodes (field 0 fields)) (λ id. demand (nat_lt (last_node said.cut) id) fault.OutOfOrder >>= λ _. Ok id) id s2.2 in
+    let s4 = bind_ok (demand (nat_lt (last_node said.cut) s3.0) fault.OutOfOrder) (λ _. Ok s3.0) id s3.2 in
+    let is : s3.0 ≡ id = ok_is s3.0 id s4.2 in
+    let read = natural_in-ok 1 nodes (field 0 fields) s3.0 s3.1 in
+    record {
+      node = subst (λ (n : ℕ). IsNode nodes n) is (read.above, read.below);
+      node_is = read.value ∙ is;
+    }

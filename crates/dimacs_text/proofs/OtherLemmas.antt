@@ -1,12 +1,14 @@
 -- No check of a problem text but that of its length says that a line is too long.
-use Rattle.std.proofs.Common.{◌≡◌, ◌≢◌, ℕ, Bool, true, false, cond, if◌then◌else◌, not, ◌&&◌, List, [], ◌∷◌, length, Option, Some, None, Result, Ok, Err, ℤ, pos, neg_ℤ, arith}
+use Rattle.std.proofs.Common.{◌≡◌, ◌≢◌, ℕ, Bool, true, false, cond, if◌then◌else◌, not, ◌&&◌, ◌||◌, List, length, Option, Some, None, Result, Ok, Err, ℤ, pos, neg_ℤ, arith}
 use Rattle.std.specs.Prelude.{int_le, nat_le, nat_lt, ◌==◌, is_none}
 use Rattle.dimacs_text.specs.declared.fault.Fault.{Fault}
 use Rattle.dimacs_text.specs.declared.fault.Fault.TheVariants as fault
 use Rattle.dimacs_text.specs.declared.fault.TextFault.{TextFault}
 use Rattle.dimacs_text.specs.declared.fault.TextFault.TheVariants as text_fault
-use Rattle.dimacs_text.specs.declared.problem.Kind.TheVariants.{Min}
-use Rattle.dimacs_text.specs.declared.problem.NodeMark.TheVariants.{Supply}
+use Rattle.dimacs_text.specs.declared.problem.Kind.{Kind}
+use Rattle.dimacs_text.specs.declared.problem.Kind.TheVariants.{Min, Max, Asn}
+use Rattle.dimacs_text.specs.declared.problem.NodeMark.{NodeMark}
+use Rattle.dimacs_text.specs.declared.problem.NodeMark.TheVariants.{Supply, Source, Sink, Side}
 use Rattle.dimacs_text.specs.declared.problem.Size.{Size}
 use Rattle.dimacs_text.specs.declared.problem.TheConstants.{NODE_LIMIT, ARC_LIMIT, CAP_LIMIT, COST_LIMIT, SUPPLY_LIMIT}
 use Rattle.dimacs_text.specs.declared.words.Designator.{Designator}
@@ -14,7 +16,7 @@ use Rattle.dimacs_text.specs.declared.words.Designator.TheVariants as designator
 use Rattle.dimacs_text.specs.Fault.{number_of}
 use Rattle.dimacs_text.specs.Lines.{Line}
 use Rattle.dimacs_text.specs.Fields.{Word, natural, integer, words_of}
-use Rattle.dimacs_text.specs.Problem.{Told, told_of, ◌>>=◌, demand, some_or, natural_in, integer_in, kind_in, read_size, read_mark, read_row, field, is_named, fault_of, fault_by, first_of, fields_of}
+use Rattle.dimacs_text.specs.Problem.{Told, told_of, ◌>>=◌, demand, some_or, natural_in, integer_in, kind_named, kind_in, is_source_word, is_sink_word, has_source, has_sink, has_terminals, terminal_by, read_size, read_mark, read_mark_of, read_supply, read_terminal, read_side, read_row, read_row_of, read_min_row, read_max_row, read_asn_row, field, is_named, fault_of, fault_by, first_of, fields_of}
 use Rattle.dimacs_text.specs.Stream.{at_line, or_at}
 use Rattle.dimacs_text.specs.Reading.{ProblemValue, ending_by, problem_rule, problem_end}
 
@@ -46,16 +48,8 @@ natural_in_other low high word = bind_other (some_or (natural word) fault.NotANu
 integer_in_other : (limit : ℤ) (word : Word) → IsOther (integer_in limit word)
 integer_in_other limit word = bind_other (some_or (integer word) fault.NotANumber) (λ z. if int_le (neg_ℤ limit) z && int_le z limit then Ok z else Err fault.OutOfRange) (some_or_other (integer word) fault.NotANumber (λ h. cc)) (λ z. range_other (int_le (neg_ℤ limit) z && int_le z limit) z)
 
-kind_by_other : (met : Bool) → IsOther (cond met (Ok Min) (Err fault.UnknownKind))
-kind_by_other true = tt
-kind_by_other false = λ h. cc
-
 kind_in_other : (word : Word) → IsOther (kind_in word)
-kind_in_other [] = λ h. cc
-kind_in_other (a ∷ []) = λ h. cc
-kind_in_other (a ∷ b ∷ []) = λ h. cc
-kind_in_other (a ∷ b ∷ c ∷ []) = kind_by_other (a == 109 && b == 105 && c == 110)
-kind_in_other (a ∷ b ∷ c ∷ d ∷ word) = λ h. cc
+kind_in_other word = some_or_other (kind_named word) fault.UnknownKind (λ h. cc)
 
 read_size_other : (told : Told) (fields : List Word) → IsOther (read_size told fields)
 unfolding read_size
@@ -67,30 +61,91 @@ read_size_other told fields =
     bind_other (natural_in 0 ARC_LIMIT (field 2 fields)) (λ arcs. Ok (record { kind = kind; nodes = nodes; arcs = arcs })) (natural_in_other 0 ARC_LIMIT (field 2 fields)) (λ arcs.
     tt)))))
 
+read_supply_other : (nodes : ℕ) (marks : List NodeMark) (fields : List Word) → IsOther (read_supply nodes marks fields)
+unfolding read_supply
+read_supply_other nodes marks fields =
+    bind_other (demand (length fields == 2) fault.WrongFieldCount) (λ _. natural_in 1 nodes (field 0 fields) >>= λ id. integer_in SUPPLY_LIMIT (field 1 fields) >>= λ value. demand (not (is_named id marks)) fault.NamedTwice >>= λ _. Ok (Supply id value)) (demand_other _ fault.WrongFieldCount (λ h. cc)) (λ _.
+    bind_other (natural_in 1 nodes (field 0 fields)) (λ id. integer_in SUPPLY_LIMIT (field 1 fields) >>= λ value. demand (not (is_named id marks)) fault.NamedTwice >>= λ _. Ok (Supply id value)) (natural_in_other 1 nodes (field 0 fields)) (λ id.
+    bind_other (integer_in SUPPLY_LIMIT (field 1 fields)) (λ value. demand (not (is_named id marks)) fault.NamedTwice >>= λ _. Ok (Supply id value)) (integer_in_other SUPPLY_LIMIT (field 1 fields)) (λ value.
+    bind_other (demand (not (is_named id marks)) fault.NamedTwice) (λ _. Ok (Supply id value)) (demand_other _ fault.NamedTwice (λ h. cc)) (λ _.
+    tt))))
+
+terminal_by_other : (source : Bool) (id : ℕ) (marks : List NodeMark) → IsOther (terminal_by source id marks)
+terminal_by_other true id marks = bind_other (demand (not (has_source marks)) fault.NamedTwice) (λ _. Ok (Source id)) (demand_other _ fault.NamedTwice (λ h. cc)) (λ _. tt)
+terminal_by_other false id marks = bind_other (demand (not (has_sink marks)) fault.NamedTwice) (λ _. Ok (Sink id)) (demand_other _ fault.NamedTwice (λ h. cc)) (λ _. tt)
+
+read_terminal_other : (nodes : ℕ) (marks : List NodeMark) (fields : List Word) → IsOther (read_terminal nodes marks fields)
+unfolding read_terminal
+read_terminal_other nodes marks fields =
+    bind_other (demand (length fields == 2) fault.WrongFieldCount) (λ _. natural_in 1 nodes (field 0 fields) >>= λ id. demand (is_source_word (field 1 fields) || is_sink_word (field 1 fields)) fault.UnknownNodeWord >>= λ _. demand (not (is_named id marks)) fault.NamedTwice >>= λ _. terminal_by (is_source_word (field 1 fields)) id marks) (demand_other _ fault.WrongFieldCount (λ h. cc)) (λ _.
+    bind_other (natural_in 1 nodes (field 0 fields)) (λ id. demand (is_source_word (field 1 fields) || is_sink_word (field 1 fields)) fault.UnknownNodeWord >>= λ _. demand (not (is_named id marks)) fault.NamedTwice >>= λ _. terminal_by (is_source_word (field 1 fields)) id marks) (natural_in_other 1 nodes (field 0 fields)) (λ id.
+    bind_other (demand (is_source_word (field 1 fields) || is_sink_word (field 1 fields)) fault.UnknownNodeWord) (λ _. demand (not (is_named id marks)) fault.NamedTwice >>= λ _. terminal_by (is_source_word (field 1 fields)) id marks) (demand_other _ fault.UnknownNodeWord (λ h. cc)) (λ _.
+    bind_other (demand (not (is_named id marks)) fault.NamedTwice) (λ _. terminal_by (is_source_word (field 1 fields)) id marks) (demand_other _ fault.NamedTwice (λ h. cc)) (λ _.
+    terminal_by_other (is_source_word (field 1 fields)) id marks))))
+
+read_side_other : (nodes : ℕ) (marks : List NodeMark) (fields : List Word) → IsOther (read_side nodes marks fields)
+unfolding read_side
+read_side_other nodes marks fields =
+    bind_other (demand (length fields == 1) fault.WrongFieldCount) (λ _. natural_in 1 nodes (field 0 fields) >>= λ id. demand (not (is_named id marks)) fault.NamedTwice >>= λ _. Ok (Side id)) (demand_other _ fault.WrongFieldCount (λ h. cc)) (λ _.
+    bind_other (natural_in 1 nodes (field 0 fields)) (λ id. demand (not (is_named id marks)) fault.NamedTwice >>= λ _. Ok (Side id)) (natural_in_other 1 nodes (field 0 fields)) (λ id.
+    bind_other (demand (not (is_named id marks)) fault.NamedTwice) (λ _. Ok (Side id)) (demand_other _ fault.NamedTwice (λ h. cc)) (λ _.
+    tt)))
+
+read_mark_of_other : (kind : Kind) (nodes : ℕ) (marks : List NodeMark) (fields : List Word) → IsOther (read_mark_of kind nodes marks fields)
+read_mark_of_other Min nodes marks fields = read_supply_other nodes marks fields
+read_mark_of_other Max nodes marks fields = read_terminal_other nodes marks fields
+read_mark_of_other Asn nodes marks fields = read_side_other nodes marks fields
+
 read_mark_other : (told : Told) (fields : List Word) → IsOther (read_mark told fields)
 unfolding read_mark
 read_mark_other told fields =
-    bind_other (some_or told.size fault.BeforeProblemLine) (λ size. demand (length told.rows == 0) fault.NodeAfterArc >>= λ _. demand (length fields == 2) fault.WrongFieldCount >>= λ _. natural_in 1 size.nodes (field 0 fields) >>= λ id. integer_in SUPPLY_LIMIT (field 1 fields) >>= λ value. demand (not (is_named id told.marks)) fault.NamedTwice >>= λ _. Ok (Supply id value)) (some_or_other told.size fault.BeforeProblemLine (λ h. cc)) (λ size.
-    bind_other (demand (length told.rows == 0) fault.NodeAfterArc) (λ _. demand (length fields == 2) fault.WrongFieldCount >>= λ _. natural_in 1 size.nodes (field 0 fields) >>= λ id. integer_in SUPPLY_LIMIT (field 1 fields) >>= λ value. demand (not (is_named id told.marks)) fault.NamedTwice >>= λ _. Ok (Supply id value)) (demand_other _ fault.NodeAfterArc (λ h. cc)) (λ _.
-    bind_other (demand (length fields == 2) fault.WrongFieldCount) (λ _. natural_in 1 size.nodes (field 0 fields) >>= λ id. integer_in SUPPLY_LIMIT (field 1 fields) >>= λ value. demand (not (is_named id told.marks)) fault.NamedTwice >>= λ _. Ok (Supply id value)) (demand_other _ fault.WrongFieldCount (λ h. cc)) (λ _.
-    bind_other (natural_in 1 size.nodes (field 0 fields)) (λ id. integer_in SUPPLY_LIMIT (field 1 fields) >>= λ value. demand (not (is_named id told.marks)) fault.NamedTwice >>= λ _. Ok (Supply id value)) (natural_in_other 1 size.nodes (field 0 fields)) (λ id.
-    bind_other (integer_in SUPPLY_LIMIT (field 1 fields)) (λ value. demand (not (is_named id told.marks)) fault.NamedTwice >>= λ _. Ok (Supply id value)) (integer_in_other SUPPLY_LIMIT (field 1 fields)) (λ value.
-    bind_other (demand (not (is_named id told.marks)) fault.NamedTwice) (λ _. Ok (Supply id value)) (demand_other _ fault.NamedTwice (λ h. cc)) (λ _.
-    tt))))))
+    bind_other (some_or told.size fault.BeforeProblemLine) (λ size. demand (length told.rows == 0) fault.NodeAfterArc >>= λ _. read_mark_of size.kind size.nodes told.marks fields) (some_or_other told.size fault.BeforeProblemLine (λ h. cc)) (λ size.
+    bind_other (demand (length told.rows == 0) fault.NodeAfterArc) (λ _. read_mark_of size.kind size.nodes told.marks fields) (demand_other _ fault.NodeAfterArc (λ h. cc)) (λ _.
+    read_mark_of_other size.kind size.nodes told.marks fields))
 
-read_row_other : (told : Told) (fields : List Word) → IsOther (read_row told fields)
-unfolding read_row
-read_row_other told fields =
-    bind_other (some_or told.size fault.BeforeProblemLine) (λ size. demand (nat_lt (length told.rows) size.arcs) fault.TooManyArcs >>= λ _. demand (length fields == 5) fault.WrongFieldCount >>= λ _. natural_in 1 size.nodes (field 0 fields) >>= λ tail. natural_in 1 size.nodes (field 1 fields) >>= λ head. natural_in 0 CAP_LIMIT (field 2 fields) >>= λ low. natural_in 0 CAP_LIMIT (field 3 fields) >>= λ cap. integer_in COST_LIMIT (field 4 fields) >>= λ cost. demand (nat_le low cap) fault.LowAboveCap >>= λ _. Ok (record { tail = tail; head = head; low = pos low; cap = pos cap; cost = cost })) (some_or_other told.size fault.BeforeProblemLine (λ h. cc)) (λ size.
-    bind_other (demand (nat_lt (length told.rows) size.arcs) fault.TooManyArcs) (λ _. demand (length fields == 5) fault.WrongFieldCount >>= λ _. natural_in 1 size.nodes (field 0 fields) >>= λ tail. natural_in 1 size.nodes (field 1 fields) >>= λ head. natural_in 0 CAP_LIMIT (field 2 fields) >>= λ low. natural_in 0 CAP_LIMIT (field 3 fields) >>= λ cap. integer_in COST_LIMIT (field 4 fields) >>= λ cost. demand (nat_le low cap) fault.LowAboveCap >>= λ _. Ok (record { tail = tail; head = head; low = pos low; cap = pos cap; cost = cost })) (demand_other _ fault.TooManyArcs (λ h. cc)) (λ _.
-    bind_other (demand (length fields == 5) fault.WrongFieldCount) (λ _. natural_in 1 size.nodes (field 0 fields) >>= λ tail. natural_in 1 size.nodes (field 1 fields) >>= λ head. natural_in 0 CAP_LIMIT (field 2 fields) >>= λ low. natural_in 0 CAP_LIMIT (field 3 fields) >>= λ cap. integer_in COST_LIMIT (field 4 fields) >>= λ cost. demand (nat_le low cap) fault.LowAboveCap >>= λ _. Ok (record { tail = tail; head = head; low = pos low; cap = pos cap; cost = cost })) (demand_other _ fault.WrongFieldCount (λ h. cc)) (λ _.
-    bind_other (natural_in 1 size.nodes (field 0 fields)) (λ tail. natural_in 1 size.nodes (field 1 fields) >>= λ head. natural_in 0 CAP_LIMIT (field 2 fields) >>= λ low. natural_in 0 CAP_LIMIT (field 3 fields) >>= λ cap. integer_in COST_LIMIT (field 4 fields) >>= λ cost. demand (nat_le low cap) fault.LowAboveCap >>= λ _. Ok (record { tail = tail; head = head; low = pos low; cap = pos cap; cost = cost })) (natural_in_other 1 size.nodes (field 0 fields)) (λ tail.
-    bind_other (natural_in 1 size.nodes (field 1 fields)) (λ head. natural_in 0 CAP_LIMIT (field 2 fields) >>= λ low. natural_in 0 CAP_LIMIT (field 3 fields) >>= λ cap. integer_in COST_LIMIT (field 4 fields) >>= λ cost. demand (nat_le low cap) fault.LowAboveCap >>= λ _. Ok (record { tail = tail; head = head; low = pos low; cap = pos cap; cost = cost })) (natural_in_other 1 size.nodes (field 1 fields)) (λ head.
+read_min_row_other : (nodes : ℕ) (fields : List Word) → IsOther (read_min_row nodes fields)
+unfolding read_min_row
+read_min_row_other nodes fields =
+    bind_other (demand (length fields == 5) fault.WrongFieldCount) (λ _. natural_in 1 nodes (field 0 fields) >>= λ tail. natural_in 1 nodes (field 1 fields) >>= λ head. natural_in 0 CAP_LIMIT (field 2 fields) >>= λ low. natural_in 0 CAP_LIMIT (field 3 fields) >>= λ cap. integer_in COST_LIMIT (field 4 fields) >>= λ cost. demand (nat_le low cap) fault.LowAboveCap >>= λ _. Ok (record { tail = tail; head = head; low = pos low; cap = pos cap; cost = cost })) (demand_other _ fault.WrongFieldCount (λ h. cc)) (λ _.
+    bind_other (natural_in 1 nodes (field 0 fields)) (λ tail. natural_in 1 nodes (field 1 fields) >>= λ head. natural_in 0 CAP_LIMIT (field 2 fields) >>= λ low. natural_in 0 CAP_LIMIT (field 3 fields) >>= λ cap. integer_in COST_LIMIT (field 4 fields) >>= λ cost. demand (nat_le low cap) fault.LowAboveCap >>= λ _. Ok (record { tail = tail; head = head; low = pos low; cap = pos cap; cost = cost })) (natural_in_other 1 nodes (field 0 fields)) (λ tail.
+    bind_other (natural_in 1 nodes (field 1 fields)) (λ head. natural_in 0 CAP_LIMIT (field 2 fields) >>= λ low. natural_in 0 CAP_LIMIT (field 3 fields) >>= λ cap. integer_in COST_LIMIT (field 4 fields) >>= λ cost. demand (nat_le low cap) fault.LowAboveCap >>= λ _. Ok (record { tail = tail; head = head; low = pos low; cap = pos cap; cost = cost })) (natural_in_other 1 nodes (field 1 fields)) (λ head.
     bind_other (natural_in 0 CAP_LIMIT (field 2 fields)) (λ low. natural_in 0 CAP_LIMIT (field 3 fields) >>= λ cap. integer_in COST_LIMIT (field 4 fields) >>= λ cost. demand (nat_le low cap) fault.LowAboveCap >>= λ _. Ok (record { tail = tail; head = head; low = pos low; cap = pos cap; cost = cost })) (natural_in_other 0 CAP_LIMIT (field 2 fields)) (λ low.
     bind_other (natural_in 0 CAP_LIMIT (field 3 fields)) (λ cap. integer_in COST_LIMIT (field 4 fields) >>= λ cost. demand (nat_le low cap) fault.LowAboveCap >>= λ _. Ok (record { tail = tail; head = head; low = pos low; cap = pos cap; cost = cost })) (natural_in_other 0 CAP_LIMIT (field 3 fields)) (λ cap.
     bind_other (integer_in COST_LIMIT (field 4 fields)) (λ cost. demand (nat_le low cap) fault.LowAboveCap >>= λ _. Ok (record { tail = tail; head = head; low = pos low; cap = pos cap; cost = cost })) (integer_in_other COST_LIMIT (field 4 fields)) (λ cost.
     bind_other (demand (nat_le low cap) fault.LowAboveCap) (λ _. Ok (record { tail = tail; head = head; low = pos low; cap = pos cap; cost = cost })) (demand_other _ fault.LowAboveCap (λ h. cc)) (λ _.
-    tt)))))))))
+    tt)))))))
+
+read_max_row_other : (nodes : ℕ) (fields : List Word) → IsOther (read_max_row nodes fields)
+unfolding read_max_row
+read_max_row_other nodes fields =
+    bind_other (demand (length fields == 3) fault.WrongFieldCount) (λ _. natural_in 1 nodes (field 0 fields) >>= λ tail. natural_in 1 nodes (field 1 fields) >>= λ head. natural_in 0 CAP_LIMIT (field 2 fields) >>= λ cap. Ok (record { tail = tail; head = head; low = pos 0; cap = pos cap; cost = pos 0 })) (demand_other _ fault.WrongFieldCount (λ h. cc)) (λ _.
+    bind_other (natural_in 1 nodes (field 0 fields)) (λ tail. natural_in 1 nodes (field 1 fields) >>= λ head. natural_in 0 CAP_LIMIT (field 2 fields) >>= λ cap. Ok (record { tail = tail; head = head; low = pos 0; cap = pos cap; cost = pos 0 })) (natural_in_other 1 nodes (field 0 fields)) (λ tail.
+    bind_other (natural_in 1 nodes (field 1 fields)) (λ head. natural_in 0 CAP_LIMIT (field 2 fields) >>= λ cap. Ok (record { tail = tail; head = head; low = pos 0; cap = pos cap; cost = pos 0 })) (natural_in_other 1 nodes (field 1 fields)) (λ head.
+    bind_other (natural_in 0 CAP_LIMIT (field 2 fields)) (λ cap. Ok (record { tail = tail; head = head; low = pos 0; cap = pos cap; cost = pos 0 })) (natural_in_other 0 CAP_LIMIT (field 2 fields)) (λ cap.
+    tt))))
+
+read_asn_row_other : (nodes : ℕ) (marks : List NodeMark) (fields : List Word) → IsOther (read_asn_row nodes marks fields)
+unfolding read_asn_row
+read_asn_row_other nodes marks fields =
+    bind_other (demand (length fields == 3) fault.WrongFieldCount) (λ _. natural_in 1 nodes (field 0 fields) >>= λ tail. natural_in 1 nodes (field 1 fields) >>= λ head. integer_in COST_LIMIT (field 2 fields) >>= λ cost. demand (is_named tail marks && not (is_named head marks)) fault.NotAcrossSides >>= λ _. Ok (record { tail = tail; head = head; low = pos 0; cap = pos 1; cost = cost })) (demand_other _ fault.WrongFieldCount (λ h. cc)) (λ _.
+    bind_other (natural_in 1 nodes (field 0 fields)) (λ tail. natural_in 1 nodes (field 1 fields) >>= λ head. integer_in COST_LIMIT (field 2 fields) >>= λ cost. demand (is_named tail marks && not (is_named head marks)) fault.NotAcrossSides >>= λ _. Ok (record { tail = tail; head = head; low = pos 0; cap = pos 1; cost = cost })) (natural_in_other 1 nodes (field 0 fields)) (λ tail.
+    bind_other (natural_in 1 nodes (field 1 fields)) (λ head. integer_in COST_LIMIT (field 2 fields) >>= λ cost. demand (is_named tail marks && not (is_named head marks)) fault.NotAcrossSides >>= λ _. Ok (record { tail = tail; head = head; low = pos 0; cap = pos 1; cost = cost })) (natural_in_other 1 nodes (field 1 fields)) (λ head.
+    bind_other (integer_in COST_LIMIT (field 2 fields)) (λ cost. demand (is_named tail marks && not (is_named head marks)) fault.NotAcrossSides >>= λ _. Ok (record { tail = tail; head = head; low = pos 0; cap = pos 1; cost = cost })) (integer_in_other COST_LIMIT (field 2 fields)) (λ cost.
+    bind_other (demand (is_named tail marks && not (is_named head marks)) fault.NotAcrossSides) (λ _. Ok (record { tail = tail; head = head; low = pos 0; cap = pos 1; cost = cost })) (demand_other _ fault.NotAcrossSides (λ h. cc)) (λ _.
+    tt)))))
+
+read_row_of_other : (kind : Kind) (nodes : ℕ) (marks : List NodeMark) (fields : List Word) → IsOther (read_row_of kind nodes marks fields)
+read_row_of_other Min nodes marks fields = read_min_row_other nodes fields
+read_row_of_other Max nodes marks fields = read_max_row_other nodes fields
+read_row_of_other Asn nodes marks fields = read_asn_row_other nodes marks fields
+
+read_row_other : (told : Told) (fields : List Word) → IsOther (read_row told fields)
+unfolding read_row
+read_row_other told fields =
+    bind_other (some_or told.size fault.BeforeProblemLine) (λ size. demand (has_terminals size.kind told.marks) fault.EndpointMissing >>= λ _. demand (nat_lt (length told.rows) size.arcs) fault.TooManyArcs >>= λ _. read_row_of size.kind size.nodes told.marks fields) (some_or_other told.size fault.BeforeProblemLine (λ h. cc)) (λ size.
+    bind_other (demand (has_terminals size.kind told.marks) fault.EndpointMissing) (λ _. demand (nat_lt (length told.rows) size.arcs) fault.TooManyArcs >>= λ _. read_row_of size.kind size.nodes told.marks fields) (demand_other _ fault.EndpointMissing (λ h. cc)) (λ _.
+    bind_other (demand (nat_lt (length told.rows) size.arcs) fault.TooManyArcs) (λ _. read_row_of size.kind size.nodes told.marks fields) (demand_other _ fault.TooManyArcs (λ h. cc)) (λ _.
+    read_row_of_other size.kind size.nodes told.marks fields)))
 
 pub fault_other : {A : Type 0} (r : Result A Fault) → IsOther r → fault_of r ≢ Some fault.LineTooLong
 fault_other (Ok x) h = λ e. cc
@@ -109,13 +164,14 @@ fault_by_other told (Some designator.Unknown) fields = λ e. cc
 number_of_fault : (f : Fault) (line other : ℕ) → ◌≡◌ {A = Result ProblemValue TextFault} (Err (at_line f line)) (Err (text_fault.Fault 1 other)) → number_of f ≡ 1
 number_of_fault f line other e = cc
 
-few_by : (few : Bool) (value : ProblemValue) (line other : ℕ) → or_at (cond few (Err fault.TooFewArcs) (Ok value)) line ≢ Err (text_fault.Fault 1 other)
-few_by true value line other = λ e. absurd (omega (arith, number_of_fault fault.TooFewArcs line other e))
-few_by false value line other = λ e. cc
+end_by : (named few : Bool) (value : ProblemValue) (line other : ℕ) → or_at (cond (not named) (Err fault.EndpointMissing) (cond few (Err fault.TooFewArcs) (Ok value))) line ≢ Err (text_fault.Fault 1 other)
+end_by false few value line other = λ e. absurd (omega (arith, number_of_fault fault.EndpointMissing line other e))
+end_by true true value line other = λ e. absurd (omega (arith, number_of_fault fault.TooFewArcs line other e))
+end_by true false value line other = λ e. cc
 
 ending_other : (size : Option Size) (told : Told) (line other : ℕ) → or_at (ending_by size told) line ≢ Err (text_fault.Fault 1 other)
 ending_other None told line other = λ e. absurd (omega (arith, number_of_fault fault.NoProblemLine line other e))
-ending_other (Some size) told line other = few_by (nat_lt (length told.rows) size.arcs) _ line other
+ending_other (Some size) told line other = end_by (has_terminals size.kind told.marks) (nat_lt (length told.rows) size.arcs) _ line other
 
 pub rule_other : (before : List Line) (line : Line) → problem_rule before line ≢ Some fault.LineTooLong
 rule_other before line = fault_by_other (told_of before) (first_of (words_of line)) (fields_of (words_of line))

@@ -1,21 +1,23 @@
 -- What it means that a line was read.
-use Rattle.std.proofs.Common.{◌≡◌, ℕ, ◌<◌, ◌≤◌, Bool, true, false, cond, if◌then◌else◌, not, ◌&&◌, leb, List, [], ◌∷◌, length, Option, Some, None, Result, Ok, Err, ℤ, pos, neg_ℤ, refl, ap, subst, ◌∙◌, arith}
+use Rattle.std.proofs.Common.{◌≡◌, ℕ, ◌<◌, ◌≤◌, Bool, true, false, cond, if◌then◌else◌, not, ◌&&◌, ◌||◌, leb, List, [], ◌∷◌, ◌++◌, length, Option, Some, None, Result, Ok, Err, ℤ, pos, neg_ℤ, refl, ap, subst, ◌∙◌, arith}
 use Rattle.std.specs.Prelude.{int_le, nat_le, nat_lt, ◌==◌, is_none, unwrap_or}
-use Rattle.std.proofs.lemmas.Bool.{leb-true, ltb-true}
+use Rattle.std.proofs.lemmas.Bool.{leb-true, ltb-true, eqb-true}
 use Rattle.std.proofs.lemmas.Float.{T_from_true}
 use Rattle.std.proofs.lemmas.Int.{ints}
+use Rattle.std.proofs.lemmas.List.{nil_from_length}
+use Rattle.std.proofs.lemmas.List.Elements.{All-push}
 use Rattle.dimacs_text.specs.declared.fault.Fault.{Fault}
 use Rattle.dimacs_text.specs.declared.fault.Fault.TheVariants as fault
 use Rattle.dimacs_text.specs.declared.problem.Kind.{Kind}
-use Rattle.dimacs_text.specs.declared.problem.Kind.TheVariants.{Min}
+use Rattle.dimacs_text.specs.declared.problem.Kind.TheVariants.{Min, Max, Asn}
 use Rattle.dimacs_text.specs.declared.problem.NodeMark.{NodeMark}
-use Rattle.dimacs_text.specs.declared.problem.NodeMark.TheVariants.{Supply}
+use Rattle.dimacs_text.specs.declared.problem.NodeMark.TheVariants.{Supply, Source, Sink, Side}
 use Rattle.dimacs_text.specs.declared.problem.ArcRow.{ArcRow}
 use Rattle.dimacs_text.specs.declared.problem.Size.{Size}
 use Rattle.dimacs_text.specs.declared.problem.TheConstants.{NODE_LIMIT, ARC_LIMIT, CAP_LIMIT, COST_LIMIT, SUPPLY_LIMIT}
 use Rattle.dimacs_text.specs.Fields.{Word, natural, integer}
-use Rattle.dimacs_text.specs.Problem.{Told, kind_in, ◌>>=◌, demand, some_or, natural_in, integer_in, natural_value, integer_value, read_size, read_mark, read_row, field, node_of, is_named, mark_of, row_of, size_of, new_marks, new_rows}
-use Rattle.dimacs_text.specs.Lawful.{IsWithin, IsLawfulSize, IsLawfulMark, IsLawfulRow, IsSupply}
+use Rattle.dimacs_text.specs.Problem.{Told, kind_named, kind_of, kind_in, ◌>>=◌, demand, some_or, natural_in, integer_in, natural_value, integer_value, is_source_word, is_sink_word, has_source, has_sink, has_terminals, terminal_by, read_size, read_mark, read_mark_of, read_supply, read_terminal, read_side, read_row, read_row_of, read_min_row, read_max_row, read_asn_row, field, node_of, is_named, mark_of, row_of, size_of, new_marks, new_rows}
+use Rattle.dimacs_text.specs.Lawful.{IsNode, IsWithin, IsLawfulSize, IsLawfulMark, IsLawfulRow, HasLawfulSupply, IsSupply, IsSide, AreOpposite, AreTerminals, MarksFit, RowFits}
 
 -- the value of a step that did not fail
 pub bind_ok : {A B : Type 0} (r : Result A Fault) (f : A → Result B Fault) (y : B) → (r >>= f) ≡ Ok y → (x : A) × (r ≡ Ok x) × (f x ≡ Ok y)
@@ -43,7 +45,7 @@ range_ok : (met : Bool) (f : Fault) (n m : ℕ) → cond met (Ok n) (Err f) ≡ 
 range_ok true f n m e = (refl, cc)
 range_ok false f n m e = absurd cc
 
-and_true : (a b : Bool) → (a && b) ≡ true → (a ≡ true) × (b ≡ true)
+pub and_true : (a b : Bool) → (a && b) ≡ true → (a ≡ true) × (b ≡ true)
 and_true true b e = (refl, e)
 and_true false b e = absurd cc
 
@@ -76,16 +78,8 @@ integer_by limit (Some y) z e =
 pub integer_in-ok : (limit : ℤ) (word : Word) (z : ℤ) → integer_in limit word ≡ Ok z → IntegerIsRead limit word z
 integer_in-ok limit word z e = let r = integer_by limit (integer word) z e in record { value = r.0; within = r.1 }
 
-kind_by : (met : Bool) (kind : Kind) → cond met (Ok Min) (Err fault.UnknownKind) ≡ Ok kind → kind ≡ Min
-kind_by true kind e = cc
-kind_by false kind e = absurd cc
-
-kind_is : (kind : Kind) (word : Word) → kind_in word ≡ Ok kind → kind ≡ Min
-kind_is kind [] e = absurd cc
-kind_is kind (a ∷ []) e = absurd cc
-kind_is kind (a ∷ b ∷ []) e = absurd cc
-kind_is kind (a ∷ b ∷ c ∷ []) e = kind_by (a == 109 && b == 105 && c == 110) kind e
-kind_is kind (a ∷ b ∷ c ∷ d ∷ word) e = absurd cc
+kind_is : (kind : Kind) (word : Word) → kind_in word ≡ Ok kind → kind_of word ≡ kind
+kind_is kind word e = ap (λ (o : Option Kind). unwrap_or o Min) (some_or_ok (kind_named word) fault.UnknownKind kind e)
 
 not_true : (b : Bool) → not b ≡ true → b ≡ false
 not_true true e = absurd cc
@@ -99,7 +93,6 @@ none_is (Some size) e = absurd cc
 pub record SizeIsRead (told : Told) (fields : List Word) (size : Size) : Type 0 where
   pub first : told.size ≡ None
   pub lawful : IsLawfulSize size
-  pub kind : size.kind ≡ Min
   pub size_is : size_of fields ≡ size
 
 pub read_size-ok : (told : Told) (fields : List Word) (size : Size) → read_size told fields ≡ Ok size → SizeIsRead told fields size
@@ -116,73 +109,223 @@ read_size-ok told fields size ok =
     record {
       first = none_is told.size (demand_ok _ _ s1.0 s1.1);
       lawful = subst (λ (s : Size). IsLawfulSize s) is (record { some_node = nodes.above; nodes = nodes.below; arcs = arcs.below });
-      kind = subst (λ (s : Size). s.kind ≡ Min) is (kind_is s3.0 (field 0 fields) s3.1);
-      size_is = rw (nodes.value, arcs.value, ← kind_is s3.0 (field 0 fields) s3.1) is;
+      size_is = rw (nodes.value, arcs.value, kind_is s3.0 (field 0 fields) s3.1) is;
     }
+
+-- ---- node lines
+
+-- what the fields of a node line say
+pub record FieldsAreMark (kind : Kind) (nodes : ℕ) (marks : List NodeMark) (fields : List Word) (mark : NodeMark) : Type 0 where
+  pub lawful : IsLawfulMark nodes mark
+  pub fits : MarksFit kind marks → MarksFit kind (marks ++ mark ∷ [])
+  pub fresh : is_named (node_of mark) marks ≡ false
+  pub mark_is : mark_of kind fields ≡ mark
+
+read_supply-ok : (nodes : ℕ) (marks : List NodeMark) (fields : List Word) (mark : NodeMark) → read_supply nodes marks fields ≡ Ok mark → FieldsAreMark Min nodes marks fields mark
+unfolding read_supply
+read_supply-ok nodes marks fields mark ok =
+    let s1 = bind_ok (demand (length fields == 2) fault.WrongFieldCount) (λ _. natural_in 1 nodes (field 0 fields) >>= λ id. integer_in SUPPLY_LIMIT (field 1 fields) >>= λ value. demand (not (is_named id marks)) fault.NamedTwice >>= λ _. Ok (Supply id value)) mark ok in
+    let s2 = bind_ok (natural_in 1 nodes (field 0 fields)) (λ id. integer_in SUPPLY_LIMIT (field 1 fields) >>= λ value. demand (not (is_named id marks)) fault.NamedTwice >>= λ _. Ok (Supply id value)) mark s1.2 in
+    let s3 = bind_ok (integer_in SUPPLY_LIMIT (field 1 fields)) (λ value. demand (not (is_named s2.0 marks)) fault.NamedTwice >>= λ _. Ok (Supply s2.0 value)) mark s2.2 in
+    let s4 = bind_ok (demand (not (is_named s2.0 marks)) fault.NamedTwice) (λ _. Ok (Supply s2.0 s3.0)) mark s3.2 in
+    let id = natural_in-ok 1 nodes (field 0 fields) s2.0 s2.1 in
+    let value = integer_in-ok SUPPLY_LIMIT (field 1 fields) s3.0 s3.1 in
+    let is : Supply s2.0 s3.0 ≡ mark = ok_is _ mark s4.2 in
+    record {
+      lawful = subst (λ (m : NodeMark). IsLawfulMark nodes m) is (record { node = (id.above, id.below); supply = value.within });
+      fits = λ fit. All-push IsSupply marks mark fit (subst (λ (m : NodeMark). IsSupply m) is tt);
+      fresh = subst (λ (m : NodeMark). is_named (node_of m) marks ≡ false) is (not_true _ (demand_ok _ _ s4.0 s4.1));
+      mark_is = rw (id.value, value.value) is;
+    }
+
+both_ways : (b : Bool) → b ≡ true → b ≡ false → ⊥
+both_ways b is isnt = cc
+
+opposite_are : (first second : NodeMark) → AreOpposite first second → (has_source (first ∷ second ∷ []) ≡ true) × (has_sink (first ∷ second ∷ []) ≡ true)
+opposite_are (Source a) (Sink b) are = (refl, refl)
+opposite_are (Sink a) (Source b) are = (refl, refl)
+opposite_are first second are = absurd are
+
+source_added : (marks : List NodeMark) (id : ℕ) → has_source marks ≡ false → AreTerminals marks → AreTerminals (marks ++ Source id ∷ [])
+source_added [] id none are = tt
+source_added (Sink a ∷ []) id none are = tt
+source_added (Source a ∷ []) id none are = absurd (both_ways true refl none)
+source_added (Supply a value ∷ []) id none are = absurd are
+source_added (Side a ∷ []) id none are = absurd are
+source_added (first ∷ second ∷ []) id none are = absurd (both_ways _ (opposite_are first second are).0 none)
+source_added (first ∷ second ∷ third ∷ marks) id none are = absurd are
+
+sink_added : (marks : List NodeMark) (id : ℕ) → has_sink marks ≡ false → AreTerminals marks → AreTerminals (marks ++ Sink id ∷ [])
+sink_added [] id none are = tt
+sink_added (Source a ∷ []) id none are = tt
+sink_added (Sink a ∷ []) id none are = absurd (both_ways true refl none)
+sink_added (Supply a value ∷ []) id none are = absurd are
+sink_added (Side a ∷ []) id none are = absurd are
+sink_added (first ∷ second ∷ []) id none are = absurd (both_ways _ (opposite_are first second are).1 none)
+sink_added (first ∷ second ∷ third ∷ marks) id none are = absurd are
+
+-- what a terminal's mark says
+record IsTerminalAt (source : Bool) (id : ℕ) (marks : List NodeMark) (mark : NodeMark) : Type 0 where
+  pub mark_is : cond source (Source id) (Sink id) ≡ mark
+  pub node_is : id ≡ node_of mark
+  pub supply : HasLawfulSupply mark
+  pub fits : AreTerminals marks → AreTerminals (marks ++ mark ∷ [])
+
+terminal_by-ok : (source : Bool) (id : ℕ) (marks : List NodeMark) (mark : NodeMark) → terminal_by source id marks ≡ Ok mark → IsTerminalAt source id marks mark
+terminal_by-ok true id marks mark ok =
+    let s1 = bind_ok (demand (not (has_source marks)) fault.NamedTwice) (λ _. Ok (Source id)) mark ok in
+    let is : Source id ≡ mark = ok_is _ mark s1.2 in
+    subst (λ (m : NodeMark). IsTerminalAt true id marks m) is (record { mark_is = refl; node_is = refl; supply = tt; fits = source_added marks id (not_true _ (demand_ok _ _ s1.0 s1.1)) })
+terminal_by-ok false id marks mark ok =
+    let s1 = bind_ok (demand (not (has_sink marks)) fault.NamedTwice) (λ _. Ok (Sink id)) mark ok in
+    let is : Sink id ≡ mark = ok_is _ mark s1.2 in
+    subst (λ (m : NodeMark). IsTerminalAt false id marks m) is (record { mark_is = refl; node_is = refl; supply = tt; fits = sink_added marks id (not_true _ (demand_ok _ _ s1.0 s1.1)) })
+
+read_terminal-ok : (nodes : ℕ) (marks : List NodeMark) (fields : List Word) (mark : NodeMark) → read_terminal nodes marks fields ≡ Ok mark → FieldsAreMark Max nodes marks fields mark
+unfolding read_terminal
+read_terminal-ok nodes marks fields mark ok =
+    let s1 = bind_ok (demand (length fields == 2) fault.WrongFieldCount) (λ _. natural_in 1 nodes (field 0 fields) >>= λ id. demand (is_source_word (field 1 fields) || is_sink_word (field 1 fields)) fault.UnknownNodeWord >>= λ _. demand (not (is_named id marks)) fault.NamedTwice >>= λ _. terminal_by (is_source_word (field 1 fields)) id marks) mark ok in
+    let s2 = bind_ok (natural_in 1 nodes (field 0 fields)) (λ id. demand (is_source_word (field 1 fields) || is_sink_word (field 1 fields)) fault.UnknownNodeWord >>= λ _. demand (not (is_named id marks)) fault.NamedTwice >>= λ _. terminal_by (is_source_word (field 1 fields)) id marks) mark s1.2 in
+    let s3 = bind_ok (demand (is_source_word (field 1 fields) || is_sink_word (field 1 fields)) fault.UnknownNodeWord) (λ _. demand (not (is_named s2.0 marks)) fault.NamedTwice >>= λ _. terminal_by (is_source_word (field 1 fields)) s2.0 marks) mark s2.2 in
+    let s4 = bind_ok (demand (not (is_named s2.0 marks)) fault.NamedTwice) (λ _. terminal_by (is_source_word (field 1 fields)) s2.0 marks) mark s3.2 in
+    let id = natural_in-ok 1 nodes (field 0 fields) s2.0 s2.1 in
+    let read = terminal_by-ok (is_source_word (field 1 fields)) s2.0 marks mark s4.2 in
+    record {
+      lawful = record { node = subst (λ (n : ℕ). IsNode nodes n) read.node_is (id.above, id.below); supply = read.supply };
+      fits = read.fits;
+      fresh = subst (λ (n : ℕ). is_named n marks ≡ false) read.node_is (not_true _ (demand_ok _ _ s4.0 s4.1));
+      mark_is = rw id.value read.mark_is;
+    }
+
+read_side-ok : (nodes : ℕ) (marks : List NodeMark) (fields : List Word) (mark : NodeMark) → read_side nodes marks fields ≡ Ok mark → FieldsAreMark Asn nodes marks fields mark
+unfolding read_side
+read_side-ok nodes marks fields mark ok =
+    let s1 = bind_ok (demand (length fields == 1) fault.WrongFieldCount) (λ _. natural_in 1 nodes (field 0 fields) >>= λ id. demand (not (is_named id marks)) fault.NamedTwice >>= λ _. Ok (Side id)) mark ok in
+    let s2 = bind_ok (natural_in 1 nodes (field 0 fields)) (λ id. demand (not (is_named id marks)) fault.NamedTwice >>= λ _. Ok (Side id)) mark s1.2 in
+    let s3 = bind_ok (demand (not (is_named s2.0 marks)) fault.NamedTwice) (λ _. Ok (Side s2.0)) mark s2.2 in
+    let id = natural_in-ok 1 nodes (field 0 fields) s2.0 s2.1 in
+    let is : Side s2.0 ≡ mark = ok_is _ mark s3.2 in
+    record {
+      lawful = subst (λ (m : NodeMark). IsLawfulMark nodes m) is (record { node = (id.above, id.below); supply = tt });
+      fits = λ fit. All-push IsSide marks mark fit (subst (λ (m : NodeMark). IsSide m) is tt);
+      fresh = subst (λ (m : NodeMark). is_named (node_of m) marks ≡ false) is (not_true _ (demand_ok _ _ s3.0 s3.1));
+      mark_is = rw id.value is;
+    }
+
+read_mark_of-ok : (kind : Kind) (nodes : ℕ) (marks : List NodeMark) (fields : List Word) (mark : NodeMark) → read_mark_of kind nodes marks fields ≡ Ok mark → FieldsAreMark kind nodes marks fields mark
+read_mark_of-ok Min nodes marks fields mark ok = read_supply-ok nodes marks fields mark ok
+read_mark_of-ok Max nodes marks fields mark ok = read_terminal-ok nodes marks fields mark ok
+read_mark_of-ok Asn nodes marks fields mark ok = read_side-ok nodes marks fields mark ok
 
 -- what a node line says
 pub record MarkIsRead (told : Told) (fields : List Word) (mark : NodeMark) : Type 0 where
   pub size : Size
   pub size_is : told.size ≡ Some size
-  pub lawful : IsLawfulMark size.nodes mark
-  pub supply : IsSupply mark
-  pub fresh : is_named (node_of mark) told.marks ≡ false
-  pub mark_is : mark_of size.kind fields ≡ mark
+  pub no_rows : told.rows ≡ []
+  pub read : FieldsAreMark size.kind size.nodes told.marks fields mark
 
 pub read_mark-ok : (told : Told) (fields : List Word) (mark : NodeMark) → read_mark told fields ≡ Ok mark → MarkIsRead told fields mark
 unfolding read_mark
 read_mark-ok told fields mark ok =
-    let s1 = bind_ok (some_or told.size fault.BeforeProblemLine) (λ size. demand (length told.rows == 0) fault.NodeAfterArc >>= λ _. demand (length fields == 2) fault.WrongFieldCount >>= λ _. natural_in 1 size.nodes (field 0 fields) >>= λ id. integer_in SUPPLY_LIMIT (field 1 fields) >>= λ value. demand (not (is_named id told.marks)) fault.NamedTwice >>= λ _. Ok (Supply id value)) mark ok in
-    let s2 = bind_ok (demand (length told.rows == 0) fault.NodeAfterArc) (λ _. demand (length fields == 2) fault.WrongFieldCount >>= λ _. natural_in 1 s1.0.nodes (field 0 fields) >>= λ id. integer_in SUPPLY_LIMIT (field 1 fields) >>= λ value. demand (not (is_named id told.marks)) fault.NamedTwice >>= λ _. Ok (Supply id value)) mark s1.2 in
-    let s3 = bind_ok (demand (length fields == 2) fault.WrongFieldCount) (λ _. natural_in 1 s1.0.nodes (field 0 fields) >>= λ id. integer_in SUPPLY_LIMIT (field 1 fields) >>= λ value. demand (not (is_named id told.marks)) fault.NamedTwice >>= λ _. Ok (Supply id value)) mark s2.2 in
-    let s4 = bind_ok (natural_in 1 s1.0.nodes (field 0 fields)) (λ id. integer_in SUPPLY_LIMIT (field 1 fields) >>= λ value. demand (not (is_named id told.marks)) fault.NamedTwice >>= λ _. Ok (Supply id value)) mark s3.2 in
-    let s5 = bind_ok (integer_in SUPPLY_LIMIT (field 1 fields)) (λ value. demand (not (is_named s4.0 told.marks)) fault.NamedTwice >>= λ _. Ok (Supply s4.0 value)) mark s4.2 in
-    let s6 = bind_ok (demand (not (is_named s4.0 told.marks)) fault.NamedTwice) (λ _. Ok (Supply s4.0 s5.0)) mark s5.2 in
-    let id = natural_in-ok 1 s1.0.nodes (field 0 fields) s4.0 s4.1 in
-    let value = integer_in-ok SUPPLY_LIMIT (field 1 fields) s5.0 s5.1 in
-    let is : Supply s4.0 s5.0 ≡ mark = ok_is _ mark s6.2 in
+    let s1 = bind_ok (some_or told.size fault.BeforeProblemLine) (λ size. demand (length told.rows == 0) fault.NodeAfterArc >>= λ _. read_mark_of size.kind size.nodes told.marks fields) mark ok in
+    let s2 = bind_ok (demand (length told.rows == 0) fault.NodeAfterArc) (λ _. read_mark_of s1.0.kind s1.0.nodes told.marks fields) mark s1.2 in
     record {
       size = s1.0;
       size_is = some_or_ok told.size fault.BeforeProblemLine s1.0 s1.1;
-      lawful = subst (λ (m : NodeMark). IsLawfulMark s1.0.nodes m) is (record { node = (id.above, id.below); supply = value.within });
-      supply = subst (λ (m : NodeMark). IsSupply m) is tt;
-      fresh = subst (λ (m : NodeMark). is_named (node_of m) told.marks ≡ false) is (not_true _ (demand_ok _ _ s6.0 s6.1));
-      mark_is = rw (id.value, value.value) is;
+      no_rows = nil_from_length told.rows (eqb-true _ _ (demand_ok _ _ s2.0 s2.1));
+      read = read_mark_of-ok s1.0.kind s1.0.nodes told.marks fields mark s2.2;
     }
+
+-- ---- arc lines
+
+-- what the fields of an arc line say
+pub record FieldsAreRow (kind : Kind) (nodes : ℕ) (marks : List NodeMark) (fields : List Word) (row : ArcRow) : Type 0 where
+  pub lawful : IsLawfulRow nodes row
+  pub fits : RowFits kind marks row
+  pub row_is : row_of kind fields ≡ row
+
+read_min_row-ok : (nodes : ℕ) (marks : List NodeMark) (fields : List Word) (row : ArcRow) → read_min_row nodes fields ≡ Ok row → FieldsAreRow Min nodes marks fields row
+unfolding read_min_row
+read_min_row-ok nodes marks fields row ok =
+    let s1 = bind_ok (demand (length fields == 5) fault.WrongFieldCount) (λ _. natural_in 1 nodes (field 0 fields) >>= λ tail. natural_in 1 nodes (field 1 fields) >>= λ head. natural_in 0 CAP_LIMIT (field 2 fields) >>= λ low. natural_in 0 CAP_LIMIT (field 3 fields) >>= λ cap. integer_in COST_LIMIT (field 4 fields) >>= λ cost. demand (nat_le low cap) fault.LowAboveCap >>= λ _. Ok (record { tail = tail; head = head; low = pos low; cap = pos cap; cost = cost })) row ok in
+    let s2 = bind_ok (natural_in 1 nodes (field 0 fields)) (λ tail. natural_in 1 nodes (field 1 fields) >>= λ head. natural_in 0 CAP_LIMIT (field 2 fields) >>= λ low. natural_in 0 CAP_LIMIT (field 3 fields) >>= λ cap. integer_in COST_LIMIT (field 4 fields) >>= λ cost. demand (nat_le low cap) fault.LowAboveCap >>= λ _. Ok (record { tail = tail; head = head; low = pos low; cap = pos cap; cost = cost })) row s1.2 in
+    let s3 = bind_ok (natural_in 1 nodes (field 1 fields)) (λ head. natural_in 0 CAP_LIMIT (field 2 fields) >>= λ low. natural_in 0 CAP_LIMIT (field 3 fields) >>= λ cap. integer_in COST_LIMIT (field 4 fields) >>= λ cost. demand (nat_le low cap) fault.LowAboveCap >>= λ _. Ok (record { tail = s2.0; head = head; low = pos low; cap = pos cap; cost = cost })) row s2.2 in
+    let s4 = bind_ok (natural_in 0 CAP_LIMIT (field 2 fields)) (λ low. natural_in 0 CAP_LIMIT (field 3 fields) >>= λ cap. integer_in COST_LIMIT (field 4 fields) >>= λ cost. demand (nat_le low cap) fault.LowAboveCap >>= λ _. Ok (record { tail = s2.0; head = s3.0; low = pos low; cap = pos cap; cost = cost })) row s3.2 in
+    let s5 = bind_ok (natural_in 0 CAP_LIMIT (field 3 fields)) (λ cap. integer_in COST_LIMIT (field 4 fields) >>= λ cost. demand (nat_le s4.0 cap) fault.LowAboveCap >>= λ _. Ok (record { tail = s2.0; head = s3.0; low = pos s4.0; cap = pos cap; cost = cost })) row s4.2 in
+    let s6 = bind_ok (integer_in COST_LIMIT (field 4 fields)) (λ cost. demand (nat_le s4.0 s5.0) fault.LowAboveCap >>= λ _. Ok (record { tail = s2.0; head = s3.0; low = pos s4.0; cap = pos s5.0; cost = cost })) row s5.2 in
+    let s7 = bind_ok (demand (nat_le s4.0 s5.0) fault.LowAboveCap) (λ _. Ok (record { tail = s2.0; head = s3.0; low = pos s4.0; cap = pos s5.0; cost = s6.0 })) row s6.2 in
+    let tail = natural_in-ok 1 nodes (field 0 fields) s2.0 s2.1 in
+    let head = natural_in-ok 1 nodes (field 1 fields) s3.0 s3.1 in
+    let low = natural_in-ok 0 CAP_LIMIT (field 2 fields) s4.0 s4.1 in
+    let cap = natural_in-ok 0 CAP_LIMIT (field 3 fields) s5.0 s5.1 in
+    let cost = integer_in-ok COST_LIMIT (field 4 fields) s6.0 s6.1 in
+    let low_cap : s4.0 ≤ s5.0 = leb-true _ _ (demand_ok _ _ s7.0 s7.1) in
+    let is : ◌≡◌ {A = ArcRow} (record { tail = s2.0; head = s3.0; low = pos s4.0; cap = pos s5.0; cost = s6.0 }) row = ok_is _ row s7.2 in
+    record {
+      lawful = subst (λ (r : ArcRow). IsLawfulRow nodes r) is (record { tail = (tail.above, tail.below); head = (head.above, head.below); low = omega (arith, ints); cap = omega (arith, ints); limit = omega (arith, ints, cap.below); cost = cost.within });
+      fits = tt;
+      row_is = rw (tail.value, head.value, low.value, cap.value, cost.value) is;
+    }
+
+read_max_row-ok : (nodes : ℕ) (marks : List NodeMark) (fields : List Word) (row : ArcRow) → read_max_row nodes fields ≡ Ok row → FieldsAreRow Max nodes marks fields row
+unfolding read_max_row
+read_max_row-ok nodes marks fields row ok =
+    let s1 = bind_ok (demand (length fields == 3) fault.WrongFieldCount) (λ _. natural_in 1 nodes (field 0 fields) >>= λ tail. natural_in 1 nodes (field 1 fields) >>= λ head. natural_in 0 CAP_LIMIT (field 2 fields) >>= λ cap. Ok (record { tail = tail; head = head; low = pos 0; cap = pos cap; cost = pos 0 })) row ok in
+    let s2 = bind_ok (natural_in 1 nodes (field 0 fields)) (λ tail. natural_in 1 nodes (field 1 fields) >>= λ head. natural_in 0 CAP_LIMIT (field 2 fields) >>= λ cap. Ok (record { tail = tail; head = head; low = pos 0; cap = pos cap; cost = pos 0 })) row s1.2 in
+    let s3 = bind_ok (natural_in 1 nodes (field 1 fields)) (λ head. natural_in 0 CAP_LIMIT (field 2 fields) >>= λ cap. Ok (record { tail = s2.0; head = head; low = pos 0; cap = pos cap; cost = pos 0 })) row s2.2 in
+    let s4 = bind_ok (natural_in 0 CAP_LIMIT (field 2 fields)) (λ cap. Ok (record { tail = s2.0; head = s3.0; low = pos 0; cap = pos cap; cost = pos 0 })) row s3.2 in
+    let tail = natural_in-ok 1 nodes (field 0 fields) s2.0 s2.1 in
+    let head = natural_in-ok 1 nodes (field 1 fields) s3.0 s3.1 in
+    let cap = natural_in-ok 0 CAP_LIMIT (field 2 fields) s4.0 s4.1 in
+    let is : ◌≡◌ {A = ArcRow} (record { tail = s2.0; head = s3.0; low = pos 0; cap = pos s4.0; cost = pos 0 }) row = ok_is _ row s4.2 in
+    record {
+      lawful = subst (λ (r : ArcRow). IsLawfulRow nodes r) is (record { tail = (tail.above, tail.below); head = (head.above, head.below); low = omega (arith, ints); cap = omega (arith, ints); limit = omega (arith, ints, cap.below); cost = (omega (arith, ints), omega (arith, ints)) });
+      fits = subst (λ (r : ArcRow). RowFits Max marks r) is (refl, refl);
+      row_is = rw (tail.value, head.value, cap.value) is;
+    }
+
+read_asn_row-ok : (nodes : ℕ) (marks : List NodeMark) (fields : List Word) (row : ArcRow) → read_asn_row nodes marks fields ≡ Ok row → FieldsAreRow Asn nodes marks fields row
+unfolding read_asn_row
+read_asn_row-ok nodes marks fields row ok =
+    let s1 = bind_ok (demand (length fields == 3) fault.WrongFieldCount) (λ _. natural_in 1 nodes (field 0 fields) >>= λ tail. natural_in 1 nodes (field 1 fields) >>= λ head. integer_in COST_LIMIT (field 2 fields) >>= λ cost. demand (is_named tail marks && not (is_named head marks)) fault.NotAcrossSides >>= λ _. Ok (record { tail = tail; head = head; low = pos 0; cap = pos 1; cost = cost })) row ok in
+    let s2 = bind_ok (natural_in 1 nodes (field 0 fields)) (λ tail. natural_in 1 nodes (field 1 fields) >>= λ head. integer_in COST_LIMIT (field 2 fields) >>= λ cost. demand (is_named tail marks && not (is_named head marks)) fault.NotAcrossSides >>= λ _. Ok (record { tail = tail; head = head; low = pos 0; cap = pos 1; cost = cost })) row s1.2 in
+    let s3 = bind_ok (natural_in 1 nodes (field 1 fields)) (λ head. integer_in COST_LIMIT (field 2 fields) >>= λ cost. demand (is_named s2.0 marks && not (is_named head marks)) fault.NotAcrossSides >>= λ _. Ok (record { tail = s2.0; head = head; low = pos 0; cap = pos 1; cost = cost })) row s2.2 in
+    let s4 = bind_ok (integer_in COST_LIMIT (field 2 fields)) (λ cost. demand (is_named s2.0 marks && not (is_named s3.0 marks)) fault.NotAcrossSides >>= λ _. Ok (record { tail = s2.0; head = s3.0; low = pos 0; cap = pos 1; cost = cost })) row s3.2 in
+    let s5 = bind_ok (demand (is_named s2.0 marks && not (is_named s3.0 marks)) fault.NotAcrossSides) (λ _. Ok (record { tail = s2.0; head = s3.0; low = pos 0; cap = pos 1; cost = s4.0 })) row s4.2 in
+    let tail = natural_in-ok 1 nodes (field 0 fields) s2.0 s2.1 in
+    let head = natural_in-ok 1 nodes (field 1 fields) s3.0 s3.1 in
+    let cost = integer_in-ok COST_LIMIT (field 2 fields) s4.0 s4.1 in
+    let across = and_true (is_named s2.0 marks) (not (is_named s3.0 marks)) (demand_ok _ _ s5.0 s5.1) in
+    let is : ◌≡◌ {A = ArcRow} (record { tail = s2.0; head = s3.0; low = pos 0; cap = pos 1; cost = s4.0 }) row = ok_is _ row s5.2 in
+    record {
+      lawful = subst (λ (r : ArcRow). IsLawfulRow nodes r) is (record { tail = (tail.above, tail.below); head = (head.above, head.below); low = omega (arith, ints); cap = omega (arith, ints); limit = omega (arith, ints); cost = cost.within });
+      fits = subst (λ (r : ArcRow). RowFits Asn marks r) is (refl, refl, across.0, not_true _ across.1);
+      row_is = rw (tail.value, head.value, cost.value) is;
+    }
+
+read_row_of-ok : (kind : Kind) (nodes : ℕ) (marks : List NodeMark) (fields : List Word) (row : ArcRow) → read_row_of kind nodes marks fields ≡ Ok row → FieldsAreRow kind nodes marks fields row
+read_row_of-ok Min nodes marks fields row ok = read_min_row-ok nodes marks fields row ok
+read_row_of-ok Max nodes marks fields row ok = read_max_row-ok nodes marks fields row ok
+read_row_of-ok Asn nodes marks fields row ok = read_asn_row-ok nodes marks fields row ok
 
 -- what an arc line says
 pub record RowIsRead (told : Told) (fields : List Word) (row : ArcRow) : Type 0 where
   pub size : Size
   pub size_is : told.size ≡ Some size
   pub room : length told.rows < size.arcs
-  pub lawful : IsLawfulRow size.nodes row
-  pub row_is : row_of size.kind fields ≡ row
+  pub read : FieldsAreRow size.kind size.nodes told.marks fields row
 
 pub read_row-ok : (told : Told) (fields : List Word) (row : ArcRow) → read_row told fields ≡ Ok row → RowIsRead told fields row
 unfolding read_row
 read_row-ok told fields row ok =
-    let s1 = bind_ok (some_or told.size fault.BeforeProblemLine) (λ size. demand (nat_lt (length told.rows) size.arcs) fault.TooManyArcs >>= λ _. demand (length fields == 5) fault.WrongFieldCount >>= λ _. natural_in 1 size.nodes (field 0 fields) >>= λ tail. natural_in 1 size.nodes (field 1 fields) >>= λ head. natural_in 0 CAP_LIMIT (field 2 fields) >>= λ low. natural_in 0 CAP_LIMIT (field 3 fields) >>= λ cap. integer_in COST_LIMIT (field 4 fields) >>= λ cost. demand (nat_le low cap) fault.LowAboveCap >>= λ _. Ok (record { tail = tail; head = head; low = pos low; cap = pos cap; cost = cost })) row ok in
-    let s2 = bind_ok (demand (nat_lt (length told.rows) s1.0.arcs) fault.TooManyArcs) (λ _. demand (length fields == 5) fault.WrongFieldCount >>= λ _. natural_in 1 s1.0.nodes (field 0 fields) >>= λ tail. natural_in 1 s1.0.nodes (field 1 fields) >>= λ head. natural_in 0 CAP_LIMIT (field 2 fields) >>= λ low. natural_in 0 CAP_LIMIT (field 3 fields) >>= λ cap. integer_in COST_LIMIT (field 4 fields) >>= λ cost. demand (nat_le low cap) fault.LowAboveCap >>= λ _. Ok (record { tail = tail; head = head; low = pos low; cap = pos cap; cost = cost })) row s1.2 in
-    let s3 = bind_ok (demand (length fields == 5) fault.WrongFieldCount) (λ _. natural_in 1 s1.0.nodes (field 0 fields) >>= λ tail. natural_in 1 s1.0.nodes (field 1 fields) >>= λ head. natural_in 0 CAP_LIMIT (field 2 fields) >>= λ low. natural_in 0 CAP_LIMIT (field 3 fields) >>= λ cap. integer_in COST_LIMIT (field 4 fields) >>= λ cost. demand (nat_le low cap) fault.LowAboveCap >>= λ _. Ok (record { tail = tail; head = head; low = pos low; cap = pos cap; cost = cost })) row s2.2 in
-    let s4 = bind_ok (natural_in 1 s1.0.nodes (field 0 fields)) (λ tail. natural_in 1 s1.0.nodes (field 1 fields) >>= λ head. natural_in 0 CAP_LIMIT (field 2 fields) >>= λ low. natural_in 0 CAP_LIMIT (field 3 fields) >>= λ cap. integer_in COST_LIMIT (field 4 fields) >>= λ cost. demand (nat_le low cap) fault.LowAboveCap >>= λ _. Ok (record { tail = tail; head = head; low = pos low; cap = pos cap; cost = cost })) row s3.2 in
-    let s5 = bind_ok (natural_in 1 s1.0.nodes (field 1 fields)) (λ head. natural_in 0 CAP_LIMIT (field 2 fields) >>= λ low. natural_in 0 CAP_LIMIT (field 3 fields) >>= λ cap. integer_in COST_LIMIT (field 4 fields) >>= λ cost. demand (nat_le low cap) fault.LowAboveCap >>= λ _. Ok (record { tail = s4.0; head = head; low = pos low; cap = pos cap; cost = cost })) row s4.2 in
-    let s6 = bind_ok (natural_in 0 CAP_LIMIT (field 2 fields)) (λ low. natural_in 0 CAP_LIMIT (field 3 fields) >>= λ cap. integer_in COST_LIMIT (field 4 fields) >>= λ cost. demand (nat_le low cap) fault.LowAboveCap >>= λ _. Ok (record { tail = s4.0; head = s5.0; low = pos low; cap = pos cap; cost = cost })) row s5.2 in
-    let s7 = bind_ok (natural_in 0 CAP_LIMIT (field 3 fields)) (λ cap. integer_in COST_LIMIT (field 4 fields) >>= λ cost. demand (nat_le s6.0 cap) fault.LowAboveCap >>= λ _. Ok (record { tail = s4.0; head = s5.0; low = pos s6.0; cap = pos cap; cost = cost })) row s6.2 in
-    let s8 = bind_ok (integer_in COST_LIMIT (field 4 fields)) (λ cost. demand (nat_le s6.0 s7.0) fault.LowAboveCap >>= λ _. Ok (record { tail = s4.0; head = s5.0; low = pos s6.0; cap = pos s7.0; cost = cost })) row s7.2 in
-    let s9 = bind_ok (demand (nat_le s6.0 s7.0) fault.LowAboveCap) (λ _. Ok (record { tail = s4.0; head = s5.0; low = pos s6.0; cap = pos s7.0; cost = s8.0 })) row s8.2 in
-    let tail = natural_in-ok 1 s1.0.nodes (field 0 fields) s4.0 s4.1 in
-    let head = natural_in-ok 1 s1.0.nodes (field 1 fields) s5.0 s5.1 in
-    let low = natural_in-ok 0 CAP_LIMIT (field 2 fields) s6.0 s6.1 in
-    let cap = natural_in-ok 0 CAP_LIMIT (field 3 fields) s7.0 s7.1 in
-    let cost = integer_in-ok COST_LIMIT (field 4 fields) s8.0 s8.1 in
-    let low_cap : s6.0 ≤ s7.0 = leb-true _ _ (demand_ok _ _ s9.0 s9.1) in
-    let is : ◌≡◌ {A = ArcRow} (record { tail = s4.0; head = s5.0; low = pos s6.0; cap = pos s7.0; cost = s8.0 }) row = ok_is _ row s9.2 in
+    let s1 = bind_ok (some_or told.size fault.BeforeProblemLine) (λ size. demand (has_terminals size.kind told.marks) fault.EndpointMissing >>= λ _. demand (nat_lt (length told.rows) size.arcs) fault.TooManyArcs >>= λ _. read_row_of size.kind size.nodes told.marks fields) row ok in
+    let s2 = bind_ok (demand (has_terminals s1.0.kind told.marks) fault.EndpointMissing) (λ _. demand (nat_lt (length told.rows) s1.0.arcs) fault.TooManyArcs >>= λ _. read_row_of s1.0.kind s1.0.nodes told.marks fields) row s1.2 in
+    let s3 = bind_ok (demand (nat_lt (length told.rows) s1.0.arcs) fault.TooManyArcs) (λ _. read_row_of s1.0.kind s1.0.nodes told.marks fields) row s2.2 in
     record {
       size = s1.0;
       size_is = some_or_ok told.size fault.BeforeProblemLine s1.0 s1.1;
-      room = ltb-true _ _ (demand_ok _ _ s2.0 s2.1);
-      lawful = subst (λ (r : ArcRow). IsLawfulRow s1.0.nodes r) is (record { tail = (tail.above, tail.below); head = (head.above, head.below); low = omega (arith, ints); cap = omega (arith, ints); limit = omega (arith, ints, cap.below); cost = cost.within });
-      row_is = rw (tail.value, head.value, low.value, cap.value, cost.value) is;
+      room = ltb-true _ _ (demand_ok _ _ s3.0 s3.1);
+      read = read_row_of-ok s1.0.kind s1.0.nodes told.marks fields row s3.2;
     }
 
 pub new_marks_are : (known : Option Size) (size : Size) (fields : List Word) (mark : NodeMark) → known ≡ Some size → mark_of size.kind fields ≡ mark → new_marks known fields ≡ mark ∷ []

@@ -4,7 +4,7 @@ use Rattle.std.specs.List.{flat_map}
 use Rattle.std.proofs.lemmas.List.{append-nil}
 use Rattle.std.proofs.lemmas.Grind.{flat_map-append}
 use Rattle.dimacs_text.specs.Lines.{Line}
-use Rattle.dimacs_text.specs.Answer.{said_of, and_said, values_in, flows_in, potentials_in, first_value, or_value}
+use Rattle.dimacs_text.specs.Answer.{said_of, and_said, values_in, flows_in, potentials_in, shortages_in, cut_in, first_value, or_value}
 
 flat_map_push : {B : Type 0} (f : Line → List B) (lines : List Line) (line : Line) → flat_map f (lines ++ line ∷ []) ≡ flat_map f lines ++ f line
 flat_map_push {B = B} f lines line = flat_map-append f lines (line ∷ []) ∙ ap (λ (ys : List B). flat_map f lines ++ ys) (append-nil (f line))
@@ -16,8 +16,8 @@ first_value-append (x ∷ xs) ys = refl
 pub said_of_push : (before : List Line) (line : Line) → said_of (before ++ line ∷ []) ≡ and_said (said_of before) line
 unfolding said_of and_said
 said_of_push before line =
-    rw (flat_map_push values_in before line, flat_map_push flows_in before line, flat_map_push potentials_in before line, first_value-append (flat_map values_in before) (values_in line)) refl
+    rw (flat_map_push values_in before line, flat_map_push flows_in before line, flat_map_push potentials_in before line, first_value-append (flat_map values_in before) (values_in line), flat_map_push shortages_in before line, flat_map_push cut_in before line, first_value-append (flat_map shortages_in before) (shortages_in line)) refl
 
-pub said_of_nothing : said_of [] ≡ record { value = None; flows = []; potentials = [] }
+pub said_of_nothing : said_of [] ≡ record { value = None; flows = []; potentials = []; shortage = None; cut = [] }
 unfolding said_of
 said_of_nothing = refl

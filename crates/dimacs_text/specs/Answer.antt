@@ -1,6 +1,6 @@
 -- Answer texts: `s VALUE` and an `f SRC DST FLOW` line for each arc, as in the solutions of the first DIMACS challenge,
--- and then a `v ID POTENTIAL` line for each node.
-use Rattle.std.specs.Prelude.{◌≡◌, ℕ, ◌+◌, ◌&&◌, List, [], ◌∷◌, ◌++◌, Option, Some, None, Result, Ok, Err, length, unwrap_or, nat_le, nat_lt, ◌==◌, is_some, is_none, if◌then◌else◌, ℤ, pos, neg_ℤ}
+-- and then a `v ID POTENTIAL` line for each node; or an `i SHORTAGE` line, and then a `k ID` line for each node of a cut.
+use Rattle.std.specs.Prelude.{◌≡◌, ℕ, ◌+◌, ◌-◌, ◌&&◌, List, [], ◌∷◌, ◌++◌, Option, Some, None, Result, Ok, Err, length, unwrap_or, nat_le, nat_lt, ◌==◌, is_some, is_none, if◌then◌else◌, ℤ, pos, neg_ℤ, slice_index_or}
 use Rattle.std.specs.List.{All, flat_map, list_all}
 use Rattle.std.specs.Option.{option_map}
 use Rattle.dimacs_text.specs.declared.fault.Fault.{Fault}
@@ -28,7 +28,9 @@ line_of (byte ∷ []) =
     if byte == 99 then line.Comment else
     if byte == 115 then line.Value else
     if byte == 102 then line.Flow else
-    if byte == 118 then line.Potential else line.Unknown
+    if byte == 118 then line.Potential else
+    if byte == 105 then line.Shortage else
+    if byte == 107 then line.CutNode else line.Unknown
 line_of (byte ∷ _ ∷ _) = if byte == 99 then line.Comment else line.Unknown
 
 abbrev pub first_of : List Word → Option AnswerLine
@@ -58,13 +60,22 @@ flow_said fields = record {
 abbrev pub potential_said : List Word → ℤ
 potential_said fields = integer_value (field 1 fields)
 
+abbrev pub shortage_said : List Word → ℤ
+shortage_said fields = pos (natural_value (field 0 fields))
+
+abbrev pub cut_node_said : List Word → ℕ
+cut_node_said fields = natural_value (field 0 fields)
+
 -- ---- what lines say
 
--- the value of the `s` line, and what the `f` and the `v` lines say, in order
+-- the value of the `s` line, and what the `f` and the `v` lines say, in order; the shortage of the `i` line, and the nodes
+-- of the `k` lines, in order
 pub record Said : Type 0 where
   pub value : Option ℤ
   pub flows : List FlowLine
   pub potentials : List ℤ
+  pub shortage : Option ℤ
+  pub cut : List ℕ
 
 abbrev pub values_by : Option AnswerLine → List Word → List ℤ
 values_by (Some line.Value) fields = value_said fields ∷ []
@@ -78,6 +89,14 @@ abbrev pub potentials_by : Option AnswerLine → List Word → List ℤ
 potentials_by (Some line.Potential) fields = potential_said fields ∷ []
 potentials_by _ fields = []
 
+abbrev pub shortages_by : Option AnswerLine → List Word → List ℤ
+shortages_by (Some line.Shortage) fields = shortage_said fields ∷ []
+shortages_by _ fields = []
+
+abbrev pub cut_by : Option AnswerLine → List Word → List ℕ
+cut_by (Some line.CutNode) fields = cut_node_said fields ∷ []
+cut_by _ fields = []
+
 abbrev pub values_in : Line → List ℤ
 values_in line = values_by (first_of (words_of line)) (fields_of (words_of line))
 
@@ -86,6 +105,12 @@ flows_in line = flows_by (first_of (words_of line)) (fields_of (words_of line))
 
 abbrev pub potentials_in : Line → List ℤ
 potentials_in line = potentials_by (first_of (words_of line)) (fields_of (words_of line))
+
+abbrev pub shortages_in : Line → List ℤ
+shortages_in line = shortages_by (first_of (words_of line)) (fields_of (words_of line))
+
+abbrev pub cut_in : Line → List ℕ
+cut_in line = cut_by (first_of (words_of line)) (fields_of (words_of line))
 
 abbrev pub first_value : List ℤ → Option ℤ
 first_value [] = None
@@ -96,6 +121,8 @@ said_of lines = record {
   value = first_value (flat_map values_in lines);
   flows = flat_map flows_in lines;
   potentials = flat_map potentials_in lines;
+  shortage = first_value (flat_map shortages_in lines);
+  cut = flat_map cut_in lines;
 }
 
 -- ---- a line among the lines before it
@@ -104,6 +131,7 @@ said_of lines = record {
 unfoldable pub read_value : Said → List Word → Result ℤ Fault
 read_value said fields = do
   _ ← demand (is_none said.value) fault.OutOfOrder
+  _ ← demand (is_none said.shortage) fault.OutOfOrder
   _ ← demand (length fields == 1) fault.WrongFieldCount
   some_or (claimed_value (field 0 fields)) fault.NotANumber
 
@@ -130,6 +158,28 @@ read_potential nodes arcs said fields = do
   _ ← demand (id == length said.potentials + 1) fault.OutOfOrder
   Ok potential
 
+-- an `i` line: it comes first, and once
+unfoldable pub read_shortage : Said → List Word → Result ℤ Fault
+read_shortage said fields = do
+  _ ← demand (is_none said.value) fault.OutOfOrder
+  _ ← demand (is_none said.shortage) fault.OutOfOrder
+  _ ← demand (length fields == 1) fault.WrongFieldCount
+  shortage ← some_or (natural (field 0 fields)) fault.NotANumber
+  Ok (pos shortage)
+
+-- the last node of a cut, or 0, which is no node
+abbrev pub last_node : List ℕ → ℕ
+last_node cut = slice_index_or cut (length cut - 1) 0
+
+-- a `k` line: after the `i` line, by rising ID
+unfoldable pub read_cut_node : ℕ → Said → List Word → Result ℕ Fault
+read_cut_node nodes said fields = do
+  _ ← demand (is_some said.shortage) fault.OutOfOrder
+  _ ← demand (length fields == 1) fault.WrongFieldCount
+  id ← natural_in 1 nodes (field 0 fields)
+  _ ← demand (nat_lt (last_node said.cut) id) fault.OutOfOrder
+  Ok id
+
 -- the fault of a line that is not too long, by its words
 abbrev pub fault_by : ℕ → ℕ → Said → Option AnswerLine → List Word → Option Fault
 fault_by nodes arcs said None fields = None
@@ -137,6 +187,8 @@ fault_by nodes arcs said (Some line.Comment) fields = None
 fault_by nodes arcs said (Some line.Value) fields = fault_of (read_value said fields)
 fault_by nodes arcs said (Some line.Flow) fields = fault_of (read_flow nodes arcs said fields)
 fault_by nodes arcs said (Some line.Potential) fields = fault_of (read_potential nodes arcs said fields)
+fault_by nodes arcs said (Some line.Shortage) fields = fault_of (read_shortage said fields)
+fault_by nodes arcs said (Some line.CutNode) fields = fault_of (read_cut_node nodes said fields)
 fault_by nodes arcs said (Some line.Unknown) fields = Some fault.UnknownDesignator
 
 abbrev pub line_fault : ℕ → ℕ → Said → Line → Option Fault
@@ -148,14 +200,19 @@ answer_rule nodes arcs before line = line_fault nodes arcs (said_of before) line
 
 -- ---- the whole text
 
--- what lines without a fault give at the end of the text: no line is missing
-abbrev pub ending_by : ℕ → ℕ → Option ℤ → Said → Result Answer Fault
-ending_by nodes arcs None said = Err fault.OutOfOrder
-ending_by nodes arcs (Some value) said =
+-- what lines without a fault give at the end of the text, where the first is an `s` line: no line is missing
+abbrev pub flow_ending : ℕ → ℕ → Option ℤ → Said → Result Answer Fault
+flow_ending nodes arcs None said = Err fault.OutOfOrder
+flow_ending nodes arcs (Some value) said =
     if length said.flows == arcs && length said.potentials == nodes then Ok (Flow value said.flows said.potentials) else Err fault.OutOfOrder
 
+-- the same, where the first may be an `i` line: after it no line is missing
+abbrev pub ending_by : ℕ → ℕ → Option ℤ → Said → Result Answer Fault
+ending_by nodes arcs None said = flow_ending nodes arcs said.value said
+ending_by nodes arcs (Some shortage) said = Ok (Cut shortage said.cut)
+
 abbrev pub ending : ℕ → ℕ → Said → Result Answer Fault
-ending nodes arcs said = ending_by nodes arcs said.value said
+ending nodes arcs said = ending_by nodes arcs said.shortage said
 
 -- the nodes that an answer names are those of its problem
 abbrev pub JoinsNodes : ℕ → FlowLine → Type 0
@@ -202,6 +259,8 @@ and_said said line = record {
   value = or_value said.value (values_in line);
   flows = said.flows ++ flows_in line;
   potentials = said.potentials ++ potentials_in line;
+  shortage = or_value said.shortage (shortages_in line);
+  cut = said.cut ++ cut_in line;
 }
 
 -- what was taken is without a fault, and held as expected; or its fault is told, memory aside

@@ -1,5 +1,5 @@
 -- The limits and rules that a problem keeps.
-use Rattle.std.specs.Prelude.{◌≡◌, ◌≢◌, ℕ, ◌-◌, ◌≤◌, Bool, true, false, List, [], Option, Some, None, length, ℤ, pos, neg_ℤ, ◌≤ℤ◌, slice_index_or}
+use Rattle.std.specs.Prelude.{◌≡◌, ◌≢◌, ℕ, ◌-◌, ◌≤◌, Bool, true, false, List, [], ◌∷◌, Option, Some, None, length, ℤ, pos, neg_ℤ, ◌≤ℤ◌, slice_index_or}
 use Rattle.std.specs.List.{All, AllPairs}
 use Rattle.dimacs_text.specs.declared.problem.Kind.{Kind}
 use Rattle.dimacs_text.specs.declared.problem.Kind.TheVariants.{Min, Max, Asn}
@@ -96,18 +96,42 @@ pub record FlagNamed (flags : List Bool) (nodes : ℕ) (marks : List NodeMark) :
   pub len : length flags ≡ nodes
   pub named : (id : ℕ) → IsNode nodes id → slice_index_or flags (id - 1) false ≡ is_named id marks
 
--- what a draft keeps for its kind; `max` and `asn` are not read yet
-abbrev pub KeepsKind : Kind → List NodeMark → Type 0
-KeepsKind Min marks = All IsSupply marks
-KeepsKind Max marks = ⊥
-KeepsKind Asn marks = ⊥
+-- one is the source, the other the sink
+abbrev pub AreOpposite : NodeMark → NodeMark → Type 0
+AreOpposite (Source source) (Sink sink) = Unit {0}
+AreOpposite (Sink sink) (Source source) = Unit {0}
+AreOpposite _ _ = ⊥
+
+-- one source at most, one sink at most, and nothing else
+abbrev pub AreTerminals : List NodeMark → Type 0
+AreTerminals [] = Unit {0}
+AreTerminals (first ∷ []) = IsTerminal first
+AreTerminals (first ∷ second ∷ []) = AreOpposite first second
+AreTerminals (first ∷ second ∷ third ∷ marks) = ⊥
+
+-- the marks that a draft of the kind may have
+abbrev pub MarksFit : Kind → List NodeMark → Type 0
+MarksFit Min marks = All IsSupply marks
+MarksFit Max marks = AreTerminals marks
+MarksFit Asn marks = All IsSide marks
+
+-- a row that a draft of the kind may have beside its marks
+abbrev pub RowFits : Kind → List NodeMark → ArcRow → Type 0
+RowFits Min marks row = Unit {0}
+RowFits Max marks row = (row.low ≡ pos 0) × (row.cost ≡ pos 0)
+RowFits Asn marks row = (row.low ≡ pos 0) × (row.cap ≡ pos 1) × (is_named row.tail marks ≡ true) × (is_named row.head marks ≡ false)
+
+-- what a draft keeps for its kind; a source or a sink may still be missing
+pub record KeepsKind (kind : Kind) (marks : List NodeMark) (rows : List ArcRow) : Type 0 where
+  pub marks_fit : MarksFit kind marks
+  pub rows_fit : All (RowFits kind marks) rows
 
 -- what a draft keeps
 pub record IsSized (size : Size) (flags : List Bool) (marks : List NodeMark) (rows : List ArcRow) : Type 0 where
   pub sized : IsLawfulSize size
   pub flagged : FlagNamed flags size.nodes marks
   pub count : length rows ≤ size.arcs
-  pub kept : KeepsKind size.kind marks
+  pub kept : KeepsKind size.kind marks rows
   pub lawful : AreLawful size.nodes marks rows
 
 abbrev pub IsSound : Option Size → List Bool → List NodeMark → List ArcRow → Type 0

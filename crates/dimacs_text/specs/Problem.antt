@@ -1,12 +1,12 @@
 -- Problem texts: what each line says by itself, and its fault among the lines before it.
-use Rattle.std.specs.Prelude.{ℕ, Bool, true, false, not, ◌&&◌, List, [], ◌∷◌, ◌++◌, Option, Some, None, Result, Ok, Err, length, drop, unwrap_or, nat_le, nat_lt, ◌==◌, is_none, if◌then◌else◌, ℤ, pos, neg_ℤ, int_le, slice_index_or}
+use Rattle.std.specs.Prelude.{ℕ, Bool, true, false, not, ◌&&◌, ◌||◌, List, [], ◌∷◌, ◌++◌, Option, Some, None, Result, Ok, Err, length, drop, unwrap_or, nat_le, nat_lt, ◌==◌, is_none, if◌then◌else◌, ℤ, pos, neg_ℤ, int_le, slice_index_or}
 use Rattle.std.specs.List.{flat_map, list_any}
 use Rattle.dimacs_text.specs.Lines.{Line}
 use Rattle.dimacs_text.specs.Fields.{Word, words_of, natural, integer}
 use Rattle.dimacs_text.specs.declared.fault.Fault.{Fault}
 use Rattle.dimacs_text.specs.declared.fault.Fault.TheVariants as fault
 use Rattle.dimacs_text.specs.declared.problem.Kind.{Kind}
-use Rattle.dimacs_text.specs.declared.problem.Kind.TheVariants.{Min}
+use Rattle.dimacs_text.specs.declared.problem.Kind.TheVariants.{Min, Max, Asn}
 use Rattle.dimacs_text.specs.declared.problem.NodeMark.{NodeMark}
 use Rattle.dimacs_text.specs.declared.problem.NodeMark.TheVariants.{Supply, Source, Sink, Side}
 use Rattle.dimacs_text.specs.declared.problem.ArcRow.{ArcRow}
@@ -57,22 +57,55 @@ natural_value word = unwrap_or (natural word) 0
 abbrev pub integer_value : Word → ℤ
 integer_value word = unwrap_or (integer word) (pos 0)
 
+-- the kind that a word names: `min`, `max` or `asn`
+abbrev pub kind_named : Word → Option Kind
+kind_named (a ∷ b ∷ c ∷ []) =
+    if a == 109 && b == 105 && c == 110 then Some Min else
+    if a == 109 && b == 97 && c == 120 then Some Max else
+    if a == 97 && b == 115 && c == 110 then Some Asn else None
+kind_named _ = None
+
 abbrev pub kind_of : Word → Kind
-kind_of word = Min
+kind_of word = unwrap_or (kind_named word) Min
+
+-- the word of a node line that names the source, `s`, and the sink, `t`
+abbrev pub is_source_word : Word → Bool
+is_source_word (byte ∷ []) = byte == 115
+is_source_word _ = false
+
+abbrev pub is_sink_word : Word → Bool
+is_sink_word (byte ∷ []) = byte == 116
+is_sink_word _ = false
 
 abbrev pub size_of : List Word → Size
 size_of fields = record { kind = kind_of (field 0 fields); nodes = natural_value (field 1 fields); arcs = natural_value (field 2 fields) }
 
 abbrev pub mark_of : Kind → List Word → NodeMark
-mark_of kind fields = Supply (natural_value (field 0 fields)) (integer_value (field 1 fields))
+mark_of Min fields = Supply (natural_value (field 0 fields)) (integer_value (field 1 fields))
+mark_of Max fields = if is_source_word (field 1 fields) then Source (natural_value (field 0 fields)) else Sink (natural_value (field 0 fields))
+mark_of Asn fields = Side (natural_value (field 0 fields))
 
 abbrev pub row_of : Kind → List Word → ArcRow
-row_of kind fields = record {
+row_of Min fields = record {
   tail = natural_value (field 0 fields);
   head = natural_value (field 1 fields);
   low = pos (natural_value (field 2 fields));
   cap = pos (natural_value (field 3 fields));
   cost = integer_value (field 4 fields);
+}
+row_of Max fields = record {
+  tail = natural_value (field 0 fields);
+  head = natural_value (field 1 fields);
+  low = pos 0;
+  cap = pos (natural_value (field 2 fields));
+  cost = pos 0;
+}
+row_of Asn fields = record {
+  tail = natural_value (field 0 fields);
+  head = natural_value (field 1 fields);
+  low = pos 0;
+  cap = pos 1;
+  cost = integer_value (field 2 fields);
 }
 
 -- ---- what lines tell
@@ -146,8 +179,7 @@ abbrev pub integer_in : ℤ → Word → Result ℤ Fault
 integer_in limit word = some_or (integer word) fault.NotANumber >>= λ z. if int_le (neg_ℤ limit) z && int_le z limit then Ok z else Err fault.OutOfRange
 
 abbrev pub kind_in : Word → Result Kind Fault
-kind_in (a ∷ b ∷ c ∷ []) = if a == 109 && b == 105 && c == 110 then Ok Min else Err fault.UnknownKind
-kind_in _ = Err fault.UnknownKind
+kind_in word = some_or (kind_named word) fault.UnknownKind
 
 -- the node that a mark names
 abbrev pub node_of : NodeMark → ℕ
@@ -197,30 +229,111 @@ read_size told fields = do
   arcs ← natural_in 0 ARC_LIMIT (field 2 fields)
   Ok (record { kind = kind; nodes = nodes; arcs = arcs })
 
+abbrev pub is_source : NodeMark → Bool
+is_source (Source id) = true
+is_source _ = false
+
+abbrev pub is_sink : NodeMark → Bool
+is_sink (Sink id) = true
+is_sink _ = false
+
+abbrev pub has_source : List NodeMark → Bool
+has_source marks = list_any is_source marks
+
+abbrev pub has_sink : List NodeMark → Bool
+has_sink marks = list_any is_sink marks
+
+-- whether each terminal that the kind asks for is named
+abbrev pub has_terminals : Kind → List NodeMark → Bool
+has_terminals Min marks = true
+has_terminals Max marks = has_source marks && has_sink marks
+has_terminals Asn marks = true
+
+-- the fields of a node line of `min`: `ID FLOW`
+unfoldable pub read_supply : ℕ → List NodeMark → List Word → Result NodeMark Fault
+read_supply nodes marks fields = do
+  _ ← demand (length fields == 2) fault.WrongFieldCount
+  id ← natural_in 1 nodes (field 0 fields)
+  value ← integer_in SUPPLY_LIMIT (field 1 fields)
+  _ ← demand (not (is_named id marks)) fault.NamedTwice
+  Ok (Supply id value)
+
+-- those of `max`: `ID s` or `ID t`
+abbrev pub terminal_by : Bool → ℕ → List NodeMark → Result NodeMark Fault
+terminal_by true id marks = demand (not (has_source marks)) fault.NamedTwice >>= λ _. Ok (Source id)
+terminal_by false id marks = demand (not (has_sink marks)) fault.NamedTwice >>= λ _. Ok (Sink id)
+
+unfoldable pub read_terminal : ℕ → List NodeMark → List Word → Result NodeMark Fault
+read_terminal nodes marks fields = do
+  _ ← demand (length fields == 2) fault.WrongFieldCount
+  id ← natural_in 1 nodes (field 0 fields)
+  _ ← demand (is_source_word (field 1 fields) || is_sink_word (field 1 fields)) fault.UnknownNodeWord
+  _ ← demand (not (is_named id marks)) fault.NamedTwice
+  terminal_by (is_source_word (field 1 fields)) id marks
+
+-- that of `asn`: `ID`
+unfoldable pub read_side : ℕ → List NodeMark → List Word → Result NodeMark Fault
+read_side nodes marks fields = do
+  _ ← demand (length fields == 1) fault.WrongFieldCount
+  id ← natural_in 1 nodes (field 0 fields)
+  _ ← demand (not (is_named id marks)) fault.NamedTwice
+  Ok (Side id)
+
+abbrev pub read_mark_of : Kind → ℕ → List NodeMark → List Word → Result NodeMark Fault
+read_mark_of Min nodes marks fields = read_supply nodes marks fields
+read_mark_of Max nodes marks fields = read_terminal nodes marks fields
+read_mark_of Asn nodes marks fields = read_side nodes marks fields
+
 -- a node line
 unfoldable pub read_mark : Told → List Word → Result NodeMark Fault
 read_mark told fields = do
   size ← some_or told.size fault.BeforeProblemLine
   _ ← demand (length told.rows == 0) fault.NodeAfterArc
-  _ ← demand (length fields == 2) fault.WrongFieldCount
-  id ← natural_in 1 size.nodes (field 0 fields)
-  value ← integer_in SUPPLY_LIMIT (field 1 fields)
-  _ ← demand (not (is_named id told.marks)) fault.NamedTwice
-  Ok (Supply id value)
+  read_mark_of size.kind size.nodes told.marks fields
 
--- an arc line
-unfoldable pub read_row : Told → List Word → Result ArcRow Fault
-read_row told fields = do
-  size ← some_or told.size fault.BeforeProblemLine
-  _ ← demand (nat_lt (length told.rows) size.arcs) fault.TooManyArcs
+-- the fields of an arc line of `min`: `SRC DST LOW CAP COST`
+unfoldable pub read_min_row : ℕ → List Word → Result ArcRow Fault
+read_min_row nodes fields = do
   _ ← demand (length fields == 5) fault.WrongFieldCount
-  tail ← natural_in 1 size.nodes (field 0 fields)
-  head ← natural_in 1 size.nodes (field 1 fields)
+  tail ← natural_in 1 nodes (field 0 fields)
+  head ← natural_in 1 nodes (field 1 fields)
   low ← natural_in 0 CAP_LIMIT (field 2 fields)
   cap ← natural_in 0 CAP_LIMIT (field 3 fields)
   cost ← integer_in COST_LIMIT (field 4 fields)
   _ ← demand (nat_le low cap) fault.LowAboveCap
   Ok (record { tail = tail; head = head; low = pos low; cap = pos cap; cost = cost })
+
+-- those of `max`: `SRC DST CAP`
+unfoldable pub read_max_row : ℕ → List Word → Result ArcRow Fault
+read_max_row nodes fields = do
+  _ ← demand (length fields == 3) fault.WrongFieldCount
+  tail ← natural_in 1 nodes (field 0 fields)
+  head ← natural_in 1 nodes (field 1 fields)
+  cap ← natural_in 0 CAP_LIMIT (field 2 fields)
+  Ok (record { tail = tail; head = head; low = pos 0; cap = pos cap; cost = pos 0 })
+
+-- those of `asn`: `SRC DST COST`, from a node that is named to one that is not
+unfoldable pub read_asn_row : ℕ → List NodeMark → List Word → Result ArcRow Fault
+read_asn_row nodes marks fields = do
+  _ ← demand (length fields == 3) fault.WrongFieldCount
+  tail ← natural_in 1 nodes (field 0 fields)
+  head ← natural_in 1 nodes (field 1 fields)
+  cost ← integer_in COST_LIMIT (field 2 fields)
+  _ ← demand (is_named tail marks && not (is_named head marks)) fault.NotAcrossSides
+  Ok (record { tail = tail; head = head; low = pos 0; cap = pos 1; cost = cost })
+
+abbrev pub read_row_of : Kind → ℕ → List NodeMark → List Word → Result ArcRow Fault
+read_row_of Min nodes marks fields = read_min_row nodes fields
+read_row_of Max nodes marks fields = read_max_row nodes fields
+read_row_of Asn nodes marks fields = read_asn_row nodes marks fields
+
+-- an arc line
+unfoldable pub read_row : Told → List Word → Result ArcRow Fault
+read_row told fields = do
+  size ← some_or told.size fault.BeforeProblemLine
+  _ ← demand (has_terminals size.kind told.marks) fault.EndpointMissing
+  _ ← demand (nat_lt (length told.rows) size.arcs) fault.TooManyArcs
+  read_row_of size.kind size.nodes told.marks fields
 
 abbrev pub fault_of : {A : Type 0} → Result A Fault → Option Fault
 fault_of (Ok x) = None

@@ -1,5 +1,5 @@
 -- Reading a problem text: its first faulty line, or the fault at its end, or the problem.
-use Rattle.std.specs.Prelude.{◌≡◌, ℕ, List, [], Option, Some, None, Result, Ok, Err, length, nat_lt, if◌then◌else◌}
+use Rattle.std.specs.Prelude.{◌≡◌, ℕ, List, [], Option, Some, None, Result, Ok, Err, length, not, nat_lt, if◌then◌else◌}
 use Rattle.dimacs_text.specs.declared.fault.Fault.{Fault}
 use Rattle.dimacs_text.specs.declared.fault.Fault.TheVariants as fault
 use Rattle.dimacs_text.specs.declared.fault.LineError.{LineError}
@@ -9,7 +9,7 @@ use Rattle.dimacs_text.specs.declared.problem.NodeMark.{NodeMark}
 use Rattle.dimacs_text.specs.declared.problem.ArcRow.{ArcRow}
 use Rattle.dimacs_text.specs.declared.problem.Size.{Size}
 use Rattle.dimacs_text.specs.Lines.{Line, lines_of}
-use Rattle.dimacs_text.specs.Problem.{Told, told_of, and_told, line_fault}
+use Rattle.dimacs_text.specs.Problem.{Told, told_of, and_told, line_fault, has_terminals}
 use Rattle.dimacs_text.specs.Stream.{Rule, Reports, first_fault, fault_or, or_at}
 
 -- a problem without where it lies in memory
@@ -23,7 +23,8 @@ pub record ProblemValue : Type 0 where
 abbrev pub ending_by : Option Size → Told → Result ProblemValue Fault
 ending_by None told = Err fault.NoProblemLine
 ending_by (Some size) told =
-    if nat_lt (length told.rows) size.arcs then Err fault.TooFewArcs
+    if not (has_terminals size.kind told.marks) then Err fault.EndpointMissing
+    else if nat_lt (length told.rows) size.arcs then Err fault.TooFewArcs
     else Ok (record { kind = size.kind; nodes = size.nodes; marks = told.marks; arcs = told.rows })
 
 abbrev pub ending : Told → Result ProblemValue Fault

@@ -2,7 +2,7 @@
 
 ghost use Rattle.std.specs.Prelude.{◌≡◌, [], ◌∷◌, ◌++◌, Some, None, IfOk};
 ghost use Rattle.dimacs_text.specs.Problem.{fault_of};
-ghost use Rattle.dimacs_text.specs.Answer.{Takes, TakesAs, read_value, read_flow, read_potential, value_said, flow_said, potential_said, ending, NamesNodes};
+ghost use Rattle.dimacs_text.specs.Answer.{Takes, TakesAs, read_value, read_flow, read_potential, read_shortage, read_cut_node, value_said, flow_said, potential_said, shortage_said, cut_node_said, last_node, ending, NamesNodes};
 
 use crate::answer::{Answer, FlowLine};
 use crate::answer_line::AnswerLine;
@@ -22,6 +22,8 @@ pub struct AnswerDraft {
     value: Option<i128>,
     flows: Vec<FlowLine>,
     potentials: Vec<i64>,
+    shortage: Option<i64>,
+    cut: Vec<u32>,
 }
 
 impl Model for AnswerDraft {
@@ -29,18 +31,19 @@ impl Model for AnswerDraft {
 
     ghost Value = { Drafted };
 
-    ghost view = { λ d. record { nodes = d.nodes; arcs = d.arcs; said = record { value = d.value; flows = d.flows.items; potentials = d.potentials.items } } };
+    ghost view = { λ d. record { nodes = d.nodes; arcs = d.arcs; said = record { value = d.value; flows = d.flows.items; potentials = d.potentials.items; shortage = d.shortage; cut = d.cut.items } } };
 
     ghost use Rattle.std.specs.List.{All};
     ghost use Rattle.dimacs_text.specs.Answer.{JoinsNodes};
+    ghost use Rattle.dimacs_text.specs.Lawful.{IsNode};
 
-    ghost invariant = { λ d. All (JoinsNodes d.nodes) d.flows.items };
+    ghost invariant = { λ d. All (JoinsNodes d.nodes) d.flows.items × All (IsNode d.nodes) d.cut.items };
 }
 
 impl AnswerDraft {
     /// Before any line of an answer to a problem of this size.
     pub fn new(alloc: Global, nodes: u32, arcs: u32) -> Self
-        ensures { result ≡ record { nodes = nodes; arcs = arcs; said = record { value = None; flows = []; potentials = [] } } }
+        ensures { result ≡ record { nodes = nodes; arcs = arcs; said = record { value = None; flows = []; potentials = []; shortage = None; cut = [] } } }
     {
         AnswerDraft {
             nodes,
@@ -48,6 +51,8 @@ impl AnswerDraft {
             value: None,
             flows: Vec::new(alloc),
             potentials: Vec::new(alloc),
+            shortage: None,
+            cut: Vec::new(alloc),
         }
     }
 
@@ -64,6 +69,8 @@ impl AnswerDraft {
             AnswerLine::Value => self.take_value(words),
             AnswerLine::Flow => self.take_flow(words),
             AnswerLine::Potential => self.take_potential(words),
+            AnswerLine::Shortage => self.take_shortage(words),
+            AnswerLine::CutNode => self.take_cut_node(words),
             AnswerLine::Unknown => Err(LineError::Fault(Fault::UnknownDesignator)),
         }
     }
@@ -98,12 +105,32 @@ impl AnswerDraft {
         Ok(())
     }
 
+    /// Takes an `i` line, after its designator.
+    fn take_shortage(&mut self, fields: Words) -> Result<(), LineError>
+        ensures { TakesAs result (fault_of (read_shortage self.old.said fields.entry)) self.old
+            (record self.old.said { shortage = Some (shortage_said fields.entry) }) self.new }
+    {
+        let shortage = self.read_shortage(fields)?;
+        self.shortage = Some(shortage);
+        Ok(())
+    }
+
+    /// Takes a `k` line, after its designator.
+    fn take_cut_node(&mut self, fields: Words) -> Result<(), LineError>
+        ensures { TakesAs result (fault_of (read_cut_node self.old.nodes self.old.said fields.entry)) self.old
+            (record self.old.said { cut = self.old.said.cut ++ cut_node_said fields.entry ∷ [] }) self.new }
+    {
+        let node = self.read_cut_node(fields)?;
+        self.cut.push(node)?;
+        Ok(())
+    }
+
     /// What an `s` line says, after its designator.
     #[tactic(auto, unfolding(crate::specs::Answer::read_value))]
     fn read_value(&self, mut fields: Words) -> Result<i128, Fault>
         ensures { result ≡ read_value self.now.said fields.entry }
     {
-        if self.value.is_some() {
+        if self.value.is_some() || self.shortage.is_some() {
             return Err(Fault::OutOfOrder);
         }
         if fields.count() != 1 {
@@ -152,6 +179,49 @@ impl AnswerDraft {
         Ok(potential)
     }
 
+    /// What an `i` line says, after its designator.
+    #[tactic(auto, unfolding(crate::specs::Answer::read_shortage))]
+    fn read_shortage(&self, mut fields: Words) -> Result<i64, Fault>
+        ensures { result ≡ read_shortage self.now.said fields.entry }
+    {
+        if self.value.is_some() || self.shortage.is_some() {
+            return Err(Fault::OutOfOrder);
+        }
+        if fields.count() != 1 {
+            return Err(Fault::WrongFieldCount);
+        }
+        let shortage = natural(fields.word()).ok_or(Fault::NotANumber)? as i64;
+        Ok(shortage)
+    }
+
+    /// What a `k` line says, after its designator.
+    #[tactic(auto, unfolding(crate::specs::Answer::read_cut_node))]
+    fn read_cut_node(&self, mut fields: Words) -> Result<u32, Fault>
+        ensures { result ≡ read_cut_node self.now.nodes self.now.said fields.entry }
+    {
+        if self.shortage.is_none() {
+            return Err(Fault::OutOfOrder);
+        }
+        if fields.count() != 1 {
+            return Err(Fault::WrongFieldCount);
+        }
+        let id = natural_in(fields.word(), 1, u64::from(self.nodes))? as u32;
+        if id <= self.last_node() {
+            return Err(Fault::OutOfOrder);
+        }
+        Ok(id)
+    }
+
+    /// The last node of the cut, or 0 before the first.
+    fn last_node(&self) -> u32
+        ensures { result ≡ last_node self.now.said.cut }
+    {
+        if self.cut.is_empty() {
+            return 0;
+        }
+        self.cut[self.cut.len() - 1]
+    }
+
     /// The answer, where no line is missing.
     pub fn close(self) -> Result<Answer, Fault>
         ensures value { result ≡ ending self.nodes self.arcs self.said }
@@ -163,7 +233,15 @@ impl AnswerDraft {
             value,
             flows,
             potentials,
+            shortage,
+            cut,
         } = self;
+        if let Some(shortage) = shortage {
+            return Ok(Answer::Cut {
+                shortage,
+                nodes: Sequence::new(cut),
+            });
+        }
         let Some(value) = value else {
             return Err(Fault::OutOfOrder);
         };

@@ -9,6 +9,8 @@ pub enum AnswerLine {
     Value,
     Flow,
     Potential,
+    Shortage,
+    CutNode,
     Unknown,
 }
 
@@ -24,6 +26,8 @@ impl AnswerLine {
             [b's'] => AnswerLine::Value,
             [b'f'] => AnswerLine::Flow,
             [b'v'] => AnswerLine::Potential,
+            [b'i'] => AnswerLine::Shortage,
+            [b'k'] => AnswerLine::CutNode,
             _ => AnswerLine::Unknown,
         }
     }

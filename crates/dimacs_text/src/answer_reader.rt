@@ -29,7 +29,8 @@ impl LineTaker for AnswerDraft {
 }
 
 /// A reader of an answer text: an `s VALUE` line, an `f SRC DST FLOW` line for each arc, and then a `v ID POTENTIAL` line
-/// for each node. It holds one line of the text beside what it has read.
+/// for each node; or an `i SHORTAGE` line, and then `k ID` lines by rising ID. It holds one line of the text beside what it
+/// has read.
 #[derive(Drop)]
 pub struct AnswerReader {
     reader: TextReader<AnswerDraft>,

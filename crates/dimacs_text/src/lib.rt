@@ -15,6 +15,7 @@ mod problem;
 mod problem_reader;
 mod reader;
 mod sequence;
+mod terminals;
 #[cfg(test)]
 mod tests;
 mod words;

@@ -45,7 +45,7 @@ fn faults(rt: HostRuntime) {
     let mut long = [b'x'; 1025];
     long[0] = b'c';
     expect_fault(&rt, rt.alloc(), &long, 1, 1);
-    let cases: [(&[u8], u8, u64); 17] = [
+    let cases: [(&[u8], u8, u64); 21] = [
         (b"x 1", 2, 1),
         (b"p min 2", 3, 1),
         (b"p min +2 1", 4, 1),
@@ -55,7 +55,6 @@ fn faults(rt: HostRuntime) {
         (b"a 1 2 0 1 1", 6, 1),
         (b"p min 1 0\np min 1 0", 7, 2),
         (b"p sp 2 1", 8, 1),
-        (b"p max 2 1", 8, 1),
         (b"p min 2 1\na 1 2 0 1 1\nn 1 0", 9, 3),
         (b"p min 2 0\nn 1 1\nn 1 1", 10, 3),
         (b"p min 2 0\na 1 2 0 1 1", 12, 2),
@@ -63,6 +62,11 @@ fn faults(rt: HostRuntime) {
         (b"c only", 14, 1),
         (b"p min 2 1\na 1 2 2 1 0", 15, 2),
         (b"n 1 s\np max 2 0", 6, 1),
+        (b"p max 2 0\nn 1 s\nn 1 t", 10, 3),
+        (b"p max 2 1\nn 1 s\na 1 2 1", 11, 3),
+        (b"p max 2 0\nn 1 s", 11, 2),
+        (b"p asn 2 1\nn 1\na 2 1 0", 16, 3),
+        (b"p max 2 0\nn 1 x", 17, 2),
     ];
     for (text, number, line) in cases {
         expect_fault(&rt, rt.alloc(), text, number, line);
@@ -80,6 +84,45 @@ fn problem(rt: HostRuntime) {
                 assert_eq!(rt; problem.marks()[1], NodeMark::Supply { id: 2, value: -3 });
                 assert_eq!(rt; problem.arcs().len(), 1);
                 assert_eq!(rt; problem.arcs()[0].cap, 5);
+            }
+            Err(_) => panic!(rt; "the text is read"),
+        }
+    }
+}
+
+#[test]
+fn problem_of_each_kind(rt: HostRuntime) {
+    let cases: [(&[u8], Kind, NodeMark, i64, i64); 3] = [
+        (
+            b"p min 2 1\nn 2 -3\na 1 2 1 5 4",
+            Kind::Min,
+            NodeMark::Supply { id: 2, value: -3 },
+            5,
+            4,
+        ),
+        (
+            b"p max 2 1\nn 2 t\nn 1 s\na 1 2 6",
+            Kind::Max,
+            NodeMark::Sink(2),
+            6,
+            0,
+        ),
+        (
+            b"p asn 2 1\nn 2\na 2 1 -7",
+            Kind::Asn,
+            NodeMark::Side(2),
+            1,
+            -7,
+        ),
+    ];
+    for (text, kind, mark, cap, cost) in cases {
+        match read(rt.alloc(), [text, b"", b""], 7) {
+            Ok(problem) => {
+                assert_eq!(rt; problem.kind(), kind);
+                assert!(rt; !problem.marks().is_empty() && !problem.arcs().is_empty());
+                assert_eq!(rt; problem.marks()[0], mark);
+                assert_eq!(rt; problem.arcs()[0].cap, cap);
+                assert_eq!(rt; problem.arcs()[0].cost, cost);
             }
             Err(_) => panic!(rt; "the text is read"),
         }

@@ -15,3 +15,4 @@ pub mod InstanceLemmas
 pub mod AnswerLemmas
 pub mod WalkLemmas
 pub mod ChangeLemmas
+pub mod EditRows

@@ -143,7 +143,7 @@ pub ends_left_less : (arcs : List ArcRow) (u end : ℕ) (next : Option ℕ) → 
 ends_left_less arcs u end None is = omega arith
 ends_left_less arcs u end (Some e) is = omega (arith, (is.found e refl).0)
 
-rows_at_least : (D : Demand) (arcs : List ArcRow) → length arcs ≤ length (reduced_arcs D arcs)
+pub rows_at_least : (D : Demand) (arcs : List ArcRow) → length arcs ≤ length (reduced_arcs D arcs)
 rows_at_least (Supplies s) arcs = omega arith
 rows_at_least (Terminals source sink) arcs = omega arith
 rows_at_least (Sides marks) arcs = omega arith

@@ -1,11 +1,13 @@
 //! Changes of an instance, from the flow that stands.
 
-ghost use Rattle.std.specs.Prelude.{◌≡◌, ℕ, ◌+◌, ◌-◌, ◌<◌, ◌≤◌, drop, length, slice_index_or, slice_set, ◌++◌, ◌∷◌, [], vec_capacity};
+ghost use Rattle.std.specs.Prelude.{◌≡◌, ℕ, ◌+◌, ◌-◌, ◌<◌, ◌≤◌, drop, length, slice_index_or, slice_set, ◌++◌, ◌∷◌, [], vec_capacity, IsOk, Some, pos};
 ghost use Rattle.dimacs_text.specs.Lawful.{IsLawfulRow, IsNode, IsWithin};
 ghost use Rattle.dimacs_text.specs.declared.problem.TheConstants.{SUPPLY_LIMIT};
 ghost use Rattle.dimacs_text.specs.declared.problem.Kind.TheVariants.{Min};
 ghost use Rattle.network.specs.Flow.{IsCertifiedFlow};
-ghost use Rattle.network.specs.Instance.{ArcFits, at_node, is_marked, kind_of, reduced, with_supply};
+ghost use Rattle.dimacs_text.specs.declared.problem.ArcRow.{ArcRow};
+ghost use Rattle.network.specs.Edited.{edited};
+ghost use Rattle.network.specs.Instance.{IsLawful, arc_at as number_at_arc, ArcFits, at_node, is_marked, kind_of, reduced, with_supply};
 ghost use Rattle.flow_solver.specs.Limits.{potential_floor};
 ghost use Rattle.flow_solver.specs.Residual.{IsRow, IsCertified, ArePotentials, number_at, arc_at};
 ghost use Rattle.flow_solver.specs.Nodes.{IsIdleEntry};
@@ -13,13 +15,13 @@ ghost use Rattle.flow_solver.specs.Queue.{IsQueueFor};
 ghost use Rattle.flow_solver.specs.Walk.{AreRowsOf};
 ghost use Rattle.flow_solver.specs.Swap.{supplies_in};
 ghost use Rattle.flow_solver.specs.Answer.{AreGreatestPotentials, IsChosenCut, IsVerdict};
-ghost use Rattle.flow_solver.specs.Edit.{reduced_cost, IsNearest, IsRowChanged, IsSupplyChanged};
+ghost use Rattle.flow_solver.specs.Edit.{reduced_cost, IsNearest, IsAddEdit, IsOfAdd, IsOfArc, IsOfSupply, IsSupplyEdit, IsRowChanged, IsRowEdit, IsSupplyChanged};
 
 use crate::answer::{solve, supply_at};
 use crate::queue::Queue;
 use crate::verdict::Verdict;
 use crate::visit::Visit;
-use dimacs_text::ArcRow;
+use dimacs_text::{ArcRow, Edit};
 use network::Network;
 
 /// The reduced cost of an arc.
@@ -208,4 +210,117 @@ pub fn put_row(net: &mut Network, rows: &mut Vec<ArcRow>, row: ArcRow)
     let Ok(()) = rows.push(row) else {
         unreachable!()
     };
+}
+
+/// The arc with this number, which is there.
+fn arc_of(net: &Network, k: u64) -> ArcRow
+    requires lawful { IsLawful net.now }
+    requires there { (row : ArcRow) × (number_at_arc net.now.arcs k ≡ Some row) }
+    ensures { number_at_arc net.now.arcs k ≡ Some result }
+{
+    let Some(row) = net.arc(k as u32) else {
+        unreachable!()
+    };
+    row
+}
+
+fn with_cap(row: ArcRow, cap: i64) -> ArcRow
+    ensures { result ≡ record row { cap = cap } }
+{
+    ArcRow { cap, ..row }
+}
+
+fn with_low(row: ArcRow, low: i64) -> ArcRow
+    ensures { result ≡ record row { low = low } }
+{
+    ArcRow { low, ..row }
+}
+
+fn with_cost(row: ArcRow, cost: i64) -> ArcRow
+    ensures { result ≡ record row { cost = cost } }
+{
+    ArcRow { cost, ..row }
+}
+
+/// An arc that carries no flow.
+pub fn closed(row: ArcRow) -> ArcRow
+    ensures { result ≡ record row { low = pos 0; cap = pos 0 } }
+{
+    ArcRow {
+        low: 0,
+        cap: 0,
+        ..row
+    }
+}
+
+/// The number of the arc that an accepted edit changes, and what the arc becomes.
+pub fn edited_row(net: &Network, edit: &Edit) -> (u32, ArcRow)
+    requires lawful { IsLawful net.now }
+    requires accepted { IsOk (edited net.now edit.now) }
+    requires of_arc { IsOfArc edit.now }
+    ensures { IsRowEdit net.now edit.now result.0 result.1 }
+{
+    match *edit {
+        Edit::Cap { arc, cap } => {
+            let old = arc_of(net, arc);
+            (arc as u32, with_cap(old, cap))
+        }
+        Edit::Low { arc, low } => {
+            let old = arc_of(net, arc);
+            (arc as u32, with_low(old, low))
+        }
+        Edit::Cost { arc, cost } => {
+            let old = arc_of(net, arc);
+            (arc as u32, with_cost(old, cost))
+        }
+        Edit::Close { arc } => {
+            let old = arc_of(net, arc);
+            (arc as u32, closed(old))
+        }
+        _ => unreachable!(),
+    }
+}
+
+/// The node whose supply an accepted edit changes, and its new supply.
+pub fn edited_supply(net: &Network, edit: &Edit) -> (u32, i64)
+    requires lawful { IsLawful net.now }
+    requires accepted { IsOk (edited net.now edit.now) }
+    requires of_supply { IsOfSupply edit.now }
+    ensures { IsSupplyEdit net.now edit.now result.0 result.1 }
+{
+    match *edit {
+        Edit::Supply { node, value } => (node as u32, value),
+        _ => unreachable!(),
+    }
+}
+
+fn new_row(tail: u32, head: u32, low: i64, cap: i64, cost: i64) -> ArcRow
+    ensures { result ≡ record { tail = tail; head = head; low = low; cap = cap; cost = cost } }
+{
+    ArcRow {
+        tail,
+        head,
+        low,
+        cap,
+        cost,
+    }
+}
+
+/// The arc that an accepted edit adds.
+pub fn added_row(net: &Network, edit: &Edit) -> ArcRow
+    requires lawful { IsLawful net.now }
+    requires accepted { IsOk (edited net.now edit.now) }
+    requires of_add { IsOfAdd edit.now }
+    ensures { IsAddEdit net.now edit.now result }
+{
+    match *edit {
+        Edit::Add {
+            tail,
+            head,
+            low,
+            cap,
+            cost,
+        } => new_row(tail as u32, head as u32, low, cap, cost),
+        _ => unreachable!(),
+    }
 }

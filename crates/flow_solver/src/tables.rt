@@ -1,25 +1,29 @@
 //! The tables of a solver, which have their final size from the start.
 
-ghost use Rattle.std.specs.Prelude.{◌≡◌, pos, ◌≤ℤ◌, IfOk, length, ◌≤◌, ◌-◌, slice_index_or, slice_set, None, ◌<◌, ◌++◌, ◌∷◌, [], ◌+◌};
+ghost use Rattle.std.specs.Prelude.{◌≡◌, pos, ◌≤ℤ◌, IfOk, length, ◌≤◌, ◌-◌, slice_index_or, slice_set, None, ◌<◌, ◌++◌, ◌∷◌, [], ◌+◌, IsOk, Ok};
 ghost use Rattle.network.specs.Flow.{IsCertifiedFlow, IsPotential, total_excess};
-ghost use Rattle.network.specs.Instance.{ArcFits, at_node, is_marked, kind_of, numbered_flow, reduced, return_arc_of, with_supply};
+ghost use Rattle.network.specs.Instance.{ArcFits, IsLawful, at_node, is_marked, kind_of, numbered_flow, reduced, return_arc_of, with_supply};
 ghost use Rattle.flow_solver.specs.Push.{Pushes};
 ghost use Rattle.dimacs_text.specs.Lawful.{IsLawfulRow, IsNode, IsWithin};
 ghost use Rattle.dimacs_text.specs.declared.problem.TheConstants.{SUPPLY_LIMIT};
 ghost use Rattle.dimacs_text.specs.declared.problem.Kind.TheVariants.{Min};
-ghost use Rattle.flow_solver.specs.Edit.{IsRowChanged, IsSupplyChanged};
+ghost use Rattle.flow_solver.specs.Edit.{IsAdded, IsChange, IsOfAdd, IsOfArc, IsOfSupply, IsRowChanged, IsSupplyChanged};
+ghost use Rattle.network.specs.Edited.{edited};
 ghost use Rattle.flow_solver.specs.Moment.{IsSized, IsStart};
 ghost use Rattle.flow_solver.specs.Swap.{IsFlowValue, flow_index, supplies_in};
 ghost use Rattle.flow_solver.specs.Answer.{AreGreatestPotentials, IsChosenCut, IsVerdict};
 
 use crate::answer::solve;
-use crate::edit::{change_row, change_supply, drop_row, put_row, swap_row, swap_supply};
+use crate::edit::{
+    added_row, change_row, change_supply, closed, drop_row, edited_row, edited_supply, put_row,
+    swap_row, swap_supply,
+};
 use crate::queue::Queue;
 use crate::start::{reduced_rows, start_flow};
 use crate::swaps::{exchange, exchange_node};
 use crate::verdict::Verdict;
 use crate::visit::Visit;
-use dimacs_text::{ArcRow, NODE_LIMIT};
+use dimacs_text::{ArcRow, Edit, NODE_LIMIT};
 use network::Network;
 use std::alloc::{AllocError, Global};
 use std::marker::Model;
@@ -152,7 +156,7 @@ impl Tables {
 
     /// Changes the bounds and the cost of the arc with this number, counted from 1, and settles the flow again from where
     /// it stands: the arc's flow goes to the nearest value that is allowed. Gives the number of pushes after that.
-    pub fn change_row(&mut self, k: u32, row: ArcRow) -> u64
+    fn change_row(&mut self, k: u32, row: ArcRow) -> u64
         requires certified { IsCertifiedFlow (reduced self.old.instance) self.old.flow (at_node self.old.potentials) }
         requires arc { (1 ≤ k) × (k ≤ length self.old.instance.arcs) }
         requires tail { row.tail ≡ (slice_index_or self.old.instance.arcs (k - 1) row).tail }
@@ -184,7 +188,7 @@ impl Tables {
 
     /// Changes what a node of a least-cost problem has to send out, and settles the flow again from where it stands.
     /// Gives the number of pushes.
-    pub fn change_supply(&mut self, id: u32, value: i64) -> u64
+    fn change_supply(&mut self, id: u32, value: i64) -> u64
         requires certified { IsCertifiedFlow (reduced self.old.instance) self.old.flow (at_node self.old.potentials) }
         requires kind { kind_of self.old.instance.demand ≡ Min }
         requires node { IsNode self.old.instance.nodes id }
@@ -306,5 +310,94 @@ impl Tables {
         let Ok(()) = self.flow.push(flow) else {
             unreachable!()
         };
+    }
+
+    /// Makes an accepted edit of an arc, and settles the flow again from where it stands; gives the number of pushes.
+    fn change_arc(&mut self, edit: &Edit) -> u64
+        requires certified { IsCertifiedFlow (reduced self.old.instance) self.old.flow (at_node self.old.potentials) }
+        requires accepted { IsOk (edited self.old.instance edit.now) }
+        requires of_arc { IsOfArc edit.now }
+        ensures instance { edited self.old.instance edit.now ≡ Ok self.new.instance }
+        ensures certified { IsCertifiedFlow (reduced self.new.instance) self.new.flow (at_node self.new.potentials) }
+        ensures verdict { IsVerdict self.new.verdict self.new.instance self.new.flow (is_marked self.new.cut) }
+        ensures changed { IsChange self.old.instance self.new.instance edit.now self.old.flow self.new.flow result }
+        ensures greatest { AreGreatestPotentials (reduced self.new.instance) self.new.flow (at_node self.new.potentials) }
+        ensures chosen { IsChosenCut self.new.verdict (reduced self.new.instance) (is_marked self.new.cut) }
+    {
+        let (k, row) = edited_row(&self.net, edit);
+        self.change_row(k, row)
+    }
+
+    /// Makes an accepted edit of a supply, and settles the flow again from where it stands; gives the number of pushes.
+    fn change_supplied(&mut self, edit: &Edit) -> u64
+        requires certified { IsCertifiedFlow (reduced self.old.instance) self.old.flow (at_node self.old.potentials) }
+        requires accepted { IsOk (edited self.old.instance edit.now) }
+        requires of_supply { IsOfSupply edit.now }
+        ensures instance { edited self.old.instance edit.now ≡ Ok self.new.instance }
+        ensures certified { IsCertifiedFlow (reduced self.new.instance) self.new.flow (at_node self.new.potentials) }
+        ensures verdict { IsVerdict self.new.verdict self.new.instance self.new.flow (is_marked self.new.cut) }
+        ensures changed { IsChange self.old.instance self.new.instance edit.now self.old.flow self.new.flow result }
+        ensures greatest { AreGreatestPotentials (reduced self.new.instance) self.new.flow (at_node self.new.potentials) }
+        ensures chosen { IsChosenCut self.new.verdict (reduced self.new.instance) (is_marked self.new.cut) }
+    {
+        let (id, value) = edited_supply(&self.net, edit);
+        self.change_supply(id, value)
+    }
+
+    /// Adds an arc at the end, without flow at first, and settles the flow again from where it stands; gives the number
+    /// of pushes.
+    fn add_arc(&mut self, row: ArcRow) -> u64
+        requires certified { IsCertifiedFlow (reduced self.old.instance) self.old.flow (at_node self.old.potentials) }
+        requires lawful { IsLawful self.old.instance }
+        requires room { length self.old.instance.arcs < self.old.instance.room }
+        requires limits { IsLawfulRow self.old.instance.nodes row }
+        requires fits { ArcFits self.old.instance.demand row }
+        ensures instance { self.new.instance ≡ record self.old.instance { arcs = self.old.instance.arcs ++ row ∷ [] } }
+        ensures certified { IsCertifiedFlow (reduced self.new.instance) self.new.flow (at_node self.new.potentials) }
+        ensures verdict { IsVerdict self.new.verdict self.new.instance self.new.flow (is_marked self.new.cut) }
+        ensures added { IsAdded self.old.instance self.new.instance row self.old.flow self.new.flow result }
+        ensures greatest { AreGreatestPotentials (reduced self.new.instance) self.new.flow (at_node self.new.potentials) }
+        ensures chosen { IsChosenCut self.new.verdict (reduced self.new.instance) (is_marked self.new.cut) }
+    {
+        self.put_last(closed(row), 0);
+        let k = self.net.arcs();
+        self.change_row(k, row)
+    }
+
+    /// Makes an accepted edit that adds an arc, and settles the flow again from where it stands; gives the number of
+    /// pushes.
+    fn change_added(&mut self, edit: &Edit) -> u64
+        requires certified { IsCertifiedFlow (reduced self.old.instance) self.old.flow (at_node self.old.potentials) }
+        requires accepted { IsOk (edited self.old.instance edit.now) }
+        requires of_add { IsOfAdd edit.now }
+        ensures instance { edited self.old.instance edit.now ≡ Ok self.new.instance }
+        ensures certified { IsCertifiedFlow (reduced self.new.instance) self.new.flow (at_node self.new.potentials) }
+        ensures verdict { IsVerdict self.new.verdict self.new.instance self.new.flow (is_marked self.new.cut) }
+        ensures changed { IsChange self.old.instance self.new.instance edit.now self.old.flow self.new.flow result }
+        ensures greatest { AreGreatestPotentials (reduced self.new.instance) self.new.flow (at_node self.new.potentials) }
+        ensures chosen { IsChosenCut self.new.verdict (reduced self.new.instance) (is_marked self.new.cut) }
+    {
+        let row = added_row(&self.net, edit);
+        self.add_arc(row)
+    }
+
+    /// Makes an edit that the instance accepts, and settles the flow again from where it stands: the flow of an edited
+    /// arc goes to the nearest value that its bounds and the sign rule allow. Gives the number of pushes after that,
+    /// which is at most what was left to send out before and the edit's units.
+    pub fn change(&mut self, edit: &Edit) -> u64
+        requires certified { IsCertifiedFlow (reduced self.old.instance) self.old.flow (at_node self.old.potentials) }
+        requires accepted { IsOk (edited self.old.instance edit.now) }
+        ensures instance { edited self.old.instance edit.now ≡ Ok self.new.instance }
+        ensures certified { IsCertifiedFlow (reduced self.new.instance) self.new.flow (at_node self.new.potentials) }
+        ensures verdict { IsVerdict self.new.verdict self.new.instance self.new.flow (is_marked self.new.cut) }
+        ensures changed { IsChange self.old.instance self.new.instance edit.now self.old.flow self.new.flow result }
+        ensures greatest { AreGreatestPotentials (reduced self.new.instance) self.new.flow (at_node self.new.potentials) }
+        ensures chosen { IsChosenCut self.new.verdict (reduced self.new.instance) (is_marked self.new.cut) }
+    {
+        match edit {
+            Edit::Supply { .. } => self.change_supplied(edit),
+            Edit::Add { .. } => self.change_added(edit),
+            _ => self.change_arc(edit),
+        }
     }
 }

@@ -10,7 +10,7 @@ use dimacs_text::{Answer, ArcRow, FlowLine, Problem};
 use network::{build, check_best, check_cut};
 use std::alloc::{AllocError, Global};
 
-/// Checks an answer text to a minimum-cost flow problem: writes `valid` or `not valid`, and a line feed.
+/// Checks an answer text to a flow problem of any kind: writes `valid` or `not valid`, and a line feed.
 ///
 /// The problem text is read to its end, and then the answer text. Nothing is written before that, and nothing after a failed write.
 pub fn check<P: Source, A: Source, O: Sink>(

@@ -1,4 +1,4 @@
-//! The program `mcf`: solves minimum-cost flow problems in the DIMACS formats, and checks answers to them.
+//! The program `mcf`: solves flow problems in the DIMACS formats, and checks answers to them.
 #![tactic(auto)]
 
 mod check;

@@ -38,8 +38,9 @@ fn faults_of_lines(rt: HostRuntime) {
     expect_fault(&rt, rt.alloc(), &long, 1, 1);
     let cases: [(&[u8], u8, u64); 16] = [
         (b"s 1\nx 1", 2, 2),
-        (b"i 1", 2, 1),
-        (b"s 1\nk 1", 2, 2),
+        (b"i 1\nk", 3, 2),
+        (b"i -1", 4, 1),
+        (b"i 1\nk 3", 5, 2),
         (b"s", 3, 1),
         (b"c\n\ns 1 2", 3, 3),
         (b"s 1\nf 1 2", 3, 2),
@@ -61,7 +62,7 @@ fn faults_of_lines(rt: HostRuntime) {
 
 #[test]
 fn faults_of_order(rt: HostRuntime) {
-    let cases: [(&[u8], u64); 11] = [
+    let cases: [(&[u8], u64); 16] = [
         (b"f 1 2", 1),
         (b"v 1 0", 1),
         (b"s 1\ns 1", 2),
@@ -73,6 +74,11 @@ fn faults_of_order(rt: HostRuntime) {
         (b"c only", 1),
         (b"s 1", 1),
         (b"s 1\nf 1 2 3\nv 1 0", 3),
+        (b"k 1", 1),
+        (b"s 1\ni 1", 2),
+        (b"i 1\ns 1", 2),
+        (b"i 1\ni 1", 2),
+        (b"i 1\nk 2\nk 1", 3),
     ];
     for (text, line) in cases {
         expect_fault(&rt, rt.alloc(), text, 40, line);
@@ -105,5 +111,16 @@ fn flow(rt: HostRuntime) {
             }
             _ => panic!(rt; "the text is read"),
         }
+    }
+}
+
+#[test]
+fn cut(rt: HostRuntime) {
+    match read(rt.alloc(), [b"i 3\nk 1\n", b"c the last node\nk 2"], 7) {
+        Ok(Answer::Cut { shortage, nodes }) => {
+            assert_eq!(rt; shortage, 3);
+            assert!(rt; nodes.as_slice() == [1, 2].as_slice());
+        }
+        _ => panic!(rt; "the text is read"),
     }
 }

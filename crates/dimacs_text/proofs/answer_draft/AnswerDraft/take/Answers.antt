@@ -16,3 +16,9 @@ returns-in-Flow c = law.taken_flow c.take_flow.result c.args.self.now c.take_flo
 
 pub returns-in-Potential : goal.returns-in-Potential
 returns-in-Potential c = law.taken_potential c.take_potential.result c.args.self.now c.take_potential.new.self c.args.line.now c.in-Some.first.now c.next.new.self (sym c.new-words.ensures ∙ c.in-Some.ensures) (sym c.of.ensures ∙ c.in-Potential.is) c.take_potential.ensures
+
+pub returns-in-Shortage : goal.returns-in-Shortage
+returns-in-Shortage c = law.taken_shortage c.take_shortage.result c.args.self.now c.take_shortage.new.self c.args.line.now c.in-Some.first.now c.next.new.self (sym c.new-words.ensures ∙ c.in-Some.ensures) (sym c.of.ensures ∙ c.in-Shortage.is) c.take_shortage.ensures
+
+pub returns-in-CutNode : goal.returns-in-CutNode
+returns-in-CutNode c = law.taken_cut_node c.take_cut_node.result c.args.self.now c.take_cut_node.new.self c.args.line.now c.in-Some.first.now c.next.new.self (sym c.new-words.ensures ∙ c.in-Some.ensures) (sym c.of.ensures ∙ c.in-CutNode.is) c.take_cut_node.ensures

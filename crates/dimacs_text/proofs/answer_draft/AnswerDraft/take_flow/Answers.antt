@@ -11,7 +11,7 @@ invariant_of-self-2 c =
     let joins : JoinsNodes c.self.inside.nodes c.in_ok-flow.flow =
     subst (λ (n : ℕ). JoinsNodes n c.in_ok-flow.flow) (sym (ap (λ (d : Drafted). d.nodes) c.self.view_is)) (read.tail, read.head)
     in
-    rw c.in_ok-push.ensures.items (All-push (JoinsNodes c.self.inside.nodes) c.self.inside.flows.items c.in_ok-flow.flow c.self.invariant joins)
+    (rw c.in_ok-push.ensures.items (All-push (JoinsNodes c.self.inside.nodes) c.self.inside.flows.items c.in_ok-flow.flow c.self.invariant.0 joins), c.self.invariant.1)
 
 pub returns : goal.returns
 returns c =

@@ -1,0 +1,361 @@
+-- Edits that change one arc.
+use Rattle.std.proofs.Common.{◌≡◌, ℕ, zero, suc, ◌+◌, ◌-◌, ◌<◌, ◌≤◌, ℤ, pos, ◌-ℤ◌, ◌+ℤ◌, ◌≤ℤ◌, Bool, true, false, ◌⊎◌, inl, inr, [], ◌∷◌, ◌++◌, List, length, refl, sym, ap, subst, ◌∙◌, arith, slice_get, slice_set, slice_index_or, unsigned_abs, Some, None, Ok, Err, IsOk, All}
+use Rattle.std.specs.Prelude.{Option, Result, int_le, nat_le, neg_ℤ, ◌&&◌}
+use Rattle.std.proofs.lemmas.Int.{ints, by_lt_z}
+use Rattle.std.proofs.lemmas.Option.{slice_get_within, get_or_from_slice_get}
+use Rattle.std.proofs.lemmas.List.{get_or-set_same, length-set, length-append, get_or_push}
+use Rattle.std.specs.List.{AllZip}
+use Rattle.flow_solver.specs.Push.{Pushes, at_node as at_one}
+use Rattle.network.proofs.Reduction.{reduced_ends}
+use Rattle.dimacs_text.specs.declared.command.Edit.{Edit}
+use Rattle.dimacs_text.specs.declared.command.Edit.TheVariants.{Cap, Low, Cost, Supply, Add, Close}
+use Rattle.dimacs_text.specs.declared.problem.ArcRow.{ArcRow}
+use Rattle.dimacs_text.specs.Lawful.{IsLawfulRow}
+use Rattle.network.specs.Flow as flow
+use Rattle.network.specs.Edited.{with_arc, edited, has_edit, is_bound, is_within, is_node, is_new_row, is_across, has_room, units, units_of_row}
+use Rattle.dimacs_text.specs.declared.problem.TheConstants.{COST_LIMIT, SUPPLY_LIMIT}
+use Rattle.dimacs_text.specs.declared.problem.Kind.{Kind}
+use Rattle.dimacs_text.specs.declared.problem.Kind.TheVariants.{Min, Max, Asn}
+use Rattle.std.proofs.lemmas.Bool.{leb-true}
+use Rattle.network.specs.Instance.{Instance, IsLawful, ArcFits, arc_at, kind_of}
+use Rattle.network.proofs.EditedLemmas.{edited_lawful}
+use Rattle.flow_solver.specs.Residual.{IsWithin, number_at, arc_at as row_at}
+use Rattle.network.specs.Flow.{IsCertifiedFlow, FollowsSign, AllWithinBounds, IsWithinBounds, net, outflow, inflow, total_excess}
+use Rattle.network.specs.Instance.{reduced, Demand, Supplies, Terminals, Sides}
+use Rattle.flow_solver.proofs.FlowLaws.{bounds_at, bounds_length, signs_at}
+use Rattle.flow_solver.proofs.WalkLemmas.{rows_at_least}
+use Rattle.flow_solver.proofs.ChangeLemmas.{place_in, row_is, supplied, with_last, rows_more, lawful_more, excess_carried}
+use Rattle.flow_solver.specs.Edit.{IsNearest, IsRowEdit, IsAltered, AltersAt, IsRowChanged, IsSupplyChanged, IsChange, IsSupplyEdit, IsAddEdit, IsAdded, place_of}
+
+-- ---- checks that were met
+
+met_or_not : (b : Bool) → (b ≡ true) ⊎ (b ≡ false)
+met_or_not true = inl refl
+met_or_not false = inr refl
+
+accepted : (r : Result Instance ℕ) → IsOk r → (J : Instance) × (r ≡ Ok J)
+accepted (Ok after) ok = (after, refl)
+accepted (Err n) ok = cc
+
+cap_after : (I : Instance) (k : ℕ) (cap : ℤ) (row : ArcRow) (J : Instance) → arc_at I.arcs k ≡ Some row → edited I (Cap k cap) ≡ Ok J → edited I (Cap k cap) ≡ Ok (with_arc I k (record row { cap = cap }))
+cap_after I k cap row J is e = elim (met_or_not (has_edit (kind_of I.demand) (Cap k cap))) [
+  | inr unmet ↦ (let bad = rw unmet at e in cc)
+  | inl kind ↦ (let e1 = rw kind at e in elim (met_or_not (is_bound cap)) [
+    | inr unmet ↦ (let bad = rw unmet at e1 in cc)
+    | inl range ↦ (let e2 = rw (range, is) at e1 in elim (met_or_not (int_le row.low cap)) [
+      | inr unmet ↦ (let bad = rw unmet at e2 in cc)
+      | inl order ↦ (let e3 = rw order at e2 in let same : with_arc I k (record row { cap = cap }) ≡ J = cc in e ∙ ap Ok (sym same))
+    ])
+  ])
+]
+
+low_after : (I : Instance) (k : ℕ) (low : ℤ) (row : ArcRow) (J : Instance) → arc_at I.arcs k ≡ Some row → edited I (Low k low) ≡ Ok J → edited I (Low k low) ≡ Ok (with_arc I k (record row { low = low }))
+low_after I k low row J is e = elim (met_or_not (has_edit (kind_of I.demand) (Low k low))) [
+  | inr unmet ↦ (let bad = rw unmet at e in cc)
+  | inl kind ↦ (let e1 = rw kind at e in elim (met_or_not (is_bound low)) [
+    | inr unmet ↦ (let bad = rw unmet at e1 in cc)
+    | inl range ↦ (let e2 = rw (range, is) at e1 in elim (met_or_not (int_le low row.cap)) [
+      | inr unmet ↦ (let bad = rw unmet at e2 in cc)
+      | inl order ↦ (let e3 = rw order at e2 in let same : with_arc I k (record row { low = low }) ≡ J = cc in e ∙ ap Ok (sym same))
+    ])
+  ])
+]
+
+cost_after : (I : Instance) (k : ℕ) (cost : ℤ) (row : ArcRow) (J : Instance) → arc_at I.arcs k ≡ Some row → edited I (Cost k cost) ≡ Ok J → edited I (Cost k cost) ≡ Ok (with_arc I k (record row { cost = cost }))
+cost_after I k cost row J is e = elim (met_or_not (has_edit (kind_of I.demand) (Cost k cost))) [
+  | inr unmet ↦ (let bad = rw unmet at e in cc)
+  | inl kind ↦ (let e1 = rw kind at e in elim (met_or_not (is_within COST_LIMIT cost)) [
+    | inr unmet ↦ (let bad = rw unmet at e1 in cc)
+    | inl range ↦ (let e2 = rw (range, is) at e1 in let same : with_arc I k (record row { cost = cost }) ≡ J = cc in e ∙ ap Ok (sym same))
+  ])
+]
+
+close_after : (I : Instance) (k : ℕ) (row : ArcRow) (J : Instance) → arc_at I.arcs k ≡ Some row → edited I (Close k) ≡ Ok J → edited I (Close k) ≡ Ok (with_arc I k (record row { low = pos 0; cap = pos 0 }))
+close_after I k row J is e = elim (met_or_not (has_edit (kind_of I.demand) (Close k))) [
+  | inr unmet ↦ (let bad = rw unmet at e in cc)
+  | inl kind ↦ (let e2 = rw (kind, is) at e in let same : with_arc I k (record row { low = pos 0; cap = pos 0 }) ≡ J = cc in e ∙ ap Ok (sym same))
+]
+
+-- ---- how far the flow of the arc moves
+
+module _ (a : ArcRow) (q : ℕ → ℤ) (x z : ℤ) (bounds : IsWithin a x) (sign : flow.FollowsSign q a x) where
+  cap_moved : (c : ℤ) → IsNearest (record a { cap = c }) (flow.reduced_cost q a) x z → unsigned_abs (z -ℤ x) ≤ unsigned_abs (c -ℤ a.cap)
+  cap_moved c near = by_lt_z (pos 0) (flow.reduced_cost q a)
+      (λ dear. omega (arith, ints, sign.dear dear, near.dear dear))
+      (λ le. by_lt_z (flow.reduced_cost q a) (pos 0)
+      (λ cheap. omega (arith, ints, sign.cheap cheap, near.cheap cheap))
+      (λ ge. (let even : flow.reduced_cost q a ≡ pos 0 = omega (arith, ints, le, ge) in
+      by_lt_z c x
+      (λ above. omega (arith, ints, near.cut_off even above, above, bounds.cap_kept))
+      (λ within. omega (arith, ints, near.kept even (record { low_kept = bounds.low_kept; cap_kept = within }))))))
+
+  low_moved : (l : ℤ) → IsNearest (record a { low = l }) (flow.reduced_cost q a) x z → unsigned_abs (z -ℤ x) ≤ unsigned_abs (l -ℤ a.low)
+  low_moved l near = by_lt_z (pos 0) (flow.reduced_cost q a)
+      (λ dear. omega (arith, ints, sign.dear dear, near.dear dear))
+      (λ le. by_lt_z (flow.reduced_cost q a) (pos 0)
+      (λ cheap. omega (arith, ints, sign.cheap cheap, near.cheap cheap))
+      (λ ge. (let even : flow.reduced_cost q a ≡ pos 0 = omega (arith, ints, le, ge) in
+      by_lt_z x l
+      (λ below. omega (arith, ints, near.raised even below, below, bounds.low_kept))
+      (λ within. omega (arith, ints, near.kept even (record { low_kept = within; cap_kept = bounds.cap_kept }))))))
+
+cost_moved : (a : ArcRow) (c r x z : ℤ) → IsWithin a x → IsNearest (record a { cost = c }) r x z → unsigned_abs (z -ℤ x) ≤ unsigned_abs (a.cap -ℤ a.low)
+cost_moved a c r x z bounds near = omega (arith, ints, bounds.low_kept, bounds.cap_kept, near.within.low_kept, near.within.cap_kept)
+
+close_moved : (a : ArcRow) (r x z : ℤ) → pos 0 ≤ℤ a.low → IsWithin a x → IsNearest (record a { low = pos 0; cap = pos 0 }) r x z → unsigned_abs (z -ℤ x) ≤ unsigned_abs a.cap
+close_moved a r x z low bounds near = omega (arith, ints, low, bounds.low_kept, bounds.cap_kept, near.within.low_kept, near.within.cap_kept)
+
+-- ---- the edits
+
+pub number_in : (arcs : List ArcRow) (k : ℕ) (row : ArcRow) → arc_at arcs k ≡ Some row → (1 ≤ k) × (k ≤ length arcs)
+number_in arcs zero row is = cc
+number_in arcs (suc k) row is = (omega arith, omega (arith, slice_get_within arcs k row is))
+
+row_there : (arcs : List ArcRow) (k : ℕ) (row d : ArcRow) → arc_at arcs k ≡ Some row → slice_index_or arcs (k - 1) d ≡ row
+row_there arcs zero row d is = cc
+row_there arcs (suc k) row d is = (let e : suc k - 1 ≡ k = omega arith in ap (λ (j : ℕ). slice_index_or arcs j d) e ∙ get_or_from_slice_get arcs k row d is)
+
+pub row_edit : (I : Instance) (edit : Edit) (k : ℕ) (old row : ArcRow) → IsLawful I → arc_at I.arcs k ≡ Some old → row.tail ≡ old.tail → row.head ≡ old.head → edited I edit ≡ Ok (with_arc I k row)
+    → ((x start : List ℤ) → AltersAt (place_of I k) x start → IsAltered I edit x start)
+    → ((q : ℕ → ℤ) (x z : ℤ) → IsWithin old x → flow.FollowsSign q old x → IsNearest row (flow.reduced_cost q row) x z → unsigned_abs (z -ℤ x) ≤ units I edit) → IsRowEdit I edit k row
+row_edit I edit k old row lawful is tail head after alters moved =
+    let there = row_there I.arcs k old row is in
+    let at = number_in I.arcs k old is in
+    let lawful_after = edited_lawful I edit (with_arc I k row) lawful after in
+    let new : slice_index_or (slice_set I.arcs (k - 1) row) (k - 1) row ≡ row = get_or-set_same I.arcs (k - 1) row row (omega (arith, at.0, at.1)) in
+    let both = subst (λ (a : ArcRow). IsLawfulRow I.nodes a × ArcFits I.demand a) new (lawful_after.arcs (k - 1) row (omega (arith, at.0, at.1, length-set I.arcs (k - 1) row))) in
+    record {
+      arc = at;
+      tail = tail ∙ ap (λ (a : ArcRow). a.tail) (sym there);
+      head = head ∙ ap (λ (a : ArcRow). a.head) (sym there);
+      limits = both.0;
+      fits = both.1;
+      after = after;
+      alters = alters;
+      moved = λ q x z bounds sign near. moved q x z (subst (λ (a : ArcRow). IsWithin a x) there bounds) (subst (λ (a : ArcRow). flow.FollowsSign q a x) there sign) near;
+    }
+
+pub cap_edit : (I : Instance) (k : ℕ) (cap : ℤ) (old : ArcRow) → IsLawful I → IsOk (edited I (Cap k cap)) → arc_at I.arcs k ≡ Some old → IsRowEdit I (Cap k cap) k (record old { cap = cap })
+cap_edit I k cap old lawful ok is =
+    let J = accepted (edited I (Cap k cap)) ok in
+    let units_are : units I (Cap k cap) ≡ unsigned_abs (cap -ℤ old.cap) = ap (λ (o : Option ArcRow). units_of_row o (λ row. cap -ℤ row.cap)) is in
+    row_edit I (Cap k cap) k old (record old { cap = cap }) lawful is refl refl (cap_after I k cap old J.0 is J.1) (λ x start h. h)
+    (λ q x z bounds sign near. omega (arith, units_are, cap_moved old q x z bounds sign cap near))
+
+pub low_edit : (I : Instance) (k : ℕ) (low : ℤ) (old : ArcRow) → IsLawful I → IsOk (edited I (Low k low)) → arc_at I.arcs k ≡ Some old → IsRowEdit I (Low k low) k (record old { low = low })
+low_edit I k low old lawful ok is =
+    let J = accepted (edited I (Low k low)) ok in
+    let units_are : units I (Low k low) ≡ unsigned_abs (low -ℤ old.low) = ap (λ (o : Option ArcRow). units_of_row o (λ row. low -ℤ row.low)) is in
+    row_edit I (Low k low) k old (record old { low = low }) lawful is refl refl (low_after I k low old J.0 is J.1) (λ x start h. h)
+    (λ q x z bounds sign near. omega (arith, units_are, low_moved old q x z bounds sign low near))
+
+pub cost_edit : (I : Instance) (k : ℕ) (cost : ℤ) (old : ArcRow) → IsLawful I → IsOk (edited I (Cost k cost)) → arc_at I.arcs k ≡ Some old → IsRowEdit I (Cost k cost) k (record old { cost = cost })
+cost_edit I k cost old lawful ok is =
+    let J = accepted (edited I (Cost k cost)) ok in
+    let units_are : units I (Cost k cost) ≡ unsigned_abs (old.cap -ℤ old.low) = ap (λ (o : Option ArcRow). units_of_row o (λ row. row.cap -ℤ row.low)) is in
+    row_edit I (Cost k cost) k old (record old { cost = cost }) lawful is refl refl (cost_after I k cost old J.0 is J.1) (λ x start h. h)
+    (λ q x z bounds sign near. omega (arith, units_are, cost_moved old cost (flow.reduced_cost q (record old { cost = cost })) x z bounds near))
+
+pub close_edit : (I : Instance) (k : ℕ) (old : ArcRow) → IsLawful I → IsOk (edited I (Close k)) → arc_at I.arcs k ≡ Some old → IsRowEdit I (Close k) k (record old { low = pos 0; cap = pos 0 })
+close_edit I k old lawful ok is =
+    let J = accepted (edited I (Close k)) ok in
+    let at = number_in I.arcs k old is in
+    let there = row_there I.arcs k old old is in
+    let low : pos 0 ≤ℤ old.low = subst (λ (a : ArcRow). pos 0 ≤ℤ a.low) there ((lawful.arcs (k - 1) old (omega (arith, at.0, at.1))).0.low) in
+    let units_are : units I (Close k) ≡ unsigned_abs old.cap = ap (λ (o : Option ArcRow). units_of_row o (λ row. row.cap)) is in
+    row_edit I (Close k) k old (record old { low = pos 0; cap = pos 0 }) lawful is refl refl (close_after I k old J.0 is J.1) (λ x start h. h)
+    (λ q x z bounds sign near. omega (arith, units_are, close_moved old (flow.reduced_cost q old) x z low bounds near))
+
+-- ---- the change
+
+pub arc_change : (I J : Instance) (edit : Edit) (k : ℕ) (row : ArcRow) (q : ℕ → ℤ) (x y : List ℤ) (n : ℕ) → IsCertifiedFlow (reduced I) x q → IsRowEdit I edit k row → IsRowChanged I J k row q x y n → IsChange I J edit x y n
+arc_change I J edit k row q x y n certified change changed =
+    let lt = place_in I k change.arc in
+    let there = row_is I k row change.arc in
+    let bounds = subst (λ (a : ArcRow). IsWithin a (number_at x (place_of I k))) there (bounds_at (reduced I).arcs x certified.bounds (place_of I k) lt) in
+    let sign = subst (λ (a : ArcRow). FollowsSign q a (number_at x (place_of I k))) there (signs_at q (reduced I).arcs x certified.signs (place_of I k) lt) in
+    let less = change.moved q (number_at x (place_of I k)) changed.after bounds sign changed.nearest in
+    record {
+      start = slice_set x (place_of I k) changed.after;
+      altered = change.alters x (slice_set x (place_of I k) changed.after) (changed.after, refl);
+      pushes = changed.pushes;
+      count = omega (arith, ints, changed.count, less);
+    }
+
+-- ---- an accepted supply
+
+supply_met : (I : Instance) (v : ℕ) (x : ℤ) (J : Instance) → edited I (Supply v x) ≡ Ok J → (has_edit (kind_of I.demand) (Supply v x) ≡ true) × (is_within SUPPLY_LIMIT x ≡ true) × (is_node I.nodes v ≡ true) × (edited I (Supply v x) ≡ Ok (supplied I v x))
+supply_met I v x J e = elim (met_or_not (has_edit (kind_of I.demand) (Supply v x))) [
+  | inr unmet ↦ (let bad = rw unmet at e in cc)
+  | inl kind ↦ (let e1 = rw kind at e in elim (met_or_not (is_within SUPPLY_LIMIT x)) [
+    | inr unmet ↦ (let bad = rw unmet at e1 in cc)
+    | inl range ↦ (let e2 = rw range at e1 in elim (met_or_not (is_node I.nodes v)) [
+      | inr unmet ↦ (let bad = rw unmet at e2 in cc)
+      | inl node ↦ (let e3 = rw node at e2 in let same : supplied I v x ≡ J = cc in (kind, range, node, e ∙ ap Ok (sym same)))
+    ])
+  ])
+]
+
+both : (a b : Bool) → (a && b) ≡ true → (a ≡ true) × (b ≡ true)
+both true b e = (refl, e)
+both false b e = cc
+
+le_from_test : (a b : ℤ) → int_le a b ≡ true → a ≤ℤ b
+le_from_test a b e = grind (arith, ints)
+
+kind_min : (k : Kind) (v : ℕ) (x : ℤ) → has_edit k (Supply v x) ≡ true → k ≡ Min
+kind_min Min v x e = refl
+kind_min Max v x e = cc
+kind_min Asn v x e = cc
+
+pub supply_edit : (I : Instance) (v : ℕ) (x : ℤ) → IsOk (edited I (Supply v x)) → IsSupplyEdit I (Supply v x) v x
+supply_edit I v x ok =
+    let J = accepted (edited I (Supply v x)) ok in
+    let met = supply_met I v x J.0 J.1 in
+    let range = both (int_le (neg_ℤ SUPPLY_LIMIT) x) (int_le x SUPPLY_LIMIT) met.1 in
+    let node = both (nat_le 1 v) (nat_le v I.nodes) met.2 in
+    record {
+      is = refl;
+      kind = kind_min (kind_of I.demand) v x met.0;
+      node = (leb-true 1 v node.0, leb-true v I.nodes node.1);
+      limit = (le_from_test _ _ range.0, le_from_test _ _ range.1);
+      after = met.3;
+    }
+
+pub supply_change : (I J : Instance) (edit : Edit) (v : ℕ) (z : ℤ) (x y : List ℤ) (n : ℕ) → IsSupplyEdit I edit v z → IsSupplyChanged I J v z x y n → IsChange I J edit x y n
+supply_change I J edit v z x y n change changed =
+    subst (λ (e : Edit). IsChange I J e x y n) (sym change.is) (record {
+      start = x;
+      altered = refl;
+      pushes = changed.pushes;
+      count = changed.count;
+    })
+
+-- ---- an accepted arc
+
+abbrev new_row : ℕ → ℕ → ℤ → ℤ → ℤ → ArcRow
+new_row tail head low cap cost = record { tail = tail; head = head; low = low; cap = cap; cost = cost }
+
+add_met : (I : Instance) (t h : ℕ) (l c k : ℤ) (J : Instance) → edited I (Add t h l c k) ≡ Ok J → edited I (Add t h l c k) ≡ Ok (with_last I (new_row t h l c k))
+add_met I t h l c k J e = elim (met_or_not (has_edit (kind_of I.demand) (Add t h l c k))) [
+  | inr unmet ↦ (let bad = rw unmet at e in cc)
+  | inl kind ↦ (let e1 = rw kind at e in elim (met_or_not (is_new_row (kind_of I.demand) l c k)) [
+    | inr unmet ↦ (let bad = rw unmet at e1 in cc)
+    | inl range ↦ (let e2 = rw range at e1 in elim (met_or_not (is_node I.nodes t && is_node I.nodes h)) [
+      | inr unmet ↦ (let bad = rw unmet at e2 in cc)
+      | inl nodes ↦ (let e3 = rw nodes at e2 in elim (met_or_not (int_le l c)) [
+        | inr unmet ↦ (let bad = rw unmet at e3 in cc)
+        | inl order ↦ (let e4 = rw order at e3 in elim (met_or_not (is_across I.demand t h)) [
+          | inr unmet ↦ (let bad = rw unmet at e4 in cc)
+          | inl across ↦ (let e5 = rw across at e4 in elim (met_or_not (has_room I)) [
+            | inr unmet ↦ (let bad = rw unmet at e5 in cc)
+            | inl room ↦ (let e6 = rw room at e5 in let same : with_last I (new_row t h l c k) ≡ J = cc in e ∙ ap Ok (sym same))
+          ])
+        ])
+      ])
+    ])
+  ])
+]
+
+pub add_edit : (I : Instance) (t h : ℕ) (l c k : ℤ) → IsLawful I → IsOk (edited I (Add t h l c k)) → IsAddEdit I (Add t h l c k) (record { tail = t; head = h; low = l; cap = c; cost = k })
+add_edit I t h l c k lawful ok =
+    let J = accepted (edited I (Add t h l c k)) ok in
+    let row = new_row t h l c k in
+    let after = add_met I t h l c k J.0 J.1 in
+    let lawful_after = edited_lawful I (Add t h l c k) (with_last I row) lawful after in
+    let more = length-append I.arcs (row ∷ []) in
+    let last : slice_index_or (I.arcs ++ row ∷ []) (length I.arcs) row ≡ row = get_or_push I.arcs row row (length I.arcs) refl in
+    let both = subst (λ (a : ArcRow). IsLawfulRow I.nodes a × ArcFits I.demand a) last (lawful_after.arcs (length I.arcs) row (omega (arith, more))) in
+    record { is = refl; room = omega (arith, more, lawful_after.count); limits = both.0; fits = both.1; after = after }
+
+-- ---- an arc without flow at the end, which is then opened
+
+abbrev pub shut : ArcRow → ArcRow
+shut row = record row { low = pos 0; cap = pos 0 }
+
+pub shut_limits : (n : ℕ) (row : ArcRow) → IsLawfulRow n row → IsLawfulRow n (shut row)
+shut_limits n row limits = record {
+  tail = limits.tail;
+  head = limits.head;
+  low = omega (arith, ints);
+  cap = omega (arith, ints);
+  limit = omega (arith, ints);
+  cost = limits.cost;
+}
+
+pub shut_fits : (D : Demand) (row : ArcRow) → ArcFits D row → ArcFits D (shut row)
+shut_fits (Supplies s) row fits = fits
+shut_fits (Terminals source sink) row fits = (refl, fits.1)
+shut_fits (Sides marks) row fits = (refl, inl refl, fits.2, fits.3)
+
+zip_push : {A B : Type 0} (R : A → B → Type 0) (xs : List A) (ys : List B) (a : A) (b : B) → AllZip R xs ys → R a b → AllZip R (xs ++ a ∷ []) (ys ++ b ∷ [])
+zip_push R [] [] a b h r = (r, tt)
+zip_push R [] (y ∷ ys) a b h r = absurd h
+zip_push R (x ∷ xs) [] a b h r = absurd h
+zip_push R (x ∷ xs) (y ∷ ys) a b h r = (h.0, zip_push R xs ys a b h.1 r)
+
+pub shut_certified : (I : Instance) (row : ArcRow) (x : List ℤ) (q : ℕ → ℤ) → IsCertifiedFlow (reduced I) x q → IsCertifiedFlow (reduced (with_last I (shut row))) (x ++ pos 0 ∷ []) q
+shut_certified I row x q certified = record {
+  bounds = subst (λ (arcs : List ArcRow). AllWithinBounds arcs (x ++ pos 0 ∷ [])) (rows_more I (shut row)) (zip_push IsWithinBounds (reduced I).arcs x (shut row) (pos 0) certified.bounds (omega (arith, ints), omega (arith, ints)));
+  signs = subst (λ (arcs : List ArcRow). AllZip (FollowsSign q) arcs (x ++ pos 0 ∷ [])) (rows_more I (shut row)) (zip_push (FollowsSign q) (reduced I).arcs x (shut row) (pos 0) certified.signs (record { dear = λ h. refl; cheap = λ h. refl }));
+  range = certified.range;
+}
+
+out_push : (arcs : List ArcRow) (x : List ℤ) (a : ArcRow) (z : ℤ) (v : ℕ) → length x ≡ length arcs → (outflow (arcs ++ a ∷ []) (x ++ z ∷ []) v ≡ outflow arcs x v +ℤ at_one a.tail z v) × (inflow (arcs ++ a ∷ []) (x ++ z ∷ []) v ≡ inflow arcs x v +ℤ at_one a.head z v)
+out_push [] [] a z v sized = (omega (arith, ints), omega (arith, ints))
+out_push [] (y ∷ x) a z v sized = absurd (omega arith)
+out_push (b ∷ arcs) [] a z v sized = absurd (omega arith)
+out_push (b ∷ arcs) (y ∷ x) a z v sized =
+    let rest = out_push arcs x a z v (omega arith) in
+    (omega (arith, ints, rest.0), omega (arith, ints, rest.1))
+
+net_push : (arcs : List ArcRow) (x : List ℤ) (a : ArcRow) (z : ℤ) (v : ℕ) → length x ≡ length arcs → net (arcs ++ a ∷ []) (x ++ z ∷ []) v ≡ (net arcs x v +ℤ at_one a.tail z v) -ℤ at_one a.head z v
+net_push arcs x a z v sized = (let both = out_push arcs x a z v sized in omega (arith, ints, both.0, both.1))
+
+shut_excess : (I : Instance) (row : ArcRow) (x : List ℤ) → IsLawful I → IsLawful (with_last I (shut row)) → length x ≡ length (reduced I).arcs → total_excess (reduced (with_last I (shut row))) (x ++ pos 0 ∷ []) ≤ℤ total_excess (reduced I) x
+shut_excess I row x lawful lawful_after sized =
+    let J = with_last I (shut row) in
+    let most = excess_carried (reduced I) (reduced J) x (x ++ pos 0 ∷ []) row.tail row.head (pos 0) (reduced_ends I lawful) (reduced_ends J lawful_after) refl (λ v. refl)
+    (λ v. subst (λ (arcs : List ArcRow). net arcs (x ++ pos 0 ∷ []) v ≡ (net (reduced I).arcs x v +ℤ at_one row.tail (pos 0) v) -ℤ at_one row.head (pos 0) v) (rows_more I (shut row)) (net_push (reduced I).arcs x (shut row) (pos 0) v sized)) in
+    omega (arith, ints, most)
+
+set_last : {A : Type 0} (xs : List A) (i : ℕ) (a b : A) → i ≡ length xs → slice_set (xs ++ a ∷ []) i b ≡ xs ++ b ∷ []
+set_last [] zero a b e = refl
+set_last [] (suc i) a b e = absurd (omega (arith, e))
+set_last (x ∷ xs) zero a b e = absurd (omega (arith, e))
+set_last (x ∷ xs) (suc i) a b e = ap (λ (ys : List _). x ∷ ys) (set_last xs i a b (omega (arith, e)))
+
+pub opened_is : (I : Instance) (row : ArcRow) (k : ℕ) → k ≡ length (I.arcs ++ shut row ∷ []) → slice_set (I.arcs ++ shut row ∷ []) (k - 1) row ≡ I.arcs ++ row ∷ []
+opened_is I row k e = set_last I.arcs (k - 1) (shut row) row (omega (arith, e, length-append I.arcs (shut row ∷ [])))
+
+-- the place of the new arc is behind all others
+place_last : (I : Instance) (row : ArcRow) (k : ℕ) → k ≡ length (I.arcs ++ shut row ∷ []) → place_of (with_last I (shut row)) k ≡ length (reduced I).arcs
+place_last I row k e =
+    let rows : length (reduced (with_last I (shut row))).arcs ≡ length (reduced I).arcs + 1 = sym (ap (λ (r : List ArcRow). length r) (rows_more I (shut row))) ∙ length-append (reduced I).arcs (shut row ∷ []) in
+    omega (arith, rows, e, length-append I.arcs (shut row ∷ []), rows_at_least I.demand I.arcs)
+
+pub opened_last : (I : Instance) (row : ArcRow) (k : ℕ) (d : ArcRow) → k ≡ length (I.arcs ++ shut row ∷ []) → slice_index_or (I.arcs ++ shut row ∷ []) (k - 1) d ≡ shut row
+opened_last I row k d e = get_or_push I.arcs (shut row) d (k - 1) (omega (arith, e, length-append I.arcs (shut row ∷ [])))
+
+pub added : (I J : Instance) (row : ArcRow) (k : ℕ) (q : ℕ → ℤ) (x y : List ℤ) (n : ℕ) → IsLawful I → IsLawful (with_last I (shut row)) → IsLawfulRow I.nodes row → IsCertifiedFlow (reduced I) x q → k ≡ length (I.arcs ++ shut row ∷ [])
+    → IsRowChanged (with_last I (shut row)) J k row q (x ++ pos 0 ∷ []) y n → IsAdded I J row x y n
+added I J row k q x y n lawful lawful_after limits certified e changed =
+    let sized = bounds_length (reduced I).arcs x certified.bounds in
+    let place : place_of (with_last I (shut row)) k ≡ length x = place_last I row k e ∙ sym sized in
+    let start : slice_set (x ++ pos 0 ∷ []) (place_of (with_last I (shut row)) k) changed.after ≡ x ++ changed.after ∷ [] = set_last x (place_of (with_last I (shut row)) k) (pos 0) changed.after place in
+    let before : number_at (x ++ pos 0 ∷ []) (place_of (with_last I (shut row)) k) ≡ pos 0 = get_or_push x (pos 0) (pos 0) (place_of (with_last I (shut row)) k) (sym place) in
+    let less = shut_excess I row x lawful lawful_after sized in
+    record {
+      flow = changed.after;
+      pushes = subst (λ (z : List ℤ). Pushes (reduced J).arcs (reduced J).supply n z y) start changed.pushes;
+      count = omega (arith, ints, changed.count, less, before, changed.nearest.within.low_kept, changed.nearest.within.cap_kept, limits.low);
+    }
+
+pub add_change : (I J : Instance) (edit : Edit) (row : ArcRow) (x y : List ℤ) (n : ℕ) → IsAddEdit I edit row → IsAdded I J row x y n → IsChange I J edit x y n
+add_change I J edit row x y n change made =
+    subst (λ (e : Edit). IsChange I J e x y n) (sym change.is) (record {
+      start = x ++ made.flow ∷ [];
+      altered = (made.flow, refl);
+      pushes = made.pushes;
+      count = made.count;
+    })
