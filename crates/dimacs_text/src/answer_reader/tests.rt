@@ -36,7 +36,7 @@ fn faults_of_lines(rt: HostRuntime) {
     let mut long = [b'x'; 1025];
     long[0] = b'c';
     expect_fault(&rt, rt.alloc(), &long, 1, 1);
-    let cases: [(&[u8], u8, u64); 16] = [
+    let cases: [(&[u8], u8, u64); 17] = [
         (b"s 1\nx 1", 2, 2),
         (b"i 1\nk", 3, 2),
         (b"i -1", 4, 1),
