@@ -14,6 +14,27 @@ const ANSWER: &[u8] = b"s 12\nf 1 2 3\nv 1 -4\nv 2 0\n";
 
 const LONE_NODE: &[u8] = b"p min 1 0\n";
 
+const DIAMOND: &[u8] =
+    b"p min 4 5\nn 1 4\nn 4 -4\na 1 2 0 4 2\na 1 3 0 2 2\na 2 3 0 2 1\na 2 4 0 3 3\na 3 4 0 5 1\n";
+
+const DIAMOND_SOLVED: &[u8] =
+    b"s 14\nf 1 2 2\nf 1 3 2\nf 2 3 2\nf 2 4 0\nf 3 4 4\nv 1 -4\nv 2 -2\nv 3 -1\nv 4 0\n";
+
+const GAINFUL_CYCLE: &[u8] = b"p min 2 2\na 1 2 0 3 -2\na 2 1 0 4 1\n";
+
+const SURPLUS: &[u8] = b"p min 2 1\nn 1 1\na 1 2 0 5 1\n";
+
+const DEFICIT: &[u8] = b"p min 2 1\nn 2 -1\na 1 2 0 5 1\n";
+
+const PARALLEL_ARCS: &[u8] = b"p min 2 2\nn 1 2\nn 2 -2\na 1 2 0 2 1\na 1 2 1 2 5\n";
+
+const GREATEST_PRODUCT: &[u8] =
+    b"p min 2 1\nn 1 1000000000\nn 2 -1000000000\na 1 2 0 1000000000 1000000000\n";
+
+const UNFED_LOWER_BOUND: &[u8] = b"p min 2 1\na 1 2 2 5 1\n";
+
+const FIRST_FORM: &[u8] = b"p min 3 1\nn 1 1\nn 2 -3\na 3 2 0 1 1\n";
+
 fn refused(input: Text, number: u8, line: u64) -> End {
     End::Refused {
         input,
@@ -83,38 +104,115 @@ fn worked_examples_end_so_in_any_pieces(rt: HostRuntime) {
 
 #[test]
 fn problems_are_solved_in_any_pieces(rt: HostRuntime) {
-    let diamond =
-        b"p min 4 5\nn 1 4\nn 4 -4\na 1 2 0 4 2\na 1 3 0 2 2\na 2 3 0 2 1\na 2 4 0 3 3\na 3 4 0 5 1\n";
     let cases = [
         (PROBLEM, false, End::Solved, b"s 12\nf 1 2 3\n".as_slice()),
         (
-            diamond,
+            PROBLEM,
             true,
             End::Solved,
-            b"s 14\nf 1 2 2\nf 1 3 2\nf 2 3 2\nf 2 4 0\nf 3 4 4\nv 1 -4\nv 2 -2\nv 3 -1\nv 4 0\n",
+            b"s 12\nf 1 2 3\nv 1 -4\nv 2 0\n",
         ),
+        (DIAMOND, true, End::Solved, DIAMOND_SOLVED),
+        (LONE_NODE, false, End::Solved, b"s 0\n"),
         (LONE_NODE, true, End::Solved, b"s 0\nv 1 0\n"),
         (
-            b"p min 2 1\nn 1 1\na 1 2 0 5 1\n",
-            true,
-            End::Infeasible,
-            b"i 1\nk 1\nk 2\n",
+            GAINFUL_CYCLE,
+            false,
+            End::Solved,
+            b"s -3\nf 1 2 3\nf 2 1 3\n",
         ),
+        (SURPLUS, true, End::Infeasible, b"i 1\nk 1\nk 2\n"),
+        (DEFICIT, false, End::Infeasible, b"i 1\nk 1\nk 2\n"),
+        (
+            PARALLEL_ARCS,
+            false,
+            End::Solved,
+            b"s 6\nf 1 2 1\nf 1 2 1\n",
+        ),
+        (
+            GREATEST_PRODUCT,
+            false,
+            End::Solved,
+            b"s 1000000000000000000\nf 1 2 1000000000\n",
+        ),
+        (UNFED_LOWER_BOUND, false, End::Infeasible, b"i 2\nk 2\n"),
+        (FIRST_FORM, false, End::Infeasible, b"i 1\nk 1\n"),
         (
             b"p min 2 2\na 1 2 0 1 1\n",
             false,
             refused(Text::Problem, 13, 2),
             b"",
         ),
+        (b"a 1 2 0 1 1\n", false, refused(Text::Problem, 6, 1), b""),
+        (
+            b"p min 2 1\na 1 3 0 1 1\n",
+            true,
+            refused(Text::Problem, 5, 2),
+            b"",
+        ),
+        (b"", false, refused(Text::Problem, 14, 0), b""),
     ];
     for (problem, proof, want, text) in cases {
-        for most in [1, 7, 100_000] {
+        for most in [1, 2, 7, 1024, 1025, 100_000] {
             let mut out = Pad::new(most, None);
             let mut input = Script::new(problem, most, None);
             let end = solve(rt.alloc(), &mut input, &mut out, proof);
             assert_eq!(rt; end, want);
             assert_eq!(rt; out.held(), text);
         }
+    }
+}
+
+#[test]
+fn a_comment_of_1024_bytes_is_skipped(rt: HostRuntime) -> Result<(), Fail> {
+    for (letters, want) in [(1023, End::Solved), (1024, refused(Text::Problem, 1, 1))] {
+        let mut text = vec![in rt.alloc(); b'x'; letters + 1]?;
+        text[0] = b'c';
+        text.push(b'\n')?;
+        text.extend_from_slice(PROBLEM)?;
+        let mut out = Pad::new(100, None);
+        let mut input = Script::new(text.as_slice(), 7, None);
+        assert_eq!(rt; solve(rt.alloc(), &mut input, &mut out, false), want);
+    }
+    Ok(())
+}
+
+#[test]
+fn what_is_solved_is_valid(rt: HostRuntime) {
+    let problems = [
+        PROBLEM,
+        DIAMOND,
+        LONE_NODE,
+        GAINFUL_CYCLE,
+        SURPLUS,
+        DEFICIT,
+        PARALLEL_ARCS,
+        GREATEST_PRODUCT,
+        UNFED_LOWER_BOUND,
+        FIRST_FORM,
+        b"p max 4 5\nn 1 s\nn 4 t\na 1 2 3\na 1 3 2\na 2 3 1\na 2 4 2\na 3 4 3\n",
+        b"p max 2 0\nn 1 s\nn 2 t\n",
+        b"p asn 4 4\nn 1\nn 2\na 1 3 5\na 1 4 2\na 2 3 1\na 2 4 4\n",
+        b"p asn 3 2\nn 1\na 1 2 1\na 1 3 1\n",
+    ];
+    for problem in problems {
+        let mut solution = Pad::new(100, None);
+        let mut input = Script::new(problem, 100, None);
+        let _ = solve(rt.alloc(), &mut input, &mut solution, true);
+        let (end, _) = checked(&rt, problem, solution.held(), 7);
+        assert_eq!(rt; end, End::Valid);
+    }
+}
+
+#[test]
+fn nothing_follows_a_failed_write_of_a_solution(rt: HostRuntime) {
+    for written in 0..=DIAMOND_SOLVED.len() {
+        // The last call that fails is the flush after the whole solution.
+        let mut out = Pad::new(1, Some(written as u64 + 1));
+        let mut input = Script::new(DIAMOND, 100, None);
+        let end = solve(rt.alloc(), &mut input, &mut out, true);
+        assert_eq!(rt; end, End::WriteFailed);
+        assert_eq!(rt; out.held(), &DIAMOND_SOLVED[..written]);
     }
 }
 
