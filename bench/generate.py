@@ -1,0 +1,168 @@
+#!/usr/bin/env python3
+"""Writes a network problem in a DIMACS format, the same for the same arguments, and with a legal flow by construction."""
+
+import argparse
+import random
+import sys
+
+# Name of a size: nodes, arcs.
+SIZES = {"small": (200, 2_000), "middle": (3_000, 25_000), "large": (10_000, 100_000)}
+
+# What each unit of a plan may cost: few numbers, so that many paths cost the same.
+MAKE_COSTS, CARRY_COST, STORE_COST = (10, 20, 40), 5, 1
+
+
+class MinProblem:
+    """A minimum-cost flow problem that is built around a flow that it admits."""
+
+    def __init__(self, nodes):
+        self.supplies = [0] * (nodes + 1)
+        self.arcs = []
+
+    def add(self, tail, head, low, cap, cost):
+        self.arcs.append((tail, head, low, cap, cost))
+
+    def ship(self, origin, target, amount):
+        """Has `amount` more leave `origin` and reach `target`; the caller adds arcs that can carry it."""
+        self.supplies[origin] += amount
+        self.supplies[target] -= amount
+
+    def lines(self):
+        yield f"p min {len(self.supplies) - 1} {len(self.arcs)}"
+        for node, supply in enumerate(self.supplies):
+            if supply != 0:
+                yield f"n {node} {supply}"
+        for arc in self.arcs:
+            yield "a {} {} {} {} {}".format(*arc)
+
+
+def transport(draw, nodes, arcs):
+    """Suppliers on one side, customers on the other, and room enough on every arc."""
+    problem = MinProblem(nodes)
+    suppliers = nodes // 2
+    customers = nodes - suppliers
+    # The first arc of each customer ships an amount; the others are alternatives to these.
+    for place in range(arcs):
+        supplier = place % suppliers + 1
+        customer = suppliers + 1 + (place if place < customers else draw.randrange(customers))
+        if place < customers:
+            problem.ship(supplier, customer, draw.randint(1, 1_000))
+        problem.add(supplier, customer, 0, 1_000_000, draw.randint(1, 10_000))
+    return problem.lines()
+
+
+def transshipment(draw, nodes, arcs):
+    """Goods that pass through many nodes, over arcs with capacities, some with lower bounds."""
+    problem = MinProblem(nodes)
+    # Routes along which all goods could go; the arcs that remain are shortcuts.
+    while len(problem.arcs) < arcs // 2:
+        route = draw.sample(range(1, nodes + 1), draw.randint(3, 9))
+        amount = draw.randint(1, 100)
+        problem.ship(route[0], route[-1], amount)
+        for tail, head in zip(route, route[1:]):
+            low = draw.randint(1, amount) if draw.randrange(20) == 0 else 0
+            problem.add(tail, head, low, amount + draw.randint(0, 50), draw.randint(100, 1_000))
+    while len(problem.arcs) < arcs:
+        tail, head = draw.sample(range(1, nodes + 1), 2)
+        problem.add(tail, head, 0, draw.randint(1, 100), draw.randint(-10, 1_000))
+    return problem.lines()
+
+
+def planning(draw, nodes, arcs):
+    """What to make, store and carry between plants, period by period, for demands known ahead; few distinct costs."""
+    problem = MinProblem(nodes)
+    plants = 10
+    # The last node stands for all that can be made; each other for a plant in a period.
+    for node in range(1, nodes):
+        demand = draw.randint(0, 100)
+        problem.ship(nodes, node, demand)
+        problem.add(nodes, node, 0, demand + draw.randint(0, 100), draw.choice(MAKE_COSTS))
+        if node + plants < nodes:
+            problem.add(node, node + plants, 0, draw.randint(0, 200), STORE_COST)
+    while len(problem.arcs) < arcs:
+        first = draw.randrange(nodes // plants) * plants + 1
+        tail, head = draw.sample(range(first, min(first + plants, nodes)), 2)
+        problem.add(tail, head, 0, draw.randint(1, 100), CARRY_COST)
+    return problem.lines()
+
+
+def layered(draw, nodes, arcs):
+    """A maximum flow from layer to layer, with some arcs that lead back."""
+    source, sink = 1, nodes
+    width = nodes // 20
+    layers = [range(first, min(first + width, nodes)) for first in range(2, nodes, width)]
+    yield f"p max {nodes} {arcs}"
+    yield f"n {source} s"
+    yield f"n {sink} t"
+    for node in layers[0]:
+        yield f"a {source} {node} {draw.randint(100, 1_000)}"
+    for node in layers[-1]:
+        yield f"a {node} {sink} {draw.randint(100, 1_000)}"
+    for _ in range(arcs - len(layers[0]) - len(layers[-1])):
+        place = draw.randrange(len(layers) - 1)
+        tail, head = draw.choice(layers[place]), draw.choice(layers[place + 1])
+        if draw.randrange(10) == 0:
+            tail, head = head, tail
+        yield f"a {tail} {head} {draw.randint(1, 100)}"
+
+
+def pairs(draw, nodes, arcs):
+    """Arcs of an assignment (tail, head, cost): a hidden one that is complete, and others."""
+    side = nodes // 2
+    partners = list(range(side + 1, 2 * side + 1))
+    draw.shuffle(partners)
+    for place in range(arcs):
+        tail = place % side + 1
+        head = partners[tail - 1] if place < side else side + 1 + draw.randrange(side)
+        yield tail, head, draw.randint(1, 100_000)
+
+
+def assignment(draw, nodes, arcs):
+    """As many on one side as on the other, and costs drawn from a wide range."""
+    side = nodes // 2
+    yield f"p asn {2 * side} {arcs}"
+    for node in range(1, side + 1):
+        yield f"n {node}"
+    for arc in pairs(draw, nodes, arcs):
+        yield "a {} {} {}".format(*arc)
+
+
+def assignment_as_min(draw, nodes, arcs):
+    """The same assignment, told as a minimum-cost flow."""
+    side = nodes // 2
+    problem = MinProblem(2 * side)
+    for node in range(1, side + 1):
+        problem.ship(node, side + node, 1)
+    for tail, head, cost in pairs(draw, nodes, arcs):
+        problem.add(tail, head, 0, 1, cost)
+    return problem.lines()
+
+
+SHAPES = {
+    "transport": transport,
+    "transshipment": transshipment,
+    "planning": planning,
+    "layered": layered,
+    "assignment": assignment,
+}
+
+
+def write_problem(out, shape, size, seed, as_min=False):
+    """Writes the problem to a text file; `as_min` tells an assignment as a minimum-cost flow."""
+    make = assignment_as_min if as_min and shape == "assignment" else SHAPES[shape]
+    for line in make(random.Random(seed), *SIZES[size]):
+        out.write(line + "\n")
+
+
+def main():
+    parser = argparse.ArgumentParser(description=__doc__)
+    parser.add_argument("shape", choices=SHAPES)
+    parser.add_argument("size", choices=SIZES)
+    parser.add_argument("--seed", type=int, default=1, help="another number gives another problem of the same shape and size")
+    parser.add_argument("--as-min", action="store_true", help="tell an assignment as a minimum-cost flow")
+    options = parser.parse_args()
+    write_problem(sys.stdout, options.shape, options.size, options.seed, options.as_min)
+
+
+if __name__ == "__main__":
+    main()
