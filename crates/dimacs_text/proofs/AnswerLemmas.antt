@@ -1,6 +1,6 @@
 -- An answer text is read as its draft and its end say.
 use Rattle.std.proofs.Common.{◌≡◌, ℕ, Bool, true, false, cond, ◌&&◌, ◌==◌, List, [], ◌++◌, Option, Some, None, Result, Ok, Err, ℤ, length, refl, sym, ap, subst, ◌∙◌}
-use Rattle.std.proofs.lemmas.Bool.{eqb-true}
+use Rattle.std.proofs.lemmas.Bool.{eqb-true, and_parts}
 use Rattle.dimacs_text.specs.declared.fault.Fault.{Fault}
 use Rattle.dimacs_text.specs.declared.fault.Fault.TheVariants as fault
 use Rattle.dimacs_text.specs.declared.fault.LineError.{LineError}
@@ -27,14 +27,10 @@ line_taken (Err e) nodes arcs old new before line taken held = rw held at taken
 pub nothing_held : (nodes arcs : ℕ) (draft : Drafted) → draft ≡ record { nodes = nodes; arcs = arcs; said = record { value = None; flows = []; potentials = []; shortage = None; cut = [] } } → holds nodes arcs [] draft
 nothing_held nodes arcs draft e = rw said_of_nothing e
 
-both_true : (a b : Bool) → (a && b) ≡ true → (a ≡ true) × (b ≡ true)
-both_true true b e = (refl, e)
-both_true false b e = absurd cc
-
 whole_by : (met : Bool) (nodes arcs : ℕ) (value : ℤ) (flows : List FlowLine) (potentials : List ℤ) (answer : Answer) → (length flows == arcs && length potentials == nodes) ≡ met
     → ◌≡◌ {A = Result Answer Fault} (Ok answer) (cond met (Ok (Flow value flows potentials)) (Err fault.OutOfOrder)) → NamesNodes nodes answer → FitsSize nodes arcs answer
 whole_by true nodes arcs value flows potentials answer met e named =
-    let counts = both_true (length flows == arcs) (length potentials == nodes) met in
+    let counts = and_parts (length flows == arcs) (length potentials == nodes) met in
     let is : Flow value flows potentials ≡ answer = cc in
     let whole : NamesNodes nodes (Flow value flows potentials) → FitsSize nodes arcs (Flow value flows potentials) = λ n. record { each_arc = eqb-true _ _ counts.0; each_node = eqb-true _ _ counts.1; ends = n } in
     subst (λ (a : Answer). NamesNodes nodes a → FitsSize nodes arcs a) is whole named

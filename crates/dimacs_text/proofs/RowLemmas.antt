@@ -1,7 +1,7 @@
 -- What it means that a line was read.
 use Rattle.std.proofs.Common.{◌≡◌, ℕ, ◌<◌, ◌≤◌, Bool, true, false, cond, if◌then◌else◌, not, ◌&&◌, ◌||◌, leb, List, [], ◌∷◌, ◌++◌, length, Option, Some, None, Result, Ok, Err, ℤ, pos, neg_ℤ, refl, ap, subst, ◌∙◌, arith}
 use Rattle.std.specs.Prelude.{int_le, nat_le, nat_lt, ◌==◌, is_none, unwrap_or}
-use Rattle.std.proofs.lemmas.Bool.{leb-true, ltb-true, eqb-true}
+use Rattle.std.proofs.lemmas.Bool.{leb-true, ltb-true, eqb-true, and_parts, not-true}
 use Rattle.std.proofs.lemmas.Float.{T_from_true}
 use Rattle.std.proofs.lemmas.Int.{ints}
 use Rattle.std.proofs.lemmas.List.{nil_from_length}
@@ -45,15 +45,11 @@ range_ok : (met : Bool) (f : Fault) (n m : ℕ) → cond met (Ok n) (Err f) ≡ 
 range_ok true f n m e = (refl, cc)
 range_ok false f n m e = absurd cc
 
-pub and_true : (a b : Bool) → (a && b) ≡ true → (a ≡ true) × (b ≡ true)
-and_true true b e = (refl, e)
-and_true false b e = absurd cc
-
 natural_by : (low high : ℕ) (o : Option ℕ) (n : ℕ) → (some_or o fault.NotANumber >>= λ n. if leb low n && leb n high then Ok n else Err fault.OutOfRange) ≡ Ok n → (unwrap_or o 0 ≡ n) × (low ≤ n) × (n ≤ high)
 natural_by low high None n e = absurd cc
 natural_by low high (Some m) n e =
     let r = range_ok (leb low m && leb m high) fault.OutOfRange m n e in
-    let both = and_true (leb low m) (leb m high) r.0 in
+    let both = and_parts (leb low m) (leb m high) r.0 in
     let above = leb-true low m both.0 in let below = leb-true m high both.1 in
     (r.1, omega (arith, r.1), omega (arith, r.1))
 
@@ -72,7 +68,7 @@ integer_by : (limit : ℤ) (o : Option ℤ) (z : ℤ) → (some_or o fault.NotAN
 integer_by limit None z e = absurd cc
 integer_by limit (Some y) z e =
     let r = integer_range_ok (int_le (neg_ℤ limit) y && int_le y limit) fault.OutOfRange y z e in
-    let both = and_true (int_le (neg_ℤ limit) y) (int_le y limit) r.0 in
+    let both = and_parts (int_le (neg_ℤ limit) y) (int_le y limit) r.0 in
     (r.1, subst (λ (x : ℤ). IsWithin limit x) r.1 (record { le = T_from_true _ both.0 }, record { le = T_from_true _ both.1 }))
 
 pub integer_in-ok : (limit : ℤ) (word : Word) (z : ℤ) → integer_in limit word ≡ Ok z → IntegerIsRead limit word z
@@ -80,10 +76,6 @@ integer_in-ok limit word z e = let r = integer_by limit (integer word) z e in re
 
 kind_is : (kind : Kind) (word : Word) → kind_in word ≡ Ok kind → kind_of word ≡ kind
 kind_is kind word e = ap (λ (o : Option Kind). unwrap_or o Min) (some_or_ok (kind_named word) fault.UnknownKind kind e)
-
-not_true : (b : Bool) → not b ≡ true → b ≡ false
-not_true true e = absurd cc
-not_true false e = refl
 
 none_is : (o : Option Size) → is_none o ≡ true → o ≡ None
 none_is None e = refl
@@ -134,7 +126,7 @@ read_supply-ok nodes marks fields mark ok =
     record {
       lawful = subst (λ (m : NodeMark). IsLawfulMark nodes m) is (record { node = (id.above, id.below); supply = value.within });
       fits = λ fit. All-push IsSupply marks mark fit (subst (λ (m : NodeMark). IsSupply m) is tt);
-      fresh = subst (λ (m : NodeMark). is_named (node_of m) marks ≡ false) is (not_true _ (demand_ok _ _ s4.0 s4.1));
+      fresh = subst (λ (m : NodeMark). is_named (node_of m) marks ≡ false) is (not-true _ (demand_ok _ _ s4.0 s4.1));
       mark_is = rw (id.value, value.value) is;
     }
 
@@ -175,11 +167,11 @@ terminal_by-ok : (source : Bool) (id : ℕ) (marks : List NodeMark) (mark : Node
 terminal_by-ok true id marks mark ok =
     let s1 = bind_ok (demand (not (has_source marks)) fault.NamedTwice) (λ _. Ok (Source id)) mark ok in
     let is : Source id ≡ mark = ok_is _ mark s1.2 in
-    subst (λ (m : NodeMark). IsTerminalAt true id marks m) is (record { mark_is = refl; node_is = refl; supply = tt; fits = source_added marks id (not_true _ (demand_ok _ _ s1.0 s1.1)) })
+    subst (λ (m : NodeMark). IsTerminalAt true id marks m) is (record { mark_is = refl; node_is = refl; supply = tt; fits = source_added marks id (not-true _ (demand_ok _ _ s1.0 s1.1)) })
 terminal_by-ok false id marks mark ok =
     let s1 = bind_ok (demand (not (has_sink marks)) fault.NamedTwice) (λ _. Ok (Sink id)) mark ok in
     let is : Sink id ≡ mark = ok_is _ mark s1.2 in
-    subst (λ (m : NodeMark). IsTerminalAt false id marks m) is (record { mark_is = refl; node_is = refl; supply = tt; fits = sink_added marks id (not_true _ (demand_ok _ _ s1.0 s1.1)) })
+    subst (λ (m : NodeMark). IsTerminalAt false id marks m) is (record { mark_is = refl; node_is = refl; supply = tt; fits = sink_added marks id (not-true _ (demand_ok _ _ s1.0 s1.1)) })
 
 read_terminal-ok : (nodes : ℕ) (marks : List NodeMark) (fields : List Word) (mark : NodeMark) → read_terminal nodes marks fields ≡ Ok mark → FieldsAreMark Max nodes marks fields mark
 unfolding read_terminal
@@ -193,7 +185,7 @@ read_terminal-ok nodes marks fields mark ok =
     record {
       lawful = record { node = subst (λ (n : ℕ). IsNode nodes n) read.node_is (id.above, id.below); supply = read.supply };
       fits = read.fits;
-      fresh = subst (λ (n : ℕ). is_named n marks ≡ false) read.node_is (not_true _ (demand_ok _ _ s4.0 s4.1));
+      fresh = subst (λ (n : ℕ). is_named n marks ≡ false) read.node_is (not-true _ (demand_ok _ _ s4.0 s4.1));
       mark_is = rw id.value read.mark_is;
     }
 
@@ -208,7 +200,7 @@ read_side-ok nodes marks fields mark ok =
     record {
       lawful = subst (λ (m : NodeMark). IsLawfulMark nodes m) is (record { node = (id.above, id.below); supply = tt });
       fits = λ fit. All-push IsSide marks mark fit (subst (λ (m : NodeMark). IsSide m) is tt);
-      fresh = subst (λ (m : NodeMark). is_named (node_of m) marks ≡ false) is (not_true _ (demand_ok _ _ s3.0 s3.1));
+      fresh = subst (λ (m : NodeMark). is_named (node_of m) marks ≡ false) is (not-true _ (demand_ok _ _ s3.0 s3.1));
       mark_is = rw id.value is;
     }
 
@@ -295,11 +287,11 @@ read_asn_row-ok nodes marks fields row ok =
     let tail = natural_in-ok 1 nodes (field 0 fields) s2.0 s2.1 in
     let head = natural_in-ok 1 nodes (field 1 fields) s3.0 s3.1 in
     let cost = integer_in-ok COST_LIMIT (field 2 fields) s4.0 s4.1 in
-    let across = and_true (is_named s2.0 marks) (not (is_named s3.0 marks)) (demand_ok _ _ s5.0 s5.1) in
+    let across = and_parts (is_named s2.0 marks) (not (is_named s3.0 marks)) (demand_ok _ _ s5.0 s5.1) in
     let is : ◌≡◌ {A = ArcRow} (record { tail = s2.0; head = s3.0; low = pos 0; cap = pos 1; cost = s4.0 }) row = ok_is _ row s5.2 in
     record {
       lawful = subst (λ (r : ArcRow). IsLawfulRow nodes r) is (record { tail = (tail.above, tail.below); head = (head.above, head.below); low = omega (arith, ints); cap = omega (arith, ints); limit = omega (arith, ints); cost = cost.within });
-      fits = subst (λ (r : ArcRow). RowFits Asn marks r) is (refl, refl, across.0, not_true _ across.1);
+      fits = subst (λ (r : ArcRow). RowFits Asn marks r) is (refl, refl, across.0, not-true _ across.1);
       row_is = rw (tail.value, head.value, cost.value) is;
     }
 

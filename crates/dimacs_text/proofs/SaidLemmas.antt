@@ -1,13 +1,9 @@
 -- What lines of an answer text say with one line more.
-use Rattle.std.proofs.Common.{◌≡◌, List, [], ◌∷◌, ◌++◌, None, refl, ap, ◌∙◌, ℤ}
+use Rattle.std.proofs.Common.{◌≡◌, List, [], ◌∷◌, ◌++◌, None, refl, ℤ}
 use Rattle.std.specs.List.{flat_map}
-use Rattle.std.proofs.lemmas.List.{append-nil}
-use Rattle.std.proofs.lemmas.Grind.{flat_map-append}
+use Rattle.dimacs_text.proofs.ProblemLemmas.{flat_map_push}
 use Rattle.dimacs_text.specs.Lines.{Line}
 use Rattle.dimacs_text.specs.Answer.{said_of, and_said, values_in, flows_in, potentials_in, shortages_in, cut_in, first_value, or_value}
-
-flat_map_push : {B : Type 0} (f : Line → List B) (lines : List Line) (line : Line) → flat_map f (lines ++ line ∷ []) ≡ flat_map f lines ++ f line
-flat_map_push {B = B} f lines line = flat_map-append f lines (line ∷ []) ∙ ap (λ (ys : List B). flat_map f lines ++ ys) (append-nil (f line))
 
 first_value-append : (xs ys : List ℤ) → first_value (xs ++ ys) ≡ or_value (first_value xs) ys
 first_value-append [] ys = refl

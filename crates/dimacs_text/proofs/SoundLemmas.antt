@@ -2,7 +2,7 @@
 use Rattle.std.proofs.Common.{◌≡◌, ◌≢◌, ℕ, ◌+◌, ◌-◌, ◌<◌, ◌≤◌, Bool, true, false, ◌||◌, cond, ◌==◌, eq-eqb, List, [], ◌∷◌, ◌++◌, length, get_or, set, take, replicate, Option, Some, None, refl, sym, ap, ◌∙◌, arith, inl, inr}
 use Rattle.std.proofs.Math.Nat.{sub-zero}
 use Rattle.std.specs.List.{All, AllPairs}
-use Rattle.std.proofs.lemmas.Bool.{eqb-true, eqb-false, cases_lt}
+use Rattle.std.proofs.lemmas.Bool.{eqb-true, eqb-false, cases_lt, and_parts}
 use Rattle.std.proofs.lemmas.List.{take_all, length-set, length_push, get_or-set_same, get_or-set_other, get_or_append_left, get_or_push, get_or-replicate, length-replicate}
 use Rattle.std.proofs.lemmas.List.Elements.{All-push, All-nil}
 use Rattle.std.proofs.lemmas.List.Folds.{list_any-append, list_any_at}
@@ -14,13 +14,8 @@ use Rattle.dimacs_text.specs.declared.problem.ArcRow.{ArcRow}
 use Rattle.dimacs_text.specs.declared.problem.Size.{Size}
 use Rattle.dimacs_text.specs.Problem.{node_of, is_named, has_source, has_sink, has_terminals}
 use Rattle.dimacs_text.specs.Lawful.{IsNode, IsLawfulSize, IsLawfulMark, IsLawfulRow, NamesOthers, AreLawful, FlagNamed, IsSupply, IsTerminal, IsSide, AreTerminals, MarksFit, RowFits, KeepsKind, IsMax, IsByKind, IsProblem, IsSized, IsSound}
-use Rattle.dimacs_text.proofs.RowLemmas.{and_true}
 
 -- ---- marks
-
-is_false : (b : Bool) → b ≢ true → b ≡ false
-is_false true ne = absurd (ne refl)
-is_false false ne = refl
 
 -- no mark names a node that is not named
 others_named : (marks : List NodeMark) (id i : ℕ) (d : NodeMark) → is_named id marks ≡ false → i < length marks → node_of (get_or marks i d) ≢ id
@@ -165,7 +160,7 @@ two_terminals nodes (first ∷ second ∷ third ∷ marks) rows are lawful fit s
 by_kind : (kind : Kind) (nodes : ℕ) (marks : List NodeMark) (rows : List ArcRow) → KeepsKind kind marks rows → AreLawful nodes marks rows → has_terminals kind marks ≡ true → IsByKind kind nodes marks rows
 by_kind Min nodes marks rows kept lawful named = kept.marks_fit
 by_kind Max nodes marks rows kept lawful named =
-    let both = and_true (has_source marks) (has_sink marks) named in
+    let both = and_parts (has_source marks) (has_sink marks) named in
     two_terminals nodes marks rows kept.marks_fit lawful kept.rows_fit both.0 both.1
 by_kind Asn nodes marks rows kept lawful named = record { sides = kept.marks_fit; rows_fit = kept.rows_fit }
 

@@ -13,7 +13,7 @@ pub struct FlowLine {
 /// An answer to a problem, as it was read: nothing says yet that it is right.
 #[derive(Debug, Drop)]
 pub enum Answer {
-    /// A flow and its total cost, with a line for each arc and a potential for each node, in order.
+    /// A flow and its worth, with a line for each arc and a potential for each node, in order.
     Flow {
         value: i128,
         flows: Sequence<FlowLine>,

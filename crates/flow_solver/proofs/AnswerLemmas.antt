@@ -1,13 +1,17 @@
 -- What the end of all searches tells of the instance.
-use Rattle.std.proofs.Common.{◌≡◌, ℕ, zero, suc, ◌+◌, ◌-◌, ◌*◌, ◌<◌, ◌≤◌, ℤ, pos, negsuc, neg_ℤ, ◌≤ℤ◌, List, [], ◌∷◌, length, drop, refl, sym, ap, subst, ◌∙◌, inl, inr, arith, Bool, true, false, cond, not, ◌&&◌}
+use Rattle.std.proofs.Common.{◌≡◌, ℕ, All, ◌++◌, replicate, zero, suc, ◌+◌, ◌-◌, ◌*◌, ◌<◌, ◌≤◌, ℤ, pos, negsuc, neg_ℤ, ◌≤ℤ◌, List, [], ◌∷◌, length, drop, refl, sym, ap, subst, ◌∙◌, inl, inr, arith, Bool, true, false, cond, not, ◌&&◌}
 use Rattle.std.specs.Prelude.{slice_index_or}
 use Rattle.std.proofs.lemmas.Int.{ints}
 use Rattle.std.proofs.lemmas.Bool.{cases_lt}
 use Rattle.std.proofs.lemmas.List.Sums.{sum_by-cons}
 use Rattle.dimacs_text.specs.declared.problem.ArcRow.{ArcRow}
 use Rattle.network.specs.Flow.{AllWithinBounds, IsCertifiedFlow, IsGreatestPotential, surplus_of, IsLeastGreatestSurplus, IsLeastGreatestShortfall}
-use Rattle.network.specs.Instance.{Demand, Supplies, Terminals, Sides, Instance, IsLawful, IsCertified as IsCertifiedBy, IsBreach, at_node, is_marked, reduced, reduced_arcs, reduced_flow, numbered_flow, worth}
-use Rattle.network.proofs.Reduction.{made, reduced_ends, certified_is_best, breach_rules_out, from_reduced}
+use Rattle.network.specs.Instance.{Demand, Supplies, Terminals, Sides, Instance, IsLawful, IsLegal, ArcFits, IsCertified as IsCertifiedBy, IsBreach, at_node, is_marked, reduced, reduced_arcs, reduced_flow, numbered_flow, worth}
+use Rattle.std.proofs.lemmas.List.Elements.{All-from_recursion}
+use Rattle.std.specs.List.{AllByRecursion}
+use Rattle.dimacs_text.specs.Lawful.{IsLawfulRow}
+use Rattle.network.proofs.Circulation.{zero_bounds, zero_net}
+use Rattle.network.proofs.Reduction.{made, rows_of, reduced_ends, certified_is_best, breach_rules_out, from_reduced}
 use Rattle.network.proofs.Reach.{surplus_at_most}
 use Rattle.flow_solver.specs.declared.verdict.Verdict.{Verdict}
 use Rattle.flow_solver.specs.declared.verdict.Verdict.TheVariants.{Best, Infeasible}
@@ -17,6 +21,8 @@ use Rattle.flow_solver.specs.Push.{IsExcess, AreSupplies, positive_part, left, c
 use Rattle.flow_solver.specs.Cut.{in_set, sum_in, sum_leaving, sum_entering, lack, IsChosenSet}
 use Rattle.flow_solver.specs.Nodes.{held}
 use Rattle.flow_solver.specs.Answer.{IsBestMoment, IsInfeasibleMoment, IsVerdict, IsChosenBreach, IsChosenCut, IsJudged, worth_by}
+use Rattle.flow_solver.specs.Desk.{IsAnswered, IsFlow}
+use Rattle.flow_solver.specs.Moment.{Moment, IsReturnVerdict, TellsReturn, TellsReturnBy, VerdictFits, returned, with_return}
 use Rattle.flow_solver.proofs.FlowLaws.{AgreesAt, bounds_from, certified_same, certified_flow, greatest_flow}
 use Rattle.flow_solver.proofs.CutLaws.{IsMarkedBy, least_surplus, least_shortfall}
 use Rattle.flow_solver.proofs.PushLaws.{legal_flow, left_is}
@@ -115,6 +121,7 @@ module _ (I : Instance) (y p e : List ℤ) (set : List Bool) (end : IsEnd I y p 
       let legal = from_reduced I y end.lawful (legal_flow (reduced I) y e end.excess_is bounds none no_lack) in
       let certified : IsCertifiedBy I (numbered_flow I.demand y) (at_node (drop 1 p)) = subst (λ (z : List ℤ). IsCertifiedFlow (reduced I) z (at_node (drop 1 p))) legal.1 end_certified in
       record {
+        reduced_is = legal.1;
         best = certified_is_best I (numbered_flow I.demand y) (at_node (drop 1 p)) end.lawful legal.0 certified;
         worth_is = worth_is I.nodes I.demand I.arcs I.room y legal.1;
         none_marked = none_marked set (end.chosen.in_neither none no_lack);
@@ -208,3 +215,62 @@ module _ (arcs : List ArcRow) (supply : ℕ → ℤ) (e : List ℤ) (set : List 
       | inl some ↦ omega (arith, ints, (chosen.in_deficit none some).value_is, sum_in-low set supply supplies.low, (leaving_between set arcs rows).1, (entering_between set arcs rows).0, caps, few)
       | inr le ↦ omega arith
     ]
+
+-- ---- what an answered moment tells of its flows
+
+zero_flow : (n source sink : ℕ) (arcs : List ArcRow) (room : ℕ) → IsLawful (made n (Terminals source sink) arcs room) → IsLegal (made n (Terminals source sink) arcs room) (replicate (length arcs) (pos 0))
+zero_flow n source sink arcs room lawful = (zero_bounds n source sink arcs (rows_of lawful), λ v b s t. zero_net arcs v)
+
+tells_by : (n : ℕ) (D : Demand) (arcs : List ArcRow) (room : ℕ) (verdict : Verdict) (flow : List ℤ) (set : ℕ → Bool) → IsLawful (made n D arcs room) → IsVerdict verdict (made n D arcs room) flow set → TellsReturnBy D verdict flow
+tells_by n (Supplies s) arcs room verdict flow set lawful told = tt
+tells_by n (Terminals source sink) arcs room (Best w) flow set lawful told = ap Best (told.worth_is ∙ sym (ap (λ (x : List ℤ). number_at x 0) told.reduced_is))
+tells_by n (Terminals source sink) arcs room (Infeasible d) flow set lawful told = absurd (told.none_legal (replicate (length arcs) (pos 0)) (zero_flow n source sink arcs room lawful))
+tells_by n (Sides marks) arcs room verdict flow set lawful told = tt
+
+fits_by : (D : Demand) (arcs : List ArcRow) (verdict : Verdict) (flow : List ℤ) → AllWithinBounds (reduced_arcs D arcs) flow → TellsReturnBy D verdict flow → VerdictFits D verdict
+fits_by (Supplies s) arcs verdict flow within told = tt
+fits_by (Terminals source sink) arcs verdict [] within told = absurd within
+fits_by (Terminals source sink) arcs verdict (x ∷ flow) within told = subst IsReturnVerdict (sym told) within.0
+fits_by (Sides marks) arcs verdict flow within told = tt
+
+same_by : (D : Demand) (arcs : List ArcRow) (verdict : Verdict) (flow : List ℤ) → AllWithinBounds (reduced_arcs D arcs) flow → TellsReturnBy D verdict flow → with_return D verdict flow ≡ flow
+same_by (Supplies s) arcs verdict flow within told = refl
+same_by (Terminals source sink) arcs verdict [] within told = absurd within
+same_by (Terminals source sink) arcs verdict (x ∷ flow) within told = ap (λ (v : Verdict). returned (Terminals source sink) v ++ flow) told
+same_by (Sides marks) arcs verdict flow within told = refl
+
+numbered_bounds : (D : Demand) (arcs : List ArcRow) (flow : List ℤ) → AllWithinBounds (reduced_arcs D arcs) flow → AllWithinBounds arcs (numbered_flow D flow)
+numbered_bounds (Supplies s) arcs flow within = within
+numbered_bounds (Terminals source sink) arcs [] within = absurd within
+numbered_bounds (Terminals source sink) arcs (x ∷ flow) within = within.1
+numbered_bounds (Sides marks) arcs flow within = within
+
+flows_by : (n : ℕ) (D : Demand) (arcs : List ArcRow) (flow : List ℤ) → AllByRecursion (λ arc. IsLawfulRow n arc × ArcFits D arc) arcs → AllWithinBounds arcs flow → AllByRecursion IsFlow flow
+flows_by n D [] [] rows within = tt
+flows_by n D [] (x ∷ flow) rows within = absurd within
+flows_by n D (arc ∷ arcs) [] rows within = absurd within
+flows_by n D (arc ∷ arcs) (x ∷ flow) rows within =
+    let low = rows.0.0.low in
+    let limit = rows.0.0.limit in
+    let here = within.0 in
+    ((omega (arith, ints, low, here.0), omega (arith, ints, limit, here.1)), flows_by n D arcs flow rows.1 within.1)
+
+module _ (m : Moment) (answered : IsAnswered m) where
+  -- the flow of the return arc, where there is one, is told as the worth
+  pub tells_return : TellsReturn m
+  tells_return = tells_by m.instance.nodes m.instance.demand m.instance.arcs m.instance.room m.verdict m.flow (is_marked m.cut) answered.sized.lawful answered.verdict
+
+  -- what is told can be told of any moment of this kind
+  pub verdict_fits : VerdictFits m.instance.demand m.verdict
+  verdict_fits = fits_by m.instance.demand m.instance.arcs m.verdict m.flow answered.certified.bounds tells_return
+
+  -- and telling it again leaves the flow
+  pub flow_told : with_return m.instance.demand m.verdict m.flow ≡ m.flow
+  flow_told = same_by m.instance.demand m.instance.arcs m.verdict m.flow answered.certified.bounds tells_return
+
+  -- the flow of each arc is within the limits
+  pub flows_within : All IsFlow (numbered_flow m.instance.demand m.flow)
+  flows_within =
+      All-from_recursion IsFlow (numbered_flow m.instance.demand m.flow)
+      (flows_by m.instance.nodes m.instance.demand m.instance.arcs (numbered_flow m.instance.demand m.flow) (rows_of answered.sized.lawful)
+      (numbered_bounds m.instance.demand m.instance.arcs m.flow answered.certified.bounds))

@@ -1,6 +1,5 @@
 -- What a change of the instance leaves of its tables, its flow and its excesses.
-use Rattle.std.proofs.Common.{◌≡◌, ℕ, zero, suc, ◌+◌, ◌-◌, ◌<◌, ◌≤◌, ℤ, pos, ◌-ℤ◌, ◌+ℤ◌, ◌≤ℤ◌, List, [], ◌∷◌, length, drop, refl, sym, ap, subst, ◌∙◌, inl, inr, arith, slice_set, slice_index_or, unsigned_abs, All, ◌++◌, take}
-use Rattle.std.specs.List.{AllZip}
+use Rattle.std.proofs.Common.{◌≡◌, ℕ, suc, ◌+◌, ◌-◌, ◌<◌, ◌≤◌, ℤ, pos, ◌-ℤ◌, ◌+ℤ◌, ◌≤ℤ◌, List, [], ◌∷◌, length, drop, refl, sym, ap, subst, ◌∙◌, inl, inr, arith, slice_set, slice_index_or, unsigned_abs, All, ◌++◌, take}
 use Rattle.std.proofs.lemmas.Int.{ints}
 use Rattle.std.proofs.lemmas.Bool.{cases_lt, cases_eq}
 use Rattle.std.proofs.lemmas.List.{length-set, get_or_default, get_or_past, length-append, get_or_append_left, get_or-set_same, get_or-set_other}
@@ -18,7 +17,7 @@ use Rattle.flow_solver.specs.Residual.{IsCertified, IsRow, number_at, arc_at}
 use Rattle.flow_solver.specs.Push.{IsExcess, IsTransfer, at_node as at_one}
 use Rattle.flow_solver.specs.Nodes.{table, held, IsIdleEntry}
 use Rattle.flow_solver.specs.Edit.{reduced_cost, IsNearest, place_of}
-use Rattle.flow_solver.specs.Swap.{flow_index, supplies_in}
+use Rattle.flow_solver.specs.Desk.{supplies_in}
 use Rattle.flow_solver.proofs.NodeLemmas.{IsNodeOf, length-table, table_at, is_node_or_not, held_node, held_other, net-none}
 use Rattle.flow_solver.proofs.PushLemmas.{at_same, at_other}
 use Rattle.flow_solver.proofs.ExcessLemmas.{left-gain, at_node_bounds}
@@ -153,13 +152,6 @@ arcs_supplied (Sides marks) arcs v x = refl
 pub rows_kept : (I : Instance) (v : ℕ) (x : ℤ) → (reduced (supplied I v x)).arcs ≡ (reduced I).arcs
 rows_kept I v x = arcs_supplied I.demand I.arcs v x
 
-pub certified_supplied : (I : Instance) (v : ℕ) (z : ℤ) (x : List ℤ) (q : ℕ → ℤ) → IsCertifiedFlow (reduced I) x q → IsCertifiedFlow (reduced (supplied I v z)) x q
-certified_supplied I v z x q certified = record {
-  bounds = subst (λ (arcs : List ArcRow). AllWithinBounds arcs x) (sym (rows_kept I v z)) certified.bounds;
-  signs = subst (λ (arcs : List ArcRow). AllZip (FollowsSign q) arcs x) (sym (rows_kept I v z)) certified.signs;
-  range = certified.range;
-}
-
 -- the supply of the node alone changes
 supply_at : (n : ℕ) (D : Demand) (v : ℕ) (x : ℤ) → kind_of D ≡ Min → DemandFits n D → IsNodeOf n v → (w : ℕ) → IsNodeOf n w → reduced_supply (with_supply D v x) w ≡ reduced_supply D w +ℤ at_one v (x -ℤ reduced_supply D v) w
 supply_at n (Supplies s) v x kind fits node w at = elim (cases_eq w v) [
@@ -209,22 +201,6 @@ excess_supplied I v z x lawful kind node limit =
     ]
 
 -- ---- exchanges
-
-place_index : (n : ℕ) (D : Demand) (arcs : List ArcRow) (k : ℕ) → (1 ≤ k) × (k ≤ length arcs) → ((length (reduced_arcs D arcs) - length arcs) + (k - 1) ≡ flow_index D k) × (flow_index D k < length (reduced_arcs D arcs))
-place_index n (Supplies s) arcs k at = (omega arith, omega (arith, at.0, at.1))
-place_index n (Terminals source sink) arcs k at = (omega (arith, at.0, at.1), omega (arith, at.0, at.1))
-place_index n (Sides marks) arcs k at = (omega arith, omega (arith, at.0, at.1))
-
-pub index_is : (I : Instance) (rows : List ArcRow) (k : ℕ) → rows ≡ (reduced I).arcs → (1 ≤ k) × (k ≤ length I.arcs) → (((length rows - length I.arcs) + (k - 1)) ≡ flow_index I.demand k) × (flow_index I.demand k < length rows)
-index_is I rows k are at =
-    let there = place_index I.nodes I.demand I.arcs k at in
-    let same : length rows ≡ length (reduced I).arcs = ap (λ (r : List ArcRow). length r) are in
-    (omega (arith, there.0, same), omega (arith, there.1, same))
-
-pub drop-set : {A : Type 0} (xs : List A) (v : ℕ) (a : A) → 1 ≤ v → drop 1 (slice_set xs v a) ≡ slice_set (drop 1 xs) (v - 1) a
-drop-set xs zero a le = absurd (omega arith)
-drop-set [] (suc v) a le = refl
-drop-set (x ∷ xs) (suc v) a le = (let e : suc v - 1 ≡ v = omega arith in sym (ap (λ (w : ℕ). slice_set xs w a) e))
 
 pub supply_entry : (n : ℕ) (D : Demand) (v : ℕ) (d : ℤ) → kind_of D ≡ Min → DemandFits n D → IsNodeOf n v → reduced_supply D v ≡ slice_index_or (supplies_in D) (v - 1) d
 supply_entry n (Supplies s) v d kind fits node = get_or_default s (v - 1) (pos 0) d (omega (arith, fits.0, node.0, node.1))

@@ -15,7 +15,7 @@ use Rattle.flow_solver.proofs.PushLemmas.{at_same, at_other}
 use Rattle.flow_solver.specs.declared.visit.Mark.{Mark}
 use Rattle.flow_solver.specs.declared.visit.Mark.TheVariants.{Unreached, Open, Settled}
 use Rattle.flow_solver.specs.declared.visit.Visit.{Visit}
-use Rattle.flow_solver.specs.Search.{visit_at, mark_at, depth_at, IsReached, IsSearch, AllRelaxed, IsFromExcess, NoneOpen}
+use Rattle.flow_solver.specs.Search.{visit_at, mark_at, depth_at, IsReached, IsSearch, AllRelaxed, IsFromExcess, IsExhausted}
 use Rattle.flow_solver.proofs.SearchLemmas.{in_range, settled_is_reached}
 use Rattle.flow_solver.specs.Cut.{in_set, sum_in, sum_leaving, sum_entering, surplus, shortfall, IsLeastSet, IsClosed, HoldsExcess, IsClosedBack, IsBehindDeficit, IsSettledSet, IsChosenSet, lack}
 
@@ -218,11 +218,11 @@ module _ (arcs : List ArcRow) (supply : ℕ → ℤ) (x e : List ℤ) (set : Lis
 
 -- the settled nodes at the end of a search from the nodes in excess
 module _ (arcs : List ArcRow) (x p e : List ℤ) (s : List Visit) (set : List Bool)
-    (known : IsSearch arcs x p s) (all : AllRelaxed arcs x p s) (from : IsFromExcess e s) (done : NoneOpen s (length s)) (marks : IsSettledSet s set)
+    (known : IsSearch arcs x p s) (all : AllRelaxed arcs x p s) (from : IsFromExcess e s) (done : IsExhausted e s) (marks : IsSettledSet s set)
   where
     settled_mark : (v : ℕ) (m : Mark) → mark_at s v ≡ m → IsReached s v → mark_at s v ≡ Settled
     settled_mark v Unreached h reached = absurd (reached h)
-    settled_mark v Open h reached = absurd (done v (in_range s v reached) h)
+    settled_mark v Open h reached = absurd (done.none_open v (in_range s v reached) h)
     settled_mark v Settled h reached = h
 
     reached_settled : (v : ℕ) → IsReached s v → mark_at s v ≡ Settled
@@ -235,7 +235,7 @@ module _ (arcs : List ArcRow) (x p e : List ℤ) (s : List Visit) (set : List Bo
     settled_holds v high = (marks v).1 (reached_settled v (from.sources v high).0)
 
     pub settled_none : (v : ℕ) → in_set set v ≡ true → pos 0 ≤ℤ number_at e v
-    settled_none v h = from.no_deficit v ((marks v).0 h)
+    settled_none v h = done.no_deficit v ((marks v).0 h)
 
     reached_in : (other : List Bool) → IsClosed arcs x other → HoldsExcess e other → (d v : ℕ) → IsReached s v → depth_at s v ≡ d → in_set other v ≡ true
     reached_in other closed holds zero v reached deep = holds v (from.roots v reached deep).0
@@ -388,7 +388,7 @@ in_none zero v = refl
 in_none (suc n) zero = refl
 in_none (suc n) (suc v) = in_none n v
 
-pub IsChosenSet-from : (arcs : List ArcRow) (x p e : List ℤ) (supply : ℕ → ℤ) (s : List Visit) (set : List Bool) → IsFlow (length p) arcs x → IsSearch arcs x p s → AllRelaxed arcs x p s → IsFromExcess e s → NoneOpen s (length s) → length set ≡ length e → (0 < left e → IsSettledSet s set) → (left e ≡ 0 → IsBehindDeficit arcs x e set) → IsExcess arcs supply x e → IsChosenSet arcs supply e set
+pub IsChosenSet-from : (arcs : List ArcRow) (x p e : List ℤ) (supply : ℕ → ℤ) (s : List Visit) (set : List Bool) → IsFlow (length p) arcs x → IsSearch arcs x p s → AllRelaxed arcs x p s → IsFromExcess e s → IsExhausted e s → length set ≡ length e → (0 < left e → IsSettledSet s set) → (left e ≡ 0 → IsBehindDeficit arcs x e set) → IsExcess arcs supply x e → IsChosenSet arcs supply e set
 IsChosenSet-from arcs x p e supply s set flow known all from done sized_set settled behind is = record {
   in_excess = λ some. settled_is_least arcs x p e s set known all from done (settled some) supply is flow.same_length flow.within sized_set;
   in_deficit = λ none some. behind_is_least arcs supply x e set is flow.same_length flow.within sized_set (behind none) (none_above e none);

@@ -9,7 +9,7 @@ use Rattle.flow_solver.specs.declared.residual.Way.{Way}
 use Rattle.flow_solver.specs.declared.residual.Way.TheVariants.{Forward, Backward}
 use Rattle.flow_solver.specs.Residual.{IsRow, IsWithin, IsFlow, IsCertified, NoneBelow, number_at, arc_at, start_of, end_of, cost_of, room_of}
 use Rattle.network.specs.Flow.{net, outflow, inflow}
-use Rattle.flow_solver.specs.Push.{IsExcess, at_node, IsTransfer, left}
+use Rattle.flow_solver.specs.Push.{at_node, IsTransfer, left}
 use Rattle.flow_solver.specs.Edit.{reduced_cost, IsNearest}
 use Rattle.flow_solver.proofs.PushLemmas.{flow_out-set, flow_in-set, at_node-sub}
 use Rattle.flow_solver.proofs.ExcessLemmas.{left-gain, at_node_bounds}
@@ -86,9 +86,6 @@ module _ (arcs : List ArcRow) (x p : List ℤ) (k : ℕ) (a : ArcRow) (z : ℤ) 
       let head_new : at_node a.head z v ≡ at_node (arc_at arcs k).head z v = ap (λ (t : ℕ). at_node t z v) same_head in
       let head_old : at_node a.head (number_at x k) v ≡ at_node (arc_at arcs k).head (number_at x k) v = ap (λ (t : ℕ). at_node t (number_at x k) v) same_head in
       omega (arith, ints, out, into, more_out, more_in, tail_new, tail_old, head_new, head_old, at_node-sub a.tail v z (number_at x k), at_node-sub a.head v z (number_at x k))
-
-  pub excess_replaced : (supply : ℕ → ℤ) (e f : List ℤ) → IsTransfer a.tail a.head (z -ℤ number_at x k) e f → IsExcess arcs supply x e → IsExcess (slice_set arcs k a) supply (slice_set x k z) f
-  excess_replaced supply e f moved is v = omega (arith, ints, moved.by_node v, is v, net_replaced v)
 
 at_node-neg : (u v : ℕ) (a : ℤ) → at_node u (neg_ℤ a) v ≡ neg_ℤ (at_node u a v)
 at_node-neg u v a = by_test (eqb u v)

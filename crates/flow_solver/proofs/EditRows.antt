@@ -1,6 +1,6 @@
 -- Edits that change one arc.
-use Rattle.std.proofs.Common.{◌≡◌, ℕ, zero, suc, ◌+◌, ◌-◌, ◌<◌, ◌≤◌, ℤ, pos, ◌-ℤ◌, ◌+ℤ◌, ◌≤ℤ◌, Bool, true, false, ◌⊎◌, inl, inr, [], ◌∷◌, ◌++◌, List, length, refl, sym, ap, subst, ◌∙◌, arith, slice_get, slice_set, slice_index_or, unsigned_abs, Some, None, Ok, Err, IsOk, All}
-use Rattle.std.specs.Prelude.{Option, Result, int_le, nat_le, neg_ℤ, ◌&&◌}
+use Rattle.std.proofs.Common.{◌≡◌, ℕ, zero, suc, ◌+◌, ◌-◌, ◌≤◌, ℤ, pos, ◌-ℤ◌, ◌+ℤ◌, ◌≤ℤ◌, Bool, true, false, ◌⊎◌, inl, inr, [], ◌∷◌, ◌++◌, List, length, refl, sym, ap, subst, ◌∙◌, arith, slice_set, slice_index_or, unsigned_abs, Some, Ok, Err, IsOk}
+use Rattle.std.specs.Prelude.{Option, Result, int_le, ◌&&◌}
 use Rattle.std.proofs.lemmas.Int.{ints, by_lt_z}
 use Rattle.std.proofs.lemmas.Option.{slice_get_within, get_or_from_slice_get}
 use Rattle.std.proofs.lemmas.List.{get_or-set_same, length-set, length-append, get_or_push}
@@ -8,24 +8,21 @@ use Rattle.std.specs.List.{AllZip}
 use Rattle.flow_solver.specs.Push.{Pushes, at_node as at_one}
 use Rattle.network.proofs.Reduction.{reduced_ends}
 use Rattle.dimacs_text.specs.declared.command.Edit.{Edit}
-use Rattle.dimacs_text.specs.declared.command.Edit.TheVariants.{Cap, Low, Cost, Supply, Add, Close}
+use Rattle.dimacs_text.specs.declared.command.Edit.TheVariants.{Cap, Low, Cost, Add, Close}
 use Rattle.dimacs_text.specs.declared.problem.ArcRow.{ArcRow}
 use Rattle.dimacs_text.specs.Lawful.{IsLawfulRow}
 use Rattle.network.specs.Flow as flow
 use Rattle.network.specs.Edited.{with_arc, edited, has_edit, is_bound, is_within, is_node, is_new_row, is_across, has_room, units, units_of_row}
-use Rattle.dimacs_text.specs.declared.problem.TheConstants.{COST_LIMIT, SUPPLY_LIMIT}
-use Rattle.dimacs_text.specs.declared.problem.Kind.{Kind}
-use Rattle.dimacs_text.specs.declared.problem.Kind.TheVariants.{Min, Max, Asn}
-use Rattle.std.proofs.lemmas.Bool.{leb-true}
+use Rattle.dimacs_text.specs.declared.problem.TheConstants.{COST_LIMIT}
 use Rattle.network.specs.Instance.{Instance, IsLawful, ArcFits, arc_at, kind_of}
 use Rattle.network.proofs.EditedLemmas.{edited_lawful}
-use Rattle.flow_solver.specs.Residual.{IsWithin, number_at, arc_at as row_at}
+use Rattle.flow_solver.specs.Residual.{IsWithin, number_at}
 use Rattle.network.specs.Flow.{IsCertifiedFlow, FollowsSign, AllWithinBounds, IsWithinBounds, net, outflow, inflow, total_excess}
 use Rattle.network.specs.Instance.{reduced, Demand, Supplies, Terminals, Sides}
 use Rattle.flow_solver.proofs.FlowLaws.{bounds_at, bounds_length, signs_at}
 use Rattle.flow_solver.proofs.WalkLemmas.{rows_at_least}
-use Rattle.flow_solver.proofs.ChangeLemmas.{place_in, row_is, supplied, with_last, rows_more, lawful_more, excess_carried}
-use Rattle.flow_solver.specs.Edit.{IsNearest, IsRowEdit, IsAltered, AltersAt, IsRowChanged, IsSupplyChanged, IsChange, IsSupplyEdit, IsAddEdit, IsAdded, place_of}
+use Rattle.flow_solver.proofs.ChangeLemmas.{place_in, row_is, with_last, rows_more, excess_carried}
+use Rattle.flow_solver.specs.Edit.{IsNearest, IsRowEdit, IsAltered, AltersAt, IsRowChanged, IsChange, IsAddEdit, IsAdded, place_of}
 
 -- ---- checks that were met
 
@@ -111,7 +108,7 @@ pub number_in : (arcs : List ArcRow) (k : ℕ) (row : ArcRow) → arc_at arcs k 
 number_in arcs zero row is = cc
 number_in arcs (suc k) row is = (omega arith, omega (arith, slice_get_within arcs k row is))
 
-row_there : (arcs : List ArcRow) (k : ℕ) (row d : ArcRow) → arc_at arcs k ≡ Some row → slice_index_or arcs (k - 1) d ≡ row
+pub row_there : (arcs : List ArcRow) (k : ℕ) (row d : ArcRow) → arc_at arcs k ≡ Some row → slice_index_or arcs (k - 1) d ≡ row
 row_there arcs zero row d is = cc
 row_there arcs (suc k) row d is = (let e : suc k - 1 ≡ k = omega arith in ap (λ (j : ℕ). slice_index_or arcs j d) e ∙ get_or_from_slice_get arcs k row d is)
 
@@ -182,56 +179,11 @@ arc_change I J edit k row q x y n certified change changed =
       count = omega (arith, ints, changed.count, less);
     }
 
--- ---- an accepted supply
-
-supply_met : (I : Instance) (v : ℕ) (x : ℤ) (J : Instance) → edited I (Supply v x) ≡ Ok J → (has_edit (kind_of I.demand) (Supply v x) ≡ true) × (is_within SUPPLY_LIMIT x ≡ true) × (is_node I.nodes v ≡ true) × (edited I (Supply v x) ≡ Ok (supplied I v x))
-supply_met I v x J e = elim (met_or_not (has_edit (kind_of I.demand) (Supply v x))) [
-  | inr unmet ↦ (let bad = rw unmet at e in cc)
-  | inl kind ↦ (let e1 = rw kind at e in elim (met_or_not (is_within SUPPLY_LIMIT x)) [
-    | inr unmet ↦ (let bad = rw unmet at e1 in cc)
-    | inl range ↦ (let e2 = rw range at e1 in elim (met_or_not (is_node I.nodes v)) [
-      | inr unmet ↦ (let bad = rw unmet at e2 in cc)
-      | inl node ↦ (let e3 = rw node at e2 in let same : supplied I v x ≡ J = cc in (kind, range, node, e ∙ ap Ok (sym same)))
-    ])
-  ])
-]
+-- ---- an accepted arc
 
 both : (a b : Bool) → (a && b) ≡ true → (a ≡ true) × (b ≡ true)
 both true b e = (refl, e)
 both false b e = cc
-
-le_from_test : (a b : ℤ) → int_le a b ≡ true → a ≤ℤ b
-le_from_test a b e = grind (arith, ints)
-
-kind_min : (k : Kind) (v : ℕ) (x : ℤ) → has_edit k (Supply v x) ≡ true → k ≡ Min
-kind_min Min v x e = refl
-kind_min Max v x e = cc
-kind_min Asn v x e = cc
-
-pub supply_edit : (I : Instance) (v : ℕ) (x : ℤ) → IsOk (edited I (Supply v x)) → IsSupplyEdit I (Supply v x) v x
-supply_edit I v x ok =
-    let J = accepted (edited I (Supply v x)) ok in
-    let met = supply_met I v x J.0 J.1 in
-    let range = both (int_le (neg_ℤ SUPPLY_LIMIT) x) (int_le x SUPPLY_LIMIT) met.1 in
-    let node = both (nat_le 1 v) (nat_le v I.nodes) met.2 in
-    record {
-      is = refl;
-      kind = kind_min (kind_of I.demand) v x met.0;
-      node = (leb-true 1 v node.0, leb-true v I.nodes node.1);
-      limit = (le_from_test _ _ range.0, le_from_test _ _ range.1);
-      after = met.3;
-    }
-
-pub supply_change : (I J : Instance) (edit : Edit) (v : ℕ) (z : ℤ) (x y : List ℤ) (n : ℕ) → IsSupplyEdit I edit v z → IsSupplyChanged I J v z x y n → IsChange I J edit x y n
-supply_change I J edit v z x y n change changed =
-    subst (λ (e : Edit). IsChange I J e x y n) (sym change.is) (record {
-      start = x;
-      altered = refl;
-      pushes = changed.pushes;
-      count = changed.count;
-    })
-
--- ---- an accepted arc
 
 abbrev new_row : ℕ → ℕ → ℤ → ℤ → ℤ → ArcRow
 new_row tail head low cap cost = record { tail = tail; head = head; low = low; cap = cap; cost = cost }
@@ -334,9 +286,6 @@ place_last I row k e =
     let rows : length (reduced (with_last I (shut row))).arcs ≡ length (reduced I).arcs + 1 = sym (ap (λ (r : List ArcRow). length r) (rows_more I (shut row))) ∙ length-append (reduced I).arcs (shut row ∷ []) in
     omega (arith, rows, e, length-append I.arcs (shut row ∷ []), rows_at_least I.demand I.arcs)
 
-pub opened_last : (I : Instance) (row : ArcRow) (k : ℕ) (d : ArcRow) → k ≡ length (I.arcs ++ shut row ∷ []) → slice_index_or (I.arcs ++ shut row ∷ []) (k - 1) d ≡ shut row
-opened_last I row k d e = get_or_push I.arcs (shut row) d (k - 1) (omega (arith, e, length-append I.arcs (shut row ∷ [])))
-
 pub added : (I J : Instance) (row : ArcRow) (k : ℕ) (q : ℕ → ℤ) (x y : List ℤ) (n : ℕ) → IsLawful I → IsLawful (with_last I (shut row)) → IsLawfulRow I.nodes row → IsCertifiedFlow (reduced I) x q → k ≡ length (I.arcs ++ shut row ∷ [])
     → IsRowChanged (with_last I (shut row)) J k row q (x ++ pos 0 ∷ []) y n → IsAdded I J row x y n
 added I J row k q x y n lawful lawful_after limits certified e changed =
@@ -347,15 +296,7 @@ added I J row k q x y n lawful lawful_after limits certified e changed =
     let less = shut_excess I row x lawful lawful_after sized in
     record {
       flow = changed.after;
+      within = changed.nearest.within;
       pushes = subst (λ (z : List ℤ). Pushes (reduced J).arcs (reduced J).supply n z y) start changed.pushes;
       count = omega (arith, ints, changed.count, less, before, changed.nearest.within.low_kept, changed.nearest.within.cap_kept, limits.low);
     }
-
-pub add_change : (I J : Instance) (edit : Edit) (row : ArcRow) (x y : List ℤ) (n : ℕ) → IsAddEdit I edit row → IsAdded I J row x y n → IsChange I J edit x y n
-add_change I J edit row x y n change made =
-    subst (λ (e : Edit). IsChange I J e x y n) (sym change.is) (record {
-      start = x ++ made.flow ∷ [];
-      altered = (made.flow, refl);
-      pushes = made.pushes;
-      count = made.count;
-    })

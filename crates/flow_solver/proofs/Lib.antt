@@ -16,3 +16,4 @@ pub mod AnswerLemmas
 pub mod WalkLemmas
 pub mod ChangeLemmas
 pub mod EditRows
+pub mod PartLemmas

@@ -12,7 +12,8 @@ use Rattle.flow_solver.specs.declared.residual.Way.{Way}
 use Rattle.flow_solver.specs.declared.residual.Way.TheVariants.{Forward, Backward}
 use Rattle.flow_solver.specs.declared.visit.Visit.{Visit}
 use Rattle.flow_solver.specs.Residual.{IsRow, IsWithin, IsFlow, NoneBelow, number_at, arc_at, room_of, start_at, end_at, cost_at}
-use Rattle.flow_solver.specs.Search.{visit_at, depth_at, IsReached}
+use Rattle.flow_solver.specs.declared.visit.Mark.TheVariants.{Settled}
+use Rattle.flow_solver.specs.Search.{visit_at, mark_at, depth_at}
 use Rattle.network.specs.Flow.{net, outflow, inflow}
 use Rattle.flow_solver.specs.Push.{Hop, IsPath, nodes_on, moved, IsShift, path_of, root_of, path_to, HavePaths, HasRoom, push_along, IsTight, at_node, IsTransfer}
 
@@ -49,14 +50,14 @@ HasRoom-set arcs x m k z [] apart room = tt
 HasRoom-set arcs x m k z (h ∷ hops) apart room =
     (rw (get_or-set_other x k h.arc z (pos 0) apart.0) room.0, HasRoom-set arcs x m k z hops apart.1 room.1)
 
-module _ (arcs : List ArcRow) (x : List ℤ) (s : List Visit) (paths : HavePaths arcs x s) where
+module _ (arcs : List ArcRow) (s : List Visit) (paths : HavePaths arcs s) where
   same_way : (k v w : ℕ) (a b : Way) → end_at arcs k a ≡ v → end_at arcs k b ≡ w → depth_at s v ≡ depth_at s (start_at arcs k a) + 1 → depth_at s w ≡ depth_at s (start_at arcs k b) + 1 → depth_at s w < depth_at s v → ⊥
   same_way k v w Forward Forward e f g h lt = (let same : depth_at s v ≡ depth_at s w = ap (depth_at s) (sym e ∙ f) in omega arith)
   same_way k v w Backward Backward e f g h lt = (let same : depth_at s v ≡ depth_at s w = ap (depth_at s) (sym e ∙ f) in omega arith)
   same_way k v w Forward Backward e f g h lt = (let same : depth_at s (end_at arcs k Forward) ≡ depth_at s v = ap (depth_at s) e in omega (arith, same))
   same_way k v w Backward Forward e f g h lt = (let same : depth_at s (end_at arcs k Backward) ≡ depth_at s v = ap (depth_at s) e in omega (arith, same))
 
-  pub apart : (v w : ℕ) → IsReached s v → IsReached s w → 0 < depth_at s w → depth_at s w < depth_at s v → arc_to s w ≡ arc_to s v → ⊥
+  pub apart : (v w : ℕ) → mark_at s v ≡ Settled → mark_at s w ≡ Settled → 0 < depth_at s w → depth_at s w < depth_at s v → arc_to s w ≡ arc_to s v → ⊥
   apart v w rv rw' dw lt e =
       let at_v = paths v rv (omega arith) in
       let at_w = paths w rw' dw in
@@ -64,7 +65,7 @@ module _ (arcs : List ArcRow) (x : List ℤ) (s : List Visit) (paths : HavePaths
       let deeper_w : depth_at s w ≡ depth_at s (start_at arcs (arc_to s v) (way_to s w)) + 1 = at_w.deeper ∙ ap (λ (k : ℕ). depth_at s (start_at arcs k (way_to s w)) + 1) e in
       same_way (arc_to s v) v w (way_to s v) (way_to s w) at_v.ends ends_w at_v.deeper deeper_w lt
 
-  pub avoids : (d u v : ℕ) → IsReached s u → IsReached s v → depth_at s u ≡ d → d < depth_at s v → Avoids (arc_to s v) (path_of arcs s d u)
+  pub avoids : (d u v : ℕ) → mark_at s u ≡ Settled → mark_at s v ≡ Settled → depth_at s u ≡ d → d < depth_at s v → Avoids (arc_to s v) (path_of arcs s d u)
   avoids zero u v ru rv e lt = tt
   avoids (suc d) u v ru rv e lt =
       let came = paths u ru (omega arith) in
@@ -102,13 +103,13 @@ pub record IsShiftStep (nodes : ℕ) (arcs : List ArcRow) (s : List Visit) (v : 
 pub here_room : (arcs : List ArcRow) (x : List ℤ) (s : List Visit) (v : ℕ) (m : ℤ) → depth_at s v ≡ depth_at s (before arcs s v) + 1 → HasRoom arcs x m (path_to arcs s v) → (m ≤ℤ room_of (arc_at arcs (arc_to s v)) (number_at x (arc_to s v)) (way_to s v)) × HasRoom arcs x m (path_to arcs s (before arcs s v))
 here_room arcs x s v m deeper room = subst (λ (hops : List Hop). HasRoom arcs x m hops) (path_step arcs s v deeper) room
 
-pub shift_step : (nodes : ℕ) (arcs : List ArcRow) (x0 x : List ℤ) (s : List Visit) (v : ℕ) (m : ℤ) → HavePaths arcs x0 s → IsReached s v → 0 < depth_at s v → IsFlow nodes arcs x → pos 1 ≤ℤ m → HasRoom arcs x m (path_to arcs s v) → IsShiftStep nodes arcs s v m x (slice_set x (arc_to s v) (moved (way_to s v) (number_at x (arc_to s v)) m))
-shift_step nodes arcs x0 x s v m paths reached deep flow at_least room =
+pub shift_step : (nodes : ℕ) (arcs : List ArcRow) (x : List ℤ) (s : List Visit) (v : ℕ) (m : ℤ) → HavePaths arcs s → mark_at s v ≡ Settled → 0 < depth_at s v → IsFlow nodes arcs x → pos 1 ≤ℤ m → HasRoom arcs x m (path_to arcs s v) → IsShiftStep nodes arcs s v m x (slice_set x (arc_to s v) (moved (way_to s v) (number_at x (arc_to s v)) m))
+shift_step nodes arcs x s v m paths reached deep flow at_least room =
     let came = paths v reached deep in
     let fits = here_room arcs x s v m came.deeper room in
     record {
-      flow = IsFlow-set flow (arc_to s v) _ came.residual.is_arc (IsWithin-moved nodes (arc_at arcs (arc_to s v)) (number_at x (arc_to s v)) m (way_to s v) (flow.rows (arc_to s v) came.residual.is_arc) (flow.within (arc_to s v) came.residual.is_arc) at_least fits.0);
-      room = HasRoom-set arcs x m (arc_to s v) _ (path_to arcs s (before arcs s v)) (avoids arcs x0 s paths (depth_at s (before arcs s v)) (before arcs s v) v came.before reached refl (omega (arith, came.deeper))) fits.1;
+      flow = IsFlow-set flow (arc_to s v) _ came.is_arc (IsWithin-moved nodes (arc_at arcs (arc_to s v)) (number_at x (arc_to s v)) m (way_to s v) (flow.rows (arc_to s v) came.is_arc) (flow.within (arc_to s v) came.is_arc) at_least fits.0);
+      room = HasRoom-set arcs x m (arc_to s v) _ (path_to arcs s (before arcs s v)) (avoids arcs s paths (depth_at s (before arcs s v)) (before arcs s v) v came.before reached refl (omega (arith, came.deeper))) fits.1;
       rest = ap (λ (hops : List Hop). push_along hops m x) (sym (path_step arcs s v came.deeper));
     }
 
@@ -117,27 +118,27 @@ abbrev pub AreApart : List ArcRow → List Hop → Type 0
 AreApart arcs [] = Unit {0}
 AreApart arcs (h ∷ hops) = (h.arc < length arcs) × Avoids h.arc hops × AreApart arcs hops
 
-module _ (arcs : List ArcRow) (x : List ℤ) (s : List Visit) (paths : HavePaths arcs x s) where
-  pub path_apart : (d v : ℕ) → IsReached s v → depth_at s v ≡ d → AreApart arcs (path_of arcs s d v)
+module _ (arcs : List ArcRow) (s : List Visit) (paths : HavePaths arcs s) where
+  pub path_apart : (d v : ℕ) → mark_at s v ≡ Settled → depth_at s v ≡ d → AreApart arcs (path_of arcs s d v)
   path_apart zero v reached e = tt
   path_apart (suc d) v reached e =
       let came = paths v reached (omega arith) in
       let nearer : depth_at s (before arcs s v) ≡ d = omega (arith, came.deeper) in
-      (came.residual.is_arc, avoids arcs x s paths d (before arcs s v) v came.before reached nearer (omega arith), path_apart d (before arcs s v) came.before nearer)
+      (came.is_arc, avoids arcs s paths d (before arcs s v) v came.before reached nearer (omega arith), path_apart d (before arcs s v) came.before nearer)
 
-  pub path_leads : (d v : ℕ) → IsReached s v → depth_at s v ≡ d → IsPath arcs (path_of arcs s d v) (root_of arcs s d v) v
+  pub path_leads : (d v : ℕ) → mark_at s v ≡ Settled → depth_at s v ≡ d → IsPath arcs (path_of arcs s d v) (root_of arcs s d v) v
   path_leads zero v reached e = refl
   path_leads (suc d) v reached e =
       let came = paths v reached (omega arith) in
       (came.ends, path_leads d (before arcs s v) came.before (omega (arith, came.deeper)))
 
-  pub root_reached : (d v : ℕ) → IsReached s v → depth_at s v ≡ d → IsReached s (root_of arcs s d v) × (depth_at s (root_of arcs s d v) ≡ 0)
+  pub root_reached : (d v : ℕ) → mark_at s v ≡ Settled → depth_at s v ≡ d → (mark_at s (root_of arcs s d v) ≡ Settled) × (depth_at s (root_of arcs s d v) ≡ 0)
   root_reached zero v reached e = (reached, e)
   root_reached (suc d) v reached e =
       let came = paths v reached (omega arith) in
       root_reached d (before arcs s v) came.before (omega (arith, came.deeper))
 
-  nodes_shallow : (d v : ℕ) → IsReached s v → depth_at s v ≡ d → All (λ w. depth_at s w ≤ d) (nodes_on arcs (path_of arcs s d v) v)
+  nodes_shallow : (d v : ℕ) → mark_at s v ≡ Settled → depth_at s v ≡ d → All (λ w. depth_at s w ≤ d) (nodes_on arcs (path_of arcs s d v) v)
   nodes_shallow zero v reached e = All-cons (λ w. depth_at s w ≤ 0) v [] (omega arith) (All-nil (λ w. depth_at s w ≤ 0))
   nodes_shallow (suc d) v reached e =
       let came = paths v reached (omega arith) in
@@ -145,7 +146,7 @@ module _ (arcs : List ArcRow) (x : List ℤ) (s : List Visit) (paths : HavePaths
       All-cons (λ w. depth_at s w ≤ suc d) v (nodes_on arcs (path_of arcs s d (before arcs s v)) (before arcs s v)) (omega arith)
       (All-weaker (λ w. depth_at s w ≤ d) (λ w. depth_at s w ≤ suc d) (λ w h. omega arith) (nodes_on arcs (path_of arcs s d (before arcs s v)) (before arcs s v)) rest)
 
-  pub path_simple : (d v : ℕ) → IsReached s v → depth_at s v ≡ d → AllPairs ◌≢◌ (nodes_on arcs (path_of arcs s d v) v)
+  pub path_simple : (d v : ℕ) → mark_at s v ≡ Settled → depth_at s v ≡ d → AllPairs ◌≢◌ (nodes_on arcs (path_of arcs s d v) v)
   path_simple zero v reached e = AllPairs-cons ◌≢◌ v [] (All-nil (λ w. v ≢ w)) (AllPairs-nil ◌≢◌)
   path_simple (suc d) v reached e =
       let came = paths v reached (omega arith) in

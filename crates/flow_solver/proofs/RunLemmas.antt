@@ -1,22 +1,22 @@
 -- What a whole search keeps from step to step, and what follows at its end.
 use Rattle.flow_solver.specs.Limits.{label_floor, cost_limit}
 use Rattle.std.proofs.Common.{◌≡◌, ℕ, zero, suc, ◌⊎◌, ◌+◌, ◌*◌, ◌<◌, ◌≤◌, ℤ, pos, neg_ℤ, ◌-ℤ◌, ◌+ℤ◌, ◌≤ℤ◌, List, length, refl, sym, ap, subst, ◌∙◌, inl, inr, arith}
-use Rattle.std.specs.Prelude.{slice_set}
+use Rattle.std.specs.Prelude.{slice_set, ◌<ℤ◌}
 use Rattle.std.proofs.Math.Nat.{mul-suc, mul-zero, mul-le-mul_left}
 use Rattle.std.proofs.lemmas.Int.{ints}
 use Rattle.std.proofs.lemmas.Bool.{cases_lt, cases_eq}
 use Rattle.std.proofs.lemmas.List.{get_or_past, get_or-set_same, get_or-set_other}
-use Rattle.flow_solver.proofs.SearchLemmas.{cost_of-bounds, start_of-in, settled_is_reached, in_range}
+use Rattle.flow_solver.proofs.SearchLemmas.{cost_of-bounds, start_of-in, settled_is_reached, in_range, key_high}
 use Rattle.dimacs_text.specs.declared.problem.ArcRow.{ArcRow}
 use Rattle.flow_solver.specs.declared.residual.Way.{Way}
 use Rattle.flow_solver.specs.declared.visit.Mark.{Mark}
 use Rattle.flow_solver.specs.declared.visit.Mark.TheVariants.{Unreached, Open, Settled}
 use Rattle.flow_solver.specs.declared.visit.Visit.{Visit}
 use Rattle.flow_solver.specs.Residual.{IsCertified, IsFlow, ArePotentials, NoneBelow, NoneBelowBy, AreGreatest, IsCheap, ArePathsAbove, number_at, arc_at, start_at, end_at, cost_at, IsResidual}
-use Rattle.flow_solver.specs.Search.{visit_at, mark_at, key_at, depth_at, IsReached, IsSearch, Settles, AllRelaxed, IsFromExcess, IsFromAll, AreLabels, IsReach, lowered_by, IsLowered, NoneOpen}
+use Rattle.flow_solver.specs.Search.{visit_at, mark_at, key_at, depth_at, IsReached, IsSearch, Settles, AllRelaxed, IsFromExcess, NoDeficit, IsFoundDeficit, IsFront, IsFinding, IsFromAll, AreLabels, IsReach, lowered_by, IsLowered, NoneOpen}
 
-pub IsFromExcess-settles : {arcs : List ArcRow} {x p excess : List ℤ} {s t : List Visit} {u : ℕ} → IsFromExcess excess s → IsSearch arcs x p t → Settles s t u → pos 0 ≤ℤ number_at excess u → IsFromExcess excess t
-IsFromExcess-settles {arcs} {x} {p} {excess} {s} {t} {u} before known settles no_deficit = record {
+pub IsFromExcess-settles : {arcs : List ArcRow} {x p excess : List ℤ} {s t : List Visit} {u : ℕ} → IsFromExcess excess s → IsSearch arcs x p t → Settles s t u → IsFromExcess excess t
+IsFromExcess-settles {arcs} {x} {p} {excess} {s} {t} {u} before known settles = record {
   sources = λ v h.
       (let was = before.sources v h in
       let reached = settles.reached_kept v was.0 in
@@ -25,11 +25,57 @@ IsFromExcess-settles {arcs} {x} {p} {excess} {s} {t} {u} before known settles no
       (let was = settles.roots_kept v r d in
       let root = before.roots v was.0 was.1 in
       (root.0, was.2 ∙ root.1));
-  no_deficit = λ v m. (elim (settles.settled_before v m) [
-    | inl same ↦ subst (λ (q : ℕ). pos 0 ≤ℤ number_at excess q) (sym same) no_deficit
-    | inr was ↦ before.no_deficit v was
-  ]);
 }
+
+-- a node that is settled and not in deficit leaves none in deficit behind
+pub NoDeficit-settles : (excess : List ℤ) (s t : List Visit) (u : ℕ) → NoDeficit excess s → Settles s t u → pos 0 ≤ℤ number_at excess u → NoDeficit excess t
+NoDeficit-settles excess s t u before settles here v m = elim (settles.settled_before v m) [
+  | inl same ↦ subst (λ (q : ℕ). pos 0 ≤ℤ number_at excess q) (sym same) here
+  | inr was ↦ before v was
+]
+
+pub IsFoundDeficit-settles : {excess : List ℤ} {s t : List Visit} {u v : ℕ} → IsFoundDeficit excess s v → Settles s t u → IsFoundDeficit excess t v
+IsFoundDeficit-settles {excess} {s} {t} {u} {v} found settles = record {
+  settled = ap (λ (r : Visit). r.mark) (settles.settled_kept v found.settled) ∙ found.settled;
+  deficit = found.deficit;
+}
+
+-- the search has come as far as the node that it settled
+pub IsFront-settles : {arcs : List ArcRow} {x p : List ℤ} {s t : List Visit} {u : ℕ} → IsCertified arcs x p → IsSearch arcs x p s → IsSearch arcs x p t → mark_at s u ≡ Open → Settles s t u → IsFront t (key_at t u)
+IsFront-settles {arcs} {x} {p} {s} {t} {u} certified before known opened settles = record {
+  not_below_0 = known.key_at_least_0 u (settled_is_reached t u settles.now_settled);
+  settled = record {
+    not_far = key_high arcs x p t u certified known (settled_is_reached t u settles.now_settled);
+    within = λ v m. (
+      known.key_at_least_0 v (settled_is_reached t v m),
+      elim (settles.settled_before v m) [
+        | inl same ↦ (let equal : key_at t v ≡ key_at t u = ap (key_at t) same in omega (arith, ints, equal))
+        | inr was ↦ omega (arith, ints, ap (λ (r : Visit). r.key) (settles.settled_kept v was), before.in_order v u was opened, settles.key_kept)
+      ],
+    );
+  };
+  beyond = λ v m. known.in_order u v settles.now_settled m;
+  no_further = λ bound low within. within u settles.now_settled;
+}
+
+-- a settled node in deficit is one more, and another none
+module _ (arcs : List ArcRow) (x p excess : List ℤ) (s t : List Visit) (u : ℕ) (reach : ℤ) (found : ℕ)
+    (certified : IsCertified arcs x p) (before : IsSearch arcs x p s) (known : IsSearch arcs x p t) (opened : mark_at s u ≡ Open) (settles : Settles s t u)
+    (finding : IsFinding excess s reach found)
+  where
+    pub IsFinding-deficit : number_at excess u <ℤ pos 0 → IsFinding excess t (key_at t u) (found + 1)
+    IsFinding-deficit low = record {
+      front = IsFront-settles certified before known opened settles;
+      none = λ h. absurd (omega (arith, h));
+      some = λ h. (u, record { settled = settles.now_settled; deficit = low });
+    }
+
+    pub IsFinding-other : pos 0 ≤ℤ number_at excess u → IsFinding excess t (key_at t u) found
+    IsFinding-other high = record {
+      front = IsFront-settles certified before known opened settles;
+      none = λ h. NoDeficit-settles excess s t u (finding.none h) settles high;
+      some = λ h. (let was = finding.some h in (was.0, IsFoundDeficit-settles was.1 settles));
+    }
 
 pub IsFromAll-settles : {p : List ℤ} {s t : List Visit} {u : ℕ} → IsFromAll p s → Settles s t u → ((v : ℕ) → IsReached t v → v < length p) → IsFromAll p t
 IsFromAll-settles {p} {s} {t} {u} before settles in_nodes = record {

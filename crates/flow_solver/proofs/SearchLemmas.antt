@@ -453,6 +453,7 @@ module _ (arcs : List ArcRow) (x p : List ℤ) (s t : List Visit) (u : ℕ)
         same_length = better.same_length ∙ put.same_length;
         one_less = omega (arith, one_less, better.same_count);
         now_settled = ap (λ (r : Visit). r.mark) (better.settled_kept u mark_u) ∙ mark_u;
+        key_kept = ap (λ (r : Visit). r.key) (better.settled_kept u mark_u) ∙ key_same u;
         settled_before = λ v m. (elim (cases_eq v u) [
           | inl same ↦ inl same
           | inr ne ↦ inr (sym (mark_same v ne) ∙ better.settled_before v m)

@@ -1,6 +1,6 @@
--- What one search, one change of potentials and one push together keep.
-use Rattle.flow_solver.specs.Limits.{potential_floor, label_floor, drift_limit, left_limit, cost_limit, excess_limit, entry_limit}
-use Rattle.std.proofs.Common.{◌≡◌, ℕ, zero, suc, ◌*◌, ◌<◌, ◌≤◌, ℤ, pos, negsuc, neg_ℤ, ◌-ℤ◌, ◌+ℤ◌, ◌≤ℤ◌, List, [], ◌∷◌, length, refl, sym, ap, subst, ◌∙◌, inl, inr, arith}
+-- What one search, one change of potentials and the pushes after it keep.
+use Rattle.flow_solver.specs.Limits.{potential_floor, label_floor, left_limit, excess_limit, entry_limit}
+use Rattle.std.proofs.Common.{◌≡◌, ℕ, zero, suc, ◌+◌, ◌<◌, ◌≤◌, ℤ, pos, negsuc, neg_ℤ, ◌-ℤ◌, ◌+ℤ◌, ◌≤ℤ◌, List, [], ◌∷◌, length, refl, sym, ap, subst, ◌∙◌, inl, inr, arith}
 use Rattle.std.specs.Prelude.{◌<ℤ◌, slice_index_or}
 use Rattle.std.proofs.lemmas.Int.{ints}
 use Rattle.std.proofs.lemmas.Bool.{cases_eq}
@@ -10,24 +10,24 @@ use Rattle.dimacs_text.specs.declared.problem.ArcRow.{ArcRow}
 use Rattle.flow_solver.specs.declared.visit.Mark.{Mark}
 use Rattle.flow_solver.specs.declared.visit.Mark.TheVariants.{Unreached, Open, Settled}
 use Rattle.flow_solver.specs.declared.visit.Visit.{Visit}
-use Rattle.flow_solver.specs.Residual.{IsCertified, ArePotentials, IsFlow, NoneBelow, number_at, arc_at, end_at}
-use Rattle.flow_solver.specs.Search.{mark_at, key_at, depth_at, IsReached, IsSearch, AllRelaxed, IsFromExcess, IsNearestDeficit, IsReach, IsLowered, lowered_by}
+use Rattle.flow_solver.specs.Residual.{IsCertified, ArePotentials, NoneBelow, number_at, end_at}
+use Rattle.flow_solver.specs.Search.{mark_at, key_at, depth_at, IsSearch, AllRelaxed, IsFromExcess, IsFoundDeficit, IsFront, IsLowered, lowered_by}
 use Rattle.network.specs.Flow.{net}
-use Rattle.flow_solver.specs.Push.{IsShift, IsExcess, IsPush, path_of, root_of, path_to, root_to, HavePaths, IsTight, at_node, AreSmall, IsAugmented, positive_part, left}
-use Rattle.flow_solver.specs.Settle.{IsDrift}
+use Rattle.flow_solver.specs.Push.{IsExcess, IsPush, Pushes, path_of, path_to, root_to, HavePaths, ArePathsTight, HasRoom, IsTight, IsPath, IsTransfer, IsUnderWay, ArePushes, CanPush, push_along, at_node, AreSmall, positive_part, left}
+use Rattle.flow_solver.specs.Settle.{IsNear}
 use Rattle.flow_solver.specs.Cut.{lack}
-use Rattle.flow_solver.proofs.SearchLemmas.{cost_of-bounds, settled_is_reached, open_is_reached, in_range, key_high}
+use Rattle.flow_solver.proofs.SearchLemmas.{settled_is_reached, in_range}
 use Rattle.flow_solver.proofs.RunLemmas.{lowered_none_below}
 use Rattle.flow_solver.proofs.PushLemmas.{arc_to, way_to, before, AreApart, path_apart, path_leads, path_simple, root_reached, IsShift-along, IsFlow-along, NoneBelow-along, net-along, at_same, at_other}
 
--- the paths behind the nodes that the search reached
-pub paths_of_search : {arcs : List ArcRow} {x p : List ℤ} {s : List Visit} → IsSearch arcs x p s → HavePaths arcs x s
-paths_of_search {arcs} {x} {p} {s} known v reached deep =
-    let traced = known.traced v reached deep in
+-- the paths behind the nodes that the search settled
+pub paths_of_search : {arcs : List ArcRow} {x p : List ℤ} {s : List Visit} → IsSearch arcs x p s → HavePaths arcs s
+paths_of_search {arcs} {x} {p} {s} known v settled deep =
+    let traced = known.traced v (settled_is_reached s v settled) deep in
     record {
-      residual = traced.residual;
+      is_arc = traced.residual.is_arc;
       ends = traced.ends;
-      before = settled_is_reached s _ traced.settled;
+      before = traced.settled;
       deeper = traced.deeper;
     }
 
@@ -74,204 +74,193 @@ lack-small e small few =
     part_small (pos (suc n)) h = omega arith
     part_small (negsuc n) h = omega (arith, ints)
 
--- a search that found a node in deficit
-module _ (arcs : List ArcRow) (x p e : List ℤ) (s : List Visit) (t : ℕ)
-    (certified : IsCertified arcs x p) (known : IsSearch arcs x p s) (from : IsFromExcess e s) (near : IsNearestDeficit e s t)
+-- the potentials lowered after a search that came as far as `reach`
+module _ (arcs : List ArcRow) (x p q : List ℤ) (s : List Visit) (reach fallen : ℤ)
+    (certified : IsCertified arcs x p) (known : IsSearch arcs x p s) (all : AllRelaxed arcs x p s) (front : IsFront s reach)
+    (low : IsLowered p q s reach) (near : IsNear p fallen)
   where
-    pub target_reached : IsReached s t
-    target_reached = open_is_reached s t near.nearest.is_open
+    falls_at : (v : ℕ) (m : Mark) → mark_at s v ≡ m → number_at q v ≡ lowered_by m (number_at p v) (key_at s v) reach
+    falls_at v m h = low v ∙ ap (λ (n : Mark). lowered_by n (number_at p v) (key_at s v) reach) h
 
-    pub is_reach : IsReach s (key_at s t)
-    is_reach = record {
-      not_far = key_high arcs x p s t certified known target_reached;
-      within = λ v m. (known.key_at_least_0 v (settled_is_reached s v m), known.in_order v t m near.nearest.is_open);
-    }
-
-    pub beyond : (v : ℕ) → mark_at s v ≡ Open → key_at s t ≤ℤ key_at s v
-    beyond v m = near.nearest.least v (in_range s v (open_is_reached s v m)) m
-
-    -- no label exceeds that of its root by more than its hops can cost
-    label_path : (d v : ℕ) → IsReached s v → depth_at s v ≡ d → (key_at s v +ℤ number_at p v) ≤ℤ ((key_at s (root_of arcs s d v) +ℤ number_at p (root_of arcs s d v)) +ℤ pos (cost_limit * d))
-    label_path zero v reached deep = omega (arith, ints)
-    label_path (suc d) v reached deep =
-        let traced = known.traced v reached (omega arith) in
+    pub paths_tight : ArePathsTight arcs q s
+    paths_tight v settled deep =
+        let traced = known.traced v (settled_is_reached s v settled) deep in
         let k = arc_to s v in
         let way = way_to s v in
-        let rest = label_path d (before arcs s v) (settled_is_reached s _ traced.settled) (omega (arith, traced.deeper)) in
-        let cost = cost_of-bounds (length p) (arc_at arcs k) way (certified.flow.rows k traced.residual.is_arc) in
         let p_end : number_at p (end_at arcs k way) ≡ number_at p v = ap (number_at p) traced.ends in
-        omega (arith, ints, rest, traced.tight, p_end, cost.1)
+        let q_end : number_at q (end_at arcs k way) ≡ number_at q v = ap (number_at q) traced.ends in
+        omega (arith, ints, falls_at v Settled settled, falls_at (before arcs s v) Settled traced.settled, traced.tight, p_end, q_end)
 
-    pub root : ℕ
-    root = root_to arcs s t
+    not_raised : (v : ℕ) (m : Mark) → mark_at s v ≡ m → (number_at q v ≤ℤ number_at p v) × ((number_at p v -ℤ reach) ≤ℤ number_at q v)
+    not_raised v Unreached m = (omega (arith, ints, falls_at v Unreached m), omega (arith, ints, falls_at v Unreached m, front.not_below_0))
+    not_raised v Open m = (omega (arith, ints, falls_at v Open m), omega (arith, ints, falls_at v Open m, front.not_below_0))
+    not_raised v Settled m =
+        let within = front.settled.within v m in
+        (omega (arith, ints, falls_at v Settled m, within.1), omega (arith, ints, falls_at v Settled m, within.0))
 
-    root_is_root : IsReached s (root_to arcs s t) × (depth_at s (root_to arcs s t) ≡ 0)
-    root_is_root = root_reached arcs x s (paths_of_search known) (depth_at s t) t target_reached refl
+    settled_key : (v : ℕ) → mark_at s v ≡ Settled → key_at s v ≤ℤ (pos (label_floor + label_floor) +ℤ fallen)
+    settled_key v m =
+        omega (arith, ints, known.label_high v (settled_is_reached s v m), known.settled_depth v m, known.sized, certified.flow.few_nodes, near.at_least v)
 
-    root_from : (pos 0 <ℤ number_at e (root_to arcs s t)) × (key_at s (root_to arcs s t) ≡ pos 0)
-    root_from = from.roots (root_to arcs s t) root_is_root.0 root_is_root.1
+    pub reach_high : reach ≤ℤ (pos (label_floor + label_floor) +ℤ fallen)
+    reach_high = front.no_further _ (omega (arith, ints, near.not_below_0)) settled_key
+
+    pub fallen_further : (v : ℕ) → (neg_ℤ (pos label_floor) -ℤ (fallen +ℤ reach)) ≤ℤ number_at q v
+    fallen_further v = omega (arith, ints, (not_raised v (mark_at s v) refl).1, near.at_least v)
+
+    pub none_below_after : NoneBelow arcs x q
+    none_below_after = lowered_none_below arcs x p q s reach certified known all front.settled front.beyond low
+
+    pub potentials_after : ArePotentials (length q) potential_floor q
+    potentials_after = record {
+      sized = refl;
+      at_most_0 = λ v. omega (arith, ints, (not_raised v (mark_at s v) refl).0, certified.potentials.at_most_0 v);
+      at_least = λ v. omega (arith, ints, fallen_further v, reach_high, near.not_above);
+    }
+
+-- what was found can be pushed to, at first
+module _ (arcs : List ArcRow) (x p e : List ℤ) (s : List Visit) (t : ℕ)
+    (known : IsSearch arcs x p s) (from : IsFromExcess e s) (found : IsFoundDeficit e s t)
+  where
+    path_room : (d v : ℕ) → mark_at s v ≡ Settled → depth_at s v ≡ d → HasRoom arcs x (pos 1) (path_of arcs s d v)
+    path_room zero v settled deep = tt
+    path_room (suc d) v settled deep =
+        let traced = known.traced v (settled_is_reached s v settled) (omega arith) in
+        (omega (arith, ints, traced.residual.has_room), path_room d (before arcs s v) traced.settled (omega (arith, traced.deeper)))
+
+    pub can_push : CanPush arcs x e s t
+    can_push =
+        let root = root_reached arcs s (paths_of_search known) (depth_at s t) t found.settled refl in
+        record {
+          found = found;
+          room = path_room (depth_at s t) t found.settled refl;
+          in_excess = (from.roots (root_to arcs s t) (settled_is_reached s _ root.0) root.1).0;
+        }
+
+-- flow moved along the path to a node in deficit
+module _ (arcs : List ArcRow) (q x e : List ℤ) (s : List Visit) (t : ℕ) (m : ℤ) (f : List ℤ)
+    (state : IsUnderWay (length s) arcs q x e) (paths : HavePaths arcs s) (tight : ArePathsTight arcs q s) (found : IsFoundDeficit e s t)
+    (at_least_1 : pos 1 ≤ℤ m) (room : HasRoom arcs x m (path_to arcs s t)) (in_excess : m ≤ℤ number_at e (root_to arcs s t)) (in_deficit : number_at e t ≤ℤ neg_ℤ m)
+    (transfer : IsTransfer (root_to arcs s t) t m e f)
+  where
+    root_settled : (mark_at s (root_to arcs s t) ≡ Settled) × (depth_at s (root_to arcs s t) ≡ 0)
+    root_settled = root_reached arcs s paths (depth_at s t) t found.settled refl
 
     apart : root_to arcs s t ≡ t → ⊥
-    apart same = (let equal : number_at e (root_to arcs s t) ≡ number_at e t = ap (number_at e) same in omega (arith, ints, root_from.0, near.deficit, equal))
+    apart same = (let equal : number_at e (root_to arcs s t) ≡ number_at e t = ap (number_at e) same in omega (arith, ints, in_excess, at_least_1, found.deficit, equal))
 
-    -- the potentials lowered
-    module _ (q : List ℤ) (low : IsLowered p q s (key_at s t)) where
-      falls_at : (v : ℕ) (m : Mark) → mark_at s v ≡ m → number_at q v ≡ lowered_by m (number_at p v) (key_at s v) (key_at s t)
-      falls_at v m h = low v ∙ ap (λ (n : Mark). lowered_by n (number_at p v) (key_at s v) (key_at s t)) h
+    tight_path : (d v : ℕ) → mark_at s v ≡ Settled → depth_at s v ≡ d → IsTight arcs q (path_of arcs s d v)
+    tight_path zero v settled deep = tt
+    tight_path (suc d) v settled deep =
+        let came = paths v settled (omega arith) in
+        (tight v settled (omega arith), tight_path d (before arcs s v) came.before (omega (arith, came.deeper)))
 
-      level : (v : ℕ) → mark_at s v ≡ Settled → number_at q v ≡ (number_at p v +ℤ key_at s v) -ℤ key_at s t
-      level v m = omega (arith, ints, falls_at v Settled m)
+    hops_apart : AreApart arcs (path_to arcs s t)
+    hops_apart = path_apart arcs s paths (depth_at s t) t found.settled refl
 
-      tight_path : (d v : ℕ) → IsReached s v → depth_at s v ≡ d → number_at q v ≡ (number_at p v +ℤ key_at s v) -ℤ key_at s t → IsTight arcs q (path_of arcs s d v)
-      tight_path zero v reached deep here = tt
-      tight_path (suc d) v reached deep here =
-          let traced = known.traced v reached (omega arith) in
-          let k = arc_to s v in
-          let way = way_to s v in
-          let start = level (before arcs s v) traced.settled in
-          let p_end : number_at p (end_at arcs k way) ≡ number_at p v = ap (number_at p) traced.ends in
-          let q_end : number_at q (end_at arcs k way) ≡ number_at q v = ap (number_at q) traced.ends in
-          (omega (arith, ints, here, start, traced.tight, p_end, q_end), tight_path d (before arcs s v) (settled_is_reached s _ traced.settled) (omega (arith, traced.deeper)) start)
+    leads : IsPath arcs (path_to arcs s t) (root_to arcs s t) t
+    leads = path_leads arcs s paths (depth_at s t) t found.settled refl
 
-      pub tight_to_target : IsTight arcs q (path_to arcs s t)
-      tight_to_target = tight_path (depth_at s t) t target_reached refl (omega (arith, ints, falls_at t Open near.nearest.is_open))
+    f_root : number_at f (root_to arcs s t) ≡ number_at e (root_to arcs s t) -ℤ m
+    f_root = omega (arith, ints, transfer.by_node (root_to arcs s t), at_same (root_to arcs s t) m, at_other t m (root_to arcs s t) apart)
 
-      not_raised : (v : ℕ) (m : Mark) → mark_at s v ≡ m → (number_at q v ≤ℤ number_at p v) × ((number_at p v -ℤ key_at s t) ≤ℤ number_at q v)
-      not_raised v Unreached m = (omega (arith, ints, falls_at v Unreached m), omega (arith, ints, falls_at v Unreached m, known.key_at_least_0 t target_reached))
-      not_raised v Open m = (omega (arith, ints, falls_at v Open m), omega (arith, ints, falls_at v Open m, known.key_at_least_0 t target_reached))
-      not_raised v Settled m =
-          let within = is_reach.within v m in
-          (omega (arith, ints, falls_at v Settled m, within.1), omega (arith, ints, falls_at v Settled m, within.0))
+    f_target : number_at f t ≡ number_at e t +ℤ m
+    f_target = omega (arith, ints, transfer.by_node t, at_same t m, at_other (root_to arcs s t) m t (λ h. apart (sym h)))
 
-      deficit_kept : (v : ℕ) (m : Mark) → mark_at s v ≡ m → number_at e v <ℤ pos 0 → number_at q v ≡ number_at p v
-      deficit_kept v Unreached m h = falls_at v Unreached m
-      deficit_kept v Open m h = falls_at v Open m
-      deficit_kept v Settled m h = absurd (omega (arith, ints, h, from.no_deficit v m))
+    f_other : (v : ℕ) → (v ≡ root_to arcs s t → ⊥) → (v ≡ t → ⊥) → number_at f v ≡ number_at e v
+    f_other v not_root not_target = omega (arith, ints, transfer.by_node v, at_other (root_to arcs s t) m v not_root, at_other t m v not_target)
 
-      excess_falls : (v : ℕ) (m : Mark) → mark_at s v ≡ m → pos 0 <ℤ number_at e v → number_at q v ≡ number_at p v -ℤ key_at s t
-      excess_falls v Unreached m h = absurd ((from.sources v h).0 m)
-      excess_falls v Open m h = omega (arith, ints, falls_at v Open m, (from.sources v h).1, beyond v m, known.key_at_least_0 t target_reached)
-      excess_falls v Settled m h = omega (arith, ints, falls_at v Settled m, (from.sources v h).1)
+    by_three : (P : ℕ → Type 0) → P (root_to arcs s t) → P t → ((v : ℕ) → number_at f v ≡ number_at e v → P v) → (v : ℕ) → P v
+    by_three P at_root at_target elsewhere v = elim (cases_eq v (root_to arcs s t)) [
+      | inl same ↦ subst P (sym same) at_root
+      | inr not_root ↦ (elim (cases_eq v t) [
+        | inl same ↦ subst P (sym same) at_target
+        | inr not_target ↦ elsewhere v (f_other v not_root not_target)
+      ])
+    ]
 
-    -- and the path to the node in deficit augmented
-    module _ (y f : List ℤ) (small : AreSmall e) (sized_e : length e ≡ length p) (step : IsAugmented arcs s t x y e f) where
-      paths : HavePaths arcs x s
-      paths = paths_of_search known
+    small_after : AreSmall f
+    small_after = record {
+      low = by_three (λ v. neg_ℤ (pos excess_limit) ≤ℤ number_at f v) (omega (arith, ints, f_root, in_excess)) (omega (arith, ints, f_target, state.small.low t, at_least_1)) (λ v same. omega (arith, ints, same, state.small.low v));
+      high = by_three (λ v. number_at f v ≤ℤ pos excess_limit) (omega (arith, ints, f_root, state.small.high (root_to arcs s t), at_least_1)) (omega (arith, ints, f_target, in_deficit)) (λ v same. omega (arith, ints, same, state.small.high v));
+    }
 
-      hops_apart : AreApart arcs (path_to arcs s t)
-      hops_apart = path_apart arcs x s paths (depth_at s t) t target_reached refl
+    left_falls : left f < left e
+    left_falls =
+        left-less e f (root_to arcs s t) transfer.same_length (omega (arith, in_range s (root_to arcs s t) (settled_is_reached s _ root_settled.0), state.excess_sized))
+        (by_three (λ v. positive_part (number_at f v) ≤ positive_part (number_at e v))
+        (positive_part-mono (number_at f (root_to arcs s t)) (number_at e (root_to arcs s t)) (λ h. omega (arith, ints, f_root, at_least_1)))
+        (positive_part-mono (number_at f t) (number_at e t) (λ h. absurd (omega (arith, ints, h, f_target, in_deficit))))
+        (λ v same. positive_part-mono (number_at f v) (number_at e v) (λ h. omega (arith, ints, same))))
+        (positive_part-less (number_at f (root_to arcs s t)) (number_at e (root_to arcs s t)) (omega (arith, ints, in_excess, at_least_1)) (omega (arith, ints, f_root, at_least_1)))
 
-      f_root : number_at f (root_to arcs s t) ≡ number_at e (root_to arcs s t) -ℤ step.amount
-      f_root = omega (arith, ints, step.transfer.by_node (root_to arcs s t), at_same (root_to arcs s t) step.amount, at_other t step.amount (root_to arcs s t) apart)
+    net_after : (v : ℕ) → net arcs (push_along (path_to arcs s t) m x) v ≡ (net arcs x v +ℤ at_node (root_to arcs s t) m v) -ℤ at_node t m v
+    net_after v = net-along arcs (path_to arcs s t) m x (root_to arcs s t) t v leads hops_apart state.flow.same_length
 
-      f_target : number_at f t ≡ number_at e t +ℤ step.amount
-      f_target = omega (arith, ints, step.transfer.by_node t, at_same t step.amount, at_other (root_to arcs s t) step.amount t (λ h. apart (sym h)))
+    pub state_after : IsUnderWay (length s) arcs q (push_along (path_to arcs s t) m x) f
+    state_after = record {
+      flow = IsFlow-along (length s) arcs (path_to arcs s t) m x state.flow at_least_1 hops_apart room;
+      none_below = NoneBelow-along arcs q (path_to arcs s t) m x state.none_below (tight_path (depth_at s t) t found.settled refl);
+      excess_sized = transfer.same_length ∙ state.excess_sized;
+      small = small_after;
+    }
 
-      f_other : (v : ℕ) → (v ≡ root_to arcs s t → ⊥) → (v ≡ t → ⊥) → number_at f v ≡ number_at e v
-      f_other v not_root not_target = omega (arith, ints, step.transfer.by_node v, at_other (root_to arcs s t) step.amount v not_root, at_other t step.amount v not_target)
+    is_push : (supply : ℕ → ℤ) → IsExcess arcs supply x e → IsPush arcs supply x (push_along (path_to arcs s t) m x)
+    is_push supply is = record {
+      amount = m;
+      hops = path_to arcs s t;
+      source = root_to arcs s t;
+      target = t;
+      at_least_1 = at_least_1;
+      path = leads;
+      simple = path_simple arcs s paths (depth_at s t) t found.settled refl;
+      shift = IsShift-along arcs (path_to arcs s t) m x state.flow.same_length hops_apart;
+      in_excess = rw (← is (root_to arcs s t)) in_excess;
+      in_deficit = rw (← is t) in_deficit;
+    }
 
-      by_three : (P : ℕ → Type 0) → P (root_to arcs s t) → P t → ((v : ℕ) → number_at f v ≡ number_at e v → P v) → (v : ℕ) → P v
-      by_three P at_root at_target elsewhere v = elim (cases_eq v (root_to arcs s t)) [
-        | inl same ↦ subst P (sym same) at_root
-        | inr not_root ↦ (elim (cases_eq v t) [
-          | inl same ↦ subst P (sym same) at_target
-          | inr not_target ↦ elsewhere v (f_other v not_root not_target)
-        ])
-      ]
+    pub one_push : ArePushes arcs 1 x e (push_along (path_to arcs s t) m x) f
+    one_push = record {
+      excess = λ supply is v. omega (arith, ints, is v, net_after v, transfer.by_node v);
+      pushes = λ supply is. (x, refl, is_push supply is);
+      count = omega (arith, left_falls);
+      none = λ h. absurd (omega (arith, h));
+    }
 
-      -- a node in excess was in excess, and one in deficit was in deficit
-      pub excess_before : (v : ℕ) → pos 0 <ℤ number_at f v → pos 0 <ℤ number_at e v
-      excess_before = by_three (λ v. pos 0 <ℤ number_at f v → pos 0 <ℤ number_at e v)
-          (λ h. root_from.0)
-          (λ h. absurd (omega (arith, ints, f_target, step.in_deficit)))
-          (λ v same h. omega (arith, ints, same))
+-- ---- pushes one after the other
 
-      pub deficit_before : (v : ℕ) → number_at f v <ℤ pos 0 → number_at e v <ℤ pos 0
-      deficit_before = by_three (λ v. number_at f v <ℤ pos 0 → number_at e v <ℤ pos 0)
-          (λ h. absurd (omega (arith, ints, f_root, step.in_excess)))
-          (λ h. near.deficit)
-          (λ v same h. omega (arith, ints, same))
+pub ArePushes-none : (arcs : List ArcRow) (x e : List ℤ) → ArePushes arcs 0 x e x e
+ArePushes-none arcs x e = record {
+  excess = λ supply is. is;
+  pushes = λ supply is. refl;
+  count = omega arith;
+  none = λ h. (refl, refl);
+}
 
-      pub small_after : AreSmall f
-      small_after = record {
-        low = by_three (λ v. neg_ℤ (pos excess_limit) ≤ℤ number_at f v) (omega (arith, ints, f_root, step.in_excess)) (omega (arith, ints, f_target, small.low t, step.at_least_1)) (λ v same. omega (arith, ints, same, small.low v));
-        high = by_three (λ v. number_at f v ≤ℤ pos excess_limit) (omega (arith, ints, f_root, small.high (root_to arcs s t), step.at_least_1)) (omega (arith, ints, f_target, step.in_deficit)) (λ v same. omega (arith, ints, same, small.high v));
-      }
+Pushes-more : (arcs : List ArcRow) (supply : ℕ → ℤ) (m n : ℕ) (x y z : List ℤ) → Pushes arcs supply m x y → Pushes arcs supply n y z → Pushes arcs supply (n + m) x z
+Pushes-more arcs supply m zero x y z first rest =
+    let same : m ≡ zero + m = omega arith in
+    subst (λ (k : ℕ). Pushes arcs supply k x z) same (subst (λ (w : List ℤ). Pushes arcs supply m x w) rest first)
+Pushes-more arcs supply m (suc n) x y z first rest =
+    let same : suc (n + m) ≡ suc n + m = omega arith in
+    let more : Pushes arcs supply (suc (n + m)) x z = (rest.0, Pushes-more arcs supply m n x y rest.0 first rest.1, rest.2) in
+    subst (λ (k : ℕ). Pushes arcs supply k x z) same more
 
-      pub left_falls : left f < left e
-      left_falls =
-          left-less e f (root_to arcs s t) step.transfer.same_length (omega (arith, in_range s (root_to arcs s t) root_is_root.0, known.sized, sized_e))
-          (by_three (λ v. positive_part (number_at f v) ≤ positive_part (number_at e v))
-          (positive_part-mono (number_at f (root_to arcs s t)) (number_at e (root_to arcs s t)) (λ h. omega (arith, ints, f_root, step.at_least_1)))
-          (positive_part-mono (number_at f t) (number_at e t) (λ h. absurd (omega (arith, ints, h, f_target, step.in_deficit))))
-          (λ v same. positive_part-mono (number_at f v) (number_at e v) (λ h. omega (arith, ints, same))))
-          (positive_part-less (number_at f (root_to arcs s t)) (number_at e (root_to arcs s t)) root_from.0 (omega (arith, ints, f_root, step.at_least_1)))
+pub ArePushes-more : {arcs : List ArcRow} {m n : ℕ} {x e y f z g : List ℤ} → ArePushes arcs m x e y f → ArePushes arcs n y f z g → ArePushes arcs (m + n) x e z g
+ArePushes-more {arcs} {m} {n} {x} {e} {y} {f} {z} {g} first rest =
+    let turned : n + m ≡ m + n = omega arith in
+    record {
+      excess = λ supply is. rest.excess supply (first.excess supply is);
+      pushes = λ supply is. subst (λ (k : ℕ). Pushes arcs supply k x z) turned (Pushes-more arcs supply m n x y z (first.pushes supply is) (rest.pushes supply (first.excess supply is)));
+      count = omega (arith, first.count, rest.count);
+      none = λ h.
+          (let kept = first.none (omega arith) in
+          let still = rest.none (omega arith) in
+          (kept.0 ∙ still.0, kept.1 ∙ still.1));
+    }
 
-      pub flow_after : IsFlow (length p) arcs y
-      flow_after = subst (λ (z : List ℤ). IsFlow (length p) arcs z) (sym step.flow) (IsFlow-along (length p) arcs (path_to arcs s t) step.amount x certified.flow step.at_least_1 hops_apart step.room)
-
-      net_after : (v : ℕ) → net arcs y v ≡ (net arcs x v +ℤ at_node (root_to arcs s t) step.amount v) -ℤ at_node t step.amount v
-      net_after v = ap (λ (z : List ℤ). net arcs z v) step.flow ∙ net-along arcs (path_to arcs s t) step.amount x (root_to arcs s t) t v (path_leads arcs x s paths (depth_at s t) t target_reached refl) hops_apart certified.flow.same_length
-
-      pub excess_after : (supply : ℕ → ℤ) → IsExcess arcs supply x e → IsExcess arcs supply y f
-      excess_after supply is v = omega (arith, ints, is v, net_after v, step.transfer.by_node v)
-
-      pub is_push : (supply : ℕ → ℤ) → IsExcess arcs supply x e → IsPush arcs supply x y
-      is_push supply is = record {
-        amount = step.amount;
-        hops = path_to arcs s t;
-        source = root_to arcs s t;
-        target = t;
-        at_least_1 = step.at_least_1;
-        path = path_leads arcs x s paths (depth_at s t) t target_reached refl;
-        simple = path_simple arcs x s paths (depth_at s t) t target_reached refl;
-        shift = subst (λ (z : List ℤ). IsShift (path_to arcs s t) step.amount x z) (sym step.flow) (IsShift-along arcs (path_to arcs s t) step.amount x certified.flow.same_length hops_apart);
-        in_excess = rw (← is (root_to arcs s t)) step.in_excess;
-        in_deficit = rw (← is t) step.in_deficit;
-      }
-
-      module _ (p0 q : List ℤ) (fallen : ℤ) (all : AllRelaxed arcs x p s) (low : IsLowered p q s (key_at s t)) (sized_q : length q ≡ length p) (start : ArePotentials (length p) label_floor p0) (drift : IsDrift p0 p e fallen) where
-        reach_bound : (fallen +ℤ key_at s t) ≤ℤ pos drift_limit
-        reach_bound =
-            let path = label_path (depth_at s t) t target_reached refl in
-            omega (
-              arith,
-              ints,
-              path,
-              root_from.1,
-              drift.in_excess (root_to arcs s t) root_from.0,
-              drift.in_deficit t near.deficit,
-              start.at_most_0 (root_to arcs s t),
-              start.at_least t,
-              known.reached_depth t target_reached,
-              known.sized,
-              certified.flow.few_nodes,
-            )
-
-        pub drift_after : IsDrift p0 q f (fallen +ℤ key_at s t)
-        drift_after = record {
-          not_below_0 = omega (arith, ints, drift.not_below_0, known.key_at_least_0 t target_reached);
-          not_above = reach_bound;
-          in_excess = λ v h.
-              (let was = excess_before v h in
-              omega (arith, ints, excess_falls q low v (mark_at s v) refl was, drift.in_excess v was));
-          in_deficit = λ v h.
-              (let was = deficit_before v h in
-              omega (arith, ints, deficit_kept q low v (mark_at s v) refl was, drift.in_deficit v was));
-          at_least = λ v. omega (arith, ints, (not_raised q low v (mark_at s v) refl).1, drift.at_least v);
-        }
-
-        potentials_after : ArePotentials (length q) potential_floor q
-        potentials_after = record {
-          sized = refl;
-          at_most_0 = λ v. omega (arith, ints, (not_raised q low v (mark_at s v) refl).0, certified.potentials.at_most_0 v);
-          at_least = λ v. omega (arith, ints, drift_after.at_least v, drift_after.not_above, start.at_least v);
-        }
-
-        pub certified_after : IsCertified arcs y q
-        certified_after = record {
-          flow = subst (λ (n : ℕ). IsFlow n arcs y) (sym sized_q) flow_after;
-          potentials = potentials_after;
-          none_below = subst (λ (z : List ℤ). NoneBelow arcs z q) (sym step.flow)
-              (NoneBelow-along arcs q (path_to arcs s t) step.amount x (lowered_none_below arcs x p q s (key_at s t) certified known all is_reach beyond low) (tight_to_target q low));
-        }
+-- what could be pushed before no push can still be pushed
+pub still_can_push : {arcs : List ArcRow} {n : ℕ} {x e y f : List ℤ} {s : List Visit} {t : ℕ} → ArePushes arcs n x e y f → n ≡ 0 → CanPush arcs x e s t → CanPush arcs y f s t
+still_can_push {arcs} {n} {x} {e} {y} {f} {s} {t} pushed none can =
+    let same = pushed.none none in
+    subst (λ (z : List ℤ). CanPush arcs z f s t) same.0 (subst (λ (g : List ℤ). CanPush arcs x g s t) same.1 can)

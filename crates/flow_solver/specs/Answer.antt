@@ -2,15 +2,16 @@
 use Rattle.std.specs.Prelude.{◌≡◌, ℕ, ◌<◌, ℤ, pos, ◌<ℤ◌, ◌≤ℤ◌, Bool, false, List}
 use Rattle.dimacs_text.specs.declared.problem.ArcRow.{ArcRow}
 use Rattle.network.specs.Flow.{MinCost, total_cost, surplus_of, IsGreatestPotential, IsLeastGreatestSurplus, IsLeastGreatestShortfall}
-use Rattle.network.specs.Instance.{Demand, Supplies, Terminals, Sides, Instance, numbered_flow, worth, IsLegal, IsBest, IsBreach}
+use Rattle.network.specs.Instance.{Demand, Supplies, Terminals, Sides, Instance, numbered_flow, reduced_flow, worth, IsLegal, IsBest, IsBreach}
 use Rattle.flow_solver.specs.declared.verdict.Verdict.{Verdict}
 use Rattle.flow_solver.specs.declared.verdict.Verdict.TheVariants.{Best, Infeasible}
 use Rattle.flow_solver.specs.Residual.{number_at}
 use Rattle.flow_solver.specs.Push.{left}
 use Rattle.flow_solver.specs.Cut.{lack}
 
--- the numbered arcs of a flow of the reduced instance carry a best flow of this worth, and no node is marked
+-- the numbered arcs of a flow of the reduced instance carry a best flow of this worth, the return arc what the source sends out, and no node is marked
 pub record IsBestMoment (I : Instance) (flow : List ℤ) (set : ℕ → Bool) (w : ℤ) : Type 0 where
+  pub reduced_is : flow ≡ reduced_flow I (numbered_flow I.demand flow)
   pub best : IsBest I (numbered_flow I.demand flow)
   pub worth_is : w ≡ worth I (numbered_flow I.demand flow)
   pub none_marked : (v : ℕ) → set v ≡ false

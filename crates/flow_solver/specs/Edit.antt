@@ -56,13 +56,13 @@ IsOfArc (Close k) = Unit {0}
 abbrev pub AltersAt : ℕ → List ℤ → List ℤ → Type 0
 AltersAt place x start = (z : ℤ) × (start ≡ slice_set x place z)
 
--- at most the flow of the edited arc is altered, and a new arc has any
+-- at most the flow of the edited arc is altered, and a new arc has any within its bounds
 abbrev pub IsAltered : Instance → Edit → List ℤ → List ℤ → Type 0
 IsAltered I (Cap k cap) x start = AltersAt (place_of I k) x start
 IsAltered I (Low k low) x start = AltersAt (place_of I k) x start
 IsAltered I (Cost k cost) x start = AltersAt (place_of I k) x start
 IsAltered I (Supply v value) x start = start ≡ x
-IsAltered I (Add tail head low cap cost) x start = (z : ℤ) × (start ≡ x ++ z ∷ [])
+IsAltered I (Add tail head low cap cost) x start = (z : ℤ) × (low ≤ℤ z) × (z ≤ℤ cap) × (start ≡ x ++ z ∷ [])
 IsAltered I (Close k) x start = AltersAt (place_of I k) x start
 
 -- an edit of the instance I gave the instance J, and n pushes made the flow y of the flow x with the edited arc altered: no more than what was left
@@ -84,9 +84,10 @@ pub record IsRowEdit (I : Instance) (edit : Edit) (k : ℕ) (row : ArcRow) : Typ
   pub alters : (x start : List ℤ) → AltersAt (place_of I k) x start → IsAltered I edit x start
   pub moved : (q : ℕ → ℤ) (x z : ℤ) → IsWithin (slice_index_or I.arcs (k - 1) row) x → flow.FollowsSign q (slice_index_or I.arcs (k - 1) row) x → IsNearest row (flow.reduced_cost q row) x z → unsigned_abs (z -ℤ x) ≤ units I edit
 
--- `row` was added to the instance I, which gave the instance J: the flow x with some flow of the new arc became y by n pushes
+-- `row` was added to the instance I, which gave the instance J: the flow x with some flow of the new arc within its bounds became y by n pushes
 pub record IsAdded (I J : Instance) (row : ArcRow) (x y : List ℤ) (n : ℕ) : Type 0 where
   pub flow : ℤ
+  pub within : IsWithin row flow
   pub pushes : Pushes (reduced J).arcs (reduced J).supply n (x ++ flow ∷ []) y
   pub count : pos n ≤ℤ (total_excess (reduced I) x +ℤ pos (unsigned_abs row.cap))
 

@@ -11,4 +11,5 @@ pub mod Queue
 pub mod Walk
 pub mod Answer
 pub mod Moment
-pub mod Swap
+pub mod Desk
+pub mod Part

@@ -37,9 +37,9 @@ cost_limit = 1000000000000
 abbrev pub label_floor : ℕ
 label_floor = 50000000000000000
 
--- how far potentials sink from there in the searches of one run
+-- how far potentials sink from there before labels are taken again
 abbrev pub drift_limit : ℕ
-drift_limit = 110000000000000000
+drift_limit = 70000000000000000
 
 -- how far a potential lies below 0 between two searches
 abbrev pub potential_floor : ℕ

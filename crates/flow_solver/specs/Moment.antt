@@ -1,11 +1,14 @@
 -- What the tables of a solver hold of an instance.
-use Rattle.std.specs.Prelude.{◌≡◌, ℕ, ◌+◌, ◌≤◌, ℤ, pos, int_lt, Bool, List, length, map, replicate, if◌then◌else◌}
+use Rattle.std.specs.Prelude.{◌≡◌, ℕ, ◌+◌, ◌≤◌, ℤ, pos, ◌≤ℤ◌, int_lt, ⊤, Bool, List, [], ◌∷◌, ◌++◌, length, map, replicate, if◌then◌else◌}
 use Rattle.dimacs_text.specs.declared.problem.ArcRow.{ArcRow}
-use Rattle.network.specs.Instance.{Instance, IsLawful, reduced}
+use Rattle.network.specs.Instance.{Demand, Supplies, Terminals, Sides, Instance, IsLawful, numbered_flow, reduced}
+use Rattle.network.specs.declared.TheConstants.{RETURN_CAP}
 use Rattle.flow_solver.specs.declared.verdict.Verdict.{Verdict}
+use Rattle.flow_solver.specs.declared.verdict.Verdict.TheVariants.{Best, Infeasible}
 use Rattle.flow_solver.specs.declared.visit.Visit.{Visit}
 use Rattle.flow_solver.specs.declared.queue.Queue.{Queue}
 use Rattle.flow_solver.specs.Nodes.{IsIdleEntry}
+use Rattle.flow_solver.specs.Residual.{number_at}
 use Rattle.flow_solver.specs.Queue.{IsQueueFor}
 
 -- an instance, a flow of its reduction, a potential for each node, what is told of the instance, and a mark for each node
@@ -16,8 +19,10 @@ pub record Moment : Type 0 where
   pub verdict : Verdict
   pub cut : List Bool
 
--- one potential and one mark for each node
+-- a lawful instance, with one flow for each arc of its reduction, and one potential and one mark for each node
 pub record IsSized (m : Moment) : Type 0 where
+  pub lawful : IsLawful m.instance
+  pub one_flow : length m.flow ≡ length (reduced m.instance).arcs
   pub one_potential : length m.potentials ≡ m.instance.nodes
   pub one_mark : length m.cut ≡ m.instance.nodes
 
@@ -44,3 +49,40 @@ pub record IsStart (I : Instance) (m : Moment) : Type 0 where
   pub instance : m.instance ≡ I
   pub flow : m.flow ≡ map start (reduced I).arcs
   pub potentials : m.potentials ≡ replicate I.nodes (pos 0)
+
+-- ---- what is told and the return arc
+
+-- a best flow is told of, of a worth that the return arc can carry
+abbrev pub IsReturnVerdict : Verdict → Type 0
+IsReturnVerdict (Best w) = (pos 0 ≤ℤ w) × (w ≤ℤ RETURN_CAP)
+IsReturnVerdict (Infeasible d) = ⊥
+
+-- what may be told of an instance of this kind
+abbrev pub VerdictFits : Demand → Verdict → Type 0
+VerdictFits (Supplies supplies) verdict = ⊤
+VerdictFits (Terminals source sink) verdict = IsReturnVerdict verdict
+VerdictFits (Sides marks) verdict = ⊤
+
+abbrev pub TellsReturnBy : Demand → Verdict → List ℤ → Type 0
+TellsReturnBy (Supplies supplies) verdict flow = ⊤
+TellsReturnBy (Terminals source sink) verdict flow = verdict ≡ Best (number_at flow 0)
+TellsReturnBy (Sides marks) verdict flow = ⊤
+
+-- where there is a return arc, its flow is told as the worth
+abbrev pub TellsReturn : Moment → Type 0
+TellsReturn m = TellsReturnBy m.instance.demand m.verdict m.flow
+
+-- what is told as the flow of the return arc, where there is one
+abbrev pub returned : Demand → Verdict → List ℤ
+returned (Supplies supplies) verdict = []
+returned (Terminals source sink) (Best w) = w ∷ []
+returned (Terminals source sink) (Infeasible d) = []
+returned (Sides marks) verdict = []
+
+-- the flow once the return arc carries what is told
+abbrev pub with_return : Demand → Verdict → List ℤ → List ℤ
+with_return demand verdict flow = returned demand verdict ++ numbered_flow demand flow
+
+-- the moment once this is told of it
+abbrev pub with_verdict : Moment → Verdict → Moment
+with_verdict m verdict = record m { verdict = verdict; flow = with_return m.instance.demand verdict m.flow }

@@ -1,14 +1,15 @@
 -- Flow that is pushed along a path of arcs, from a node in excess to a node in deficit.
 use Rattle.network.specs.Flow.{net}
 use Rattle.flow_solver.specs.Limits.{excess_limit, supply_limit}
-use Rattle.std.specs.Prelude.{◌≡◌, ◌≢◌, ℕ, zero, suc, ◌+◌, ◌<◌, ℤ, pos, negsuc, neg_ℤ, ◌-ℤ◌, ◌+ℤ◌, ◌≤ℤ◌, List, [], ◌∷◌, length, slice_set, if◌then◌else◌, ◌==◌}
+use Rattle.std.specs.Prelude.{◌≡◌, ◌≢◌, ℕ, zero, suc, ◌+◌, ◌<◌, ◌≤◌, ℤ, pos, negsuc, neg_ℤ, ◌-ℤ◌, ◌+ℤ◌, ◌≤ℤ◌, ◌<ℤ◌, List, [], ◌∷◌, length, slice_set, if◌then◌else◌, ◌==◌}
 use Rattle.std.specs.List.{All, AllPairs, sum_by}
 use Rattle.dimacs_text.specs.declared.problem.ArcRow.{ArcRow}
 use Rattle.flow_solver.specs.declared.residual.Way.{Way}
 use Rattle.flow_solver.specs.declared.residual.Way.TheVariants.{Forward, Backward}
 use Rattle.flow_solver.specs.declared.visit.Visit.{Visit}
-use Rattle.flow_solver.specs.Residual.{number_at, arc_at, start_at, end_at, cost_at, room_of, IsResidual}
-use Rattle.flow_solver.specs.Search.{visit_at, depth_at, IsReached}
+use Rattle.flow_solver.specs.declared.visit.Mark.TheVariants.{Settled}
+use Rattle.flow_solver.specs.Residual.{IsFlow, NoneBelow, number_at, arc_at, start_at, end_at, cost_at, room_of}
+use Rattle.flow_solver.specs.Search.{visit_at, mark_at, depth_at, IsFoundDeficit}
 
 -- an arc taken in one of its two directions
 pub record Hop : Type 0 where
@@ -81,16 +82,16 @@ root_of arcs s (suc d) v = root_of arcs s d (start_at arcs (visit_at s v).arc (v
 abbrev pub path_to : List ArcRow → List Visit → ℕ → List Hop
 path_to arcs s v = path_of arcs s (depth_at s v) v
 
--- the search came to v along a residual arc from a node that is one hop nearer to the beginning
-pub record IsCameBy (arcs : List ArcRow) (x : List ℤ) (s : List Visit) (v k : ℕ) (way : Way) : Type 0 where
-  pub residual : IsResidual arcs x k way
+-- the search came to v along an arc from a settled node that is one hop nearer to the beginning
+pub record IsCameBy (arcs : List ArcRow) (s : List Visit) (v k : ℕ) (way : Way) : Type 0 where
+  pub is_arc : k < length arcs
   pub ends : end_at arcs k way ≡ v
-  pub before : IsReached s (start_at arcs k way)
+  pub before : mark_at s (start_at arcs k way) ≡ Settled
   pub deeper : depth_at s v ≡ depth_at s (start_at arcs k way) + 1
 
--- behind each node that was reached lies a path of residual arcs
-abbrev pub HavePaths : List ArcRow → List ℤ → List Visit → Type 0
-HavePaths arcs x s = (v : ℕ) → IsReached s v → 0 < depth_at s v → IsCameBy arcs x s v (visit_at s v).arc (visit_at s v).way
+-- behind each settled node lies a path of arcs
+abbrev pub HavePaths : List ArcRow → List Visit → Type 0
+HavePaths arcs s = (v : ℕ) → mark_at s v ≡ Settled → 0 < depth_at s v → IsCameBy arcs s v (visit_at s v).arc (visit_at s v).way
 
 -- m more fits on each hop
 abbrev pub HasRoom : List ArcRow → List ℤ → ℤ → List Hop → Type 0
@@ -102,11 +103,19 @@ abbrev pub push_along : List Hop → ℤ → List ℤ → List ℤ
 push_along [] m x = x
 push_along (h ∷ hops) m x = push_along hops m (slice_set x h.arc (moved h.way (number_at x h.arc) m))
 
+-- the residual arc along arc k costs nothing under the potentials q
+abbrev pub IsTightArc : List ArcRow → List ℤ → ℕ → Way → Type 0
+IsTightArc arcs q k way = number_at q (end_at arcs k way) ≡ cost_at arcs k way +ℤ number_at q (start_at arcs k way)
+
+-- nor does any arc by which the search came to a settled node
+abbrev pub ArePathsTight : List ArcRow → List ℤ → List Visit → Type 0
+ArePathsTight arcs q s = (v : ℕ) → mark_at s v ≡ Settled → 0 < depth_at s v → IsTightArc arcs q (visit_at s v).arc (visit_at s v).way
+
 -- no hop of the path costs anything under the potentials q
 abbrev pub IsTight : List ArcRow → List ℤ → List Hop → Type 0
 IsTight arcs q [] = Unit {0}
 IsTight arcs q (h ∷ hops) =
-    (number_at q (end_at arcs h.arc h.way) ≡ cost_at arcs h.arc h.way +ℤ number_at q (start_at arcs h.arc h.way)) × IsTight arcs q hops
+    IsTightArc arcs q h.arc h.way × IsTight arcs q hops
 
 -- m at node u, and nothing at another node
 abbrev pub at_node : ℕ → ℤ → ℕ → ℤ
@@ -125,15 +134,25 @@ pub record IsTransfer (u w : ℕ) (m : ℤ) (e f : List ℤ) : Type 0 where
 abbrev pub root_to : List ArcRow → List Visit → ℕ → ℕ
 root_to arcs s v = root_of arcs s (depth_at s v) v
 
--- the path to `target` was augmented: a flow x and excesses e became y and f
-pub record IsAugmented (arcs : List ArcRow) (s : List Visit) (target : ℕ) (x y e f : List ℤ) : Type 0 where
-  pub amount : ℤ
-  pub at_least_1 : pos 1 ≤ℤ amount
-  pub room : HasRoom arcs x amount (path_to arcs s target)
-  pub in_excess : amount ≤ℤ number_at e (root_to arcs s target)
-  pub in_deficit : number_at e target ≤ℤ neg_ℤ amount
-  pub flow : y ≡ push_along (path_to arcs s target) amount x
-  pub transfer : IsTransfer (root_to arcs s target) target amount e f
+-- a flow within the bounds, under which no residual arc has a reduced cost below 0 under the potentials q, and what lies in excess
+pub record IsUnderWay (nodes : ℕ) (arcs : List ArcRow) (q x e : List ℤ) : Type 0 where
+  pub flow : IsFlow nodes arcs x
+  pub none_below : NoneBelow arcs x q
+  pub excess_sized : length e ≡ nodes
+  pub small : AreSmall e
+
+-- n pushes lead from a flow x with excesses e to a flow y with excesses f
+pub record ArePushes (arcs : List ArcRow) (n : ℕ) (x e y f : List ℤ) : Type 0 where
+  pub excess : (supply : ℕ → ℤ) → IsExcess arcs supply x e → IsExcess arcs supply y f
+  pub pushes : (supply : ℕ → ℤ) → IsExcess arcs supply x e → Pushes arcs supply n x y
+  pub count : n + left f ≤ left e
+  pub none : n ≡ 0 → (x ≡ y) × (e ≡ f)
+
+-- node t lacks something that can be pushed along its path
+pub record CanPush (arcs : List ArcRow) (x e : List ℤ) (s : List Visit) (t : ℕ) : Type 0 where
+  pub found : IsFoundDeficit e s t
+  pub room : HasRoom arcs x (pos 1) (path_to arcs s t)
+  pub in_excess : pos 0 <ℤ number_at e (root_to arcs s t)
 
 -- the sum of all capacities
 abbrev pub cap_total : List ArcRow → ℕ

@@ -119,6 +119,7 @@ pub record Settles (s t : List Visit) (u : ℕ) : Type 0 where
   pub same_length : length t ≡ length s
   pub one_less : unsettled t + 1 ≡ unsettled s
   pub now_settled : mark_at t u ≡ Settled
+  pub key_kept : key_at t u ≡ key_at s u
   pub settled_before : (v : ℕ) → mark_at t v ≡ Settled → (v ≡ u) ⊎ (mark_at s v ≡ Settled)
   pub settled_kept : (v : ℕ) → mark_at s v ≡ Settled → visit_at t v ≡ visit_at s v
   pub reached_kept : (v : ℕ) → IsReached s v → IsReached t v
@@ -132,15 +133,18 @@ settled_visit e = record { mark = Settled; key = e.key; depth = e.depth; arc = e
 abbrev pub source_visit : ℤ → Visit
 source_visit e = record { mark = cond (int_lt (pos 0) e) Open Unreached; key = pos 0; depth = 0; arc = 0; way = Forward }
 
--- what the search for a node in deficit knows of the nodes in excess
+-- what the search for nodes in deficit knows of the nodes in excess
 pub record IsFromExcess (excess : List ℤ) (s : List Visit) : Type 0 where
   pub sources : (v : ℕ) → pos 0 <ℤ number_at excess v → IsReached s v × (key_at s v ≡ pos 0)
   pub roots : (v : ℕ) → IsReached s v → depth_at s v ≡ 0 → (pos 0 <ℤ number_at excess v) × (key_at s v ≡ pos 0)
-  pub no_deficit : (v : ℕ) → mark_at s v ≡ Settled → pos 0 ≤ℤ number_at excess v
 
--- t is in deficit, and no open node is nearer
-pub record IsNearestDeficit (excess : List ℤ) (s : List Visit) (t : ℕ) : Type 0 where
-  pub nearest : IsLeastOpen s (length s) t
+-- no settled node is in deficit
+abbrev pub NoDeficit : List ℤ → List Visit → Type 0
+NoDeficit excess s = (v : ℕ) → mark_at s v ≡ Settled → pos 0 ≤ℤ number_at excess v
+
+-- node t is settled, and in deficit
+pub record IsFoundDeficit (excess : List ℤ) (s : List Visit) (t : ℕ) : Type 0 where
+  pub settled : mark_at s t ≡ Settled
   pub deficit : number_at excess t <ℤ pos 0
 
 -- a settled node's potential falls by what the node is nearer than `reach`
@@ -156,6 +160,29 @@ lowered potential e reach = lowered_by e.mark potential e.key reach
 pub record IsReach (s : List Visit) (reach : ℤ) : Type 0 where
   pub not_far : reach ≤ℤ pos key_limit
   pub within : (v : ℕ) → mark_at s v ≡ Settled → (pos 0 ≤ℤ key_at s v) × (key_at s v ≤ℤ reach)
+
+-- the search has come as far as `reach`, to the furthest settled node: no open one is nearer
+pub record IsFront (s : List Visit) (reach : ℤ) : Type 0 where
+  pub not_below_0 : pos 0 ≤ℤ reach
+  pub settled : IsReach s reach
+  pub beyond : (v : ℕ) → mark_at s v ≡ Open → reach ≤ℤ key_at s v
+  pub no_further : (bound : ℤ) → pos 0 ≤ℤ bound → ((v : ℕ) → mark_at s v ≡ Settled → key_at s v ≤ℤ bound) → reach ≤ℤ bound
+
+-- the search has come as far as `reach`, and found so many nodes in deficit
+pub record IsFinding (excess : List ℤ) (s : List Visit) (reach : ℤ) (found : ℕ) : Type 0 where
+  pub front : IsFront s reach
+  pub none : found ≡ 0 → NoDeficit excess s
+  pub some : 0 < found → (t : ℕ) × IsFoundDeficit excess s t
+
+-- no node is open, and no node in deficit was found
+pub record IsExhausted (excess : List ℤ) (s : List Visit) : Type 0 where
+  pub none_open : NoneOpen s (length s)
+  pub no_deficit : NoDeficit excess s
+
+-- the search has come as far as `reach`, and found a node in deficit
+pub record HasFound (excess : List ℤ) (s : List Visit) (reach : ℤ) : Type 0 where
+  pub front : IsFront s reach
+  pub found : (t : ℕ) × IsFoundDeficit excess s t
 
 -- p is lowered to q
 abbrev pub IsLowered : List ℤ → List ℤ → List Visit → ℤ → Type 0

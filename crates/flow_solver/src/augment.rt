@@ -1,9 +1,10 @@
 //! Flow pushed along the path that a search found.
 
-ghost use Rattle.std.specs.Prelude.{◌≡◌, ◌≢◌, ℕ, ℤ, List, length, slice_set, pos, neg_ℤ, ◌≤ℤ◌, ◌<ℤ◌, ◌+ℤ◌, ◌-ℤ◌, ◌<◌, ◌≤◌, ◌+◌};
+ghost use Rattle.std.specs.Prelude.{◌≡◌, ◌≢◌, ℕ, ℤ, List, length, slice_set, pos, neg_ℤ, ◌≤ℤ◌, ◌<ℤ◌, ◌+ℤ◌, ◌-ℤ◌, ◌<◌, ◌≤◌, ◌+◌, IsTrue, ◌↔◌};
 ghost use Rattle.flow_solver.specs.Residual.{IsRow, IsWithin, IsFlow, NoneBelow, number_at, arc_at, start_at, room_of};
-ghost use Rattle.flow_solver.specs.Search.{visit_at, depth_at, IsReached, IsFromExcess};
-ghost use Rattle.flow_solver.specs.Push.{IsCameBy, HavePaths, HasRoom, path_of, path_to, root_of, root_to, push_along, moved, IsExcess, IsPush, IsTight, left, AreSmall, IsTransfer, IsAugmented};
+ghost use Rattle.flow_solver.specs.Search.{visit_at, mark_at, IsFoundDeficit};
+ghost use Rattle.flow_solver.specs.Push.{IsCameBy, HavePaths, ArePathsTight, HasRoom, path_to, root_to, push_along, moved, AreSmall, IsTransfer, IsUnderWay, ArePushes, CanPush};
+ghost use Rattle.flow_solver.specs.declared.visit.Mark.TheVariants.{Settled};
 
 use crate::residual::Way;
 use crate::visit::Visit;
@@ -18,13 +19,12 @@ fn bottleneck(
     limit: i64,
 ) -> (usize, i64)
     requires flow { IsFlow (length visits.now) rows.now flow.now }
-    requires paths { HavePaths rows.now flow.now visits.now }
-    requires reached { IsReached visits.now target }
-    requires limit { pos 1 ≤ℤ limit }
-    ensures root { result.0 ≡ root_of rows.now visits.now (depth_at visits.now target) target }
-    ensures at_least_1 { pos 1 ≤ℤ result.1 }
+    requires paths { HavePaths rows.now visits.now }
+    requires settled { mark_at visits.now target ≡ Settled }
+    ensures root { result.0 ≡ root_to rows.now visits.now target }
     ensures at_most { result.1 ≤ℤ limit }
     ensures room { HasRoom rows.now flow.now result.1 (path_to rows.now visits.now target) }
+    ensures some { pos 1 ≤ℤ limit → HasRoom rows.now flow.now (pos 1) (path_to rows.now visits.now target) → pos 1 ≤ℤ result.1 }
 {
     let mut node = target;
     let mut room = limit;
@@ -44,12 +44,11 @@ fn step_back(
 ) -> (usize, i64)
     requires flow { IsFlow (length visits.now) rows.now flow.now }
     requires node_in { node < length visits.now }
-    requires came { IsCameBy rows.now flow.now visits.now node (visit_at visits.now node).arc (visit_at visits.now node).way }
-    requires room { pos 1 ≤ℤ room }
+    requires came { IsCameBy rows.now visits.now node (visit_at visits.now node).arc (visit_at visits.now node).way }
     ensures node { result.0 ≡ start_at rows.now (visit_at visits.now node).arc (visit_at visits.now node).way }
-    ensures at_least_1 { pos 1 ≤ℤ result.1 }
     ensures at_most { result.1 ≤ℤ room }
     ensures fits { result.1 ≤ℤ room_of (arc_at rows.now (visit_at visits.now node).arc) (number_at flow.now (visit_at visits.now node).arc) (visit_at visits.now node).way }
+    ensures most { (m : ℤ) → m ≤ℤ room → m ≤ℤ room_of (arc_at rows.now (visit_at visits.now node).arc) (number_at flow.now (visit_at visits.now node).arc) (visit_at visits.now node).way → m ≤ℤ result.1 }
 {
     let visit = visits[node];
     let row = rows[visit.arc as usize];
@@ -60,8 +59,8 @@ fn step_back(
 /// Moves `amount` along the path to `target`.
 fn shift(rows: &[ArcRow], flow: &mut [i64], visits: &[Visit], target: usize, amount: i64)
     requires flow { IsFlow (length visits.now) rows.now flow.old }
-    requires paths { HavePaths rows.now flow.old visits.now }
-    requires reached { IsReached visits.now target }
+    requires paths { HavePaths rows.now visits.now }
+    requires settled { mark_at visits.now target ≡ Settled }
     requires amount { pos 1 ≤ℤ amount }
     requires room { HasRoom rows.now flow.old amount (path_to rows.now visits.now target) }
     ensures { flow.new ≡ push_along (path_to rows.now visits.now target) amount flow.old }
@@ -124,29 +123,7 @@ fn transfer(excess: &mut [i64], source: usize, target: usize, amount: i64)
     excess[target] += amount;
 }
 
-/// Pushes as much flow as fits along the path that the search found to a node in deficit.
-pub fn augment(
-    rows: &[ArcRow],
-    flow: &mut [i64],
-    excess: &mut [i64],
-    visits: &[Visit],
-    target: usize,
-)
-    requires flow { IsFlow (length visits.now) rows.now flow.old }
-    requires paths { HavePaths rows.now flow.old visits.now }
-    requires excess_in { length excess.old ≡ length visits.now }
-    requires small { AreSmall excess.old }
-    requires roots { (v : ℕ) → IsReached visits.now v → depth_at visits.now v ≡ 0 → pos 0 <ℤ number_at excess.old v }
-    requires reached { IsReached visits.now target }
-    requires deficit { number_at excess.old target <ℤ pos 0 }
-    ensures { IsAugmented rows.now visits.now target flow.old flow.new excess.old excess.new }
-{
-    let (root, amount) = amount_along(rows, flow, excess, visits, target);
-    shift(rows, flow, visits, target, amount);
-    transfer(excess, root, target, amount);
-}
-
-/// Where the path to `target` begins, and how much can be pushed along it.
+/// Where the path to `target` begins, and how much can be pushed along it: nothing where this is below 1.
 fn amount_along(
     rows: &[ArcRow],
     flow: &[i64],
@@ -155,22 +132,79 @@ fn amount_along(
     target: usize,
 ) -> (usize, i64)
     requires flow { IsFlow (length visits.now) rows.now flow.now }
-    requires paths { HavePaths rows.now flow.now visits.now }
+    requires paths { HavePaths rows.now visits.now }
     requires excess_in { length excess.now ≡ length visits.now }
     requires small { AreSmall excess.now }
-    requires roots { (v : ℕ) → IsReached visits.now v → depth_at visits.now v ≡ 0 → pos 0 <ℤ number_at excess.now v }
-    requires reached { IsReached visits.now target }
-    requires deficit { number_at excess.now target <ℤ pos 0 }
+    requires found { IsFoundDeficit excess.now visits.now target }
     ensures root { result.0 ≡ root_to rows.now visits.now target }
-    ensures root_in { result.0 < length excess.now }
-    ensures apart { result.0 ≢ target }
-    ensures at_least_1 { pos 1 ≤ℤ result.1 }
     ensures in_excess { result.1 ≤ℤ number_at excess.now result.0 }
     ensures in_deficit { number_at excess.now target ≤ℤ neg_ℤ result.1 }
     ensures room { HasRoom rows.now flow.now result.1 (path_to rows.now visits.now target) }
+    ensures some { CanPush rows.now flow.now excess.now visits.now target → pos 1 ≤ℤ result.1 }
 {
     let limit = -excess[target];
     let (root, room) = bottleneck(rows, flow, visits, target, limit);
     let surplus = excess[root];
     (root, room.min(surplus))
+}
+
+/// Whether the search found a node, and something is still lacking there.
+fn is_found_deficit(excess: &[i64], visits: &[Visit], v: usize) -> bool
+    requires v_in { v < length visits.now }
+    requires excess_in { length excess.now ≡ length visits.now }
+    ensures { IsTrue result ↔ IsFoundDeficit excess.now visits.now v }
+{
+    excess[v] < 0 && visits[v].is_settled()
+}
+
+/// Pushes what fits along the path to a node, if the search found it and it is in deficit; gives the number of pushes,
+/// 0 or 1.
+fn push_to(
+    rows: &[ArcRow],
+    flow: &mut [i64],
+    potentials: &[i64],
+    excess: &mut [i64],
+    visits: &[Visit],
+    target: usize,
+) -> u64
+    requires state { IsUnderWay (length visits.now) rows.now potentials.now flow.old excess.old }
+    requires paths { HavePaths rows.now visits.now }
+    requires tight { ArePathsTight rows.now potentials.now visits.now }
+    requires target_in { target < length visits.now }
+    ensures state { IsUnderWay (length visits.now) rows.now potentials.now flow.new excess.new }
+    ensures pushes { ArePushes rows.now result flow.old excess.old flow.new excess.new }
+    ensures some { CanPush rows.now flow.old excess.old visits.now target → 0 < result }
+{
+    if !is_found_deficit(excess, visits, target) {
+        return 0;
+    }
+    let (root, amount) = amount_along(rows, flow, excess, visits, target);
+    if amount < 1 {
+        return 0;
+    }
+    shift(rows, flow, visits, target, amount);
+    transfer(excess, root, target, amount);
+    1
+}
+
+/// Pushes along the paths to the nodes in deficit that the search found, and counts the pushes.
+pub fn push_found(
+    rows: &[ArcRow],
+    flow: &mut [i64],
+    potentials: &[i64],
+    excess: &mut [i64],
+    visits: &[Visit],
+) -> u64
+    requires state { IsUnderWay (length visits.now) rows.now potentials.now flow.old excess.old }
+    requires paths { HavePaths rows.now visits.now }
+    requires tight { ArePathsTight rows.now potentials.now visits.now }
+    ensures state { IsUnderWay (length visits.now) rows.now potentials.now flow.new excess.new }
+    ensures pushes { ArePushes rows.now result flow.old excess.old flow.new excess.new }
+    ensures some { (t : ℕ) → CanPush rows.now flow.old excess.old visits.now t → 0 < result }
+{
+    let mut pushes = 0;
+    for target in 0..visits.len() {
+        pushes += push_to(rows, flow, potentials, excess, visits, target);
+    }
+    pushes
 }

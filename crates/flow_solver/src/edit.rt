@@ -13,7 +13,7 @@ ghost use Rattle.flow_solver.specs.Residual.{IsRow, IsCertified, ArePotentials, 
 ghost use Rattle.flow_solver.specs.Nodes.{IsIdleEntry};
 ghost use Rattle.flow_solver.specs.Queue.{IsQueueFor};
 ghost use Rattle.flow_solver.specs.Walk.{AreRowsOf};
-ghost use Rattle.flow_solver.specs.Swap.{supplies_in};
+ghost use Rattle.flow_solver.specs.Desk.{supplies_in};
 ghost use Rattle.flow_solver.specs.Answer.{AreGreatestPotentials, IsChosenCut, IsVerdict};
 ghost use Rattle.flow_solver.specs.Edit.{reduced_cost, IsNearest, IsAddEdit, IsOfAdd, IsOfArc, IsOfSupply, IsSupplyEdit, IsRowChanged, IsRowEdit, IsSupplyChanged};
 
@@ -213,7 +213,7 @@ pub fn put_row(net: &mut Network, rows: &mut Vec<ArcRow>, row: ArcRow)
 }
 
 /// The arc with this number, which is there.
-fn arc_of(net: &Network, k: u64) -> ArcRow
+pub fn arc_of(net: &Network, k: u64) -> ArcRow
     requires lawful { IsLawful net.now }
     requires there { (row : ArcRow) × (number_at_arc net.now.arcs k ≡ Some row) }
     ensures { number_at_arc net.now.arcs k ≡ Some result }

@@ -3,7 +3,7 @@
 ghost use Rattle.std.specs.Prelude.{◌≡◌, ℕ, pos, ◌≤ℤ◌, ◌+ℤ◌, ◌-ℤ◌, ◌<◌, ◌≤◌, IsTrue, ◌↔◌, length, slice_index, None, MatchOption, ◌+◌};
 ghost use Rattle.flow_solver.specs.Limits.{entry_limit, key_limit, potential_floor};
 ghost use Rattle.flow_solver.specs.Residual.{IsRow, IsFlow, IsCertified, ArePotentials, IsResidual, IsResidualFrom, number_at, start_at, start_of, end_of, cost_of};
-ghost use Rattle.flow_solver.specs.Search.{IsSearch, IsLastSettled, Improves, IsRelaxed, IsRelaxedFrom, AllRelaxed, Settles, visit_at, key_at, source_visit, root_visit, IsFromExcess, IsFromAll, IsNearestDeficit, NoneOpen};
+ghost use Rattle.flow_solver.specs.Search.{IsSearch, IsLastSettled, Improves, IsRelaxed, IsRelaxedFrom, AllRelaxed, Settles, visit_at, key_at, source_visit, root_visit, IsFromExcess, IsFromAll, IsExhausted, HasFound, NoneOpen};
 ghost use Rattle.flow_solver.specs.Queue.{IsQueueOf, IsQueueFor};
 ghost use Rattle.flow_solver.specs.Walk.{AreRowsOf, ArePassedRelaxed};
 ghost use Rattle.flow_solver.specs.declared.residual.Way.{Way};
@@ -271,8 +271,16 @@ fn open_sources(excess: &[i64], visits: &mut [Visit], queue: &mut Queue)
     }
 }
 
-/// Searches from the nodes in excess until a node in deficit is the nearest.
-pub fn find_deficit(
+/// How many nodes in deficit one search looks for: more than half of them.
+fn wanted_deficits(excess: &[i64]) -> usize
+    ensures { 0 < result }
+{
+    excess.iter().filter(|e| **e < 0).count() / 2 + 1
+}
+
+/// Searches from the nodes in excess until enough nodes in deficit are settled, or no node is open, and gives how far
+/// the search has come; nothing where no node in deficit can be reached.
+pub fn find_deficits(
     net: &Network,
     rows: &[ArcRow],
     flow: &[i64],
@@ -280,7 +288,7 @@ pub fn find_deficit(
     excess: &[i64],
     visits: &mut [Visit],
     queue: &mut Queue,
-) -> Option<usize>
+) -> Option<i64>
     requires net { AreRowsOf net.now rows.now }
     requires certified { IsCertified rows.now flow.now potentials.now }
     requires excess_in { length excess.now ≡ length potentials.now }
@@ -289,18 +297,25 @@ pub fn find_deficit(
     ensures search { IsSearch rows.now flow.now potentials.now visits.new }
     ensures relaxed { AllRelaxed rows.now flow.now potentials.now visits.new }
     ensures from_excess { IsFromExcess excess.now visits.new }
-    ensures found { MatchOption result (NoneOpen visits.new (length visits.new)) (IsNearestDeficit excess.now visits.new) }
+    ensures found { MatchOption result (IsExhausted excess.now visits.new) (HasFound excess.now visits.new) }
     ensures sized { IsQueueFor (length potentials.now) queue.new }
 {
     queue.reset(visits);
     open_sources(excess, visits, queue);
+    let wanted = wanted_deficits(excess);
+    let mut found = 0;
+    let mut reach = 0;
     while let Some(u) = queue.first(visits) {
-        if excess[u] < 0 {
-            return Some(u);
-        }
         let _settled = settle_node(net, rows, flow, potentials, visits, queue);
+        reach = visits[u].key;
+        if excess[u] < 0 {
+            found += 1;
+            if found == wanted {
+                return Some(reach);
+            }
+        }
     }
-    None
+    if found > 0 { Some(reach) } else { None }
 }
 
 /// Opens every node, with label 0.

@@ -3,20 +3,24 @@
 ghost use Rattle.flow_solver.specs.Limits.{label_floor};
 ghost use Rattle.std.specs.Prelude.{◌≡◌, ◌≢◌, ℕ, ℤ, List, length, pos, neg_ℤ, ◌≤ℤ◌, ◌<ℤ◌, ◌+ℤ◌, ◌-ℤ◌, ◌<◌, ◌≤◌, ◌+◌, IsTrue, ◌↔◌};
 ghost use Rattle.flow_solver.specs.Residual.{IsFlow, IsCertified, ArePotentials, AreGreatest, ArePathsAbove, number_at};
-ghost use Rattle.flow_solver.specs.Search.{IsSearch, AllRelaxed, IsFromExcess, NoneOpen};
+ghost use Rattle.flow_solver.specs.Search.{IsSearch, AllRelaxed, IsFromExcess, IsExhausted};
+ghost use Rattle.flow_solver.specs.Settle.{IsNear};
 ghost use Rattle.flow_solver.specs.Push.{IsExcess, Pushes, left, AreSmall};
 ghost use Rattle.flow_solver.specs.Queue.{IsQueueFor};
 ghost use Rattle.flow_solver.specs.Walk.{AreRowsOf};
 ghost use Rattle.flow_solver.specs.Cut.{IsChosenSet, IsSettledSet, IsBehindDeficit};
 
-use crate::augment::augment;
+use crate::augment::push_found;
 use crate::cut::{mark_behind_deficit, mark_settled};
 use crate::potentials::{lower, raise};
 use crate::queue::Queue;
-use crate::search::find_deficit;
+use crate::search::find_deficits;
 use crate::visit::Visit;
 use dimacs_text::ArcRow;
 use network::Network;
+
+/// How far potentials may fall before labels are taken again.
+const FALL_LIMIT: i64 = 70_000_000_000_000_000;
 
 /// Pushes flow along shortest paths until no node in excess reaches a node in deficit, and counts the pushes.
 pub fn push_all(
@@ -43,17 +47,45 @@ pub fn push_all(
     ensures search { IsSearch rows.now flow.new potentials.new visits.new }
     ensures relaxed { AllRelaxed rows.now flow.new potentials.new visits.new }
     ensures from_excess { IsFromExcess excess.new visits.new }
-    ensures done { NoneOpen visits.new (length visits.new) }
+    ensures done { IsExhausted excess.new visits.new }
     ensures sized { IsQueueFor (length potentials.new) queue.new }
 {
     let mut pushes = 0;
-    while let Some(target) = find_deficit(net, rows, flow, potentials, excess, visits, queue) {
-        let reach = visits[target].key;
+    let mut fallen = 0;
+    while let Some(reach) = find_deficits(net, rows, flow, potentials, excess, visits, queue) {
         lower(potentials, visits, reach);
-        augment(rows, flow, excess, visits, target);
-        pushes += 1;
+        pushes += push_found(rows, flow, potentials, excess, visits);
+        fallen = keep_near(net, rows, flow, potentials, visits, queue, fallen + reach);
     }
     pushes
+}
+
+/// Takes the labels again where the potentials, which have fallen by at most `fallen`, could leave their range; gives
+/// what they have fallen by since.
+fn keep_near(
+    net: &Network,
+    rows: &[ArcRow],
+    flow: &[i64],
+    potentials: &mut [i64],
+    visits: &mut [Visit],
+    queue: &mut Queue,
+    fallen: i64,
+) -> i64
+    requires net { AreRowsOf net.now rows.now }
+    requires certified { IsCertified rows.now flow.now potentials.old }
+    requires visits_in { length visits.old ≡ length potentials.old }
+    requires sized { IsQueueFor (length potentials.old) queue.old }
+    requires not_below_0 { pos 0 ≤ℤ fallen }
+    requires at_least { (v : ℕ) → (neg_ℤ (pos label_floor) -ℤ fallen) ≤ℤ number_at potentials.old v }
+    ensures certified { IsCertified rows.now flow.now potentials.new }
+    ensures sized { IsQueueFor (length potentials.new) queue.new }
+    ensures near { IsNear potentials.new result }
+{
+    if fallen <= FALL_LIMIT {
+        return fallen;
+    }
+    raise(net, rows, flow, potentials, visits, queue);
+    0
 }
 
 /// Whether some node is in excess.

@@ -1,403 +1,349 @@
-//! The tables of a solver, which have their final size from the start.
+//! Solver with what stood before their last change.
 
-ghost use Rattle.std.specs.Prelude.{◌≡◌, pos, ◌≤ℤ◌, IfOk, length, ◌≤◌, ◌-◌, slice_index_or, slice_set, None, ◌<◌, ◌++◌, ◌∷◌, [], ◌+◌, IsOk, Ok};
-ghost use Rattle.network.specs.Flow.{IsCertifiedFlow, IsPotential, total_excess};
-ghost use Rattle.network.specs.Instance.{ArcFits, IsLawful, at_node, is_marked, kind_of, numbered_flow, reduced, return_arc_of, with_supply};
-ghost use Rattle.flow_solver.specs.Push.{Pushes};
-ghost use Rattle.dimacs_text.specs.Lawful.{IsLawfulRow, IsNode, IsWithin};
+ghost use Rattle.std.specs.Prelude.{◌≡◌, pos, ◌≤ℤ◌, ◌-◌, ◌<◌, ◌≤◌, ◌++◌, ◌∷◌, [], IfOk, IfSome, IsOk, IsSome, None, Ok, Some, length, slice_index_or, slice_set, vec_capacity, ◌+◌};
+ghost use Rattle.dimacs_text.specs.Lawful.{IsNode, IsWithin};
 ghost use Rattle.dimacs_text.specs.declared.problem.TheConstants.{SUPPLY_LIMIT};
 ghost use Rattle.dimacs_text.specs.declared.problem.Kind.TheVariants.{Min};
-ghost use Rattle.flow_solver.specs.Edit.{IsAdded, IsChange, IsOfAdd, IsOfArc, IsOfSupply, IsRowChanged, IsSupplyChanged};
+ghost use Rattle.network.specs.Flow.{IsCertifiedFlow, IsPotential, total_excess};
 ghost use Rattle.network.specs.Edited.{edited};
-ghost use Rattle.flow_solver.specs.Moment.{IsSized, IsStart};
-ghost use Rattle.flow_solver.specs.Swap.{IsFlowValue, flow_index, supplies_in};
-ghost use Rattle.flow_solver.specs.Answer.{AreGreatestPotentials, IsChosenCut, IsVerdict};
+ghost use Rattle.network.specs.Instance.{arc_at, at_node, kind_of, numbered_flow, reduced, reduced_supply, with_supply};
+ghost use Rattle.flow_solver.specs.Desk.{IsAnswered, IsFlow, IsRowOf, HasEnds, flow_index, supplies_in};
+ghost use Rattle.flow_solver.specs.Edit.{IsChange};
+ghost use Rattle.flow_solver.specs.Moment.{IsSized, IsStart, TellsReturn, VerdictFits, with_verdict};
+ghost use Rattle.flow_solver.specs.Part.{before_part, CanTakeBack};
+ghost use Rattle.flow_solver.specs.Push.{Pushes};
 
-use crate::answer::solve;
-use crate::edit::{
-    added_row, change_row, change_supply, closed, drop_row, edited_row, edited_supply, put_row,
-    swap_row, swap_supply,
-};
-use crate::queue::Queue;
-use crate::start::{reduced_rows, start_flow};
-use crate::swaps::{exchange, exchange_node};
+use crate::part::{Part, part_of, return_count, row_before, supply_before};
+use crate::solver::Solver;
 use crate::verdict::Verdict;
-use crate::visit::Visit;
-use dimacs_text::{ArcRow, Edit, NODE_LIMIT};
+use dimacs_text::{ArcRow, Edit};
 use network::Network;
 use std::alloc::{AllocError, Global};
 use std::marker::Model;
 
-/// A network with a flow, the potentials and the cut that prove what is told of it, and the room of the searches.
+/// A network with a flow, potentials, a cut and a verdict, and copies of what stood before the last change.
 #[derive(Drop)]
 pub struct Tables {
-    net: Network,
-    rows: Vec<ArcRow>,
-    flow: Vec<i64>,
-    potentials: Vec<i64>,
-    excess: Vec<i64>,
-    cut: Vec<bool>,
-    visits: Vec<Visit>,
-    queue: Queue,
-    verdict: Verdict,
+    solver: Solver,
+    old_flow: Vec<i64>,
+    old_potentials: Vec<i64>,
+    old_cut: Vec<bool>,
+    old_verdict: Verdict,
+    part: Option<Part>,
 }
 
 impl Model for Tables {
-    ghost use Rattle.std.specs.Prelude.{drop, vec_capacity};
-    ghost use Rattle.flow_solver.specs.Moment.{Moment, AreTables};
+    ghost use Rattle.std.specs.Prelude.{vec_capacity};
+    ghost use Rattle.flow_solver.specs.Desk.{Desk};
+    ghost use Rattle.flow_solver.specs.Part.{before_of, AreCopies};
 
-    ghost Value = { Moment };
+    ghost Value = { Desk };
 
-    ghost view = { λ t. record { instance = t.net; flow = t.flow.items; potentials = drop 1 t.potentials.items; verdict = t.verdict; cut = drop 1 t.cut.items } };
+    ghost view = { λ t. record { moment = t.solver; before = before_of t.part t.solver.instance t.old_flow.items t.old_potentials.items t.old_verdict t.old_cut.items } };
 
-    ghost invariant = { λ t. AreTables t.net t.rows.items t.flow.items t.potentials.items t.excess.items t.cut.items t.visits.items t.queue (vec_capacity t.rows) (vec_capacity t.flow) };
+    ghost invariant = { λ t. AreCopies t.part t.solver.instance t.old_flow.items t.old_potentials.items t.old_cut.items (vec_capacity t.old_flow) };
+}
+
+/// Copies the flow of the solver.
+fn keep_flow(solver: &Solver, old: &mut Vec<i64>)
+    requires { solver.now.instance.room + 1 ≤ vec_capacity old.old }
+    ensures items { old.new.items ≡ solver.now.flow }
+    ensures capacity { vec_capacity old.old ≤ vec_capacity old.new }
+    ensures sized { IsSized solver.now }
+{
+    old.clear();
+    let Ok(()) = old.extend_from_slice(solver.reduced_flow()) else {
+        unreachable!()
+    };
 }
 
 impl Tables {
-    /// The tables of a network at the start: each arc of cost below 0 at its cap, every other at its low, and
-    /// potentials 0.
+    /// The tables of a network at the start: each arc of the reduced instance whose cost is below 0 at its cap, every
+    /// other at its low, and potentials 0.
     ///
     /// # Errors
     /// Memory for a table was refused.
     pub fn new(alloc: Global, net: Network) -> Result<Tables, AllocError>
-        ensures start { IfOk result (λ t. IsStart net t) }
+        ensures start { IfOk result (λ t. IsStart net t.moment) }
+        ensures before { IfOk result (λ t. t.before ≡ None) }
         ensures certified { IfOk result
-            (λ t. IsCertifiedFlow (reduced t.instance) t.flow (at_node t.potentials)) }
+            (λ t. IsCertifiedFlow (reduced t.moment.instance) t.moment.flow (at_node t.moment.potentials)) }
     {
-        let entries = net.nodes() as usize + 1;
-        let rows = reduced_rows(alloc, &net)?;
-        let flow = start_flow(alloc, &rows, net.room() as usize + 1)?;
-        let potentials = vec![in alloc; 0; entries]?;
-        let excess = vec![in alloc; 0; entries]?;
-        let cut = vec![in alloc; false; entries]?;
-        let visits = vec![in alloc; Visit::unreached(); entries]?;
-        let queue = Queue::new(alloc, entries)?;
+        let nodes = net.nodes() as usize;
+        let old_flow = Vec::with_capacity(alloc, net.room() as usize + 1)?;
+        let old_potentials = vec![in alloc; 0; nodes]?;
+        let old_cut = vec![in alloc; false; nodes]?;
+        let solver = Solver::new(alloc, net)?;
         Ok(Tables {
-            net,
-            rows,
-            flow,
-            potentials,
-            excess,
-            cut,
-            visits,
-            queue,
-            verdict: Verdict::Best(0),
+            solver,
+            old_flow,
+            old_potentials,
+            old_cut,
+            old_verdict: Verdict::Best(0),
+            part: None,
         })
+    }
+
+    /// Makes the flow a best one, or marks the cut that shows why no flow is legal, and gives the number of pushes.
+    pub fn settle(&mut self) -> u64
+        requires { IsCertifiedFlow (reduced self.old.moment.instance) self.old.moment.flow (at_node self.old.moment.potentials) }
+        ensures instance { self.new.moment.instance ≡ self.old.moment.instance }
+        ensures answered { IsAnswered self.new.moment }
+        ensures pushes { Pushes (reduced self.old.moment.instance).arcs (reduced self.old.moment.instance).supply result self.old.moment.flow self.new.moment.flow }
+        ensures count { pos result ≤ℤ total_excess (reduced self.old.moment.instance) self.old.moment.flow }
+        ensures before { self.new.before ≡ None }
+    {
+        self.part = None;
+        self.solver.settle()
+    }
+
+    /// Applies an edit, and answers the new instance from where the flow stands. What stood before is kept. Gives the
+    /// number of pushes.
+    pub fn change(&mut self, edit: &Edit) -> u64
+        requires certified { IsCertifiedFlow (reduced self.old.moment.instance) self.old.moment.flow (at_node self.old.moment.potentials) }
+        requires accepted { IsOk (edited self.old.moment.instance edit.now) }
+        ensures instance { edited self.old.moment.instance edit.now ≡ Ok self.new.moment.instance }
+        ensures answered { IsAnswered self.new.moment }
+        ensures changed { IsChange self.old.moment.instance self.new.moment.instance edit.now self.old.moment.flow self.new.moment.flow result }
+        ensures before { self.new.before ≡ Some self.old.moment }
+    {
+        keep_flow(&self.solver, &mut self.old_flow);
+        self.old_potentials
+            .copy_from_slice(self.solver.potentials());
+        self.old_cut.copy_from_slice(self.solver.cut());
+        self.old_verdict = self.solver.verdict();
+        self.part = Some(part_of(self.solver.network(), edit));
+        self.solver.change(edit)
+    }
+
+    /// Gives back what stood before the last change.
+    pub fn restore(&mut self)
+        requires { IsSome self.old.before }
+        ensures moment { self.old.before ≡ Some self.new.moment }
+        ensures before { self.new.before ≡ None }
+    {
+        if let Some(part) = self.part {
+            take_back(&mut self.solver, part);
+            self.solver.put_back(
+                &self.old_flow,
+                &self.old_potentials,
+                self.old_verdict,
+                &self.old_cut,
+            );
+        }
+        self.part = None;
     }
 
     /// The network.
     pub fn network(&self) -> &Network
-        ensures { result.now ≡ self.now.instance }
+        ensures { result.now ≡ self.now.moment.instance }
     {
-        &self.net
+        self.solver.network()
     }
 
     /// The flow of each arc, in the order of the arcs.
     pub fn flow(&self) -> &[i64]
-        ensures value { result.now ≡ numbered_flow self.now.instance.demand self.now.flow }
-        ensures one_an_arc { length result.now ≡ length self.now.instance.arcs }
+        ensures value { result.now ≡ numbered_flow self.now.moment.instance.demand self.now.moment.flow }
+        ensures one_an_arc { length result.now ≡ length self.now.moment.instance.arcs }
     {
-        let returned = self.rows.len() - self.net.arcs() as usize;
-        &self.flow[returned..]
+        self.solver.flow()
     }
 
     /// The potential of each node, in the order of the nodes.
     pub fn potentials(&self) -> &[i64]
-        ensures value { result.now ≡ self.now.potentials }
-        ensures one_a_node { length result.now ≡ self.now.instance.nodes }
-        ensures few { length result.now ≤ NODE_LIMIT }
+        ensures value { result.now ≡ self.now.moment.potentials }
+        ensures one_a_node { length result.now ≡ self.now.moment.instance.nodes }
     {
-        &self.potentials[1..]
+        self.solver.potentials()
     }
 
     /// A mark for each node, set where the node is in the cut.
     pub fn cut(&self) -> &[bool]
-        ensures value { result.now ≡ self.now.cut }
-        ensures one_a_node { length result.now ≡ self.now.instance.nodes }
-        ensures few { length result.now ≤ NODE_LIMIT }
+        ensures value { result.now ≡ self.now.moment.cut }
+        ensures one_a_node { length result.now ≡ self.now.moment.instance.nodes }
     {
-        &self.cut[1..]
+        self.solver.cut()
     }
 
     /// What is told of the instance.
     pub fn verdict(&self) -> Verdict
-        ensures { result ≡ self.now.verdict }
+        ensures { result ≡ self.now.moment.verdict }
     {
-        self.verdict
+        self.solver.verdict()
     }
 
-    /// Makes the flow a best one, or marks the cut that shows why no flow is legal, and gives the number of pushes.
-    ///
-    /// The potentials are the greatest that certify the flow, and the cut is the least of the greatest shortage.
-    pub fn settle(&mut self) -> u64
-        requires { IsCertifiedFlow (reduced self.old.instance) self.old.flow (at_node self.old.potentials) }
-        ensures instance { self.new.instance ≡ self.old.instance }
-        ensures sized { IsSized self.new }
-        ensures certified { IsCertifiedFlow (reduced self.new.instance) self.new.flow (at_node self.new.potentials) }
-        ensures verdict { IsVerdict self.new.verdict self.new.instance self.new.flow (is_marked self.new.cut) }
-        ensures pushes { Pushes (reduced self.old.instance).arcs (reduced self.old.instance).supply result self.old.flow self.new.flow }
-        ensures count { pos result ≤ℤ total_excess (reduced self.old.instance) self.old.flow }
-        ensures greatest { AreGreatestPotentials (reduced self.new.instance) self.new.flow (at_node self.new.potentials) }
-        ensures chosen { IsChosenCut self.new.verdict (reduced self.new.instance) (is_marked self.new.cut) }
+    /// The flow of each arc before the last change.
+    pub fn old_flow(&self) -> &[i64]
+        requires { IsSome self.now.before }
+        ensures { IfSome self.now.before (λ old. result.now ≡ numbered_flow old.instance.demand old.flow) }
     {
-        let (pushes, verdict) = solve(
-            &self.net,
-            &self.rows,
-            &mut self.flow,
-            &mut self.potentials,
-            &mut self.excess,
-            &mut self.visits,
-            &mut self.queue,
-            &mut self.cut,
-        );
-        self.verdict = verdict;
-        pushes
+        let first = return_count(self.solver.network());
+        &self.old_flow[first..]
     }
 
-    /// Changes the bounds and the cost of the arc with this number, counted from 1, and settles the flow again from where
-    /// it stands: the arc's flow goes to the nearest value that is allowed. Gives the number of pushes after that.
-    fn change_row(&mut self, k: u32, row: ArcRow) -> u64
-        requires certified { IsCertifiedFlow (reduced self.old.instance) self.old.flow (at_node self.old.potentials) }
-        requires arc { (1 ≤ k) × (k ≤ length self.old.instance.arcs) }
-        requires tail { row.tail ≡ (slice_index_or self.old.instance.arcs (k - 1) row).tail }
-        requires head { row.head ≡ (slice_index_or self.old.instance.arcs (k - 1) row).head }
-        requires limits { IsLawfulRow self.old.instance.nodes row }
-        requires fits { ArcFits self.old.instance.demand row }
-        ensures instance { self.new.instance ≡ record self.old.instance { arcs = slice_set self.old.instance.arcs (k - 1) row } }
-        ensures certified { IsCertifiedFlow (reduced self.new.instance) self.new.flow (at_node self.new.potentials) }
-        ensures verdict { IsVerdict self.new.verdict self.new.instance self.new.flow (is_marked self.new.cut) }
-        ensures changed { IsRowChanged self.old.instance self.new.instance k row (at_node self.old.potentials) self.old.flow self.new.flow result }
-        ensures greatest { AreGreatestPotentials (reduced self.new.instance) self.new.flow (at_node self.new.potentials) }
-        ensures chosen { IsChosenCut self.new.verdict (reduced self.new.instance) (is_marked self.new.cut) }
+    /// The potential of each node before the last change.
+    pub fn old_potentials(&self) -> &[i64]
+        requires { IsSome self.now.before }
+        ensures { IfSome self.now.before (λ old. result.now ≡ old.potentials) }
     {
-        let (pushes, verdict) = change_row(
-            &mut self.net,
-            &mut self.rows,
-            &mut self.flow,
-            &mut self.potentials,
-            &mut self.excess,
-            &mut self.visits,
-            &mut self.queue,
-            &mut self.cut,
-            k,
-            row,
-        );
-        self.verdict = verdict;
-        pushes
+        &self.old_potentials
     }
 
-    /// Changes what a node of a least-cost problem has to send out, and settles the flow again from where it stands.
-    /// Gives the number of pushes.
-    fn change_supply(&mut self, id: u32, value: i64) -> u64
-        requires certified { IsCertifiedFlow (reduced self.old.instance) self.old.flow (at_node self.old.potentials) }
-        requires kind { kind_of self.old.instance.demand ≡ Min }
-        requires node { IsNode self.old.instance.nodes id }
-        requires limit { IsWithin SUPPLY_LIMIT value }
-        ensures instance { self.new.instance ≡ record self.old.instance { demand = with_supply self.old.instance.demand id value } }
-        ensures certified { IsCertifiedFlow (reduced self.new.instance) self.new.flow (at_node self.new.potentials) }
-        ensures verdict { IsVerdict self.new.verdict self.new.instance self.new.flow (is_marked self.new.cut) }
-        ensures changed { IsSupplyChanged self.old.instance self.new.instance id value self.old.flow self.new.flow result }
-        ensures greatest { AreGreatestPotentials (reduced self.new.instance) self.new.flow (at_node self.new.potentials) }
-        ensures chosen { IsChosenCut self.new.verdict (reduced self.new.instance) (is_marked self.new.cut) }
+    /// The marks of the nodes before the last change.
+    pub fn old_cut(&self) -> &[bool]
+        requires { IsSome self.now.before }
+        ensures { IfSome self.now.before (λ old. result.now ≡ old.cut) }
     {
-        let (pushes, verdict) = change_supply(
-            &mut self.net,
-            &self.rows,
-            &mut self.flow,
-            &mut self.potentials,
-            &mut self.excess,
-            &mut self.visits,
-            &mut self.queue,
-            &mut self.cut,
-            id,
-            value,
-        );
-        self.verdict = verdict;
-        pushes
+        &self.old_cut
     }
 
-    /// Exchanges the flow of the arc with this number, counted from 1.
+    /// What was told of the instance before the last change.
+    pub fn old_verdict(&self) -> Verdict
+        requires { IsSome self.now.before }
+        ensures { IfSome self.now.before (λ old. result ≡ old.verdict) }
+    {
+        self.old_verdict
+    }
+
+    /// The arc with this number before the last change, if it was there.
+    pub fn old_row(&self, k: u32) -> Option<ArcRow>
+        requires { IsSome self.now.before }
+        ensures { IfSome self.now.before (λ old. result ≡ arc_at old.instance.arcs k) }
+    {
+        let Some(part) = self.part else {
+            return None;
+        };
+        row_before(self.solver.network(), part, k)
+    }
+
+    /// What a node had to send out before the last change, if it is a node.
+    pub fn old_supply(&self, id: u32) -> Option<i64>
+        requires { IsSome self.now.before }
+        ensures node { IfSome self.now.before (λ old. IsNode old.instance.nodes id → result ≡ Some (reduced_supply old.instance.demand id)) }
+        ensures no_node { IfSome self.now.before (λ old. ¬ IsNode old.instance.nodes id → result ≡ None) }
+    {
+        let Some(part) = self.part else {
+            return None;
+        };
+        supply_before(self.solver.network(), part, id)
+    }
+
+    /// Exchanges the flow of an arc.
     pub fn swap_flow(&mut self, k: u32, value: &mut i64)
-        requires there { (1 ≤ k) × (k ≤ length self.old.instance.arcs) }
-        requires flow { IsFlowValue value.old }
-        ensures moment { self.new ≡ record self.old { flow = slice_set self.old.flow (flow_index self.old.instance.demand k) value.old } }
-        ensures value { value.new ≡ slice_index_or self.old.flow (flow_index self.old.instance.demand k) value.old }
+        requires there { (1 ≤ k) × (k ≤ length self.old.moment.instance.arcs) }
+        requires flow { IsFlow value.old }
+        ensures moment { self.new.moment ≡ record self.old.moment { flow = slice_set self.old.moment.flow (flow_index self.old.moment.instance.demand k) value.old } }
+        ensures value { value.new ≡ slice_index_or self.old.moment.flow (flow_index self.old.moment.instance.demand k) value.old }
+        ensures before { self.new.before ≡ None }
     {
-        let place = self.rows.len() - self.net.arcs() as usize + (k as usize - 1);
-        exchange(&mut self.flow, place, value);
+        self.part = None;
+        self.solver.swap_flow(k, value);
     }
 
     /// Exchanges the potential of a node.
     pub fn swap_potential(&mut self, id: u32, value: &mut i64)
-        requires node { IsNode self.old.instance.nodes id }
+        requires node { IsNode self.old.moment.instance.nodes id }
         requires potential { IsPotential value.old }
-        ensures moment { self.new ≡ record self.old { potentials = slice_set self.old.potentials (id - 1) value.old } }
-        ensures value { value.new ≡ slice_index_or self.old.potentials (id - 1) value.old }
+        ensures moment { self.new.moment ≡ record self.old.moment { potentials = slice_set self.old.moment.potentials (id - 1) value.old } }
+        ensures value { value.new ≡ slice_index_or self.old.moment.potentials (id - 1) value.old }
+        ensures before { self.new.before ≡ None }
     {
-        exchange_node(&mut self.potentials, id, value);
+        self.part = None;
+        self.solver.swap_potential(id, value);
     }
 
     /// Exchanges the mark of a node.
     pub fn swap_mark(&mut self, id: u32, value: &mut bool)
-        requires { IsNode self.old.instance.nodes id }
-        ensures moment { self.new ≡ record self.old { cut = slice_set self.old.cut (id - 1) value.old } }
-        ensures value { value.new ≡ slice_index_or self.old.cut (id - 1) value.old }
+        requires { IsNode self.old.moment.instance.nodes id }
+        ensures moment { self.new.moment ≡ record self.old.moment { cut = slice_set self.old.moment.cut (id - 1) value.old } }
+        ensures value { value.new ≡ slice_index_or self.old.moment.cut (id - 1) value.old }
+        ensures before { self.new.before ≡ None }
     {
-        exchange_node(&mut self.cut, id, value);
+        self.part = None;
+        self.solver.swap_mark(id, value);
     }
 
-    /// Exchanges what is told of an instance that has no return arc.
+    /// Exchanges what is told of the instance. Where there is a return arc, its flow goes with the worth that is told.
     pub fn swap_verdict(&mut self, verdict: &mut Verdict)
-        requires { return_arc_of self.old.instance.demand ≡ None }
-        ensures moment { self.new ≡ record self.old { verdict = verdict.old } }
-        ensures value { verdict.new ≡ self.old.verdict }
+        requires fits { VerdictFits self.old.moment.instance.demand verdict.old }
+        requires worth { TellsReturn self.old.moment }
+        ensures moment { self.new.moment ≡ with_verdict self.old.moment verdict.old }
+        ensures value { verdict.new ≡ self.old.moment.verdict }
+        ensures before { self.new.before ≡ None }
     {
-        let before = self.verdict;
-        self.verdict = *verdict;
-        *verdict = before;
+        self.part = None;
+        self.solver.swap_verdict(verdict);
     }
 
-    /// Exchanges the bounds and the cost of the arc with this number, counted from 1.
+    /// Exchanges the bounds and the cost of an arc.
     pub fn swap_row(&mut self, k: u32, row: &mut ArcRow)
-        requires arc { (1 ≤ k) × (k ≤ length self.old.instance.arcs) }
-        requires tail { row.old.tail ≡ (slice_index_or self.old.instance.arcs (k - 1) row.old).tail }
-        requires head { row.old.head ≡ (slice_index_or self.old.instance.arcs (k - 1) row.old).head }
-        requires limits { IsLawfulRow self.old.instance.nodes row.old }
-        requires fits { ArcFits self.old.instance.demand row.old }
-        ensures moment { self.new ≡ record self.old { instance = record self.old.instance { arcs = slice_set self.old.instance.arcs (k - 1) row.old } } }
-        ensures row { row.new ≡ slice_index_or self.old.instance.arcs (k - 1) row.old }
+        requires ends { HasEnds self.old.moment.instance.arcs k row.old }
+        requires row { IsRowOf self.old.moment.instance row.old }
+        ensures moment { self.new.moment ≡ record self.old.moment { instance = record self.old.moment.instance { arcs = slice_set self.old.moment.instance.arcs (k - 1) row.old } } }
+        ensures row { row.new ≡ slice_index_or self.old.moment.instance.arcs (k - 1) row.old }
+        ensures before { self.new.before ≡ None }
     {
-        swap_row(&mut self.net, &mut self.rows, k, row);
+        self.part = None;
+        self.solver.swap_row(k, row);
     }
 
     /// Exchanges what a node of a least-cost problem has to send out.
     pub fn swap_supply(&mut self, id: u32, value: &mut i64)
-        requires kind { kind_of self.old.instance.demand ≡ Min }
-        requires node { IsNode self.old.instance.nodes id }
+        requires kind { kind_of self.old.moment.instance.demand ≡ Min }
+        requires node { IsNode self.old.moment.instance.nodes id }
         requires limit { IsWithin SUPPLY_LIMIT value.old }
-        ensures moment { self.new ≡ record self.old { instance = record self.old.instance { demand = with_supply self.old.instance.demand id value.old } } }
-        ensures value { value.new ≡ slice_index_or (supplies_in self.old.instance.demand) (id - 1) value.old }
+        ensures moment { self.new.moment ≡ record self.old.moment { instance = record self.old.moment.instance { demand = with_supply self.old.moment.instance.demand id value.old } } }
+        ensures value { value.new ≡ slice_index_or (supplies_in self.old.moment.instance.demand) (id - 1) value.old }
+        ensures before { self.new.before ≡ None }
     {
-        swap_supply(&mut self.net, &self.rows, id, value);
+        self.part = None;
+        self.solver.swap_supply(id, value);
     }
 
     /// Takes the last arc off, and gives its row and its flow.
     pub fn drop_last(&mut self) -> (ArcRow, i64)
-        requires { 0 < length self.old.instance.arcs }
-        ensures instance { self.old.instance ≡ record self.new.instance { arcs = self.new.instance.arcs ++ result.0 ∷ [] } }
-        ensures flow { self.old.flow ≡ self.new.flow ++ result.1 ∷ [] }
-        ensures rest { self.new ≡ record self.old { instance = self.new.instance; flow = self.new.flow } }
+        requires { 0 < length self.old.moment.instance.arcs }
+        ensures instance { self.old.moment.instance ≡ record self.new.moment.instance { arcs = self.new.moment.instance.arcs ++ result.0 ∷ [] } }
+        ensures flow { self.old.moment.flow ≡ self.new.moment.flow ++ result.1 ∷ [] }
+        ensures rest { self.new.moment ≡ record self.old.moment { instance = self.new.moment.instance; flow = self.new.moment.flow } }
+        ensures before { self.new.before ≡ None }
     {
-        let row = drop_row(&mut self.net, &mut self.rows);
-        let Some(flow) = self.flow.pop() else {
-            unreachable!()
-        };
-        (row, flow)
+        self.part = None;
+        self.solver.drop_last()
     }
 
-    /// Adds an arc with its flow at the end. The room for it was taken at the start.
+    /// Adds an arc with its flow at the end.
     pub fn put_last(&mut self, row: ArcRow, flow: i64)
-        requires room { length self.old.instance.arcs < self.old.instance.room }
-        requires limits { IsLawfulRow self.old.instance.nodes row }
-        requires fits { ArcFits self.old.instance.demand row }
-        requires flow { IsFlowValue flow }
-        ensures { self.new ≡ record self.old {
-          instance = record self.old.instance { arcs = self.old.instance.arcs ++ row ∷ [] };
-          flow = self.old.flow ++ flow ∷ [];
+        requires room { length self.old.moment.instance.arcs < self.old.moment.instance.room }
+        requires row { IsRowOf self.old.moment.instance row }
+        requires flow { IsFlow flow }
+        ensures moment { self.new.moment ≡ record self.old.moment {
+          instance = record self.old.moment.instance { arcs = self.old.moment.instance.arcs ++ row ∷ [] };
+          flow = self.old.moment.flow ++ flow ∷ [];
         } }
+        ensures before { self.new.before ≡ None }
     {
-        put_row(&mut self.net, &mut self.rows, row);
-        let Ok(()) = self.flow.push(flow) else {
-            unreachable!()
-        };
+        self.part = None;
+        self.solver.put_last(row, flow);
     }
+}
 
-    /// Makes an accepted edit of an arc, and settles the flow again from where it stands; gives the number of pushes.
-    fn change_arc(&mut self, edit: &Edit) -> u64
-        requires certified { IsCertifiedFlow (reduced self.old.instance) self.old.flow (at_node self.old.potentials) }
-        requires accepted { IsOk (edited self.old.instance edit.now) }
-        requires of_arc { IsOfArc edit.now }
-        ensures instance { edited self.old.instance edit.now ≡ Ok self.new.instance }
-        ensures certified { IsCertifiedFlow (reduced self.new.instance) self.new.flow (at_node self.new.potentials) }
-        ensures verdict { IsVerdict self.new.verdict self.new.instance self.new.flow (is_marked self.new.cut) }
-        ensures changed { IsChange self.old.instance self.new.instance edit.now self.old.flow self.new.flow result }
-        ensures greatest { AreGreatestPotentials (reduced self.new.instance) self.new.flow (at_node self.new.potentials) }
-        ensures chosen { IsChosenCut self.new.verdict (reduced self.new.instance) (is_marked self.new.cut) }
-    {
-        let (k, row) = edited_row(&self.net, edit);
-        self.change_row(k, row)
-    }
-
-    /// Makes an accepted edit of a supply, and settles the flow again from where it stands; gives the number of pushes.
-    fn change_supplied(&mut self, edit: &Edit) -> u64
-        requires certified { IsCertifiedFlow (reduced self.old.instance) self.old.flow (at_node self.old.potentials) }
-        requires accepted { IsOk (edited self.old.instance edit.now) }
-        requires of_supply { IsOfSupply edit.now }
-        ensures instance { edited self.old.instance edit.now ≡ Ok self.new.instance }
-        ensures certified { IsCertifiedFlow (reduced self.new.instance) self.new.flow (at_node self.new.potentials) }
-        ensures verdict { IsVerdict self.new.verdict self.new.instance self.new.flow (is_marked self.new.cut) }
-        ensures changed { IsChange self.old.instance self.new.instance edit.now self.old.flow self.new.flow result }
-        ensures greatest { AreGreatestPotentials (reduced self.new.instance) self.new.flow (at_node self.new.potentials) }
-        ensures chosen { IsChosenCut self.new.verdict (reduced self.new.instance) (is_marked self.new.cut) }
-    {
-        let (id, value) = edited_supply(&self.net, edit);
-        self.change_supply(id, value)
-    }
-
-    /// Adds an arc at the end, without flow at first, and settles the flow again from where it stands; gives the number
-    /// of pushes.
-    fn add_arc(&mut self, row: ArcRow) -> u64
-        requires certified { IsCertifiedFlow (reduced self.old.instance) self.old.flow (at_node self.old.potentials) }
-        requires lawful { IsLawful self.old.instance }
-        requires room { length self.old.instance.arcs < self.old.instance.room }
-        requires limits { IsLawfulRow self.old.instance.nodes row }
-        requires fits { ArcFits self.old.instance.demand row }
-        ensures instance { self.new.instance ≡ record self.old.instance { arcs = self.old.instance.arcs ++ row ∷ [] } }
-        ensures certified { IsCertifiedFlow (reduced self.new.instance) self.new.flow (at_node self.new.potentials) }
-        ensures verdict { IsVerdict self.new.verdict self.new.instance self.new.flow (is_marked self.new.cut) }
-        ensures added { IsAdded self.old.instance self.new.instance row self.old.flow self.new.flow result }
-        ensures greatest { AreGreatestPotentials (reduced self.new.instance) self.new.flow (at_node self.new.potentials) }
-        ensures chosen { IsChosenCut self.new.verdict (reduced self.new.instance) (is_marked self.new.cut) }
-    {
-        self.put_last(closed(row), 0);
-        let k = self.net.arcs();
-        self.change_row(k, row)
-    }
-
-    /// Makes an accepted edit that adds an arc, and settles the flow again from where it stands; gives the number of
-    /// pushes.
-    fn change_added(&mut self, edit: &Edit) -> u64
-        requires certified { IsCertifiedFlow (reduced self.old.instance) self.old.flow (at_node self.old.potentials) }
-        requires accepted { IsOk (edited self.old.instance edit.now) }
-        requires of_add { IsOfAdd edit.now }
-        ensures instance { edited self.old.instance edit.now ≡ Ok self.new.instance }
-        ensures certified { IsCertifiedFlow (reduced self.new.instance) self.new.flow (at_node self.new.potentials) }
-        ensures verdict { IsVerdict self.new.verdict self.new.instance self.new.flow (is_marked self.new.cut) }
-        ensures changed { IsChange self.old.instance self.new.instance edit.now self.old.flow self.new.flow result }
-        ensures greatest { AreGreatestPotentials (reduced self.new.instance) self.new.flow (at_node self.new.potentials) }
-        ensures chosen { IsChosenCut self.new.verdict (reduced self.new.instance) (is_marked self.new.cut) }
-    {
-        let row = added_row(&self.net, edit);
-        self.add_arc(row)
-    }
-
-    /// Makes an edit that the instance accepts, and settles the flow again from where it stands: the flow of an edited
-    /// arc goes to the nearest value that its bounds and the sign rule allow. Gives the number of pushes after that,
-    /// which is at most what was left to send out before and the edit's units.
-    pub fn change(&mut self, edit: &Edit) -> u64
-        requires certified { IsCertifiedFlow (reduced self.old.instance) self.old.flow (at_node self.old.potentials) }
-        requires accepted { IsOk (edited self.old.instance edit.now) }
-        ensures instance { edited self.old.instance edit.now ≡ Ok self.new.instance }
-        ensures certified { IsCertifiedFlow (reduced self.new.instance) self.new.flow (at_node self.new.potentials) }
-        ensures verdict { IsVerdict self.new.verdict self.new.instance self.new.flow (is_marked self.new.cut) }
-        ensures changed { IsChange self.old.instance self.new.instance edit.now self.old.flow self.new.flow result }
-        ensures greatest { AreGreatestPotentials (reduced self.new.instance) self.new.flow (at_node self.new.potentials) }
-        ensures chosen { IsChosenCut self.new.verdict (reduced self.new.instance) (is_marked self.new.cut) }
-    {
-        match edit {
-            Edit::Supply { .. } => self.change_supplied(edit),
-            Edit::Add { .. } => self.change_added(edit),
-            _ => self.change_arc(edit),
+/// Takes a change of the instance back.
+fn take_back(solver: &mut Solver, part: Part)
+    requires { CanTakeBack part solver.old.instance }
+    ensures { solver.new.instance ≡ before_part part solver.old.instance }
+{
+    match part {
+        Part::OtherRow { arc, row } => {
+            let mut row = row;
+            solver.swap_row(arc, &mut row);
+        }
+        Part::OtherSupply { node, value } => {
+            let mut value = value;
+            solver.swap_supply(node, &mut value);
+        }
+        Part::NoArc => {
+            let _ = solver.drop_last();
         }
     }
 }

@@ -4,3 +4,7 @@ pub mod CheckLemmas
 pub mod MatchLemmas
 pub mod PrintingLemmas
 pub mod SolveLemmas
+pub mod LineLemmas
+pub mod RunLemmas
+pub mod SessionLemmas
+pub mod ReplyLemmas

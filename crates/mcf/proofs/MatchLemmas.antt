@@ -2,12 +2,12 @@
 use Rattle.std.proofs.Common.{◌≡◌, ℕ, Bool, true, false, List, length, Option, None, Some, Result, Ok, Err, refl, sym, ap, ap₂, ◌∙◌, arith}
 use Rattle.std.specs.Prelude.{option_map, unwrap_or, codes, ◌↔◌, Box}
 use Rattle.std.specs.Box.{box_value}
-use Rattle.std.specs.Str.Parse.{ParsesBool}
-use Rattle.clap.specs.Words.{App, Row, Text, ReadsOne, is_simple, subcommand_of, subcommand_rows}
+use Rattle.std.specs.Str.Parse.{ParsesBool, ParsesUnsigned}
+use Rattle.clap.specs.Words.{App, Row, Text, ReadsOne, TriesOne, is_simple, subcommand_of, subcommand_rows}
 use Rattle.clap.specs.declared.parser.matches.SubCommand.{SubCommand}
 use Rattle.clap.specs.declared.parser.matches.ArgMatches.TheViews.{out-SubCommand}
 use Rattle.clap.proofs.OnLiterals.{clap_on_literals}
-use Rattle.mcf.specs.Tasks.{program}
+use Rattle.mcf.specs.Tasks.{IsExtra, program}
 
 pub program_is_simple : is_simple program ≡ true
 unfolding clap_on_literals
@@ -35,6 +35,18 @@ flag_is gives (Some text) None set says none value e =
 flag_is gives (Some text) (Some true) set says none value e = (λ on. ap (λ t. Some t) (says text (Ok true) (value text refl)), λ on. e)
 flag_is gives (Some text) (Some false) set says none value e =
     (λ on. cc, λ on. absurd (false_text_differs (sym (says text (Ok false) (value text refl)) ∙ some_same text (codes "true") on)))
+
+-- the number of an option, or 1,000
+pub extra_is : {E : Type 0} (gives : List ℕ → Result ℕ E → Type 0) (said : Option Text) (read : Option ℕ) (extra : ℕ)
+    → (said ≡ None → ◌≡◌ {A = Result (Option ℕ) E} (Ok read) (Ok None))
+    → ((text : List ℕ) → said ≡ Some text → TriesOne gives text (Ok read)) → extra ≡ unwrap_or read 1000
+    → ((text : List ℕ) (n : ℕ) → gives text (Ok n) → ParsesUnsigned {E = Unit {0}} 32 10 text (Ok n)) → IsExtra said extra
+extra_is gives None read extra none value e says =
+    let same = none refl in
+    let left_out : read ≡ None = cc in
+    rw left_out at e
+extra_is gives (Some text) None extra none value e says = absurd (value text refl)
+extra_is gives (Some text) (Some n) extra none value e says = rw e (says text n (value text refl))
 
 -- the subcommand that was used, by its name and its rows
 module _ {Z : Type 0} where

@@ -1,12 +1,15 @@
 -- Lines that are written one after the other.
-use Rattle.std.proofs.Common.{◌≡◌, ℕ, ℤ, ◌+◌, ◌<◌, Bool, false, List, [], ◌∷◌, ◌++◌, length, drop, get_or, pos, Option, refl, sym, arith, ap, ◌∙◌, append_assoc, append-nil, if◌then◌else◌}
-use Rattle.std.proofs.lemmas.List.{drop_more}
+use Rattle.std.proofs.Common.{◌≡◌, ℕ, ℤ, ◌+◌, ◌<◌, ◌≤◌, suc, Bool, false, List, [], ◌∷◌, ◌++◌, length, drop, get_or, pos, Option, Some, refl, sym, ap, subst, ◌∙◌, append_assoc, append-nil, if◌then◌else◌}
+use Rattle.std.proofs.lemmas.List.{drop_all, drop_more}
+use Rattle.std.proofs.lemmas.Option.{get_or_from_slice_get, slice_get_within}
+use Rattle.std.specs.Prelude.{slice_get}
 use Rattle.std.specs.Io.KnownBytes.{Appends}
 use Rattle.dimacs_io.specs.Device.{AppendsBeginning}
 use Rattle.std.proofs.KnownBytes.{Appends-nil, Appends-trans}
 use Rattle.dimacs_io.proofs.DeviceLemmas.{AppendsBeginning-within}
 use Rattle.dimacs_io.specs.Line.{flow_line, potential_line, cut_line}
 use Rattle.dimacs_text.specs.declared.problem.ArcRow.{ArcRow}
+use Rattle.network.specs.Instance.{arc_at}
 use Rattle.mcf.specs.Printing.{flow_lines, potential_lines, cut_lines}
 
 -- of a whole text some was written, and the rest is still to come
@@ -39,18 +42,24 @@ Wrote-stopped a b c whole rest next more w e p =
 
 -- ---- the lines that are still to come
 
-pub flow_lines-step : (arcs arcs' : List ArcRow) (flow flow' : List ℤ) (arc : ArcRow) (x : ℤ) → arcs ≡ arc ∷ arcs' → flow ≡ x ∷ flow'
+flow_lines-front : (arcs arcs' : List ArcRow) (flow flow' : List ℤ) (arc : ArcRow) (x : ℤ) → arcs ≡ arc ∷ arcs' → flow ≡ x ∷ flow'
     → flow_lines arcs flow ≡ flow_line arc.tail arc.head x ++ flow_lines arcs' flow'
-flow_lines-step arcs arcs' flow flow' arc x p q = rw (p, q) refl
+flow_lines-front arcs arcs' flow flow' arc x p q = rw (p, q) refl
 
-pub flow_lines-no_arcs : (arcs : List ArcRow) (flow : List ℤ) → length arcs ≡ 0 → flow_lines arcs flow ≡ []
-flow_lines-no_arcs [] flow e = refl
-flow_lines-no_arcs (arc ∷ arcs) flow e = absurd (omega arith)
+pub flow_lines-step : (arcs : List ArcRow) (flow : List ℤ) (k id : ℕ) (arc : ArcRow) → id ≡ suc k → k < length flow → arc_at arcs id ≡ Some arc
+    → flow_lines (drop k arcs) (drop k flow) ≡ flow_line arc.tail arc.head (get_or flow k (pos 0)) ++ flow_lines (drop (k + 1) arcs) (drop (k + 1) flow)
+flow_lines-step arcs flow k id arc e h at =
+    let there : slice_get arcs k ≡ Some arc = subst (λ n. arc_at arcs n ≡ Some arc) e at in
+    let first : get_or arcs k arc ≡ arc = get_or_from_slice_get arcs k arc arc there in
+    flow_lines-front (drop k arcs) (drop (k + 1) arcs) (drop k flow) (drop (k + 1) flow) arc (get_or flow k (pos 0))
+    (drop_more arcs k arc (slice_get_within arcs k arc there) ∙ ap (λ a. a ∷ drop (k + 1) arcs) first) (drop_more flow k (pos 0) h)
 
-pub flow_lines-no_flow : (arcs : List ArcRow) (flow : List ℤ) → length flow ≡ 0 → flow_lines arcs flow ≡ []
-flow_lines-no_flow [] flow e = refl
-flow_lines-no_flow (arc ∷ arcs) [] e = refl
-flow_lines-no_flow (arc ∷ arcs) (x ∷ flow) e = absurd (omega arith)
+pub flow_lines-all : (arcs : List ArcRow) (flow : List ℤ) (k : ℕ) → length flow ≤ k → flow_lines (drop k arcs) (drop k flow) ≡ []
+flow_lines-all arcs flow k h = no_flow (drop k arcs) (drop k flow) (drop_all k flow h)
+  where
+    no_flow : (rows : List ArcRow) (xs : List ℤ) → xs ≡ [] → flow_lines rows xs ≡ []
+    no_flow [] xs e = refl
+    no_flow (row ∷ rows) xs e = rw e refl
 
 pub potential_lines-step : (potentials : List ℤ) (k : ℕ) → k < length potentials
     → potential_lines (k + 1) (drop k potentials) ≡ potential_line (k + 1) (get_or potentials k (pos 0)) ++ potential_lines (k + 1 + 1) (drop (k + 1) potentials)

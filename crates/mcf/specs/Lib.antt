@@ -4,3 +4,6 @@ pub mod Check
 pub mod Tasks
 pub mod Printing
 pub mod Solve
+pub mod Run
+pub mod Session
+pub mod Serving

@@ -1,11 +1,12 @@
--- The lines of a solution.
+-- What is printed of a moment, and for the reply to a command.
 use Rattle.std.specs.Prelude.{ℕ, ℤ, ◌+◌, Bool, List, [], ◌∷◌, ◌++◌, if◌then◌else◌}
-use Rattle.dimacs_io.specs.Line.{value_line, flow_line, potential_line, shortage_line, cut_line}
+use Rattle.dimacs_io.specs.Line.{value_line, flow_line, potential_line, shortage_line, cut_line, refusal_line}
 use Rattle.dimacs_text.specs.declared.problem.ArcRow.{ArcRow}
 use Rattle.network.specs.Instance.{numbered_flow}
 use Rattle.flow_solver.specs.declared.verdict.Verdict.{Verdict}
 use Rattle.flow_solver.specs.declared.verdict.Verdict.TheVariants.{Best, Infeasible}
 use Rattle.flow_solver.specs.Moment.{Moment}
+use Rattle.session.specs.Step.{Reply, Tells, Shows, Refuses}
 
 -- one `f` line an arc, in the order of the arcs
 abbrev pub flow_lines : List ArcRow → List ℤ → List ℕ
@@ -23,18 +24,30 @@ abbrev pub cut_lines : ℕ → List Bool → List ℕ
 cut_lines id [] = []
 cut_lines id (mark ∷ marks) = (if mark then cut_line id else []) ++ cut_lines (id + 1) marks
 
+-- the worth of a best flow, or the shortage of a violated cut
+abbrev pub outcome_line : Verdict → List ℕ
+outcome_line (Best worth) = value_line worth
+outcome_line (Infeasible shortage) = shortage_line shortage
+
 -- a best flow, with its potentials where a proof is asked for
-abbrev pub best_text : ℤ → Bool → List ArcRow → List ℤ → List ℤ → List ℕ
-best_text worth proof arcs flow potentials = value_line worth ++ flow_lines arcs flow ++ (if proof then potential_lines 1 potentials else [])
+abbrev pub best_text : ℤ → Bool → Moment → List ℕ
+best_text worth proof m =
+    value_line worth ++ flow_lines m.instance.arcs (numbered_flow m.instance.demand m.flow) ++ (if proof then potential_lines 1 m.potentials else [])
 
 -- a violated cut
 abbrev pub violated_text : ℤ → List Bool → List ℕ
 violated_text shortage cut = shortage_line shortage ++ cut_lines 1 cut
 
 abbrev pub solution_by : Verdict → Bool → Moment → List ℕ
-solution_by (Best worth) proof m = best_text worth proof m.instance.arcs (numbered_flow m.instance.demand m.flow) m.potentials
+solution_by (Best worth) proof m = best_text worth proof m
 solution_by (Infeasible shortage) proof m = violated_text shortage m.cut
 
--- what is printed of a moment, by its verdict
+-- the solution of a moment, by its verdict
 abbrev pub solution : Bool → Moment → List ℕ
 solution proof m = solution_by m.verdict proof m
+
+-- what is printed for a reply, where this is the present moment after the step
+abbrev pub reply_text : Reply → Moment → List ℕ
+reply_text Tells m = outcome_line m.verdict
+reply_text (Shows proof) m = solution proof m
+reply_text (Refuses number) m = refusal_line number

@@ -4,26 +4,21 @@ use Rattle.dimacs_io.specs.Device.{IsBeginning}
 use Rattle.dimacs_text.specs.declared.fault.TextFault.TheVariants.{Fault}
 use Rattle.dimacs_text.specs.Stream.{decided}
 use Rattle.dimacs_text.specs.Reading.{ProblemValue, problem_rule, reads}
-use Rattle.network.specs.Flow.{IsCertifiedFlow}
-use Rattle.network.specs.Instance.{Instance, at_node, first, is_marked, reduced}
+use Rattle.network.specs.Instance.{Instance, first}
 use Rattle.flow_solver.specs.declared.verdict.Verdict.{Verdict}
 use Rattle.flow_solver.specs.declared.verdict.Verdict.TheVariants as verdict
-use Rattle.flow_solver.specs.Answer.{AreGreatestPotentials, IsChosenCut, IsVerdict}
-use Rattle.flow_solver.specs.Moment.{IsSized, Moment}
+use Rattle.flow_solver.specs.Desk.{IsAnswered}
+use Rattle.flow_solver.specs.Moment.{Moment}
 use Rattle.mcf.specs.declared.end.Text.TheVariants as the
 use Rattle.mcf.specs.declared.end.End.{End}
 use Rattle.mcf.specs.declared.end.End.TheVariants.{Solved, Infeasible, Ended, Valid, NotValid, Refused, ReadFailed, WriteFailed, Memory}
 use Rattle.mcf.specs.Check.{IsProblemText}
 use Rattle.mcf.specs.Printing.{solution}
 
--- there is one flow an arc, one potential and one mark a node; the potentials certify the flow, which is best, or the cut shows that no legal flow exists; of all such potentials and cuts they are the chosen ones
+-- the moment answers the instance
 pub record IsSettled (I : Instance) (m : Moment) : Type 0 where
   pub instance_is : m.instance ≡ I
-  pub sized : IsSized m
-  pub certified : IsCertifiedFlow (reduced m.instance) m.flow (at_node m.potentials)
-  pub verdict_is : IsVerdict m.verdict m.instance m.flow (is_marked m.cut)
-  pub greatest : AreGreatestPotentials (reduced m.instance) m.flow (at_node m.potentials)
-  pub chosen : IsChosenCut m.verdict (reduced m.instance) (is_marked m.cut)
+  pub answered : IsAnswered m
 
 -- how a run ends that writes the solution
 abbrev pub end_by : Verdict → End

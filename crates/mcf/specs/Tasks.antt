@@ -1,14 +1,20 @@
 -- The commands of the program, and the task that the matches of a command line name.
-use Rattle.std.specs.Prelude.{◌≡◌, ◌↔◌, true, List, Option, Some, codes, option_map}
+use Rattle.std.specs.Prelude.{◌≡◌, ◌↔◌, ℕ, pos, true, List, Option, Some, Ok, MatchOption, codes, option_map}
+use Rattle.std.specs.Str.Parse.{ParsesUnsigned}
 use Rattle.clap.specs.Simple.{on_top}
 use Rattle.clap.specs.Words.{App, Row, Rule, Text, first_of, one_of, new_app, new_rule, with_rule, with_subcommand}
 use Rattle.clap.specs.declared.builder.ArgAction.TheVariants.{Set, SetTrue}
+use Rattle.clap.specs.declared.builder.value_parser.ValueParser.TheVariants as parser
 use Rattle.mcf.specs.declared.command_line.Task.{Task}
-use Rattle.mcf.specs.declared.command_line.Task.TheVariants.{Solve, Check}
+use Rattle.mcf.specs.declared.command_line.Task.TheVariants.{Solve, Session, Check}
 
 -- `--proof`
 abbrev pub proof_rule : Rule
 proof_rule = record (new_rule (codes "proof")) { long = Some (codes "proof"); action = Some SetTrue }
+
+-- `--extra N`, with N up to 100,000
+abbrev pub extra_rule : Rule
+extra_rule = record (new_rule (codes "extra")) { long = Some (codes "extra"); action = Some Set; parser = Some (parser.Signed (pos 0) (pos 100000)) }
 
 -- a file that may be left out
 abbrev pub file_rule : Rule
@@ -22,17 +28,27 @@ needed_rule id = record (new_rule id) { action = Some Set; required = true }
 abbrev pub solve_command : App
 solve_command = with_rule (with_rule (new_app (codes "solve")) proof_rule) file_rule
 
+-- `session [--extra N] PROBLEM`
+abbrev pub session_command : App
+session_command = with_rule (with_rule (new_app (codes "session")) extra_rule) (needed_rule (codes "problem"))
+
 -- `check PROBLEM ANSWER`
 abbrev pub check_command : App
 check_command = with_rule (with_rule (new_app (codes "check")) (needed_rule (codes "problem"))) (needed_rule (codes "answer"))
 
 -- `mcf` with its commands, one of which has to be named
 abbrev pub program : App
-program = with_subcommand (with_subcommand (on_top (λ top. record top { subcommand_required = true }) (new_app (codes "mcf"))) solve_command.top) check_command.top
+program = with_subcommand (with_subcommand (with_subcommand (on_top (λ top. record top { subcommand_required = true }) (new_app (codes "mcf"))) solve_command.top) session_command.top) check_command.top
+
+-- the number that a text says, and 1,000 where there is none
+abbrev pub IsExtra : Option Text → ℕ → Type 0
+IsExtra said extra = MatchOption said (extra ≡ 1000) (λ text. ParsesUnsigned {E = Unit {0}} 32 10 text (Ok extra))
 
 -- the name and the matches of a command say this task
 abbrev pub Names : Option (Text × List Row) → Task → Type 0
 Names used (Solve proof file) = (rows : List Row) × (used ≡ Some (codes "solve", rows))
     × ((proof ≡ true) ↔ (one_of (codes "proof") rows ≡ Some (codes "true"))) × (option_map (λ f. f.now) file ≡ first_of (codes "file") rows)
+Names used (Session problem extra) = (rows : List Row) × (used ≡ Some (codes "session", rows))
+    × (first_of (codes "problem") rows ≡ Some problem.now) × IsExtra (one_of (codes "extra") rows) extra
 Names used (Check problem answer) = (rows : List Row) × (used ≡ Some (codes "check", rows))
     × (first_of (codes "problem") rows ≡ Some problem.now) × (first_of (codes "answer") rows ≡ Some answer.now)

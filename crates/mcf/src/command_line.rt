@@ -8,6 +8,8 @@ use std::alloc::AllocError;
 pub enum Task<'a> {
     /// Solve the problem in a file, or on the standard input, with a proof or not.
     Solve { proof: bool, file: Option<&'a str> },
+    /// Run a session on the problem in a file, with room for `extra` arcs more.
+    Session { problem: &'a str, extra: u32 },
     /// Check the answer in one file to the problem in another.
     Check { problem: &'a str, answer: &'a str },
 }

@@ -2,7 +2,7 @@
 ghost use Rattle.std.specs.Prelude.{◌≡◌, IfOk, false};
 ghost use Rattle.clap.specs.Words.{app_of, rule_of};
 ghost use Rattle.clap.specs.declared.builder.command.Command.TheViews.{out-Command};
-ghost use Rattle.mcf.specs.Tasks.{check_command, file_rule, needed_rule, program as program_command, proof_rule, solve_command};
+ghost use Rattle.mcf.specs.Tasks.{check_command, extra_rule, file_rule, needed_rule, program as program_command, proof_rule, session_command, solve_command};
 
 use clap::{Arg, ArgAction, Command};
 use std::alloc::{AllocError, Global};
@@ -15,6 +15,17 @@ fn proof<'a>(alloc: Global) -> Arg<'a>
     Arg::new(alloc, "proof")
         .long("proof")
         .action(ArgAction::SetTrue)
+}
+
+/// `--extra N`, with N up to 100,000.
+fn extra<'a>(alloc: Global) -> Arg<'a>
+    ensures rule { rule_of result ≡ extra_rule }
+    ensures local { result.global ≡ false }
+{
+    Arg::new(alloc, "extra")
+        .long("extra")
+        .action(ArgAction::Set)
+        .value_parser(clap::value_parser!(u32).range(0..=100_000))
 }
 
 /// A file that may be left out.
@@ -43,6 +54,16 @@ fn solve<'a>(alloc: Global) -> Result<Command<'a>, AllocError>
         .arg(file(alloc))
 }
 
+/// `session [--extra N] PROBLEM`
+fn session<'a>(alloc: Global) -> Result<Command<'a>, AllocError>
+    ensures app { IfOk result (λ c. app_of c ≡ session_command) }
+    ensures local { IfOk result (λ c. (out-Command c).has_globals ≡ false) }
+{
+    Command::new(alloc, "session")
+        .arg(extra(alloc))?
+        .arg(needed(alloc, "problem"))
+}
+
 /// `check PROBLEM ANSWER`
 fn check<'a>(alloc: Global) -> Result<Command<'a>, AllocError>
     ensures app { IfOk result (λ c. app_of c ≡ check_command) }
@@ -60,5 +81,6 @@ pub fn program<'a>(alloc: Global) -> Result<Command<'a>, AllocError>
     Command::new(alloc, "mcf")
         .subcommand_required(true)
         .subcommand(solve(alloc)?)?
+        .subcommand(session(alloc)?)?
         .subcommand(check(alloc)?)
 }

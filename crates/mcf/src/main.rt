@@ -1,12 +1,16 @@
-//! The program `mcf`: solves flow problems in the DIMACS formats, and checks answers to them.
+//! The program `mcf`: solves flow problems in the DIMACS formats, runs sessions of edits on them, and checks answers.
 #![tactic(auto)]
 
 mod check;
 mod command_line;
 mod commands;
 mod end;
+mod interaction;
 mod parse;
 mod read;
+mod reply;
+#[cfg(test)]
+mod session_tests;
 mod solution;
 mod solve;
 #[cfg(test)]
@@ -17,6 +21,7 @@ use clap::error::ErrorKind;
 use command_line::{Task, Usage};
 use dimacs_io::{ReadSource, WriteSink};
 use end::{End, Text};
+use interaction::run_session;
 use parse::task;
 use solve::solve;
 use std::fs::File;
@@ -38,6 +43,7 @@ fn run(rt: &HostRuntime) -> u8 {
     };
     match task(rt.alloc(), words.as_slice()) {
         Ok(Task::Solve { proof, file }) => tell(rt, solve_file(rt, file, proof)),
+        Ok(Task::Session { problem, extra }) => tell(rt, run_session_on(rt, problem, extra)),
         Ok(Task::Check { problem, answer }) => tell(rt, check_files(rt, problem, answer)),
         Err(usage) => tell_usage(rt, &usage),
     }
@@ -57,6 +63,20 @@ fn solve_file(rt: &HostRuntime, file: Option<&str>, proof: bool) -> End {
             Ok(file) => solve(rt.alloc(), &mut ReadSource::new(file), &mut out, proof),
             Err(error) => not_opened(&error, Text::Problem),
         },
+    }
+}
+
+/// Runs a session on the problem in a file, with the commands on the standard input.
+fn run_session_on(rt: &HostRuntime, problem: &str, extra: u32) -> End {
+    match File::open(rt, problem) {
+        Ok(file) => run_session(
+            rt.alloc(),
+            &mut ReadSource::new(file),
+            &mut ReadSource::new(rt.stdin()),
+            &mut WriteSink::new(rt.stdout()),
+            extra,
+        ),
+        Err(error) => not_opened(&error, Text::Problem),
     }
 }
 

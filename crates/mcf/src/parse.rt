@@ -8,6 +8,9 @@ use crate::commands::program;
 use clap::ArgMatches;
 use std::alloc::Global;
 
+/// What `--extra` is where it is left out.
+const EXTRA: u32 = 1_000;
+
 /// Reads the words of a command line, the program's own name first.
 pub fn task<'a>(alloc: Global, words: &'a [String]) -> Result<Task<'a>, Usage>
     ensures { IfOk result (Names (subcommand_of program_command (map string_bytes words.entry.now))) }
@@ -18,6 +21,7 @@ pub fn task<'a>(alloc: Global, words: &'a [String]) -> Result<Task<'a>, Usage>
     };
     match name {
         "solve" => Ok(solve(found)),
+        "session" => session(found),
         "check" => check(found),
         _ => Err(Usage::Missing),
     }
@@ -30,6 +34,21 @@ fn solve<'a>(found: &ArgMatches<'a>) -> Task<'a>
         proof: found.get_one("proof").unwrap_or(false),
         file: found.get_str("file"),
     }
+}
+
+fn session<'a>(found: &ArgMatches<'a>) -> Result<Task<'a>, Usage>
+    ensures { IfOk result (Names (Some (codes "session", rows_of (found_of found.now)))) }
+{
+    let Some(problem) = found.get_str("problem") else {
+        return Err(Usage::Missing);
+    };
+    let Ok(extra) = found.try_get_one::<u32>("extra") else {
+        return Err(Usage::Missing);
+    };
+    Ok(Task::Session {
+        problem,
+        extra: extra.unwrap_or(EXTRA),
+    })
 }
 
 fn check<'a>(found: &ArgMatches<'a>) -> Result<Task<'a>, Usage>

@@ -1,70 +1,81 @@
-//! Writes what is told of an instance.
-ghost use Rattle.std.specs.Prelude.{◌≡◌, ◌-◌, ◌^◌, ◌<◌, [], length, if◌then◌else◌};
+//! Writes what is told of the present moment of a session.
+ghost use Rattle.std.specs.Prelude.{◌≡◌, ◌-◌, ◌^◌, ◌<◌, ◌≤◌, [], length, if◌then◌else◌};
 ghost use Rattle.dimacs_io.specs.Line.{cut_line, flow_line, potential_line};
 ghost use Rattle.dimacs_io.specs.Device.{CountsFailure, WritesUpTo};
-ghost use Rattle.mcf.specs.Printing.{best_text, cut_lines, flow_lines, potential_lines, solution, violated_text};
+ghost use Rattle.mcf.specs.Printing.{best_text, cut_lines, flow_lines, outcome_line, potential_lines, solution, violated_text};
 ghost use Rattle.network.specs.Instance.{numbered_flow};
 
 use dimacs_io::{Broken, Sink, write_f, write_i, write_k, write_s, write_v};
 use dimacs_text::ArcRow;
-use flow_solver::{Tables, Verdict};
+use flow_solver::Verdict;
+use network::Network;
+use session::Session;
 
-/// Writes the solution that the tables hold, of an instance with these arcs: a best flow, with its potentials where a
-/// proof is asked for, or a violated cut.
-pub fn write_solution<O: Sink>(
-    arcs: &[ArcRow],
-    tables: &Tables,
-    proof: bool,
-    out: &mut O,
-) -> Result<(), Broken>
-    requires out { O.failures out.old < 2 ^ 64 - 1 }
-    requires arcs { arcs.now ≡ tables.now.instance.arcs }
-    ensures bytes { WritesUpTo result (O.contents out.old) (O.contents out.new) (solution proof tables.now) }
+/// Writes the outcome of the present moment: the worth of a best flow, or the shortage of a violated cut.
+pub fn write_outcome<O: Sink>(session: &Session, out: &mut O) -> Result<(), Broken>
+    requires { O.failures out.old < 2 ^ 64 - 1 }
+    ensures bytes { WritesUpTo result (O.contents out.old) (O.contents out.new) (outcome_line session.now.moments.present.verdict) }
     ensures failed { CountsFailure result (O.failures out.old) (O.failures out.new) }
 {
-    match tables.verdict() {
-        Verdict::Best(worth) => write_best(worth, arcs, tables, proof, out),
-        Verdict::Infeasible(shortage) => write_violated(shortage, tables, out),
+    match session.verdict() {
+        Verdict::Best(worth) => write_s(out, worth),
+        Verdict::Infeasible(shortage) => write_i(out, shortage),
+    }
+}
+
+/// Writes the solution of the present moment: a best flow, with its potentials where a proof is asked for, or a
+/// violated cut.
+pub fn write_solution<O: Sink>(session: &Session, proof: bool, out: &mut O) -> Result<(), Broken>
+    requires { O.failures out.old < 2 ^ 64 - 1 }
+    ensures bytes { WritesUpTo result (O.contents out.old) (O.contents out.new) (solution proof session.now.moments.present) }
+    ensures failed { CountsFailure result (O.failures out.old) (O.failures out.new) }
+{
+    match session.verdict() {
+        Verdict::Best(worth) => write_best(worth, session, proof, out),
+        Verdict::Infeasible(shortage) => write_violated(shortage, session, out),
     }
 }
 
 /// Writes a best flow, with its potentials where a proof is asked for.
 fn write_best<O: Sink>(
     worth: i128,
-    arcs: &[ArcRow],
-    tables: &Tables,
+    session: &Session,
     proof: bool,
     out: &mut O,
 ) -> Result<(), Broken>
     requires { O.failures out.old < 2 ^ 64 - 1 }
-    ensures bytes { WritesUpTo result (O.contents out.old) (O.contents out.new)
-        (best_text worth proof arcs.now (numbered_flow tables.now.instance.demand tables.now.flow) tables.now.potentials) }
+    ensures bytes { WritesUpTo result (O.contents out.old) (O.contents out.new) (best_text worth proof session.now.moments.present) }
     ensures failed { CountsFailure result (O.failures out.old) (O.failures out.new) }
 {
     write_s(out, worth)?;
-    write_flows(arcs, tables.flow(), out)?;
-    write_proof(proof, tables.potentials(), out)
+    write_flows(session.network(), session.flow(), out)?;
+    write_proof(proof, session.potentials(), out)
 }
 
 /// Writes a violated cut.
-fn write_violated<O: Sink>(shortage: i64, tables: &Tables, out: &mut O) -> Result<(), Broken>
+fn write_violated<O: Sink>(shortage: i64, session: &Session, out: &mut O) -> Result<(), Broken>
     requires { O.failures out.old < 2 ^ 64 - 1 }
     ensures bytes { WritesUpTo result (O.contents out.old) (O.contents out.new)
-        (violated_text shortage tables.now.cut) }
+        (violated_text shortage session.now.moments.present.cut) }
     ensures failed { CountsFailure result (O.failures out.old) (O.failures out.new) }
 {
     write_i(out, shortage)?;
-    write_cut(tables.cut(), out)
+    write_cut(session.cut(), out)
 }
 
 /// Writes the flow of each arc.
-fn write_flows<O: Sink>(arcs: &[ArcRow], flow: &[i64], out: &mut O) -> Result<(), Broken>
-    requires { O.failures out.old < 2 ^ 64 - 1 }
-    ensures bytes { WritesUpTo result (O.contents out.old) (O.contents out.new) (flow_lines arcs.now flow.now) }
+fn write_flows<O: Sink>(net: &Network, flow: &[i64], out: &mut O) -> Result<(), Broken>
+    requires out { O.failures out.old < 2 ^ 64 - 1 }
+    requires one_an_arc { length flow.now ≡ length net.now.arcs }
+    requires count { length flow.now < 2 ^ 32 - 1 }
+    ensures bytes { WritesUpTo result (O.contents out.old) (O.contents out.new) (flow_lines net.now.arcs flow.now) }
     ensures failed { CountsFailure result (O.failures out.old) (O.failures out.new) }
 {
-    for (arc, x) in arcs.iter().zip(flow) {
-        write_arc(arc, x, out)?;
+    for (place, x) in flow.iter().enumerate() {
+        let Some(arc) = net.arc(place as u32 + 1) else {
+            unreachable!()
+        };
+        write_arc(&arc, x, out)?;
     }
     Ok(())
 }

@@ -1,19 +1,17 @@
 //! Solves a problem, and writes the solution.
-ghost use Rattle.std.specs.Prelude.{◌≡◌, ◌+◌, ◌-◌, ◌^◌, ◌<◌, IfOk};
+ghost use Rattle.std.specs.Prelude.{◌≡◌, ◌+◌, ◌-◌, ◌^◌, ◌<◌};
 ghost use Rattle.dimacs_io.specs.Device.{CountsFailure, WritesUpTo};
-ghost use Rattle.network.specs.Instance.{first};
 ghost use Rattle.mcf.specs.Check.{problem_failures, write_failures};
 ghost use Rattle.mcf.specs.Printing.{solution};
-ghost use Rattle.mcf.specs.Solve.{IsSettled, SolveTells, end_by};
+ghost use Rattle.mcf.specs.Solve.{SolveTells, end_by};
 
 use crate::end::{End, Text};
 use crate::read::read_problem;
 use crate::solution::write_solution;
 use dimacs_io::{Broken, Sink, Source};
-use dimacs_text::Problem;
-use flow_solver::{Tables, Verdict};
-use network::build;
-use std::alloc::{AllocError, Global};
+use flow_solver::Verdict;
+use session::Session;
+use std::alloc::Global;
 
 /// Solves a problem text: writes a best flow, with its potentials where a proof is asked for, or a cut that shows that
 /// no legal flow exists.
@@ -36,39 +34,23 @@ pub fn solve<P: Source, O: Sink>(alloc: Global, input: &mut P, out: &mut O, proo
         Ok(problem) => problem,
         Err(error) => return error.end(Text::Problem),
     };
-    let tables = match settled(alloc, &problem) {
-        Ok(tables) => tables,
+    let session = match Session::open(alloc, &problem, 0) {
+        Ok(session) => session,
         Err(_) => return End::Memory,
     };
-    if answer(&problem, &tables, proof, out).is_err() {
+    if tell_solution(&session, proof, out).is_err() {
         return End::WriteFailed;
     }
-    end_by(tables.verdict())
+    end_by(session.verdict())
 }
 
-/// Settles a problem.
-fn settled(alloc: Global, problem: &Problem) -> Result<Tables, AllocError>
-    ensures { IfOk result (λ t. IsSettled (first problem.now 0) t) }
-{
-    let net = build(alloc, problem, 0)?;
-    let mut tables = Tables::new(alloc, net)?;
-    tables.settle();
-    Ok(tables)
-}
-
-/// Writes the solution of a problem, and passes it on.
-fn answer<O: Sink>(
-    problem: &Problem,
-    tables: &Tables,
-    proof: bool,
-    out: &mut O,
-) -> Result<(), Broken>
-    requires out { O.failures out.old < 2 ^ 64 - 1 }
-    requires arcs { problem.now.arcs ≡ tables.now.instance.arcs }
-    ensures bytes { WritesUpTo result (O.contents out.old) (O.contents out.new) (solution proof tables.now) }
+/// Writes the solution of the present moment, and passes it on.
+fn tell_solution<O: Sink>(session: &Session, proof: bool, out: &mut O) -> Result<(), Broken>
+    requires { O.failures out.old < 2 ^ 64 - 1 }
+    ensures bytes { WritesUpTo result (O.contents out.old) (O.contents out.new) (solution proof session.now.moments.present) }
     ensures failed { CountsFailure result (O.failures out.old) (O.failures out.new) }
 {
-    write_solution(problem.arcs(), tables, proof, out)?;
+    write_solution(session, proof, out)?;
     out.flush()
 }
 

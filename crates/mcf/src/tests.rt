@@ -8,13 +8,13 @@ use dimacs_io::{Pad, ReadSource, Script, WriteSink};
 use std::alloc::AllocError;
 use std::test::Fail;
 
-const PROBLEM: &[u8] = b"p min 2 1\nn 1 3\nn 2 -3\na 1 2 0 5 4\n";
+pub const PROBLEM: &[u8] = b"p min 2 1\nn 1 3\nn 2 -3\na 1 2 0 5 4\n";
 
 const ANSWER: &[u8] = b"s 12\nf 1 2 3\nv 1 -4\nv 2 0\n";
 
 const LONE_NODE: &[u8] = b"p min 1 0\n";
 
-const DIAMOND: &[u8] =
+pub const DIAMOND: &[u8] =
     b"p min 4 5\nn 1 4\nn 4 -4\na 1 2 0 4 2\na 1 3 0 2 2\na 2 3 0 2 1\na 2 4 0 3 3\na 3 4 0 5 1\n";
 
 const DIAMOND_SOLVED: &[u8] =
@@ -22,11 +22,11 @@ const DIAMOND_SOLVED: &[u8] =
 
 const GAINFUL_CYCLE: &[u8] = b"p min 2 2\na 1 2 0 3 -2\na 2 1 0 4 1\n";
 
-const SURPLUS: &[u8] = b"p min 2 1\nn 1 1\na 1 2 0 5 1\n";
+pub const SURPLUS: &[u8] = b"p min 2 1\nn 1 1\na 1 2 0 5 1\n";
 
 const DEFICIT: &[u8] = b"p min 2 1\nn 2 -1\na 1 2 0 5 1\n";
 
-const PARALLEL_ARCS: &[u8] = b"p min 2 2\nn 1 2\nn 2 -2\na 1 2 0 2 1\na 1 2 1 2 5\n";
+pub const PARALLEL_ARCS: &[u8] = b"p min 2 2\nn 1 2\nn 2 -2\na 1 2 0 2 1\na 1 2 1 2 5\n";
 
 const GREATEST_PRODUCT: &[u8] =
     b"p min 2 1\nn 1 1000000000\nn 2 -1000000000\na 1 2 0 1000000000 1000000000\n";
@@ -34,6 +34,24 @@ const GREATEST_PRODUCT: &[u8] =
 const UNFED_LOWER_BOUND: &[u8] = b"p min 2 1\na 1 2 2 5 1\n";
 
 const FIRST_FORM: &[u8] = b"p min 3 1\nn 1 1\nn 2 -3\na 3 2 0 1 1\n";
+
+/// Two arcs that serve equally well.
+pub const EQUAL_ARCS: &[u8] = b"p min 2 2\nn 1 3\nn 2 -3\na 1 2 0 5 4\na 1 2 0 5 4\n";
+
+pub const MAX_DIAMOND: &[u8] =
+    b"p max 4 5\nn 1 s\nn 4 t\na 1 2 3\na 1 3 2\na 2 3 1\na 2 4 2\na 3 4 3\n";
+
+pub const MAX_WITHOUT_ARCS: &[u8] = b"p max 2 0\nn 1 s\nn 2 t\n";
+
+/// Its first two arcs may carry one unit round, or none.
+const MAX_TWO_FLOWS: &[u8] = b"p max 3 3\nn 1 s\nn 3 t\na 1 2 2\na 2 1 1\na 2 3 1\n";
+
+pub const PAIRS: &[u8] = b"p asn 4 4\nn 1\nn 2\na 1 3 5\na 1 4 2\na 2 3 1\na 2 4 4\n";
+
+const ONE_AGAINST_TWO: &[u8] = b"p asn 3 2\nn 1\na 1 2 1\na 1 3 1\n";
+
+/// How many bytes a device passes in one call.
+pub const PIECES: [usize; 6] = [1, 2, 7, 1024, 1025, 100_000];
 
 fn refused(input: Text, number: u8, line: u64) -> End {
     End::Refused {
@@ -79,6 +97,25 @@ fn worked_examples_end_so_in_any_pieces(rt: HostRuntime) {
             refused(Text::Answer, 40, 3),
         ),
         (PROBLEM, b"s 12\nf 1 2 3\n", refused(Text::Answer, 40, 2)),
+        (SURPLUS, b"i 1\nk 1\nk 2\n", End::Valid),
+        (SURPLUS, b"i 2\nk 1\nk 2\n", End::NotValid),
+        (SURPLUS, b"i 1\nk 1\n", End::NotValid),
+        (SURPLUS, b"i 1\n", End::NotValid),
+        (SURPLUS, b"i 1\nk 2\nk 1\n", refused(Text::Answer, 40, 3)),
+        (FIRST_FORM, b"i 1\nk 1\n", End::Valid),
+        (FIRST_FORM, b"i 2\nk 2\n", End::Valid),
+        (FIRST_FORM, b"i 2\nk 1\nk 2\nk 3\n", End::Valid),
+        (FIRST_FORM, b"i 3\nk 2\n", End::NotValid),
+        (
+            MAX_TWO_FLOWS,
+            b"s 1\nf 1 2 2\nf 2 1 1\nf 2 3 1\nv 1 -1\nv 2 -1\nv 3 0\n",
+            End::Valid,
+        ),
+        (
+            MAX_TWO_FLOWS,
+            b"s 2\nf 1 2 2\nf 2 1 1\nf 2 3 1\nv 1 -1\nv 2 -1\nv 3 0\n",
+            End::NotValid,
+        ),
         (b"a 1 2 0 1 1\n", ANSWER, refused(Text::Problem, 6, 1)),
         (
             b"p min 2 1\na 1 3 0 1 1\n",
@@ -89,7 +126,7 @@ fn worked_examples_end_so_in_any_pieces(rt: HostRuntime) {
         (no_problem, ANSWER, refused(Text::Problem, 14, 0)),
     ];
     for (problem, answer, want) in cases {
-        for most in [1, 2, 7, 1024, 1025, 100_000] {
+        for most in PIECES {
             let (end, out) = checked(&rt, problem, answer, most);
             assert_eq!(rt; end, want);
             let line = match want {
@@ -138,6 +175,26 @@ fn problems_are_solved_in_any_pieces(rt: HostRuntime) {
         (UNFED_LOWER_BOUND, false, End::Infeasible, b"i 2\nk 2\n"),
         (FIRST_FORM, false, End::Infeasible, b"i 1\nk 1\n"),
         (
+            MAX_DIAMOND,
+            true,
+            End::Solved,
+            b"s 5\nf 1 2 3\nf 1 3 2\nf 2 3 1\nf 2 4 2\nf 3 4 3\nv 1 -1\nv 2 0\nv 3 0\nv 4 0\n",
+        ),
+        (MAX_WITHOUT_ARCS, false, End::Solved, b"s 0\n"),
+        (
+            PAIRS,
+            true,
+            End::Solved,
+            b"s 3\nf 1 3 0\nf 1 4 1\nf 2 3 1\nf 2 4 0\nv 1 -2\nv 2 -1\nv 3 0\nv 4 0\n",
+        ),
+        (
+            ONE_AGAINST_TWO,
+            false,
+            End::Infeasible,
+            b"i 1\nk 1\nk 2\nk 3\n",
+        ),
+        (b"p asn 1 0\n", false, End::Infeasible, b"i 1\nk 1\n"),
+        (
             b"p min 2 2\na 1 2 0 1 1\n",
             false,
             refused(Text::Problem, 13, 2),
@@ -153,7 +210,7 @@ fn problems_are_solved_in_any_pieces(rt: HostRuntime) {
         (b"", false, refused(Text::Problem, 14, 0), b""),
     ];
     for (problem, proof, want, text) in cases {
-        for most in [1, 2, 7, 1024, 1025, 100_000] {
+        for most in PIECES {
             let mut out = Pad::new(most, None);
             let mut input = Script::new(problem, most, None);
             let end = solve(rt.alloc(), &mut input, &mut out, proof);
@@ -165,14 +222,25 @@ fn problems_are_solved_in_any_pieces(rt: HostRuntime) {
 
 #[test]
 fn a_comment_of_1024_bytes_is_skipped(rt: HostRuntime) -> Result<(), Fail> {
-    for (letters, want) in [(1023, End::Solved), (1024, refused(Text::Problem, 1, 1))] {
+    for (letters, want) in [(1023, End::Valid), (1024, refused(Text::Problem, 1, 1))] {
         let mut text = vec![in rt.alloc(); b'x'; letters + 1]?;
         text[0] = b'c';
         text.push(b'\n')?;
         text.extend_from_slice(PROBLEM)?;
-        let mut out = Pad::new(100, None);
-        let mut input = Script::new(text.as_slice(), 7, None);
-        assert_eq!(rt; solve(rt.alloc(), &mut input, &mut out, false), want);
+        for most in PIECES {
+            let (end, _) = checked(&rt, text.as_slice(), ANSWER, most);
+            assert_eq!(rt; end, want);
+            let mut out = Pad::new(most, None);
+            let mut input = Script::new(text.as_slice(), most, None);
+            let end = solve(rt.alloc(), &mut input, &mut out, true);
+            if want == End::Valid {
+                assert_eq!(rt; end, End::Solved);
+                assert_eq!(rt; out.held(), ANSWER);
+            } else {
+                assert_eq!(rt; end, want);
+                assert!(rt; out.held().is_empty());
+            }
+        }
     }
     Ok(())
 }
@@ -190,10 +258,12 @@ fn what_is_solved_is_valid(rt: HostRuntime) {
         GREATEST_PRODUCT,
         UNFED_LOWER_BOUND,
         FIRST_FORM,
-        b"p max 4 5\nn 1 s\nn 4 t\na 1 2 3\na 1 3 2\na 2 3 1\na 2 4 2\na 3 4 3\n",
-        b"p max 2 0\nn 1 s\nn 2 t\n",
-        b"p asn 4 4\nn 1\nn 2\na 1 3 5\na 1 4 2\na 2 3 1\na 2 4 4\n",
-        b"p asn 3 2\nn 1\na 1 2 1\na 1 3 1\n",
+        EQUAL_ARCS,
+        MAX_DIAMOND,
+        MAX_WITHOUT_ARCS,
+        MAX_TWO_FLOWS,
+        PAIRS,
+        ONE_AGAINST_TWO,
     ];
     for problem in problems {
         let mut solution = Pad::new(100, None);
@@ -327,36 +397,62 @@ fn words(rt: &HostRuntime, line: &str) -> Result<Vec<String>, AllocError> {
 }
 
 #[test]
-fn solve_has_a_flag_and_a_file(rt: HostRuntime) -> Result<(), Fail> {
-    let line = words(&rt, "mcf solve --proof net.min")?;
-    let want = Task::Solve {
-        proof: true,
-        file: Some("net.min"),
-    };
-    assert!(rt; matches!(task(rt.alloc(), &line), Ok(found) if found == want));
-    let line = words(&rt, "mcf solve")?;
-    let want = Task::Solve {
-        proof: false,
-        file: None,
-    };
-    assert!(rt; matches!(task(rt.alloc(), &line), Ok(found) if found == want));
-    Ok(())
-}
-
-#[test]
-fn check_has_two_files(rt: HostRuntime) -> Result<(), Fail> {
-    let line = words(&rt, "mcf check net.min net.sol")?;
-    let want = Task::Check {
-        problem: "net.min",
-        answer: "net.sol",
-    };
-    assert!(rt; matches!(task(rt.alloc(), &line), Ok(found) if found == want));
-    let line = words(&rt, "mcf check -- --proof -")?;
-    let want = Task::Check {
-        problem: "--proof",
-        answer: "-",
-    };
-    assert!(rt; matches!(task(rt.alloc(), &line), Ok(found) if found == want));
+fn words_name_a_task(rt: HostRuntime) -> Result<(), Fail> {
+    let cases = [
+        (
+            "mcf solve --proof net.min",
+            Task::Solve {
+                proof: true,
+                file: Some("net.min"),
+            },
+        ),
+        (
+            "mcf solve",
+            Task::Solve {
+                proof: false,
+                file: None,
+            },
+        ),
+        (
+            "mcf check net.min net.sol",
+            Task::Check {
+                problem: "net.min",
+                answer: "net.sol",
+            },
+        ),
+        (
+            "mcf check -- --proof -",
+            Task::Check {
+                problem: "--proof",
+                answer: "-",
+            },
+        ),
+        (
+            "mcf session net.min",
+            Task::Session {
+                problem: "net.min",
+                extra: 1000,
+            },
+        ),
+        (
+            "mcf session --extra 0 net.min",
+            Task::Session {
+                problem: "net.min",
+                extra: 0,
+            },
+        ),
+        (
+            "mcf session net.min --extra=100000",
+            Task::Session {
+                problem: "net.min",
+                extra: 100_000,
+            },
+        ),
+    ];
+    for (line, want) in cases {
+        let line = words(&rt, line)?;
+        assert!(rt; matches!(task(rt.alloc(), &line), Ok(found) if found == want));
+    }
     Ok(())
 }
 
@@ -371,9 +467,21 @@ fn other_words_are_refused(rt: HostRuntime) -> Result<(), Fail> {
             "mcf check --proof net.min net.sol",
             ErrorKind::UnknownArgument,
         ),
+        ("mcf session", ErrorKind::MissingRequiredArgument),
+        ("mcf session net.min more", ErrorKind::UnknownArgument),
+        ("mcf session --proof net.min", ErrorKind::UnknownArgument),
+        (
+            "mcf session --extra 100001 net.min",
+            ErrorKind::ValueValidation,
+        ),
+        (
+            "mcf session --extra many net.min",
+            ErrorKind::ValueValidation,
+        ),
+        ("mcf session net.min --extra", ErrorKind::InvalidValue),
         ("mcf chek net.min net.sol", ErrorKind::InvalidSubcommand),
         ("mcf --help", ErrorKind::DisplayHelp),
-        ("mcf check --help", ErrorKind::DisplayHelp),
+        ("mcf session --help", ErrorKind::DisplayHelp),
         ("mcf help", ErrorKind::DisplayHelp),
     ];
     for (line, want) in cases {

@@ -22,10 +22,7 @@ legal_by n (Sides marks) arcs room flow lawful =
 pub legal_is : (I : Instance) (flow : List ℤ) → IsLawful I → (AllWithinBounds I.arcs flow × IsBalanced I flow) ↔ IsLegal I flow
 legal_is I flow lawful = legal_by I.nodes I.demand I.arcs I.room flow lawful
 
--- potentials in range, place by place and node by node
-pub potentials_at : (n : ℕ) (potentials : List ℤ) → length potentials ≡ n → All IsPotential potentials → (v : ℕ) → (1 ≤ v) × (v ≤ n) → IsPotential (at_node potentials v)
-potentials_at n potentials long all v b = all (v - 1) (pos 0) (omega arith)
-
+-- potentials in range at each node are in range at each place
 pub potentials_from : (n : ℕ) (potentials : List ℤ) → length potentials ≡ n → ((v : ℕ) → (1 ≤ v) × (v ≤ n) → IsPotential (at_node potentials v)) → All IsPotential potentials
 potentials_from n potentials long each k d h =
     let at = each (suc k) (omega arith, omega arith) in

@@ -2,7 +2,7 @@
 use Rattle.std.proofs.Common.{◌≡◌, ◌≢◌, ℕ, ◌*◌, ◌^◌, ◌≤◌, ◌==◌, ℤ, pos, neg_ℤ, ◌+ℤ◌, ◌-ℤ◌, ◌*ℤ◌, ◌≤ℤ◌, Bool, true, false, if◌then◌else◌, List, [], ◌∷◌, length, replicate, refl, sym, ap, ◌∙◌, arith, eqb-true, eq-eqb, ne_eqb, true≢false}
 use Rattle.std.proofs.Math.IntN.{zero-*ℤ}
 use Rattle.std.proofs.lemmas.Int.{ints}
-use Rattle.std.specs.List.{AllZip, AllByRecursion}
+use Rattle.std.specs.List.{AllByRecursion}
 use Rattle.dimacs_text.specs.declared.problem.ArcRow.{ArcRow}
 use Rattle.dimacs_text.specs.Lawful.{IsLawfulRow}
 use Rattle.network.specs.Flow.{flow_sum, nodes_sum, net, outflow, inflow, total_cost, AllWithinBounds}
@@ -37,12 +37,6 @@ opposite_nets n source sink f s t apart others whole =
     by v k true false e h = omega (arith, ints)
     by v k false true e h = omega (arith, ints)
     by v k false false e h = rw (others v k (λ is. true≢false (sym (eq-eqb source v (sym is)) ∙ e)) (λ is. true≢false (sym (eq-eqb sink v (sym is)) ∙ h))) refl
-
--- no flow out of a node is above the capacities
-sum_below : (f : ArcRow → ℤ → ℤ) (top : ℕ) (arcs : List ArcRow) (flow : List ℤ) → AllZip (λ arc x. f arc x ≤ℤ pos top) arcs flow → flow_sum f arcs flow ≤ℤ pos (top * length arcs)
-sum_below f top [] flow h = omega (arith, ints)
-sum_below f top (arc ∷ arcs) [] h = absurd h
-sum_below f top (arc ∷ arcs) (x ∷ flow) h = let k = sum_below f top arcs flow h.1 in let here = h.0 in omega (arith, ints)
 
 -- what the source sends out is at most what the capacities of all arcs come to
 pub net_below : (n source sink : ℕ) (arcs : List ArcRow) (flow : List ℤ) (v : ℕ) → AllByRecursion (λ arc. IsLawfulRow n arc × ArcFits (Terminals source sink) arc) arcs → AllWithinBounds arcs flow

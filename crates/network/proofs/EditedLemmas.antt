@@ -1,7 +1,7 @@
 -- An edited instance is lawful.
-use Rattle.std.proofs.Common.{◌≡◌, ℕ, zero, suc, ◌-◌, ◌≤◌, ℤ, pos, neg_ℤ, ◌≤ℤ◌, int_le, Bool, true, false, not, ◌&&◌, inl, inr, [], ◌∷◌, ◌++◌, length, length-set, Option, Some, None, Result, Ok, Err, refl, ◌∙◌, arith}
+use Rattle.std.proofs.Common.{◌≡◌, ℕ, zero, suc, ◌-◌, ◌≤◌, ℤ, pos, neg_ℤ, ◌≤ℤ◌, int_le, Bool, true, false, ◌&&◌, inl, inr, [], ◌∷◌, ◌++◌, length, length-set, Option, Some, None, Result, Ok, Err, refl, ◌∙◌, arith}
 use Rattle.std.proofs.lemmas.Int.{ints}
-use Rattle.std.proofs.lemmas.Bool.{false≢true, leb-true, ltb-true}
+use Rattle.std.proofs.lemmas.Bool.{false≢true, leb-true, ltb-true, and_parts, not-true}
 use Rattle.std.proofs.lemmas.List.{length_push}
 use Rattle.std.proofs.lemmas.List.Elements.{All-push, All-set}
 use Rattle.std.proofs.lemmas.Option.{slice_get_within, get_or_from_slice_get}
@@ -17,32 +17,28 @@ use Rattle.network.specs.Instance.{Demand, Supplies, Terminals, Sides, Instance,
 
 -- ---- checks that were met
 
-demand_ok : {A : Type 0} (met : Bool) (fault : EditFault) (rest : Result A EditFault) (x : A) → demand met fault rest ≡ Ok x → (met ≡ true) × (rest ≡ Ok x)
+pub demand_ok : {A : Type 0} (met : Bool) (fault : EditFault) (rest : Result A EditFault) (x : A) → demand met fault rest ≡ Ok x → (met ≡ true) × (rest ≡ Ok x)
 demand_ok true fault rest x e = (refl, e)
 demand_ok false fault rest x e = cc
 
-by_number-ok : (r : Result Instance EditFault) (after : Instance) → by_number r ≡ Ok after → r ≡ Ok after
+pub by_number-ok : (r : Result Instance EditFault) (after : Instance) → by_number r ≡ Ok after → r ≡ Ok after
 by_number-ok (Ok I) after e = cc
 by_number-ok (Err fault) after e = cc
 
-abbrev done_as : Instance → Result Instance EditFault
+abbrev pub done_as : Instance → Result Instance EditFault
 done_as I = Ok I
 
 lawful_same : (I after : Instance) → done_as I ≡ Ok after → IsLawful I → IsLawful after
 lawful_same I after e lawful = let same : I ≡ after = cc in rw (← same) lawful
 
-both : (a b : Bool) → (a && b) ≡ true → (a ≡ true) × (b ≡ true)
-both true b e = (refl, e)
-both false b e = cc
-
-le_from_test : (a b : ℤ) → int_le a b ≡ true → a ≤ℤ b
+pub le_from_test : (a b : ℤ) → int_le a b ≡ true → a ≤ℤ b
 le_from_test a b e = grind (arith, ints)
 
 between : (a b x : ℤ) → (int_le a x && int_le x b) ≡ true → (a ≤ℤ x) × (x ≤ℤ b)
-between a b x e = let p = both _ _ e in (le_from_test a x p.0, le_from_test x b p.1)
+between a b x e = let p = and_parts _ _ e in (le_from_test a x p.0, le_from_test x b p.1)
 
 node_from_test : (n v : ℕ) → is_node n v ≡ true → (1 ≤ v) × (v ≤ n)
-node_from_test n v e = let p = both _ _ e in (leb-true 1 v p.0, leb-true v n p.1)
+node_from_test n v e = let p = and_parts _ _ e in (leb-true 1 v p.0, leb-true v n p.1)
 
 -- ---- one arc changed
 
@@ -102,23 +98,19 @@ lawful_supply I (Supplies supplies) v value has within lawful = record {
 lawful_supply I (Terminals source sink) v value has within lawful = absurd (false≢true has)
 lawful_supply I (Sides marks) v value has within lawful = absurd (false≢true has)
 
-unmarked : (b : Bool) → not b ≡ true → b ≡ false
-unmarked true e = absurd (false≢true e)
-unmarked false e = refl
-
 fits_new : (D : Demand) (row : ArcRow) → pos 0 ≤ℤ row.low → suits_kind (kind_of D) row.low row.cap row.cost ≡ true → is_across D row.tail row.head ≡ true → ArcFits D row
 fits_new (Supplies supplies) row low suits across = tt
 fits_new (Terminals source sink) row low suits across =
-    let p = both _ _ suits in
+    let p = and_parts _ _ suits in
     let most = le_from_test row.low (pos 0) p.0 in
     let cost = between (pos 0) (pos 0) row.cost p.1 in
     (omega (arith, ints), omega (arith, ints))
 fits_new (Sides marks) row low suits across =
-    let p = both _ _ suits in
+    let p = and_parts _ _ suits in
     let most = le_from_test row.low (pos 0) p.0 in
     let cap = between (pos 1) (pos 1) row.cap p.1 in
-    let sides = both _ _ across in
-    (omega (arith, ints), inr (omega (arith, ints)), sides.0, unmarked _ sides.1)
+    let sides = and_parts _ _ across in
+    (omega (arith, ints), inr (omega (arith, ints)), sides.0, not-true _ sides.1)
 
 lawful_new : (I : Instance) (row : ArcRow) → IsLawful I → IsLawfulRow I.nodes row → ArcFits I.demand row → has_room I ≡ true → IsLawful (record I { arcs = I.arcs ++ row ∷ [] })
 lawful_new I row lawful limits fits room = record {
@@ -162,13 +154,13 @@ by_edit I (Supply v value) after lawful has e =
     lawful_same _ after node.1 (lawful_supply I I.demand v value has within lawful)
 by_edit I (Add tail head low cap cost) after lawful has e =
     let range = demand_ok _ OutOfRange _ after e in
-    let numbers = both (is_bound low && is_bound cap) (is_within COST_LIMIT cost && suits_kind (kind_of I.demand) low cap cost) range.0 in
-    let bounds = both (is_bound low) (is_bound cap) numbers.0 in
-    let others = both (is_within COST_LIMIT cost) (suits_kind (kind_of I.demand) low cap cost) numbers.1 in
+    let numbers = and_parts (is_bound low && is_bound cap) (is_within COST_LIMIT cost && suits_kind (kind_of I.demand) low cap cost) range.0 in
+    let bounds = and_parts (is_bound low) (is_bound cap) numbers.0 in
+    let others = and_parts (is_within COST_LIMIT cost) (suits_kind (kind_of I.demand) low cap cost) numbers.1 in
     let lows = between (pos 0) (pos CAP_LIMIT) low bounds.0 in
     let caps = between (pos 0) (pos CAP_LIMIT) cap bounds.1 in
     let nodes = demand_ok _ NoSuchNode _ after range.1 in
-    let ends = both (is_node I.nodes tail) (is_node I.nodes head) nodes.0 in
+    let ends = and_parts (is_node I.nodes tail) (is_node I.nodes head) nodes.0 in
     let order = demand_ok _ LowAboveCap _ after nodes.1 in
     let across = demand_ok _ NotAcrossSides _ after order.1 in
     let room = demand_ok _ ArcTableFull _ after across.1 in

@@ -1,13 +1,10 @@
 -- The flows at the ends of a node, each counted by its side, add up to the node's net.
-use Rattle.std.proofs.lemmas.Bool.{cases_lt}
-use Rattle.std.proofs.lemmas.List.Sums.{sum_by-cons}
-use Rattle.std.proofs.Math.Logic.{⊎_elim}
-use Rattle.std.proofs.Common.{count_by, zero-add, ne_eqb, eq-eqb, ◌≡◌, ℕ, zero, suc, ◌+◌, ◌*◌, ◌/◌, ◌%◌, ◌<◌, ◌≤◌, ◌==◌, ℤ, pos, neg_ℤ, ◌+ℤ◌, ◌-ℤ◌, Bool, true, false, if◌then◌else◌, List, [], ◌∷◌, ◌++◌, length, take, slice_get, slice_index_or, Option, Some, None, refl, sym, ap, ◌∙◌, arith, eqb-true}
+use Rattle.std.proofs.Common.{◌≡◌, ℕ, zero, suc, ◌+◌, ◌*◌, ◌/◌, ◌%◌, ◌<◌, ◌≤◌, ◌==◌, ℤ, pos, neg_ℤ, ◌+ℤ◌, ◌-ℤ◌, Bool, true, false, if◌then◌else◌, List, [], ◌∷◌, ◌++◌, length, take, slice_get, slice_index_or, Option, Some, None, refl, sym, ap, ◌∙◌, arith, eqb-true}
 use Rattle.std.proofs.lemmas.List.{take_more, take_all, length-take}
 use Rattle.std.proofs.lemmas.Option.{slice_get-get_or}
 use Rattle.dimacs_text.specs.declared.problem.ArcRow.{ArcRow}
 use Rattle.network.specs.Flow.{flow_sum, net}
-use Rattle.network.specs.Ends.{node_of, end_node, end_flow, last_end_below, ends_below}
+use Rattle.network.specs.Ends.{node_of, end_node, end_flow, last_end_below}
 use Rattle.network.proofs.IntegerAlgebra.{linear}
 use Rattle.network.proofs.Sums.{flow_sum-sub}
 
@@ -114,49 +111,3 @@ walk_below arcs flow v (suc end) h = by (end_node arcs end == v) refl (walk_belo
         × IsEndAt arcs v (if b then Some end else last_end_below arcs v end) × (ends_left (if b then Some end else last_end_below arcs v end) ≤ suc end)
     by true e before = (refl, (omega arith, eqb-true _ v e), omega arith)
     by false e before = let same = before.0 in (omega (arith, linear), before.1, omega (arith, before.2))
-
--- the walk from the greatest end by the next ones goes over the list of all ends of the node
-abbrev pub walk_from : List ArcRow → ℕ → Option ℕ → List ℕ
-walk_from arcs v None = []
-walk_from arcs v (Some end) = end ∷ ends_below arcs v end
-
-pub walk_lists : (arcs : List ArcRow) (v n : ℕ) → ends_below arcs v n ≡ walk_from arcs v (last_end_below arcs v n)
-walk_lists arcs v zero = refl
-walk_lists arcs v (suc end) = by (end_node arcs end == v) (walk_lists arcs v end)
-  where
-    by : (b : Bool) → ends_below arcs v end ≡ walk_from arcs v (last_end_below arcs v end) → (if b then end ∷ ends_below arcs v end else ends_below arcs v end) ≡ walk_from arcs v (if b then Some end else last_end_below arcs v end)
-    by true before = refl
-    by false before = before
-
-count_other : (x end : ℕ) (xs : List ℕ) → (x == end) ≡ false → count_by (λ e. e == end) (x ∷ xs) ≡ count_by (λ e. e == end) xs
-count_other x end xs e = sum_by-cons (λ u. if u == end then 1 else 0) x xs ∙ ap (λ (b : Bool). (if b then 1 else 0) + count_by (λ u. u == end) xs) e ∙ zero-add (count_by (λ u. u == end) xs)
-
-count_same : (x end : ℕ) (xs : List ℕ) → (x == end) ≡ true → count_by (λ e. e == end) (x ∷ xs) ≡ 1 + count_by (λ e. e == end) xs
-count_same x end xs e = sum_by-cons (λ u. if u == end then 1 else 0) x xs ∙ ap (λ (b : Bool). (if b then 1 else 0) + count_by (λ u. u == end) xs) e
-
--- and that list has each end of the node once
-none_above : (arcs : List ArcRow) (v n end : ℕ) → n ≤ end → count_by (λ e. e == end) (ends_below arcs v n) ≡ 0
-none_above arcs v zero end h = refl
-none_above arcs v (suc last) end h = by (end_node arcs last == v) (none_above arcs v last end (omega arith))
-  where
-    other : (last == end) ≡ false
-    other = ne_eqb last end (omega arith)
-
-    by : (b : Bool) → count_by (λ e. e == end) (ends_below arcs v last) ≡ 0 → count_by (λ e. e == end) (if b then last ∷ ends_below arcs v last else ends_below arcs v last) ≡ 0
-    by true before = count_other last end (ends_below arcs v last) other ∙ before
-    by false before = before
-
-pub each_once : (arcs : List ArcRow) (v n end : ℕ) → end < n → count_by (λ e. e == end) (ends_below arcs v n) ≡ (if end_node arcs end == v then 1 else 0)
-each_once arcs v zero end h = absurd (omega arith)
-each_once arcs v (suc last) end h = ⊎_elim (λ below. under (end_node arcs last == v) below (each_once arcs v last end below)) (λ here. at (omega arith)) (cases_lt end last)
-  where
-    under : (b : Bool) → end < last → count_by (λ e. e == end) (ends_below arcs v last) ≡ (if end_node arcs end == v then 1 else 0) → count_by (λ e. e == end) (if b then last ∷ ends_below arcs v last else ends_below arcs v last) ≡ (if end_node arcs end == v then 1 else 0)
-    under true l before = count_other last end (ends_below arcs v last) (ne_eqb last end (omega arith)) ∙ before
-    under false l before = before
-
-    last_one : (b : Bool) → count_by (λ e. e == last) (if b then last ∷ ends_below arcs v last else ends_below arcs v last) ≡ (if b then 1 else 0)
-    last_one true = count_same last last (ends_below arcs v last) (eq-eqb last last refl) ∙ ap (λ (k : ℕ). 1 + k) (none_above arcs v last last (omega arith))
-    last_one false = none_above arcs v last last (omega arith)
-
-    at : end ≡ last → count_by (λ e. e == end) (if end_node arcs last == v then last ∷ ends_below arcs v last else ends_below arcs v last) ≡ (if end_node arcs end == v then 1 else 0)
-    at is = rw is (last_one (end_node arcs last == v))

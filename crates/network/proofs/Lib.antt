@@ -15,7 +15,6 @@ pub mod CutSums
 pub mod Reach
 pub mod EndLinks
 pub mod Growth
-pub mod ReachBack
-pub mod Labels
 pub mod Opening
 pub mod EditedLemmas
+pub mod EditedShape

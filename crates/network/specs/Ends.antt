@@ -16,11 +16,6 @@ abbrev pub last_end_below : List ArcRow → ℕ → ℕ → Option ℕ
 last_end_below arcs v zero = None
 last_end_below arcs v (suc end) = if end_node arcs end == v then Some end else last_end_below arcs v end
 
--- all ends below n at a node, in falling order
-abbrev pub ends_below : List ArcRow → ℕ → ℕ → List ℕ
-ends_below arcs v zero = []
-ends_below arcs v (suc end) = if end_node arcs end == v then end ∷ ends_below arcs v end else ends_below arcs v end
-
 -- what an end adds to its node's net
 abbrev pub end_flow : List ℤ → ℕ → ℤ
 end_flow flow end = if (end % 2) == 0 then slice_index_or flow (end / 2) (pos 0) else neg_ℤ (slice_index_or flow (end / 2) (pos 0))

@@ -1,7 +1,7 @@
 -- Minimum-cost flows: legal and best flows, certifying potentials and violated cuts, in the terms of the textbook
--- (Ahuja, Magnanti, Orlin, "Network Flows": flow balance and bounds, reduced-cost optimality, residual arcs, feasibility cuts).
+-- (Ahuja, Magnanti, Orlin, "Network Flows": flow balance and bounds, reduced-cost optimality, feasibility cuts).
 -- Nodes are the numbers 1 to `nodes`. A flow is a list with one whole number an arc. A set of nodes is a test.
-use Rattle.std.specs.Prelude.{◌≡◌, ℕ, zero, suc, ◌≤◌, ◌==◌, ℤ, pos, negsuc, neg_ℤ, ◌+ℤ◌, ◌-ℤ◌, ◌*ℤ◌, ◌≤ℤ◌, ◌<ℤ◌, ◌⊎◌, Bool, true, not, ◌&&◌, if◌then◌else◌, List, [], ◌∷◌, slice_get, Some}
+use Rattle.std.specs.Prelude.{◌≡◌, ℕ, zero, suc, ◌≤◌, ◌==◌, ℤ, pos, negsuc, ◌+ℤ◌, ◌-ℤ◌, ◌*ℤ◌, ◌≤ℤ◌, ◌<ℤ◌, ◌⊎◌, Bool, true, not, ◌&&◌, if◌then◌else◌, List, [], ◌∷◌}
 use Rattle.std.specs.List.{AllZip, AllByRecursion}
 use Rattle.dimacs_text.specs.declared.problem.ArcRow.{ArcRow}
 use Rattle.network.specs.declared.TheConstants.{LEAST_POTENTIAL}
@@ -131,12 +131,7 @@ pub record IsViolatedCut (I : MinCost) (set : ℕ → Bool) (d : ℤ) : Type 0 w
   pub positive : pos 0 <ℤ d
   pub value : (d ≡ surplus_of I set) ⊎ (d ≡ shortfall_of I set)
 
--- ---- residual arcs and excesses
-
--- a residual arc leads from u to v: there is room on an arc from u to v, or flow above its low to take back on one from v to u
-pub data IsResidual (u v : ℕ) : ArcRow → ℤ → Type 0 where
-  forward : {arc : ArcRow} {x : ℤ} → arc.tail ≡ u → arc.head ≡ v → x <ℤ arc.cap → IsResidual u v arc x
-  backward : {arc : ArcRow} {x : ℤ} → arc.head ≡ u → arc.tail ≡ v → arc.low <ℤ x → IsResidual u v arc x
+-- ---- excesses
 
 -- what a node still has to send out; negative in a node in deficit
 abbrev pub excess : MinCost → List ℤ → ℕ → ℤ
@@ -146,36 +141,11 @@ abbrev pub positive_part : ℤ → ℤ
 positive_part (pos n) = pos n
 positive_part (negsuc n) = pos 0
 
--- the sums of the excesses above 0, and of the deficits
+-- what the nodes in excess still have to send out in all
 abbrev pub total_excess : MinCost → List ℤ → ℤ
 total_excess I flow = nodes_sum I.nodes (λ v. positive_part (excess I flow v))
 
-abbrev pub total_deficit : MinCost → List ℤ → ℤ
-total_deficit I flow = nodes_sum I.nodes (λ v. positive_part (neg_ℤ (excess I flow v)))
-
--- no residual arc leads out of the set
-abbrev pub IsClosed : (ℕ → Bool) → ArcRow → ℤ → Type 0
-IsClosed set arc x =
-    (crosses set (outside set) arc ≡ true → x ≡ arc.cap) × (crosses (outside set) set arc ≡ true → x ≡ arc.low)
-
--- no residual arc leads into the set
-abbrev pub IsSealed : (ℕ → Bool) → ArcRow → ℤ → Type 0
-IsSealed set arc x =
-    (crosses set (outside set) arc ≡ true → x ≡ arc.low) × (crosses (outside set) set arc ≡ true → x ≡ arc.cap)
-
--- some residual arc leads from u to v
-abbrev pub HasResidual : MinCost → List ℤ → ℕ → ℕ → Type 0
-HasResidual I flow u v = (k : ℕ) × (arc : ArcRow) × (x : ℤ) × (slice_get I.arcs k ≡ Some arc) × (slice_get flow k ≡ Some x) × IsResidual u v arc x
-
--- a node to which residual arcs lead from a node in excess
-pub data IsReached (I : MinCost) (flow : List ℤ) : ℕ → Type 0 where
-  start : {v : ℕ} → IsNode I v → pos 0 <ℤ excess I flow v → IsReached I flow v
-  step : {u v : ℕ} → IsReached I flow u → HasResidual I flow u v → IsReached I flow v
-
--- a node from which residual arcs lead to a node in deficit
-pub data LeadsToDeficit (I : MinCost) (flow : List ℤ) : ℕ → Type 0 where
-  deficit : {v : ℕ} → IsNode I v → excess I flow v <ℤ pos 0 → LeadsToDeficit I flow v
-  onward : {u v : ℕ} → HasResidual I flow u v → LeadsToDeficit I flow v → LeadsToDeficit I flow u
+-- ---- chosen cuts and potentials
 
 -- of all sets the surplus is greatest, and the set lies in every other of that surplus
 pub record IsLeastGreatestSurplus (I : MinCost) (set : ℕ → Bool) (d : ℤ) : Type 0 where
@@ -188,18 +158,6 @@ pub record IsLeastGreatestShortfall (I : MinCost) (set : ℕ → Bool) (d : ℤ)
   pub value : shortfall_of I set ≡ d
   pub greatest : (other : ℕ → Bool) → shortfall_of I other ≤ℤ d
   pub least : (other : ℕ → Bool) → shortfall_of I other ≡ d → (v : ℕ) → IsNode I v → set v ≡ true → other v ≡ true
-
--- ---- shortest labels
-
--- what it costs to send a unit along a residual arc from u to v
-abbrev pub residual_cost : {u v : ℕ} {arc : ArcRow} {x : ℤ} → IsResidual u v arc x → ℤ
-residual_cost {arc = arc} (forward tail head room) = arc.cost
-residual_cost {arc = arc} (backward head tail room) = neg_ℤ arc.cost
-
--- a number reached at a node from 0 at any node, by adding the costs of residual arcs
-pub data IsLabel (I : MinCost) (flow : List ℤ) : ℕ → ℤ → Type 0 where
-  root : {v : ℕ} → IsNode I v → IsLabel I flow v (pos 0)
-  along : {u v : ℕ} {d : ℤ} → IsLabel I flow u d → IsNode I v → (arc : HasResidual I flow u v) → IsLabel I flow v (d +ℤ residual_cost arc.5)
 
 -- no other certifying potentials are above these at any node
 abbrev pub IsGreatestPotential : MinCost → List ℤ → (ℕ → ℤ) → Type 0

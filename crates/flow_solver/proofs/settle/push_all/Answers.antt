@@ -1,96 +1,106 @@
-use Rattle.flow_solver.specs.Limits.{label_floor, left_limit}
-use Rattle.std.proofs.Common.{◌≡◌, ◌+◌, ◌≤◌, ◌<◌, ℤ, length, pos, ◌+ℤ◌, refl, sym, subst, arith, rules, w64, to_z, of_z, SFits, add-one, ◌^◌}
+use Rattle.std.proofs.Common.{◌≡◌, ◌+◌, ◌<◌, ◌^◌, ◌∙◌, ℕ, ℤ, List, length, sym, subst, arith, rules, w64, to_z, of_z, SFits}
 use Rattle.std.proofs.lemmas.Int.{ints, to_z-of_z}
-use Rattle.flow_solver.specs.Residual.{ArePotentials}
-use Rattle.flow_solver.specs.Search.{key_at, IsReach, IsLowered, IsNearestDeficit}
+use Rattle.flow_solver.specs.Residual.{IsFlow}
+use Rattle.flow_solver.specs.Search.{IsLowered, HasFound}
+use Rattle.flow_solver.specs.declared.visit.Visit.{Visit}
 use Rattle.flow_solver.specs.Push.{left}
-use Rattle.flow_solver.proofs.SettleLemmas.{target_reached, paths_of_search, is_reach, small_after, left_falls, excess_after, is_push, drift_after, certified_after, left-small}
-use Rattle.flow_solver.proofs.SearchLemmas.{key_high}
+use Rattle.flow_solver.proofs.SettleLemmas.{paths_of_search, left-small, paths_tight, none_below_after, potentials_after, fallen_further, reach_high, can_push, ArePushes-none, ArePushes-more}
 use Rattle.flow_solver.proofs.settle.push_all.Goals as goal
-use Rattle.flow_solver.proofs.settle.push_all.Goals.{In-Some, After-augment}
+use Rattle.flow_solver.proofs.settle.push_all.Goals.{After-lower, After-push_found-pushes}
 
-pub loop-target-init : goal.loop-target-init
-loop-target-init c = record {
+pub loop-reach-init : goal.loop-reach-init
+loop-reach-init c = record {
   certified = c.requires.certified;
   small = c.requires.small;
   sized = c.requires.sized;
-  drift = (
-    pos 0,
-    record {
-      not_below_0 = omega (arith, ints);
-      not_above = omega (arith, ints);
-      in_excess = λ v h. omega (arith, ints);
-      in_deficit = λ v h. refl;
-      at_least = λ v. omega (arith, ints);
-    },
-  );
-  excess = λ supply is. is;
-  pushed = λ supply is. refl;
-  count = omega arith;
+  near = record {
+    not_below_0 = omega (arith, ints);
+    not_above = omega (arith, ints);
+    at_least = λ v. omega (arith, ints, c.requires.potentials_in.at_least v);
+  };
+  pushed = ArePushes-none c.args.rows.now c.args.flow.now c.args.excess.now;
 }
 
-reach_is : (c : In-Some) → to_z w64 (of_z w64 (key_at c.find_deficit.new.visits c.in-Some.target)) ≡ key_at c.find_deficit.new.visits c.in-Some.target
-reach_is c =
-    let reached = target_reached c.args.rows.now c.loop-target.flow c.loop-target.potentials c.loop-target.excess c.find_deficit.new.visits c.in-Some.target c.loop-target.invariant.certified c.find_deficit.ensures.search c.find_deficit.ensures.from_excess c.in-Some.ensures.found in
-    let low = c.find_deficit.ensures.search.key_at_least_0 c.in-Some.target reached in
-    let high = key_high c.args.rows.now c.loop-target.flow c.loop-target.potentials c.find_deficit.new.visits c.in-Some.target c.loop-target.invariant.certified c.find_deficit.ensures.search reached in
-    let fits : SFits w64 (key_at c.find_deficit.new.visits c.in-Some.target) = omega (arith, ints, low, high) in
-    to_z-of_z w64 (key_at c.find_deficit.new.visits c.in-Some.target) fits
+reach_is : (reach : ℤ) (e : List ℤ) (visits : List Visit) → HasFound e visits reach → to_z w64 (of_z w64 reach) ≡ reach
+reach_is reach e visits found =
+    let fits : SFits w64 reach = omega (arith, ints, found.front.not_below_0, found.front.settled.not_far) in
+    to_z-of_z w64 reach fits
 
-pub lower-requires-clause-reach : goal.lower-requires-clause-reach
-lower-requires-clause-reach c =
-    subst (λ (r : ℤ). IsReach c.find_deficit.new.visits r) (sym (reach_is (goal.at.lower-requires-clause-reach c).In-Some))
-    (is_reach c.args.rows.now c.loop-target.flow c.loop-target.potentials c.loop-target.excess c.find_deficit.new.visits c.in-Some.target c.loop-target.invariant.certified c.find_deficit.ensures.search c.find_deficit.ensures.from_excess c.in-Some.ensures.found)
+is_lowered : (c : After-lower) → IsLowered c.loop-reach.potentials c.lower.new.potentials c.find_deficits.new.visits c.in-Some.reach
+is_lowered c =
+    subst (λ (r : ℤ). IsLowered c.loop-reach.potentials c.lower.new.potentials c.find_deficits.new.visits r) (reach_is c.in-Some.reach c.loop-reach.excess c.find_deficits.new.visits c.in-Some.ensures.found) c.lower.ensures
 
-pub augment-requires-clause-paths : goal.augment-requires-clause-paths
-augment-requires-clause-paths c = paths_of_search c.find_deficit.ensures.search
+pub push_found-pushes-requires-clause-state : goal.push_found-pushes-requires-clause-state
+push_found-pushes-requires-clause-state c =
+    let at = (goal.at.push_found-pushes-requires-clause-state c).After-lower in
+    let inv = c.loop-reach.invariant in
+    record {
+      flow = subst (λ (n : ℕ). IsFlow n c.args.rows.now c.loop-reach.flow) (sym c.find_deficits.ensures.search.sized) inv.certified.flow;
+      none_below = none_below_after c.args.rows.now c.loop-reach.flow c.loop-reach.potentials c.lower.new.potentials c.find_deficits.new.visits c.in-Some.reach (to_z w64 c.loop-reach.fallen-bits) inv.certified c.find_deficits.ensures.search c.find_deficits.ensures.relaxed c.in-Some.ensures.found.front (is_lowered at) inv.near;
+      excess_sized = omega (arith, c.loop-reach.auto.excess, c.loop-reach.auto.potentials, c.requires.excess_in, c.find_deficits.ensures.search.sized);
+      small = inv.small;
+    }
 
-count_small : (c : In-Some) → left c.args.excess.now ≤ left_limit
-count_small c = left-small (length c.args.potentials.now) c.args.excess.now c.requires.small c.requires.excess_in c.requires.certified.flow.few_nodes
+pub push_found-pushes-requires-clause-paths : goal.push_found-pushes-requires-clause-paths
+push_found-pushes-requires-clause-paths c = paths_of_search c.find_deficits.ensures.search
 
-falls : (c : After-augment) → left c.augment.new.excess < left c.loop-target.excess
-falls c =
-    left_falls c.args.rows.now c.loop-target.flow c.loop-target.potentials c.loop-target.excess c.find_deficit.new.visits c.in-Some.target c.loop-target.invariant.certified c.find_deficit.ensures.search c.find_deficit.ensures.from_excess c.in-Some.ensures.found
-    c.augment.new.flow c.augment.new.excess c.loop-target.invariant.small (omega (arith, c.loop-target.auto.excess, c.loop-target.auto.potentials, c.requires.excess_in)) c.augment.ensures
+pub push_found-pushes-requires-clause-tight : goal.push_found-pushes-requires-clause-tight
+push_found-pushes-requires-clause-tight c =
+    let at = (goal.at.push_found-pushes-requires-clause-tight c).After-lower in
+    paths_tight c.args.rows.now c.loop-reach.flow c.loop-reach.potentials c.lower.new.potentials c.find_deficits.new.visits c.in-Some.reach (to_z w64 c.loop-reach.fallen-bits) c.loop-reach.invariant.certified c.find_deficits.ensures.search c.find_deficits.ensures.relaxed c.in-Some.ensures.found.front (is_lowered at) c.loop-reach.invariant.near
 
 pub overflow_add-pushes : goal.overflow_add-pushes
 overflow_add-pushes c =
-    let less = falls (goal.at.overflow_add-pushes c).After-augment in
-    let small = count_small (goal.at.overflow_add-pushes c).In-Some in
-    let count = c.loop-target.invariant.count in
-    let bound : c.loop-target.pushes + 1 < 2 ^ 64 = omega (arith, less, small, count) in
+    let small = left-small (length c.args.potentials.now) c.args.excess.now c.requires.small c.requires.excess_in c.requires.certified.flow.few_nodes in
+    let count = (ArePushes-more c.loop-reach.invariant.pushed c.push_found-pushes.ensures.pushes).count in
+    let bound : c.loop-reach.pushes + c.push_found-pushes.result < 2 ^ 64 = omega (arith, small, count) in
     search (rules, bound)
 
-pub loop-target-smaller : goal.loop-target-smaller
-loop-target-smaller c = falls (goal.at.loop-target-smaller c).After-augment
+pub overflow_add-fallen : goal.overflow_add-fallen
+overflow_add-fallen c =
+    let at = (goal.at.overflow_add-fallen c).After-lower in
+    let near = c.loop-reach.invariant.near in
+    let low = c.in-Some.ensures.found.front.not_below_0 in
+    let far = c.in-Some.ensures.found.front.settled.not_far in
+    let same = reach_is c.in-Some.reach c.loop-reach.excess c.find_deficits.new.visits c.in-Some.ensures.found in
+    omega (arith, ints, low, far, same, near.not_below_0, near.not_above)
 
-pub loop-target-preserved : goal.loop-target-preserved
-loop-target-preserved c =
-    let arcs = c.args.rows.now in
-    let less = falls (goal.at.loop-target-preserved c).After-augment in
-    let sized_e : length c.loop-target.excess ≡ length c.loop-target.potentials = omega (arith, c.loop-target.auto.excess, c.loop-target.auto.potentials, c.requires.excess_in) in
-    let low : IsLowered c.loop-target.potentials c.lower.new.potentials c.find_deficit.new.visits (key_at c.find_deficit.new.visits c.in-Some.target) = subst (λ (r : ℤ). IsLowered c.loop-target.potentials c.lower.new.potentials c.find_deficit.new.visits r) (reach_is (goal.at.loop-target-preserved c).In-Some) c.lower.ensures in
-    let start : ArePotentials (length c.loop-target.potentials) label_floor c.args.potentials.now = record { sized = sym c.loop-target.auto.potentials; at_most_0 = c.requires.potentials_in.at_most_0; at_least = c.requires.potentials_in.at_least } in
-    let near : IsNearestDeficit c.loop-target.excess c.find_deficit.new.visits c.in-Some.target = c.in-Some.ensures.found in
+pub keep_near-fallen-requires-clause-certified : goal.keep_near-fallen-requires-clause-certified
+keep_near-fallen-requires-clause-certified c =
+    let at = (goal.at.keep_near-fallen-requires-clause-certified c).After-lower in
+    let same : length c.find_deficits.new.visits ≡ length c.lower.new.potentials = c.find_deficits.ensures.search.sized ∙ sym c.lower.auto.potentials in
     record {
-      certified = certified_after arcs c.loop-target.flow c.loop-target.potentials c.loop-target.excess c.find_deficit.new.visits c.in-Some.target c.loop-target.invariant.certified c.find_deficit.ensures.search c.find_deficit.ensures.from_excess near
-          c.augment.new.flow c.augment.new.excess c.loop-target.invariant.small sized_e c.augment.ensures c.args.potentials.now c.lower.new.potentials c.loop-target.invariant.drift.0 c.find_deficit.ensures.relaxed low c.lower.auto.potentials start c.loop-target.invariant.drift.1;
-      small = small_after arcs c.loop-target.flow c.loop-target.potentials c.loop-target.excess c.find_deficit.new.visits c.in-Some.target c.loop-target.invariant.certified c.find_deficit.ensures.search c.find_deficit.ensures.from_excess near
-          c.augment.new.flow c.augment.new.excess c.loop-target.invariant.small sized_e c.augment.ensures;
-      sized = rw c.lower.auto.potentials c.find_deficit.ensures.sized;
-      drift = (
-        c.loop-target.invariant.drift.0 +ℤ key_at c.find_deficit.new.visits c.in-Some.target,
-        drift_after arcs c.loop-target.flow c.loop-target.potentials c.loop-target.excess c.find_deficit.new.visits c.in-Some.target c.loop-target.invariant.certified c.find_deficit.ensures.search c.find_deficit.ensures.from_excess near
-            c.augment.new.flow c.augment.new.excess c.loop-target.invariant.small sized_e c.augment.ensures c.args.potentials.now c.lower.new.potentials c.loop-target.invariant.drift.0 c.find_deficit.ensures.relaxed low c.lower.auto.potentials start c.loop-target.invariant.drift.1,
-      );
-      excess = λ supply is.
-          excess_after arcs c.loop-target.flow c.loop-target.potentials c.loop-target.excess c.find_deficit.new.visits c.in-Some.target c.loop-target.invariant.certified c.find_deficit.ensures.search c.find_deficit.ensures.from_excess near
-          c.augment.new.flow c.augment.new.excess c.loop-target.invariant.small sized_e c.augment.ensures supply (c.loop-target.invariant.excess supply is);
-      pushed = λ supply is. rw add-one (
-        c.loop-target.flow,
-        c.loop-target.invariant.pushed supply is,
-        is_push arcs c.loop-target.flow c.loop-target.potentials c.loop-target.excess c.find_deficit.new.visits c.in-Some.target c.loop-target.invariant.certified c.find_deficit.ensures.search c.find_deficit.ensures.from_excess near
-            c.augment.new.flow c.augment.new.excess c.loop-target.invariant.small sized_e c.augment.ensures supply (c.loop-target.invariant.excess supply is),
-      );
-      count = omega (arith, less, c.loop-target.invariant.count);
+      flow = subst (λ (n : ℕ). IsFlow n c.args.rows.now c.push_found-pushes.new.flow) same c.push_found-pushes.ensures.state.flow;
+      potentials = potentials_after c.args.rows.now c.loop-reach.flow c.loop-reach.potentials c.lower.new.potentials c.find_deficits.new.visits c.in-Some.reach (to_z w64 c.loop-reach.fallen-bits) c.loop-reach.invariant.certified c.find_deficits.ensures.search c.find_deficits.ensures.relaxed c.in-Some.ensures.found.front (is_lowered at) c.loop-reach.invariant.near;
+      none_below = c.push_found-pushes.ensures.state.none_below;
+    }
+
+pub keep_near-fallen-requires-clause-at_least : goal.keep_near-fallen-requires-clause-at_least
+keep_near-fallen-requires-clause-at_least c = λ v.
+    (let at = (goal.at.keep_near-fallen-requires-clause-at_least c).After-lower in
+    let near = c.loop-reach.invariant.near in
+    let further = fallen_further c.args.rows.now c.loop-reach.flow c.loop-reach.potentials c.lower.new.potentials c.find_deficits.new.visits c.in-Some.reach (to_z w64 c.loop-reach.fallen-bits) c.loop-reach.invariant.certified c.find_deficits.ensures.search c.find_deficits.ensures.relaxed c.in-Some.ensures.found.front (is_lowered at) near v in
+    let high = reach_high c.args.rows.now c.loop-reach.flow c.loop-reach.potentials c.lower.new.potentials c.find_deficits.new.visits c.in-Some.reach (to_z w64 c.loop-reach.fallen-bits) c.loop-reach.invariant.certified c.find_deficits.ensures.search c.find_deficits.ensures.relaxed c.in-Some.ensures.found.front (is_lowered at) near in
+    let low = c.in-Some.ensures.found.front.not_below_0 in
+    omega (arith, ints, further, high, low, near.not_below_0, near.not_above, reach_is c.in-Some.reach c.loop-reach.excess c.find_deficits.new.visits c.in-Some.ensures.found))
+
+falls : (c : After-push_found-pushes) → left c.push_found-pushes.new.excess < left c.loop-reach.excess
+falls c =
+    let target = c.in-Some.ensures.found.found in
+    let some = c.push_found-pushes.ensures.some target.0 (can_push c.args.rows.now c.loop-reach.flow c.loop-reach.potentials c.loop-reach.excess c.find_deficits.new.visits target.0 c.find_deficits.ensures.search c.find_deficits.ensures.from_excess target.1) in
+    omega (arith, some, c.push_found-pushes.ensures.pushes.count)
+
+pub loop-reach-smaller : goal.loop-reach-smaller
+loop-reach-smaller c = falls (goal.at.loop-reach-smaller c).After-push_found-pushes
+
+pub loop-reach-preserved : goal.loop-reach-preserved
+loop-reach-preserved c =
+    let fits : SFits w64 c.keep_near-fallen.result = search rules in
+    let same : to_z w64 (of_z w64 c.keep_near-fallen.result) ≡ c.keep_near-fallen.result = to_z-of_z w64 c.keep_near-fallen.result fits in
+    record {
+      certified = c.keep_near-fallen.ensures.certified;
+      small = c.push_found-pushes.ensures.state.small;
+      sized = c.keep_near-fallen.ensures.sized;
+      near = rw same c.keep_near-fallen.ensures.near;
+      pushed = ArePushes-more c.loop-reach.invariant.pushed c.push_found-pushes.ensures.pushes;
     }

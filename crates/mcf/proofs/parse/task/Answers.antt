@@ -11,6 +11,14 @@ returns-in-solve c =
     let is = used_in _ (map (string_bytes {Z = Global}) c.args.words.now) _ _ (codes "solve") (rows_of (found_of c.in-Some.found.now)) app whole.1 c.in-Some.ensures.name c.in-Some.ensures.rows named in
     rw is c.solve.ensures
 
+pub returns-in-session : goal.returns-in-session
+returns-in-session c =
+    let app = c.in_ok-program.ensures.app in
+    let whole = c.in_ok-matches.ensures.matches (ap is_simple app ∙ program_is_simple) in
+    let named : c.in-Some.name.now ≡ codes "session" = search rules in
+    let is = used_in _ (map (string_bytes {Z = Global}) c.args.words.now) _ _ (codes "session") (rows_of (found_of c.in-Some.found.now)) app whole.1 c.in-Some.ensures.name c.in-Some.ensures.rows named in
+    rw is c.session.ensures
+
 pub returns-in-check : goal.returns-in-check
 returns-in-check c =
     let app = c.in_ok-program.ensures.app in

@@ -16,12 +16,12 @@ pub returns-in_err-write_flows-clause-bytes : goal.returns-in_err-write_flows-cl
 returns-in_err-write_flows-clause-bytes g c =
     let back : to_z w128 (of_z w128 c.args.worth) ≡ c.args.worth = omega (arith, ints) in
     let p = err_from_is_err_and c.from_residual-in_err-write_flows.result c.from_residual-in_err-write_flows.ensures.1 in
-    let flows = rw c.flow.ensures.value at c.in_err-write_flows.ensures.bytes in
+    let flows = rw (c.network.ensures, c.flow.ensures.value) at c.in_err-write_flows.ensures.bytes in
     rw (p.1) (AppendsBeginning-more _ _ _ _ (AppendsBeginning-after _ _ _ _ _ (rw back at c.in_ok-write_s.ensures.bytes) flows))
 
 pub returns-clause-bytes : goal.returns-clause-bytes
 returns-clause-bytes g c =
     let back : to_z w128 (of_z w128 c.args.worth) ≡ c.args.worth = omega (arith, ints) in
-    let flows = rw c.flow.ensures.value at c.in_ok-write_flows.ensures.bytes in
+    let flows = rw (c.network.ensures, c.flow.ensures.value) at c.in_ok-write_flows.ensures.bytes in
     let proof = rw c.potentials.ensures.value at c.write_proof.ensures.bytes in
     WritesUpTo-after c.write_proof.result _ _ _ _ _ (Appends-trans _ _ _ _ _ (rw back at c.in_ok-write_s.ensures.bytes) flows) proof

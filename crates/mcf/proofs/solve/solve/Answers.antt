@@ -11,12 +11,16 @@ returns-in-Err-clause-solve g c =
 pub returns-then-is_err-clause-solve : goal.returns-then-is_err-clause-solve
 returns-then-is_err-clause-solve g c =
     let read = c.in-Ok.ensures.read in
-    SolveTells-stopped c.in-Ok.problem c.in-Ok-settled.tables c.args.proof _ _ read.0 _ _ _ _ read.1 read.2.0 read.2.1 c.in-Ok-settled.ensures
-    (AppendsBeginning-from_err c.answer.result _ _ _ (search rules) c.answer.ensures.bytes)
+    let begun = c.in-Ok-open.ensures in
+    SolveTells-stopped c.in-Ok.problem c.in-Ok-open.session.moments.present c.args.proof _ _ read.0 _ _ _ _ read.1 read.2.0 read.2.1
+    (record { instance_is = begun.instance; answered = begun.answered })
+    (AppendsBeginning-from_err c.tell_solution.result _ _ _ (search rules) c.tell_solution.ensures.bytes)
 
 pub returns-clause-solve : goal.returns-clause-solve
 returns-clause-solve g c =
     let read = c.in-Ok.ensures.read in
-    let told = SolveTells-solved c.in-Ok.problem c.in-Ok-settled.tables c.args.proof _ _ read.0 _ _ _ _ read.1 read.2.0 read.2.1 c.in-Ok-settled.ensures
-    (Appends-from_ok c.answer.result _ _ _ (search rules) c.answer.ensures.bytes) in
-    rw (c.end_by.ensures, c.verdict.ensures) told
+    let begun = c.in-Ok-open.ensures in
+    let told = SolveTells-solved c.in-Ok.problem c.in-Ok-open.session.moments.present c.args.proof _ _ read.0 _ _ _ _ read.1 read.2.0 read.2.1
+    (record { instance_is = begun.instance; answered = begun.answered })
+    (Appends-from_ok c.tell_solution.result _ _ _ (search rules) c.tell_solution.ensures.bytes) in
+    rw (c.end_by.ensures, c.verdict.ensures.value) told

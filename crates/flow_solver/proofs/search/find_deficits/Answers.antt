@@ -1,0 +1,60 @@
+use Rattle.std.proofs.Common.{◌≡◌, ◌∙◌, ℤ, ◌+◌, pos, sym, subst, arith, w64, to_z, of_z, SFits}
+use Rattle.std.specs.Prelude.{◌<ℤ◌, ◌≤ℤ◌}
+use Rattle.std.proofs.lemmas.Int.{ints, to_z-of_z}
+use Rattle.flow_solver.specs.Residual.{number_at}
+use Rattle.flow_solver.specs.Search.{key_at, IsFinding, Settles}
+use Rattle.flow_solver.proofs.SearchLemmas.{key_high, settled_is_reached}
+use Rattle.flow_solver.proofs.RunLemmas.{IsFromExcess-settles, IsFinding-deficit, IsFinding-other}
+use Rattle.flow_solver.proofs.search.find_deficits.Goals as goal
+use Rattle.flow_solver.proofs.search.find_deficits.Goals.{After-settle_node-settled}
+
+settles_u : (c : After-settle_node-settled) → Settles c.loop-u.visits c.settle_node-settled.new.visits c.in-Some.u
+settles_u c = subst (Settles c.loop-u.visits c.settle_node-settled.new.visits) (sym c.settle_node-settled.ensures.first ∙ c.in-Some.ensures.at) c.settle_node-settled.ensures.settles
+
+reach_is : (c : After-settle_node-settled) → to_z w64 (of_z w64 (key_at c.settle_node-settled.new.visits c.in-Some.u)) ≡ key_at c.settle_node-settled.new.visits c.in-Some.u
+reach_is c =
+    let known = c.settle_node-settled.ensures.search in
+    let reached = settled_is_reached c.settle_node-settled.new.visits c.in-Some.u (settles_u c).now_settled in
+    let low = known.key_at_least_0 c.in-Some.u reached in
+    let high = key_high c.args.rows.now c.args.flow.now c.args.potentials.now c.settle_node-settled.new.visits c.in-Some.u c.requires.certified known reached in
+    let fits : SFits w64 (key_at c.settle_node-settled.new.visits c.in-Some.u) = omega (arith, ints, low, high) in
+    to_z-of_z w64 (key_at c.settle_node-settled.new.visits c.in-Some.u) fits
+
+-- the node that was settled is one more in deficit
+one_more : (c : After-settle_node-settled) → number_at c.args.excess.now c.in-Some.u <ℤ pos 0 → IsFinding c.args.excess.now c.settle_node-settled.new.visits (to_z w64 (of_z w64 (key_at c.settle_node-settled.new.visits c.in-Some.u))) (c.loop-u.found + 1)
+one_more c low =
+    subst (λ (r : ℤ). IsFinding c.args.excess.now c.settle_node-settled.new.visits r (c.loop-u.found + 1)) (sym (reach_is c))
+    (IsFinding-deficit c.args.rows.now c.args.flow.now c.args.potentials.now c.args.excess.now c.loop-u.visits c.settle_node-settled.new.visits c.in-Some.u _ c.loop-u.found c.requires.certified c.loop-u.invariant.known c.settle_node-settled.ensures.search c.in-Some.ensures.found.is_open (settles_u c) c.loop-u.invariant.finding low)
+
+no_more : (c : After-settle_node-settled) → pos 0 ≤ℤ number_at c.args.excess.now c.in-Some.u → IsFinding c.args.excess.now c.settle_node-settled.new.visits (to_z w64 (of_z w64 (key_at c.settle_node-settled.new.visits c.in-Some.u))) c.loop-u.found
+no_more c high =
+    subst (λ (r : ℤ). IsFinding c.args.excess.now c.settle_node-settled.new.visits r c.loop-u.found) (sym (reach_is c))
+    (IsFinding-other c.args.rows.now c.args.flow.now c.args.potentials.now c.args.excess.now c.loop-u.visits c.settle_node-settled.new.visits c.in-Some.u _ c.loop-u.found c.requires.certified c.loop-u.invariant.known c.settle_node-settled.ensures.search c.in-Some.ensures.found.is_open (settles_u c) c.loop-u.invariant.finding high)
+
+pub returns-then-found-wanted-clause-from_excess : goal.returns-then-found-wanted-clause-from_excess
+returns-then-found-wanted-clause-from_excess c = IsFromExcess-settles c.loop-u.invariant.from_excess c.settle_node-settled.ensures.search c.settle_node-settled.ensures.settles
+
+pub returns-then-found-wanted-clause-found : goal.returns-then-found-wanted-clause-found
+returns-then-found-wanted-clause-found c =
+    let more = one_more (goal.at.returns-then-found-wanted-clause-found c).After-settle_node-settled (omega (arith, ints)) in
+    record { front = more.front; found = more.some (omega arith) }
+
+pub loop-u-preserved-else-found-wanted : goal.loop-u-preserved-else-found-wanted
+loop-u-preserved-else-found-wanted c = record {
+  queue = c.settle_node-settled.ensures.queue;
+  known = c.settle_node-settled.ensures.search;
+  relaxed = c.settle_node-settled.ensures.relaxed;
+  from_excess = IsFromExcess-settles c.loop-u.invariant.from_excess c.settle_node-settled.ensures.search c.settle_node-settled.ensures.settles;
+  few = omega (arith, c.loop-u.invariant.few);
+  finding = one_more (goal.at.loop-u-preserved-else-found-wanted c).After-settle_node-settled (omega (arith, ints));
+}
+
+pub loop-u-preserved : goal.loop-u-preserved
+loop-u-preserved c = record {
+  queue = c.settle_node-settled.ensures.queue;
+  known = c.settle_node-settled.ensures.search;
+  relaxed = c.settle_node-settled.ensures.relaxed;
+  from_excess = IsFromExcess-settles c.loop-u.invariant.from_excess c.settle_node-settled.ensures.search c.settle_node-settled.ensures.settles;
+  few = c.loop-u.invariant.few;
+  finding = no_more (goal.at.loop-u-preserved c).After-settle_node-settled (omega (arith, ints));
+}

@@ -1,0 +1,17 @@
+use Rattle.std.proofs.Common.{◌<◌}
+use Rattle.flow_solver.specs.Queue.{IsQueueOf}
+use Rattle.flow_solver.specs.Search.{IsSearch, AllRelaxed, IsFromExcess, IsFinding, unsettled}
+use Rattle.flow_solver.proofs.search.find_deficits.Given as goal
+
+abbrev pub invariant-loop-u : goal.invariant-loop-u
+invariant-loop-u l = record {
+  queue : IsQueueOf l.visits l.queue;
+  known : IsSearch l.rows l.flow l.potentials l.visits;
+  relaxed : AllRelaxed l.rows l.flow l.potentials l.visits;
+  from_excess : IsFromExcess l.excess l.visits;
+  few : l.found < l.wanted;
+  finding : IsFinding l.excess l.visits l.reach l.found;
+}
+
+abbrev pub decreases-loop-u : goal.decreases-loop-u
+decreases-loop-u l = unsettled l.visits

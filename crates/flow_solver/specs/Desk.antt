@@ -1,0 +1,45 @@
+-- What contracts see of the tables: the moment that they hold, and after a change the one that stood before it.
+use Rattle.std.specs.Prelude.{◌≡◌, ℕ, ◌-◌, ◌≤◌, ℤ, pos, ◌≤ℤ◌, List, [], length, Option, slice_index_or}
+use Rattle.dimacs_text.specs.declared.problem.ArcRow.{ArcRow}
+use Rattle.dimacs_text.specs.declared.problem.TheConstants.{CAP_LIMIT}
+use Rattle.dimacs_text.specs.Lawful.{IsLawfulRow}
+use Rattle.network.specs.Flow.{IsCertifiedFlow}
+use Rattle.network.specs.Instance.{Demand, Supplies, Terminals, Sides, Instance, ArcFits, at_node, is_marked, reduced}
+use Rattle.flow_solver.specs.Moment.{IsSized, Moment}
+use Rattle.flow_solver.specs.Answer.{AreGreatestPotentials, IsChosenCut, IsVerdict}
+
+pub record Desk : Type 0 where
+  pub moment : Moment
+  pub before : Option Moment
+
+-- an answer to the instance, by the chosen certificates
+pub record IsAnswered (m : Moment) : Type 0 where
+  pub sized : IsSized m
+  pub certified : IsCertifiedFlow (reduced m.instance) m.flow (at_node m.potentials)
+  pub verdict : IsVerdict m.verdict m.instance m.flow (is_marked m.cut)
+  pub greatest : AreGreatestPotentials (reduced m.instance) m.flow (at_node m.potentials)
+  pub chosen : IsChosenCut m.verdict (reduced m.instance) (is_marked m.cut)
+
+-- a flow within the limits
+abbrev pub IsFlow : ℤ → Type 0
+IsFlow x = (pos 0 ≤ℤ x) × (x ≤ℤ pos CAP_LIMIT)
+
+-- an arc that the instance may have
+abbrev pub IsRowOf : Instance → ArcRow → Type 0
+IsRowOf I arc = IsLawfulRow I.nodes arc × ArcFits I.demand arc
+
+-- an arc is there, and has the ends of this row
+abbrev pub HasEnds : List ArcRow → ℕ → ArcRow → Type 0
+HasEnds arcs k row =
+    (1 ≤ k) × (k ≤ length arcs) × (row.tail ≡ (slice_index_or arcs (k - 1) row).tail) × (row.head ≡ (slice_index_or arcs (k - 1) row).head)
+
+-- where the flow of arc k stands in a flow of the reduced instance, in which the return arc comes first
+abbrev pub flow_index : Demand → ℕ → ℕ
+flow_index (Supplies supplies) k = k - 1
+flow_index (Terminals source sink) k = k
+flow_index (Sides marks) k = k - 1
+
+abbrev pub supplies_in : Demand → List ℤ
+supplies_in (Supplies supplies) = supplies
+supplies_in (Terminals source sink) = []
+supplies_in (Sides marks) = []

@@ -1,0 +1,101 @@
+//! What a change of an instance replaced.
+
+ghost use Rattle.std.specs.Prelude.{◌≡◌, IsOk, None, Some};
+ghost use Rattle.network.specs.Edited.{edited};
+ghost use Rattle.dimacs_text.specs.Lawful.{IsNode};
+ghost use Rattle.network.specs.Instance.{IsLawful, arc_at, reduced_supply};
+
+use crate::answer::supply_at;
+use crate::edit::{arc_of, edited_row, edited_supply};
+use dimacs_text::{ArcRow, Edit};
+use network::Network;
+
+/// What stood at the place that a change concerned.
+#[derive(Clone, Copy)]
+pub enum Part {
+    /// The arc had other bounds or another cost.
+    OtherRow { arc: u32, row: ArcRow },
+    /// The node had another supply.
+    OtherSupply { node: u32, value: i64 },
+    /// The last arc was not there.
+    NoArc,
+}
+
+ghost use Rattle.flow_solver.specs.Part.{before_part, return_count, CanTakeBack, TakesBack};
+
+/// What an accepted edit will replace.
+pub fn part_of(net: &Network, edit: &Edit) -> Part
+    requires lawful { IsLawful net.now }
+    requires accepted { IsOk (edited net.now edit.now) }
+    ensures { TakesBack net.now edit.now result }
+{
+    match edit {
+        Edit::Supply { .. } => {
+            let (node, _) = edited_supply(net, edit);
+            Part::OtherSupply {
+                node,
+                value: supply_at(net, node),
+            }
+        }
+        Edit::Add { .. } => Part::NoArc,
+        _ => {
+            let (arc, _) = edited_row(net, edit);
+            Part::OtherRow {
+                arc,
+                row: arc_of(net, u64::from(arc)),
+            }
+        }
+    }
+}
+
+/// How many rows stand before those of the numbered arcs: the return arc, where there is one.
+pub fn return_count(net: &Network) -> usize
+    ensures { result ≡ return_count net.now.demand }
+{
+    match net.return_arc() {
+        Some(_) => 1,
+        None => 0,
+    }
+}
+
+/// The arc with this number before the change, if it was there.
+pub fn row_before(net: &Network, part: Part, k: u32) -> Option<ArcRow>
+    requires { CanTakeBack part net.now }
+    ensures { result ≡ arc_at (before_part part net.now).arcs k }
+{
+    match part {
+        Part::OtherRow { arc, row } => {
+            if arc == k {
+                return Some(row);
+            }
+            net.arc(k)
+        }
+        Part::OtherSupply { .. } => net.arc(k),
+        Part::NoArc => {
+            if k == net.arcs() {
+                return None;
+            }
+            net.arc(k)
+        }
+    }
+}
+
+/// What a node had to send out before the change, if it is a node.
+pub fn supply_before(net: &Network, part: Part, id: u32) -> Option<i64>
+    requires { CanTakeBack part net.now }
+    ensures node { IsNode net.now.nodes id → result ≡ Some (reduced_supply (before_part part net.now).demand id) }
+    ensures no_node { ¬ IsNode net.now.nodes id → result ≡ None }
+{
+    if id > net.nodes() {
+        return None;
+    }
+    match part {
+        Part::OtherSupply { node, value } => {
+            if node == id {
+                return Some(value);
+            }
+            net.reduced_supply(id)
+        }
+        _ => net.reduced_supply(id),
+    }
+}

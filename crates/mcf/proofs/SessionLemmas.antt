@@ -1,0 +1,150 @@
+-- What a whole session has written, by where it ends.
+use Rattle.std.proofs.Common.{◌≡◌, ℕ, ◌-◌, List, [], ◌++◌, take, Option, None, Some, Ok, Err, inl, inr, refl, sym, ap, ◌∙◌, append-nil}
+use Rattle.std.specs.Io.KnownBytes.{Appends, IsAtEnd}
+use Rattle.std.proofs.KnownBytes.{Appends-trans}
+use Rattle.dimacs_io.specs.Device.{AppendsBeginning}
+use Rattle.dimacs_io.proofs.DeviceLemmas.{AppendsBeginning-after}
+use Rattle.dimacs_text.specs.declared.fault.TextFault.TheVariants as text_fault
+use Rattle.dimacs_text.specs.Lines.{Line, lines_of, parts_of}
+use Rattle.dimacs_text.specs.Stream.{decided}
+use Rattle.dimacs_text.specs.Reading.{ProblemValue, problem_rule, reads}
+use Rattle.history.specs.Boards.{Timeline}
+use Rattle.flow_solver.specs.Moment.{Moment}
+use Rattle.mcf.specs.declared.end.Text.TheVariants as the
+use Rattle.mcf.specs.declared.end.End.{End}
+use Rattle.mcf.specs.declared.end.End.TheVariants.{Solved, Infeasible, Ended, Valid, NotValid, Refused, ReadFailed, WriteFailed, Memory}
+use Rattle.mcf.specs.declared.read.ReadError.{ReadError}
+use Rattle.mcf.specs.declared.read.ReadError.TheVariants as read_error
+use Rattle.mcf.specs.Check.{IsProblemText}
+use Rattle.mcf.specs.Printing.{outcome_line}
+use Rattle.mcf.specs.Reading.{Gives, ReadsText, end_of}
+use Rattle.mcf.specs.Run.{Answers}
+use Rattle.mcf.specs.Serving.{CommandsEnd}
+use Rattle.mcf.specs.Session.{Opens, PrintsBeginning, PrintsRun, SessionTells, SessionWrites}
+use Rattle.mcf.proofs.SourceLemmas.{text_at_end, text_given, problem_text, reads_decided, appended}
+
+-- ---- the problem was not read
+
+problem_end : (e : ReadError) (extra : ℕ) (text given commands commands_given : List ℕ) (rest : Option (List ℕ)) (left_old left_new : ℕ) → Gives (Some text) rest given left_old left_new
+    → ReadsText (decided problem_rule) reads (Err e) given rest → SessionWrites (end_of the.Problem e) extra text (take (left_old - left_new) text) commands commands_given []
+problem_end (read_error.Text text_fault.Memory) extra text given commands commands_given rest left_old left_new gives is = refl
+problem_end (read_error.Text (text_fault.Fault number line)) extra text given commands commands_given rest left_old left_new gives (inl is) = (reads_decided text given rest _ gives.bytes is, refl)
+problem_end (read_error.Text (text_fault.Fault number line)) extra text given commands commands_given rest left_old left_new gives (inr is) =
+    (ap reads (text_at_end text given rest gives.bytes is.0) ∙ is.1, refl)
+problem_end read_error.Source extra text given commands commands_given rest left_old left_new gives is = (ap (decided problem_rule) (text_given text given rest left_old left_new gives) ∙ is, refl)
+
+pub SessionTells-problem : (e : ReadError) (extra : ℕ) (known rest : Option (List ℕ)) (given : List ℕ) (left_old left_new : ℕ) (commands : Option (List ℕ)) (count : ℕ) (before : Option (List ℕ))
+    → Gives known rest given left_old left_new → ReadsText (decided problem_rule) reads (Err e) given rest
+    → SessionTells (end_of the.Problem e) extra known (left_old - left_new) commands count before before
+SessionTells-problem e extra None rest given left_old left_new commands count before gives is = tt
+SessionTells-problem e extra (Some text) rest given left_old left_new None count before gives is = tt
+SessionTells-problem e extra (Some text) rest given left_old left_new (Some commands) count None gives is = tt
+SessionTells-problem e extra (Some text) rest given left_old left_new (Some commands) count (Some held) gives is =
+    ([], ap (λ l. Some l) (sym (append-nil held)), problem_end e extra text given commands (take count commands) rest left_old left_new gives is)
+
+pub SessionTells-memory : (extra : ℕ) (known : Option (List ℕ)) (problem_count : ℕ) (commands : Option (List ℕ)) (count : ℕ) (before : Option (List ℕ))
+    → SessionTells Memory extra known problem_count commands count before before
+SessionTells-memory extra None problem_count commands count before = tt
+SessionTells-memory extra (Some text) problem_count None count before = tt
+SessionTells-memory extra (Some text) problem_count (Some commands) count None = tt
+SessionTells-memory extra (Some text) problem_count (Some commands) count (Some held) = ([], ap (λ l. Some l) (sym (append-nil held)), refl)
+
+-- ---- the opening line was written up to a failed call
+
+prints_opening : (problem : ProblemValue) (extra : ℕ) (opening : Timeline Moment) → Opens problem extra opening
+    → PrintsRun problem extra [] (outcome_line opening.present.verdict ++ [])
+prints_opening problem extra opening opens = record {
+  opening = opening;
+  opens = opens;
+  last = opening;
+  replies = [];
+  answers = record { texts = []; run = refl; written_is = refl };
+  written_is = refl;
+}
+
+pub SessionTells-opening : (problem : ProblemValue) (extra : ℕ) (opening : Timeline Moment) (known rest : Option (List ℕ)) (given : List ℕ) (left_old left_new : ℕ)
+    (commands : Option (List ℕ)) (count : ℕ) (before after : Option (List ℕ))
+    → Gives known rest given left_old left_new → IsAtEnd rest → reads given ≡ Ok problem → Opens problem extra opening
+    → AppendsBeginning before after (outcome_line opening.present.verdict)
+    → SessionTells WriteFailed extra known (left_old - left_new) commands count before after
+SessionTells-opening problem extra opening None rest given left_old left_new commands count before after gives end is opens part = tt
+SessionTells-opening problem extra opening (Some text) rest given left_old left_new None count before after gives end is opens part = tt
+SessionTells-opening problem extra opening (Some text) rest given left_old left_new (Some commands) count None after gives end is opens part = tt
+SessionTells-opening problem extra opening (Some text) rest given left_old left_new (Some commands) count (Some held) after gives end is opens part =
+    let line = outcome_line opening.present.verdict in
+    let begins : PrintsBeginning problem extra (lines_of (take count commands)) part.0 =
+    record {
+      front = [];
+      begins = (lines_of (take count commands), refl);
+      whole = line ++ [];
+      prints = prints_opening problem extra opening opens;
+      part = (part.1.0, append-nil line ∙ part.1.1);
+    } in
+    (part.0, appended held part.0 after part.2, (problem, problem_text text given rest left_old left_new problem gives end is, begins))
+
+-- ---- the commands came to their end, or to a failed call
+
+prints_run : (problem : ProblemValue) (extra : ℕ) (opening last : Timeline Moment) (lines : List Line) (replies : List ℕ) → Opens problem extra opening
+    → Answers opening lines replies last → PrintsRun problem extra lines (outcome_line opening.present.verdict ++ replies)
+prints_run problem extra opening last lines replies opens answers = record {
+  opening = opening;
+  opens = opens;
+  last = last;
+  replies = replies;
+  answers = answers;
+  written_is = refl;
+}
+
+-- at known devices
+commands_end : (end : End) (extra : ℕ) (problem : ProblemValue) (opening : Timeline Moment) (text problem_given commands given held : List ℕ) (rest : Option (List ℕ)) (left_old left_new : ℕ) (mid after : Option (List ℕ))
+    → IsProblemText text problem_given problem → Opens problem extra opening → Gives (Some commands) rest given left_old left_new
+    → Appends (Some held) mid (outcome_line opening.present.verdict) → CommandsEnd end opening given rest mid after
+    → (written : List ℕ) × (after ≡ Some (held ++ written)) × SessionWrites end extra text problem_given commands (take (left_old - left_new) commands) written
+commands_end Solved extra problem opening text problem_given commands given held rest left_old left_new mid after is opens gives line ends = absurd ends
+commands_end Infeasible extra problem opening text problem_given commands given held rest left_old left_new mid after is opens gives line ends = absurd ends
+commands_end Valid extra problem opening text problem_given commands given held rest left_old left_new mid after is opens gives line ends = absurd ends
+commands_end NotValid extra problem opening text problem_given commands given held rest left_old left_new mid after is opens gives line ends = absurd ends
+commands_end (Refused input number at) extra problem opening text problem_given commands given held rest left_old left_new mid after is opens gives line ends = absurd ends
+commands_end (ReadFailed the.Problem) extra problem opening text problem_given commands given held rest left_old left_new mid after is opens gives line ends = absurd ends
+commands_end (ReadFailed the.Answer) extra problem opening text problem_given commands given held rest left_old left_new mid after is opens gives line ends = absurd ends
+commands_end Memory extra problem opening text problem_given commands given held rest left_old left_new mid after is opens gives line ends = absurd ends
+commands_end Ended extra problem opening text problem_given commands given held rest left_old left_new mid after is opens gives line ends =
+    let answered = ends.2 in
+    let whole = text_at_end commands given rest gives.bytes ends.0 in
+    let all = Appends-trans (Some held) mid after (outcome_line opening.present.verdict) answered.written line answered.appends in (
+      outcome_line opening.present.verdict ++ answered.written,
+      appended held _ after all,
+      (problem, is, rw whole (prints_run problem extra opening ends.1 (lines_of given) answered.written opens answered.answers)),
+    )
+commands_end (ReadFailed the.Commands) extra problem opening text problem_given commands given held rest left_old left_new mid after is opens gives line ends =
+    let answered = ends.1 in
+    let came = text_given commands given rest left_old left_new gives in
+    let all = Appends-trans (Some held) mid after (outcome_line opening.present.verdict) answered.written line answered.appends in (
+      outcome_line opening.present.verdict ++ answered.written,
+      appended held _ after all,
+      (problem, is, rw came (prints_run problem extra opening ends.0 (parts_of given).ended answered.written opens answered.answers)),
+    )
+commands_end WriteFailed extra problem opening text problem_given commands given held rest left_old left_new mid after is opens gives line ends =
+    let came = text_given commands given rest left_old left_new gives in
+    let part = AppendsBeginning-after (Some held) mid after (outcome_line opening.present.verdict) ends.whole line ends.appends in
+    let begins : PrintsBeginning problem extra (lines_of given) part.0 =
+    record {
+      front = ends.front;
+      begins = ends.begins;
+      whole = outcome_line opening.present.verdict ++ ends.whole;
+      prints = prints_run problem extra opening ends.last ends.front ends.whole opens ends.answers;
+      part = part.1;
+    } in
+    (part.0, appended held part.0 after part.2, (problem, is, rw came begins))
+
+pub SessionTells-commands : (end : End) (extra : ℕ) (problem : ProblemValue) (opening : Timeline Moment) (known problem_rest : Option (List ℕ)) (problem_given : List ℕ) (problem_old problem_new : ℕ)
+    (commands rest : Option (List ℕ)) (given : List ℕ) (left_old left_new : ℕ) (before mid after : Option (List ℕ))
+    → Gives known problem_rest problem_given problem_old problem_new → IsAtEnd problem_rest → reads problem_given ≡ Ok problem → Opens problem extra opening
+    → Appends before mid (outcome_line opening.present.verdict) → Gives commands rest given left_old left_new → CommandsEnd end opening given rest mid after
+    → SessionTells end extra known (problem_old - problem_new) commands (left_old - left_new) before after
+SessionTells-commands end extra problem opening None problem_rest problem_given problem_old problem_new commands rest given left_old left_new before mid after has at_end is opens line gives ends = tt
+SessionTells-commands end extra problem opening (Some text) problem_rest problem_given problem_old problem_new None rest given left_old left_new before mid after has at_end is opens line gives ends = tt
+SessionTells-commands end extra problem opening (Some text) problem_rest problem_given problem_old problem_new (Some commands) rest given left_old left_new None mid after has at_end is opens line gives ends = tt
+SessionTells-commands end extra problem opening (Some text) problem_rest problem_given problem_old problem_new (Some commands) rest given left_old left_new (Some held) mid after has at_end is opens line gives ends =
+    commands_end end extra problem opening text (take (problem_old - problem_new) text) commands given held rest left_old left_new mid after
+    (problem_text text problem_given problem_rest problem_old problem_new problem has at_end is) opens gives line ends

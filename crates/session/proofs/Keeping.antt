@@ -1,0 +1,82 @@
+-- What a session keeps, over each step.
+use Rattle.std.proofs.Common.{◌≡◌, ◌-◌, ◌^◌, ◌<◌, Bool, true, false, List, [], ◌∷◌, ◌++◌, length, get_or, refl, sym, ap, subst, arith}
+use Rattle.std.specs.Bool.{OnTrue, OnFalse}
+use Rattle.std.specs.List.{All}
+use Rattle.std.proofs.lemmas.List.{get_or_at}
+use Rattle.history.specs.Boards.{Changes, Timeline, all_boards, boards, StandsFor, StepsBack, StepsForward, Advances, MovesBack, MovesForward}
+use Rattle.history.proofs.Timelines.{stands_push, stands_back, stands_forward, boards_same, all_boards_back, all_boards_forward, all_advance}
+use Rattle.flow_solver.specs.Moment.{Moment}
+use Rattle.flow_solver.specs.Desk.{Desk, IsAnswered}
+use Rattle.session.specs.Places.{Kept}
+use Rattle.session.specs.Record.{Recorded, flow_end, flow_of, RecordFits, Differs, swapped, turned}
+use Rattle.session.specs.RecordLaws.{board_again, flow_end_fits, flow_of-swapped}
+use Rattle.session.specs.Session.{IsKept}
+use Rattle.session.proofs.Exact.{differ_taken}
+
+-- a turned record names only what differs too
+differs_turned : (r : Recorded) (m : Moment) → RecordFits r m → Differs r m → Differs (turned r m) (swapped r m)
+differs_turned r m fits differs = record {
+  flows = rw (flow_of-swapped r m fits.verdict) (differ_taken r.flows (flow_end r.part) (flow_of m) (flow_end_fits m fits.in_range r.part fits.part) fits.flows.rising fits.flows.within differs.flows);
+  potentials = differ_taken r.potentials Kept m.potentials tt fits.potentials.rising fits.potentials.within differs.potentials;
+  marks = differ_taken r.marks Kept m.cut tt fits.marks.rising fits.marks.within differs.marks;
+}
+
+pub kept_same : (old new : Changes Recorded) (m : Moment) → new.past ≡ old.past → new.future ≡ old.future → IsKept old m → IsKept new m
+kept_same old new m past future kept = record {
+  stands = record { back = rw past kept.stands.back; forward = rw future kept.stands.forward };
+  exact = record { back = rw past kept.exact.back; forward = rw future kept.exact.forward };
+  answered = subst (λ (t : Timeline Moment). All IsAnswered (all_boards t)) (sym (boards_same swapped old new m past future)) kept.answered;
+}
+
+kept_back : (old new : Changes Recorded) (m d : Moment) → IsKept old m → StandsFor RecordFits swapped new d → MovesBack turned swapped old new m d → StepsBack (boards swapped old m) (boards swapped new d) → IsKept new d
+kept_back old new m d kept stands moves steps = record {
+  stands = stands;
+  exact = stands_back Differs turned swapped RecordFits differs_turned board_again old new m d kept.stands kept.exact moves;
+  answered = subst (All IsAnswered) (sym (all_boards_back (boards swapped old m) (boards swapped new d) steps)) kept.answered;
+}
+
+kept_forward : (old new : Changes Recorded) (m d : Moment) → IsKept old m → StandsFor RecordFits swapped new d → MovesForward turned swapped old new m d → StepsForward (boards swapped old m) (boards swapped new d) → IsKept new d
+kept_forward old new m d kept stands moves steps = record {
+  stands = stands;
+  exact = stands_forward Differs turned swapped RecordFits differs_turned board_again old new m d kept.stands kept.exact moves;
+  answered = subst (All IsAnswered) (sym (all_boards_forward (boards swapped old m) (boards swapped new d) steps)) kept.answered;
+}
+
+-- a new step: the record leads from the new moment to the old one
+pub kept_push : (old new : Changes Recorded) (r : Recorded) (m d : Moment) → IsKept old m → RecordFits r d → Differs r d → swapped r d ≡ m → IsAnswered d → new.past ≡ old.past ++ r ∷ [] → new.future ≡ [] → Advances (boards swapped old m) (boards swapped new d) → IsKept new d
+kept_push old new r m d kept fits differs leads answered past future advances = record {
+  stands = stands_push RecordFits turned swapped old new r d fits (rw leads kept.stands) past future;
+  exact = stands_push Differs turned swapped old new r d differs (rw leads kept.exact) past future;
+  answered = all_advance IsAnswered (boards swapped old m) (boards swapped new d) advances kept.answered answered;
+}
+
+pub kept_by_undo : (moved : Bool) (old new : Changes Recorded) (m d : Moment) → IsKept old m → StandsFor RecordFits swapped new d → OnTrue moved (MovesBack turned swapped old new m d) → OnTrue moved (StepsBack (boards swapped old m) (boards swapped new d)) → OnFalse moved (new ≡ old) → OnFalse moved (d ≡ m) → IsKept new d
+kept_by_undo true old new m d kept stands moves steps same same_board = kept_back old new m d kept stands moves steps
+kept_by_undo false old new m d kept stands moves steps same same_board = rw (same, same_board) kept
+
+pub kept_by_redo : (moved : Bool) (old new : Changes Recorded) (m d : Moment) → IsKept old m → StandsFor RecordFits swapped new d → OnTrue moved (MovesForward turned swapped old new m d) → OnTrue moved (StepsForward (boards swapped old m) (boards swapped new d)) → OnFalse moved (new ≡ old) → OnFalse moved (d ≡ m) → IsKept new d
+kept_by_redo true old new m d kept stands moves steps same same_board = kept_forward old new m d kept stands moves steps
+kept_by_redo false old new m d kept stands moves steps same same_board = rw (same, same_board) kept
+
+-- a board that stays keeps its moment
+pub same_moment : (moved : Bool) (old new : Desk) → OnFalse moved (new ≡ old) → OnFalse moved (new.moment ≡ old.moment)
+same_moment true old new same = tt
+same_moment false old new same = ap (λ (t : Desk). t.moment) same
+
+-- the present moment is one of all
+pub present_answered : (h : Changes Recorded) (m : Moment) → IsKept h m → IsAnswered m
+present_answered h m kept =
+    let t : Timeline Moment = boards swapped h m in
+    let at : get_or (all_boards t) (length t.past) m ≡ m = get_or_at t.past m t.future m (length t.past) refl in
+    rw at at (kept.answered (length t.past) m (present_within t.past m t.future))
+  where
+    present_within : (xs : List Moment) (x : Moment) (ys : List Moment) → length xs < length (xs ++ x ∷ ys)
+    present_within [] x ys = omega arith
+    present_within (y ∷ xs) x ys = omega (arith, present_within xs x ys)
+
+-- how many values the views of the present moment hold
+pub few_arcs : (h : Changes Recorded) (m : Moment) → IsKept h m → length m.instance.arcs < 2 ^ 32 - 1
+few_arcs h m kept = let lawful = (present_answered h m kept).sized.lawful in omega (arith, lawful.count, lawful.room)
+
+pub few_nodes : (h : Changes Recorded) (m : Moment) → IsKept h m → m.instance.nodes < 2 ^ 32 - 1
+few_nodes h m kept = let lawful = (present_answered h m kept).sized.lawful in omega (arith, lawful.nodes.1)

@@ -1,0 +1,9 @@
+mod Found
+mod Exact
+mod Exchanges
+mod Swapping
+mod Keeping
+mod Moving
+mod Leading
+mod Recording
+mod Applying

@@ -1,0 +1,89 @@
+use Rattle.std.proofs.Common.{length, sym, ap, subst, ◌∙◌}
+use Rattle.std.proofs.lemmas.List.{with_items_is}
+use Rattle.flow_solver.specs.Moment.{Moment}
+use Rattle.session.specs.PlacesLaws.{length-taken}
+use Rattle.session.specs.Record.{Recorded, RecordFits, swapped, turned}
+use Rattle.session.proofs.Swapping.{tells_third, fits_third, lawful_fourth, one_an_arc_fourth, part_fourth, moment_left, record_left}
+use Rattle.session.proofs.record.RecordChange.swap.Goals as goal
+
+pub swap_verdict-requires-clause-fits : goal.swap_verdict-requires-clause-fits
+swap_verdict-requires-clause-fits c =
+    let r : Recorded = record { part = c.self.inside.part; flows = c.self.inside.flows.items; potentials = c.self.inside.potentials.items; marks = c.self.inside.marks.items; verdict = c.self.inside.verdict } in
+    let m : Moment = c.args.tables.now.moment in
+    let fits = subst (λ (q : Recorded). RecordFits q m) (sym c.self.view_is) c.requires in
+    let flows = rw c.deref_mut.ensures.value at c.swap_flows.ensures.moment in
+    let potentials = rw c.deref_mut-2.ensures.value at c.swap_potentials.ensures.moment in
+    let marks = rw c.deref_mut-3.ensures.value at c.swap_marks.ensures.moment in
+    fits_third r m fits c.swap_flows.new.tables.moment c.swap_potentials.new.tables.moment c.swap_marks.new.tables.moment flows potentials marks
+
+pub swap_verdict-requires-clause-worth : goal.swap_verdict-requires-clause-worth
+swap_verdict-requires-clause-worth c =
+    let r : Recorded = record { part = c.self.inside.part; flows = c.self.inside.flows.items; potentials = c.self.inside.potentials.items; marks = c.self.inside.marks.items; verdict = c.self.inside.verdict } in
+    let m : Moment = c.args.tables.now.moment in
+    let fits = subst (λ (q : Recorded). RecordFits q m) (sym c.self.view_is) c.requires in
+    let flows = rw c.deref_mut.ensures.value at c.swap_flows.ensures.moment in
+    let potentials = rw c.deref_mut-2.ensures.value at c.swap_potentials.ensures.moment in
+    let marks = rw c.deref_mut-3.ensures.value at c.swap_marks.ensures.moment in
+    tells_third r m fits c.swap_flows.new.tables.moment c.swap_potentials.new.tables.moment c.swap_marks.new.tables.moment flows potentials marks
+
+pub swap_part-self-inside-requires-clause-lawful : goal.swap_part-self-inside-requires-clause-lawful
+swap_part-self-inside-requires-clause-lawful c =
+    let r : Recorded = record { part = c.self.inside.part; flows = c.self.inside.flows.items; potentials = c.self.inside.potentials.items; marks = c.self.inside.marks.items; verdict = c.self.inside.verdict } in
+    let m : Moment = c.args.tables.now.moment in
+    let fits = subst (λ (q : Recorded). RecordFits q m) (sym c.self.view_is) c.requires in
+    let flows = rw c.deref_mut.ensures.value at c.swap_flows.ensures.moment in
+    let potentials = rw c.deref_mut-2.ensures.value at c.swap_potentials.ensures.moment in
+    let marks = rw c.deref_mut-3.ensures.value at c.swap_marks.ensures.moment in
+    lawful_fourth r m fits c.swap_flows.new.tables.moment c.swap_potentials.new.tables.moment c.swap_marks.new.tables.moment flows potentials marks c.swap_verdict.new.self.moment c.swap_verdict.ensures.moment
+
+pub swap_part-self-inside-requires-clause-one_an_arc : goal.swap_part-self-inside-requires-clause-one_an_arc
+swap_part-self-inside-requires-clause-one_an_arc c =
+    let r : Recorded = record { part = c.self.inside.part; flows = c.self.inside.flows.items; potentials = c.self.inside.potentials.items; marks = c.self.inside.marks.items; verdict = c.self.inside.verdict } in
+    let m : Moment = c.args.tables.now.moment in
+    let fits = subst (λ (q : Recorded). RecordFits q m) (sym c.self.view_is) c.requires in
+    let flows = rw c.deref_mut.ensures.value at c.swap_flows.ensures.moment in
+    let potentials = rw c.deref_mut-2.ensures.value at c.swap_potentials.ensures.moment in
+    let marks = rw c.deref_mut-3.ensures.value at c.swap_marks.ensures.moment in
+    one_an_arc_fourth r m fits c.swap_flows.new.tables.moment c.swap_potentials.new.tables.moment c.swap_marks.new.tables.moment flows potentials marks c.swap_verdict.new.self.moment c.swap_verdict.ensures.moment
+
+pub swap_part-self-inside-requires-clause-part : goal.swap_part-self-inside-requires-clause-part
+swap_part-self-inside-requires-clause-part c =
+    let r : Recorded = record { part = c.self.inside.part; flows = c.self.inside.flows.items; potentials = c.self.inside.potentials.items; marks = c.self.inside.marks.items; verdict = c.self.inside.verdict } in
+    let m : Moment = c.args.tables.now.moment in
+    let fits = subst (λ (q : Recorded). RecordFits q m) (sym c.self.view_is) c.requires in
+    let flows = rw c.deref_mut.ensures.value at c.swap_flows.ensures.moment in
+    let potentials = rw c.deref_mut-2.ensures.value at c.swap_potentials.ensures.moment in
+    let marks = rw c.deref_mut-3.ensures.value at c.swap_marks.ensures.moment in
+    part_fourth r m fits c.swap_flows.new.tables.moment c.swap_potentials.new.tables.moment c.swap_marks.new.tables.moment flows potentials marks c.swap_verdict.new.self.moment c.swap_verdict.ensures.moment
+
+-- each list and the part are left with what the moment had
+pub returns-clause-change : goal.returns-clause-change
+returns-clause-change c =
+    let r : Recorded = record { part = c.self.inside.part; flows = c.self.inside.flows.items; potentials = c.self.inside.potentials.items; marks = c.self.inside.marks.items; verdict = c.self.inside.verdict } in
+    let m : Moment = c.args.tables.now.moment in
+    let fits = subst (λ (q : Recorded). RecordFits q m) (sym c.self.view_is) c.requires in
+    let flows = rw c.deref_mut.ensures.value at c.swap_flows.ensures.moment in
+    let potentials = rw c.deref_mut-2.ensures.value at c.swap_potentials.ensures.moment in
+    let marks = rw c.deref_mut-3.ensures.value at c.swap_marks.ensures.moment in
+    let flows_are = rw c.deref_mut.ensures.value at c.swap_flows.ensures.places in
+    let potentials_are = rw c.deref_mut-2.ensures.value at c.swap_potentials.ensures.places in
+    let marks_are = rw c.deref_mut-3.ensures.value at c.swap_marks.ensures.places in
+    record_left r m fits c.swap_flows.new.tables.moment c.swap_potentials.new.tables.moment c.swap_marks.new.tables.moment flows potentials marks c.swap_verdict.new.self.moment c.swap_verdict.ensures.moment
+    _ _ _ _ _
+    (with_items_is c.self.inside.flows c.swap_flows.new.places (ap length flows_are ∙ length-taken r.flows _ ∙ sym c.self.inside.flows.ok.0) ∙ flows_are)
+    (with_items_is c.self.inside.potentials c.swap_potentials.new.places (ap length potentials_are ∙ length-taken r.potentials _ ∙ sym c.self.inside.potentials.ok.0) ∙ potentials_are)
+    (with_items_is c.self.inside.marks c.swap_marks.new.places (ap length marks_are ∙ length-taken r.marks _ ∙ sym c.self.inside.marks.ok.0) ∙ marks_are)
+    c.swap_verdict.ensures.value c.swap_part-self-inside.ensures.part
+    ∙ ap (λ (q : Recorded). turned q m) c.self.view_is
+
+pub returns-clause-board : goal.returns-clause-board
+returns-clause-board c =
+    let r : Recorded = record { part = c.self.inside.part; flows = c.self.inside.flows.items; potentials = c.self.inside.potentials.items; marks = c.self.inside.marks.items; verdict = c.self.inside.verdict } in
+    let m : Moment = c.args.tables.now.moment in
+    let fits = subst (λ (q : Recorded). RecordFits q m) (sym c.self.view_is) c.requires in
+    let flows = rw c.deref_mut.ensures.value at c.swap_flows.ensures.moment in
+    let potentials = rw c.deref_mut-2.ensures.value at c.swap_potentials.ensures.moment in
+    let marks = rw c.deref_mut-3.ensures.value at c.swap_marks.ensures.moment in
+    moment_left r m fits c.swap_flows.new.tables.moment c.swap_potentials.new.tables.moment c.swap_marks.new.tables.moment flows potentials marks c.swap_verdict.new.self.moment c.swap_verdict.ensures.moment
+    c.swap_part-self-inside.new.tables.moment c.swap_part-self-inside.ensures.moment
+    ∙ ap (λ (q : Recorded). swapped q m) c.self.view_is

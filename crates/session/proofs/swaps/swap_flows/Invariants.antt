@@ -1,0 +1,13 @@
+use Rattle.std.proofs.Common.{◌≡◌, ◌++◌, take, drop}
+use Rattle.session.specs.Places.{exchanged, taken}
+use Rattle.session.specs.Record.{flow_of, with_flow}
+use Rattle.session.proofs.swaps.swap_flows.Given as goal
+
+-- the places up to the index are exchanged
+abbrev pub invariant-loop-place : goal.invariant-loop-place
+invariant-loop-place l =
+    let values = flow_of l.fn.tables.moment in
+    record {
+      places : l.places ≡ taken (take l.place-index l.fn.places) values ++ drop l.place-index l.fn.places;
+      moment : l.tables.moment ≡ with_flow l.fn.tables.moment (exchanged (take l.place-index l.fn.places) values);
+    }

@@ -1,0 +1,16 @@
+//! A session of edits of a flow problem, with undo and redo of whole moments.
+#![tactic(auto)]
+
+mod differences;
+mod part;
+mod record;
+mod refusal;
+mod session;
+mod swaps;
+#[cfg(test)]
+mod tests;
+
+pub use part::Part;
+pub use record::Record;
+pub use refusal::Refusal;
+pub use session::Session;

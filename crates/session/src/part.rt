@@ -1,0 +1,16 @@
+//! The place of an instance that a step changes.
+
+use dimacs_text::ArcRow;
+
+/// The place of the instance that a step changes, with the value of the side that is not present.
+#[derive(Clone, Copy, Debug, PartialEq, Eq)]
+pub enum Part {
+    /// The bounds and the cost of an arc, which is counted from 1.
+    Arc { k: u32, row: ArcRow },
+    /// The supply of a node, which is counted from 1.
+    Supply { id: u32, value: i64 },
+    /// An added arc that is there: the last one.
+    Last,
+    /// An added arc that was undone, with its flow.
+    Gone { row: ArcRow, flow: i64 },
+}

@@ -1,0 +1,169 @@
+//! A session: whole moments in the order of time, of which one is present.
+
+ghost use Rattle.std.specs.Prelude.{◌≡◌, ℕ, ◌+◌, ◌-◌, ◌^◌, ◌<◌, ◌≤◌, ◌↔◌, ◌++◌, ◌∷◌, [], length, map, take, Err, IsTrue, IsNone, IfOk, IfSome, OnOk, OnErr, slice_get};
+ghost use Rattle.std.specs.Bool.{OnTrue, OnFalse};
+ghost use Rattle.std.specs.Option.{option_copied};
+ghost use Rattle.history.specs.Boards.{Advances, StepsBack, StepsForward};
+ghost use Rattle.network.specs.Edited.{edited};
+ghost use Rattle.network.specs.Instance.{first};
+ghost use Rattle.flow_solver.specs.Desk.{IsAnswered};
+ghost use Rattle.flow_solver.specs.Edit.{IsChange};
+ghost use Rattle.session.specs.Record.{flow_of};
+ghost use Rattle.session.specs.Session.{IsEdited, IsRecord, moment_at, place_of, place_of_edit};
+
+use crate::record::Record;
+use crate::refusal::Refusal;
+use dimacs_text::{Edit, Problem};
+use flow_solver::{Tables, Verdict};
+use history::History;
+use network::{Network, build};
+use std::alloc::{AllocError, Global};
+use std::marker::Model;
+
+/// Past moments, the present one and future ones, each a network with an answer to it.
+#[derive(Drop)]
+pub struct Session {
+    tables: Tables,
+    history: History<Record>,
+    alloc: Global,
+}
+
+impl Model for Session {
+    ghost use Rattle.session.specs.Session.{Stack, stack_of, IsKept};
+
+    ghost Value = { Stack };
+
+    ghost view = { λ s. stack_of s.history s.tables.moment };
+
+    ghost invariant = { λ s. IsKept s.history s.tables.moment };
+}
+
+impl Session {
+    /// Opens a session on a problem, with room for `extra` arcs more, up to the limit of arcs.
+    ///
+    /// # Errors
+    /// Memory for the tables was refused.
+    pub fn open(alloc: Global, problem: &Problem, extra: u32) -> Result<Self, AllocError>
+        ensures past { IfOk result (λ s. s.moments.past ≡ []) }
+        ensures future { IfOk result (λ s. s.moments.future ≡ []) }
+        ensures records { IfOk result (λ s. s.records ≡ []) }
+        ensures instance { IfOk result (λ s. s.moments.present.instance ≡ first problem.now extra) }
+        ensures answered { IfOk result (λ s. IsAnswered s.moments.present) }
+    {
+        let mut tables = Tables::new(alloc, build(alloc, problem, extra)?)?;
+        tables.settle();
+        Ok(Session {
+            tables,
+            history: History::new(alloc),
+            alloc,
+        })
+    }
+
+    /// Applies an edit: the present moment becomes past, and the future is dropped. Gives the number of pushes. After a
+    /// refusal the session is as before.
+    ///
+    /// # Errors
+    /// `Cause` with the number of the first refusal of `Network::edited`; `Memory` where a growth was refused.
+    pub fn apply(&mut self, edit: &Edit) -> Result<u64, Refusal>
+        ensures edited { OnOk result (IsEdited edit.now self.old.moments.present self.new.moments.present) }
+        ensures advances { OnOk result (Advances self.old.moments self.new.moments) }
+        ensures records { OnOk result ((r : Record) × (self.new.records ≡ take (length self.old.moments.past) self.old.records ++ r ∷ []) × (place_of r ≡ place_of_edit edit.now)) }
+        ensures cause { (number : ℕ) → (result ≡ Err (Refusal.Cause number)) ↔ (edited self.old.moments.present.instance edit.now ≡ Err number) }
+        ensures pushes { IfOk result (λ n. IsChange self.old.moments.present.instance self.new.moments.present.instance edit.now self.old.moments.present.flow self.new.moments.present.flow n) }
+        ensures refused { OnErr result (self.new ≡ self.old) }
+    {
+        self.tables.network().edited(edit).map_err(Refusal::Cause)?;
+        self.history.reserve_one()?;
+        let pushes = self.tables.change(edit);
+        match Record::of_last_change(self.alloc, edit, &self.tables) {
+            Ok(record) => {
+                self.history.push(record);
+                Ok(pushes)
+            }
+            Err(refused) => {
+                self.tables.restore();
+                Err(refused.into())
+            }
+        }
+    }
+
+    /// Goes back to the last moment of the past. False where there is none.
+    pub fn undo(&mut self) -> bool
+        ensures answer { IsTrue result ↔ (0 < length self.old.moments.past) }
+        ensures undone { OnTrue result (StepsBack self.old.moments self.new.moments) }
+        ensures places { map place_of self.new.records ≡ map place_of self.old.records }
+        ensures unchanged { OnFalse result (self.new ≡ self.old) }
+    {
+        self.history.undo(&mut self.tables)
+    }
+
+    /// Goes on to the first moment of the future. False where there is none.
+    pub fn redo(&mut self) -> bool
+        ensures answer { IsTrue result ↔ (0 < length self.old.moments.future) }
+        ensures redone { OnTrue result (StepsForward self.old.moments self.new.moments) }
+        ensures places { map place_of self.new.records ≡ map place_of self.old.records }
+        ensures unchanged { OnFalse result (self.new ≡ self.old) }
+    {
+        self.history.redo(&mut self.tables)
+    }
+
+    /// The network of the present moment.
+    pub fn network(&self) -> &Network
+        ensures { result.now ≡ self.now.moments.present.instance }
+    {
+        self.tables.network()
+    }
+
+    /// What is told of the network.
+    pub fn verdict(&self) -> Verdict
+        ensures value { result ≡ self.now.moments.present.verdict }
+        ensures answered { IsAnswered self.now.moments.present }
+    {
+        self.tables.verdict()
+    }
+
+    /// The flow of each arc, in the order of the arcs.
+    pub fn flow(&self) -> &[i64]
+        ensures value { result.now ≡ flow_of self.now.moments.present }
+        ensures one_an_arc { length result.now ≡ length self.now.moments.present.instance.arcs }
+        ensures count { length result.now < 2 ^ 32 - 1 }
+    {
+        self.tables.flow()
+    }
+
+    /// The potential of each node, in the order of the nodes.
+    pub fn potentials(&self) -> &[i64]
+        ensures value { result.now ≡ self.now.moments.present.potentials }
+        ensures one_a_node { length result.now ≡ self.now.moments.present.instance.nodes }
+        ensures count { length result.now < 2 ^ 32 - 1 }
+    {
+        self.tables.potentials()
+    }
+
+    /// A mark for each node, set where the node is in the cut.
+    pub fn cut(&self) -> &[bool]
+        ensures value { result.now ≡ self.now.moments.present.cut }
+        ensures one_a_node { length result.now ≡ self.now.moments.present.instance.nodes }
+        ensures count { length result.now < 2 ^ 32 - 1 }
+    {
+        self.tables.cut()
+    }
+
+    /// How many moments are past and future.
+    pub fn steps(&self) -> (usize, usize)
+        ensures past { result.0 ≡ length self.now.moments.past }
+        ensures future { result.1 ≡ length self.now.moments.future }
+    {
+        self.history.steps()
+    }
+
+    /// What differs between moment i and the next, counted from 0 at the opening.
+    pub fn moved(&self, i: usize) -> Option<&Record>
+        ensures there { IsNone result ↔ (length self.now.moments.past + length self.now.moments.future ≤ i) }
+        ensures record { option_copied result ≡ slice_get self.now.records i }
+        ensures past { i < length self.now.moments.past → IfSome result (λ r. IsRecord r.now (moment_at self.now (i + 1)) (moment_at self.now i)) }
+        ensures future { length self.now.moments.past ≤ i → IfSome result (λ r. IsRecord r.now (moment_at self.now i) (moment_at self.now (i + 1))) }
+    {
+        self.history.change(i)
+    }
+}
