@@ -2,7 +2,6 @@
 use Rattle.std.proofs.Common.{◌≡◌, List, [], ◌∷◌, ◌++◌, Option, Some, None, Result, Ok, Err, ℤ, refl, sym, ap, ◌∙◌}
 use Rattle.std.proofs.lemmas.List.{append-nil}
 use Rattle.dimacs_text.specs.declared.fault.Fault.{Fault}
-use Rattle.dimacs_text.specs.declared.fault.Fault.TheVariants as fault
 use Rattle.dimacs_text.specs.declared.fault.LineError.{LineError}
 use Rattle.dimacs_text.specs.Lines.{Line}
 use Rattle.dimacs_text.specs.Fields.{Word, words_of}
@@ -49,9 +48,6 @@ taken_blank old line e = (rw e refl, same old line None (rw e refl) refl)
 
 pub taken_comment : (old : Drafted) (line : Line) (word : Word) (fields : List Word) → words_of line ≡ word ∷ fields → line_of word ≡ line_kind.Comment → (line_fault old.nodes old.arcs old.said line ≡ None) × (old ≡ with_said old (and_said old.said line))
 taken_comment old line word fields e d = (rw (e, d) refl, same old line (Some line_kind.Comment) (rw (e, d) refl) refl)
-
-pub taken_unknown : (old : Drafted) (line : Line) (word : Word) (fields : List Word) → words_of line ≡ word ∷ fields → line_of word ≡ line_kind.Unknown → line_fault old.nodes old.arcs old.said line ≡ Some fault.UnknownDesignator
-taken_unknown old line word fields e d = rw (e, d) refl
 
 none_before : (read : Result ℤ Fault) (said : Said) (fields : List Word) → read_value said fields ≡ read → fault_of read ≡ None → said.value ≡ None
 none_before (Ok value) said fields e none = (read_value-ok said fields value e).first

@@ -181,10 +181,6 @@ arc_change I J edit k row q x y n certified change changed =
 
 -- ---- an accepted arc
 
-both : (a b : Bool) → (a && b) ≡ true → (a ≡ true) × (b ≡ true)
-both true b e = (refl, e)
-both false b e = cc
-
 abbrev new_row : ℕ → ℕ → ℤ → ℤ → ℤ → ArcRow
 new_row tail head low cap cost = record { tail = tail; head = head; low = low; cap = cap; cost = cost }
 

@@ -14,8 +14,9 @@ use Rattle.flow_solver.specs.declared.visit.Visit.{Visit}
 use Rattle.flow_solver.specs.Residual.{IsRow, IsWithin, IsFlow, NoneBelow, number_at, arc_at, room_of, start_at, end_at, cost_at}
 use Rattle.flow_solver.specs.declared.visit.Mark.TheVariants.{Settled}
 use Rattle.flow_solver.specs.Search.{visit_at, mark_at, depth_at}
+use Rattle.flow_solver.proofs.SearchLemmas.{IsPut, IsPut-set}
 use Rattle.network.specs.Flow.{net, outflow, inflow}
-use Rattle.flow_solver.specs.Push.{Hop, IsPath, nodes_on, moved, IsShift, path_of, root_of, path_to, HavePaths, HasRoom, push_along, IsTight, at_node, IsTransfer}
+use Rattle.flow_solver.specs.Push.{Hop, IsPath, nodes_on, moved, IsShift, path_of, root_of, path_to, IsCameBy, HavePaths, ArePaths, IsHopTo, IsTightArc, turned, HasRoom, push_along, IsTight, at_node, IsTransfer}
 
 -- the last arc of the path to v, and the node before it
 abbrev pub arc_to : List Visit → ℕ → ℕ
@@ -307,3 +308,51 @@ IsTransfer-any u w m e a b u_in w_in a_is b_is = elim (cases_eq u w) [
   }
   | inr apart ↦ IsTransfer-put u w m e a b u_in w_in apart a_is b_is
 ]
+
+-- a path that takes another last hop is a path
+module _ (arcs : List ArcRow) (q x : List ℤ) (s : List Visit) (v k : ℕ) (way : Way)
+    (paths : ArePaths arcs q s) (hop : IsHopTo arcs q x s v k way) (v_in : v < length s)
+  where
+    put : IsPut s (slice_set s v (turned (visit_at s v) k way)) v (turned (visit_at s v) k way)
+    put = IsPut-set s v (turned (visit_at s v) k way) v_in
+
+    of_each : (P : Visit → Visit → Type 0) → P (turned (visit_at s v) k way) (visit_at s v) → ((e : Visit) → P e e) → (w : ℕ) → P (visit_at (slice_set s v (turned (visit_at s v) k way)) w) (visit_at s w)
+    of_each P here else w = elim (cases_eq w v) [
+      | inl same ↦ subst (λ (u : ℕ). P (visit_at (slice_set s v (turned (visit_at s v) k way)) u) (visit_at s u)) (sym same) (subst (λ (e : Visit). P e (visit_at s v)) (sym put.here) here)
+      | inr ne ↦ subst (λ (e : Visit). P e (visit_at s w)) (sym (put.elsewhere w ne)) (else (visit_at s w))
+    ]
+
+    mark_same : (w : ℕ) → mark_at (slice_set s v (turned (visit_at s v) k way)) w ≡ mark_at s w
+    mark_same = of_each (λ e f. e.mark ≡ f.mark) refl (λ e. refl)
+
+    depth_same : (w : ℕ) → depth_at (slice_set s v (turned (visit_at s v) k way)) w ≡ depth_at s w
+    depth_same = of_each (λ e f. e.depth ≡ f.depth) refl (λ e. refl)
+
+    came_still : (w j : ℕ) (a : Way) → IsCameBy arcs s w j a → IsCameBy arcs (slice_set s v (turned (visit_at s v) k way)) w j a
+    came_still w j a came = record {
+      is_arc = came.is_arc;
+      ends = came.ends;
+      before = mark_same (start_at arcs j a) ∙ came.before;
+      deeper = depth_same w ∙ came.deeper ∙ ap (λ (n : ℕ). n + 1) (sym (depth_same (start_at arcs j a)));
+    }
+
+    came_at : (w : ℕ) → mark_at s w ≡ Settled → 0 < depth_at s w → (Q : ℕ → Way → Type 0) → (w ≡ v → Q k way) → Q (visit_at s w).arc (visit_at s w).way → Q (visit_at (slice_set s v (turned (visit_at s v) k way)) w).arc (visit_at (slice_set s v (turned (visit_at s v) k way)) w).way
+    came_at w settled deep Q here else = elim (cases_eq w v) [
+      | inl same ↦ (let at_w : visit_at (slice_set s v (turned (visit_at s v) k way)) w ≡ turned (visit_at s v) k way = ap (visit_at (slice_set s v (turned (visit_at s v) k way))) same ∙ put.here in
+          subst (λ (e : Visit). Q e.arc e.way) (sym at_w) (here same))
+      | inr ne ↦ subst (λ (e : Visit). Q e.arc e.way) (sym (put.elsewhere w ne)) else
+    ]
+
+    pub paths_turned : ArePaths arcs q (slice_set s v (turned (visit_at s v) k way))
+    paths_turned = record {
+      paths = λ w settled deep.
+          (let was = sym (mark_same w) ∙ settled in
+          let was_deep : 0 < depth_at s w = omega (arith, depth_same w) in
+          came_at w was was_deep (λ (j : ℕ) (a : Way). IsCameBy arcs (slice_set s v (turned (visit_at s v) k way)) w j a)
+          (λ same. came_still w k way (subst (λ (u : ℕ). IsCameBy arcs s u k way) (sym same) hop.came))
+          (came_still w _ _ (paths.paths w was was_deep)));
+      tight = λ w settled deep.
+          (let was = sym (mark_same w) ∙ settled in
+          let was_deep : 0 < depth_at s w = omega (arith, depth_same w) in
+          came_at w was was_deep (λ (j : ℕ) (a : Way). IsTightArc arcs q j a) (λ same. hop.tight) (paths.tight w was was_deep));
+    }

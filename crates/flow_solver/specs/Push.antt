@@ -8,7 +8,7 @@ use Rattle.flow_solver.specs.declared.residual.Way.{Way}
 use Rattle.flow_solver.specs.declared.residual.Way.TheVariants.{Forward, Backward}
 use Rattle.flow_solver.specs.declared.visit.Visit.{Visit}
 use Rattle.flow_solver.specs.declared.visit.Mark.TheVariants.{Settled}
-use Rattle.flow_solver.specs.Residual.{IsFlow, NoneBelow, number_at, arc_at, start_at, end_at, cost_at, room_of}
+use Rattle.flow_solver.specs.Residual.{IsFlow, NoneBelow, number_at, arc_at, start_at, end_at, cost_at, room_of, IsResidual}
 use Rattle.flow_solver.specs.Search.{visit_at, mark_at, depth_at, IsFoundDeficit}
 
 -- an arc taken in one of its two directions
@@ -110,6 +110,26 @@ IsTightArc arcs q k way = number_at q (end_at arcs k way) ≡ cost_at arcs k way
 -- nor does any arc by which the search came to a settled node
 abbrev pub ArePathsTight : List ArcRow → List ℤ → List Visit → Type 0
 ArePathsTight arcs q s = (v : ℕ) → mark_at s v ≡ Settled → 0 < depth_at s v → IsTightArc arcs q (visit_at s v).arc (visit_at s v).way
+
+-- behind each settled node lies a path of arcs that cost nothing under the potentials q
+pub record ArePaths (arcs : List ArcRow) (q : List ℤ) (s : List Visit) : Type 0 where
+  pub paths : HavePaths arcs s
+  pub tight : ArePathsTight arcs q s
+
+-- a path to node v can take the residual arc along arc k as its last hop
+pub record IsHopTo (arcs : List ArcRow) (q x : List ℤ) (s : List Visit) (v k : ℕ) (way : Way) : Type 0 where
+  pub residual : IsResidual arcs x k way
+  pub came : IsCameBy arcs s v k way
+  pub tight : IsTightArc arcs q k way
+
+-- what is known of a node whose path takes another last hop
+abbrev pub turned : Visit → ℕ → Way → Visit
+turned e k way = record { mark = e.mark; key = e.key; depth = e.depth; arc = k; way = way }
+
+-- node u is settled, and one hop nearer than `depth`
+pub record IsBefore (s : List Visit) (depth u : ℕ) : Type 0 where
+  pub settled : mark_at s u ≡ Settled
+  pub nearer : depth ≡ depth_at s u + 1
 
 -- no hop of the path costs anything under the potentials q
 abbrev pub IsTight : List ArcRow → List ℤ → List Hop → Type 0

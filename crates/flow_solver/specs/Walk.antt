@@ -18,6 +18,10 @@ pub record AreRowsOf (I : Instance) (rows : List ArcRow) : Type 0 where
 abbrev pub end_way : ℕ → Way
 end_way end = if (end % 2) == 0 then Forward else Backward
 
+-- the way in which the residual arc to an end goes along its arc
+abbrev pub way_to_end : ℕ → Way
+way_to_end end = if (end % 2) == 0 then Backward else Forward
+
 -- the walk has passed this end
 abbrev pub IsPassed : Option ℕ → ℕ → Type 0
 IsPassed None end = Unit {0}

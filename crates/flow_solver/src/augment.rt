@@ -1,14 +1,17 @@
 //! Flow pushed along the path that a search found.
 
-ghost use Rattle.std.specs.Prelude.{◌≡◌, ◌≢◌, ℕ, ℤ, List, length, slice_set, pos, neg_ℤ, ◌≤ℤ◌, ◌<ℤ◌, ◌+ℤ◌, ◌-ℤ◌, ◌<◌, ◌≤◌, ◌+◌, IsTrue, ◌↔◌};
-ghost use Rattle.flow_solver.specs.Residual.{IsRow, IsWithin, IsFlow, NoneBelow, number_at, arc_at, start_at, room_of};
-ghost use Rattle.flow_solver.specs.Search.{visit_at, mark_at, IsFoundDeficit};
-ghost use Rattle.flow_solver.specs.Push.{IsCameBy, HavePaths, ArePathsTight, HasRoom, path_to, root_to, push_along, moved, AreSmall, IsTransfer, IsUnderWay, ArePushes, CanPush};
+ghost use Rattle.std.specs.Prelude.{◌≡◌, ◌≢◌, ℕ, ℤ, List, length, slice_set, pos, neg_ℤ, ◌≤ℤ◌, ◌<ℤ◌, ◌+ℤ◌, ◌-ℤ◌, ◌<◌, ◌≤◌, ◌+◌, ◌^◌, ◌⊎◌, IsTrue, ◌↔◌, IfSome};
+ghost use Rattle.flow_solver.specs.Limits.{potential_floor};
+ghost use Rattle.flow_solver.specs.Walk.{AreRowsOf};
+ghost use Rattle.flow_solver.specs.Residual.{IsRow, IsWithin, IsFlow, ArePotentials, number_at, arc_at, start_at, start_of, end_of, cost_of, room_of};
+ghost use Rattle.flow_solver.specs.Search.{visit_at, mark_at, depth_at, IsFoundDeficit};
+ghost use Rattle.flow_solver.specs.Push.{IsCameBy, IsHopTo, HavePaths, ArePathsTight, ArePaths, IsBefore, turned, HasRoom, path_to, root_to, push_along, moved, AreSmall, IsTransfer, IsUnderWay, ArePushes, CanPush};
 ghost use Rattle.flow_solver.specs.declared.visit.Mark.TheVariants.{Settled};
 
 use crate::residual::Way;
 use crate::visit::Visit;
 use dimacs_text::ArcRow;
+use network::Network;
 
 /// Where the path to a node begins, and how much fits along it, at most `limit`.
 fn bottleneck(
@@ -187,24 +190,299 @@ fn push_to(
     1
 }
 
-/// Pushes along the paths to the nodes in deficit that the search found, and counts the pushes.
-pub fn push_found(
+/// The cost of a residual arc less what the potentials pay for it.
+fn reduced_cost(row: &ArcRow, potentials: &[i64], way: Way) -> i64
+    requires row { IsRow (length potentials.now) row.now }
+    requires potentials_in { ArePotentials (length potentials.now) potential_floor potentials.now }
+    ensures { result ≡ (cost_of row.now way +ℤ number_at potentials.now (start_of row.now way)) -ℤ number_at potentials.now (end_of row.now way) }
+{
+    let start = way.start(row) as usize;
+    let end = way.end(row) as usize;
+    way.unit_cost(row) + potentials[start] - potentials[end]
+}
+
+/// Whether a residual arc costs nothing under the potentials.
+fn is_tight(row: &ArcRow, potentials: &[i64], way: Way) -> bool
+    requires row { IsRow (length potentials.now) row.now }
+    requires potentials_in { ArePotentials (length potentials.now) potential_floor potentials.now }
+    ensures { IsTrue result ↔ (number_at potentials.now (end_of row.now way) ≡ cost_of row.now way +ℤ number_at potentials.now (start_of row.now way)) }
+{
+    let reduced = reduced_cost(row, potentials, way);
+    reduced == 0
+}
+
+/// Whether arc `k`, gone along in this way, is a hop that a path to the node can take.
+fn is_hop_to(
+    rows: &[ArcRow],
+    flow: &[i64],
+    potentials: &[i64],
+    visits: &[Visit],
+    node: usize,
+    k: usize,
+    way: Way,
+) -> bool
+    requires flow { IsFlow (length visits.now) rows.now flow.now }
+    requires potentials_in { ArePotentials (length visits.now) potential_floor potentials.now }
+    requires node_in { node < length visits.now }
+    requires arc_in { k < length rows.now }
+    ensures { IsTrue result → IsHopTo rows.now potentials.now flow.now visits.now node k way }
+{
+    let row = rows[k];
+    if way.end(&row) as usize != node {
+        return false;
+    }
+    if way.room(&row, flow[k]) <= 0 {
+        return false;
+    }
+    let start = way.start(&row) as usize;
+    if !visits[start].is_settled() {
+        return false;
+    }
+    if u64::from(visits[start].depth) + 1 != u64::from(visits[node].depth) {
+        return false;
+    }
+    is_tight(&row, potentials, way)
+}
+
+/// Another hop to the node, from a node that is not spent.
+fn other_hop(
+    net: &Network,
+    rows: &[ArcRow],
+    flow: &[i64],
+    potentials: &[i64],
+    visits: &[Visit],
+    spent: &[bool],
+    node: usize,
+) -> Option<(usize, Way)>
+    requires net { AreRowsOf net.now rows.now }
+    requires flow { IsFlow (length visits.now) rows.now flow.now }
+    requires potentials_in { ArePotentials (length visits.now) potential_floor potentials.now }
+    requires node_in { node < length visits.now }
+    requires spent_in { length spent.now ≡ length visits.now }
+    ensures { IfSome result (λ hop. IsHopTo rows.now potentials.now flow.now visits.now node hop.0 hop.1) }
+{
+    let row = rows.len() - net.arcs() as usize;
+    let mut current = net.first_end(node as u32);
+    while let Some(end) = current {
+        let k = end as usize / 2 + row;
+        let way = Way::to_end(end);
+        let start = way.start(&rows[k]) as usize;
+        if !spent[start] && is_hop_to(rows, flow, potentials, visits, node, k, way) {
+            return Some((k, way));
+        }
+        current = net.next_end(end);
+    }
+    None
+}
+
+/// Makes a hop the last one on the path to the node.
+fn turn(visits: &mut [Visit], node: usize, k: usize, way: Way)
+    requires node_in { node < length visits.old }
+    requires arc_fits { k < 2 ^ 32 }
+    ensures { visits.new ≡ slice_set visits.old node (turned (visit_at visits.old node) k way) }
+{
+    let visit = visits[node];
+    visits[node] = Visit {
+        mark: visit.mark,
+        key: visit.key,
+        depth: visit.depth,
+        arc: k as u32,
+        way,
+    };
+}
+
+/// The node before this one on its path, which is turned to another hop where the last one is used up or comes from a
+/// spent node; nothing where there is no other.
+fn hop_back(
+    net: &Network,
+    rows: &[ArcRow],
+    flow: &[i64],
+    potentials: &[i64],
+    visits: &mut [Visit],
+    spent: &[bool],
+    node: usize,
+) -> Option<usize>
+    requires net { AreRowsOf net.now rows.now }
+    requires flow { IsFlow (length visits.old) rows.now flow.now }
+    requires potentials_in { ArePotentials (length visits.old) potential_floor potentials.now }
+    requires paths { ArePaths rows.now potentials.now visits.old }
+    requires settled { mark_at visits.old node ≡ Settled }
+    requires deep { 0 < depth_at visits.old node }
+    requires spent_in { length spent.now ≡ length visits.old }
+    ensures paths { ArePaths rows.now potentials.now visits.new }
+    ensures before { IfSome result (IsBefore visits.new (depth_at visits.old node)) }
+{
+    let visit = visits[node];
+    let k = visit.arc as usize;
+    let row = rows[k];
+    let start = visit.way.start(&row) as usize;
+    if visit.way.room(&row, flow[k]) > 0 && !spent[start] {
+        return Some(start);
+    }
+    match other_hop(net, rows, flow, potentials, visits, spent, node) {
+        Some((other, way)) => {
+            turn(visits, node, other, way);
+            Some(way.start(&rows[other]) as usize)
+        }
+        None => None,
+    }
+}
+
+/// Goes back from `target` to a node in excess, and tells whether it came to one. Where it came to a node from which
+/// nothing more is to be had, that one is spent.
+fn walk_back(
+    net: &Network,
+    rows: &[ArcRow],
+    flow: &[i64],
+    potentials: &[i64],
+    excess: &[i64],
+    visits: &mut [Visit],
+    spent: &mut [bool],
+    target: usize,
+) -> bool
+    requires net { AreRowsOf net.now rows.now }
+    requires flow { IsFlow (length visits.old) rows.now flow.now }
+    requires potentials_in { ArePotentials (length visits.old) potential_floor potentials.now }
+    requires paths { ArePaths rows.now potentials.now visits.old }
+    requires settled { mark_at visits.old target ≡ Settled }
+    requires excess_in { length excess.now ≡ length visits.old }
+    requires spent_in { length spent.old ≡ length visits.old }
+    ensures paths { ArePaths rows.now potentials.now visits.new }
+{
+    let mut node = target;
+    while visits[node].depth > 0 {
+        match hop_back(net, rows, flow, potentials, visits, spent, node) {
+            Some(before) => node = before,
+            None => {
+                spent[node] = true;
+                return false;
+            }
+        }
+    }
+    if excess[node] > 0 {
+        return true;
+    }
+    spent[node] = true;
+    false
+}
+
+/// Looks for a path to `target` that has room and begins at a node in excess, and tells whether there is one.
+fn find_path(
+    net: &Network,
+    rows: &[ArcRow],
+    flow: &[i64],
+    potentials: &[i64],
+    excess: &[i64],
+    visits: &mut [Visit],
+    spent: &mut [bool],
+    target: usize,
+) -> bool
+    requires net { AreRowsOf net.now rows.now }
+    requires flow { IsFlow (length visits.old) rows.now flow.now }
+    requires potentials_in { ArePotentials (length visits.old) potential_floor potentials.now }
+    requires paths { ArePaths rows.now potentials.now visits.old }
+    requires target_in { target < length visits.old }
+    requires excess_in { length excess.now ≡ length visits.old }
+    requires spent_in { length spent.old ≡ length visits.old }
+    ensures paths { ArePaths rows.now potentials.now visits.new }
+{
+    for _ in 0..spent.len() {
+        if spent[target] || !is_found_deficit(excess, visits, target) {
+            return false;
+        }
+        if walk_back(net, rows, flow, potentials, excess, visits, spent, target) {
+            return true;
+        }
+    }
+    false
+}
+
+/// Pushes to a node in deficit as long as another path to it is found, and counts the pushes.
+fn push_more_to(
+    net: &Network,
     rows: &[ArcRow],
     flow: &mut [i64],
     potentials: &[i64],
     excess: &mut [i64],
-    visits: &[Visit],
+    visits: &mut [Visit],
+    spent: &mut [bool],
+    target: usize,
 ) -> u64
-    requires state { IsUnderWay (length visits.now) rows.now potentials.now flow.old excess.old }
-    requires paths { HavePaths rows.now visits.now }
-    requires tight { ArePathsTight rows.now potentials.now visits.now }
-    ensures state { IsUnderWay (length visits.now) rows.now potentials.now flow.new excess.new }
+    requires net { AreRowsOf net.now rows.now }
+    requires state { IsUnderWay (length visits.old) rows.now potentials.now flow.old excess.old }
+    requires potentials_in { ArePotentials (length visits.old) potential_floor potentials.now }
+    requires paths { ArePaths rows.now potentials.now visits.old }
+    requires target_in { target < length visits.old }
+    requires spent_in { length spent.old ≡ length visits.old }
+    ensures state { IsUnderWay (length visits.new) rows.now potentials.now flow.new excess.new }
+    ensures paths { ArePaths rows.now potentials.now visits.new }
     ensures pushes { ArePushes rows.now result flow.old excess.old flow.new excess.new }
-    ensures some { (t : ℕ) → CanPush rows.now flow.old excess.old visits.now t → 0 < result }
 {
     let mut pushes = 0;
-    for target in 0..visits.len() {
+    for _ in 0..spent.len() {
+        if !find_path(net, rows, flow, potentials, excess, visits, spent, target) {
+            return pushes;
+        }
         pushes += push_to(rows, flow, potentials, excess, visits, target);
+    }
+    pushes
+}
+
+/// Pushes to a node in deficit that the search found, along one path after the other, and counts the pushes.
+fn push_all_to(
+    net: &Network,
+    rows: &[ArcRow],
+    flow: &mut [i64],
+    potentials: &[i64],
+    excess: &mut [i64],
+    visits: &mut [Visit],
+    spent: &mut [bool],
+    target: usize,
+) -> u64
+    requires net { AreRowsOf net.now rows.now }
+    requires state { IsUnderWay (length visits.old) rows.now potentials.now flow.old excess.old }
+    requires potentials_in { ArePotentials (length visits.old) potential_floor potentials.now }
+    requires paths { ArePaths rows.now potentials.now visits.old }
+    requires target_in { target < length visits.old }
+    requires spent_in { length spent.old ≡ length visits.old }
+    ensures state { IsUnderWay (length visits.new) rows.now potentials.now flow.new excess.new }
+    ensures paths { ArePaths rows.now potentials.now visits.new }
+    ensures pushes { ArePushes rows.now result flow.old excess.old flow.new excess.new }
+    ensures some { CanPush rows.now flow.old excess.old visits.old target → 0 < result }
+    ensures kept { IsFoundDeficit excess.old visits.old target ⊎ (visits.new ≡ visits.old) }
+{
+    if !is_found_deficit(excess, visits, target) {
+        return 0;
+    }
+    let first = push_to(rows, flow, potentials, excess, visits, target);
+    let more = push_more_to(net, rows, flow, potentials, excess, visits, spent, target);
+    first + more
+}
+
+/// Pushes to the nodes in deficit that the search found, and counts the pushes.
+pub fn push_found(
+    net: &Network,
+    rows: &[ArcRow],
+    flow: &mut [i64],
+    potentials: &[i64],
+    excess: &mut [i64],
+    visits: &mut [Visit],
+    spent: &mut [bool],
+) -> u64
+    requires net { AreRowsOf net.now rows.now }
+    requires state { IsUnderWay (length visits.old) rows.now potentials.now flow.old excess.old }
+    requires potentials_in { ArePotentials (length visits.old) potential_floor potentials.now }
+    requires paths { ArePaths rows.now potentials.now visits.old }
+    requires spent_in { length spent.old ≡ length visits.old }
+    requires can_push { (t : ℕ) → IsFoundDeficit excess.old visits.old t → CanPush rows.now flow.old excess.old visits.old t }
+    ensures state { IsUnderWay (length visits.new) rows.now potentials.now flow.new excess.new }
+    ensures pushes { ArePushes rows.now result flow.old excess.old flow.new excess.new }
+    ensures some { (t : ℕ) → IsFoundDeficit excess.old visits.old t → 0 < result }
+{
+    spent.fill(false);
+    let mut pushes = 0;
+    for target in 0..visits.len() {
+        pushes += push_all_to(net, rows, flow, potentials, excess, visits, spent, target);
     }
     pushes
 }

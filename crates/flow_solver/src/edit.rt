@@ -224,18 +224,21 @@ pub fn arc_of(net: &Network, k: u64) -> ArcRow
     row
 }
 
+/// An arc with another capacity.
 fn with_cap(row: ArcRow, cap: i64) -> ArcRow
     ensures { result ≡ record row { cap = cap } }
 {
     ArcRow { cap, ..row }
 }
 
+/// An arc with another lower bound.
 fn with_low(row: ArcRow, low: i64) -> ArcRow
     ensures { result ≡ record row { low = low } }
 {
     ArcRow { low, ..row }
 }
 
+/// An arc with another cost.
 fn with_cost(row: ArcRow, cost: i64) -> ArcRow
     ensures { result ≡ record row { cost = cost } }
 {
@@ -294,6 +297,7 @@ pub fn edited_supply(net: &Network, edit: &Edit) -> (u32, i64)
     }
 }
 
+/// The arc with these ends, bounds and cost.
 fn new_row(tail: u32, head: u32, low: i64, cap: i64, cost: i64) -> ArcRow
     ensures { result ≡ record { tail = tail; head = head; low = low; cap = cap; cost = cost } }
 {

@@ -3,7 +3,7 @@
 ghost use Rattle.std.specs.Prelude.{◌≡◌, FitsSigned};
 ghost use Rattle.std.specs.Int.{w64};
 ghost use Rattle.flow_solver.specs.Residual.{start_of, end_of, cost_of, room_of};
-ghost use Rattle.flow_solver.specs.Walk.{end_way};
+ghost use Rattle.flow_solver.specs.Walk.{end_way, way_to_end};
 
 use dimacs_text::ArcRow;
 
@@ -24,6 +24,17 @@ impl Way {
             Way::Forward
         } else {
             Way::Backward
+        }
+    }
+
+    /// The way in which the residual arc to an end of an arc goes along it.
+    pub fn to_end(end: u32) -> Self
+        ensures { result ≡ way_to_end end }
+    {
+        if end % 2 == 0 {
+            Way::Backward
+        } else {
+            Way::Forward
         }
     }
 

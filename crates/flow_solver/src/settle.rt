@@ -22,7 +22,8 @@ use network::Network;
 /// How far potentials may fall before labels are taken again.
 const FALL_LIMIT: i64 = 70_000_000_000_000_000;
 
-/// Pushes flow along shortest paths until no node in excess reaches a node in deficit, and counts the pushes.
+/// Pushes flow along shortest paths until no node in excess reaches a node in deficit, and counts the pushes. `spent` is
+/// a table to mark nodes in.
 pub fn push_all(
     net: &Network,
     rows: &[ArcRow],
@@ -31,12 +32,14 @@ pub fn push_all(
     excess: &mut [i64],
     visits: &mut [Visit],
     queue: &mut Queue,
+    spent: &mut [bool],
 ) -> u64
     requires net { AreRowsOf net.now rows.now }
     requires certified { IsCertified rows.now flow.old potentials.old }
     requires potentials_in { ArePotentials (length potentials.old) label_floor potentials.old }
     requires excess_in { length excess.old ≡ length potentials.old }
     requires visits_in { length visits.old ≡ length potentials.old }
+    requires spent_in { length spent.old ≡ length potentials.old }
     requires sized { IsQueueFor (length potentials.old) queue.old }
     requires small { AreSmall excess.old }
     ensures certified { IsCertified rows.now flow.new potentials.new }
@@ -54,7 +57,7 @@ pub fn push_all(
     let mut fallen = 0;
     while let Some(reach) = find_deficits(net, rows, flow, potentials, excess, visits, queue) {
         lower(potentials, visits, reach);
-        pushes += push_found(rows, flow, potentials, excess, visits);
+        pushes += push_found(net, rows, flow, potentials, excess, visits, spent);
         fallen = keep_near(net, rows, flow, potentials, visits, queue, fallen + reach);
     }
     pushes
@@ -146,7 +149,7 @@ pub fn settle(
     ensures sized { IsQueueFor (length potentials.new) queue.new }
     ensures cut { (supply : ℕ → ℤ) → IsExcess rows.now supply flow.old excess.old → IsChosenSet rows.now supply excess.new cut.new }
 {
-    let pushes = push_all(net, rows, flow, potentials, excess, visits, queue);
+    let pushes = push_all(net, rows, flow, potentials, excess, visits, queue, cut);
     mark_cut(rows, flow, excess, visits, cut);
     raise(net, rows, flow, potentials, visits, queue);
     pushes

@@ -1,5 +1,5 @@
 -- What a whole check has written, by where it ends.
-use Rattle.std.proofs.Common.{◌≡◌, ◌≢◌, ◌↔◌, IsTrue, ℕ, ◌+◌, ◌-◌, Bool, true, false, List, [], length, take, Option, None, Some, Result, Ok, Err, inl, inr, refl, sym, ap, ◌∙◌, arith, append-nil, if◌then◌else◌, subst}
+use Rattle.std.proofs.Common.{◌≡◌, ◌↔◌, IsTrue, ℕ, ◌-◌, Bool, true, false, List, [], length, take, Option, None, Some, Result, Ok, Err, inl, inr, refl, sym, ap, ◌∙◌, append-nil, if◌then◌else◌, subst}
 use Rattle.std.specs.Io.KnownBytes.{Appends, Consumes, IsAtEnd}
 use Rattle.dimacs_io.specs.Device.{AppendsBeginning}
 use Rattle.dimacs_text.specs.declared.answer.Answer.{Answer}
@@ -9,15 +9,13 @@ use Rattle.dimacs_text.specs.Stream.{decided}
 use Rattle.dimacs_text.specs.Reading.{ProblemValue, problem_rule, reads}
 use Rattle.dimacs_text.specs.Answer.{answer_rule, answers}
 use Rattle.dimacs_text.proofs.AnswerLemmas.{answer_always}
-use Rattle.mcf.specs.declared.end.Text.{Text}
 use Rattle.mcf.specs.declared.end.Text.TheVariants as the
-use Rattle.mcf.specs.declared.end.End.{End}
-use Rattle.mcf.specs.declared.end.End.TheVariants.{Valid, NotValid, WriteFailed, Memory}
+use Rattle.mcf.specs.declared.end.End.TheVariants.{Valid, NotValid, WriteFailed}
 use Rattle.mcf.specs.declared.read.ReadError.{ReadError}
 use Rattle.mcf.specs.declared.read.ReadError.TheVariants as read_error
-use Rattle.mcf.specs.Reading.{Gives, ReadsText, CountsRead, end_of}
+use Rattle.mcf.specs.Reading.{Gives, ReadsText, end_of}
 use Rattle.mcf.proofs.SourceLemmas.{text_at_end, text_given, all_given, problem_text, reads_decided, appended}
-use Rattle.mcf.specs.Check.{IsProblemText, IsAnswerText, Judges, CheckWrites, CheckTells, IsRight, Settles, ValidSettles, problem_failures, answer_failures, write_failures, verdict_line}
+use Rattle.mcf.specs.Check.{IsProblemText, IsAnswerText, Judges, CheckWrites, CheckTells, IsRight, verdict_line}
 
 -- ---- the bytes that came
 
@@ -89,13 +87,6 @@ CheckTells-answer e problem (Some whole) problem_rest problem_given problem_old 
   answer_end e problem whole _ text given rest left_old left_new (problem_text whole problem_given problem_rest problem_old problem_new problem has end reads) gives is,
 )
 
-pub CheckTells-memory : (known : Option (List ℕ)) (problem_count : ℕ) (answer : Option (List ℕ)) (count : ℕ) (before : Option (List ℕ))
-    → CheckTells Memory known problem_count answer count before before
-CheckTells-memory None problem_count answer count before = tt
-CheckTells-memory (Some whole) problem_count None count before = tt
-CheckTells-memory (Some whole) problem_count (Some text) count None = tt
-CheckTells-memory (Some whole) problem_count (Some text) count (Some held) = ([], ap (λ l. Some l) (sym (append-nil held)), refl)
-
 -- both texts were read to their ends, and the answer was judged
 pub record HaveCome (problem : ProblemValue) (answer : Answer) (known problem_rest : Option (List ℕ)) (problem_given : List ℕ) (problem_old problem_new : ℕ)
     (answer_known rest : Option (List ℕ)) (given : List ℕ) (left_old left_new : ℕ) : Type 0 where
@@ -154,53 +145,4 @@ CheckTells-judged right problem answer (Some whole) problem_rest problem_given p
 
 -- ---- valid answers settle the problem
 
-pub ValidSettles-other : (end : End) (known answer : Option (List ℕ)) → end ≢ Valid → ValidSettles end known answer
-ValidSettles-other end None answer other = tt
-ValidSettles-other end (Some whole) None other = tt
-ValidSettles-other end (Some whole) (Some text) other = λ is. absurd (other is)
-
-pub end_of-valid : (input : Text) (e : ReadError) → end_of input e ≢ Valid
-end_of-valid input (read_error.Text text_fault.Memory) is = cc
-end_of-valid input (read_error.Text (text_fault.Fault number line)) is = cc
-end_of-valid input read_error.Source is = cc
-
-pub ValidSettles-valid : (problem : ProblemValue) (answer : Answer) (known problem_rest : Option (List ℕ)) (problem_given : List ℕ) (problem_old problem_new : ℕ)
-    (answer_known rest : Option (List ℕ)) (given : List ℕ) (left_old left_new : ℕ)
-    → HaveCome problem answer known problem_rest problem_given problem_old problem_new answer_known rest given left_old left_new
-    → Settles answer problem → ValidSettles Valid known answer_known
-ValidSettles-valid problem answer None problem_rest problem_given problem_old problem_new answer_known rest given left_old left_new come settled = tt
-ValidSettles-valid problem answer (Some whole) problem_rest problem_given problem_old problem_new None rest given left_old left_new come settled = tt
-ValidSettles-valid problem answer (Some whole) problem_rest problem_given problem_old problem_new (Some text) rest given left_old left_new come settled = λ _. record {
-  problem = problem;
-  problem_is = ap reads (text_at_end whole problem_given problem_rest come.has.bytes come.problem_ends) ∙ come.problem_is;
-  answer = answer;
-  answer_is = ap (answers problem.nodes (length problem.arcs)) (text_at_end text given rest come.gives.bytes come.ends) ∙ come.answer_is;
-  settled = settled;
-}
-
 -- ---- the counts of failed calls
-
-pub problem_failures-problem : (X : Type 0) (e : ReadError) (old new : ℕ) → CountsRead {X = X} (Err e) old new → new ≡ old + problem_failures (end_of the.Problem e)
-problem_failures-problem X (read_error.Text text_fault.Memory) old new is = omega (arith, is)
-problem_failures-problem X (read_error.Text (text_fault.Fault number line)) old new is = omega (arith, is)
-problem_failures-problem X read_error.Source old new is = is
-
-pub answer_failures-answer : (X : Type 0) (e : ReadError) (old new : ℕ) → CountsRead {X = X} (Err e) old new → new ≡ old + answer_failures (end_of the.Answer e)
-answer_failures-answer X (read_error.Text text_fault.Memory) old new is = omega (arith, is)
-answer_failures-answer X (read_error.Text (text_fault.Fault number line)) old new is = omega (arith, is)
-answer_failures-answer X read_error.Source old new is = is
-
-pub problem_failures-answer : (e : ReadError) → problem_failures (end_of the.Answer e) ≡ 0
-problem_failures-answer (read_error.Text text_fault.Memory) = refl
-problem_failures-answer (read_error.Text (text_fault.Fault number line)) = refl
-problem_failures-answer read_error.Source = refl
-
-pub answer_failures-problem : (e : ReadError) → answer_failures (end_of the.Problem e) ≡ 0
-answer_failures-problem (read_error.Text text_fault.Memory) = refl
-answer_failures-problem (read_error.Text (text_fault.Fault number line)) = refl
-answer_failures-problem read_error.Source = refl
-
-pub write_failures-read : (input : Text) (e : ReadError) → write_failures (end_of input e) ≡ 0
-write_failures-read input (read_error.Text text_fault.Memory) = refl
-write_failures-read input (read_error.Text (text_fault.Fault number line)) = refl
-write_failures-read input read_error.Source = refl

@@ -1,5 +1,5 @@
 -- The lines of a text that goes on.
-use Rattle.std.proofs.Common.{◌≡◌, ℕ, ◌+◌, ◌-◌, ◌<◌, ◌≤◌, Bool, true, false, cond, ltb, length, length-drop, arith, List, [], ◌∷◌, ◌++◌, take, drop, refl, sym, ap, ◌∙◌, append_assoc, append-nil, take-append-drop}
+use Rattle.std.proofs.Common.{◌≡◌, ℕ, ◌+◌, ◌<◌, ◌≤◌, Bool, true, false, cond, ltb, length, length-drop, arith, List, [], ◌∷◌, ◌++◌, take, drop, refl, sym, ap, ◌∙◌, append_assoc, append-nil, take-append-drop}
 use Rattle.std.proofs.lemmas.Bool.{ltb-true}
 use Rattle.std.proofs.Math.Seq.{take-add}
 use Rattle.std.specs.List.{position_or_len}
@@ -51,9 +51,3 @@ bytes_used-some piece h = used_some (has_line_feed piece) (position_or_len is_li
 -- so much more of it is taken
 pub used_more : (piece : List ℕ) (at used : ℕ) → at < length piece → used ≡ bytes_used (drop at piece) → at + used ≤ length piece
 used_more piece at used h e = omega (arith, bytes_used-within (drop at piece), length-drop at piece)
-
--- and less is left
-pub used_less : (piece : List ℕ) (at used : ℕ) → at < length piece → used ≡ bytes_used (drop at piece) → length piece - (at + used) < length piece - at
-used_less piece at used h e =
-    let left : length (drop at piece) ≡ length piece - at = length-drop at piece in
-    omega (arith, bytes_used-some (drop at piece) (omega arith))

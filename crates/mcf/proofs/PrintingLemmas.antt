@@ -28,9 +28,6 @@ Wrote-more a b c whole rest next more w e p = record {
 pub Wrote-nothing : (a : Option (List ℕ)) (whole : List ℕ) → Wrote a a whole whole
 Wrote-nothing a whole = record { done = []; appends = Appends-nil a; parts = refl }
 
-pub Wrote-same : (a : Option (List ℕ)) (whole rest : List ℕ) → whole ≡ rest → Wrote a a whole rest
-Wrote-same a whole rest e = record { done = []; appends = Appends-nil a; parts = e }
-
 pub Wrote-all : (a b : Option (List ℕ)) (whole rest : List ℕ) → Wrote a b whole rest → rest ≡ [] → Appends a b whole
 Wrote-all a b whole rest w e =
     let all : whole ≡ w.done = w.parts ∙ ap (λ l. w.done ++ l) e ∙ append-nil w.done in

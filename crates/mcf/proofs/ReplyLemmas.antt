@@ -129,12 +129,6 @@ kept_is line text is = kept_some (is_too_long line) line text (sym is)
 pub same_words : (line a b : Line) → Some a ≡ kept line → Some b ≡ kept line → words_of b ≡ [] → words_of a ≡ []
 same_words line a b is is' none = ap words_of (sym (kept_is line a is).1 ∙ (kept_is line b is').1) ∙ none
 
--- a blank line is not answered
-pub answers_blank : (s : Timeline Moment) (line text : Line) → Some text ≡ kept line → words_of text ≡ [] → AnswersLine s line [] s
-answers_blank s line text is none =
-    let k = kept_is line text is in
-    asked false s s line [] (no_words (is_too_long line) (words_of line) k.0 (ap words_of k.1 ∙ none)) (refl, refl)
-
 -- any other line is answered as its command is
 pub answers_command : (old new : Timeline Moment) (line text : Line) (r : Result Command ℕ) (reply : Reply) → Some text ≡ kept line → (words_of text ≡ [] → ⊥)
     → r ≡ command (kind_of old.present.instance.demand) text → MatchResult r (λ c. StepBy c old reply new) (λ number. IsRefused number old reply new)

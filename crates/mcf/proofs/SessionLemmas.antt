@@ -42,13 +42,6 @@ SessionTells-problem e extra (Some text) rest given left_old left_new (Some comm
 SessionTells-problem e extra (Some text) rest given left_old left_new (Some commands) count (Some held) gives is =
     ([], ap (λ l. Some l) (sym (append-nil held)), problem_end e extra text given commands (take count commands) rest left_old left_new gives is)
 
-pub SessionTells-memory : (extra : ℕ) (known : Option (List ℕ)) (problem_count : ℕ) (commands : Option (List ℕ)) (count : ℕ) (before : Option (List ℕ))
-    → SessionTells Memory extra known problem_count commands count before before
-SessionTells-memory extra None problem_count commands count before = tt
-SessionTells-memory extra (Some text) problem_count None count before = tt
-SessionTells-memory extra (Some text) problem_count (Some commands) count None = tt
-SessionTells-memory extra (Some text) problem_count (Some commands) count (Some held) = ([], ap (λ l. Some l) (sym (append-nil held)), refl)
-
 -- ---- the opening line was written up to a failed call
 
 prints_opening : (problem : ProblemValue) (extra : ℕ) (opening : Timeline Moment) → Opens problem extra opening

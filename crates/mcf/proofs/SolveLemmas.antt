@@ -10,12 +10,10 @@ use Rattle.flow_solver.specs.declared.verdict.Verdict.{Verdict}
 use Rattle.flow_solver.specs.declared.verdict.Verdict.TheVariants as verdict
 use Rattle.flow_solver.specs.Moment.{Moment}
 use Rattle.mcf.specs.declared.end.Text.TheVariants as the
-use Rattle.mcf.specs.declared.end.End.TheVariants.{WriteFailed, Memory}
+use Rattle.mcf.specs.declared.end.End.TheVariants.{WriteFailed}
 use Rattle.mcf.specs.declared.read.ReadError.{ReadError}
 use Rattle.mcf.specs.declared.read.ReadError.TheVariants as read_error
 use Rattle.mcf.specs.Reading.{Gives, ReadsText, end_of}
-use Rattle.mcf.specs.Check.{write_failures}
-use Rattle.mcf.specs.Check.{problem_failures}
 use Rattle.mcf.specs.Printing.{solution}
 use Rattle.mcf.specs.Solve.{IsSettled, Solves, Prints, SolveWrites, SolveTells, end_by}
 use Rattle.mcf.proofs.SourceLemmas.{text_at_end, text_given, problem_text, reads_decided, appended}
@@ -36,11 +34,6 @@ SolveTells-problem e proof None rest given left_old left_new before gives is = t
 SolveTells-problem e proof (Some text) rest given left_old left_new None gives is = tt
 SolveTells-problem e proof (Some text) rest given left_old left_new (Some held) gives is =
     ([], ap (λ l. Some l) (sym (append-nil held)), problem_end e proof text given rest left_old left_new gives is)
-
-pub SolveTells-memory : (proof : Bool) (known : Option (List ℕ)) (count : ℕ) (before : Option (List ℕ)) → SolveTells Memory proof known count before before
-SolveTells-memory proof None count before = tt
-SolveTells-memory proof (Some text) count None = tt
-SolveTells-memory proof (Some text) count (Some held) = ([], ap (λ l. Some l) (sym (append-nil held)), refl)
 
 solves : (problem : ProblemValue) (m : Moment) (text given : List ℕ) (rest : Option (List ℕ)) (left_old left_new : ℕ) → Gives (Some text) rest given left_old left_new
     → IsAtEnd rest → reads given ≡ Ok problem → IsSettled (first problem 0) m → Solves text (take (left_old - left_new) text) m
@@ -78,11 +71,3 @@ SolveTells-solved problem m proof (Some text) rest given left_old left_new (Some
     (solution proof m, appended held (solution proof m) after all, by_verdict m.verdict proof text (take (left_old - left_new) text) (solution proof m) prints)
 
 -- the counts of failed calls
-
-pub problem_failures-solved : (v : Verdict) → problem_failures (end_by v) ≡ 0
-problem_failures-solved (verdict.Best worth) = refl
-problem_failures-solved (verdict.Infeasible shortage) = refl
-
-pub write_failures-solved : (v : Verdict) → write_failures (end_by v) ≡ 0
-write_failures-solved (verdict.Best worth) = refl
-write_failures-solved (verdict.Infeasible shortage) = refl

@@ -27,6 +27,7 @@ pub fn task<'a>(alloc: Global, words: &'a [String]) -> Result<Task<'a>, Usage>
     }
 }
 
+/// The task of `solve`, by its matches.
 fn solve<'a>(found: &ArgMatches<'a>) -> Task<'a>
     ensures { Names (Some (codes "solve", rows_of (found_of found.now))) result }
 {
@@ -36,6 +37,7 @@ fn solve<'a>(found: &ArgMatches<'a>) -> Task<'a>
     }
 }
 
+/// The task of `session`, by its matches.
 fn session<'a>(found: &ArgMatches<'a>) -> Result<Task<'a>, Usage>
     ensures { IfOk result (Names (Some (codes "session", rows_of (found_of found.now)))) }
 {
@@ -51,6 +53,7 @@ fn session<'a>(found: &ArgMatches<'a>) -> Result<Task<'a>, Usage>
     })
 }
 
+/// The task of `check`, by its matches.
 fn check<'a>(found: &ArgMatches<'a>) -> Result<Task<'a>, Usage>
     ensures { IfOk result (Names (Some (codes "check", rows_of (found_of found.now)))) }
 {

@@ -59,6 +59,7 @@ fn serve<O: Sink>(session: &mut Session, command: Command, out: &mut O) -> Resul
     }
 }
 
+/// Applies an edit, and writes the outcome of the new moment, or the number of its refusal.
 fn apply<O: Sink>(session: &mut Session, edit: &Edit, out: &mut O) -> Result<(), Broken>
     requires { O.failures out.old < 2 ^ 64 - 1 }
     ensures replies { Replies result (StepOfEdit edit.now session.old.moments) session.new.moments (O.contents out.old) (O.contents out.new) }
@@ -70,6 +71,7 @@ fn apply<O: Sink>(session: &mut Session, edit: &Edit, out: &mut O) -> Result<(),
     }
 }
 
+/// Goes back one moment, and writes its outcome, or that there is none.
 fn undo<O: Sink>(session: &mut Session, out: &mut O) -> Result<(), Broken>
     requires { O.failures out.old < 2 ^ 64 - 1 }
     ensures replies { Replies result (StepBy Command.Undo session.old.moments) session.new.moments (O.contents out.old) (O.contents out.new) }
@@ -82,6 +84,7 @@ fn undo<O: Sink>(session: &mut Session, out: &mut O) -> Result<(), Broken>
     }
 }
 
+/// Goes on one moment, and writes its outcome, or that there is none.
 fn redo<O: Sink>(session: &mut Session, out: &mut O) -> Result<(), Broken>
     requires { O.failures out.old < 2 ^ 64 - 1 }
     ensures replies { Replies result (StepBy Command.Redo session.old.moments) session.new.moments (O.contents out.old) (O.contents out.new) }

@@ -1,6 +1,7 @@
+use Rattle.flow_solver.specs.Limits.{potential_floor}
 use Rattle.std.proofs.Common.{◌≡◌, ◌+◌, ◌<◌, ◌^◌, ◌∙◌, ℕ, ℤ, List, length, sym, subst, arith, rules, w64, to_z, of_z, SFits}
 use Rattle.std.proofs.lemmas.Int.{ints, to_z-of_z}
-use Rattle.flow_solver.specs.Residual.{IsFlow}
+use Rattle.flow_solver.specs.Residual.{IsFlow, ArePotentials}
 use Rattle.flow_solver.specs.Search.{IsLowered, HasFound}
 use Rattle.flow_solver.specs.declared.visit.Visit.{Visit}
 use Rattle.flow_solver.specs.Push.{left}
@@ -41,13 +42,24 @@ push_found-pushes-requires-clause-state c =
       small = inv.small;
     }
 
-pub push_found-pushes-requires-clause-paths : goal.push_found-pushes-requires-clause-paths
-push_found-pushes-requires-clause-paths c = paths_of_search c.find_deficits.ensures.search
+pub push_found-pushes-requires-clause-potentials_in : goal.push_found-pushes-requires-clause-potentials_in
+push_found-pushes-requires-clause-potentials_in c =
+    let at = (goal.at.push_found-pushes-requires-clause-potentials_in c).After-lower in
+    let same : length c.find_deficits.new.visits ≡ length c.lower.new.potentials = c.find_deficits.ensures.search.sized ∙ sym c.lower.auto.potentials in
+    subst (λ (n : ℕ). ArePotentials n potential_floor c.lower.new.potentials) (sym same)
+    (potentials_after c.args.rows.now c.loop-reach.flow c.loop-reach.potentials c.lower.new.potentials c.find_deficits.new.visits c.in-Some.reach (to_z w64 c.loop-reach.fallen-bits) c.loop-reach.invariant.certified c.find_deficits.ensures.search c.find_deficits.ensures.relaxed c.in-Some.ensures.found.front (is_lowered at) c.loop-reach.invariant.near)
 
-pub push_found-pushes-requires-clause-tight : goal.push_found-pushes-requires-clause-tight
-push_found-pushes-requires-clause-tight c =
-    let at = (goal.at.push_found-pushes-requires-clause-tight c).After-lower in
-    paths_tight c.args.rows.now c.loop-reach.flow c.loop-reach.potentials c.lower.new.potentials c.find_deficits.new.visits c.in-Some.reach (to_z w64 c.loop-reach.fallen-bits) c.loop-reach.invariant.certified c.find_deficits.ensures.search c.find_deficits.ensures.relaxed c.in-Some.ensures.found.front (is_lowered at) c.loop-reach.invariant.near
+pub push_found-pushes-requires-clause-paths : goal.push_found-pushes-requires-clause-paths
+push_found-pushes-requires-clause-paths c =
+    let at = (goal.at.push_found-pushes-requires-clause-paths c).After-lower in
+    record {
+      paths = paths_of_search c.find_deficits.ensures.search;
+      tight = paths_tight c.args.rows.now c.loop-reach.flow c.loop-reach.potentials c.lower.new.potentials c.find_deficits.new.visits c.in-Some.reach (to_z w64 c.loop-reach.fallen-bits) c.loop-reach.invariant.certified c.find_deficits.ensures.search c.find_deficits.ensures.relaxed c.in-Some.ensures.found.front (is_lowered at) c.loop-reach.invariant.near;
+    }
+
+pub push_found-pushes-requires-clause-can_push : goal.push_found-pushes-requires-clause-can_push
+push_found-pushes-requires-clause-can_push c = λ t found.
+    can_push c.args.rows.now c.loop-reach.flow c.loop-reach.potentials c.loop-reach.excess c.find_deficits.new.visits t c.find_deficits.ensures.search c.find_deficits.ensures.from_excess found
 
 pub overflow_add-pushes : goal.overflow_add-pushes
 overflow_add-pushes c =
@@ -68,7 +80,7 @@ overflow_add-fallen c =
 pub keep_near-fallen-requires-clause-certified : goal.keep_near-fallen-requires-clause-certified
 keep_near-fallen-requires-clause-certified c =
     let at = (goal.at.keep_near-fallen-requires-clause-certified c).After-lower in
-    let same : length c.find_deficits.new.visits ≡ length c.lower.new.potentials = c.find_deficits.ensures.search.sized ∙ sym c.lower.auto.potentials in
+    let same : length c.push_found-pushes.new.visits ≡ length c.lower.new.potentials = c.push_found-pushes.auto.visits ∙ c.find_deficits.ensures.search.sized ∙ sym c.lower.auto.potentials in
     record {
       flow = subst (λ (n : ℕ). IsFlow n c.args.rows.now c.push_found-pushes.new.flow) same c.push_found-pushes.ensures.state.flow;
       potentials = potentials_after c.args.rows.now c.loop-reach.flow c.loop-reach.potentials c.lower.new.potentials c.find_deficits.new.visits c.in-Some.reach (to_z w64 c.loop-reach.fallen-bits) c.loop-reach.invariant.certified c.find_deficits.ensures.search c.find_deficits.ensures.relaxed c.in-Some.ensures.found.front (is_lowered at) c.loop-reach.invariant.near;
@@ -87,7 +99,7 @@ keep_near-fallen-requires-clause-at_least c = λ v.
 falls : (c : After-push_found-pushes) → left c.push_found-pushes.new.excess < left c.loop-reach.excess
 falls c =
     let target = c.in-Some.ensures.found.found in
-    let some = c.push_found-pushes.ensures.some target.0 (can_push c.args.rows.now c.loop-reach.flow c.loop-reach.potentials c.loop-reach.excess c.find_deficits.new.visits target.0 c.find_deficits.ensures.search c.find_deficits.ensures.from_excess target.1) in
+    let some = c.push_found-pushes.ensures.some target.0 target.1 in
     omega (arith, some, c.push_found-pushes.ensures.pushes.count)
 
 pub loop-reach-smaller : goal.loop-reach-smaller
