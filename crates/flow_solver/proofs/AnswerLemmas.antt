@@ -12,7 +12,7 @@ use Rattle.std.specs.List.{AllByRecursion}
 use Rattle.dimacs_text.specs.Lawful.{IsLawfulRow}
 use Rattle.network.proofs.Circulation.{zero_bounds, zero_net}
 use Rattle.network.proofs.Reduction.{made, rows_of, reduced_ends, certified_is_best, breach_rules_out, from_reduced}
-use Rattle.network.proofs.Reach.{surplus_at_most}
+use Rattle.network.proofs.Surplus.{surplus_at_most}
 use Rattle.flow_solver.specs.declared.verdict.Verdict.{Verdict}
 use Rattle.flow_solver.specs.declared.verdict.Verdict.TheVariants.{Best, Infeasible}
 use Rattle.flow_solver.specs.Limits.{supply_limit, entry_limit, cap_sum_limit}

@@ -1,9 +1,10 @@
 -- Sums over sets of nodes, and which set has the greatest surplus.
-use Rattle.std.proofs.Common.{◌≡◌, ℕ, zero, suc, ◌<◌, ℤ, pos, negsuc, neg_ℤ, ◌-ℤ◌, ◌+ℤ◌, ◌≤ℤ◌, List, [], ◌∷◌, length, map, replicate, refl, sym, ap, subst, ◌∙◌, inl, inr, arith, Bool, true, false, cond, not, ◌&&◌}
+use Rattle.std.proofs.Common.{◌≡◌, ℕ, zero, suc, ◌<◌, ℤ, pos, negsuc, neg_ℤ, ◌-ℤ◌, ◌+ℤ◌, ◌≤ℤ◌, List, [], ◌∷◌, length, map, replicate, refl, sym, ap, subst, ◌∙◌, inl, inr, arith, Bool, true, false, cond, not, ◌&&◌, ◌||◌}
 use Rattle.std.specs.Prelude.{◌<ℤ◌}
 use Rattle.std.proofs.lemmas.Int.{ints, by_lt_z}
 use Rattle.std.proofs.lemmas.Bool.{cases_eq, false≢true, true≢false, true_from_ne_false, false_from_ne_true}
 use Rattle.std.proofs.lemmas.List.Sums.{sum_by-cons}
+use Rattle.std.specs.List.{count_by}
 use Rattle.std.proofs.lemmas.List.{length-map}
 use Rattle.dimacs_text.specs.declared.problem.ArcRow.{ArcRow}
 use Rattle.flow_solver.specs.declared.residual.Way.{Way}
@@ -17,7 +18,7 @@ use Rattle.flow_solver.specs.declared.visit.Mark.TheVariants.{Unreached, Open, S
 use Rattle.flow_solver.specs.declared.visit.Visit.{Visit}
 use Rattle.flow_solver.specs.Search.{visit_at, mark_at, depth_at, IsReached, IsSearch, AllRelaxed, IsFromExcess, IsExhausted}
 use Rattle.flow_solver.proofs.SearchLemmas.{in_range, settled_is_reached}
-use Rattle.flow_solver.specs.Cut.{in_set, sum_in, sum_leaving, sum_entering, surplus, shortfall, IsLeastSet, IsClosed, HoldsExcess, IsClosedBack, IsBehindDeficit, IsSettledSet, IsChosenSet, lack}
+use Rattle.flow_solver.specs.Cut.{in_set, sum_in, sum_leaving, sum_entering, surplus, shortfall, IsLeastSet, IsClosed, HoldsExcess, IsClosedBack, IsBehindDeficit, IsSettledSet, IsChosenSet, IsGrown, lack}
 
 pub sum_in-same : (set : List Bool) (f g : ℕ → ℤ) → ((v : ℕ) → f v ≡ g v) → sum_in set f ≡ sum_in set g
 sum_in-same [] f g same = refl
@@ -375,11 +376,6 @@ pub left-none : (e : List ℤ) → ((v : ℕ) → v < length e → number_at e v
 left-none [] h = refl
 left-none (z ∷ e) h = omega (arith, sum_by-cons positive_part z e, no_part z (λ high. omega (arith, ints, high, h 0 (omega arith))), left-none e (λ v lt. h (suc v) (omega arith)))
 
-pub left-some : (e : List ℤ) (v : ℕ) → pos 0 <ℤ number_at e v → 0 < left e
-left-some [] v high = absurd (omega (arith, ints, high))
-left-some (z ∷ e) zero high = omega (arith, ints, sum_by-cons positive_part z e, below_part z, high)
-left-some (z ∷ e) (suc v) high = omega (arith, sum_by-cons positive_part z e, left-some e v high)
-
 pub lack-none : (e : List ℤ) → lack e ≡ 0 → (v : ℕ) → pos 0 ≤ℤ number_at e v
 lack-none e h v = omega (arith, ints, none_above (map neg_ℤ e) (left-neg e ∙ h) v, number_at-neg e v)
 
@@ -397,3 +393,28 @@ IsChosenSet-from arcs x p e supply s set flow known all from done sized_set sett
       (sym (in_none (length set) v) ∙ (behind none).least (replicate (length set) false) (λ k way residual end. absurd (false≢true (sym (in_none (length set) (end_at arcs k way)) ∙ end)))
       (λ q low. absurd (omega (arith, ints, low, lack-none e no_lack q))) v h));
 }
+
+grown_more : {arcs : List ArcRow} {x : List ℤ} (set mid new : List Bool) (a b : Bool) → IsGrown arcs x set mid a → IsGrown arcs x mid new b → (a || b) ≡ true → count_by not new < count_by not set
+grown_more set mid new false b one two h = subst (λ (s : List Bool). count_by not new < count_by not s) (one.same refl) (two.more h)
+grown_more set mid new true false one two h = subst (λ (s : List Bool). count_by not s < count_by not set) (sym (two.same refl)) (one.more refl)
+grown_more set mid new true true one two h = (let first = one.more refl in let second = two.more refl in omega (arith, first, second))
+
+grown_same : {arcs : List ArcRow} {x : List ℤ} (set mid new : List Bool) (a b : Bool) → IsGrown arcs x set mid a → IsGrown arcs x mid new b → (a || b) ≡ false → new ≡ set
+grown_same set mid new false false one two h = two.same refl ∙ one.same refl
+grown_same set mid new false true one two h = absurd (true≢false h)
+grown_same set mid new true b one two h = absurd (true≢false h)
+
+-- what grows twice has grown, where it has in one of the two
+pub IsGrown-both : {arcs : List ArcRow} {x : List ℤ} {set mid new : List Bool} → {a b : Bool} → IsGrown arcs x set mid a → IsGrown arcs x mid new b → IsGrown arcs x set new (a || b)
+IsGrown-both {set = set} {mid = mid} {new = new} {a = a} {b = b} one two = record {
+  same_length = two.same_length ∙ one.same_length;
+  kept = λ v h. two.kept v (one.kept v h);
+  least = λ other closed sub v h. two.least other closed (λ q. one.least other closed sub q) v h;
+  more = grown_more set mid new a b one two;
+  same = grown_same set mid new a b one two;
+}
+
+-- what is false with `||` is false on both sides
+pub neither : (a b : Bool) → (a || b) ≡ false → (a ≡ false) × (b ≡ false)
+neither false b h = (refl, h)
+neither true b h = absurd (true≢false h)

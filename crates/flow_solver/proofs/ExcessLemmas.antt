@@ -1,10 +1,9 @@
 -- How large an excess can be, and how it follows from the flow arc by arc.
 use Rattle.flow_solver.specs.Limits.{cap_sum_limit}
-use Rattle.std.proofs.Common.{◌≡◌, ℕ, zero, suc, ◌+◌, ◌<◌, ◌≤◌, ℤ, pos, negsuc, ◌+ℤ◌, ◌≤ℤ◌, List, [], ◌∷◌, length, take, add-one, refl, sym, ap, subst, ◌∙◌, inl, inr, arith, Bool, true, false, cond, eqb}
-use Rattle.std.specs.Prelude.{slice_set}
+use Rattle.std.proofs.Common.{◌≡◌, ℕ, zero, suc, ◌+◌, ◌<◌, ◌≤◌, ℤ, pos, negsuc, ◌+ℤ◌, ◌≤ℤ◌, List, [], ◌∷◌, length, take, add-one, refl, sym, subst, ◌∙◌, inl, inr, arith, Bool, true, false, cond, eqb}
 use Rattle.std.proofs.lemmas.Int.{ints}
 use Rattle.std.proofs.lemmas.Bool.{cases_eq}
-use Rattle.std.proofs.lemmas.List.{length-take-le, get_or-take, get_or-set_same, get_or-set_other}
+use Rattle.std.proofs.lemmas.List.{length-take-le, get_or-take}
 use Rattle.std.proofs.lemmas.List.Sums.{sum_by-cons, sum_by-take-le}
 use Rattle.dimacs_text.specs.declared.problem.ArcRow.{ArcRow}
 use Rattle.flow_solver.specs.Residual.{IsFlow, number_at, arc_at}
@@ -56,9 +55,6 @@ small_within nodes arcs supply x e sized within supplies caps is = record {
   high = λ v. omega (arith, ints, is v, supplies.high v, (flow_out-bounds arcs x v sized within).0, (flow_in-bounds arcs x v sized within).1, caps);
 }
 
-pub small_excess : (nodes : ℕ) (arcs : List ArcRow) (supply : ℕ → ℤ) (x e : List ℤ) → IsFlow nodes arcs x → AreSupplies supply → cap_total arcs ≤ cap_sum_limit → IsExcess arcs supply x e → AreSmall e
-small_excess nodes arcs supply x e flow supplies caps is = small_within nodes arcs supply x e flow.same_length (caps_of_flow flow) supplies caps is
-
 -- one more arc
 pub flow_out-more : (arcs : List ArcRow) (x : List ℤ) (k v : ℕ) → k < length arcs → length x ≡ length arcs → outflow (take (k + 1) arcs) (take (k + 1) x) v ≡ outflow (take k arcs) (take k x) v +ℤ at_node (arc_at arcs k).tail (number_at x k) v
 flow_out-more [] x k v lt sized = absurd (omega arith)
@@ -81,9 +77,6 @@ small_part nodes arcs supply x e k le flow supplies caps is =
     let there = caps_of_flow flow j (omega arith) in
     rw (get_or-take k x j (pos 0) below, get_or-take k arcs j _ below) there))
     supplies (omega (arith, sum_by-take-le (λ (a : ArcRow). positive_part a.cap) arcs k)) is
-
-pub excess_none : (supply : ℕ → ℤ) (e : List ℤ) → ((v : ℕ) → number_at e v ≡ supply v) → (x : List ℤ) → IsExcess [] supply x e
-excess_none supply e same x v = omega (arith, ints, same v)
 
 pub excess_more : (nodes : ℕ) (arcs : List ArcRow) (supply : ℕ → ℤ) (x e f : List ℤ) (k : ℕ) → k < length arcs → IsFlow nodes arcs x → IsExcess (take k arcs) supply (take k x) e → IsTransfer (arc_at arcs k).tail (arc_at arcs k).head (number_at x k) e f → IsExcess (take (k + 1) arcs) supply (take (k + 1) x) f
 excess_more nodes arcs supply x e f k lt flow is moved v =
@@ -133,10 +126,3 @@ left-gain (z ∷ e) (y ∷ f) (suc u) m sized le =
     mono (pos a) (pos b) h = omega (arith, ints)
     mono (negsuc a) (pos b) h = absurd (omega (arith, ints))
     mono z (negsuc b) h = omega arith
-
--- an entry of a list with one entry changed is within what bounds both
-pub set_bounds : (e : List ℤ) (u w : ℕ) (a low high : ℤ) → u < length e → low ≤ℤ a → a ≤ℤ high → low ≤ℤ number_at e w → number_at e w ≤ℤ high → (low ≤ℤ number_at (slice_set e u a) w) × (number_at (slice_set e u a) w ≤ℤ high)
-set_bounds e u w a low high u_in la ah lw wh = elim (cases_eq w u) [
-  | inl same ↦ (let new : number_at (slice_set e u a) w ≡ a = ap (number_at (slice_set e u a)) same ∙ get_or-set_same e u a (pos 0) u_in in (omega (arith, ints, new), omega (arith, ints, new)))
-  | inr ne ↦ (let kept : number_at (slice_set e u a) w ≡ number_at e w = get_or-set_other e u w a (pos 0) ne in (omega (arith, ints, kept), omega (arith, ints, kept)))
-]

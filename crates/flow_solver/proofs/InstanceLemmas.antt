@@ -188,12 +188,6 @@ numbered_is (Supplies s) arcs flow = (let none : length arcs - length arcs ≡ 0
 numbered_is (Terminals source sink) arcs flow = (let one : suc (length arcs) - length arcs ≡ 1 = omega arith in ap (λ (n : ℕ). drop n flow) one)
 numbered_is (Sides marks) arcs flow = (let none : length arcs - length arcs ≡ 0 = omega arith in ap (λ (n : ℕ). drop n flow) none)
 
-pub numbered_length : (D : Demand) (arcs : List ArcRow) (flow : List ℤ) → length flow ≡ length (reduced_arcs D arcs) → length (numbered_flow D flow) ≡ length arcs
-numbered_length (Supplies s) arcs flow sized = sized
-numbered_length (Terminals source sink) arcs [] sized = absurd (omega arith)
-numbered_length (Terminals source sink) arcs (x ∷ flow) sized = omega arith
-numbered_length (Sides marks) arcs flow sized = sized
-
 start_within : (n : ℕ) (a : ArcRow) → IsCheapRow n a → (b : Bool) → (a.low ≤ℤ cond b a.cap a.low) × (cond b a.cap a.low ≤ℤ a.cap)
 start_within n a row true = (row.row.low_at_most_cap, omega (arith, ints))
 start_within n a row false = (omega (arith, ints), row.row.low_at_most_cap)

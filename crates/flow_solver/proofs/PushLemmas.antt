@@ -171,10 +171,6 @@ Avoids-from_all : (k : ℕ) (hops : List Hop) → All (λ h. h.arc ≢ k) hops �
 Avoids-from_all k [] all = tt
 Avoids-from_all k (h ∷ hops) all = (All-head (λ g. g.arc ≢ k) h hops all, Avoids-from_all k hops (All-tail (λ g. g.arc ≢ k) h hops all))
 
--- each hop of `hops` has m more in y than in x
-HopsMoved : List Hop → ℤ → List ℤ → List ℤ → Type 0
-HopsMoved hops m x y = All (λ h. number_at y h.arc ≡ moved h.way (number_at x h.arc) m) hops
-
 unmoved : (hops : List Hop) (m : ℤ) (x y : List ℤ) (k : ℕ) (z : ℤ) → Avoids k hops → All (λ h. number_at y h.arc ≡ moved h.way (number_at (slice_set x k z) h.arc) m) hops → All (λ h. number_at y h.arc ≡ moved h.way (number_at x h.arc) m) hops
 unmoved [] m x y k z apart all = All-nil (λ h. number_at y h.arc ≡ moved h.way (number_at x h.arc) m)
 unmoved (h ∷ hops) m x y k z apart all =

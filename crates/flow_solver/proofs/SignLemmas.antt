@@ -1,9 +1,9 @@
 -- No residual arc of negative reduced cost is the same as the rule of signs.
-use Rattle.std.proofs.Common.{ℕ, ℤ, pos, ◌-ℤ◌, ◌+ℤ◌, List, arith}
+use Rattle.std.proofs.Common.{ℕ, ℤ, List, arith}
 use Rattle.std.proofs.lemmas.Int.{ints, by_lt_z}
 use Rattle.dimacs_text.specs.declared.problem.ArcRow.{ArcRow}
 use Rattle.flow_solver.specs.declared.residual.Way.TheVariants.{Forward, Backward}
-use Rattle.flow_solver.specs.Residual.{IsFlow, NoneBelow, KeepsSigns, number_at, arc_at, start_at, end_at, cost_at}
+use Rattle.flow_solver.specs.Residual.{IsFlow, NoneBelow, KeepsSigns, number_at, arc_at}
 
 pub signs_from_none_below : {nodes : ℕ} {arcs : List ArcRow} {x : List ℤ} (p : List ℤ) → IsFlow nodes arcs x → NoneBelow arcs x p → KeepsSigns arcs x p
 signs_from_none_below {nodes} {arcs} {x} p flow none k lt =
@@ -15,13 +15,3 @@ signs_from_none_below {nodes} {arcs} {x} p flow none k lt =
           (λ below. absurd (omega (arith, ints, cheap, none k Forward (record { is_arc = lt; has_room = omega (arith, ints, below) }))))
           (λ at. omega (arith, ints, at, within.cap_kept)),
     )
-
-pub none_below_from_signs : (arcs : List ArcRow) (x p : List ℤ) → KeepsSigns arcs x p → NoneBelow arcs x p
-none_below_from_signs arcs x p signs k Forward residual =
-    by_lt_z ((cost_at arcs k Forward +ℤ number_at p (start_at arcs k Forward)) -ℤ number_at p (end_at arcs k Forward)) (pos 0)
-    (λ cheap. absurd (omega (arith, ints, residual.has_room, (signs k residual.is_arc).1 cheap)))
-    (λ rest. omega (arith, ints, rest))
-none_below_from_signs arcs x p signs k Backward residual =
-    by_lt_z (pos 0) ((cost_at arcs k Forward +ℤ number_at p (start_at arcs k Forward)) -ℤ number_at p (end_at arcs k Forward))
-    (λ dear. absurd (omega (arith, ints, residual.has_room, (signs k residual.is_arc).0 dear)))
-    (λ rest. omega (arith, ints, rest))

@@ -2,7 +2,7 @@
 use Rattle.std.specs.Prelude.{◌≡◌, ℕ, suc, ◌<◌, ℤ, pos, neg_ℤ, ◌-ℤ◌, ◌+ℤ◌, ◌≤ℤ◌, List, [], ◌∷◌, length, slice_index_or, Bool, true, false, if◌then◌else◌, ◌&&◌, not, IsTrue}
 use Rattle.dimacs_text.specs.declared.problem.ArcRow.{ArcRow}
 use Rattle.std.specs.Prelude.{◌<ℤ◌, ◌↔◌}
-use Rattle.std.specs.List.{sum_by}
+use Rattle.std.specs.List.{sum_by, count_by}
 use Rattle.flow_solver.specs.declared.residual.Way.{Way}
 use Rattle.flow_solver.specs.declared.visit.Visit.{Visit}
 use Rattle.flow_solver.specs.declared.visit.Mark.TheVariants.{Settled}
@@ -79,9 +79,13 @@ pub record Enters (arcs : List ArcRow) (x : List ℤ) (set : List Bool) (k : ℕ
   pub end_inside : in_set set (end_at arcs k way) ≡ true
   pub start_outside : in_set set (start_at arcs k way) ≡ false
 
--- from v a residual arc enters the set
-abbrev pub IsEntry : List ArcRow → List ℤ → List Bool → ℕ → Type 0
-IsEntry arcs x set v = (k : ℕ) × (way : Way) × Enters arcs x set k way × (start_at arcs k way ≡ v)
+-- the set has grown to `new`, or is the same: whatever holds it and is entered by no residual arc holds `new` too
+pub record IsGrown (arcs : List ArcRow) (x : List ℤ) (set new : List Bool) (grown : Bool) : Type 0 where
+  pub same_length : length new ≡ length set
+  pub kept : (v : ℕ) → in_set set v ≡ true → in_set new v ≡ true
+  pub least : (other : List Bool) → IsClosedBack arcs x other → ((v : ℕ) → in_set set v ≡ true → in_set other v ≡ true) → (v : ℕ) → in_set new v ≡ true → in_set other v ≡ true
+  pub more : grown ≡ true → count_by not new < count_by not set
+  pub same : grown ≡ false → new ≡ set
 
 -- no residual arc along the first j arcs enters the set
 abbrev pub NoEntry : List ArcRow → List ℤ → List Bool → ℕ → Type 0

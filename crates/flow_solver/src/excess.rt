@@ -35,6 +35,7 @@ pub fn carry(excess: &mut [i64], from: usize, to: usize, amount: i64)
     add(excess, to, amount);
 }
 
+/// Adds to the entry of a node.
 fn add(excess: &mut [i64], v: usize, amount: i64)
     requires v_in { v < length excess.old }
     requires fits { FitsSigned w64 (number_at excess.old v +ℤ amount) }

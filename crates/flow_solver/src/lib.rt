@@ -1,4 +1,5 @@
-//! Successive shortest paths over residual arcs, with reduced costs that stay at least 0.
+//! Solves flow problems: successive shortest paths over residual arcs, with reduced costs that stay at least 0, and edits
+//! from where the flow stands.
 #![tactic(auto)]
 
 mod answer;

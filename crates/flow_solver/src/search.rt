@@ -179,6 +179,8 @@ fn relax_ends(
 {
     let mut current = net.first_end(u as u32);
     while let Some(end) = current {
+        // Read before the arc is looked at, so that the walk does not wait for the tests there.
+        let next = net.next_end(end);
         let k = end as usize / 2 + row;
         relax(
             rows,
@@ -190,7 +192,7 @@ fn relax_ends(
             k,
             Way::of_end(end),
         );
-        current = net.next_end(end);
+        current = next;
     }
 }
 

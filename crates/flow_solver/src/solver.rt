@@ -121,7 +121,7 @@ impl Solver {
         &self.cut[1..]
     }
 
-    /// What is told of the instance.
+    /// The verdict.
     pub fn verdict(&self) -> Verdict
         ensures { result ≡ self.now.verdict }
     {

@@ -1,4 +1,4 @@
-//! Solver with what stood before their last change.
+//! The solver with what stood before its last change.
 
 ghost use Rattle.std.specs.Prelude.{◌≡◌, pos, ◌≤ℤ◌, ◌-◌, ◌<◌, ◌≤◌, ◌++◌, ◌∷◌, [], IfOk, IfSome, IsOk, IsSome, None, Ok, Some, length, slice_index_or, slice_set, vec_capacity, ◌+◌};
 ghost use Rattle.dimacs_text.specs.Lawful.{IsNode, IsWithin};
@@ -165,7 +165,7 @@ impl Tables {
         self.solver.cut()
     }
 
-    /// What is told of the instance.
+    /// The verdict.
     pub fn verdict(&self) -> Verdict
         ensures { result ≡ self.now.moment.verdict }
     {

@@ -12,7 +12,7 @@ pub mod EndLemmas
 pub mod NetWalk
 pub mod Answering
 pub mod CutSums
-pub mod Reach
+pub mod Surplus
 pub mod EndLinks
 pub mod Growth
 pub mod Opening

@@ -29,7 +29,7 @@ pub struct Record {
     pub potentials: Vec<(u32, i64)>,
     /// The nodes that are in one cut alone, in rising order, each with its mark.
     pub marks: Vec<(u32, bool)>,
-    /// What is told of the other instance.
+    /// The verdict of the other moment.
     pub verdict: Verdict,
 }
 

@@ -12,7 +12,7 @@ pub enum Refusal {
     /// The network does not allow it, by the number that `Network::edited` gives.
     #[error("the edit is refused by number {0}")]
     Cause(u8),
-    /// Memory for the record of the step was refused.
+    /// Memory for the step was refused.
     #[error("want of memory")]
     Memory,
 }

@@ -114,7 +114,7 @@ impl Session {
         self.tables.network()
     }
 
-    /// What is told of the network.
+    /// The verdict: the worth of a best flow, or the shortage where no legal flow exists.
     pub fn verdict(&self) -> Verdict
         ensures value { result ≡ self.now.moments.present.verdict }
         ensures answered { IsAnswered self.now.moments.present }
