@@ -81,7 +81,7 @@ pub fn write_i<O: Sink>(out: &mut O, shortage: i64) -> Result<(), Broken>
     write_all(out, line.as_bytes())
 }
 
-/// Writes `k ID`: node `id` is in the violated cut.
+/// Writes `k ID`: node `id` is in the cut.
 pub fn write_k<O: Sink>(out: &mut O, id: u32) -> Result<(), Broken>
     requires { O.failures out.old < 2 ^ 64 - 1 }
     ensures bytes { WritesUpTo result (O.contents out.old) (O.contents out.new) (cut_line id) }

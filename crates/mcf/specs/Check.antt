@@ -39,7 +39,7 @@ mark_all marks (id ∷ ids) = mark_all (set marks (id - 1) true) ids
 abbrev pub marks_of : ℕ → List ℕ → List Bool
 marks_of nodes ids = mark_all (replicate nodes false) ids
 
--- a flow with the ends of the arcs, its worth and potentials that certify it; or a cut that is violated by so much
+-- a flow with the ends of the arcs, its worth and potentials that certify it; or a breach by so much
 abbrev pub IsRight : ProblemValue → Answer → Type 0
 IsRight problem (Flow value lines potentials) = HaveEnds problem.arcs lines × IsBestAnswer (first problem 0) (flow_of lines) potentials value
 IsRight problem (Cut shortage ids) = IsCutAnswer (first problem 0) (marks_of problem.nodes ids) shortage

@@ -24,7 +24,7 @@ abbrev pub cut_lines : ℕ → List Bool → List ℕ
 cut_lines id [] = []
 cut_lines id (mark ∷ marks) = (if mark then cut_line id else []) ++ cut_lines (id + 1) marks
 
--- the worth of a best flow, or the shortage of a violated cut
+-- the worth of a best flow, or the shortage of a breach
 abbrev pub outcome_line : Verdict → List ℕ
 outcome_line (Best worth) = value_line worth
 outcome_line (Infeasible shortage) = shortage_line shortage
@@ -34,13 +34,13 @@ abbrev pub best_text : ℤ → Bool → Moment → List ℕ
 best_text worth proof m =
     value_line worth ++ flow_lines m.instance.arcs (numbered_flow m.instance.demand m.flow) ++ (if proof then potential_lines 1 m.potentials else [])
 
--- a violated cut
-abbrev pub violated_text : ℤ → List Bool → List ℕ
-violated_text shortage cut = shortage_line shortage ++ cut_lines 1 cut
+-- a breach
+abbrev pub breach_text : ℤ → List Bool → List ℕ
+breach_text shortage cut = shortage_line shortage ++ cut_lines 1 cut
 
 abbrev pub solution_by : Verdict → Bool → Moment → List ℕ
 solution_by (Best worth) proof m = best_text worth proof m
-solution_by (Infeasible shortage) proof m = violated_text shortage m.cut
+solution_by (Infeasible shortage) proof m = breach_text shortage m.cut
 
 -- the solution of a moment, by its verdict
 abbrev pub solution : Bool → Moment → List ℕ

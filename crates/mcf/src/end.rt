@@ -8,12 +8,16 @@ use dimacs_io::{Broken, Line, Sink, write_all};
 /// A text that is read.
 #[derive(Clone, Copy, Debug, PartialEq, Eq)]
 pub enum Text {
+    /// The problem.
     Problem,
+    /// The answer that is checked.
     Answer,
+    /// The commands of a session.
     Commands,
 }
 
 impl Text {
+    /// Its name on the standard error.
     fn name(&self) -> &'static [u8]
         ensures { result.now ≡ text_name self.now }
     {

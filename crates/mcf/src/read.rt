@@ -16,7 +16,9 @@ const PIECE: usize = 32_768;
 /// Why a text was not read.
 #[derive(Clone, Copy, Debug, PartialEq, Eq)]
 pub enum ReadError {
+    /// The text has a fault, or memory for it was refused.
     Text(TextFault),
+    /// A read failed.
     Source,
 }
 

@@ -2,7 +2,7 @@
 ghost use Rattle.std.specs.Prelude.{◌≡◌, ◌-◌, ◌^◌, ◌<◌, ◌≤◌, [], length, if◌then◌else◌};
 ghost use Rattle.dimacs_io.specs.Line.{cut_line, flow_line, potential_line};
 ghost use Rattle.dimacs_io.specs.Device.{CountsFailure, WritesUpTo};
-ghost use Rattle.mcf.specs.Printing.{best_text, cut_lines, flow_lines, outcome_line, potential_lines, solution, violated_text};
+ghost use Rattle.mcf.specs.Printing.{best_text, cut_lines, flow_lines, outcome_line, potential_lines, solution, breach_text};
 ghost use Rattle.network.specs.Instance.{numbered_flow};
 
 use dimacs_io::{Broken, Sink, write_f, write_i, write_k, write_s, write_v};
@@ -11,7 +11,7 @@ use flow_solver::Verdict;
 use network::Network;
 use session::Session;
 
-/// Writes the outcome of the present moment: the worth of a best flow, or the shortage of a violated cut.
+/// Writes the outcome of the present moment: the worth of a best flow, or the shortage of a breach.
 pub fn write_outcome<O: Sink>(session: &Session, out: &mut O) -> Result<(), Broken>
     requires { O.failures out.old < 2 ^ 64 - 1 }
     ensures bytes { WritesUpTo result (O.contents out.old) (O.contents out.new) (outcome_line session.now.moments.present.verdict) }
@@ -24,7 +24,7 @@ pub fn write_outcome<O: Sink>(session: &Session, out: &mut O) -> Result<(), Brok
 }
 
 /// Writes the solution of the present moment: a best flow, with its potentials where a proof is asked for, or a
-/// violated cut.
+/// breach.
 pub fn write_solution<O: Sink>(session: &Session, proof: bool, out: &mut O) -> Result<(), Broken>
     requires { O.failures out.old < 2 ^ 64 - 1 }
     ensures bytes { WritesUpTo result (O.contents out.old) (O.contents out.new) (solution proof session.now.moments.present) }
@@ -32,7 +32,7 @@ pub fn write_solution<O: Sink>(session: &Session, proof: bool, out: &mut O) -> R
 {
     match session.verdict() {
         Verdict::Best(worth) => write_best(worth, session, proof, out),
-        Verdict::Infeasible(shortage) => write_violated(shortage, session, out),
+        Verdict::Infeasible(shortage) => write_breach(shortage, session, out),
     }
 }
 
@@ -52,11 +52,11 @@ fn write_best<O: Sink>(
     write_proof(proof, session.potentials(), out)
 }
 
-/// Writes a violated cut.
-fn write_violated<O: Sink>(shortage: i64, session: &Session, out: &mut O) -> Result<(), Broken>
+/// Writes a breach.
+fn write_breach<O: Sink>(shortage: i64, session: &Session, out: &mut O) -> Result<(), Broken>
     requires { O.failures out.old < 2 ^ 64 - 1 }
     ensures bytes { WritesUpTo result (O.contents out.old) (O.contents out.new)
-        (violated_text shortage session.now.moments.present.cut) }
+        (breach_text shortage session.now.moments.present.cut) }
     ensures failed { CountsFailure result (O.failures out.old) (O.failures out.new) }
 {
     write_i(out, shortage)?;

@@ -1,4 +1,4 @@
--- Minimum-cost flows: legal and best flows, certifying potentials and violated cuts, in the terms of the textbook
+-- Minimum-cost flows: legal and best flows, certifying potentials and breaches, in the terms of the textbook
 -- (Ahuja, Magnanti, Orlin, "Network Flows": flow balance and bounds, reduced-cost optimality, feasibility cuts).
 -- Nodes are the numbers 1 to `nodes`. A flow is a list with one whole number an arc. A set of nodes is a test.
 use Rattle.std.specs.Prelude.{◌≡◌, ℕ, zero, suc, ◌≤◌, ◌==◌, ℤ, pos, negsuc, ◌+ℤ◌, ◌-ℤ◌, ◌*ℤ◌, ◌≤ℤ◌, ◌<ℤ◌, ◌⊎◌, Bool, true, not, ◌&&◌, if◌then◌else◌, List, [], ◌∷◌}
@@ -94,7 +94,7 @@ pub record IsCertifiedFlow (I : MinCost) (flow : List ℤ) (potential : ℕ → 
   pub signs : AllZip (FollowsSign potential) I.arcs flow
   pub range : (v : ℕ) → IsNode I v → IsPotential (potential v)
 
--- ---- violated cuts
+-- ---- breaches
 
 abbrev pub supply_of : MinCost → (ℕ → Bool) → ℤ
 supply_of I set = nodes_sum I.nodes (λ v. if set v then I.supply v else pos 0)

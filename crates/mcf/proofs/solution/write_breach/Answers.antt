@@ -3,7 +3,7 @@ use Rattle.std.proofs.Common.{◌≡◌, to_z, of_z, arith}
 use Rattle.std.proofs.lemmas.Int.{ints}
 use Rattle.std.proofs.lemmas.Result.{err_from_is_err_and}
 use Rattle.dimacs_io.proofs.DeviceLemmas.{AppendsBeginning-more, WritesUpTo-after}
-use Rattle.mcf.proofs.solution.write_violated.Goals as goal
+use Rattle.mcf.proofs.solution.write_breach.Goals as goal
 
 pub returns-in_err-write_i-clause-bytes : goal.returns-in_err-write_i-clause-bytes
 returns-in_err-write_i-clause-bytes g c =
