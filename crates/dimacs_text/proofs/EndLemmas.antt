@@ -10,7 +10,7 @@ use Rattle.dimacs_text.specs.Fault.{number_of, located}
 use Rattle.dimacs_text.specs.Lines.{Line, parts_of, lines_of, last_line, is_too_long}
 use Rattle.dimacs_text.specs.Cut.{Cut, kept, begun_line, has_bytes}
 use Rattle.dimacs_text.proofs.BegunLemmas.{cut_line_of, bytes_begun, no_bytes_begun}
-use Rattle.dimacs_text.specs.Stream.{Rule, counted, or_else, first_fault, decided, Reports, cut_fault, cut_lines, IsOpen}
+use Rattle.dimacs_text.specs.Stream.{Rule, counted, or_else, first_fault, decided, Reports, cut_fault, lines_after, IsOpen}
 use Rattle.dimacs_text.specs.Reader.{Finishes}
 use Rattle.dimacs_text.proofs.StreamLemmas.{first_of_both, first_fault-append, no_fault_ended, complete_fault, decided-goes_on, lines_go_on_nothing}
 
@@ -22,7 +22,7 @@ last_line_begun : (rest : Line) → kept rest ≢ Some [] → last_line rest ≡
 last_line_begun [] ne = absurd (ne refl)
 last_line_begun (byte ∷ bytes) ne = refl
 
-lines_complete : (rule : Rule) (long : Bool) (before : List Line) (line : Line) → cut_fault rule (cond long None (Some line)) true before ≡ None → cut_lines (cond long None (Some line)) true before ≡ before ++ line ∷ []
+lines_complete : (rule : Rule) (long : Bool) (before : List Line) (line : Line) → cut_fault rule (cond long None (Some line)) true before ≡ None → lines_after (cond long None (Some line)) true before ≡ before ++ line ∷ []
 lines_complete rule true before line e = absurd cc
 lines_complete rule false before line e = refl
 
@@ -49,12 +49,12 @@ module _ {T : Type 0} (rule : Rule) (holds : List Line → T → Type 0) (text :
         let p = parts_of text in
         rw (all_is, line_is) (first_fault-append rule [] p.ended (p.rest ∷ []) ∙ ap (λ (f : Option TextFault). first_of_both f (first_fault rule p.ended (p.rest ∷ []))) (no_fault_ended rule text open_is.undecided) ∙ complete_fault rule (is_too_long p.rest) p.ended p.rest refl)
 
-    pub last_taken : (new : T) → ((before : List Line) → holds before taker → (cut_fault rule cut.line true before ≡ None) × holds (cut_lines cut.line true before) new)
+    pub last_taken : (new : T) → ((before : List Line) → holds before taker → (cut_fault rule cut.line true before ≡ None) × holds (lines_after cut.line true before) new)
         → (first_fault rule [] (lines_of text) ≡ None) × holds (lines_of text) new × (min (lines + 1) (2 ^ 64 - 1) ≡ counted (length (lines_of text)))
     last_taken new taken =
         let p = parts_of text in let t = taken p.ended open_is.held in
         let none : first_fault rule [] (lines_of text) ≡ None = found ∙ ap (λ (f : Option Fault). or_else f (length p.ended + 1) None) t.0 in
-        let lines_eq : cut_lines cut.line true p.ended ≡ lines_of text = rw (line_is, all_is) (lines_complete rule (is_too_long p.rest) p.ended p.rest (rw line_is at t.0)) in
+        let lines_eq : lines_after cut.line true p.ended ≡ lines_of text = rw (line_is, all_is) (lines_complete rule (is_too_long p.rest) p.ended p.rest (rw line_is at t.0)) in
         let count : min (lines + 1) (2 ^ 64 - 1) ≡ counted (length (lines_of text)) = rw (all_is, length_push, open_is.lines_are) (omega arith) in
         (none, rw (← lines_eq) t.1, count)
 

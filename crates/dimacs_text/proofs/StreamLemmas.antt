@@ -14,7 +14,7 @@ use Rattle.dimacs_text.specs.Cut.{Cut, kept, extended, begun_line, cut_after, ha
 use Rattle.dimacs_text.proofs.LineLemmas.{joined, joined_parts, parts_of-append}
 use Rattle.dimacs_text.proofs.GoesOnLemmas.{GoesOn, settled_go_on, last_line-too_long}
 use Rattle.dimacs_text.proofs.PartLemmas.{begun_with, first_parts, parts_of-first, parts_with, extended-kept, cut_after_bytes}
-use Rattle.dimacs_text.specs.Stream.{Rule, counted, at_line, fault_among, or_else, first_fault, settled_lines, decided, Reports, cut_fault, cut_lines, IsOpen, Tells}
+use Rattle.dimacs_text.specs.Stream.{Rule, counted, at_line, fault_among, or_else, first_fault, settled_lines, decided, Reports, cut_fault, lines_after, IsOpen, Tells}
 
 -- the first fault of two lists in a row
 abbrev pub first_of_both : Option TextFault → Option TextFault → Option TextFault
@@ -112,7 +112,7 @@ module _ {T : Type 0} (rule : Rule) (holds : List Line → T → Type 0) where
 
   part_open : (has long : Bool) (text part : List ℕ) (line : Line) (lines : ℕ) (taker : T) → parts_of part ≡ first_parts has line → is_too_long ((parts_of text).rest ++ line) ≡ long
       → decided rule (text ++ part) ≡ None → lines ≡ counted (length (parts_of text).ended) → cut_fault rule (cond long None (Some ((parts_of text).rest ++ line))) has (parts_of text).ended ≡ None
-      → holds (cut_lines (cond long None (Some ((parts_of text).rest ++ line))) has (parts_of text).ended) taker
+      → holds (lines_after (cond long None (Some ((parts_of text).rest ++ line))) has (parts_of text).ended) taker
       → IsOpen rule holds (text ++ part) (lines_with has lines) taker (begun_with has (cond long None (Some ((parts_of text).rest ++ line))))
   part_open has true text part line lines taker e is none lines_are fault held = absurd cc
   part_open true false text part line lines taker e is none lines_are fault held =
@@ -131,12 +131,12 @@ module _ {T : Type 0} (rule : Rule) (holds : List Line → T → Type 0) where
     cut_begun : begun_line (cut_after cutter piece) ≡ begun_with (has_line_feed piece) (kept ((parts_of text).rest ++ before_first is_line_feed piece))
     cut_begun = ap begun_line (cut_after_bytes cutter piece some) ∙ ap (begun_with (has_line_feed piece)) line_is
 
-    pub part_ok : (new : T) → cut_fault rule (cut_after cutter piece).line (has_line_feed piece) (parts_of text).ended ≡ None → holds (cut_lines (cut_after cutter piece).line (has_line_feed piece) (parts_of text).ended) new
+    pub part_ok : (new : T) → cut_fault rule (cut_after cutter piece).line (has_line_feed piece) (parts_of text).ended ≡ None → holds (lines_after (cut_after cutter piece).line (has_line_feed piece) (parts_of text).ended) new
         → (decided rule (text ++ take (bytes_used piece) piece) ≡ None) × IsOpen rule holds (text ++ take (bytes_used piece) piece) (lines_with (has_line_feed piece) lines) new (begun_line (cut_after cutter piece))
     part_ok new fault held =
         let line = before_first is_line_feed piece in let p = parts_of text in
         let fault_is : cut_fault rule (kept (p.rest ++ line)) (has_line_feed piece) p.ended ≡ None = rw (← cut_line) fault in
-        let held_is : holds (cut_lines (kept (p.rest ++ line)) (has_line_feed piece) p.ended) new = rw (← cut_line) held in
+        let held_is : holds (lines_after (kept (p.rest ++ line)) (has_line_feed piece) p.ended) new = rw (← cut_line) held in
         let none : decided rule (text ++ take (bytes_used piece) piece) ≡ None = decided_part rule text (take (bytes_used piece) piece) (has_line_feed piece) line (parts_of-first piece) open_is.undecided ∙ ap (λ (f : Option Fault). or_else f (length p.ended + 1) None) fault_is in
         (none, rw cut_begun (part_open (has_line_feed piece) (is_too_long (p.rest ++ line)) text (take (bytes_used piece) piece) line lines new (parts_of-first piece) refl none open_is.lines_are fault_is held_is))
 
@@ -152,12 +152,12 @@ module _ {T : Type 0} (rule : Rule) (holds : List Line → T → Type 0) where
   -- ---- by what the calls ensure
 
   pub part_taken : (text piece : List ℕ) (cutter after : Cut) (taker new : T) (lines used : ℕ) (complete : Bool) → 0 < length piece → used ≡ bytes_used piece → complete ≡ has_line_feed piece → after ≡ cut_after cutter piece
-      → ((before : List Line) → holds before taker → (cut_fault rule after.line complete before ≡ None) × holds (cut_lines after.line complete before) new) → IsOpen rule holds text lines taker (begun_line cutter)
+      → ((before : List Line) → holds before taker → (cut_fault rule after.line complete before ≡ None) × holds (lines_after after.line complete before) new) → IsOpen rule holds text lines taker (begun_line cutter)
       → (decided rule (text ++ take used piece) ≡ None) × IsOpen rule holds (text ++ take used piece) (lines_with complete lines) new (begun_line after)
   part_taken text piece cutter after taker new lines used complete some used_is complete_is after_is taken open_is =
       let t = taken (parts_of text).ended open_is.held in
       let fault : cut_fault rule (cut_after cutter piece).line (has_line_feed piece) (parts_of text).ended ≡ None = rw (← after_is, ← complete_is) t.0 in
-      let held : holds (cut_lines (cut_after cutter piece).line (has_line_feed piece) (parts_of text).ended) new = rw (← after_is, ← complete_is) t.1 in
+      let held : holds (lines_after (cut_after cutter piece).line (has_line_feed piece) (parts_of text).ended) new = rw (← after_is, ← complete_is) t.1 in
       rw (used_is, complete_is, after_is) (part_ok text piece cutter taker lines some open_is new fault held)
 
 pub whole_piece : (rule : Rule) (text piece : List ℕ) (used : ℕ) (fault : TextFault) → decided rule (text ++ take used piece) ≡ Some fault → decided rule (text ++ piece) ≡ Some fault

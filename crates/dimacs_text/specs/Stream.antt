@@ -61,9 +61,9 @@ abbrev pub cut_fault : Rule → Option Line → Bool → List Line → Option Fa
 cut_fault rule None complete before = Some fault.LineTooLong
 cut_fault rule (Some line) complete before = if complete then rule before line else None
 
-abbrev pub cut_lines : Option Line → Bool → List Line → List Line
-cut_lines None complete before = before
-cut_lines (Some line) complete before = if complete then before ++ line ∷ [] else before
+abbrev pub lines_after : Option Line → Bool → List Line → List Line
+lines_after None complete before = before
+lines_after (Some line) complete before = if complete then before ++ line ∷ [] else before
 
 module _ {T : Type 0} where
   -- a line that fits was taken
@@ -72,7 +72,7 @@ module _ {T : Type 0} where
   TakesLine rule holds (Err e) before line new = Reports e (rule before line)
 
   abbrev pub TakesCut : Rule → (List Line → T → Type 0) → Result (Unit {0}) LineError → List Line → Option Line → Bool → T → Type 0
-  TakesCut rule holds (Ok _) before line complete new = (cut_fault rule line complete before ≡ None) × holds (cut_lines line complete before) new
+  TakesCut rule holds (Ok _) before line complete new = (cut_fault rule line complete before ≡ None) × holds (lines_after line complete before) new
   TakesCut rule holds (Err e) before line complete new = Reports e (cut_fault rule line complete before)
 
   -- nothing is decided, and this is what the text leaves

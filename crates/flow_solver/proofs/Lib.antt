@@ -14,6 +14,7 @@ pub mod PushLaws
 pub mod InstanceLemmas
 pub mod AnswerLemmas
 pub mod WalkLemmas
+pub mod HopLemmas
 pub mod ChangeLemmas
 pub mod EditRows
 pub mod PartLemmas

@@ -94,7 +94,7 @@ passed_more rows x p s t u arcs row current next last better done here is end pa
 
 -- ---- all residual arcs from the node
 
-rows_split : (D : Demand) (arcs : List ArcRow) (row : ℕ) → row + length arcs ≡ length (reduced_arcs D arcs) → (row ≤ 1) × ((j : ℕ) → arc_at (reduced_arcs D arcs) (j + row) ≡ arc_at arcs j)
+pub rows_split : (D : Demand) (arcs : List ArcRow) (row : ℕ) → row + length arcs ≡ length (reduced_arcs D arcs) → (row ≤ 1) × ((j : ℕ) → arc_at (reduced_arcs D arcs) (j + row) ≡ arc_at arcs j)
 rows_split (Supplies s) arcs row e = (omega arith, λ j. (let none : j + row ≡ j = omega arith in ap (arc_at arcs) none))
 rows_split (Terminals source sink) arcs row e = (omega arith, λ j. (let one : j + row ≡ suc j = omega arith in ap (arc_at (reduced_arcs (Terminals source sink) arcs)) one))
 rows_split (Sides marks) arcs row e = (omega arith, λ j. (let none : j + row ≡ j = omega arith in ap (arc_at arcs) none))

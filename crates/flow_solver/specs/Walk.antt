@@ -1,13 +1,14 @@
 -- A walk over the ends of arcs at a node, from the greatest down.
-use Rattle.std.specs.Prelude.{◌≡◌, ℕ, ◌+◌, ◌*◌, ◌/◌, ◌%◌, ◌<◌, ◌==◌, if◌then◌else◌, ℤ, List, length, Option, None, Some}
+use Rattle.std.specs.Prelude.{◌≡◌, ℕ, ◌+◌, ◌*◌, ◌/◌, ◌%◌, ◌<◌, ◌≤◌, ◌==◌, if◌then◌else◌, Bool, true, false, ℤ, List, length, slice_index_or, Option, None, Some}
 use Rattle.dimacs_text.specs.declared.problem.ArcRow.{ArcRow}
 use Rattle.network.specs.Ends.{end_node}
 use Rattle.network.specs.Instance.{Instance, IsLawful, reduced}
 use Rattle.flow_solver.specs.declared.residual.Way.{Way}
 use Rattle.flow_solver.specs.declared.residual.Way.TheVariants.{Forward, Backward}
 use Rattle.flow_solver.specs.declared.visit.Visit.{Visit}
-use Rattle.flow_solver.specs.Residual.{IsResidualFrom}
+use Rattle.flow_solver.specs.Residual.{IsResidualFrom, start_at}
 use Rattle.flow_solver.specs.Search.{IsRelaxed}
+use Rattle.flow_solver.specs.Push.{IsHopTo}
 
 -- the rows are the arcs of the reduced instance
 pub record AreRowsOf (I : Instance) (rows : List ArcRow) : Type 0 where
@@ -37,6 +38,20 @@ abbrev pub ArePassedRelaxed : List ArcRow → List ℤ → List ℤ → List Vis
 ArePassedRelaxed rows x p s u arcs row current =
     (end : ℕ) → IsPassed current end → end < 2 * length arcs → end_node arcs end ≡ u → IsResidualFrom rows x u (end / 2 + row) (end_way end) →
     IsRelaxed rows p s (end / 2 + row) (end_way end)
+
+-- nothing more is to be had from node u
+abbrev pub IsSpent : List Bool → ℕ → Type 0
+IsSpent spent u = slice_index_or spent u false ≡ true
+
+-- each hop to node v along an end that the walk has passed comes from a spent node; the first arc has this row
+abbrev pub ArePassedSpent : List ArcRow → List ℤ → List ℤ → List Visit → List Bool → ℕ → ℕ → ℕ → Option ℕ → Type 0
+ArePassedSpent rows q x s spent v arcs row current =
+    (end : ℕ) → IsPassed current end → end < 2 * arcs → IsHopTo rows q x s v (end / 2 + row) (way_to_end end) →
+    IsSpent spent (start_at rows (end / 2 + row) (way_to_end end))
+
+-- each hop to node v, along an arc in this row or a later one, comes from a spent node
+abbrev pub AreHopsSpent : List ArcRow → List ℤ → List ℤ → List Visit → List Bool → ℕ → ℕ → Type 0
+AreHopsSpent rows q x s spent v row = (k : ℕ) (way : Way) → row ≤ k → IsHopTo rows q x s v k way → IsSpent spent (start_at rows k way)
 
 -- what is left of the walk
 abbrev pub ends_left : Option ℕ → ℕ

@@ -1,8 +1,8 @@
 //! Flow pushed along the path that a search found.
 
-ghost use Rattle.std.specs.Prelude.{◌≡◌, ◌≢◌, ℕ, ℤ, List, length, slice_set, pos, neg_ℤ, ◌≤ℤ◌, ◌<ℤ◌, ◌+ℤ◌, ◌-ℤ◌, ◌<◌, ◌≤◌, ◌+◌, ◌^◌, ◌⊎◌, IsTrue, ◌↔◌, IfSome};
+ghost use Rattle.std.specs.Prelude.{◌≡◌, ◌≢◌, ℕ, ℤ, List, length, slice_set, pos, neg_ℤ, ◌≤ℤ◌, ◌<ℤ◌, ◌+ℤ◌, ◌-ℤ◌, ◌<◌, ◌≤◌, ◌+◌, ◌^◌, ◌⊎◌, IsTrue, ◌↔◌, ◌-◌, IfSome, IfNone};
 ghost use Rattle.flow_solver.specs.Limits.{potential_floor};
-ghost use Rattle.flow_solver.specs.Walk.{AreRowsOf};
+ghost use Rattle.flow_solver.specs.Walk.{AreRowsOf, AreHopsSpent};
 ghost use Rattle.flow_solver.specs.Residual.{IsRow, IsWithin, IsFlow, ArePotentials, number_at, arc_at, start_at, start_of, end_of, cost_of, room_of};
 ghost use Rattle.flow_solver.specs.Search.{visit_at, mark_at, depth_at, IsFoundDeficit};
 ghost use Rattle.flow_solver.specs.Push.{IsCameBy, IsHopTo, HavePaths, ArePathsTight, ArePaths, IsBefore, turned, HasRoom, path_to, root_to, push_along, moved, AreSmall, IsTransfer, IsUnderWay, ArePushes, CanPush};
@@ -225,7 +225,7 @@ fn is_hop_to(
     requires potentials_in { ArePotentials (length visits.now) potential_floor potentials.now }
     requires node_in { node < length visits.now }
     requires arc_in { k < length rows.now }
-    ensures { IsTrue result → IsHopTo rows.now potentials.now flow.now visits.now node k way }
+    ensures { IsTrue result ↔ IsHopTo rows.now potentials.now flow.now visits.now node k way }
 {
     let row = rows[k];
     if way.end(&row) as usize != node {
@@ -244,7 +244,7 @@ fn is_hop_to(
     is_tight(&row, potentials, way)
 }
 
-/// Another hop to the node, from a node that is not spent.
+/// Another hop to the node along a numbered arc, from a node that is not spent.
 fn other_hop(
     net: &Network,
     rows: &[ArcRow],
@@ -259,7 +259,9 @@ fn other_hop(
     requires potentials_in { ArePotentials (length visits.now) potential_floor potentials.now }
     requires node_in { node < length visits.now }
     requires spent_in { length spent.now ≡ length visits.now }
-    ensures { IfSome result (λ hop. IsHopTo rows.now potentials.now flow.now visits.now node hop.0 hop.1) }
+    ensures some { IfSome result (λ hop. IsHopTo rows.now potentials.now flow.now visits.now node hop.0 hop.1) }
+    // The return arc has no end in the lists: a hop along it is passed over.
+    ensures none { IfNone result (AreHopsSpent rows.now potentials.now flow.now visits.now spent.now node (length rows.now - length net.now.arcs)) }
 {
     let row = rows.len() - net.arcs() as usize;
     let mut current = net.first_end(node as u32);

@@ -13,9 +13,7 @@ pub fn exchange<T: Copy>(table: &mut [T], place: usize, value: &mut T)
     ensures table { table.new ≡ slice_set table.old place value.old }
     ensures value { value.new ≡ slice_index_or table.old place value.old }
 {
-    let before = table[place];
-    table[place] = *value;
-    *value = before;
+    std::mem::swap(&mut table[place], value);
 }
 
 /// Exchanges the entry of a node, in a table with an entry for no node in front.

@@ -1,6 +1,7 @@
 -- The step of a line, by its command, and its reply.
 use Rattle.std.proofs.Common.{◌≡◌, ℕ, ◌<◌, Bool, true, false, cond, ◌||◌, ◌⊎◌, List, [], ◌∷◌, length, Option, None, Some, Result, Ok, Err, ◌↔◌, inl, inr, IsTrue, MatchBool, MatchResult, refl, sym, ap, ◌∙◌, subst, arith}
-use Rattle.std.proofs.lemmas.Bool.{false≢true}
+use Rattle.std.specs.Prelude.{nat_le}
+use Rattle.std.proofs.lemmas.Bool.{false≢true, le-leb}
 use Rattle.std.specs.Io.KnownBytes.{Appends, Keeps}
 use Rattle.dimacs_io.proofs.DeviceLemmas.{WritesUpTo-kept}
 use Rattle.dimacs_io.specs.Line.{refusal_line}
@@ -22,7 +23,7 @@ use Rattle.session.specs.declared.refusal.Refusal.TheVariants as refusal
 use Rattle.session.specs.Session.{IsEdited}
 use Rattle.session.specs.Step.{IsApplied, IsRefused, Refuses, Reply, Shows, Step, StepBy, StepOfEdit, Tells}
 use Rattle.mcf.specs.Printing.{reply_text}
-use Rattle.mcf.specs.Run.{asks, has_word}
+use Rattle.mcf.specs.Run.{asks}
 use Rattle.mcf.specs.Serving.{AnswersLine, ServesLine, number_of}
 
 -- ---- the steps of the commands
@@ -105,19 +106,19 @@ long_asks false word e = absurd (false≢true e)
 pub answers_long : (s : Timeline Moment) (line : Line) → None ≡ kept line → AnswersLine s line (refusal_line 1) s
 answers_long s line none =
     let long = kept_none (is_too_long line) line (sym none) in
-    asked true s s line (refusal_line 1) (long_asks (is_too_long line) (has_word (words_of line)) long)
+    asked true s s line (refusal_line 1) (long_asks (is_too_long line) (nat_le 1 (length (words_of line))) long)
     (Refuses 1, step_by (Err 1) s s line (Refuses 1) (long_command (is_too_long line) (kind_of s.present.instance.demand) line long) (record { reply_is = refl; unchanged = refl }), refl)
 
-words_ask : (words : List Word) → (words ≡ [] → ⊥) → has_word words ≡ true
+words_ask : (words : List Word) → (words ≡ [] → ⊥) → nat_le 1 (length words) ≡ true
 words_ask [] some = absurd (some refl)
-words_ask (word ∷ words) some = refl
+words_ask (word ∷ words) some = le-leb 1 (length (word ∷ words)) (omega arith)
 
-no_words : (long : Bool) (words : List Word) → long ≡ false → words ≡ [] → (long || has_word words) ≡ false
+no_words : (long : Bool) (words : List Word) → long ≡ false → words ≡ [] → (long || nat_le 1 (length words)) ≡ false
 no_words true words e none = absurd (false≢true (sym e))
 no_words false [] e none = refl
 no_words false (word ∷ words) e none = absurd cc
 
-some_words : (long : Bool) (words : List Word) → has_word words ≡ true → (long || has_word words) ≡ true
+some_words : (long : Bool) (words : List Word) → nat_le 1 (length words) ≡ true → (long || nat_le 1 (length words)) ≡ true
 some_words true words e = refl
 some_words false words e = e
 

@@ -18,17 +18,17 @@ use Rattle.mcf.specs.declared.end.End.TheVariants.{Solved, Infeasible, Ended, Va
 -- ---- a right answer
 
 -- an `f` line names the ends of its arc
-pub record HasEnds (arc : ArcRow) (line : FlowLine) : Type 0 where
+pub record NamesEnds (arc : ArcRow) (line : FlowLine) : Type 0 where
   pub tail : line.tail ≡ arc.tail
   pub head : line.head ≡ arc.head
 
 -- there is one `f` line an arc, in the order of the arcs, and each names its ends
-abbrev pub HaveEnds : List ArcRow → List FlowLine → Type 0
-HaveEnds arcs lines = AllZip HasEnds arcs lines
+abbrev pub NameEnds : List ArcRow → List FlowLine → Type 0
+NameEnds arcs lines = AllZip NamesEnds arcs lines
 
 -- the flows that the `f` lines say
-abbrev pub flow_of : List FlowLine → List ℤ
-flow_of lines = map (λ line. line.flow) lines
+abbrev pub flow_of_lines : List FlowLine → List ℤ
+flow_of_lines lines = map (λ line. line.flow) lines
 
 -- more nodes are marked
 abbrev pub mark_all : List Bool → List ℕ → List Bool
@@ -41,12 +41,12 @@ marks_of nodes ids = mark_all (replicate nodes false) ids
 
 -- a flow with the ends of the arcs, its worth and potentials that certify it; or a breach by so much
 abbrev pub IsRight : ProblemValue → Answer → Type 0
-IsRight problem (Flow value lines potentials) = HaveEnds problem.arcs lines × IsBestAnswer (first problem 0) (flow_of lines) potentials value
+IsRight problem (Flow value lines potentials) = NameEnds problem.arcs lines × IsBestAnswer (first problem 0) (flow_of_lines lines) potentials value
 IsRight problem (Cut shortage ids) = IsCutAnswer (first problem 0) (marks_of problem.nodes ids) shortage
 
 -- what a right answer shows: no legal flow is better, or there is none
 abbrev pub Settles : Answer → ProblemValue → Type 0
-Settles (Flow value lines potentials) problem = IsBest (first problem 0) (flow_of lines)
+Settles (Flow value lines potentials) problem = IsBest (first problem 0) (flow_of_lines lines)
 Settles (Cut shortage ids) problem = (flow : List ℤ) → IsLegal (first problem 0) flow → ⊥
 
 abbrev pub verdict_line : Bool → List ℕ

@@ -1,20 +1,16 @@
 -- Runs of a session over the lines of a command text.
-use Rattle.std.specs.Prelude.{◌≡◌, Bool, true, false, ◌||◌, ℕ, List, [], ◌∷◌, filter}
+use Rattle.std.specs.Prelude.{◌≡◌, Bool, ◌||◌, nat_le, ℕ, List, [], ◌∷◌, length, filter}
 use Rattle.std.specs.List.{concat}
-use Rattle.dimacs_text.specs.Fields.{Word, words_of}
+use Rattle.dimacs_text.specs.Fields.{words_of}
 use Rattle.dimacs_text.specs.Lines.{Line, is_too_long}
 use Rattle.history.specs.Boards.{Timeline}
 use Rattle.flow_solver.specs.Moment.{Moment}
 use Rattle.session.specs.Step.{Reply, Step}
 use Rattle.mcf.specs.Printing.{reply_text}
 
-abbrev pub has_word : List Word → Bool
-has_word [] = false
-has_word (word ∷ words) = true
-
 -- a line asks for a reply where it is too long or not blank
 abbrev pub asks : Line → Bool
-asks line = is_too_long line || has_word (words_of line)
+asks line = is_too_long line || nat_le 1 (length (words_of line))
 
 -- one step a line, none left out, each with the text of its reply
 abbrev pub Run : Timeline Moment → List Line → List (List ℕ) → Timeline Moment → Type 0

@@ -1,7 +1,7 @@
 //! Checks an answer to a problem, and writes whether it is right.
 ghost use Rattle.std.specs.Prelude.{◌≡◌, ◌+◌, ◌-◌, ◌^◌, ◌<◌, ◌↔◌, IfOk, IsTrue, length};
 ghost use Rattle.dimacs_io.specs.Device.{CountsFailure, WritesUpTo};
-ghost use Rattle.mcf.specs.Check.{CheckTells, HasEnds, HaveEnds, IsRight, Settles, ValidSettles, answer_failures, flow_of, marks_of, problem_failures, verdict_line, write_failures};
+ghost use Rattle.mcf.specs.Check.{CheckTells, NamesEnds, NameEnds, IsRight, Settles, ValidSettles, answer_failures, flow_of_lines, marks_of, problem_failures, verdict_line, write_failures};
 
 use crate::end::{End, Text};
 use crate::read::{read_answer, read_problem};
@@ -80,8 +80,8 @@ fn is_right(alloc: Global, problem: &Problem, answer: &Answer) -> Result<bool, A
             flows,
             potentials,
         } => {
-            let flow = flow_of(alloc, flows.as_slice())?;
-            if !have_ends(problem.arcs(), flows.as_slice()) {
+            let flow = flow_of_lines(alloc, flows.as_slice())?;
+            if !name_ends(problem.arcs(), flows.as_slice()) {
                 return Ok(false);
             }
             Ok(check_best(&net, flow.as_slice(), potentials.as_slice(), *value))
@@ -94,14 +94,14 @@ fn is_right(alloc: Global, problem: &Problem, answer: &Answer) -> Result<bool, A
 }
 
 /// Whether there is one line an arc, in order, each with the ends of its arc.
-fn have_ends(arcs: &[ArcRow], lines: &[FlowLine]) -> bool
-    ensures { IsTrue result ↔ HaveEnds arcs.now lines.now }
+fn name_ends(arcs: &[ArcRow], lines: &[FlowLine]) -> bool
+    ensures { IsTrue result ↔ NameEnds arcs.now lines.now }
 {
     if arcs.len() != lines.len() {
         return false;
     }
     for (arc, line) in arcs.iter().zip(lines) {
-        if !has_ends(arc, line) {
+        if !names_ends(arc, line) {
             return false;
         }
     }
@@ -109,15 +109,15 @@ fn have_ends(arcs: &[ArcRow], lines: &[FlowLine]) -> bool
 }
 
 /// Whether a line has the ends of an arc.
-fn has_ends(arc: &ArcRow, line: &FlowLine) -> bool
-    ensures { IsTrue result ↔ HasEnds arc.now line.now }
+fn names_ends(arc: &ArcRow, line: &FlowLine) -> bool
+    ensures { IsTrue result ↔ NamesEnds arc.now line.now }
 {
     line.tail == arc.tail && line.head == arc.head
 }
 
 /// The flows that lines say.
-fn flow_of(alloc: Global, lines: &[FlowLine]) -> Result<Vec<i64>, AllocError>
-    ensures { IfOk result (λ flow. flow.items ≡ flow_of lines.now) }
+fn flow_of_lines(alloc: Global, lines: &[FlowLine]) -> Result<Vec<i64>, AllocError>
+    ensures { IfOk result (λ flow. flow.items ≡ flow_of_lines lines.now) }
 {
     lines.iter().map(|line| line.flow).collect(alloc)
 }

@@ -116,9 +116,10 @@ fn serve_piece<O: Sink>(
     while at < piece.len() {
         let (used, complete) = cutter.take(&piece[at..]);
         at += used;
-        if complete {
-            serve_line(session, cutter.line(), out)?;
+        if !complete {
+            continue;
         }
+        serve_line(session, cutter.line(), out)?;
     }
     Ok(())
 }

@@ -2,6 +2,7 @@
 use Rattle.std.proofs.Common.{◌≡◌, ℕ, ◌-◌, ◌≤◌, ℤ, Bool, List, ◌++◌, length, take, drop, Option, Some, None, IsSome, IfSome, Ok, refl, sym, ap, ◌∙◌, arith}
 use mathlib.Core.Bool.{false≢true}
 use Rattle.std.specs.List.{All}
+use Rattle.std.specs.Option.{unwrap_or}
 use Rattle.std.proofs.lemmas.List.{take_all, drop_all, take_at, append-nil}
 use Rattle.dimacs_text.specs.declared.command.Edit.{Edit}
 use Rattle.network.specs.Edited.{edited}
@@ -20,7 +21,7 @@ use Rattle.session.specs.Record.{Recorded, supplies_of, flow_end, arcs_end, flow
 use Rattle.session.specs.ReturnLaws.{length-numbered, returned-swapped, verdict_fits-swapped}
 use Rattle.session.specs.RecordLaws.{flow_end_fits, moment_is}
 use Rattle.session.specs.EndingLaws.{shared_within}
-use Rattle.session.specs.Session.{IsAcceptedEdit, part_before, some_or}
+use Rattle.session.specs.Session.{IsAcceptedEdit, part_before}
 use Rattle.session.proofs.Leading.{LeadsBack, IsNotGrown, leads_back}
 
 -- an answered moment is within the limits
@@ -113,21 +114,21 @@ is_record_of edit old m flows potentials marks old_answered answered accepted fl
 
 -- ---- what the tables tell of the last change
 
-module _ (before : Option Moment) (m : Moment) (edit : Edit) (some : IsSome before) (change : IsAcceptedEdit edit (some_or before m) m) where
+module _ (before : Option Moment) (m : Moment) (edit : Edit) (some : IsSome before) (change : IsAcceptedEdit edit (unwrap_or before m) m) where
   abbrev was_moment : Moment
-  was_moment = some_or before m
+  was_moment = unwrap_or before m
 
   from_some : (P : Moment → Type 0) → IfSome before P → P was_moment
   from_some P holds = by before some holds
     where
-      by : (o : Option Moment) → IsSome o → IfSome o P → P (some_or o m)
+      by : (o : Option Moment) → IsSome o → IfSome o P → P (unwrap_or o m)
       by None is there = absurd (false≢true is)
       by (Some old) is there = there
 
   is_some : before ≡ Some was_moment
   is_some = by before some
     where
-      by : (o : Option Moment) → IsSome o → o ≡ Some (some_or o m)
+      by : (o : Option Moment) → IsSome o → o ≡ Some (unwrap_or o m)
       by None is = absurd (false≢true is)
       by (Some old) is = refl
 

@@ -1,5 +1,6 @@
 -- A session as whole moments, and what lies between each moment and the next.
-use Rattle.std.specs.Prelude.{◌≡◌, ℕ, ◌≤◌, ◌++◌, ◌∷◌, [], ◌-◌, pos, Option, Some, None, List, length, All, Ok, slice_index_or}
+use Rattle.std.specs.Prelude.{◌≡◌, ℕ, ◌≤◌, ◌++◌, ◌∷◌, [], ◌-◌, pos, List, length, All, Ok, slice_index_or}
+use Rattle.std.specs.Option.{unwrap_or}
 use Rattle.dimacs_text.specs.declared.command.Edit.{Edit}
 use Rattle.dimacs_text.specs.declared.command.Edit.TheVariants as edits
 use Rattle.dimacs_text.specs.declared.problem.ArcRow.{ArcRow}
@@ -34,13 +35,9 @@ pub record IsAcceptedEdit (edit : Edit) (old new : Moment) : Type 0 where
   pub accepted : edited old.instance edit ≡ Ok new.instance
   pub after : IsAnswered new
 
-abbrev pub some_or : Option Moment → Moment → Moment
-some_or None m = m
-some_or (Some old) m = old
-
 -- the moment before the last change of the tables, where there was one
 abbrev pub old_moment : Desk → Moment
-old_moment desk = some_or desk.before desk.moment
+old_moment desk = unwrap_or desk.before desk.moment
 
 -- the part names the one place at which the instances differ, with what the other moment has there
 abbrev pub PartTells : Part → Moment → Moment → Type 0

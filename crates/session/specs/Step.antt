@@ -1,5 +1,5 @@
 -- The steps of a session: what a line asks for, what it does to the moments, and what is replied.
-use Rattle.std.specs.Prelude.{◌≡◌, ℕ, Bool, true, false, [], Ok, Err, ◌⊎◌, MatchResult}
+use Rattle.std.specs.Prelude.{◌≡◌, ℕ, Bool, true, false, [], ◌⊎◌, MatchResult}
 use Rattle.dimacs_text.specs.declared.command.Edit.{Edit}
 use Rattle.dimacs_text.specs.declared.command.Command.{Command}
 use Rattle.dimacs_text.specs.declared.command.Command.TheVariants as commands
@@ -7,7 +7,7 @@ use Rattle.dimacs_text.specs.Command.{command}
 use Rattle.dimacs_text.specs.Lines.{Line}
 use Rattle.history.specs.Boards.{Timeline, Advances, StepsBack, StepsForward}
 use Rattle.network.specs.Edited.{edited}
-use Rattle.network.specs.Instance.{Instance, kind_of}
+use Rattle.network.specs.Instance.{kind_of}
 use Rattle.flow_solver.specs.Moment.{Moment}
 use Rattle.session.specs.Session.{IsEdited}
 

@@ -9,7 +9,7 @@ ghost use Rattle.flow_solver.specs.Desk.{supplies_in};
 ghost use Rattle.session.specs.Record.{RecordFits, Differs, no_row, swapped};
 ghost use Rattle.session.specs.Session.{IsAcceptedEdit, old_moment, part_before, place_of, place_of_edit};
 
-use crate::differences::{mark_differences, number_differences};
+use crate::differences::differences;
 use crate::part::Part;
 use crate::swaps::{swap_flows, swap_marks, swap_part, swap_potentials};
 use dimacs_text::Edit;
@@ -59,9 +59,9 @@ impl Record {
         ensures exact { IfOk result (λ r. Differs r tables.now.moment) }
     {
         let part = part_before(edit, tables);
-        let flows = number_differences(alloc, tables.old_flow(), tables.flow())?;
-        let potentials = number_differences(alloc, tables.old_potentials(), tables.potentials())?;
-        let marks = mark_differences(alloc, tables.old_cut(), tables.cut())?;
+        let flows = differences(alloc, tables.old_flow(), tables.flow())?;
+        let potentials = differences(alloc, tables.old_potentials(), tables.potentials())?;
+        let marks = differences(alloc, tables.old_cut(), tables.cut())?;
         Ok(Record {
             part,
             flows,

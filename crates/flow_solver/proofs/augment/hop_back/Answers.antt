@@ -8,4 +8,4 @@ use Rattle.flow_solver.proofs.augment.hop_back.Goals as goal
 pub returns-in-Some-clause-paths : goal.returns-in-Some-clause-paths
 returns-in-Some-clause-paths c =
     subst (λ (t : List Visit). ArePaths c.args.rows.now c.args.potentials.now t) (sym c.turn.ensures)
-    (paths_turned c.args.rows.now c.args.potentials.now c.args.flow.now c.args.visits.now c.args.node c.in-Some.other c.in-Some.way c.requires.paths c.in-Some.ensures (in_range c.args.visits.now c.args.node (settled_is_reached c.args.visits.now c.args.node c.requires.settled)))
+    (paths_turned c.args.rows.now c.args.potentials.now c.args.flow.now c.args.visits.now c.args.node c.in-Some.other c.in-Some.way c.requires.paths c.in-Some.ensures.some (in_range c.args.visits.now c.args.node (settled_is_reached c.args.visits.now c.args.node c.requires.settled)))

@@ -1,18 +1,18 @@
 use Rattle.session.proofs.Recording.{fewer_flows, same_potentials, same_marks, told}
 use Rattle.session.proofs.record.Record.of_last_change.Goals as goal
 
-pub number_differences-requires-clause-fewer : goal.number_differences-requires-clause-fewer
-number_differences-requires-clause-fewer c =
+pub differences-requires-clause-fewer : goal.differences-requires-clause-fewer
+differences-requires-clause-fewer c =
     let desk = c.args.tables.now in
     fewer_flows desk.before desk.moment c.args.edit.now c.requires.before c.requires.change c.old_flow.result.now c.flow.result.now c.old_flow.ensures c.flow.ensures.value
 
-pub number_differences-requires-2-clause-fewer : goal.number_differences-requires-2-clause-fewer
-number_differences-requires-2-clause-fewer c =
+pub differences-requires-2-clause-fewer : goal.differences-requires-2-clause-fewer
+differences-requires-2-clause-fewer c =
     let desk = c.args.tables.now in
     same_potentials desk.before desk.moment c.args.edit.now c.requires.before c.requires.change c.old_potentials.result.now c.potentials.result.now c.old_potentials.ensures c.potentials.ensures.value
 
-pub mark_differences-requires-clause-fewer : goal.mark_differences-requires-clause-fewer
-mark_differences-requires-clause-fewer c =
+pub differences-requires-3-clause-fewer : goal.differences-requires-3-clause-fewer
+differences-requires-3-clause-fewer c =
     let desk = c.args.tables.now in
     same_marks desk.before desk.moment c.args.edit.now c.requires.before c.requires.change c.old_cut.result.now c.cut.result.now c.old_cut.ensures c.cut.ensures.value
 
