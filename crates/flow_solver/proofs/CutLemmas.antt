@@ -1,24 +1,29 @@
--- Sums over sets of nodes, and which set has the greatest surplus.
-use Rattle.std.proofs.Common.{◌≡◌, ℕ, zero, suc, ◌<◌, ℤ, pos, negsuc, neg_ℤ, ◌-ℤ◌, ◌+ℤ◌, ◌≤ℤ◌, List, [], ◌∷◌, length, map, replicate, refl, sym, ap, subst, ◌∙◌, inl, inr, arith, Bool, true, false, cond, not, ◌&&◌, ◌||◌}
-use Rattle.std.specs.Prelude.{◌<ℤ◌}
+-- Sums over sets of nodes, which set has the greatest surplus, and the line of marked nodes by which a set grows.
+use Rattle.std.proofs.Common.{◌≡◌, ℕ, zero, suc, ◌+◌, ◌*◌, ◌/◌, ◌%◌, ◌<◌, ℤ, pos, negsuc, neg_ℤ, ◌-ℤ◌, ◌+ℤ◌, ◌≤ℤ◌, List, [], ◌∷◌, length, map, replicate, refl, sym, ap, subst, ◌∙◌, inl, inr, arith, Bool, true, false, cond, eqb, not, ◌&&◌, Some, None}
+use Rattle.std.specs.Prelude.{◌<ℤ◌, Option, slice_set}
 use Rattle.std.proofs.lemmas.Int.{ints, by_lt_z}
-use Rattle.std.proofs.lemmas.Bool.{cases_eq, false≢true, true≢false, true_from_ne_false, false_from_ne_true}
-use Rattle.std.proofs.lemmas.List.Sums.{sum_by-cons}
+use Rattle.std.proofs.lemmas.Bool.{cases_eq, cases_lt, false≢true, true≢false, true_from_ne_false, false_from_ne_true}
+use Rattle.std.proofs.lemmas.List.Sums.{sum_by-cons, sum_by-set}
 use Rattle.std.specs.List.{count_by}
-use Rattle.std.proofs.lemmas.List.{length-map}
+use Rattle.std.proofs.lemmas.List.{length-map, length-set, get_or-set_same, get_or-set_other, get_or-replicate, get_or_past}
 use Rattle.dimacs_text.specs.declared.problem.ArcRow.{ArcRow}
 use Rattle.flow_solver.specs.declared.residual.Way.{Way}
 use Rattle.flow_solver.specs.declared.residual.Way.TheVariants.{Forward, Backward}
-use Rattle.flow_solver.specs.Residual.{IsFlow, IsWithin, number_at, arc_at, start_of, end_of, start_at, end_at, room_of, IsResidual}
+use Rattle.flow_solver.specs.Residual.{IsFlow, IsRow, IsWithin, number_at, arc_at, start_of, end_of, start_at, end_at, room_of, IsResidual}
 use Rattle.network.specs.Flow.{net, outflow, inflow}
+use Rattle.network.specs.Instance.{Instance}
+use Rattle.flow_solver.specs.Walk.{AreRowsOf}
+use Rattle.flow_solver.proofs.WalkLemmas.{IsNextEnd, all_met}
+use Rattle.flow_solver.specs.declared.cut.Side.{Side}
+use Rattle.flow_solver.specs.declared.cut.Side.TheVariants.{Ahead, Behind}
 use Rattle.flow_solver.specs.Push.{IsExcess, at_node, positive_part, left}
 use Rattle.flow_solver.proofs.PushLemmas.{at_same, at_other}
 use Rattle.flow_solver.specs.declared.visit.Mark.{Mark}
 use Rattle.flow_solver.specs.declared.visit.Mark.TheVariants.{Unreached, Open, Settled}
 use Rattle.flow_solver.specs.declared.visit.Visit.{Visit}
-use Rattle.flow_solver.specs.Search.{visit_at, mark_at, depth_at, IsReached, IsSearch, AllRelaxed, IsFromExcess, IsExhausted}
-use Rattle.flow_solver.proofs.SearchLemmas.{in_range, settled_is_reached}
-use Rattle.flow_solver.specs.Cut.{in_set, sum_in, sum_leaving, sum_entering, surplus, shortfall, IsLeastSet, IsClosed, HoldsExcess, IsClosedBack, IsBehindDeficit, IsSettledSet, IsChosenSet, IsGrown, lack}
+use Rattle.flow_solver.specs.Search.{visit_at, mark_at, is_unsettled, is_not_settled, IsReached, AllRelaxed, IsFromExcess, IsExhausted}
+use Rattle.flow_solver.proofs.SearchLemmas.{in_range}
+use Rattle.flow_solver.specs.Cut.{in_set, sum_in, sum_leaving, sum_entering, surplus, shortfall, IsLeastSet, IsRoot, amount, near_at, way_from, IsClosed, HoldsRoots, IsSide, IsParted, IsChosenSet, IsFarIn, AreFarIn, ArePassedFarIn, node_at, IsListed, IsLineOf, IsGrown, lack}
 
 pub sum_in-same : (set : List Bool) (f g : ℕ → ℤ) → ((v : ℕ) → f v ≡ g v) → sum_in set f ≡ sum_in set g
 sum_in-same [] f g same = refl
@@ -195,17 +200,17 @@ sum_in-all (false ∷ set) (z ∷ e) sized holds none =
 
 module _ (arcs : List ArcRow) (supply : ℕ → ℤ) (x e : List ℤ) (set : List Bool)
     (is : IsExcess arcs supply x e) (sized : length x ≡ length arcs) (within : (k : ℕ) → k < length arcs → IsWithin (arc_at arcs k) (number_at x k))
-    (sized_set : length set ≡ length e) (closed : IsClosed arcs x set) (holds : HoldsExcess e set)
+    (sized_set : length set ≡ length e) (closed : IsClosed Ahead arcs x set) (holds : HoldsRoots Ahead e set)
     (none : (v : ℕ) → in_set set v ≡ true → pos 0 ≤ℤ number_at e v)
-    (least : (other : List Bool) → IsClosed arcs x other → HoldsExcess e other → (v : ℕ) → in_set set v ≡ true → in_set other v ≡ true)
+    (least : (other : List Bool) → IsClosed Ahead arcs x other → HoldsRoots Ahead e other → (v : ℕ) → in_set set v ≡ true → in_set other v ≡ true)
   where
     surplus_below : (other : List Bool) → surplus arcs supply other ≤ℤ sum_in other (number_at e)
     surplus_below other = omega (arith, ints, sum_in-excess other arcs supply x e is, flow_across other arcs x sized within)
 
-    full_holds : (other : List Bool) → surplus arcs supply other ≡ pos (left e) → HoldsExcess e other
+    full_holds : (other : List Bool) → surplus arcs supply other ≡ pos (left e) → HoldsRoots Ahead e other
     full_holds other full v high = true_from_ne_false (in_set other v) (λ out. (let less = sum_in-less other e v high out in omega (arith, ints, less, surplus_below other)))
 
-    full_closed : (other : List Bool) → surplus arcs supply other ≡ pos (left e) → IsClosed arcs x other
+    full_closed : (other : List Bool) → surplus arcs supply other ≡ pos (left e) → IsClosed Ahead arcs x other
     full_closed other full k way residual start =
         true_from_ne_false (in_set other (end_at arcs k way)) (λ out. (let slack = flow_slack other arcs x k way sized within residual start out in
         omega (arith, ints, slack, sum_in-excess other arcs supply x e is, sum_in-le_left other e)))
@@ -217,41 +222,10 @@ module _ (arcs : List ArcRow) (supply : ℕ → ℤ) (x e : List ℤ) (set : Lis
       smallest = λ other same full. least other (full_closed other full) (full_holds other full);
     }
 
--- the settled nodes at the end of a search from the nodes in excess
-module _ (arcs : List ArcRow) (x p e : List ℤ) (s : List Visit) (set : List Bool)
-    (known : IsSearch arcs x p s) (all : AllRelaxed arcs x p s) (from : IsFromExcess e s) (done : IsExhausted e s) (marks : IsSettledSet s set)
-  where
-    settled_mark : (v : ℕ) (m : Mark) → mark_at s v ≡ m → IsReached s v → mark_at s v ≡ Settled
-    settled_mark v Unreached h reached = absurd (reached h)
-    settled_mark v Open h reached = absurd (done.none_open v (in_range s v reached) h)
-    settled_mark v Settled h reached = h
-
-    reached_settled : (v : ℕ) → IsReached s v → mark_at s v ≡ Settled
-    reached_settled v reached = settled_mark v (mark_at s v) refl reached
-
-    pub settled_closed : IsClosed arcs x set
-    settled_closed k way residual start = (marks (end_at arcs k way)).1 (reached_settled _ (all k way residual ((marks (start_at arcs k way)).0 start)).reached)
-
-    pub settled_holds : HoldsExcess e set
-    settled_holds v high = (marks v).1 (reached_settled v (from.sources v high).0)
-
-    pub settled_none : (v : ℕ) → in_set set v ≡ true → pos 0 ≤ℤ number_at e v
-    settled_none v h = done.no_deficit v ((marks v).0 h)
-
-    reached_in : (other : List Bool) → IsClosed arcs x other → HoldsExcess e other → (d v : ℕ) → IsReached s v → depth_at s v ≡ d → in_set other v ≡ true
-    reached_in other closed holds zero v reached deep = holds v (from.roots v reached deep).0
-    reached_in other closed holds (suc d) v reached deep =
-        let traced = known.traced v reached (omega arith) in
-        let k = (visit_at s v).arc in
-        let way = (visit_at s v).way in
-        let start = reached_in other closed holds d (start_at arcs k way) (settled_is_reached s _ traced.settled) (omega (arith, traced.deeper)) in
-        ap (in_set other) (sym traced.ends) ∙ closed k way traced.residual start
-
-    pub settled_least : (other : List Bool) → IsClosed arcs x other → HoldsExcess e other → (v : ℕ) → in_set set v ≡ true → in_set other v ≡ true
-    settled_least other closed holds v h = reached_in other closed holds (depth_at s v) v (settled_is_reached s v ((marks v).0 h)) refl
-
-    pub settled_is_least : (supply : ℕ → ℤ) → IsExcess arcs supply x e → length x ≡ length arcs → ((k : ℕ) → k < length arcs → IsWithin (arc_at arcs k) (number_at x k)) → length set ≡ length e → IsLeastSet (surplus arcs supply) set (pos (left e))
-    settled_is_least supply is sized within sized_set = is_least_cut arcs supply x e set is sized within sized_set settled_closed settled_holds settled_none settled_least
+-- the nodes that those in excess reach, where none of them is in deficit
+ahead_is_least : (arcs : List ArcRow) (supply : ℕ → ℤ) (x e : List ℤ) (set : List Bool) → IsExcess arcs supply x e → length x ≡ length arcs → ((k : ℕ) → k < length arcs → IsWithin (arc_at arcs k) (number_at x k)) → length set ≡ length e → IsSide Ahead arcs x e set → IsParted arcs x e → IsLeastSet (surplus arcs supply) set (pos (left e))
+ahead_is_least arcs supply x e set is sized within sized_set ahead parted =
+    is_least_cut arcs supply x e set is sized within sized_set ahead.closed ahead.holds (λ v h. parted.no_deficit v (ahead.least parted.set parted.closed parted.holds v h)) ahead.least
 
 -- the network with each arc turned round: what lies in deficit there is what lies in excess here
 abbrev pub mirror : ArcRow → ArcRow
@@ -336,16 +310,16 @@ start_at-mirror arcs k way = ap (λ (a : ArcRow). start_of a way) (arc_at-mirror
 end_at-mirror : (arcs : List ArcRow) (k : ℕ) (way : Way) → end_at (map mirror arcs) k way ≡ start_at arcs k way
 end_at-mirror arcs k way = ap (λ (a : ArcRow). end_of a way) (arc_at-mirror arcs k) ∙ end_of-mirror (arc_at arcs k) way
 
-closed-mirror : (arcs : List ArcRow) (x : List ℤ) (set : List Bool) → IsClosedBack arcs x set → IsClosed (map mirror arcs) x set
+closed-mirror : (arcs : List ArcRow) (x : List ℤ) (set : List Bool) → IsClosed Behind arcs x set → IsClosed Ahead (map mirror arcs) x set
 closed-mirror arcs x set closed k way residual start =
     ap (in_set set) (end_at-mirror arcs k way) ∙ closed k way (residual-mirror arcs x k way residual) (sym (ap (in_set set) (start_at-mirror arcs k way)) ∙ start)
 
-mirror-closed : (arcs : List ArcRow) (x : List ℤ) (set : List Bool) → IsClosed (map mirror arcs) x set → IsClosedBack arcs x set
+mirror-closed : (arcs : List ArcRow) (x : List ℤ) (set : List Bool) → IsClosed Ahead (map mirror arcs) x set → IsClosed Behind arcs x set
 mirror-closed arcs x set closed k way residual end =
     sym (ap (in_set set) (end_at-mirror arcs k way)) ∙ closed k way (mirror-residual arcs x k way residual) (ap (in_set set) (start_at-mirror arcs k way) ∙ end)
 
 -- the nodes that reach a node in deficit, where no node is in excess
-pub behind_is_least : (arcs : List ArcRow) (supply : ℕ → ℤ) (x e : List ℤ) (set : List Bool) → IsExcess arcs supply x e → length x ≡ length arcs → ((k : ℕ) → k < length arcs → IsWithin (arc_at arcs k) (number_at x k)) → length set ≡ length e → IsBehindDeficit arcs x e set → ((v : ℕ) → number_at e v ≤ℤ pos 0) → IsLeastSet (shortfall arcs supply) set (pos (lack e))
+behind_is_least : (arcs : List ArcRow) (supply : ℕ → ℤ) (x e : List ℤ) (set : List Bool) → IsExcess arcs supply x e → length x ≡ length arcs → ((k : ℕ) → k < length arcs → IsWithin (arc_at arcs k) (number_at x k)) → length set ≡ length e → IsSide Behind arcs x e set → ((v : ℕ) → number_at e v ≤ℤ pos 0) → IsLeastSet (shortfall arcs supply) set (pos (lack e))
 behind_is_least arcs supply x e set is sized within sized_set behind none =
     let there = is_least_cut (map mirror arcs) (λ v. neg_ℤ (supply v)) x (map neg_ℤ e) set
     (λ v. number_at-neg e v ∙ omega (arith, ints, is v, flow_out-mirror arcs x v, flow_in-mirror arcs x v))
@@ -372,21 +346,36 @@ none_above (pos n ∷ e) h zero = omega (arith, ints, sum_by-cons positive_part 
 none_above (negsuc n ∷ e) h zero = omega (arith, ints)
 none_above (z ∷ e) h (suc v) = none_above e (omega (arith, sum_by-cons positive_part z e)) v
 
-pub left-none : (e : List ℤ) → ((v : ℕ) → v < length e → number_at e v ≤ℤ pos 0) → left e ≡ 0
+left-none : (e : List ℤ) → ((v : ℕ) → v < length e → number_at e v ≤ℤ pos 0) → left e ≡ 0
 left-none [] h = refl
 left-none (z ∷ e) h = omega (arith, sum_by-cons positive_part z e, no_part z (λ high. omega (arith, ints, high, h 0 (omega arith))), left-none e (λ v lt. h (suc v) (omega arith)))
 
 pub lack-none : (e : List ℤ) → lack e ≡ 0 → (v : ℕ) → pos 0 ≤ℤ number_at e v
 lack-none e h v = omega (arith, ints, none_above (map neg_ℤ e) (left-neg e ∙ h) v, number_at-neg e v)
 
+pub amount-some : (side : Side) (e : List ℤ) (v : ℕ) → IsRoot side (number_at e v) → 0 < amount side e
+amount-some Ahead e v high = elim (cases_eq (left e) 0) [
+  | inl none ↦ absurd (omega (arith, ints, high, none_above e none v))
+  | inr some ↦ omega (arith, some)
+]
+amount-some Behind e v low = elim (cases_eq (lack e) 0) [
+  | inl none ↦ absurd (omega (arith, ints, low, lack-none e none v))
+  | inr some ↦ omega (arith, some)
+]
+
+pub amount-none : (side : Side) (e : List ℤ) → ((v : ℕ) → v < length e → IsRoot side (number_at e v) → ⊥) → amount side e ≡ 0
+amount-none Ahead e none = left-none e (λ v lt. by_lt_z (pos 0) (number_at e v) (λ high. absurd (none v lt high)) (λ le. omega (arith, ints, le)))
+amount-none Behind e none =
+    sym (left-neg e) ∙ left-none (map neg_ℤ e) (λ v lt. by_lt_z (number_at e v) (pos 0) (λ low. absurd (none v (omega (arith, lt, length-map e neg_ℤ)) low)) (λ le. omega (arith, ints, le, number_at-neg e v)))
+
 in_none : (n v : ℕ) → in_set (replicate n false) v ≡ false
 in_none zero v = refl
 in_none (suc n) zero = refl
 in_none (suc n) (suc v) = in_none n v
 
-pub IsChosenSet-from : (arcs : List ArcRow) (x p e : List ℤ) (supply : ℕ → ℤ) (s : List Visit) (set : List Bool) → IsFlow (length p) arcs x → IsSearch arcs x p s → AllRelaxed arcs x p s → IsFromExcess e s → IsExhausted e s → length set ≡ length e → (0 < left e → IsSettledSet s set) → (left e ≡ 0 → IsBehindDeficit arcs x e set) → IsExcess arcs supply x e → IsChosenSet arcs supply e set
-IsChosenSet-from arcs x p e supply s set flow known all from done sized_set settled behind is = record {
-  in_excess = λ some. settled_is_least arcs x p e s set known all from done (settled some) supply is flow.same_length flow.within sized_set;
+pub IsChosenSet-from : (arcs : List ArcRow) (x e : List ℤ) (supply : ℕ → ℤ) (set : List Bool) (nodes : ℕ) → IsFlow nodes arcs x → length set ≡ length e → IsParted arcs x e → (0 < left e → IsSide Ahead arcs x e set) → (left e ≡ 0 → IsSide Behind arcs x e set) → IsExcess arcs supply x e → IsChosenSet arcs supply e set
+IsChosenSet-from arcs x e supply set nodes flow sized_set parted ahead behind is = record {
+  in_excess = λ some. ahead_is_least arcs supply x e set is flow.same_length flow.within sized_set (ahead some) parted;
   in_deficit = λ none some. behind_is_least arcs supply x e set is flow.same_length flow.within sized_set (behind none) (none_above e none);
   in_neither = λ none no_lack v.
       false_from_ne_true (in_set set v) (λ h. false≢true
@@ -394,27 +383,171 @@ IsChosenSet-from arcs x p e supply s set flow known all from done sized_set sett
       (λ q low. absurd (omega (arith, ints, low, lack-none e no_lack q))) v h));
 }
 
-grown_more : {arcs : List ArcRow} {x : List ℤ} (set mid new : List Bool) (a b : Bool) → IsGrown arcs x set mid a → IsGrown arcs x mid new b → (a || b) ≡ true → count_by not new < count_by not set
-grown_more set mid new false b one two h = subst (λ (s : List Bool). count_by not new < count_by not s) (one.same refl) (two.more h)
-grown_more set mid new true false one two h = subst (λ (s : List Bool). count_by not s < count_by not set) (sym (two.same refl)) (one.more refl)
-grown_more set mid new true true one two h = (let first = one.more refl in let second = two.more refl in omega (arith, first, second))
+-- ---- no node in excess reaches a node in deficit
 
-grown_same : {arcs : List ArcRow} {x : List ℤ} (set mid new : List Bool) (a b : Bool) → IsGrown arcs x set mid a → IsGrown arcs x mid new b → (a || b) ≡ false → new ≡ set
-grown_same set mid new false false one two h = two.same refl ∙ one.same refl
-grown_same set mid new false true one two h = absurd (true≢false h)
-grown_same set mid new true b one two h = absurd (true≢false h)
-
--- what grows twice has grown, where it has in one of the two
-pub IsGrown-both : {arcs : List ArcRow} {x : List ℤ} {set mid new : List Bool} → {a b : Bool} → IsGrown arcs x set mid a → IsGrown arcs x mid new b → IsGrown arcs x set new (a || b)
-IsGrown-both {set = set} {mid = mid} {new = new} {a = a} {b = b} one two = record {
-  same_length = two.same_length ∙ one.same_length;
-  kept = λ v h. two.kept v (one.kept v h);
-  least = λ other closed sub v h. two.least other closed (λ q. one.least other closed sub q) v h;
-  more = grown_more set mid new a b one two;
-  same = grown_same set mid new a b one two;
+pub parted_no_excess : (arcs : List ArcRow) (x e : List ℤ) → left e ≡ 0 → IsParted arcs x e
+parted_no_excess arcs x e none = record {
+  set = [];
+  closed = λ k way residual start. absurd (false≢true start);
+  holds = λ v high. absurd (omega (arith, ints, high, none_above e none v));
+  no_deficit = λ v h. absurd (false≢true h);
 }
 
--- what is false with `||` is false on both sides
-pub neither : (a b : Bool) → (a || b) ≡ false → (a ≡ false) × (b ≡ false)
-neither false b h = (refl, h)
-neither true b h = absurd (true≢false h)
+in_all : (n v : ℕ) → v < n → in_set (replicate n true) v ≡ true
+in_all n v lt = get_or-replicate n v true false lt
+
+end_in : (n : ℕ) (a : ArcRow) (way : Way) → IsRow n a → end_of a way < n
+end_in n a Forward row = row.head_in
+end_in n a Backward row = row.tail_in
+
+pub parted_no_deficit : (nodes : ℕ) (arcs : List ArcRow) (x e : List ℤ) → IsFlow nodes arcs x → length e ≡ nodes → lack e ≡ 0 → IsParted arcs x e
+parted_no_deficit nodes arcs x e flow sized no_lack = record {
+  set = replicate nodes true;
+  closed = λ k way residual start. in_all nodes (end_at arcs k way) (end_in nodes (arc_at arcs k) way (flow.rows k residual.is_arc));
+  holds = λ v high. in_all nodes v (node v high);
+  no_deficit = λ v h. lack-none e no_lack v;
+}
+  where
+    node : (v : ℕ) → pos 0 <ℤ number_at e v → v < nodes
+    node v high = elim (cases_lt v nodes) [
+      | inl lt ↦ lt
+      | inr past ↦ (let none : number_at e v ≡ pos 0 = get_or_past e v (pos 0) (omega (arith, past, sized)) in absurd (omega (arith, ints, high, none)))
+    ]
+
+-- whether a node is settled
+abbrev is_settled : Visit → Bool
+is_settled e = not (is_unsettled e)
+
+in_map : (s : List Visit) (v : ℕ) → in_set (map is_settled s) v ≡ is_settled (visit_at s v)
+in_map [] v = refl
+in_map (e ∷ s) zero = refl
+in_map (e ∷ s) (suc v) = in_map s v
+
+-- the settled nodes at the end of a search from the nodes in excess
+module _ (arcs : List ArcRow) (x p e : List ℤ) (s : List Visit)
+    (all : AllRelaxed arcs x p s) (from : IsFromExcess e s) (done : IsExhausted e s)
+  where
+    in_settled : (v : ℕ) → in_set (map is_settled s) v ≡ not (is_not_settled (mark_at s v))
+    in_settled v = in_map s v
+
+    by_mark : (m : Mark) → not (is_not_settled m) ≡ true → m ≡ Settled
+    by_mark Unreached h = absurd (false≢true h)
+    by_mark Open h = absurd (false≢true h)
+    by_mark Settled h = refl
+
+    settled_in : (v : ℕ) → in_set (map is_settled s) v ≡ true → mark_at s v ≡ Settled
+    settled_in v h = by_mark (mark_at s v) (sym (in_settled v) ∙ h)
+
+    reached_mark : (v : ℕ) (m : Mark) → mark_at s v ≡ m → IsReached s v → not (is_not_settled m) ≡ true
+    reached_mark v Unreached h reached = absurd (reached h)
+    reached_mark v Open h reached = absurd (done.none_open v (in_range s v reached) h)
+    reached_mark v Settled h reached = refl
+
+    reached_in : (v : ℕ) → IsReached s v → in_set (map is_settled s) v ≡ true
+    reached_in v reached = in_settled v ∙ reached_mark v (mark_at s v) refl reached
+
+    pub parted_exhausted : IsParted arcs x e
+    parted_exhausted = record {
+      set = map is_settled s;
+      closed = λ k way residual start. reached_in (end_at arcs k way) (all k way residual (settled_in (start_at arcs k way) start)).reached;
+      holds = λ v high. reached_in v (from.sources v high).0;
+      no_deficit = λ v h. done.no_deficit v (settled_in v h);
+    }
+
+-- ---- the line of marked nodes
+
+-- one node more in a set is one less outside
+count_by-marked : (set : List Bool) (v : ℕ) → v < length set → in_set set v ≡ false → count_by not (slice_set set v true) + 1 ≡ count_by not set
+count_by-marked set v lt out =
+    let marks : Bool → ℕ = λ b. cond (not b) 1 0 in
+    omega (arith, ap marks out, sum_by-set marks set v true false lt)
+
+module _ (set : List Bool) (line : List ℕ) (len v : ℕ) (is : IsLineOf set line len) (node : v < length set) (out : in_set set v ≡ false) where
+  room_for_one : len < length line
+  room_for_one = omega (arith, is.room, is.one_a_node, count_by-marked set v node out)
+
+  line_kept : (j : ℕ) → j < len → node_at (slice_set line len v) j ≡ node_at line j
+  line_kept j lt = get_or-set_other line len j v 0 (λ e. omega (arith, lt))
+
+  set_kept : (w : ℕ) → in_set set w ≡ true → in_set (slice_set set v true) w ≡ true
+  set_kept w h = elim (cases_eq w v) [
+    | inl same ↦ subst (λ (q : ℕ). in_set (slice_set set v true) q ≡ true) (sym same) (get_or-set_same set v true false node)
+    | inr other ↦ get_or-set_other set v w true false other ∙ h
+  ]
+
+  put_inside : (j : ℕ) → j < len + 1 → in_set (slice_set set v true) (node_at (slice_set line len v) j) ≡ true
+  put_inside j lt = elim (cases_eq j len) [
+    | inl last ↦ subst (λ (q : ℕ). in_set (slice_set set v true) q ≡ true) (sym (ap (node_at (slice_set line len v)) last ∙ get_or-set_same line len v 0 room_for_one)) (get_or-set_same set v true false node)
+    | inr other ↦ (let lt' : j < len = omega (arith, other) in subst (λ (q : ℕ). in_set (slice_set set v true) q ≡ true) (sym (line_kept j lt')) (set_kept (node_at line j) (is.inside j lt')))
+  ]
+
+  put_listed : (w : ℕ) → in_set (slice_set set v true) w ≡ true → IsListed (slice_set line len v) (len + 1) w
+  put_listed w h = elim (cases_eq w v) [
+    | inl same ↦ record { place = len; in_line = omega arith; is_there = get_or-set_same line len v 0 room_for_one ∙ sym same }
+    | inr other ↦ (let before = is.listed w (sym (get_or-set_other set v w true false other) ∙ h) in
+        record { place = before.place; in_line = omega (arith, before.in_line); is_there = line_kept before.place before.in_line ∙ before.is_there })
+  ]
+
+  -- a node outside is marked and put at the end
+  pub IsLineOf-put : IsLineOf (slice_set set v true) (slice_set line len v) (len + 1)
+  IsLineOf-put = record {
+    one_a_node = length-set line len v ∙ is.one_a_node ∙ sym (length-set set v true);
+    inside = put_inside;
+    listed = put_listed;
+    room = omega (arith, is.room, count_by-marked set v node out, length-set set v true);
+  }
+
+pub IsGrown-refl : (side : Side) (arcs : List ArcRow) (x : List ℤ) (set : List Bool) (line : List ℕ) (len : ℕ) → IsGrown side arcs x set line len set line len
+IsGrown-refl side arcs x set line len = record { kept = λ v h. h; least = λ other closed holds. holds; no_shorter = omega arith; same_before = λ j lt. refl }
+
+pub IsGrown-trans : {side : Side} {arcs : List ArcRow} {x : List ℤ} {set mid new : List Bool} → {line line' line'' : List ℕ} → {len len' len'' : ℕ} → IsGrown side arcs x set line len mid line' len' → IsGrown side arcs x mid line' len' new line'' len'' → IsGrown side arcs x set line len new line'' len''
+IsGrown-trans one two = record {
+  kept = λ v h. two.kept v (one.kept v h);
+  least = λ other closed holds. two.least other closed (one.least other closed holds);
+  no_shorter = omega (arith, one.no_shorter, two.no_shorter);
+  same_before = λ j lt. two.same_before j (omega (arith, lt, one.no_shorter)) ∙ one.same_before j lt;
+}
+
+-- ---- the walk over the ends at a node
+
+pub passed_far_first : (side : Side) (rows : List ArcRow) (x : List ℤ) (set : List Bool) (v : ℕ) (arcs : List ArcRow) (row : ℕ) (first : Option ℕ) → IsNextEnd arcs v (2 * length arcs) first → ArePassedFarIn side rows x set v arcs row first
+passed_far_first side rows x set v arcs row first is end passed lt at near = absurd (is.skipped end passed lt at)
+
+pub passed_far_more : (side : Side) (rows : List ArcRow) (x : List ℤ) (set new : List Bool) (v : ℕ) (arcs : List ArcRow) (row current : ℕ) (next : Option ℕ) → ((w : ℕ) → in_set set w ≡ true → in_set new w ≡ true)
+    → ArePassedFarIn side rows x set v arcs row (Some current) → (near_at side rows (current / 2 + row) (way_from side current) ≡ v → IsFarIn side rows x new (current / 2 + row) (way_from side current))
+    → IsNextEnd arcs v current next → ArePassedFarIn side rows x new v arcs row next
+passed_far_more side rows x set new v arcs row current next kept done here is end passed lt at near = elim (cases_eq end current) [
+  | inl same ↦ subst (λ (e : ℕ). IsFarIn side rows x new (e / 2 + row) (way_from side e)) (sym same) (here (subst (λ (e : ℕ). near_at side rows (e / 2 + row) (way_from side e) ≡ v) same near))
+  | inr other ↦ elim (cases_lt end current) [
+    | inl below ↦ absurd (is.skipped end passed below at)
+    | inr above ↦ (let beyond : current < end = omega (arith, other) in λ residual. kept _ (done end beyond lt at near residual))
+  ]
+]
+
+-- the other way along an arc
+abbrev other_way : Way → Way
+other_way Forward = Backward
+other_way Backward = Forward
+
+other_way_if : (even : Bool) → cond even Forward Backward ≡ other_way (cond even Backward Forward)
+other_way_if true = refl
+other_way_if false = refl
+
+-- each residual arc that leads on from a node goes along the return arc, or from one of the node's ends
+pub far_in_all : (side : Side) (I : Instance) (rows : List ArcRow) (x : List ℤ) (set : List Bool) (v row : ℕ) → AreRowsOf I rows → row + length I.arcs ≡ length rows
+    → (0 < row → (way : Way) → near_at side rows 0 way ≡ v → IsFarIn side rows x set 0 way) → ArePassedFarIn side rows x set v I.arcs row None → AreFarIn side rows x set v
+far_in_all Behind I rows x set v row of split first walked k way near residual =
+    all_met I rows v row (λ k way. end_at rows k way ≡ v → IsFarIn Behind rows x set k way) of split first (λ end lt at. walked end tt lt at) k way residual.is_arc near near residual
+far_in_all Ahead I rows x set v row of split first walked k way near residual = by_way way near residual
+  where
+    P : ℕ → Way → Type 0
+    P k way = start_at rows k (other_way way) ≡ v → IsFarIn Ahead rows x set k (other_way way)
+
+    met : (k : ℕ) (way : Way) → k < length rows → end_at rows k way ≡ v → P k way
+    met =
+        all_met I rows v row P of split (λ some way. first some (other_way way))
+        (λ end lt at. subst (λ (w : Way). start_at rows (end / 2 + row) w ≡ v → IsFarIn Ahead rows x set (end / 2 + row) w) (other_way_if (eqb (end % 2) 0)) (walked end tt lt at))
+
+    by_way : (way : Way) → start_at rows k way ≡ v → IsFarIn Ahead rows x set k way
+    by_way Forward near residual = met k Backward residual.is_arc near near residual
+    by_way Backward near residual = met k Forward residual.is_arc near near residual

@@ -4,6 +4,7 @@ pub mod PushLemmas
 pub mod SettleLemmas
 pub mod CutLemmas
 pub mod HeapLemmas
+pub mod QueueLemmas
 pub mod ExcessLemmas
 pub mod EditLemmas
 pub mod SignLemmas
@@ -15,6 +16,8 @@ pub mod InstanceLemmas
 pub mod AnswerLemmas
 pub mod WalkLemmas
 pub mod HopLemmas
+pub mod LabelLemmas
+pub mod StarLemmas
 pub mod ChangeLemmas
 pub mod EditRows
 pub mod PartLemmas

@@ -110,6 +110,19 @@ relaxed_already arcs x p s u k way key certified search last residual starts key
     by_mark Open m g e = by_lt_z key (key_at s (end_at arcs k way)) (λ h. absurd (g h)) (λ h. omega (arith, ints, key_is))
     by_mark Settled m g e = omega (arith, ints, key_is, certified.none_below k way residual, last.furthest (end_at arcs k way) m, e)
 
+-- a node that stays as it is keeps its path, where settled nodes stay as they are
+pub IsTraced-stays : (arcs : List ArcRow) (x p : List ℤ) (s t : List Visit) (q : ℕ) → ((v : ℕ) → mark_at s v ≡ Settled → visit_at t v ≡ visit_at s v) → visit_at t q ≡ visit_at s q → IsTraced arcs x p s q → IsTraced arcs x p t q
+IsTraced-stays arcs x p s t q settled_stays same h =
+    let start_kept : visit_at t (start_at arcs (visit_at s q).arc (visit_at s q).way) ≡ visit_at s (start_at arcs (visit_at s q).arc (visit_at s q).way) = settled_stays _ h.settled in
+    let there : IsTracedBy arcs x p t q (visit_at s q).arc (visit_at s q).way = record {
+      residual = h.residual;
+      ends = h.ends;
+      settled = ap (λ (r : Visit). r.mark) start_kept ∙ h.settled;
+      deeper = ap (λ (r : Visit). r.depth) same ∙ h.deeper ∙ ap (λ (r : Visit). r.depth + 1) (sym start_kept);
+      tight = ap (λ (r : Visit). r.key) same ∙ h.tight ∙ ap (λ (r : Visit). r.key +ℤ reduced_at arcs p (visit_at s q).arc (visit_at s q).way) (sym start_kept);
+    } in
+    subst (λ (r : Visit). IsTracedBy arcs x p t q r.arc r.way) (sym same) there
+
 module _ (arcs : List ArcRow) (x p : List ℤ) (s t : List Visit) (u k : ℕ) (way : Way) (e : Visit)
     (flow : IsFlow (length p) arcs x) (search : IsSearch arcs x p s) (last : IsLastSettled s u)
     (residual : IsResidual arcs x k way) (starts : start_at arcs k way ≡ u) (fits : NoneBelow arcs x p)
@@ -137,16 +150,7 @@ module _ (arcs : List ArcRow) (x p : List ℤ) (s t : List Visit) (u k : ℕ) (w
     settled_stays q m = put.elsewhere q (settled_is_other q m)
 
     IsTraced-kept : (q : ℕ) → visit_at t q ≡ visit_at s q → IsTraced arcs x p s q → IsTraced arcs x p t q
-    IsTraced-kept q same h =
-        let start_kept : visit_at t (start_at arcs (visit_at s q).arc (visit_at s q).way) ≡ visit_at s (start_at arcs (visit_at s q).arc (visit_at s q).way) = settled_stays _ h.settled in
-        let there : IsTracedBy arcs x p t q (visit_at s q).arc (visit_at s q).way = record {
-          residual = h.residual;
-          ends = h.ends;
-          settled = ap (λ (r : Visit). r.mark) start_kept ∙ h.settled;
-          deeper = ap (λ (r : Visit). r.depth) same ∙ h.deeper ∙ ap (λ (r : Visit). r.depth + 1) (sym start_kept);
-          tight = ap (λ (r : Visit). r.key) same ∙ h.tight ∙ ap (λ (r : Visit). r.key +ℤ reduced_at arcs p (visit_at s q).arc (visit_at s q).way) (sym start_kept);
-        } in
-        subst (λ (r : Visit). IsTracedBy arcs x p t q r.arc r.way) (sym same) there
+    IsTraced-kept q same = IsTraced-stays arcs x p s t q settled_stays same
 
     mark_here : mark_at t (end_at arcs k way) ≡ Open
     mark_here = ap (λ (r : Visit). r.mark) put.here ∙ is_open

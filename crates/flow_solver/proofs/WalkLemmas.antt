@@ -11,9 +11,9 @@ use Rattle.network.proofs.Reduction.{reduced_ends}
 use Rattle.flow_solver.specs.declared.residual.Way.{Way}
 use Rattle.flow_solver.specs.declared.residual.Way.TheVariants.{Forward, Backward}
 use Rattle.flow_solver.specs.declared.visit.Visit.{Visit}
-use Rattle.flow_solver.specs.Residual.{IsResidualFrom, arc_at}
+use Rattle.flow_solver.specs.Residual.{IsResidualFrom, arc_at, end_at}
 use Rattle.flow_solver.specs.Search.{IsRelaxed, IsRelaxedFrom, IsLastSettled, Improves, mark_at}
-use Rattle.flow_solver.specs.Walk.{AreRowsOf, end_way, IsPassed, StandsAt, ArePassedRelaxed, ends_left}
+use Rattle.flow_solver.specs.Walk.{AllPassed, AreRowsOf, end_way, way_to_end, IsPassed, StandsAt, ArePassedRelaxed, IsEndRelaxed, ends_left}
 use Rattle.flow_solver.proofs.SearchLemmas.{IsRelaxed-improves}
 use Rattle.flow_solver.proofs.NodeLemmas.{IsNodeOf, AllEndsIn, is_node_or_not}
 
@@ -52,7 +52,7 @@ row_ends n [] ends k lt = absurd (omega arith)
 row_ends n (a ∷ arcs) ends zero lt = (ends.0.0, ends.0.1)
 row_ends n (a ∷ arcs) ends (suc k) lt = row_ends n arcs ends.1 k (omega arith)
 
-end_is_node : (n : ℕ) (arcs : List ArcRow) → AllEndsIn n arcs → (end : ℕ) → end < 2 * length arcs → IsNodeOf n (end_node arcs end)
+pub end_is_node : (n : ℕ) (arcs : List ArcRow) → AllEndsIn n arcs → (end : ℕ) → end < 2 * length arcs → IsNodeOf n (end_node arcs end)
 end_is_node n arcs ends end lt = elim (cases_eq (end % 2) 0) [
   | inl even ↦ (let same : 2 * (end / 2) ≡ end = omega arith in
       let in_arcs : end / 2 < length arcs = omega arith in
@@ -62,7 +62,7 @@ end_is_node n arcs ends end lt = elim (cases_eq (end % 2) 0) [
       subst (λ (e : ℕ). IsNodeOf n (end_node arcs e)) same (subst (IsNodeOf n) (sym (end_node-head arcs (end / 2) in_arcs)) (row_ends n arcs ends (end / 2) in_arcs).1))
 ]
 
-numbered_ends : (n : ℕ) (D : Demand) (arcs : List ArcRow) → AllEndsIn n (reduced_arcs D arcs) → AllEndsIn n arcs
+pub numbered_ends : (n : ℕ) (D : Demand) (arcs : List ArcRow) → AllEndsIn n (reduced_arcs D arcs) → AllEndsIn n arcs
 numbered_ends n (Supplies s) arcs ends = ends
 numbered_ends n (Terminals source sink) arcs ends = ends.1
 numbered_ends n (Sides marks) arcs ends = ends
@@ -78,19 +78,29 @@ first_end_is I u first lawful node no_node = elim (is_node_or_not I.nodes u) [
 
 -- ---- the walk
 
+-- what holds of each end that is passed: none is at first, and one more after a step
+pub none_passed : (arcs : List ArcRow) (u : ℕ) (first : Option ℕ) (P : ℕ → Type 0) → IsNextEnd arcs u (2 * length arcs) first → AllPassed arcs u first P
+none_passed arcs u first P is end passed lt at = absurd (is.skipped end passed lt at)
+
+pub one_passed : (arcs : List ArcRow) (u current : ℕ) (next : Option ℕ) (P : ℕ → Type 0) → AllPassed arcs u (Some current) P → P current → IsNextEnd arcs u current next → AllPassed arcs u next P
+one_passed arcs u current next P done here is end passed lt at = elim (cases_eq end current) [
+  | inl same ↦ subst P (sym same) here
+  | inr other ↦ elim (cases_lt end current) [
+    | inl below ↦ absurd (is.skipped end passed below at)
+    | inr above ↦ (let beyond : current < end = omega (arith, other, above) in done end beyond lt at)
+  ]
+]
+
 pub passed_first : (rows : List ArcRow) (x p : List ℤ) (s : List Visit) (u : ℕ) (arcs : List ArcRow) (row : ℕ) (first : Option ℕ) → IsNextEnd arcs u (2 * length arcs) first → ArePassedRelaxed rows x p s u arcs row first
-passed_first rows x p s u arcs row first is end passed lt at from = absurd (is.skipped end passed lt at)
+passed_first rows x p s u arcs row first is =
+    none_passed arcs u first (IsEndRelaxed rows x p s u row) is
 
 pub passed_more : (rows : List ArcRow) (x p : List ℤ) (s t : List Visit) (u : ℕ) (arcs : List ArcRow) (row current : ℕ) (next : Option ℕ) → IsLastSettled s u → Improves s t
     → ArePassedRelaxed rows x p s u arcs row (Some current) → (IsResidualFrom rows x u (current / 2 + row) (end_way current) → IsRelaxed rows p t (current / 2 + row) (end_way current))
     → IsNextEnd arcs u current next → ArePassedRelaxed rows x p t u arcs row next
-passed_more rows x p s t u arcs row current next last better done here is end passed lt at from = elim (cases_eq end current) [
-  | inl same ↦ subst (λ (e : ℕ). IsRelaxed rows p t (e / 2 + row) (end_way e)) (sym same) (here (subst (λ (e : ℕ). IsResidualFrom rows x u (e / 2 + row) (end_way e)) same from))
-  | inr other ↦ elim (cases_lt end current) [
-    | inl below ↦ absurd (is.skipped end passed below at)
-    | inr above ↦ (let beyond : current < end = omega (arith, other) in IsRelaxed-improves (ap (mark_at s) from.starts ∙ last.settled) better (done end beyond lt at from))
-  ]
-]
+passed_more rows x p s t u arcs row current next last better done here is =
+    one_passed arcs u current next (IsEndRelaxed rows x p t u row)
+    (λ end beyond lt at from. IsRelaxed-improves (ap (mark_at s) from.starts ∙ last.settled) better (done end beyond lt at from)) here is
 
 -- ---- all residual arcs from the node
 
@@ -138,6 +148,45 @@ pub all_relaxed : (I : Instance) (rows : List ArcRow) (x p : List ℤ) (s : List
 all_relaxed I rows x p s u row of split first walked =
     subst (λ (r : List ArcRow). row + length I.arcs ≡ length r → (0 < row → (way : Way) → IsResidualFrom r x u 0 way → IsRelaxed r p s 0 way) → ArePassedRelaxed r x p s u I.arcs row None → IsRelaxedFrom r x p s u (length r))
     (sym of.rows_are) (λ split first walked. relaxed_reduced I.demand I.arcs x p s u row split first walked) split first walked
+
+-- ---- all residual arcs to the node
+
+module _ (D : Demand) (arcs : List ArcRow) (v row : ℕ) (split : row + length arcs ≡ length (reduced_arcs D arcs)) (P : ℕ → Way → Type 0)
+    (first : 0 < row → (way : Way) → P 0 way)
+    (walked : (end : ℕ) → end < 2 * length arcs → end_node arcs end ≡ v → P (end / 2 + row) (way_to_end end))
+  where
+    met_at : (k end : ℕ) (way : Way) → end / 2 + row ≡ k → way_to_end end ≡ way → end < 2 * length arcs → end_node arcs end ≡ v → P k way
+    met_at k end way same_row same_way lt at = subst (λ (j : ℕ). P j way) same_row (subst (λ (w : Way). P (end / 2 + row) w) same_way (walked end lt at))
+
+    to_arc : (k j : ℕ) (way : Way) → j + row ≡ k → j < length arcs → end_at (reduced_arcs D arcs) k way ≡ v → P k way
+    to_arc k j Forward same lt at =
+        let row_is : arc_at (reduced_arcs D arcs) k ≡ arc_at arcs j = ap (arc_at (reduced_arcs D arcs)) (sym same) ∙ (rows_split D arcs row split).1 j in
+        let half : suc (2 * j) / 2 ≡ j = omega arith in
+        let odd : suc (2 * j) % 2 ≡ 1 = omega arith in
+        met_at k (suc (2 * j)) Forward (ap (λ (q : ℕ). q + row) half ∙ same) (ap (λ (r : ℕ). cond (eqb r 0) Backward Forward) odd) (omega arith)
+        (end_node-head arcs j lt ∙ ap (λ (a : ArcRow). a.head) (sym row_is) ∙ at)
+    to_arc k j Backward same lt at =
+        let row_is : arc_at (reduced_arcs D arcs) k ≡ arc_at arcs j = ap (arc_at (reduced_arcs D arcs)) (sym same) ∙ (rows_split D arcs row split).1 j in
+        let half : (2 * j) / 2 ≡ j = omega arith in
+        let even : (2 * j) % 2 ≡ 0 = omega arith in
+        met_at k (2 * j) Backward (ap (λ (q : ℕ). q + row) half ∙ same) (ap (λ (r : ℕ). cond (eqb r 0) Backward Forward) even) (omega arith)
+        (end_node-tail arcs j lt ∙ ap (λ (a : ArcRow). a.tail) (sym row_is) ∙ at)
+
+    met_reduced : (k : ℕ) (way : Way) → k < length (reduced_arcs D arcs) → end_at (reduced_arcs D arcs) k way ≡ v → P k way
+    met_reduced k way lt at =
+        let one = (rows_split D arcs row split).0 in
+        elim (cases_lt k row) [
+          | inl below ↦ (let none : k ≡ 0 = omega (arith, below, one) in subst (λ (j : ℕ). P j way) (sym none) (first (omega (arith, below)) way))
+          | inr above ↦ (let same : (k - row) + row ≡ k = omega (arith, above) in to_arc k (k - row) way same (omega (arith, lt, above, split)) at)
+        ]
+
+-- what holds of the return arc and of the arc at each end of a node holds of each arc to the node
+pub all_met : (I : Instance) (rows : List ArcRow) (v row : ℕ) (P : ℕ → Way → Type 0) → AreRowsOf I rows → row + length I.arcs ≡ length rows
+    → (0 < row → (way : Way) → P 0 way) → ((end : ℕ) → end < 2 * length I.arcs → end_node I.arcs end ≡ v → P (end / 2 + row) (way_to_end end))
+    → (k : ℕ) (way : Way) → k < length rows → end_at rows k way ≡ v → P k way
+all_met I rows v row P of split first walked =
+    subst (λ (r : List ArcRow). row + length I.arcs ≡ length r → (k : ℕ) (way : Way) → k < length r → end_at r k way ≡ v → P k way)
+    (sym of.rows_are) (λ split. met_reduced I.demand I.arcs v row split P first walked) split
 
 pub ends_left_less : (arcs : List ArcRow) (u end : ℕ) (next : Option ℕ) → IsNextEnd arcs u end next → ends_left next < end + 1
 ends_left_less arcs u end None is = omega arith

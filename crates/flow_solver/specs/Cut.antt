@@ -1,14 +1,15 @@
 -- Sets of nodes whose supply cannot leave, or whose demand cannot be met.
-use Rattle.std.specs.Prelude.{◌≡◌, ℕ, suc, ◌<◌, ℤ, pos, neg_ℤ, ◌-ℤ◌, ◌+ℤ◌, ◌≤ℤ◌, List, [], ◌∷◌, length, slice_index_or, Bool, true, false, if◌then◌else◌, ◌&&◌, not, IsTrue}
+use Rattle.std.specs.Prelude.{◌≡◌, ℕ, suc, ◌+◌, ◌*◌, ◌/◌, ◌<◌, ◌≤◌, ℤ, pos, neg_ℤ, ◌-ℤ◌, ◌+ℤ◌, ◌≤ℤ◌, List, [], ◌∷◌, length, slice_index_or, Bool, true, false, if◌then◌else◌, ◌&&◌, not, IsTrue, Option}
 use Rattle.dimacs_text.specs.declared.problem.ArcRow.{ArcRow}
-use Rattle.std.specs.Prelude.{◌<ℤ◌, ◌↔◌}
+use Rattle.std.specs.Prelude.{◌<ℤ◌}
 use Rattle.std.specs.List.{sum_by, count_by}
 use Rattle.flow_solver.specs.declared.residual.Way.{Way}
-use Rattle.flow_solver.specs.declared.visit.Visit.{Visit}
-use Rattle.flow_solver.specs.declared.visit.Mark.TheVariants.{Settled}
-use Rattle.flow_solver.specs.Search.{mark_at}
+use Rattle.flow_solver.specs.declared.cut.Side.{Side}
+use Rattle.flow_solver.specs.declared.cut.Side.TheVariants.{Ahead, Behind}
 use Rattle.flow_solver.specs.Push.{positive_part, left}
-use Rattle.flow_solver.specs.Residual.{number_at, start_at, end_at, IsResidual}
+use Rattle.flow_solver.specs.Residual.{number_at, arc_at, start_of, end_of, IsResidual}
+use Rattle.network.specs.Ends.{end_node}
+use Rattle.flow_solver.specs.Walk.{IsPassed, end_way, way_to_end}
 
 -- whether node v is in the set
 abbrev pub in_set : List Bool → ℕ → Bool
@@ -45,51 +46,105 @@ pub record IsLeastSet (value : List Bool → ℤ) (set : List Bool) (d : ℤ) : 
   pub greatest : (other : List Bool) → length other ≡ length set → value other ≤ℤ d
   pub smallest : (other : List Bool) → length other ≡ length set → value other ≡ d → (v : ℕ) → IsTrue (in_set set v) → IsTrue (in_set other v)
 
--- no residual arc leaves the set
-abbrev pub IsClosed : List ArcRow → List ℤ → List Bool → Type 0
-IsClosed arcs x set = (k : ℕ) (way : Way) → IsResidual arcs x k way → in_set set (start_at arcs k way) ≡ true → in_set set (end_at arcs k way) ≡ true
-
-abbrev pub HoldsExcess : List ℤ → List Bool → Type 0
-HoldsExcess e set = (v : ℕ) → pos 0 <ℤ number_at e v → in_set set v ≡ true
-
--- no residual arc enters the set
-abbrev pub IsClosedBack : List ArcRow → List ℤ → List Bool → Type 0
-IsClosedBack arcs x set = (k : ℕ) (way : Way) → IsResidual arcs x k way → in_set set (end_at arcs k way) ≡ true → in_set set (start_at arcs k way) ≡ true
-
-abbrev pub HoldsDeficit : List ℤ → List Bool → Type 0
-HoldsDeficit e set = (v : ℕ) → number_at e v <ℤ pos 0 → in_set set v ≡ true
-
--- the nodes that reach a node in deficit
-pub record IsBehindDeficit (arcs : List ArcRow) (x e : List ℤ) (set : List Bool) : Type 0 where
-  pub closed : IsClosedBack arcs x set
-  pub holds : HoldsDeficit e set
-  pub least : (other : List Bool) → IsClosedBack arcs x other → HoldsDeficit e other → (v : ℕ) → in_set set v ≡ true → in_set other v ≡ true
-
--- the set is that of the settled nodes
-abbrev pub IsSettledSet : List Visit → List Bool → Type 0
-IsSettledSet s set = (v : ℕ) → IsTrue (in_set set v) ↔ (mark_at s v ≡ Settled)
-
 -- the sum of what lies in deficit
 abbrev pub lack : List ℤ → ℕ
 lack e = sum_by (λ z. positive_part (neg_ℤ z)) e
 
--- the residual arc along arc k is there, and enters the set
-pub record Enters (arcs : List ArcRow) (x : List ℤ) (set : List Bool) (k : ℕ) (way : Way) : Type 0 where
+-- a node with this excess is one that a side begins at: ahead those in excess, behind those in deficit
+abbrev pub IsRoot : Side → ℤ → Type 0
+IsRoot Ahead e = pos 0 <ℤ e
+IsRoot Behind e = e <ℤ pos 0
+
+-- what lies at the roots of a side
+abbrev pub amount : Side → List ℤ → ℕ
+amount Ahead e = left e
+amount Behind e = lack e
+
+-- the end of a residual arc that is nearer to the roots: it leads on ahead from its start, and on behind from its end
+abbrev pub near_of : Side → ArcRow → Way → ℕ
+near_of Ahead a way = start_of a way
+near_of Behind a way = end_of a way
+
+-- the other end
+abbrev pub far_of : Side → ArcRow → Way → ℕ
+far_of Ahead a way = end_of a way
+far_of Behind a way = start_of a way
+
+abbrev pub near_at : Side → List ArcRow → ℕ → Way → ℕ
+near_at side arcs k way = near_of side (arc_at arcs k) way
+
+abbrev pub far_at : Side → List ArcRow → ℕ → Way → ℕ
+far_at side arcs k way = far_of side (arc_at arcs k) way
+
+-- the way in which the residual arc whose near node is at an end of an arc goes along it
+abbrev pub way_from : Side → ℕ → Way
+way_from Ahead end = end_way end
+way_from Behind end = way_to_end end
+
+-- no residual arc leads on out of the set: ahead none leaves it, and behind none enters it
+abbrev pub IsClosed : Side → List ArcRow → List ℤ → List Bool → Type 0
+IsClosed side arcs x set = (k : ℕ) (way : Way) → IsResidual arcs x k way → in_set set (near_at side arcs k way) ≡ true → in_set set (far_at side arcs k way) ≡ true
+
+-- the set holds each root of the side
+abbrev pub HoldsRoots : Side → List ℤ → List Bool → Type 0
+HoldsRoots side e set = (v : ℕ) → IsRoot side (number_at e v) → in_set set v ≡ true
+
+-- the nodes that those in excess reach, or those that reach a node in deficit
+pub record IsSide (side : Side) (arcs : List ArcRow) (x e : List ℤ) (set : List Bool) : Type 0 where
+  pub closed : IsClosed side arcs x set
+  pub holds : HoldsRoots side e set
+  pub least : (other : List Bool) → IsClosed side arcs x other → HoldsRoots side e other → (v : ℕ) → in_set set v ≡ true → in_set other v ≡ true
+
+-- no node in excess reaches a node in deficit: some set that no residual arc leaves holds all the former and none of the latter
+pub record IsParted (arcs : List ArcRow) (x e : List ℤ) : Type 0 where
+  pub set : List Bool
+  pub closed : IsClosed Ahead arcs x set
+  pub holds : HoldsRoots Ahead e set
+  pub no_deficit : (v : ℕ) → in_set set v ≡ true → pos 0 ≤ℤ number_at e v
+
+-- the residual arc along arc k is there, and leads on out of the set
+pub record LeadsOut (side : Side) (arcs : List ArcRow) (x : List ℤ) (set : List Bool) (k : ℕ) (way : Way) : Type 0 where
   pub residual : IsResidual arcs x k way
-  pub end_inside : in_set set (end_at arcs k way) ≡ true
-  pub start_outside : in_set set (start_at arcs k way) ≡ false
+  pub near_inside : in_set set (near_at side arcs k way) ≡ true
+  pub far_outside : in_set set (far_at side arcs k way) ≡ false
 
--- the set has grown to `new`, or is the same: whatever holds it and is entered by no residual arc holds `new` too
-pub record IsGrown (arcs : List ArcRow) (x : List ℤ) (set new : List Bool) (grown : Bool) : Type 0 where
-  pub same_length : length new ≡ length set
-  pub kept : (v : ℕ) → in_set set v ≡ true → in_set new v ≡ true
-  pub least : (other : List Bool) → IsClosedBack arcs x other → ((v : ℕ) → in_set set v ≡ true → in_set other v ≡ true) → (v : ℕ) → in_set new v ≡ true → in_set other v ≡ true
-  pub more : grown ≡ true → count_by not new < count_by not set
-  pub same : grown ≡ false → new ≡ set
+-- the residual arc along arc k, where it is there, has its far node in the set
+abbrev pub IsFarIn : Side → List ArcRow → List ℤ → List Bool → ℕ → Way → Type 0
+IsFarIn side arcs x set k way = IsResidual arcs x k way → in_set set (far_at side arcs k way) ≡ true
 
--- no residual arc along the first j arcs enters the set
-abbrev pub NoEntry : List ArcRow → List ℤ → List Bool → ℕ → Type 0
-NoEntry arcs x set j = (k : ℕ) (way : Way) → k < j → Enters arcs x set k way → ⊥
+-- so has each residual arc that leads on from node v
+abbrev pub AreFarIn : Side → List ArcRow → List ℤ → List Bool → ℕ → Type 0
+AreFarIn side arcs x set v = (k : ℕ) (way : Way) → near_at side arcs k way ≡ v → IsFarIn side arcs x set k way
+
+-- so has each residual arc that leads on from an end of node v that the walk has passed; the first arc has this row
+abbrev pub ArePassedFarIn : Side → List ArcRow → List ℤ → List Bool → ℕ → List ArcRow → ℕ → Option ℕ → Type 0
+ArePassedFarIn side rows x set v arcs row current =
+    (end : ℕ) → IsPassed current end → end < 2 * length arcs → end_node arcs end ≡ v → near_at side rows (end / 2 + row) (way_from side end) ≡ v →
+    IsFarIn side rows x set (end / 2 + row) (way_from side end)
+
+-- the node at a place in a line
+abbrev pub node_at : List ℕ → ℕ → ℕ
+node_at line j = slice_index_or line j 0
+
+-- node v is among the first `len` in the line
+pub record IsListed (line : List ℕ) (len v : ℕ) : Type 0 where
+  pub place : ℕ
+  pub in_line : place < len
+  pub is_there : node_at line place ≡ v
+
+-- the first `len` in the line are the nodes of the set, each once; so a node outside finds room
+pub record IsLineOf (set : List Bool) (line : List ℕ) (len : ℕ) : Type 0 where
+  pub one_a_node : length line ≡ length set
+  pub inside : (j : ℕ) → j < len → in_set set (node_at line j) ≡ true
+  pub listed : (v : ℕ) → in_set set v ≡ true → IsListed line len v
+  pub room : len + count_by not set ≡ length set
+
+-- set and line have grown, or are the same: whatever holds the set, and has no residual arc that leads on out of it, holds the new one too
+pub record IsGrown (side : Side) (arcs : List ArcRow) (x : List ℤ) (set : List Bool) (line : List ℕ) (len : ℕ) (set' : List Bool) (line' : List ℕ) (len' : ℕ) : Type 0 where
+  pub kept : (v : ℕ) → in_set set v ≡ true → in_set set' v ≡ true
+  pub least : (other : List Bool) → IsClosed side arcs x other → ((v : ℕ) → in_set set v ≡ true → in_set other v ≡ true) → (v : ℕ) → in_set set' v ≡ true → in_set other v ≡ true
+  pub no_shorter : len ≤ len'
+  pub same_before : (j : ℕ) → j < len → node_at line' j ≡ node_at line j
 
 -- the set that tells why there is no legal flow: where something lies in excess the smallest set of the greatest surplus, else where something lies in deficit that of the greatest shortfall, else none
 pub record IsChosenSet (arcs : List ArcRow) (supply : ℕ → ℤ) (e : List ℤ) (set : List Bool) : Type 0 where

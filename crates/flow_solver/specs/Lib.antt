@@ -8,7 +8,9 @@ pub mod Cut
 pub mod Heap
 pub mod Edit
 pub mod Queue
+pub mod Labels
 pub mod Walk
+pub mod Star
 pub mod Answer
 pub mod Moment
 pub mod Desk

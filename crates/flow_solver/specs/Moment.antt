@@ -6,10 +6,14 @@ use Rattle.network.specs.declared.TheConstants.{RETURN_CAP}
 use Rattle.flow_solver.specs.declared.verdict.Verdict.{Verdict}
 use Rattle.flow_solver.specs.declared.verdict.Verdict.TheVariants.{Best, Infeasible}
 use Rattle.flow_solver.specs.declared.visit.Visit.{Visit}
+use Rattle.flow_solver.specs.declared.labels.Labels.{Labels}
 use Rattle.flow_solver.specs.declared.queue.Queue.{Queue}
+use Rattle.flow_solver.specs.declared.star.Star.{Star}
 use Rattle.flow_solver.specs.Nodes.{IsIdleEntry}
 use Rattle.flow_solver.specs.Residual.{number_at}
+use Rattle.flow_solver.specs.Labels.{IsLabelsFor}
 use Rattle.flow_solver.specs.Queue.{IsQueueFor}
+use Rattle.flow_solver.specs.Star.{Covers}
 
 -- an instance, a flow of its reduction, a potential for each node, what is told of the instance, and a mark for each node
 pub record Moment : Type 0 where
@@ -26,16 +30,18 @@ pub record IsSized (m : Moment) : Type 0 where
   pub one_potential : length m.potentials ≡ m.instance.nodes
   pub one_mark : length m.cut ≡ m.instance.nodes
 
--- one entry for each row, one for each node and one for no node, and the rows are the arcs of the reduced instance
-pub record AreTables (I : Instance) (rows : List ArcRow) (flow potentials excess : List ℤ) (cut : List Bool) (visits : List Visit) (queue : Queue) (rows_room flow_room : ℕ) : Type 0 where
+-- one entry for each row, one for each node and one for no node; the rows are the arcs of the reduced instance, and the star holds the ends of its first arcs
+pub record AreTables (I : Instance) (star : Star) (rows : List ArcRow) (flow potentials excess : List ℤ) (cut : List Bool) (visits : List Visit) (labels : Labels) (queue : Queue) (rows_room flow_room : ℕ) : Type 0 where
   pub lawful : IsLawful I
   pub rows_are : rows ≡ (reduced I).arcs
+  pub covers : Covers (I.nodes + 1) I.arcs star
   pub flow_in : length flow ≡ length rows
   pub potentials_in : length potentials ≡ I.nodes + 1
   pub idle : IsIdleEntry potentials
   pub excess_in : length excess ≡ I.nodes + 1
   pub cut_in : length cut ≡ I.nodes + 1
   pub visits_in : length visits ≡ I.nodes + 1
+  pub labels_in : IsLabelsFor (I.nodes + 1) labels
   pub sized : IsQueueFor (I.nodes + 1) queue
   pub rows_fit : I.room + 1 ≤ rows_room
   pub flow_fits : I.room + 1 ≤ flow_room

@@ -28,30 +28,46 @@ abbrev pub IsPassed : Option ℕ → ℕ → Type 0
 IsPassed None end = Unit {0}
 IsPassed (Some current) end = current < end
 
+-- each end at node u that the walk has passed
+abbrev pub AllPassed : List ArcRow → ℕ → Option ℕ → (ℕ → Type 0) → Type 0
+AllPassed arcs u current P = (end : ℕ) → IsPassed current end → end < 2 * length arcs → end_node arcs end ≡ u → P end
+
+-- each end at node u
+abbrev pub AllEnds : List ArcRow → ℕ → (ℕ → Type 0) → Type 0
+AllEnds arcs u P = (end : ℕ) → end < 2 * length arcs → end_node arcs end ≡ u → P end
+
+-- each end at node u of an arc behind the first `covered` ones
+abbrev pub AllAdded : List ArcRow → ℕ → ℕ → (ℕ → Type 0) → Type 0
+AllAdded arcs u covered P = (end : ℕ) → covered ≤ end / 2 → end < 2 * length arcs → end_node arcs end ≡ u → P end
+
 -- the walk is over, or stands at one of the node's ends
 abbrev pub StandsAt : List ArcRow → ℕ → Option ℕ → Type 0
 StandsAt arcs u None = Unit {0}
 StandsAt arcs u (Some current) = (current < 2 * length arcs) × (end_node arcs current ≡ u)
 
--- each residual arc from an end of node u that the walk has passed is relaxed; the first arc has this row
+-- the residual arc from an end, where it is one from node u, is relaxed; the first arc has this row
+abbrev pub IsEndRelaxed : List ArcRow → List ℤ → List ℤ → List Visit → ℕ → ℕ → ℕ → Type 0
+IsEndRelaxed rows x p s u row end = IsResidualFrom rows x u (end / 2 + row) (end_way end) → IsRelaxed rows p s (end / 2 + row) (end_way end)
+
+-- each residual arc from an end of node u that the walk has passed is relaxed
 abbrev pub ArePassedRelaxed : List ArcRow → List ℤ → List ℤ → List Visit → ℕ → List ArcRow → ℕ → Option ℕ → Type 0
-ArePassedRelaxed rows x p s u arcs row current =
-    (end : ℕ) → IsPassed current end → end < 2 * length arcs → end_node arcs end ≡ u → IsResidualFrom rows x u (end / 2 + row) (end_way end) →
-    IsRelaxed rows p s (end / 2 + row) (end_way end)
+ArePassedRelaxed rows x p s u arcs row current = AllPassed arcs u current (IsEndRelaxed rows x p s u row)
 
 -- nothing more is to be had from node u
 abbrev pub IsSpent : List Bool → ℕ → Type 0
 IsSpent spent u = slice_index_or spent u false ≡ true
 
--- each hop to node v along an end that the walk has passed comes from a spent node; the first arc has this row
-abbrev pub ArePassedSpent : List ArcRow → List ℤ → List ℤ → List Visit → List Bool → ℕ → ℕ → ℕ → Option ℕ → Type 0
-ArePassedSpent rows q x s spent v arcs row current =
-    (end : ℕ) → IsPassed current end → end < 2 * arcs → IsHopTo rows q x s v (end / 2 + row) (way_to_end end) →
-    IsSpent spent (start_at rows (end / 2 + row) (way_to_end end))
+-- the hop to node v along the residual arc to an end, where it is one, comes from a spent node; the first arc has this row
+abbrev pub IsEndSpent : List ArcRow → List ℤ → List ℤ → List Visit → List Bool → ℕ → ℕ → ℕ → Type 0
+IsEndSpent rows q x s spent v row end = IsHopTo rows q x s v (end / 2 + row) (way_to_end end) → IsSpent spent (start_at rows (end / 2 + row) (way_to_end end))
 
 -- each hop to node v, along an arc in this row or a later one, comes from a spent node
 abbrev pub AreHopsSpent : List ArcRow → List ℤ → List ℤ → List Visit → List Bool → ℕ → ℕ → Type 0
 AreHopsSpent rows q x s spent v row = (k : ℕ) (way : Way) → row ≤ k → IsHopTo rows q x s v k way → IsSpent spent (start_at rows k way)
+
+-- each residual arc from node u along an arc behind the first `covered` ones is relaxed
+abbrev pub AreAddedRelaxed : List ArcRow → List ℤ → List ℤ → List Visit → ℕ → List ArcRow → ℕ → ℕ → Type 0
+AreAddedRelaxed rows x p s u arcs row covered = AllAdded arcs u covered (IsEndRelaxed rows x p s u row)
 
 -- what is left of the walk
 abbrev pub ends_left : Option ℕ → ℕ

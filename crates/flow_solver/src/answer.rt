@@ -8,12 +8,16 @@ ghost use Rattle.flow_solver.specs.Residual.{number_at};
 ghost use Rattle.flow_solver.specs.Push.{AreSmall, IsExcess, Pushes, left, positive_part};
 ghost use Rattle.flow_solver.specs.Cut.{lack};
 ghost use Rattle.flow_solver.specs.Nodes.{held, IsIdleEntry};
+ghost use Rattle.flow_solver.specs.Labels.{IsLabelsFor};
 ghost use Rattle.flow_solver.specs.Queue.{IsQueueFor};
+ghost use Rattle.flow_solver.specs.Star.{Covers};
 ghost use Rattle.flow_solver.specs.Answer.{AreGreatestPotentials, IsChosenCut, IsJudged, IsVerdict, worth_by};
 
 use crate::excess::subtract_flow;
+use crate::labels::Labels;
 use crate::queue::Queue;
 use crate::settle::settle;
+use crate::star::Star;
 use crate::verdict::Verdict;
 use crate::visit::Visit;
 use dimacs_text::ArcRow;
@@ -125,24 +129,29 @@ fn judge(net: &Network, rows: &[ArcRow], flow: &[i64], excess: &[i64]) -> Verdic
 /// pushes and the verdict.
 pub fn solve(
     net: &Network,
+    star: &Star,
     rows: &[ArcRow],
     flow: &mut [i64],
     potentials: &mut [i64],
     excess: &mut [i64],
     visits: &mut [Visit],
+    labels: &mut Labels,
     queue: &mut Queue,
     cut: &mut [bool],
 ) -> (u64, Verdict)
     requires lawful { IsLawful net.now }
     requires rows { rows.now ≡ (reduced net.now).arcs }
+    requires star { Covers (net.now.nodes + 1) net.now.arcs star.now }
     requires certified { IsCertifiedFlow (reduced net.now) flow.old (at_node (drop 1 potentials.old)) }
     requires idle { IsIdleEntry potentials.old }
     requires potentials_in { length potentials.old ≡ net.now.nodes + 1 }
     requires excess_in { length excess.old ≡ net.now.nodes + 1 }
     requires visits_in { length visits.old ≡ net.now.nodes + 1 }
     requires cut_in { length cut.old ≡ net.now.nodes + 1 }
+    requires labels { IsLabelsFor (net.now.nodes + 1) labels.old }
     requires sized { IsQueueFor (net.now.nodes + 1) queue.old }
     ensures idle { IsIdleEntry potentials.new }
+    ensures labels { IsLabelsFor (net.now.nodes + 1) labels.new }
     ensures sized { IsQueueFor (net.now.nodes + 1) queue.new }
     ensures certified { IsCertifiedFlow (reduced net.now) flow.new (at_node (drop 1 potentials.new)) }
     ensures verdict { IsVerdict result.1 net.now flow.new (is_marked (drop 1 cut.new)) }
@@ -152,6 +161,8 @@ pub fn solve(
     ensures chosen { IsChosenCut result.1 (reduced net.now) (is_marked (drop 1 cut.new)) }
 {
     fill_excess(net, rows, flow, excess);
-    let pushes = settle(net, rows, flow, potentials, excess, visits, queue, cut);
+    let pushes = settle(
+        net, star, rows, flow, potentials, excess, visits, labels, queue, cut,
+    );
     (pushes, judge(net, rows, flow, excess))
 }

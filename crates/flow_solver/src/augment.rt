@@ -1,14 +1,16 @@
 //! Flow pushed along the path that a search found.
 
-ghost use Rattle.std.specs.Prelude.{◌≡◌, ◌≢◌, ℕ, ℤ, List, length, slice_set, pos, neg_ℤ, ◌≤ℤ◌, ◌<ℤ◌, ◌+ℤ◌, ◌-ℤ◌, ◌<◌, ◌≤◌, ◌+◌, ◌^◌, ◌⊎◌, IsTrue, ◌↔◌, ◌-◌, IfSome, IfNone};
+ghost use Rattle.std.specs.Prelude.{◌≡◌, ◌≢◌, ℕ, ℤ, List, length, slice_set, pos, neg_ℤ, ◌≤ℤ◌, ◌<ℤ◌, ◌+ℤ◌, ◌-ℤ◌, ◌<◌, ◌≤◌, ◌+◌, ◌/◌, ◌^◌, ◌⊎◌, IsTrue, ◌↔◌, ◌-◌, IfSome, IfNone};
 ghost use Rattle.flow_solver.specs.Limits.{potential_floor};
-ghost use Rattle.flow_solver.specs.Walk.{AreRowsOf, AreHopsSpent};
+ghost use Rattle.flow_solver.specs.Star.{AllNameOther, AllSpokes, Covers, NamesOther};
+ghost use Rattle.flow_solver.specs.Walk.{AllAdded, AreRowsOf, AreHopsSpent, IsEndSpent};
 ghost use Rattle.flow_solver.specs.Residual.{IsRow, IsWithin, IsFlow, ArePotentials, number_at, arc_at, start_at, start_of, end_of, cost_of, room_of};
 ghost use Rattle.flow_solver.specs.Search.{visit_at, mark_at, depth_at, IsFoundDeficit};
 ghost use Rattle.flow_solver.specs.Push.{IsCameBy, IsHopTo, HavePaths, ArePathsTight, ArePaths, IsBefore, turned, HasRoom, path_to, root_to, push_along, moved, AreSmall, IsTransfer, IsUnderWay, ArePushes, CanPush};
 ghost use Rattle.flow_solver.specs.declared.visit.Mark.TheVariants.{Settled};
 
 use crate::residual::Way;
+use crate::star::{Spoke, Star};
 use crate::visit::Visit;
 use dimacs_text::ArcRow;
 use network::Network;
@@ -244,28 +246,33 @@ fn is_hop_to(
     is_tight(&row, potentials, way)
 }
 
-/// Another hop to the node along a numbered arc, from a node that is not spent.
-fn other_hop(
+/// Another hop to the node along a numbered arc which the star does not cover, from a node that is not spent. The network
+/// lists these first. Its first arc has row `row`.
+fn added_hop(
     net: &Network,
+    star: &Star,
     rows: &[ArcRow],
     flow: &[i64],
     potentials: &[i64],
     visits: &[Visit],
     spent: &[bool],
     node: usize,
+    row: usize,
 ) -> Option<(usize, Way)>
     requires net { AreRowsOf net.now rows.now }
+    requires split { row + length net.now.arcs ≡ length rows.now }
     requires flow { IsFlow (length visits.now) rows.now flow.now }
     requires potentials_in { ArePotentials (length visits.now) potential_floor potentials.now }
     requires node_in { node < length visits.now }
     requires spent_in { length spent.now ≡ length visits.now }
     ensures some { IfSome result (λ hop. IsHopTo rows.now potentials.now flow.now visits.now node hop.0 hop.1) }
-    // The return arc has no end in the lists: a hop along it is passed over.
-    ensures none { IfNone result (AreHopsSpent rows.now potentials.now flow.now visits.now spent.now node (length rows.now - length net.now.arcs)) }
+    ensures none { IfNone result (AllAdded net.now.arcs node star.now.arcs (IsEndSpent rows.now potentials.now flow.now visits.now spent.now node row)) }
 {
-    let row = rows.len() - net.arcs() as usize;
     let mut current = net.first_end(node as u32);
     while let Some(end) = current {
+        if end / 2 < star.arcs {
+            return None;
+        }
         let k = end as usize / 2 + row;
         let way = Way::to_end(end);
         let start = way.start(&rows[k]) as usize;
@@ -275,6 +282,114 @@ fn other_hop(
         current = net.next_end(end);
     }
     None
+}
+
+/// The hop to the node along the residual arc to this end, where its arc is one of the first ones, so many, and it comes
+/// from a node that is not spent.
+fn spoke_hop(
+    spoke: Spoke,
+    arcs: u32,
+    rows: &[ArcRow],
+    flow: &[i64],
+    potentials: &[i64],
+    visits: &[Visit],
+    spent: &[bool],
+    node: usize,
+    row: usize,
+) -> Option<(usize, Way)>
+    requires few { row + arcs ≤ length rows.now }
+    requires named { spoke.end / 2 < arcs → NamesOther rows.now row spoke }
+    requires flow { IsFlow (length visits.now) rows.now flow.now }
+    requires potentials_in { ArePotentials (length visits.now) potential_floor potentials.now }
+    requires node_in { node < length visits.now }
+    requires spent_in { length spent.now ≡ length visits.now }
+    ensures some { IfSome result (λ hop. IsHopTo rows.now potentials.now flow.now visits.now node hop.0 hop.1) }
+    ensures none { IfNone result (spoke.end / 2 < arcs → IsEndSpent rows.now potentials.now flow.now visits.now spent.now node row spoke.end) }
+{
+    if spoke.end / 2 >= arcs {
+        return None;
+    }
+    // No hop comes from such a node: neither the arc nor its flow is read.
+    let other = spoke.other as usize;
+    if spent[other] || !visits[other].is_settled() {
+        return None;
+    }
+    let k = spoke.end as usize / 2 + row;
+    let way = Way::to_end(spoke.end);
+    if !is_hop_to(rows, flow, potentials, visits, node, k, way) {
+        return None;
+    }
+    Some((k, way))
+}
+
+/// A hop to the node along a residual arc to one of these ends, where the arc is one of the first ones, so many, from a
+/// node that is not spent.
+fn covered_hop(
+    spokes: &[Spoke],
+    arcs: u32,
+    rows: &[ArcRow],
+    flow: &[i64],
+    potentials: &[i64],
+    visits: &[Visit],
+    spent: &[bool],
+    node: usize,
+    row: usize,
+) -> Option<(usize, Way)>
+    requires few { row + arcs ≤ length rows.now }
+    requires named { AllNameOther rows.now row arcs spokes.now }
+    requires flow { IsFlow (length visits.now) rows.now flow.now }
+    requires potentials_in { ArePotentials (length visits.now) potential_floor potentials.now }
+    requires node_in { node < length visits.now }
+    requires spent_in { length spent.now ≡ length visits.now }
+    ensures some { IfSome result (λ hop. IsHopTo rows.now potentials.now flow.now visits.now node hop.0 hop.1) }
+    ensures none { IfNone result (AllSpokes arcs spokes.now (length spokes.now) (IsEndSpent rows.now potentials.now flow.now visits.now spent.now node row)) }
+{
+    for spoke in spokes {
+        if let Some(hop) = spoke_hop(
+            *spoke, arcs, rows, flow, potentials, visits, spent, node, row,
+        ) {
+            return Some(hop);
+        }
+    }
+    None
+}
+
+/// Another hop to the node along a numbered arc, from a node that is not spent.
+fn other_hop(
+    net: &Network,
+    star: &Star,
+    rows: &[ArcRow],
+    flow: &[i64],
+    potentials: &[i64],
+    visits: &[Visit],
+    spent: &[bool],
+    node: usize,
+) -> Option<(usize, Way)>
+    requires net { AreRowsOf net.now rows.now }
+    requires star { Covers (length potentials.now) net.now.arcs star.now }
+    requires flow { IsFlow (length visits.now) rows.now flow.now }
+    requires potentials_in { ArePotentials (length visits.now) potential_floor potentials.now }
+    requires node_in { node < length visits.now }
+    requires spent_in { length spent.now ≡ length visits.now }
+    ensures some { IfSome result (λ hop. IsHopTo rows.now potentials.now flow.now visits.now node hop.0 hop.1) }
+    // The return arc has no end in the lists: a hop along it is passed over.
+    ensures none { IfNone result (AreHopsSpent rows.now potentials.now flow.now visits.now spent.now node (length rows.now - length net.now.arcs)) }
+{
+    let row = rows.len() - net.arcs() as usize;
+    if let Some(hop) = added_hop(net, star, rows, flow, potentials, visits, spent, node, row) {
+        return Some(hop);
+    }
+    covered_hop(
+        star.spokes_of(node),
+        star.arcs,
+        rows,
+        flow,
+        potentials,
+        visits,
+        spent,
+        node,
+        row,
+    )
 }
 
 /// Makes a hop the last one on the path to the node.
@@ -297,6 +412,7 @@ fn turn(visits: &mut [Visit], node: usize, k: usize, way: Way)
 /// spent node; nothing where there is no other.
 fn hop_back(
     net: &Network,
+    star: &Star,
     rows: &[ArcRow],
     flow: &[i64],
     potentials: &[i64],
@@ -305,6 +421,7 @@ fn hop_back(
     node: usize,
 ) -> Option<usize>
     requires net { AreRowsOf net.now rows.now }
+    requires star { Covers (length potentials.now) net.now.arcs star.now }
     requires flow { IsFlow (length visits.old) rows.now flow.now }
     requires potentials_in { ArePotentials (length visits.old) potential_floor potentials.now }
     requires paths { ArePaths rows.now potentials.now visits.old }
@@ -321,7 +438,7 @@ fn hop_back(
     if visit.way.room(&row, flow[k]) > 0 && !spent[start] {
         return Some(start);
     }
-    match other_hop(net, rows, flow, potentials, visits, spent, node) {
+    match other_hop(net, star, rows, flow, potentials, visits, spent, node) {
         Some((other, way)) => {
             turn(visits, node, other, way);
             Some(way.start(&rows[other]) as usize)
@@ -334,6 +451,7 @@ fn hop_back(
 /// nothing more is to be had, that one is spent.
 fn walk_back(
     net: &Network,
+    star: &Star,
     rows: &[ArcRow],
     flow: &[i64],
     potentials: &[i64],
@@ -343,6 +461,7 @@ fn walk_back(
     target: usize,
 ) -> bool
     requires net { AreRowsOf net.now rows.now }
+    requires star { Covers (length potentials.now) net.now.arcs star.now }
     requires flow { IsFlow (length visits.old) rows.now flow.now }
     requires potentials_in { ArePotentials (length visits.old) potential_floor potentials.now }
     requires paths { ArePaths rows.now potentials.now visits.old }
@@ -353,7 +472,7 @@ fn walk_back(
 {
     let mut node = target;
     while visits[node].depth > 0 {
-        match hop_back(net, rows, flow, potentials, visits, spent, node) {
+        match hop_back(net, star, rows, flow, potentials, visits, spent, node) {
             Some(before) => node = before,
             None => {
                 spent[node] = true;
@@ -371,6 +490,7 @@ fn walk_back(
 /// Looks for a path to `target` that has room and begins at a node in excess, and tells whether there is one.
 fn find_path(
     net: &Network,
+    star: &Star,
     rows: &[ArcRow],
     flow: &[i64],
     potentials: &[i64],
@@ -380,6 +500,7 @@ fn find_path(
     target: usize,
 ) -> bool
     requires net { AreRowsOf net.now rows.now }
+    requires star { Covers (length potentials.now) net.now.arcs star.now }
     requires flow { IsFlow (length visits.old) rows.now flow.now }
     requires potentials_in { ArePotentials (length visits.old) potential_floor potentials.now }
     requires paths { ArePaths rows.now potentials.now visits.old }
@@ -392,7 +513,9 @@ fn find_path(
         if spent[target] || !is_found_deficit(excess, visits, target) {
             return false;
         }
-        if walk_back(net, rows, flow, potentials, excess, visits, spent, target) {
+        if walk_back(
+            net, star, rows, flow, potentials, excess, visits, spent, target,
+        ) {
             return true;
         }
     }
@@ -402,6 +525,7 @@ fn find_path(
 /// Pushes to a node in deficit as long as another path to it is found, and counts the pushes.
 fn push_more_to(
     net: &Network,
+    star: &Star,
     rows: &[ArcRow],
     flow: &mut [i64],
     potentials: &[i64],
@@ -411,6 +535,7 @@ fn push_more_to(
     target: usize,
 ) -> u64
     requires net { AreRowsOf net.now rows.now }
+    requires star { Covers (length potentials.now) net.now.arcs star.now }
     requires state { IsUnderWay (length visits.old) rows.now potentials.now flow.old excess.old }
     requires potentials_in { ArePotentials (length visits.old) potential_floor potentials.now }
     requires paths { ArePaths rows.now potentials.now visits.old }
@@ -422,7 +547,9 @@ fn push_more_to(
 {
     let mut pushes = 0;
     for _ in 0..spent.len() {
-        if !find_path(net, rows, flow, potentials, excess, visits, spent, target) {
+        if !find_path(
+            net, star, rows, flow, potentials, excess, visits, spent, target,
+        ) {
             return pushes;
         }
         pushes += push_to(rows, flow, potentials, excess, visits, target);
@@ -433,6 +560,7 @@ fn push_more_to(
 /// Pushes to a node in deficit that the search found, along one path after the other, and counts the pushes.
 fn push_all_to(
     net: &Network,
+    star: &Star,
     rows: &[ArcRow],
     flow: &mut [i64],
     potentials: &[i64],
@@ -442,6 +570,7 @@ fn push_all_to(
     target: usize,
 ) -> u64
     requires net { AreRowsOf net.now rows.now }
+    requires star { Covers (length potentials.now) net.now.arcs star.now }
     requires state { IsUnderWay (length visits.old) rows.now potentials.now flow.old excess.old }
     requires potentials_in { ArePotentials (length visits.old) potential_floor potentials.now }
     requires paths { ArePaths rows.now potentials.now visits.old }
@@ -457,13 +586,16 @@ fn push_all_to(
         return 0;
     }
     let first = push_to(rows, flow, potentials, excess, visits, target);
-    let more = push_more_to(net, rows, flow, potentials, excess, visits, spent, target);
+    let more = push_more_to(
+        net, star, rows, flow, potentials, excess, visits, spent, target,
+    );
     first + more
 }
 
 /// Pushes to the nodes in deficit that the search found, and counts the pushes.
 pub fn push_found(
     net: &Network,
+    star: &Star,
     rows: &[ArcRow],
     flow: &mut [i64],
     potentials: &[i64],
@@ -472,6 +604,7 @@ pub fn push_found(
     spent: &mut [bool],
 ) -> u64
     requires net { AreRowsOf net.now rows.now }
+    requires star { Covers (length potentials.now) net.now.arcs star.now }
     requires state { IsUnderWay (length visits.old) rows.now potentials.now flow.old excess.old }
     requires potentials_in { ArePotentials (length visits.old) potential_floor potentials.now }
     requires paths { ArePaths rows.now potentials.now visits.old }
@@ -484,7 +617,9 @@ pub fn push_found(
     spent.fill(false);
     let mut pushes = 0;
     for target in 0..visits.len() {
-        pushes += push_all_to(net, rows, flow, potentials, excess, visits, spent, target);
+        pushes += push_all_to(
+            net, star, rows, flow, potentials, excess, visits, spent, target,
+        );
     }
     pushes
 }

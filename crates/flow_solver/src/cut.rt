@@ -1,100 +1,240 @@
 //! The nodes that show why supply is left over or demand is not met.
 
-ghost use Rattle.std.specs.Prelude.{◌≡◌, ◌≢◌, ℕ, ℤ, List, length, pos, neg_ℤ, ◌≤ℤ◌, ◌<ℤ◌, ◌+ℤ◌, ◌-ℤ◌, ◌<◌, ◌≤◌, ◌+◌, IsTrue, ◌↔◌, true, false, Bool};
-ghost use Rattle.flow_solver.specs.Residual.{IsFlow, IsResidual, start_at, end_at, number_at};
-ghost use Rattle.flow_solver.specs.Search.{mark_at};
-ghost use Rattle.flow_solver.specs.Cut.{in_set, IsSettledSet, IsBehindDeficit, IsGrown, NoEntry, Enters};
-ghost use Rattle.flow_solver.specs.declared.visit.Mark.TheVariants.{Settled};
+ghost use Rattle.std.specs.Prelude.{◌≡◌, ℕ, length, ◌<◌, ◌≤◌, ◌+◌, IsTrue, ◌↔◌, true, false, None, slice_set};
+ghost use Rattle.flow_solver.specs.Limits.{entry_limit};
+ghost use Rattle.flow_solver.specs.Residual.{IsFlow, number_at};
+ghost use Rattle.flow_solver.specs.Walk.{AreRowsOf};
+ghost use Rattle.flow_solver.specs.Cut.{in_set, IsRoot, near_of, far_of, near_at, way_from, IsSide, IsLineOf, IsGrown, LeadsOut, IsFarIn, AreFarIn, ArePassedFarIn};
 ghost use Rattle.flow_solver.specs.declared.residual.Way.{Way};
 
 use crate::residual::Way;
-use crate::visit::Visit;
 use dimacs_text::ArcRow;
+use network::Network;
 
-/// Marks the settled nodes.
-pub fn mark_settled(visits: &[Visit], cut: &mut [bool])
-    requires { length cut.old ≡ length visits.now }
-    ensures { IsSettledSet visits.now cut.new }
-{
-    for v in 0..cut.len() {
-        cut[v] = visits[v].is_settled();
+/// The two sides of a flow that is stuck: the nodes that those in excess reach along residual arcs, and the nodes that
+/// reach one in deficit. The roots of a side are the nodes in excess, or those in deficit.
+#[derive(Clone, Copy)]
+pub enum Side {
+    Ahead,
+    Behind,
+}
+
+impl Side {
+    /// Whether a node with this excess is a root.
+    pub fn is_root(self, excess: i64) -> bool
+        ensures { IsTrue result ↔ IsRoot self excess }
+    {
+        match self {
+            Side::Ahead => excess > 0,
+            Side::Behind => excess < 0,
+        }
+    }
+
+    /// The end of a residual arc that is nearer to the roots.
+    fn near(self, way: Way, row: &ArcRow) -> u32
+        ensures { result ≡ near_of self row.now way }
+    {
+        match self {
+            Side::Ahead => way.start(row),
+            Side::Behind => way.end(row),
+        }
+    }
+
+    /// The end of a residual arc that is further from the roots.
+    fn far(self, way: Way, row: &ArcRow) -> u32
+        ensures { result ≡ far_of self row.now way }
+    {
+        match self {
+            Side::Ahead => way.end(row),
+            Side::Behind => way.start(row),
+        }
+    }
+
+    /// The way in which the residual arc that leads on from an end of an arc goes along it.
+    fn way_from(self, end: u32) -> Way
+        ensures { result ≡ way_from self end }
+    {
+        match self {
+            Side::Ahead => Way::of_end(end),
+            Side::Behind => Way::to_end(end),
+        }
     }
 }
 
-/// Marks the nodes that reach a node in deficit along residual arcs.
-pub fn mark_behind_deficit(rows: &[ArcRow], flow: &[i64], excess: &[i64], cut: &mut [bool])
+/// Marks the nodes of a side. `line` is a table to list them in.
+pub fn mark_side(
+    side: Side,
+    net: &Network,
+    rows: &[ArcRow],
+    flow: &[i64],
+    excess: &[i64],
+    cut: &mut [bool],
+    line: &mut [u32],
+)
+    requires net { AreRowsOf net.now rows.now }
     requires flow { IsFlow (length excess.now) rows.now flow.now }
     requires cut_in { length cut.old ≡ length excess.now }
-    ensures { IsBehindDeficit rows.now flow.now excess.now cut.new }
+    requires line_in { length line.old ≡ length excess.now }
+    ensures { IsSide side rows.now flow.now excess.now cut.new }
 {
-    if mark_deficit(excess, cut) {
-        'passes: while grow(rows, flow, cut) {}
+    let mut len = mark_roots(side, excess, cut, line);
+    let mut next = 0;
+    while next < len {
+        let node = line[next];
+        len = mark_from(side, net, rows, flow, cut, line, len, node);
+        next += 1;
     }
 }
 
-/// Marks the nodes in deficit, and tells whether there is one.
-fn mark_deficit(excess: &[i64], cut: &mut [bool]) -> bool
-    requires { length cut.old ≡ length excess.now }
-    ensures marked { (v : ℕ) → IsTrue (in_set cut.new v) ↔ (number_at excess.now v <ℤ pos 0) }
-    ensures none { result ≡ false → (v : ℕ) → in_set cut.new v ≡ false }
+/// Marks the roots, lists them, and gives how many there are.
+fn mark_roots(side: Side, excess: &[i64], cut: &mut [bool], line: &mut [u32]) -> usize
+    requires few { length excess.now ≤ entry_limit }
+    requires cut_in { length cut.old ≡ length excess.now }
+    requires line_in { length line.old ≡ length excess.now }
+    ensures marked { (v : ℕ) → IsTrue (in_set cut.new v) ↔ IsRoot side (number_at excess.now v) }
+    ensures line { IsLineOf cut.new line.new result }
 {
-    let mut some = false;
+    cut.fill(false);
+    let mut len = 0;
     for v in 0..cut.len() {
-        let lacks = excess[v] < 0;
-        cut[v] = lacks;
-        some = some | lacks;
+        if side.is_root(excess[v]) {
+            len = mark(cut, line, len, v);
+        }
     }
-    some
+    len
 }
 
-/// Marks nodes from which residual arcs enter the set, in one pass over the arcs from both ends, and tells whether there
-/// was one: a chain of nodes is marked at once, whichever way its arcs are numbered.
-fn grow(rows: &[ArcRow], flow: &[i64], cut: &mut [bool]) -> bool
-    requires { IsFlow (length cut.old) rows.now flow.now }
-    ensures grown { IsGrown rows.now flow.now cut.old cut.new result }
-    ensures closed { result ≡ false → NoEntry rows.now flow.now cut.new (length rows.now) }
+/// Marks a node, puts it at the end of the line of marked nodes, and gives the length of the line.
+fn mark(cut: &mut [bool], line: &mut [u32], len: usize, node: usize) -> usize
+    requires line { IsLineOf cut.old line.old len }
+    requires few { length cut.old ≤ entry_limit }
+    requires node_in { node < length cut.old }
+    requires unmarked { in_set cut.old node ≡ false }
+    ensures cut { cut.new ≡ slice_set cut.old node true }
+    ensures put { line.new ≡ slice_set line.old len node }
+    ensures length { result ≡ len + 1 }
+    ensures line { IsLineOf cut.new line.new result }
 {
-    let mut grown = false;
-    for k in 0..rows.len() {
-        let first = mark_starts(rows, flow, cut, k);
-        let last = mark_starts(rows, flow, cut, rows.len() - 1 - k);
-        grown = grown | first | last;
-    }
-    grown
+    cut[node] = true;
+    line[len] = node as u32;
+    len + 1
 }
 
-/// Marks the nodes from which residual arcs along arc `k` enter the set, and tells whether there was one.
-fn mark_starts(rows: &[ArcRow], flow: &[i64], cut: &mut [bool], k: usize) -> bool
+/// Marks the nodes to which residual arcs lead on from a marked node, and gives the length of the line.
+fn mark_from(
+    side: Side,
+    net: &Network,
+    rows: &[ArcRow],
+    flow: &[i64],
+    cut: &mut [bool],
+    line: &mut [u32],
+    len: usize,
+    node: u32,
+) -> usize
+    requires net { AreRowsOf net.now rows.now }
+    requires flow { IsFlow (length cut.old) rows.now flow.now }
+    requires line { IsLineOf cut.old line.old len }
+    requires marked { in_set cut.old node ≡ true }
+    ensures line { IsLineOf cut.new line.new result }
+    ensures grown { IsGrown side rows.now flow.now cut.old line.old len cut.new line.new result }
+    ensures far { AreFarIn side rows.now flow.now cut.new node }
+{
+    let row = rows.len() - net.arcs() as usize;
+    let longer = mark_by_return(side, rows, flow, cut, line, len, row);
+    mark_by_ends(side, net, rows, flow, cut, line, longer, node, row)
+}
+
+/// Marks the node to which the return arc, which stands in the rows before the arcs of the network, leads on from a
+/// marked node, and gives the length of the line.
+fn mark_by_return(
+    side: Side,
+    rows: &[ArcRow],
+    flow: &[i64],
+    cut: &mut [bool],
+    line: &mut [u32],
+    len: usize,
+    row: usize,
+) -> usize
+    requires flow { IsFlow (length cut.old) rows.now flow.now }
+    requires row { row ≤ length rows.now }
+    requires line { IsLineOf cut.old line.old len }
+    ensures line { IsLineOf cut.new line.new result }
+    ensures grown { IsGrown side rows.now flow.now cut.old line.old len cut.new line.new result }
+    ensures far { 0 < row → (way : Way) → in_set cut.old (near_at side rows.now 0 way) ≡ true → IsFarIn side rows.now flow.now cut.new 0 way }
+{
+    if row == 0 {
+        return len;
+    }
+    let longer = mark_far(side, rows, flow, cut, line, len, 0, Way::Forward);
+    mark_far(side, rows, flow, cut, line, longer, 0, Way::Backward)
+}
+
+/// Marks the nodes to which residual arcs along arcs of the network, the first of which has row `row`, lead on from a
+/// marked node, and gives the length of the line.
+fn mark_by_ends(
+    side: Side,
+    net: &Network,
+    rows: &[ArcRow],
+    flow: &[i64],
+    cut: &mut [bool],
+    line: &mut [u32],
+    len: usize,
+    node: u32,
+    row: usize,
+) -> usize
+    requires net { AreRowsOf net.now rows.now }
+    requires split { row + length net.now.arcs ≡ length rows.now }
+    requires flow { IsFlow (length cut.old) rows.now flow.now }
+    requires line { IsLineOf cut.old line.old len }
+    requires marked { in_set cut.old node ≡ true }
+    ensures line { IsLineOf cut.new line.new result }
+    ensures grown { IsGrown side rows.now flow.now cut.old line.old len cut.new line.new result }
+    ensures far { ArePassedFarIn side rows.now flow.now cut.new node net.now.arcs row None }
+{
+    let mut longer = len;
+    let mut current = net.first_end(node);
+    while let Some(end) = current {
+        let k = end as usize / 2 + row;
+        let way = side.way_from(end);
+        longer = mark_far(side, rows, flow, cut, line, longer, k, way);
+        current = net.next_end(end);
+    }
+    longer
+}
+
+/// Marks the node to which the residual arc along arc `k`, where it is there, leads on from a marked node, and gives
+/// the length of the line.
+fn mark_far(
+    side: Side,
+    rows: &[ArcRow],
+    flow: &[i64],
+    cut: &mut [bool],
+    line: &mut [u32],
+    len: usize,
+    k: usize,
+    way: Way,
+) -> usize
     requires flow { IsFlow (length cut.old) rows.now flow.now }
     requires arc_in { k < length rows.now }
-    ensures grown { IsGrown rows.now flow.now cut.old cut.new result }
-    ensures closed { result ≡ false → (way : Way) → Enters rows.now flow.now cut.new k way → ⊥ }
+    requires line { IsLineOf cut.old line.old len }
+    ensures line { IsLineOf cut.new line.new result }
+    ensures grown { IsGrown side rows.now flow.now cut.old line.old len cut.new line.new result }
+    ensures far { in_set cut.old (near_at side rows.now k way) ≡ true → IsFarIn side rows.now flow.now cut.new k way }
 {
-    let forward = mark_start(rows, flow, cut, k, Way::Forward);
-    let backward = mark_start(rows, flow, cut, k, Way::Backward);
-    forward | backward
-}
-
-/// Marks the node from which the residual arc along arc `k` enters the set, and tells whether there was one.
-fn mark_start(rows: &[ArcRow], flow: &[i64], cut: &mut [bool], k: usize, way: Way) -> bool
-    requires flow { IsFlow (length cut.old) rows.now flow.now }
-    requires arc_in { k < length rows.now }
-    ensures grown { IsGrown rows.now flow.now cut.old cut.new result }
-    ensures closed { result ≡ false → Enters rows.now flow.now cut.new k way → ⊥ }
-{
-    if !enters(rows, flow, cut, k, way) {
-        return false;
+    if !leads_out(side, rows, flow, cut, k, way) {
+        return len;
     }
-    cut[way.start(&rows[k]) as usize] = true;
-    true
+    mark(cut, line, len, side.far(way, &rows[k]) as usize)
 }
 
-/// Whether the residual arc along arc `k` is there and enters the set.
-fn enters(rows: &[ArcRow], flow: &[i64], cut: &[bool], k: usize, way: Way) -> bool
+/// Whether the residual arc along arc `k` is there and leads on out of the set of marked nodes.
+fn leads_out(side: Side, rows: &[ArcRow], flow: &[i64], cut: &[bool], k: usize, way: Way) -> bool
     requires flow { IsFlow (length cut.now) rows.now flow.now }
     requires arc_in { k < length rows.now }
-    ensures { IsTrue result ↔ Enters rows.now flow.now cut.now k way }
+    ensures { IsTrue result ↔ LeadsOut side rows.now flow.now cut.now k way }
 {
     let row = rows[k];
-    way.room(&row, flow[k]) > 0 && cut[way.end(&row) as usize] && !cut[way.start(&row) as usize]
+    let near = side.near(way, &row) as usize;
+    let far = side.far(way, &row) as usize;
+    way.room(&row, flow[k]) > 0 && cut[near] && !cut[far]
 }

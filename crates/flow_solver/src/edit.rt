@@ -11,14 +11,18 @@ ghost use Rattle.network.specs.Instance.{IsLawful, arc_at as number_at_arc, ArcF
 ghost use Rattle.flow_solver.specs.Limits.{potential_floor};
 ghost use Rattle.flow_solver.specs.Residual.{IsRow, IsCertified, ArePotentials, number_at, arc_at};
 ghost use Rattle.flow_solver.specs.Nodes.{IsIdleEntry};
+ghost use Rattle.flow_solver.specs.Labels.{IsLabelsFor};
 ghost use Rattle.flow_solver.specs.Queue.{IsQueueFor};
+ghost use Rattle.flow_solver.specs.Star.{Covers};
 ghost use Rattle.flow_solver.specs.Walk.{AreRowsOf};
 ghost use Rattle.flow_solver.specs.Desk.{supplies_in};
 ghost use Rattle.flow_solver.specs.Answer.{AreGreatestPotentials, IsChosenCut, IsVerdict};
 ghost use Rattle.flow_solver.specs.Edit.{reduced_cost, IsNearest, IsAddEdit, IsOfAdd, IsOfArc, IsOfSupply, IsSupplyEdit, IsRowChanged, IsRowEdit, IsSupplyChanged};
 
 use crate::answer::{solve, supply_at};
+use crate::labels::Labels;
 use crate::queue::Queue;
+use crate::star::Star;
 use crate::verdict::Verdict;
 use crate::visit::Visit;
 use dimacs_text::{ArcRow, Edit};
@@ -68,17 +72,20 @@ fn replace_row(rows: &mut [ArcRow], flow: &mut [i64], potentials: &[i64], place:
 /// flow goes to the nearest value that is allowed; gives the number of pushes after that, and the verdict.
 pub fn change_row(
     net: &mut Network,
+    star: &Star,
     rows: &mut [ArcRow],
     flow: &mut [i64],
     potentials: &mut [i64],
     excess: &mut [i64],
     visits: &mut [Visit],
+    labels: &mut Labels,
     queue: &mut Queue,
     cut: &mut [bool],
     k: u32,
     row: ArcRow,
 ) -> (u64, Verdict)
     requires rows { AreRowsOf net.old rows.old }
+    requires star { Covers (net.old.nodes + 1) net.old.arcs star.now }
     requires arc { (1 ≤ k) × (k ≤ length net.old.arcs) }
     requires tail { row.tail ≡ (slice_index_or net.old.arcs (k - 1) row).tail }
     requires head { row.head ≡ (slice_index_or net.old.arcs (k - 1) row).head }
@@ -90,10 +97,13 @@ pub fn change_row(
     requires excess_in { length excess.old ≡ net.old.nodes + 1 }
     requires visits_in { length visits.old ≡ net.old.nodes + 1 }
     requires cut_in { length cut.old ≡ net.old.nodes + 1 }
+    requires labels { IsLabelsFor (net.old.nodes + 1) labels.old }
     requires sized { IsQueueFor (net.old.nodes + 1) queue.old }
     ensures net { net.new ≡ record net.old { arcs = slice_set net.old.arcs (k - 1) row } }
     ensures rows { AreRowsOf net.new rows.new }
+    ensures star { Covers (net.new.nodes + 1) net.new.arcs star.now }
     ensures idle { IsIdleEntry potentials.new }
+    ensures labels { IsLabelsFor (net.new.nodes + 1) labels.new }
     ensures sized { IsQueueFor (net.new.nodes + 1) queue.new }
     ensures certified { IsCertifiedFlow (reduced net.new) flow.new (at_node (drop 1 potentials.new)) }
     ensures verdict { IsVerdict result.1 net.new flow.new (is_marked (drop 1 cut.new)) }
@@ -104,24 +114,29 @@ pub fn change_row(
     let place = rows.len() - net.arcs() as usize + (k as usize - 1);
     net.set_row(k, row);
     replace_row(rows, flow, potentials, place, row);
-    solve(net, rows, flow, potentials, excess, visits, queue, cut)
+    solve(
+        net, star, rows, flow, potentials, excess, visits, labels, queue, cut,
+    )
 }
 
 /// Changes what a node of a least-cost problem has to send out, and settles the flow again; gives the number of pushes
 /// and the verdict.
 pub fn change_supply(
     net: &mut Network,
+    star: &Star,
     rows: &[ArcRow],
     flow: &mut [i64],
     potentials: &mut [i64],
     excess: &mut [i64],
     visits: &mut [Visit],
+    labels: &mut Labels,
     queue: &mut Queue,
     cut: &mut [bool],
     id: u32,
     value: i64,
 ) -> (u64, Verdict)
     requires rows { AreRowsOf net.old rows.now }
+    requires star { Covers (net.old.nodes + 1) net.old.arcs star.now }
     requires kind { kind_of net.old.demand ≡ Min }
     requires node { IsNode net.old.nodes id }
     requires limit { IsWithin SUPPLY_LIMIT value }
@@ -131,10 +146,13 @@ pub fn change_supply(
     requires excess_in { length excess.old ≡ net.old.nodes + 1 }
     requires visits_in { length visits.old ≡ net.old.nodes + 1 }
     requires cut_in { length cut.old ≡ net.old.nodes + 1 }
+    requires labels { IsLabelsFor (net.old.nodes + 1) labels.old }
     requires sized { IsQueueFor (net.old.nodes + 1) queue.old }
     ensures net { net.new ≡ record net.old { demand = with_supply net.old.demand id value } }
     ensures rows { AreRowsOf net.new rows.now }
+    ensures star { Covers (net.new.nodes + 1) net.new.arcs star.now }
     ensures idle { IsIdleEntry potentials.new }
+    ensures labels { IsLabelsFor (net.new.nodes + 1) labels.new }
     ensures sized { IsQueueFor (net.new.nodes + 1) queue.new }
     ensures certified { IsCertifiedFlow (reduced net.new) flow.new (at_node (drop 1 potentials.new)) }
     ensures verdict { IsVerdict result.1 net.new flow.new (is_marked (drop 1 cut.new)) }
@@ -143,7 +161,9 @@ pub fn change_supply(
     ensures chosen { IsChosenCut result.1 (reduced net.new) (is_marked (drop 1 cut.new)) }
 {
     net.set_supply(id, value);
-    solve(net, rows, flow, potentials, excess, visits, queue, cut)
+    solve(
+        net, star, rows, flow, potentials, excess, visits, labels, queue, cut,
+    )
 }
 
 /// Exchanges the bounds and the cost of the arc with this number, counted from 1.

@@ -1,21 +1,23 @@
-//! Shortest paths over reduced costs: from the nodes in excess, or from all nodes at once.
+//! Shortest paths over reduced costs, from the nodes in excess.
 
-ghost use Rattle.std.specs.Prelude.{◌≡◌, ℕ, pos, ◌≤ℤ◌, ◌+ℤ◌, ◌-ℤ◌, ◌<◌, ◌≤◌, IsTrue, ◌↔◌, length, slice_index, None, MatchOption, ◌+◌};
+ghost use Rattle.std.specs.Prelude.{◌≡◌, ℕ, pos, ◌≤ℤ◌, ◌+ℤ◌, ◌-ℤ◌, ◌<◌, ◌≤◌, IsTrue, ◌↔◌, length, None, MatchOption, ◌+◌, ◌/◌};
 ghost use Rattle.flow_solver.specs.Limits.{entry_limit, key_limit, potential_floor};
 ghost use Rattle.flow_solver.specs.Residual.{IsRow, IsFlow, IsCertified, ArePotentials, IsResidual, IsResidualFrom, number_at, start_at, start_of, end_of, cost_of};
-ghost use Rattle.flow_solver.specs.Search.{IsSearch, IsLastSettled, Improves, IsRelaxed, IsRelaxedFrom, AllRelaxed, Settles, visit_at, key_at, source_visit, root_visit, IsFromExcess, IsFromAll, IsExhausted, HasFound, NoneOpen};
-ghost use Rattle.flow_solver.specs.Queue.{IsQueueOf, IsQueueFor};
-ghost use Rattle.flow_solver.specs.Walk.{AreRowsOf, ArePassedRelaxed};
+ghost use Rattle.flow_solver.specs.Search.{IsSearch, IsLastSettled, Improves, IsRelaxed, IsRelaxedFrom, AllRelaxed, Settles, visit_at, key_at, source_visit, IsFromExcess, IsExhausted, HasFound};
+ghost use Rattle.flow_solver.specs.Queue.{IsQueueOf, IsQueueFor, size, first_of};
+ghost use Rattle.flow_solver.specs.Star.{AllNameOther, AreSpokesRelaxed, Covers, IsSpokeRelaxed, NamesOther};
+ghost use Rattle.flow_solver.specs.Walk.{AreAddedRelaxed, ArePassedRelaxed, AreRowsOf, end_way};
 ghost use Rattle.flow_solver.specs.declared.residual.Way.{Way};
 
 use crate::queue::Queue;
 use crate::residual::Way;
+use crate::star::{Spoke, Star};
 use crate::visit::{Mark, Visit};
 use dimacs_text::ArcRow;
 use network::Network;
 
 /// The length of the path to the end of a residual arc by way of its start.
-fn key_through(row: &ArcRow, way: Way, potentials: &[i64], visits: &[Visit]) -> i64
+pub fn key_through(row: &ArcRow, way: Way, potentials: &[i64], visits: &[Visit]) -> i64
     requires row { IsRow (length potentials.now) row.now }
     requires visits_in { length visits.now ≡ length potentials.now }
     requires potentials_in { ArePotentials (length potentials.now) potential_floor potentials.now }
@@ -154,10 +156,11 @@ fn relax_return(
     }
 }
 
-/// Takes each residual arc from the node settled last into account that goes along an arc of the network. The first
-/// of these has row `row`.
-fn relax_ends(
+/// Takes each residual arc from the node settled last into account that goes along an arc of the network which the star
+/// does not cover. The network lists these first. Its first arc has row `row`.
+fn relax_added(
     net: &Network,
+    star: &Star,
     rows: &[ArcRow],
     flow: &[i64],
     potentials: &[i64],
@@ -175,10 +178,13 @@ fn relax_ends(
     ensures search { IsSearch rows.now flow.now potentials.now visits.new }
     ensures queue { IsQueueOf visits.new queue.new }
     ensures improves { Improves visits.old visits.new }
-    ensures relaxed { ArePassedRelaxed rows.now flow.now potentials.now visits.new u net.now.arcs row None }
+    ensures relaxed { AreAddedRelaxed rows.now flow.now potentials.now visits.new u net.now.arcs row star.now.arcs }
 {
     let mut current = net.first_end(u as u32);
     while let Some(end) = current {
+        if end / 2 < star.arcs {
+            return;
+        }
         // Read before the arc is looked at, so that the walk does not wait for the tests there.
         let next = net.next_end(end);
         let k = end as usize / 2 + row;
@@ -196,9 +202,122 @@ fn relax_ends(
     }
 }
 
+/// Takes the residual arc from an end of an arc into account, where the arc is one of the first ones, so many, and this is
+/// a residual arc from the node settled last.
+fn relax_spoke(
+    spoke: Spoke,
+    arcs: u32,
+    rows: &[ArcRow],
+    flow: &[i64],
+    potentials: &[i64],
+    visits: &mut [Visit],
+    queue: &mut Queue,
+    u: usize,
+    row: usize,
+)
+    requires few { row + arcs ≤ length rows.now }
+    requires named { spoke.end / 2 < arcs → NamesOther rows.now row spoke }
+    requires certified { IsCertified rows.now flow.now potentials.now }
+    requires search { IsSearch rows.now flow.now potentials.now visits.old }
+    requires queue { IsQueueOf visits.old queue.old }
+    requires last { IsLastSettled visits.old u }
+    ensures search { IsSearch rows.now flow.now potentials.now visits.new }
+    ensures queue { IsQueueOf visits.new queue.new }
+    ensures improves { Improves visits.old visits.new }
+    ensures relaxed { spoke.end / 2 < arcs → IsSpokeRelaxed rows.now flow.now potentials.now visits.new u row spoke }
+{
+    if spoke.end / 2 >= arcs {
+        return;
+    }
+    // No path to a settled node gets better: neither the arc nor its flow is read.
+    if visits[spoke.other as usize].is_settled() {
+        return;
+    }
+    let k = spoke.end as usize / 2 + row;
+    relax(
+        rows,
+        flow,
+        potentials,
+        visits,
+        queue,
+        u,
+        k,
+        Way::of_end(spoke.end),
+    );
+}
+
+/// Takes each residual arc from the node settled last into account that goes along one of the first arcs, so many, and
+/// from one of these ends.
+fn relax_spokes(
+    spokes: &[Spoke],
+    arcs: u32,
+    rows: &[ArcRow],
+    flow: &[i64],
+    potentials: &[i64],
+    visits: &mut [Visit],
+    queue: &mut Queue,
+    u: usize,
+    row: usize,
+)
+    requires few { row + arcs ≤ length rows.now }
+    requires named { AllNameOther rows.now row arcs spokes.now }
+    requires certified { IsCertified rows.now flow.now potentials.now }
+    requires search { IsSearch rows.now flow.now potentials.now visits.old }
+    requires queue { IsQueueOf visits.old queue.old }
+    requires last { IsLastSettled visits.old u }
+    ensures search { IsSearch rows.now flow.now potentials.now visits.new }
+    ensures queue { IsQueueOf visits.new queue.new }
+    ensures improves { Improves visits.old visits.new }
+    ensures relaxed { AreSpokesRelaxed rows.now flow.now potentials.now visits.new u row arcs spokes.now (length spokes.now) }
+{
+    for spoke in spokes {
+        relax_spoke(*spoke, arcs, rows, flow, potentials, visits, queue, u, row);
+    }
+}
+
+/// Takes each residual arc from the node settled last into account that goes along an arc of the network. The first
+/// of these has row `row`.
+fn relax_ends(
+    net: &Network,
+    star: &Star,
+    rows: &[ArcRow],
+    flow: &[i64],
+    potentials: &[i64],
+    visits: &mut [Visit],
+    queue: &mut Queue,
+    u: usize,
+    row: usize,
+)
+    requires net { AreRowsOf net.now rows.now }
+    requires star { Covers (length potentials.now) net.now.arcs star.now }
+    requires split { row + length net.now.arcs ≡ length rows.now }
+    requires certified { IsCertified rows.now flow.now potentials.now }
+    requires search { IsSearch rows.now flow.now potentials.now visits.old }
+    requires queue { IsQueueOf visits.old queue.old }
+    requires last { IsLastSettled visits.old u }
+    ensures search { IsSearch rows.now flow.now potentials.now visits.new }
+    ensures queue { IsQueueOf visits.new queue.new }
+    ensures improves { Improves visits.old visits.new }
+    ensures relaxed { ArePassedRelaxed rows.now flow.now potentials.now visits.new u net.now.arcs row None }
+{
+    relax_added(net, star, rows, flow, potentials, visits, queue, u, row);
+    relax_spokes(
+        star.spokes_of(u),
+        star.arcs,
+        rows,
+        flow,
+        potentials,
+        visits,
+        queue,
+        u,
+        row,
+    );
+}
+
 /// Takes each residual arc from the node settled last into account.
 fn relax_all(
     net: &Network,
+    star: &Star,
     rows: &[ArcRow],
     flow: &[i64],
     potentials: &[i64],
@@ -207,6 +326,7 @@ fn relax_all(
     u: usize,
 )
     requires net { AreRowsOf net.now rows.now }
+    requires star { Covers (length potentials.now) net.now.arcs star.now }
     requires certified { IsCertified rows.now flow.now potentials.now }
     requires search { IsSearch rows.now flow.now potentials.now visits.old }
     requires queue { IsQueueOf visits.old queue.old }
@@ -218,12 +338,13 @@ fn relax_all(
 {
     let row = rows.len() - net.arcs() as usize;
     relax_return(rows, flow, potentials, visits, queue, u, row);
-    relax_ends(net, rows, flow, potentials, visits, queue, u, row);
+    relax_ends(net, star, rows, flow, potentials, visits, queue, u, row);
 }
 
 /// Settles the open node of the least key.
-fn settle_node(
+pub fn settle_node(
     net: &Network,
+    star: &Star,
     rows: &[ArcRow],
     flow: &[i64],
     potentials: &[i64],
@@ -231,25 +352,27 @@ fn settle_node(
     queue: &mut Queue,
 ) -> usize
     requires net { AreRowsOf net.now rows.now }
+    requires star { Covers (length potentials.now) net.now.arcs star.now }
     requires certified { IsCertified rows.now flow.now potentials.now }
     requires search { IsSearch rows.now flow.now potentials.now visits.old }
     requires queue { IsQueueOf visits.old queue.old }
     requires relaxed { AllRelaxed rows.now flow.now potentials.now visits.old }
-    requires some { 0 < queue.old.len }
+    requires some { 0 < size queue.old }
     ensures search { IsSearch rows.now flow.now potentials.now visits.new }
     ensures queue { IsQueueOf visits.new queue.new }
     ensures relaxed { AllRelaxed rows.now flow.now potentials.now visits.new }
-    ensures first { slice_index queue.old.order.items 0 ≡ result }
+    ensures first { first_of queue.old ≡ result }
     ensures settles { Settles visits.old visits.new result }
 {
     let first = queue.settle_first(visits);
-    relax_all(net, rows, flow, potentials, visits, queue, first);
+    relax_all(net, star, rows, flow, potentials, visits, queue, first);
     first
 }
 
 /// Opens the nodes in excess.
 fn open_sources(excess: &[i64], visits: &mut [Visit], queue: &mut Queue)
     requires queue { IsQueueOf visits.old queue.old }
+    requires present { queue.old.present ≡ pos 0 }
     requires few { length visits.old ≤ entry_limit }
     requires same_length { length visits.old ≡ length excess.now }
     requires fresh { (v : ℕ) → visit_at visits.old v ≡ source_visit (pos 0) }
@@ -284,6 +407,7 @@ fn wanted_deficits(excess: &[i64]) -> usize
 /// the search has come; nothing where no node in deficit can be reached.
 pub fn find_deficits(
     net: &Network,
+    star: &Star,
     rows: &[ArcRow],
     flow: &[i64],
     potentials: &[i64],
@@ -292,6 +416,7 @@ pub fn find_deficits(
     queue: &mut Queue,
 ) -> Option<i64>
     requires net { AreRowsOf net.now rows.now }
+    requires star { Covers (length potentials.now) net.now.arcs star.now }
     requires certified { IsCertified rows.now flow.now potentials.now }
     requires excess_in { length excess.now ≡ length potentials.now }
     requires visits_in { length visits.old ≡ length potentials.now }
@@ -308,7 +433,7 @@ pub fn find_deficits(
     let mut found = 0;
     let mut reach = 0;
     while let Some(u) = queue.first(visits) {
-        let _settled = settle_node(net, rows, flow, potentials, visits, queue);
+        let _settled = settle_node(net, star, rows, flow, potentials, visits, queue);
         reach = visits[u].key;
         if excess[u] < 0 {
             found += 1;
@@ -318,55 +443,4 @@ pub fn find_deficits(
         }
     }
     if found > 0 { Some(reach) } else { None }
-}
-
-/// Opens every node, with label 0.
-fn open_all(potentials: &[i64], visits: &mut [Visit], queue: &mut Queue)
-    requires queue { IsQueueOf visits.old queue.old }
-    requires few { length visits.old ≤ entry_limit }
-    requires same_length { length visits.old ≡ length potentials.now }
-    requires potentials_in { ArePotentials (length potentials.now) potential_floor potentials.now }
-    requires fresh { (v : ℕ) → visit_at visits.old v ≡ source_visit (pos 0) }
-    ensures visits { (v : ℕ) → v < length potentials.now → visit_at visits.new v ≡ root_visit (number_at potentials.now v) }
-    ensures queue { IsQueueOf visits.new queue.new }
-{
-    for v in 0..visits.len() {
-        queue.improve(
-            visits,
-            v,
-            Visit {
-                mark: Mark::Open,
-                key: -potentials[v],
-                depth: 0,
-                arc: 0,
-                way: Way::Forward,
-            },
-        );
-    }
-}
-
-/// Searches from all nodes at once, until each is settled.
-pub fn search_all(
-    net: &Network,
-    rows: &[ArcRow],
-    flow: &[i64],
-    potentials: &[i64],
-    visits: &mut [Visit],
-    queue: &mut Queue,
-)
-    requires net { AreRowsOf net.now rows.now }
-    requires certified { IsCertified rows.now flow.now potentials.now }
-    requires visits_in { length visits.old ≡ length potentials.now }
-    requires sized { IsQueueFor (length potentials.now) queue.old }
-    ensures search { IsSearch rows.now flow.now potentials.now visits.new }
-    ensures relaxed { AllRelaxed rows.now flow.now potentials.now visits.new }
-    ensures from_all { IsFromAll potentials.now visits.new }
-    ensures done { NoneOpen visits.new (length visits.new) }
-    ensures sized { IsQueueFor (length potentials.now) queue.new }
-{
-    queue.reset(visits);
-    open_all(potentials, visits, queue);
-    while let Some(u) = queue.first(visits) {
-        let _settled = settle_node(net, rows, flow, potentials, visits, queue);
-    }
 }

@@ -17,7 +17,9 @@ use crate::edit::{
     added_row, change_row, change_supply, closed, drop_row, edited_row, edited_supply, put_row,
     swap_row, swap_supply,
 };
+use crate::labels::Labels;
 use crate::queue::Queue;
+use crate::star::Star;
 use crate::start::{reduced_rows, start_flow};
 use crate::swaps::{carry_worth, copy_nodes, exchange, exchange_node};
 use crate::verdict::Verdict;
@@ -34,12 +36,14 @@ use std::marker::Model;
 #[derive(Drop)]
 pub struct Solver {
     net: Network,
+    star: Star,
     rows: Vec<ArcRow>,
     flow: Vec<i64>,
     potentials: Vec<i64>,
     excess: Vec<i64>,
     cut: Vec<bool>,
     visits: Vec<Visit>,
+    labels: Labels,
     queue: Queue,
     verdict: Verdict,
 }
@@ -52,7 +56,7 @@ impl Model for Solver {
 
     ghost view = { λ t. record { instance = t.net; flow = t.flow.items; potentials = drop 1 t.potentials.items; verdict = t.verdict; cut = drop 1 t.cut.items } };
 
-    ghost invariant = { λ t. AreTables t.net t.rows.items t.flow.items t.potentials.items t.excess.items t.cut.items t.visits.items t.queue (vec_capacity t.rows) (vec_capacity t.flow) };
+    ghost invariant = { λ t. AreTables t.net t.star t.rows.items t.flow.items t.potentials.items t.excess.items t.cut.items t.visits.items t.labels t.queue (vec_capacity t.rows) (vec_capacity t.flow) };
 }
 
 impl Solver {
@@ -67,21 +71,25 @@ impl Solver {
             (λ t. IsCertifiedFlow (reduced t.instance) t.flow (at_node t.potentials)) }
     {
         let entries = net.nodes() as usize + 1;
+        let star = Star::new(alloc, &net)?;
         let rows = reduced_rows(alloc, &net)?;
         let flow = start_flow(alloc, &rows, net.room() as usize + 1)?;
         let potentials = vec![in alloc; 0; entries]?;
         let excess = vec![in alloc; 0; entries]?;
         let cut = vec![in alloc; false; entries]?;
         let visits = vec![in alloc; Visit::unreached(); entries]?;
+        let labels = Labels::new(alloc, net.nodes() + 1)?;
         let queue = Queue::new(alloc, entries)?;
         Ok(Solver {
             net,
+            star,
             rows,
             flow,
             potentials,
             excess,
             cut,
             visits,
+            labels,
             queue,
             verdict: Verdict::Best(0),
         })
@@ -140,11 +148,13 @@ impl Solver {
     {
         let (pushes, verdict) = solve(
             &self.net,
+            &self.star,
             &self.rows,
             &mut self.flow,
             &mut self.potentials,
             &mut self.excess,
             &mut self.visits,
+            &mut self.labels,
             &mut self.queue,
             &mut self.cut,
         );
@@ -167,11 +177,13 @@ impl Solver {
     {
         let (pushes, verdict) = change_row(
             &mut self.net,
+            &self.star,
             &mut self.rows,
             &mut self.flow,
             &mut self.potentials,
             &mut self.excess,
             &mut self.visits,
+            &mut self.labels,
             &mut self.queue,
             &mut self.cut,
             k,
@@ -194,11 +206,13 @@ impl Solver {
     {
         let (pushes, verdict) = change_supply(
             &mut self.net,
+            &self.star,
             &self.rows,
             &mut self.flow,
             &mut self.potentials,
             &mut self.excess,
             &mut self.visits,
+            &mut self.labels,
             &mut self.queue,
             &mut self.cut,
             id,
@@ -310,6 +324,7 @@ impl Solver {
         ensures rest { self.new ≡ record self.old { instance = self.new.instance; flow = self.new.flow } }
     {
         let row = drop_row(&mut self.net, &mut self.rows);
+        self.star.keep(self.net.arcs());
         let Some(flow) = self.flow.pop() else {
             unreachable!()
         };

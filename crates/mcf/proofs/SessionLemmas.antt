@@ -1,5 +1,5 @@
 -- What a whole session has written, by where it ends.
-use Rattle.std.proofs.Common.{◌≡◌, ℕ, ◌-◌, List, [], ◌++◌, take, Option, None, Some, Ok, Err, inl, inr, refl, sym, ap, ◌∙◌, append-nil}
+use Rattle.std.proofs.Common.{◌≡◌, ℕ, ◌+◌, ◌-◌, arith, List, [], ◌++◌, take, Option, None, Some, Ok, Err, inl, inr, refl, sym, ap, ◌∙◌, append-nil}
 use Rattle.std.specs.Io.KnownBytes.{Appends, IsAtEnd}
 use Rattle.std.proofs.KnownBytes.{Appends-trans}
 use Rattle.dimacs_io.specs.Device.{AppendsBeginning}
@@ -15,11 +15,11 @@ use Rattle.mcf.specs.declared.end.End.{End}
 use Rattle.mcf.specs.declared.end.End.TheVariants.{Solved, Infeasible, Ended, Valid, NotValid, Refused, ReadFailed, WriteFailed, Memory}
 use Rattle.mcf.specs.declared.read.ReadError.{ReadError}
 use Rattle.mcf.specs.declared.read.ReadError.TheVariants as read_error
-use Rattle.mcf.specs.Check.{IsProblemText}
+use Rattle.mcf.specs.Check.{IsProblemText, write_failures}
 use Rattle.mcf.specs.Printing.{outcome_line}
 use Rattle.mcf.specs.Reading.{Gives, ReadsText, end_of}
 use Rattle.mcf.specs.Run.{Answers}
-use Rattle.mcf.specs.Serving.{CommandsEnd}
+use Rattle.mcf.specs.Serving.{CommandsEnd, CommandsFail}
 use Rattle.mcf.specs.Session.{Opens, PrintsBeginning, PrintsRun, SessionTells, SessionWrites}
 use Rattle.mcf.proofs.SourceLemmas.{text_at_end, text_given, problem_text, reads_decided, appended}
 
@@ -141,3 +141,18 @@ SessionTells-commands end extra problem opening (Some text) problem_rest problem
 SessionTells-commands end extra problem opening (Some text) problem_rest problem_given problem_old problem_new (Some commands) rest given left_old left_new (Some held) mid after has at_end is opens line gives ends =
     commands_end end extra problem opening text (take (problem_old - problem_new) text) commands given held rest left_old left_new mid after
     (problem_text text problem_given problem_rest problem_old problem_new problem has at_end is) opens gives line ends
+
+-- ---- the counts of failed calls
+
+pub write_counted : (end : End) (script_old script_new out_old out_new : ℕ) → CommandsFail end script_old script_new out_old out_new → out_new ≡ out_old + write_failures end
+write_counted Ended script_old script_new out_old out_new fail = omega (arith, fail.1)
+write_counted (ReadFailed the.Commands) script_old script_new out_old out_new fail = omega (arith, fail.1)
+write_counted WriteFailed script_old script_new out_old out_new fail = fail.1
+write_counted Solved script_old script_new out_old out_new fail = absurd fail
+write_counted Infeasible script_old script_new out_old out_new fail = absurd fail
+write_counted Valid script_old script_new out_old out_new fail = absurd fail
+write_counted NotValid script_old script_new out_old out_new fail = absurd fail
+write_counted (Refused input number line) script_old script_new out_old out_new fail = absurd fail
+write_counted (ReadFailed the.Problem) script_old script_new out_old out_new fail = absurd fail
+write_counted (ReadFailed the.Answer) script_old script_new out_old out_new fail = absurd fail
+write_counted Memory script_old script_new out_old out_new fail = absurd fail

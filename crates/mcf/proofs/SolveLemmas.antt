@@ -1,5 +1,5 @@
 -- What a whole run of `solve` has written, by where it ends.
-use Rattle.std.proofs.Common.{◌≡◌, ℕ, ◌-◌, Bool, List, [], take, Option, None, Some, Ok, Err, inl, inr, refl, sym, ap, ◌∙◌, append-nil}
+use Rattle.std.proofs.Common.{◌≡◌, ℕ, ◌+◌, ◌-◌, arith, Bool, List, [], take, Option, None, Some, Ok, Err, inl, inr, refl, sym, ap, ◌∙◌, append-nil}
 use Rattle.std.specs.Io.KnownBytes.{Appends, IsAtEnd}
 use Rattle.dimacs_io.specs.Device.{AppendsBeginning}
 use Rattle.dimacs_text.specs.declared.fault.TextFault.TheVariants as text_fault
@@ -13,6 +13,7 @@ use Rattle.mcf.specs.declared.end.Text.TheVariants as the
 use Rattle.mcf.specs.declared.end.End.TheVariants.{WriteFailed}
 use Rattle.mcf.specs.declared.read.ReadError.{ReadError}
 use Rattle.mcf.specs.declared.read.ReadError.TheVariants as read_error
+use Rattle.mcf.specs.Check.{write_failures}
 use Rattle.mcf.specs.Reading.{Gives, ReadsText, end_of}
 use Rattle.mcf.specs.Printing.{solution}
 use Rattle.mcf.specs.Solve.{IsSettled, Solves, Prints, SolveWrites, SolveTells, end_by}
@@ -71,3 +72,8 @@ SolveTells-solved problem m proof (Some text) rest given left_old left_new (Some
     (solution proof m, appended held (solution proof m) after all, by_verdict m.verdict proof text (take (left_old - left_new) text) (solution proof m) prints)
 
 -- the counts of failed calls
+
+-- no failed write is counted where the solution was written
+pub written_count : (v : Verdict) (failures : ℕ) → failures ≡ failures + write_failures (end_by v)
+written_count (verdict.Best worth) failures = omega arith
+written_count (verdict.Infeasible shortage) failures = omega arith

@@ -1,6 +1,8 @@
 //! The program `mcf`: solves flow problems in the DIMACS formats, runs sessions of edits on them, and checks answers.
 #![tactic(auto)]
 
+ghost use Rattle.std.specs.Prelude.{◌<◌, ◌-◌, ◌^◌};
+
 mod check;
 mod command_line;
 mod commands;
@@ -19,12 +21,13 @@ mod tests;
 use check::check;
 use clap::error::ErrorKind;
 use command_line::{Task, Usage};
-use dimacs_io::{ReadSource, WriteSink};
+use dimacs_io::{ReadSource, Sink, WriteSink};
 use end::{End, Text};
 use interaction::run_session;
 use parse::task;
 use solve::solve;
 use std::fs::File;
+use std::io::BufWriter;
 use std::process::ExitCode;
 use std::{env, io};
 
@@ -42,38 +45,51 @@ fn run(rt: &HostRuntime) -> u8 {
         Err(error) => return refuse_words(rt, &error),
     };
     match task(rt.alloc(), words.as_slice()) {
-        Ok(Task::Solve { proof, file }) => tell(rt, solve_file(rt, file, proof)),
-        Ok(Task::Session { problem, extra }) => tell(rt, run_session_on(rt, problem, extra)),
-        Ok(Task::Check { problem, answer }) => tell(rt, check_files(rt, problem, answer)),
+        Ok(task) => tell(rt, perform(rt, task)),
         Err(usage) => tell_usage(rt, &usage),
     }
 }
 
+/// Performs a task, with the standard output behind a buffer.
+fn perform(rt: &HostRuntime, task: Task<'_>) -> End {
+    let mut buffer = match BufWriter::new(rt.alloc(), rt.stdout()) {
+        Ok(buffer) => buffer,
+        Err(_) => return End::Memory,
+    };
+    let mut out = WriteSink::new(&mut buffer);
+    let end = match task {
+        Task::Solve { proof, file } => solve_file(rt, file, proof, &mut out),
+        Task::Session { problem, extra } => run_session_on(rt, problem, extra, &mut out),
+        Task::Check { problem, answer } => check_files(rt, problem, answer, &mut out),
+    };
+    // Each task passes on what it wrote. What is there still was refused by the device: it is not tried again.
+    let _refused = buffer.into_parts();
+    end
+}
+
 /// Solves the problem in a file, or on the standard input.
-fn solve_file(rt: &HostRuntime, file: Option<&str>, proof: bool) -> End {
-    let mut out = WriteSink::new(rt.stdout());
+fn solve_file<O: Sink>(rt: &HostRuntime, file: Option<&str>, proof: bool, out: &mut O) -> End
+    requires { O.failures out.old < 2 ^ 64 - 1 }
+{
     match file {
-        None => solve(
-            rt.alloc(),
-            &mut ReadSource::new(rt.stdin()),
-            &mut out,
-            proof,
-        ),
+        None => solve(rt.alloc(), &mut ReadSource::new(rt.stdin()), out, proof),
         Some(path) => match File::open(rt, path) {
-            Ok(file) => solve(rt.alloc(), &mut ReadSource::new(file), &mut out, proof),
+            Ok(file) => solve(rt.alloc(), &mut ReadSource::new(file), out, proof),
             Err(error) => not_opened(&error, Text::Problem),
         },
     }
 }
 
 /// Runs a session on the problem in a file, with the commands on the standard input.
-fn run_session_on(rt: &HostRuntime, problem: &str, extra: u32) -> End {
+fn run_session_on<O: Sink>(rt: &HostRuntime, problem: &str, extra: u32, out: &mut O) -> End
+    requires { O.failures out.old < 2 ^ 64 - 1 }
+{
     match File::open(rt, problem) {
         Ok(file) => run_session(
             rt.alloc(),
             &mut ReadSource::new(file),
             &mut ReadSource::new(rt.stdin()),
-            &mut WriteSink::new(rt.stdout()),
+            out,
             extra,
         ),
         Err(error) => not_opened(&error, Text::Problem),
@@ -81,7 +97,9 @@ fn run_session_on(rt: &HostRuntime, problem: &str, extra: u32) -> End {
 }
 
 /// Checks the answer in one file to the problem in another. Both are opened before either is read.
-fn check_files(rt: &HostRuntime, problem: &str, answer: &str) -> End {
+fn check_files<O: Sink>(rt: &HostRuntime, problem: &str, answer: &str, out: &mut O) -> End
+    requires { O.failures out.old < 2 ^ 64 - 1 }
+{
     let problem = match File::open(rt, problem) {
         Ok(file) => file,
         Err(error) => return not_opened(&error, Text::Problem),
@@ -94,7 +112,7 @@ fn check_files(rt: &HostRuntime, problem: &str, answer: &str) -> End {
         rt.alloc(),
         &mut ReadSource::new(problem),
         &mut ReadSource::new(answer),
-        &mut WriteSink::new(rt.stdout()),
+        out,
     )
 }
 

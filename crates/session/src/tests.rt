@@ -2,6 +2,7 @@ use crate::{Part, Record, Refusal, Session};
 use dimacs_text::{ArcRow, Edit, ProblemReader};
 use flow_solver::Verdict;
 use std::alloc::{AllocError, Global};
+use std::process::Abort;
 use std::test::Fail;
 
 /// One arc.
@@ -71,6 +72,13 @@ const fn added(tail: u64, head: u64, cap: i64, cost: i64) -> Command {
         cap,
         cost,
     })
+}
+
+/// Asks each command of the session in turn, and compares its reply.
+fn follow(rt: &impl Abort, session: &mut Session, steps: &[(Command, Reply)]) {
+    for (command, expected) in steps {
+        assert_eq!(rt; replied(session, command), *expected);
+    }
 }
 
 #[test]
@@ -151,9 +159,7 @@ fn replies(rt: HostRuntime) -> Result<(), Fail> {
     ];
     for (text, extra, steps) in cases {
         let mut session = session(rt.alloc(), text, extra)?;
-        for (command, expected) in steps {
-            assert_eq!(rt; replied(&mut session, command), *expected);
-        }
+        follow(&rt, &mut session, steps);
     }
     Ok(())
 }

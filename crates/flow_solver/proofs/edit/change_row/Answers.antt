@@ -5,10 +5,12 @@ use Rattle.network.specs.Flow.{total_excess}
 use Rattle.network.specs.Instance.{Instance, IsLawful, reduced}
 use Rattle.flow_solver.specs.Residual.{IsCertified, number_at, arc_at}
 use Rattle.flow_solver.specs.Push.{Pushes}
+use Rattle.flow_solver.specs.Star.{Covers}
 use Rattle.flow_solver.specs.Edit.{reduced_cost, IsNearest, place_of}
 use Rattle.flow_solver.proofs.InstanceLemmas.{certified_of}
 use Rattle.flow_solver.proofs.AnswerLemmas.{certified_at}
 use Rattle.flow_solver.proofs.ChangeLemmas.{with_row, lawful_row, rows_changed, row_is, reduced_is, certified_after, excess_changed}
+use Rattle.flow_solver.proofs.StarLemmas.{covers_set}
 use Rattle.flow_solver.proofs.edit.change_row.Goals as goal
 use Rattle.flow_solver.proofs.edit.change_row.Goals.{After-set_row, After-replace_row}
 
@@ -56,6 +58,18 @@ solve-requires-clause-certified c =
     let s = (goal.at.solve-requires-clause-certified c).After-replace_row in
     certified_after c.args.net.now c.set_row.new.self c.args.flow.now c.replace_row.new.flow c.args.potentials.now (lawful_after s) (ap (λ (J : Instance). J.nodes) c.set_row.ensures) c.requires.certified
     (subst (λ (r : List ArcRow). IsCertified r c.replace_row.new.flow c.args.potentials.now) (rows_after s) c.replace_row.ensures.certified)
+
+star_after : (c : After-set_row) → Covers (c.set_row.new.self.nodes + 1) c.set_row.new.self.arcs c.args.star.now
+star_after c =
+    let I = c.args.net.now in
+    let kept = covers_set (I.nodes + 1) I.arcs (c.args.k - 1) c.args.row c.args.star.now c.requires.star (omega (arith, c.requires.arc.0, c.requires.arc.1)) c.requires.tail c.requires.head in
+    subst (λ (J : Instance). Covers (J.nodes + 1) J.arcs c.args.star.now) (sym c.set_row.ensures) kept
+
+pub solve-requires-clause-star : goal.solve-requires-clause-star
+solve-requires-clause-star c = star_after (goal.at.solve-requires-clause-star c).After-set_row
+
+pub returns-clause-star : goal.returns-clause-star
+returns-clause-star c = star_after (goal.at.returns-clause-star c).After-set_row
 
 pub returns-clause-rows : goal.returns-clause-rows
 returns-clause-rows c =

@@ -1,66 +1,31 @@
-use Rattle.std.proofs.Common.{◌≡◌, ◌+◌, ◌*◌, ◌/◌, ◌<◌, ℕ, length, arith, sym, subst, Some}
-use Rattle.std.specs.Prelude.{Option}
-use Rattle.network.specs.Ends.{last_end_below}
-use Rattle.flow_solver.specs.declared.residual.Way.{Way}
-use Rattle.flow_solver.specs.Residual.{IsResidualFrom}
-use Rattle.flow_solver.specs.Search.{IsRelaxed}
-use Rattle.flow_solver.specs.Walk.{StandsAt, ArePassedRelaxed, ends_left, end_way}
-use Rattle.flow_solver.proofs.SearchLemmas.{Improves-refl, Improves-trans, IsLastSettled-improves}
-use Rattle.flow_solver.proofs.WalkLemmas.{IsNextEnd, next_end_is, first_end_is, stands_at, passed_first, passed_more, ends_left_less}
+use Rattle.std.proofs.Common.{List, arith, length, subst, sym}
+use Rattle.flow_solver.specs.declared.star.Spoke.{Spoke}
+use Rattle.flow_solver.specs.Star.{AllNameOther, AreSpokesRelaxed}
+use Rattle.flow_solver.proofs.SearchLemmas.{IsLastSettled-improves, Improves-trans, in_range, settled_is_reached}
+use Rattle.flow_solver.proofs.StarLemmas.{ends_relaxed, named_rows}
 use Rattle.flow_solver.proofs.search.relax_ends.Goals as goal
-use Rattle.flow_solver.proofs.search.relax_ends.Goals.{In-Some, After-next_end-next}
 
-pub loop-current-init : goal.loop-current-init
-loop-current-init c =
-    let arcs = c.args.net.now.arcs in
-    let is = first_end_is c.args.net.now c.args.u c.first_end-current.result c.requires.net.lawful c.first_end-current.ensures.node c.first_end-current.ensures.no_node in
-    record {
-      queue = c.requires.queue;
-      known = c.requires.search;
-      better = Improves-refl c.args.visits.now;
-      stands = stands_at arcs c.args.u (2 * length arcs) c.first_end-current.result (omega arith) is;
-      done = passed_first c.args.rows.now c.args.flow.now c.args.potentials.now c.args.visits.now c.args.u arcs c.args.row c.first_end-current.result is;
-    }
+pub spokes_of-requires-clause-node : goal.spokes_of-requires-clause-node
+spokes_of-requires-clause-node c =
+    omega (arith, c.requires.star.sized, c.requires.search.sized, in_range c.args.visits.now c.args.u (settled_is_reached c.args.visits.now c.args.u c.requires.last.settled))
 
-pub relax-requires-clause-last : goal.relax-requires-clause-last
-relax-requires-clause-last c = IsLastSettled-improves c.requires.last c.loop-current.invariant.better
+pub spokes_of-requires-clause-rising : goal.spokes_of-requires-clause-rising
+spokes_of-requires-clause-rising c =
+    c.requires.star.rising c.args.u (omega (arith, c.requires.search.sized, in_range c.args.visits.now c.args.u (settled_is_reached c.args.visits.now c.args.u c.requires.last.settled)))
 
--- the walk stands at this end
-at_end : (c : In-Some) → StandsAt c.args.net.now.arcs c.args.u (Some c.in-Some.end)
-at_end c = subst (StandsAt c.args.net.now.arcs c.args.u) c.in-Some.is c.loop-current.invariant.stands
+pub relax_spokes-requires-clause-named : goal.relax_spokes-requires-clause-named
+relax_spokes-requires-clause-named c =
+    subst (AllNameOther c.args.rows.now c.args.row c.args.star.now.arcs) (sym c.spokes_of.ensures)
+    (named_rows c.args.net.now c.args.rows.now c.args.row (length c.args.potentials.now) c.args.u c.args.star.now c.requires.net c.requires.split c.requires.star)
 
-next_is : (c : After-next_end-next) → IsNextEnd c.args.net.now.arcs c.args.u c.in-Some.end c.next_end-next.result
-next_is c =
-    let arcs = c.args.net.now.arcs in
-    let at : StandsAt arcs c.args.u (Some c.in-Some.end) = subst (StandsAt arcs c.args.u) c.in-Some.is c.loop-current.invariant.stands in
-    let next : c.next_end-next.result ≡ last_end_below arcs c.args.u c.in-Some.end = subst (λ (v : ℕ). c.next_end-next.result ≡ last_end_below arcs v c.in-Some.end) at.1 (c.next_end-next.ensures.end at.0) in
-    subst (IsNextEnd arcs c.args.u c.in-Some.end) (sym next) (next_end_is arcs c.args.u c.in-Some.end)
+pub relax_spokes-requires-clause-last : goal.relax_spokes-requires-clause-last
+relax_spokes-requires-clause-last c = IsLastSettled-improves c.requires.last c.relax_added.ensures.improves
 
-pub loop-current-smaller : goal.loop-current-smaller
-loop-current-smaller c =
-    let less = ends_left_less c.args.net.now.arcs c.args.u c.in-Some.end c.next_end-next.result (next_is (goal.at.loop-current-smaller c).After-next_end-next) in
-    subst (λ (o : Option ℕ). ends_left c.next_end-next.result < ends_left o) (sym c.in-Some.is) less
-
-pub loop-current-preserved : goal.loop-current-preserved
-loop-current-preserved c =
-    let arcs = c.args.net.now.arcs in
-    let rows = c.args.rows.now in
-    let flow = c.args.flow.now in
-    let potentials = c.args.potentials.now in
-    let k = c.in-Some.end / 2 + c.args.row in
-    let next = next_is (goal.at.loop-current-preserved c).After-next_end-next in
-    let at = at_end (goal.at.loop-current-preserved c).In-Some in
-    let done : ArePassedRelaxed rows flow potentials c.loop-current.visits c.args.u arcs c.args.row (Some c.in-Some.end) = subst (λ (o : Option ℕ). ArePassedRelaxed rows flow potentials c.loop-current.visits c.args.u arcs c.args.row o) c.in-Some.is c.loop-current.invariant.done in
-    let here : IsResidualFrom rows flow c.args.u k (end_way c.in-Some.end) → IsRelaxed rows potentials c.relax.new.visits k (end_way c.in-Some.end) =
-    subst (λ (w : Way). IsResidualFrom rows flow c.args.u k w → IsRelaxed rows potentials c.relax.new.visits k w) c.of_end.ensures c.relax.ensures.relaxed in
-    record {
-      queue = c.relax.ensures.queue;
-      known = c.relax.ensures.search;
-      better = Improves-trans c.loop-current.invariant.better c.relax.ensures.improves;
-      stands = stands_at arcs c.args.u c.in-Some.end c.next_end-next.result (omega (arith, at.0)) next;
-      done = passed_more rows flow potentials c.loop-current.visits c.relax.new.visits c.args.u arcs c.args.row c.in-Some.end c.next_end-next.result (IsLastSettled-improves c.requires.last c.loop-current.invariant.better) c.relax.ensures.improves done here next;
-    }
+pub returns-clause-improves : goal.returns-clause-improves
+returns-clause-improves c = Improves-trans c.relax_added.ensures.improves c.relax_spokes.ensures.improves
 
 pub returns-clause-relaxed : goal.returns-clause-relaxed
 returns-clause-relaxed c =
-    subst (λ (o : Option ℕ). ArePassedRelaxed c.args.rows.now c.args.flow.now c.args.potentials.now c.loop-current.visits c.args.u c.args.net.now.arcs c.args.row o) c.in_default.is c.loop-current.invariant.done
+    ends_relaxed c.args.net.now c.args.rows.now c.args.flow.now c.args.potentials.now c.relax_added.new.visits c.relax_spokes.new.visits c.args.u c.args.row (length c.args.potentials.now) c.args.star.now
+    c.requires.net c.requires.split c.requires.star (IsLastSettled-improves c.requires.last c.relax_added.ensures.improves) c.relax_spokes.ensures.improves c.relax_added.ensures.relaxed
+    (subst (λ (spokes : List Spoke). AreSpokesRelaxed c.args.rows.now c.args.flow.now c.args.potentials.now c.relax_spokes.new.visits c.args.u c.args.row c.args.star.now.arcs spokes (length spokes)) c.spokes_of.ensures c.relax_spokes.ensures.relaxed)

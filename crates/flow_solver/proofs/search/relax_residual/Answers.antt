@@ -1,9 +1,9 @@
-use Rattle.std.proofs.Common.{List, sym, subst, rules, ◌≡◌, ◌+◌, ◌<◌, length, refl, ◌∙◌, slice_set, w64, to_z, of_z, SFits}
-use Rattle.std.proofs.lemmas.Int.{to_z-of_z}
+use Rattle.std.proofs.Common.{List, ap, sym, subst, rules, arith, ◌≡◌, ◌+◌, ◌+ℤ◌, ◌≤ℤ◌, ◌<◌, length, refl, ◌∙◌, slice_set, w64, to_z, of_z, SFits}
+use Rattle.std.proofs.lemmas.Int.{ints, to_z-of_z}
 use Rattle.flow_solver.specs.declared.visit.Visit.{Visit}
 use Rattle.flow_solver.specs.declared.visit.Mark.TheVariants.{Open}
-use Rattle.flow_solver.specs.Residual.{end_at}
-use Rattle.flow_solver.specs.Search.{IsSearch, Improves, IsRelaxed, depth_at}
+use Rattle.flow_solver.specs.Residual.{start_at, end_at}
+use Rattle.flow_solver.specs.Search.{IsSearch, Improves, IsRelaxed, depth_at, key_at, reduced_at}
 use Rattle.flow_solver.proofs.SearchLemmas.{IsStep, IsStep-put, end_of-in, last_bounds, relaxed_already, refused_at}
 use Rattle.flow_solver.proofs.search.relax_residual.Goals as goal
 use Rattle.flow_solver.proofs.search.relax_residual.Goals.{After-key_through-key, Then-takes}
@@ -30,6 +30,19 @@ overflow_add-depth c =
 
 pub improve-requires-clause-v_in : goal.improve-requires-clause-v_in
 improve-requires-clause-v_in c = end_in (goal.at.improve-requires-clause-v_in c).After-key_through-key
+
+-- the path to the end is no shorter than that to the node settled last, and so no shorter than those to the other settled nodes
+pub improve-requires-clause-not_nearer : goal.improve-requires-clause-not_nearer
+improve-requires-clause-not_nearer c =
+    let s = c.args.visits.now in
+    let fits : SFits w64 c.key_through-key.result = search rules in
+    let same : to_z w64 (of_z w64 c.key_through-key.result) ≡ c.key_through-key.result = to_z-of_z w64 c.key_through-key.result fits in
+    let key_is : c.key_through-key.result ≡ key_at s (start_at c.args.rows.now c.args.k c.args.way) +ℤ reduced_at c.args.rows.now c.args.potentials.now c.args.k c.args.way = c.key_through-key.ensures in
+    let start : key_at s (start_at c.args.rows.now c.args.k c.args.way) ≡ key_at s c.args.u = ap (key_at s) c.requires.starts in
+    let no_shorter : key_at s c.args.u ≤ℤ c.key_through-key.result = omega (arith, ints, c.requires.certified.none_below c.args.k c.args.way c.requires.residual, key_is, start) in
+    rw same (c.requires.queue.passed c.key_through-key.result
+    (omega (arith, ints, no_shorter, (last_bounds c.requires.certified c.requires.search c.requires.last).low))
+    (λ v m. omega (arith, ints, no_shorter, c.requires.last.furthest v m)))
 
 pub returns-else-takes-clause-relaxed : goal.returns-else-takes-clause-relaxed
 returns-else-takes-clause-relaxed c =

@@ -13,6 +13,7 @@ pub loop-reach-init : goal.loop-reach-init
 loop-reach-init c = record {
   certified = c.requires.certified;
   small = c.requires.small;
+  labels = c.requires.labels;
   sized = c.requires.sized;
   near = record {
     not_below_0 = omega (arith, ints);
@@ -27,39 +28,39 @@ reach_is reach e visits found =
     let fits : SFits w64 reach = omega (arith, ints, found.front.not_below_0, found.front.settled.not_far) in
     to_z-of_z w64 reach fits
 
-is_lowered : (c : After-lower) → IsLowered c.loop-reach.potentials c.lower.new.potentials c.find_deficits.new.visits c.in-Some.reach
+is_lowered : (c : After-lower) → IsLowered c.loop-reach.potentials c.lower.new.potentials c.search_on.new.visits c.in-Some.reach
 is_lowered c =
-    subst (λ (r : ℤ). IsLowered c.loop-reach.potentials c.lower.new.potentials c.find_deficits.new.visits r) (reach_is c.in-Some.reach c.loop-reach.excess c.find_deficits.new.visits c.in-Some.ensures.found) c.lower.ensures
+    subst (λ (r : ℤ). IsLowered c.loop-reach.potentials c.lower.new.potentials c.search_on.new.visits r) (reach_is c.in-Some.reach c.loop-reach.excess c.search_on.new.visits c.in-Some.ensures.found.found) c.lower.ensures
 
 pub push_found-pushes-requires-clause-state : goal.push_found-pushes-requires-clause-state
 push_found-pushes-requires-clause-state c =
     let at = (goal.at.push_found-pushes-requires-clause-state c).After-lower in
     let inv = c.loop-reach.invariant in
     record {
-      flow = subst (λ (n : ℕ). IsFlow n c.args.rows.now c.loop-reach.flow) (sym c.find_deficits.ensures.search.sized) inv.certified.flow;
-      none_below = none_below_after c.args.rows.now c.loop-reach.flow c.loop-reach.potentials c.lower.new.potentials c.find_deficits.new.visits c.in-Some.reach (to_z w64 c.loop-reach.fallen-bits) inv.certified c.find_deficits.ensures.search c.find_deficits.ensures.relaxed c.in-Some.ensures.found.front (is_lowered at) inv.near;
-      excess_sized = omega (arith, c.loop-reach.auto.excess, c.loop-reach.auto.potentials, c.requires.excess_in, c.find_deficits.ensures.search.sized);
+      flow = subst (λ (n : ℕ). IsFlow n c.args.rows.now c.loop-reach.flow) (sym c.in-Some.ensures.found.search.sized) inv.certified.flow;
+      none_below = none_below_after c.args.rows.now c.loop-reach.flow c.loop-reach.potentials c.lower.new.potentials c.search_on.new.visits c.in-Some.reach (to_z w64 c.loop-reach.fallen-bits) inv.certified c.in-Some.ensures.found.search c.in-Some.ensures.found.relaxed c.in-Some.ensures.found.found.front (is_lowered at) inv.near;
+      excess_sized = omega (arith, c.loop-reach.auto.excess, c.loop-reach.auto.potentials, c.requires.excess_in, c.in-Some.ensures.found.search.sized);
       small = inv.small;
     }
 
 pub push_found-pushes-requires-clause-potentials_in : goal.push_found-pushes-requires-clause-potentials_in
 push_found-pushes-requires-clause-potentials_in c =
     let at = (goal.at.push_found-pushes-requires-clause-potentials_in c).After-lower in
-    let same : length c.find_deficits.new.visits ≡ length c.lower.new.potentials = c.find_deficits.ensures.search.sized ∙ sym c.lower.auto.potentials in
+    let same : length c.search_on.new.visits ≡ length c.lower.new.potentials = c.in-Some.ensures.found.search.sized ∙ sym c.lower.auto.potentials in
     subst (λ (n : ℕ). ArePotentials n potential_floor c.lower.new.potentials) (sym same)
-    (potentials_after c.args.rows.now c.loop-reach.flow c.loop-reach.potentials c.lower.new.potentials c.find_deficits.new.visits c.in-Some.reach (to_z w64 c.loop-reach.fallen-bits) c.loop-reach.invariant.certified c.find_deficits.ensures.search c.find_deficits.ensures.relaxed c.in-Some.ensures.found.front (is_lowered at) c.loop-reach.invariant.near)
+    (potentials_after c.args.rows.now c.loop-reach.flow c.loop-reach.potentials c.lower.new.potentials c.search_on.new.visits c.in-Some.reach (to_z w64 c.loop-reach.fallen-bits) c.loop-reach.invariant.certified c.in-Some.ensures.found.search c.in-Some.ensures.found.relaxed c.in-Some.ensures.found.found.front (is_lowered at) c.loop-reach.invariant.near)
 
 pub push_found-pushes-requires-clause-paths : goal.push_found-pushes-requires-clause-paths
 push_found-pushes-requires-clause-paths c =
     let at = (goal.at.push_found-pushes-requires-clause-paths c).After-lower in
     record {
-      paths = paths_of_search c.find_deficits.ensures.search;
-      tight = paths_tight c.args.rows.now c.loop-reach.flow c.loop-reach.potentials c.lower.new.potentials c.find_deficits.new.visits c.in-Some.reach (to_z w64 c.loop-reach.fallen-bits) c.loop-reach.invariant.certified c.find_deficits.ensures.search c.find_deficits.ensures.relaxed c.in-Some.ensures.found.front (is_lowered at) c.loop-reach.invariant.near;
+      paths = paths_of_search c.in-Some.ensures.found.search;
+      tight = paths_tight c.args.rows.now c.loop-reach.flow c.loop-reach.potentials c.lower.new.potentials c.search_on.new.visits c.in-Some.reach (to_z w64 c.loop-reach.fallen-bits) c.loop-reach.invariant.certified c.in-Some.ensures.found.search c.in-Some.ensures.found.relaxed c.in-Some.ensures.found.found.front (is_lowered at) c.loop-reach.invariant.near;
     }
 
 pub push_found-pushes-requires-clause-can_push : goal.push_found-pushes-requires-clause-can_push
 push_found-pushes-requires-clause-can_push c = λ t found.
-    can_push c.args.rows.now c.loop-reach.flow c.loop-reach.potentials c.loop-reach.excess c.find_deficits.new.visits t c.find_deficits.ensures.search c.find_deficits.ensures.from_excess found
+    can_push c.args.rows.now c.loop-reach.flow c.loop-reach.potentials c.loop-reach.excess c.search_on.new.visits t c.in-Some.ensures.found.search c.in-Some.ensures.found.from_excess found
 
 pub overflow_add-pushes : goal.overflow_add-pushes
 overflow_add-pushes c =
@@ -72,18 +73,18 @@ pub overflow_add-fallen : goal.overflow_add-fallen
 overflow_add-fallen c =
     let at = (goal.at.overflow_add-fallen c).After-lower in
     let near = c.loop-reach.invariant.near in
-    let low = c.in-Some.ensures.found.front.not_below_0 in
-    let far = c.in-Some.ensures.found.front.settled.not_far in
-    let same = reach_is c.in-Some.reach c.loop-reach.excess c.find_deficits.new.visits c.in-Some.ensures.found in
+    let low = c.in-Some.ensures.found.found.front.not_below_0 in
+    let far = c.in-Some.ensures.found.found.front.settled.not_far in
+    let same = reach_is c.in-Some.reach c.loop-reach.excess c.search_on.new.visits c.in-Some.ensures.found.found in
     omega (arith, ints, low, far, same, near.not_below_0, near.not_above)
 
 pub keep_near-fallen-requires-clause-certified : goal.keep_near-fallen-requires-clause-certified
 keep_near-fallen-requires-clause-certified c =
     let at = (goal.at.keep_near-fallen-requires-clause-certified c).After-lower in
-    let same : length c.push_found-pushes.new.visits ≡ length c.lower.new.potentials = c.push_found-pushes.auto.visits ∙ c.find_deficits.ensures.search.sized ∙ sym c.lower.auto.potentials in
+    let same : length c.push_found-pushes.new.visits ≡ length c.lower.new.potentials = c.push_found-pushes.auto.visits ∙ c.in-Some.ensures.found.search.sized ∙ sym c.lower.auto.potentials in
     record {
       flow = subst (λ (n : ℕ). IsFlow n c.args.rows.now c.push_found-pushes.new.flow) same c.push_found-pushes.ensures.state.flow;
-      potentials = potentials_after c.args.rows.now c.loop-reach.flow c.loop-reach.potentials c.lower.new.potentials c.find_deficits.new.visits c.in-Some.reach (to_z w64 c.loop-reach.fallen-bits) c.loop-reach.invariant.certified c.find_deficits.ensures.search c.find_deficits.ensures.relaxed c.in-Some.ensures.found.front (is_lowered at) c.loop-reach.invariant.near;
+      potentials = potentials_after c.args.rows.now c.loop-reach.flow c.loop-reach.potentials c.lower.new.potentials c.search_on.new.visits c.in-Some.reach (to_z w64 c.loop-reach.fallen-bits) c.loop-reach.invariant.certified c.in-Some.ensures.found.search c.in-Some.ensures.found.relaxed c.in-Some.ensures.found.found.front (is_lowered at) c.loop-reach.invariant.near;
       none_below = c.push_found-pushes.ensures.state.none_below;
     }
 
@@ -91,14 +92,14 @@ pub keep_near-fallen-requires-clause-at_least : goal.keep_near-fallen-requires-c
 keep_near-fallen-requires-clause-at_least c = λ v.
     (let at = (goal.at.keep_near-fallen-requires-clause-at_least c).After-lower in
     let near = c.loop-reach.invariant.near in
-    let further = fallen_further c.args.rows.now c.loop-reach.flow c.loop-reach.potentials c.lower.new.potentials c.find_deficits.new.visits c.in-Some.reach (to_z w64 c.loop-reach.fallen-bits) c.loop-reach.invariant.certified c.find_deficits.ensures.search c.find_deficits.ensures.relaxed c.in-Some.ensures.found.front (is_lowered at) near v in
-    let high = reach_high c.args.rows.now c.loop-reach.flow c.loop-reach.potentials c.lower.new.potentials c.find_deficits.new.visits c.in-Some.reach (to_z w64 c.loop-reach.fallen-bits) c.loop-reach.invariant.certified c.find_deficits.ensures.search c.find_deficits.ensures.relaxed c.in-Some.ensures.found.front (is_lowered at) near in
-    let low = c.in-Some.ensures.found.front.not_below_0 in
-    omega (arith, ints, further, high, low, near.not_below_0, near.not_above, reach_is c.in-Some.reach c.loop-reach.excess c.find_deficits.new.visits c.in-Some.ensures.found))
+    let further = fallen_further c.args.rows.now c.loop-reach.flow c.loop-reach.potentials c.lower.new.potentials c.search_on.new.visits c.in-Some.reach (to_z w64 c.loop-reach.fallen-bits) c.loop-reach.invariant.certified c.in-Some.ensures.found.search c.in-Some.ensures.found.relaxed c.in-Some.ensures.found.found.front (is_lowered at) near v in
+    let high = reach_high c.args.rows.now c.loop-reach.flow c.loop-reach.potentials c.lower.new.potentials c.search_on.new.visits c.in-Some.reach (to_z w64 c.loop-reach.fallen-bits) c.loop-reach.invariant.certified c.in-Some.ensures.found.search c.in-Some.ensures.found.relaxed c.in-Some.ensures.found.found.front (is_lowered at) near in
+    let low = c.in-Some.ensures.found.found.front.not_below_0 in
+    omega (arith, ints, further, high, low, near.not_below_0, near.not_above, reach_is c.in-Some.reach c.loop-reach.excess c.search_on.new.visits c.in-Some.ensures.found.found))
 
 falls : (c : After-push_found-pushes) → left c.push_found-pushes.new.excess < left c.loop-reach.excess
 falls c =
-    let target = c.in-Some.ensures.found.found in
+    let target = c.in-Some.ensures.found.found.found in
     let some = c.push_found-pushes.ensures.some target.0 target.1 in
     omega (arith, some, c.push_found-pushes.ensures.pushes.count)
 
@@ -112,6 +113,7 @@ loop-reach-preserved c =
     record {
       certified = c.keep_near-fallen.ensures.certified;
       small = c.push_found-pushes.ensures.state.small;
+      labels = c.keep_near-fallen.ensures.labels;
       sized = c.keep_near-fallen.ensures.sized;
       near = rw same c.keep_near-fallen.ensures.near;
       pushed = ArePushes-more c.loop-reach.invariant.pushed c.push_found-pushes.ensures.pushes;

@@ -1,6 +1,7 @@
 use Rattle.std.proofs.Common.{length}
 use Rattle.flow_solver.specs.Residual.{IsCertified}
 use Rattle.flow_solver.specs.Push.{ArePushes, left, AreSmall}
+use Rattle.flow_solver.specs.Labels.{IsLabelsFor}
 use Rattle.flow_solver.specs.Queue.{IsQueueFor}
 use Rattle.flow_solver.specs.Settle.{IsNear}
 use Rattle.flow_solver.proofs.settle.push_all.Given as goal
@@ -9,6 +10,7 @@ abbrev pub invariant-loop-reach : goal.invariant-loop-reach
 invariant-loop-reach l = record {
   certified : IsCertified l.rows l.flow l.potentials;
   small : AreSmall l.excess;
+  labels : IsLabelsFor (length l.potentials) l.labels;
   sized : IsQueueFor (length l.potentials) l.queue;
   near : IsNear l.potentials l.fallen;
   pushed : ArePushes l.rows l.pushes l.initial.flow l.initial.excess l.flow l.excess;

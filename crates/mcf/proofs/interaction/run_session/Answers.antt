@@ -1,7 +1,8 @@
-use Rattle.std.proofs.Common.{◌-◌, rules}
-use Rattle.dimacs_io.proofs.DeviceLemmas.{Appends-from_ok, AppendsBeginning-from_err}
+use Rattle.std.proofs.Common.{◌∙◌, ◌+◌, ◌-◌, ℕ, ap, rules}
+use Rattle.dimacs_io.proofs.DeviceLemmas.{Appends-from_ok, AppendsBeginning-from_err, CountsFailure-from_err, CountsFailure-from_ok}
+use Rattle.mcf.specs.Check.{write_failures}
 use Rattle.mcf.specs.Session.{Opens}
-use Rattle.mcf.proofs.SessionLemmas.{SessionTells-problem, SessionTells-opening, SessionTells-commands}
+use Rattle.mcf.proofs.SessionLemmas.{SessionTells-problem, SessionTells-opening, SessionTells-commands, write_counted}
 use Rattle.mcf.proofs.interaction.run_session.Goals as goal
 
 pub returns-in-Err-clause-session : goal.returns-in-Err-clause-session
@@ -29,3 +30,11 @@ returns-clause-session g c =
     let served = c.serve_commands.ensures.served in
     SessionTells-commands c.serve_commands.result c.args.extra c.in-Ok.problem opening _ _ read.0 _ _ _ _ served.0 _ _ _ _ _ read.1 read.2.0 read.2.1 opens
     (Appends-from_ok c.tell_opening.result _ _ _ (search rules) c.tell_opening.ensures.bytes) served.1 served.2
+
+pub returns-then-is_err-clause-out_failed : goal.returns-then-is_err-clause-out_failed
+returns-then-is_err-clause-out_failed g c = CountsFailure-from_err c.tell_opening.result _ _ (search rules) c.tell_opening.ensures.failed
+
+pub returns-clause-out_failed : goal.returns-clause-out_failed
+returns-clause-out_failed g c =
+    let opened = CountsFailure-from_ok c.tell_opening.result _ _ (search rules) c.tell_opening.ensures.failed in
+    write_counted c.serve_commands.result _ _ _ _ c.serve_commands.ensures.failed ∙ ap (λ (n : ℕ). n + write_failures c.serve_commands.result) opened

@@ -1,6 +1,6 @@
-use Rattle.std.proofs.Common.{rules}
-use Rattle.dimacs_io.proofs.DeviceLemmas.{Appends-from_ok, AppendsBeginning-from_err}
-use Rattle.mcf.proofs.SolveLemmas.{SolveTells-problem, SolveTells-stopped, SolveTells-solved}
+use Rattle.std.proofs.Common.{◌∙◌, rules}
+use Rattle.dimacs_io.proofs.DeviceLemmas.{Appends-from_ok, AppendsBeginning-from_err, CountsFailure-from_err, CountsFailure-from_ok}
+use Rattle.mcf.proofs.SolveLemmas.{SolveTells-problem, SolveTells-stopped, SolveTells-solved, written_count}
 use Rattle.mcf.proofs.solve.solve.Goals as goal
 
 pub returns-in-Err-clause-solve : goal.returns-in-Err-clause-solve
@@ -24,3 +24,11 @@ returns-clause-solve g c =
     (record { instance_is = begun.instance; answered = begun.answered })
     (Appends-from_ok c.tell_solution.result _ _ _ (search rules) c.tell_solution.ensures.bytes) in
     rw (c.end_by.ensures, c.verdict.ensures.value) told
+
+pub returns-then-is_err-clause-out_failed : goal.returns-then-is_err-clause-out_failed
+returns-then-is_err-clause-out_failed g c = CountsFailure-from_err c.tell_solution.result _ _ (search rules) c.tell_solution.ensures.failed
+
+pub returns-clause-out_failed : goal.returns-clause-out_failed
+returns-clause-out_failed g c =
+    let counted = CountsFailure-from_ok c.tell_solution.result _ _ (search rules) c.tell_solution.ensures.failed in
+    rw c.end_by.ensures (counted ∙ written_count c.verdict.result _)

@@ -1,0 +1,8 @@
+use Rattle.flow_solver.specs.Star.{AllSpokes}
+use Rattle.flow_solver.specs.Walk.{IsEndSpent}
+use Rattle.flow_solver.proofs.augment.covered_hop.Given as goal
+
+abbrev pub invariant-loop-spoke : goal.invariant-loop-spoke
+invariant-loop-spoke l = record {
+  spent : AllSpokes l.arcs l.spokes l.spoke-index (IsEndSpent l.rows l.potentials l.flow l.visits l.spent l.node l.row);
+}

@@ -1,0 +1,15 @@
+use Rattle.std.proofs.Common.{◌≤ℤ◌}
+use Rattle.flow_solver.specs.Labels.{Opens, IsEndNoDearer}
+use Rattle.flow_solver.specs.Walk.{AllPassed, StandsAt, ends_left}
+use Rattle.flow_solver.proofs.labels.by_added.Given as goal
+
+abbrev pub invariant-loop-current : goal.invariant-loop-current
+invariant-loop-current l = record {
+  opens : Opens l.rows l.flow l.potentials l.visits l.v l.best;
+  falls : l.best.key ≤ℤ l.fn.first.key;
+  stands : StandsAt l.net.arcs l.v l.current;
+  done : AllPassed l.net.arcs l.v l.current (IsEndNoDearer l.rows l.flow l.potentials l.visits l.v l.best l.row);
+}
+
+abbrev pub decreases-loop-current : goal.decreases-loop-current
+decreases-loop-current l = ends_left l.current

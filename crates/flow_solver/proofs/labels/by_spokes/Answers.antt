@@ -1,0 +1,16 @@
+use Rattle.std.proofs.Common.{arith}
+use Rattle.std.proofs.lemmas.Int.{ints}
+use Rattle.flow_solver.specs.Labels.{IsEndNoDearer}
+use Rattle.flow_solver.proofs.StarLemmas.{one_spoke}
+use Rattle.flow_solver.proofs.labels.by_spokes.Goals as goal
+
+pub loop-spoke-preserved : goal.loop-spoke-preserved
+loop-spoke-preserved c = record {
+  opens = c.by_spoke-best.ensures.opens;
+  falls = omega (arith, ints, c.by_spoke-best.ensures.falls, c.loop-spoke.invariant.falls);
+  done = one_spoke c.args.arcs c.args.spokes.now c.loop-spoke.spoke-index (IsEndNoDearer c.args.rows.now c.args.flow.now c.args.potentials.now c.args.visits.now c.args.v c.by_spoke-best.result c.args.row)
+      (λ i lt covered hop. omega (arith, ints, c.by_spoke-best.ensures.falls, c.loop-spoke.invariant.done i lt covered hop)) c.by_spoke-best.ensures.no_dearer;
+}
+
+pub returns-clause-no_dearer : goal.returns-clause-no_dearer
+returns-clause-no_dearer c = λ i lt covered. c.loop-spoke.invariant.done i (omega arith) covered

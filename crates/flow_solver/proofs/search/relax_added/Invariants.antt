@@ -1,0 +1,16 @@
+use Rattle.flow_solver.specs.Queue.{IsQueueOf}
+use Rattle.flow_solver.specs.Search.{IsSearch, Improves}
+use Rattle.flow_solver.specs.Walk.{StandsAt, ArePassedRelaxed, ends_left}
+use Rattle.flow_solver.proofs.search.relax_added.Given as goal
+
+abbrev pub invariant-loop-current : goal.invariant-loop-current
+invariant-loop-current l = record {
+  queue : IsQueueOf l.visits l.queue;
+  known : IsSearch l.rows l.flow l.potentials l.visits;
+  better : Improves l.initial.visits l.visits;
+  stands : StandsAt l.net.arcs l.u l.current;
+  done : ArePassedRelaxed l.rows l.flow l.potentials l.visits l.u l.net.arcs l.row l.current;
+}
+
+abbrev pub decreases-loop-current : goal.decreases-loop-current
+decreases-loop-current l = ends_left l.current
