@@ -1,12 +1,13 @@
 -- What the end of all searches tells of the instance.
-use Rattle.std.proofs.Common.{◌≡◌, ℕ, All, ◌++◌, replicate, zero, suc, ◌+◌, ◌-◌, ◌*◌, ◌<◌, ◌≤◌, ℤ, pos, negsuc, neg_ℤ, ◌≤ℤ◌, List, [], ◌∷◌, length, drop, refl, sym, ap, subst, ◌∙◌, inl, inr, arith, Bool, true, false, cond, not, ◌&&◌}
+use Rattle.std.proofs.Common.{◌≡◌, ℕ, All, ◌++◌, replicate, zero, suc, ◌+◌, ◌-◌, ◌*◌, ◌<◌, ◌≤◌, ℤ, pos, negsuc, neg_ℤ, ◌≤ℤ◌, ◌-ℤ◌, List, [], ◌∷◌, length, drop, None, refl, sym, ap, subst, ◌∙◌, inl, inr, arith, Bool, true, false, cond, not, ◌&&◌}
 use Rattle.std.specs.Prelude.{slice_index_or}
-use Rattle.std.proofs.lemmas.Int.{ints}
+use Rattle.std.specs.Int.{w64}
+use Rattle.std.proofs.lemmas.Int.{ints, int_wrap_fits, fits_signed_from_abs}
 use Rattle.std.proofs.lemmas.Bool.{cases_lt}
 use Rattle.std.proofs.lemmas.List.Sums.{sum_by-cons}
 use Rattle.dimacs_text.specs.declared.problem.ArcRow.{ArcRow}
-use Rattle.network.specs.Flow.{AllWithinBounds, IsCertifiedFlow, IsGreatestPotential, surplus_of, IsLeastGreatestSurplus, IsLeastGreatestShortfall}
-use Rattle.network.specs.Instance.{Demand, Supplies, Terminals, Sides, Instance, IsLawful, IsLegal, ArcFits, IsCertified as IsCertifiedBy, IsBreach, at_node, is_marked, reduced, reduced_arcs, reduced_flow, numbered_flow, worth}
+use Rattle.network.specs.Flow.{AllWithinBounds, IsCertifiedFlow, IsGreatestPotential, net, surplus_of, total_cost, IsLeastGreatestSurplus, IsLeastGreatestShortfall}
+use Rattle.network.specs.Instance.{Demand, Supplies, Terminals, Sides, Instance, IsLawful, IsLegal, ArcFits, IsCertified as IsCertifiedBy, IsBreach, at_node, is_marked, reduced, return_arc_of, reduced_arcs, reduced_flow, numbered_flow, worth}
 use Rattle.std.proofs.lemmas.List.Elements.{All-from_recursion}
 use Rattle.std.specs.List.{AllByRecursion}
 use Rattle.dimacs_text.specs.Lawful.{IsLawfulRow}
@@ -17,12 +18,14 @@ use Rattle.flow_solver.specs.declared.verdict.Verdict.{Verdict}
 use Rattle.flow_solver.specs.declared.verdict.Verdict.TheVariants.{Best, Infeasible}
 use Rattle.flow_solver.specs.Limits.{supply_limit, entry_limit, cap_sum_limit}
 use Rattle.flow_solver.specs.Residual.{IsCertified, AreGreatest, ArePathsAbove, number_at, arc_at}
-use Rattle.flow_solver.specs.Push.{IsExcess, AreSupplies, positive_part, left, cap_total}
+use Rattle.flow_solver.specs.Push.{AreSmall, IsExcess, AreSupplies, positive_part, left, cap_total}
 use Rattle.flow_solver.specs.Cut.{in_set, sum_in, sum_leaving, sum_entering, lack, IsChosenSet}
 use Rattle.flow_solver.specs.Nodes.{held}
 use Rattle.flow_solver.specs.Answer.{IsBestMoment, IsInfeasibleMoment, IsVerdict, IsChosenBreach, IsChosenCut, IsJudged, worth_by}
+use Rattle.flow_solver.specs.Balance.{IsWrappedExcess}
 use Rattle.flow_solver.specs.Desk.{IsAnswered, IsFlow}
 use Rattle.flow_solver.specs.Moment.{Moment, IsReturnVerdict, TellsReturn, TellsReturnBy, VerdictFits, returned, with_return}
+use Rattle.flow_solver.proofs.BalanceLemmas.{IsExactExcess, excess_exact}
 use Rattle.flow_solver.proofs.FlowLaws.{AgreesAt, bounds_from, certified_same, certified_flow, greatest_flow}
 use Rattle.flow_solver.proofs.CutLaws.{IsMarkedBy, least_surplus, least_shortfall}
 use Rattle.flow_solver.proofs.PushLaws.{legal_flow, left_is}
@@ -57,6 +60,24 @@ worth_is : (n : ℕ) (D : Demand) (arcs : List ArcRow) (room : ℕ) (y : List �
 worth_is n (Supplies s) arcs room y same = refl
 worth_is n (Terminals source sink) arcs room y same = ap (λ (z : List ℤ). number_at z 0) same
 worth_is n (Sides marks) arcs room y same = refl
+
+-- without a return arc it is the cost
+pub worth_is_cost : (D : Demand) (arcs : List ArcRow) (y : List ℤ) → return_arc_of D ≡ None → worth_by D arcs y ≡ total_cost arcs y
+worth_is_cost (Supplies s) arcs y none = refl
+worth_is_cost (Terminals source sink) arcs y none = cc
+worth_is_cost (Sides marks) arcs y none = refl
+
+-- ---- the excess
+
+-- an exact excess that is small is what it wraps to
+pub wrapped_small : (arcs : List ArcRow) (supply : ℕ → ℤ) (x e : List ℤ) → IsExcess arcs supply x e → AreSmall e → IsWrappedExcess arcs supply x e
+wrapped_small arcs supply x e is small v =
+    let z = supply v -ℤ net arcs x v in
+    is v ∙ sym (int_wrap_fits w64 z (fits_signed_from_abs w64 z (omega (arith, ints, is v, small.low v, small.high v))))
+
+-- the wrapped excess of a certified flow is exact
+pub exact_of_certified : (I : Instance) (rows : List ArcRow) (x e : List ℤ) (q : ℕ → ℤ) → IsLawful I → rows ≡ (reduced I).arcs → IsCertifiedFlow (reduced I) x q → IsWrappedExcess rows (held I.nodes (reduced I).supply) x e → IsExactExcess rows (held I.nodes (reduced I).supply) x e
+exact_of_certified I rows x e q lawful same certified is = excess_exact I rows x e lawful same (subst (λ (r : List ArcRow). AllWithinBounds r x) (sym same) certified.bounds) is
 
 -- ---- the end of all searches
 

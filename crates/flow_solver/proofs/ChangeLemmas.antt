@@ -9,7 +9,7 @@ use Rattle.dimacs_text.specs.declared.problem.ArcRow.{ArcRow}
 use Rattle.dimacs_text.specs.Lawful.{IsLawfulRow, IsWithin}
 use Rattle.dimacs_text.specs.declared.problem.TheConstants.{SUPPLY_LIMIT}
 use Rattle.dimacs_text.specs.declared.problem.Kind.TheVariants.{Min}
-use Rattle.network.specs.Flow.{MinCost, AllEndsAreNodes, net, total_excess, AllWithinBounds, FollowsSign, IsCertifiedFlow, IsPotential}
+use Rattle.network.specs.Flow.{MinCost, AllEndsAreNodes, net, total_excess, IsCertifiedFlow, IsPotential}
 use Rattle.network.specs.Flow as flow
 use Rattle.network.specs.Instance.{Demand, Supplies, Terminals, Sides, Instance, IsLawful, ArcFits, DemandFits, at_node, kind_of, reduced, reduced_arcs, reduced_supply, with_supply}
 use Rattle.network.proofs.Reduction.{reduced_ends}
@@ -153,7 +153,7 @@ pub rows_kept : (I : Instance) (v : ℕ) (x : ℤ) → (reduced (supplied I v x)
 rows_kept I v x = arcs_supplied I.demand I.arcs v x
 
 -- the supply of the node alone changes
-supply_at : (n : ℕ) (D : Demand) (v : ℕ) (x : ℤ) → kind_of D ≡ Min → DemandFits n D → IsNodeOf n v → (w : ℕ) → IsNodeOf n w → reduced_supply (with_supply D v x) w ≡ reduced_supply D w +ℤ at_one v (x -ℤ reduced_supply D v) w
+pub supply_at : (n : ℕ) (D : Demand) (v : ℕ) (x : ℤ) → kind_of D ≡ Min → DemandFits n D → IsNodeOf n v → (w : ℕ) → IsNodeOf n w → reduced_supply (with_supply D v x) w ≡ reduced_supply D w +ℤ at_one v (x -ℤ reduced_supply D v) w
 supply_at n (Supplies s) v x kind fits node w at = elim (cases_eq w v) [
   | inl same ↦ (let here : at_node (slice_set s (v - 1) x) w ≡ x = ap (at_node (slice_set s (v - 1) x)) same ∙ get_or-set_same s (v - 1) x (pos 0) (omega (arith, fits.0, node.0, node.1)) in
       let one : at_one v (x -ℤ at_node s v) w ≡ x -ℤ at_node s v = ap (at_one v (x -ℤ at_node s v)) same ∙ at_same v (x -ℤ at_node s v) in
@@ -165,6 +165,17 @@ supply_at n (Supplies s) v x kind fits node w at = elim (cases_eq w v) [
 ]
 supply_at n (Terminals source sink) v x kind fits node w at = cc
 supply_at n (Sides marks) v x kind fits node w at = cc
+
+-- so does the table's entry alone
+pub held_supplied : (I : Instance) (u : ℕ) (z : ℤ) → IsLawful I → kind_of I.demand ≡ Min → IsNodeOf I.nodes u → (v : ℕ) → held I.nodes (reduced (supplied I u z)).supply v ≡ held I.nodes (reduced I).supply v +ℤ at_one u (z -ℤ held I.nodes (reduced I).supply u) v
+held_supplied I u z lawful kind node v =
+    let here : at_one u (z -ℤ held I.nodes (reduced I).supply u) v ≡ at_one u (z -ℤ (reduced I).supply u) v = ap (λ (s : ℤ). at_one u (z -ℤ s) v) (held_node I.nodes (reduced I).supply u node) in
+    elim (is_node_or_not I.nodes v) [
+      | inl at ↦ (let moved = supply_at I.nodes I.demand u z kind lawful.demand node v at in
+          omega (arith, ints, here, moved, held_node I.nodes (reduced I).supply v at, held_node I.nodes (reduced (supplied I u z)).supply v at))
+      | inr none ↦ (let other = at_other u (z -ℤ (reduced I).supply u) v (λ same. none (subst (IsNodeOf I.nodes) (sym same) node)) in
+          omega (arith, ints, here, other, held_other I.nodes (reduced I).supply v none, held_other I.nodes (reduced (supplied I u z)).supply v none))
+    ]
 
 pub excess_supplied : (I : Instance) (v : ℕ) (z : ℤ) (x : List ℤ) → IsLawful I → kind_of I.demand ≡ Min → IsNodeOf I.nodes v → IsWithin SUPPLY_LIMIT z
     → total_excess (reduced (supplied I v z)) x ≤ℤ (total_excess (reduced I) x +ℤ pos (unsigned_abs (z -ℤ (reduced I).supply v)))

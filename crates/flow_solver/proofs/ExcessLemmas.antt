@@ -3,12 +3,11 @@ use Rattle.flow_solver.specs.Limits.{cap_sum_limit}
 use Rattle.std.proofs.Common.{◌≡◌, ℕ, zero, suc, ◌+◌, ◌<◌, ◌≤◌, ℤ, pos, negsuc, ◌+ℤ◌, ◌≤ℤ◌, List, [], ◌∷◌, length, take, add-one, refl, sym, subst, ◌∙◌, inl, inr, arith, Bool, true, false, cond, eqb}
 use Rattle.std.proofs.lemmas.Int.{ints}
 use Rattle.std.proofs.lemmas.Bool.{cases_eq}
-use Rattle.std.proofs.lemmas.List.{length-take-le, get_or-take}
-use Rattle.std.proofs.lemmas.List.Sums.{sum_by-cons, sum_by-take-le}
+use Rattle.std.proofs.lemmas.List.Sums.{sum_by-cons}
 use Rattle.dimacs_text.specs.declared.problem.ArcRow.{ArcRow}
 use Rattle.flow_solver.specs.Residual.{IsFlow, number_at, arc_at}
 use Rattle.network.specs.Flow.{outflow, inflow}
-use Rattle.flow_solver.specs.Push.{IsExcess, at_node, IsTransfer, AreSmall, positive_part, left, cap_total, AreSupplies}
+use Rattle.flow_solver.specs.Push.{IsExcess, at_node, AreSmall, positive_part, left, cap_total, AreSupplies}
 use Rattle.flow_solver.proofs.PushLemmas.{at_same, at_other}
 
 pub at_node_bounds : (u : ℕ) (m : ℤ) (v : ℕ) → pos 0 ≤ℤ m → (pos 0 ≤ℤ at_node u m v) × (at_node u m v ≤ℤ m)
@@ -67,20 +66,6 @@ flow_in-more [] x k v lt sized = absurd (omega arith)
 flow_in-more (a ∷ arcs) [] k v lt sized = absurd (omega arith)
 flow_in-more (a ∷ arcs) (y ∷ x) zero v lt sized = omega (arith, ints)
 flow_in-more (a ∷ arcs) (y ∷ x) (suc k) v lt sized = rw add-one (omega (arith, ints, (rw add-one at (flow_in-more arcs x k v (omega arith) (omega arith)))))
-
--- the same of the first k arcs
-pub small_part : (nodes : ℕ) (arcs : List ArcRow) (supply : ℕ → ℤ) (x e : List ℤ) (k : ℕ) → k ≤ length arcs → IsFlow nodes arcs x → AreSupplies supply → cap_total arcs ≤ cap_sum_limit → IsExcess (take k arcs) supply (take k x) e → AreSmall e
-small_part nodes arcs supply x e k le flow supplies caps is =
-    small_within nodes (take k arcs) supply (take k x) e
-    (omega (arith, length-take-le k x (omega (arith, flow.same_length)), length-take-le k arcs le))
-    (λ j lt. (let below : j < k = omega (arith, length-take-le k arcs le) in
-    let there = caps_of_flow flow j (omega arith) in
-    rw (get_or-take k x j (pos 0) below, get_or-take k arcs j _ below) there))
-    supplies (omega (arith, sum_by-take-le (λ (a : ArcRow). positive_part a.cap) arcs k)) is
-
-pub excess_more : (nodes : ℕ) (arcs : List ArcRow) (supply : ℕ → ℤ) (x e f : List ℤ) (k : ℕ) → k < length arcs → IsFlow nodes arcs x → IsExcess (take k arcs) supply (take k x) e → IsTransfer (arc_at arcs k).tail (arc_at arcs k).head (number_at x k) e f → IsExcess (take (k + 1) arcs) supply (take (k + 1) x) f
-excess_more nodes arcs supply x e f k lt flow is moved v =
-    omega (arith, ints, is v, moved.by_node v, flow_out-more arcs x k v lt flow.same_length, flow_in-more arcs x k v lt flow.same_length)
 
 -- where one node gains at most m, what lies in excess grows by at most m
 pub left-gain : (e f : List ℤ) (u : ℕ) (m : ℕ) → length f ≡ length e → ((v : ℕ) → number_at f v ≤ℤ (number_at e v +ℤ at_node u (pos m) v)) → left f ≤ left e + m

@@ -1,5 +1,5 @@
 -- What the limits of an instance give the tables of a solver.
-use Rattle.std.proofs.Common.{◌≡◌, ℕ, zero, suc, ◌+◌, ◌-◌, ◌*◌, ◌<◌, ◌≤◌, ℤ, pos, negsuc, neg_ℤ, ◌≤ℤ◌, List, [], ◌∷◌, length, refl, sym, ap, subst, inl, inr, arith, Bool, true, false, cond, unsigned_abs, ◌*ℤ◌, ◌^◌, None, ◌++◌, drop, map, replicate}
+use Rattle.std.proofs.Common.{◌≡◌, ℕ, zero, suc, ◌+◌, ◌-◌, ◌*◌, ◌<◌, ◌≤◌, ℤ, pos, negsuc, neg_ℤ, ◌≤ℤ◌, List, [], ◌∷◌, length, refl, sym, ap, subst, inl, inr, arith, Bool, true, false, cond, ◌++◌, drop, map, replicate}
 use Rattle.std.specs.Prelude.{int_lt}
 use Rattle.std.specs.List.{AllByRecursion, AllZip}
 use Rattle.std.proofs.lemmas.Int.{ints}
@@ -11,9 +11,8 @@ use Rattle.dimacs_text.specs.declared.problem.ArcRow.{ArcRow}
 use Rattle.dimacs_text.specs.Lawful.{IsLawfulRow, IsWithin}
 use Rattle.network.specs.Flow.{AllWithinBounds, FollowsSign, IsCertifiedFlow, IsPotential}
 use Rattle.flow_solver.specs.Moment.{start}
-use Rattle.network.specs.Instance.{Demand, Supplies, Terminals, Sides, Instance, IsLawful, return_arc_of, ArcFits, DemandFits, at_node, is_marked, return_arc, reduced, reduced_arcs, reduced_supply, numbered_flow}
+use Rattle.network.specs.Instance.{Demand, Supplies, Terminals, Sides, Instance, IsLawful, ArcFits, DemandFits, at_node, is_marked, return_arc, reduced, reduced_arcs, reduced_supply, numbered_flow}
 use Rattle.network.proofs.Reduction.{rows_of, reduced_ends}
-use Rattle.network.proofs.Answering.{costs_small}
 use Rattle.flow_solver.specs.declared.residual.Way.{Way}
 use Rattle.flow_solver.specs.declared.residual.Way.TheVariants.{Forward, Backward}
 use Rattle.flow_solver.specs.Limits.{entry_limit, row_limit, cap_sum_limit, supply_limit, label_floor}
@@ -169,12 +168,6 @@ certified_of I x p lawful sized idle certified =
 pub range_of_labels : (I : Instance) (p : List ℤ) → IsLawful I → length p ≡ I.nodes + 1 → ArePathsAbove (reduced I).arcs p → ((v : ℕ) → number_at p v ≤ℤ pos 0) → (v : ℕ) → IsPotential (number_at p v)
 range_of_labels I p lawful sized above low v =
     (omega (arith, ints, above 1000000000 I.nodes (cheap_instance I lawful) sized v, lawful.nodes.1), low v)
-
--- what each arc of the reduced instance costs, where there is no return arc
-pub terms_small : (n : ℕ) (D : Demand) (arcs : List ArcRow) (flow : List ℤ) → return_arc_of D ≡ None → AllByRecursion (λ arc. IsLawfulRow n arc × ArcFits D arc) arcs → AllWithinBounds (reduced_arcs D arcs) flow → AllZip (λ arc x. unsigned_abs (arc.cost *ℤ x) ≤ 10 ^ 21) (reduced_arcs D arcs) flow
-terms_small n (Supplies s) arcs flow none rows bounds = costs_small n (Supplies s) arcs flow rows bounds
-terms_small n (Terminals source sink) arcs flow none rows bounds = cc
-terms_small n (Sides marks) arcs flow none rows bounds = costs_small n (Sides marks) arcs flow rows bounds
 
 -- ---- the rows of the tables, and the start flow
 

@@ -21,3 +21,11 @@ pub mod StarLemmas
 pub mod ChangeLemmas
 pub mod EditRows
 pub mod PartLemmas
+pub mod TrailLemmas
+pub mod TouchedLemmas
+pub mod TurnLemmas
+pub mod NotedLemmas
+pub mod DeskLemmas
+pub mod BalanceLemmas
+pub mod CarryLemmas
+pub mod ApartLemmas

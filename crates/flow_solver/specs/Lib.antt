@@ -5,13 +5,17 @@ pub mod Search
 pub mod Push
 pub mod Settle
 pub mod Cut
+pub mod Touched
 pub mod Heap
 pub mod Edit
 pub mod Queue
+pub mod Trail
 pub mod Labels
+pub mod Scratch
 pub mod Walk
 pub mod Star
 pub mod Answer
 pub mod Moment
 pub mod Desk
 pub mod Part
+pub mod Balance

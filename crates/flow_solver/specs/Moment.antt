@@ -5,15 +5,16 @@ use Rattle.network.specs.Instance.{Demand, Supplies, Terminals, Sides, Instance,
 use Rattle.network.specs.declared.TheConstants.{RETURN_CAP}
 use Rattle.flow_solver.specs.declared.verdict.Verdict.{Verdict}
 use Rattle.flow_solver.specs.declared.verdict.Verdict.TheVariants.{Best, Infeasible}
-use Rattle.flow_solver.specs.declared.visit.Visit.{Visit}
-use Rattle.flow_solver.specs.declared.labels.Labels.{Labels}
-use Rattle.flow_solver.specs.declared.queue.Queue.{Queue}
+use Rattle.flow_solver.specs.declared.balance.Balance.{Balance}
+use Rattle.flow_solver.specs.declared.ledger.Ledger.{Ledger}
+use Rattle.flow_solver.specs.declared.scratch.Scratch.{Scratch}
 use Rattle.flow_solver.specs.declared.star.Star.{Star}
+use Rattle.flow_solver.specs.Balance.{IsBalanceOf}
 use Rattle.flow_solver.specs.Nodes.{IsIdleEntry}
 use Rattle.flow_solver.specs.Residual.{number_at}
-use Rattle.flow_solver.specs.Labels.{IsLabelsFor}
-use Rattle.flow_solver.specs.Queue.{IsQueueFor}
+use Rattle.flow_solver.specs.Scratch.{IsScratchFor}
 use Rattle.flow_solver.specs.Star.{Covers}
+use Rattle.flow_solver.specs.Touched.{IsLedger, kept_in}
 
 -- an instance, a flow of its reduction, a potential for each node, what is told of the instance, and a mark for each node
 pub record Moment : Type 0 where
@@ -30,21 +31,41 @@ pub record IsSized (m : Moment) : Type 0 where
   pub one_potential : length m.potentials ≡ m.instance.nodes
   pub one_mark : length m.cut ≡ m.instance.nodes
 
+-- what was kept of another moment of the tables: its flow, potentials and marks
+pub record Kept : Type 0 where
+  pub flow : List ℤ
+  pub potentials : List ℤ
+  pub cut : List Bool
+
+abbrev pub kept_of : Moment → Kept
+kept_of m = record { flow = m.flow; potentials = m.potentials; cut = m.cut }
+
+-- what contracts see of a solver: the moment that it holds, and what it kept
+pub record Bench : Type 0 where
+  pub moment : Moment
+  pub kept : Kept
+
+-- a ledger of nodes: one entry for each node and one for no node, now and when it was kept
+pub record IsOfNodes {T : Type 0} (nodes : ℕ) (l : Ledger T) : Type 0 where
+  pub ledger : IsLedger l
+  pub entries_in : length l.entries.items ≡ nodes + 1
+  pub size_is : l.size ≡ nodes + 1
+
 -- one entry for each row, one for each node and one for no node; the rows are the arcs of the reduced instance, and the star holds the ends of its first arcs
-pub record AreTables (I : Instance) (star : Star) (rows : List ArcRow) (flow potentials excess : List ℤ) (cut : List Bool) (visits : List Visit) (labels : Labels) (queue : Queue) (rows_room flow_room : ℕ) : Type 0 where
+pub record AreTables (I : Instance) (star : Star) (rows : List ArcRow) (flow potentials : Ledger ℤ) (balance : Balance) (cut : Ledger Bool) (scratch : Scratch) (rows_room : ℕ) : Type 0 where
   pub lawful : IsLawful I
   pub rows_are : rows ≡ (reduced I).arcs
   pub covers : Covers (I.nodes + 1) I.arcs star
-  pub flow_in : length flow ≡ length rows
-  pub potentials_in : length potentials ≡ I.nodes + 1
-  pub idle : IsIdleEntry potentials
-  pub excess_in : length excess ≡ I.nodes + 1
-  pub cut_in : length cut ≡ I.nodes + 1
-  pub visits_in : length visits ≡ I.nodes + 1
-  pub labels_in : IsLabelsFor (I.nodes + 1) labels
-  pub sized : IsQueueFor (I.nodes + 1) queue
+  pub flow_ledger : IsLedger flow
+  pub flow_in : length flow.entries.items ≡ length rows
+  pub flow_fits : I.room + 1 ≤ length flow.touched
+  pub potentials_in : IsOfNodes I.nodes potentials
+  pub idle : IsIdleEntry potentials.entries.items
+  pub kept_idle : IsIdleEntry (kept_in potentials)
+  pub balance_is : IsBalanceOf I rows flow balance
+  pub cut_in : IsOfNodes I.nodes cut
+  pub scratch_in : IsScratchFor (I.nodes + 1) scratch
   pub rows_fit : I.room + 1 ≤ rows_room
-  pub flow_fits : I.room + 1 ≤ flow_room
 
 -- the flow of an arc at the start: its cap where its cost is below 0, else its low
 abbrev pub start : ArcRow → ℤ

@@ -9,7 +9,7 @@ use Rattle.network.specs.Instance.{Demand, Supplies, Terminals, Sides, Instance,
 use Rattle.flow_solver.specs.declared.part.Part.{Part}
 use Rattle.flow_solver.specs.declared.part.Part.TheVariants.{OtherRow, OtherSupply, NoArc}
 use Rattle.flow_solver.specs.declared.verdict.Verdict.{Verdict}
-use Rattle.flow_solver.specs.Moment.{Moment}
+use Rattle.flow_solver.specs.Moment.{Kept, Moment}
 use Rattle.flow_solver.specs.Desk.{HasEnds, IsRowOf}
 
 -- the instance before the change
@@ -29,21 +29,15 @@ pub record TakesBack (I : Instance) (edit : Edit) (part : Part) : Type 0 where
   pub can : (J : Instance) → edited I edit ≡ Ok J → CanTakeBack part J
   pub back : (J : Instance) → edited I edit ≡ Ok J → before_part part J ≡ I
 
-abbrev pub before_of : Option Part → Instance → List ℤ → List ℤ → Verdict → List Bool → Option Moment
-before_of None I flow potentials verdict cut = None
-before_of (Some part) I flow potentials verdict cut =
-    Some (record { instance = before_part part I; flow = flow; potentials = potentials; verdict = verdict; cut = cut })
+abbrev pub before_of : Option Part → Instance → Kept → Verdict → Option Moment
+before_of None I kept verdict = None
+before_of (Some part) I kept verdict =
+    Some (record { instance = before_part part I; flow = kept.flow; potentials = kept.potentials; verdict = verdict; cut = kept.cut })
 
-abbrev pub IsKept : Option Part → Instance → List ℤ → Type 0
-IsKept None I flow = Unit {0}
-IsKept (Some part) I flow = CanTakeBack part I × (length flow ≡ length (reduced (before_part part I)).arcs)
-
--- the copies have one entry for each node, room for each row, and where there is a part they are those of a moment before
-pub record AreCopies (part : Option Part) (I : Instance) (flow potentials : List ℤ) (cut : List Bool) (flow_room : ℕ) : Type 0 where
-  pub potentials_in : length potentials ≡ I.nodes
-  pub cut_in : length cut ≡ I.nodes
-  pub flow_fits : I.room + 1 ≤ flow_room
-  pub kept : IsKept part I flow
+-- where there is a part, what was kept is that of a moment before
+abbrev pub IsKept : Option Part → Instance → Kept → Type 0
+IsKept None I kept = Unit {0}
+IsKept (Some part) I kept = CanTakeBack part I × (length kept.flow ≡ length (reduced (before_part part I)).arcs)
 
 -- how many rows stand before those of the numbered arcs
 abbrev pub return_count : Demand → ℕ

@@ -8,20 +8,20 @@ ghost use Rattle.flow_solver.specs.Residual.{number_at};
 ghost use Rattle.flow_solver.specs.Push.{AreSmall, IsExcess, Pushes, left, positive_part};
 ghost use Rattle.flow_solver.specs.Cut.{lack};
 ghost use Rattle.flow_solver.specs.Nodes.{held, IsIdleEntry};
-ghost use Rattle.flow_solver.specs.Labels.{IsLabelsFor};
-ghost use Rattle.flow_solver.specs.Queue.{IsQueueFor};
+ghost use Rattle.flow_solver.specs.Scratch.{IsScratchFor};
+ghost use Rattle.flow_solver.specs.Touched.{IsLedger, IsWritten};
 ghost use Rattle.flow_solver.specs.Star.{Covers};
+ghost use Rattle.flow_solver.specs.Balance.{IsBalanceOf, IsWrappedCost};
 ghost use Rattle.flow_solver.specs.Answer.{AreGreatestPotentials, IsChosenCut, IsJudged, IsVerdict, worth_by};
 
-use crate::excess::subtract_flow;
-use crate::labels::Labels;
-use crate::queue::Queue;
+use crate::balance::{Balance, cost_now};
+use crate::ledger::Ledger;
+use crate::scratch::Scratch;
 use crate::settle::settle;
 use crate::star::Star;
 use crate::verdict::Verdict;
-use crate::visit::Visit;
 use dimacs_text::ArcRow;
-use network::{Network, total_cost};
+use network::Network;
 
 /// What a node has to send out in the reduced instance; 0 where there is no such node.
 pub fn supply_at(net: &Network, id: u32) -> i64
@@ -31,30 +31,6 @@ pub fn supply_at(net: &Network, id: u32) -> i64
         Some(supply) => supply,
         None => 0,
     }
-}
-
-/// Fills the table with what each node has to send out.
-fn fill_supplies(net: &Network, excess: &mut [i64])
-    requires sized { length excess.old ≡ net.now.nodes + 1 }
-    requires few { length excess.old ≤ entry_limit }
-    ensures { (v : ℕ) → number_at excess.new v ≡ held net.now.nodes (reduced net.now).supply v }
-{
-    for v in 0..excess.len() {
-        excess[v] = supply_at(net, v as u32);
-    }
-}
-
-/// Fills the table with what each node has to send out beyond what the flow sends.
-fn fill_excess(net: &Network, rows: &[ArcRow], flow: &[i64], excess: &mut [i64])
-    requires lawful { IsLawful net.now }
-    requires rows { rows.now ≡ (reduced net.now).arcs }
-    requires bounds { AllWithinBounds rows.now flow.now }
-    requires sized { length excess.old ≡ net.now.nodes + 1 }
-    ensures excess { IsExcess rows.now (held net.now.nodes (reduced net.now).supply) flow.now excess.new }
-    ensures small { AreSmall excess.new }
-{
-    fill_supplies(net, excess);
-    subtract_flow(rows, flow, excess);
 }
 
 /// The part of a number above 0.
@@ -90,39 +66,43 @@ fn sum_deficit(excess: &[i64]) -> u64
     sum
 }
 
-/// The cost of a flow of the reduced instance, or what its return arc carries.
-fn worth(net: &Network, rows: &[ArcRow], flow: &[i64]) -> i128
+/// The cost of the flow that stands in a ledger, or what its return arc carries.
+fn worth(net: &Network, rows: &[ArcRow], flow: &Ledger<i64>, balance: &Balance) -> i128
     requires lawful { IsLawful net.now }
     requires rows { rows.now ≡ (reduced net.now).arcs }
-    requires bounds { AllWithinBounds rows.now flow.now }
-    ensures { result ≡ worth_by net.now.demand rows.now flow.now }
+    requires ledger { IsLedger flow.now }
+    requires bounds { AllWithinBounds rows.now flow.now.entries.items }
+    requires cost { IsWrappedCost rows.now flow.now.kept.items balance.now.cost }
+    ensures { result ≡ worth_by net.now.demand rows.now flow.now.entries.items }
 {
     match net.return_arc() {
-        Some(_) => i128::from(flow[0]),
-        None => total_cost(rows, flow),
+        Some(_) => i128::from(flow.entries[0]),
+        None => cost_now(rows, flow, balance.cost),
     }
 }
 
 /// The verdict by what is left in excess or in deficit.
-fn judge(net: &Network, rows: &[ArcRow], flow: &[i64], excess: &[i64]) -> Verdict
+fn judge(net: &Network, rows: &[ArcRow], flow: &Ledger<i64>, balance: &Balance) -> Verdict
     requires lawful { IsLawful net.now }
     requires rows { rows.now ≡ (reduced net.now).arcs }
-    requires bounds { AllWithinBounds rows.now flow.now }
-    requires small { AreSmall excess.now }
-    requires few { length excess.now ≤ entry_limit }
-    requires left_fits { left excess.now < 2 ^ 63 }
-    requires lack_fits { left excess.now ≡ 0 → lack excess.now < 2 ^ 63 }
-    ensures { IsJudged (worth_by net.now.demand rows.now flow.now) excess.now result }
+    requires ledger { IsLedger flow.now }
+    requires bounds { AllWithinBounds rows.now flow.now.entries.items }
+    requires cost { IsWrappedCost rows.now flow.now.kept.items balance.now.cost }
+    requires small { AreSmall balance.now.excess.items }
+    requires few { length balance.now.excess.items ≤ entry_limit }
+    requires left_fits { left balance.now.excess.items < 2 ^ 63 }
+    requires lack_fits { left balance.now.excess.items ≡ 0 → lack balance.now.excess.items < 2 ^ 63 }
+    ensures { IsJudged (worth_by net.now.demand rows.now flow.now.entries.items) balance.now.excess.items result }
 {
-    let left = sum_excess(excess);
+    let left = sum_excess(&balance.excess);
     if left > 0 {
         return Verdict::Infeasible(left as i64);
     }
-    let lack = sum_deficit(excess);
+    let lack = sum_deficit(&balance.excess);
     if lack > 0 {
         return Verdict::Infeasible(lack as i64);
     }
-    Verdict::Best(worth(net, rows, flow))
+    Verdict::Best(worth(net, rows, flow, balance))
 }
 
 /// Settles the flow from any certified one, with the greatest potentials and the least cut; gives the number of
@@ -131,38 +111,46 @@ pub fn solve(
     net: &Network,
     star: &Star,
     rows: &[ArcRow],
-    flow: &mut [i64],
-    potentials: &mut [i64],
-    excess: &mut [i64],
-    visits: &mut [Visit],
-    labels: &mut Labels,
-    queue: &mut Queue,
-    cut: &mut [bool],
+    flow: &mut Ledger<i64>,
+    potentials: &mut Ledger<i64>,
+    balance: &mut Balance,
+    scratch: &mut Scratch,
+    cut: &mut Ledger<bool>,
 ) -> (u64, Verdict)
     requires lawful { IsLawful net.now }
     requires rows { rows.now ≡ (reduced net.now).arcs }
     requires star { Covers (net.now.nodes + 1) net.now.arcs star.now }
-    requires certified { IsCertifiedFlow (reduced net.now) flow.old (at_node (drop 1 potentials.old)) }
-    requires idle { IsIdleEntry potentials.old }
-    requires potentials_in { length potentials.old ≡ net.now.nodes + 1 }
-    requires excess_in { length excess.old ≡ net.now.nodes + 1 }
-    requires visits_in { length visits.old ≡ net.now.nodes + 1 }
-    requires cut_in { length cut.old ≡ net.now.nodes + 1 }
-    requires labels { IsLabelsFor (net.now.nodes + 1) labels.old }
-    requires sized { IsQueueFor (net.now.nodes + 1) queue.old }
-    ensures idle { IsIdleEntry potentials.new }
-    ensures labels { IsLabelsFor (net.now.nodes + 1) labels.new }
-    ensures sized { IsQueueFor (net.now.nodes + 1) queue.new }
-    ensures certified { IsCertifiedFlow (reduced net.now) flow.new (at_node (drop 1 potentials.new)) }
-    ensures verdict { IsVerdict result.1 net.now flow.new (is_marked (drop 1 cut.new)) }
-    ensures pushes { Pushes (reduced net.now).arcs (reduced net.now).supply result.0 flow.old flow.new }
-    ensures count { pos result.0 ≤ℤ total_excess (reduced net.now) flow.old }
-    ensures greatest { AreGreatestPotentials (reduced net.now) flow.new (at_node (drop 1 potentials.new)) }
-    ensures chosen { IsChosenCut result.1 (reduced net.now) (is_marked (drop 1 cut.new)) }
+    requires flow_ledger { IsLedger flow.old }
+    requires potentials_ledger { IsLedger potentials.old }
+    requires cut_ledger { IsLedger cut.old }
+    requires certified { IsCertifiedFlow (reduced net.now) flow.old.entries.items (at_node (drop 1 potentials.old.entries.items)) }
+    requires idle { IsIdleEntry potentials.old.entries.items }
+    requires potentials_in { length potentials.old.entries.items ≡ net.now.nodes + 1 }
+    requires balance { IsBalanceOf net.now rows.now flow.old balance.old }
+    requires cut_in { length cut.old.entries.items ≡ net.now.nodes + 1 }
+    requires scratch { IsScratchFor (net.now.nodes + 1) scratch.old }
+    ensures flow_written { IsWritten flow.old flow.new }
+    ensures potentials_written { IsWritten potentials.old potentials.new }
+    ensures cut_written { IsWritten cut.old cut.new }
+    ensures balance { IsBalanceOf net.now rows.now flow.new balance.new }
+    ensures idle { IsIdleEntry potentials.new.entries.items }
+    ensures scratch { IsScratchFor (net.now.nodes + 1) scratch.new }
+    ensures certified { IsCertifiedFlow (reduced net.now) flow.new.entries.items (at_node (drop 1 potentials.new.entries.items)) }
+    ensures verdict { IsVerdict result.1 net.now flow.new.entries.items (is_marked (drop 1 cut.new.entries.items)) }
+    ensures pushes { Pushes (reduced net.now).arcs (reduced net.now).supply result.0 flow.old.entries.items flow.new.entries.items }
+    ensures count { pos result.0 ≤ℤ total_excess (reduced net.now) flow.old.entries.items }
+    ensures greatest { AreGreatestPotentials (reduced net.now) flow.new.entries.items (at_node (drop 1 potentials.new.entries.items)) }
+    ensures chosen { IsChosenCut result.1 (reduced net.now) (is_marked (drop 1 cut.new.entries.items)) }
 {
-    fill_excess(net, rows, flow, excess);
     let pushes = settle(
-        net, star, rows, flow, potentials, excess, visits, labels, queue, cut,
+        net,
+        star,
+        rows,
+        flow,
+        potentials,
+        &mut balance.excess,
+        scratch,
+        cut,
     );
-    (pushes, judge(net, rows, flow, excess))
+    (pushes, judge(net, rows, flow, balance))
 }

@@ -7,10 +7,14 @@ ghost use Rattle.flow_solver.specs.Walk.{AllAdded, AreRowsOf, AreHopsSpent, IsEn
 ghost use Rattle.flow_solver.specs.Residual.{IsRow, IsWithin, IsFlow, ArePotentials, number_at, arc_at, start_at, start_of, end_of, cost_of, room_of};
 ghost use Rattle.flow_solver.specs.Search.{visit_at, mark_at, depth_at, IsFoundDeficit};
 ghost use Rattle.flow_solver.specs.Push.{IsCameBy, IsHopTo, HavePaths, ArePathsTight, ArePaths, IsBefore, turned, HasRoom, path_to, root_to, push_along, moved, AreSmall, IsTransfer, IsUnderWay, ArePushes, CanPush};
+ghost use Rattle.flow_solver.specs.Touched.{AreNoted};
+ghost use Rattle.flow_solver.specs.Trail.{AreMarkedAlike, IsTrailOf};
 ghost use Rattle.flow_solver.specs.declared.visit.Mark.TheVariants.{Settled};
 
 use crate::residual::Way;
 use crate::star::{Spoke, Star};
+use crate::touched::Touched;
+use crate::trail::Trail;
 use crate::visit::Visit;
 use dimacs_text::ArcRow;
 use network::Network;
@@ -62,17 +66,26 @@ fn step_back(
 }
 
 /// Moves `amount` along the path to `target`.
-fn shift(rows: &[ArcRow], flow: &mut [i64], visits: &[Visit], target: usize, amount: i64)
+fn shift(
+    rows: &[ArcRow],
+    flow: &mut [i64],
+    touched: &mut Touched,
+    visits: &[Visit],
+    target: usize,
+    amount: i64,
+)
+    requires touched_in { length flow.old ≤ length touched.old }
     requires flow { IsFlow (length visits.now) rows.now flow.old }
     requires paths { HavePaths rows.now visits.now }
     requires settled { mark_at visits.now target ≡ Settled }
     requires amount { pos 1 ≤ℤ amount }
     requires room { HasRoom rows.now flow.old amount (path_to rows.now visits.now target) }
-    ensures { flow.new ≡ push_along (path_to rows.now visits.now target) amount flow.old }
+    ensures flow { flow.new ≡ push_along (path_to rows.now visits.now target) amount flow.old }
+    ensures noted { AreNoted touched.old flow.old touched.new flow.new }
 {
     let mut node = target;
     while visits[node].depth > 0 {
-        node = shift_back(rows, flow, visits, node, amount);
+        node = shift_back(rows, flow, touched, visits, node, amount);
     }
 }
 
@@ -80,10 +93,12 @@ fn shift(rows: &[ArcRow], flow: &mut [i64], visits: &[Visit], target: usize, amo
 fn shift_back(
     rows: &[ArcRow],
     flow: &mut [i64],
+    touched: &mut Touched,
     visits: &[Visit],
     node: usize,
     amount: i64,
 ) -> usize
+    requires touched_in { length flow.old ≤ length touched.old }
     requires flow { IsFlow (length visits.now) rows.now flow.old }
     requires node_in { node < length visits.now }
     requires arc_in { (visit_at visits.now node).arc < length rows.now }
@@ -91,11 +106,13 @@ fn shift_back(
     requires fits { amount ≤ℤ room_of (arc_at rows.now (visit_at visits.now node).arc) (number_at flow.old (visit_at visits.now node).arc) (visit_at visits.now node).way }
     ensures node { result ≡ start_at rows.now (visit_at visits.now node).arc (visit_at visits.now node).way }
     ensures flow { flow.new ≡ slice_set flow.old (visit_at visits.now node).arc (moved (visit_at visits.now node).way (number_at flow.old (visit_at visits.now node).arc) amount) }
+    ensures noted { AreNoted touched.old flow.old touched.new flow.new }
 {
     let visit = visits[node];
     let arc = visit.arc as usize;
     let row = rows[arc];
     flow[arc] = shifted(&row, flow[arc], visit.way, amount);
+    touched.note(arc);
     visit.way.start(&row) as usize
 }
 
@@ -167,15 +184,18 @@ fn is_found_deficit(excess: &[i64], visits: &[Visit], v: usize) -> bool
 fn push_to(
     rows: &[ArcRow],
     flow: &mut [i64],
+    touched: &mut Touched,
     potentials: &[i64],
     excess: &mut [i64],
     visits: &[Visit],
     target: usize,
 ) -> u64
+    requires touched_in { length flow.old ≤ length touched.old }
     requires state { IsUnderWay (length visits.now) rows.now potentials.now flow.old excess.old }
     requires paths { HavePaths rows.now visits.now }
     requires tight { ArePathsTight rows.now potentials.now visits.now }
     requires target_in { target < length visits.now }
+    ensures noted { AreNoted touched.old flow.old touched.new flow.new }
     ensures state { IsUnderWay (length visits.now) rows.now potentials.now flow.new excess.new }
     ensures pushes { ArePushes rows.now result flow.old excess.old flow.new excess.new }
     ensures some { CanPush rows.now flow.old excess.old visits.now target → 0 < result }
@@ -187,7 +207,7 @@ fn push_to(
     if amount < 1 {
         return 0;
     }
-    shift(rows, flow, visits, target, amount);
+    shift(rows, flow, touched, visits, target, amount);
     transfer(excess, root, target, amount);
     1
 }
@@ -429,6 +449,7 @@ fn hop_back(
     requires deep { 0 < depth_at visits.old node }
     requires spent_in { length spent.now ≡ length visits.old }
     ensures paths { ArePaths rows.now potentials.now visits.new }
+    ensures marks { AreMarkedAlike visits.old visits.new }
     ensures before { IfSome result (IsBefore visits.new (depth_at visits.old node)) }
 {
     let visit = visits[node];
@@ -469,6 +490,7 @@ fn walk_back(
     requires excess_in { length excess.now ≡ length visits.old }
     requires spent_in { length spent.old ≡ length visits.old }
     ensures paths { ArePaths rows.now potentials.now visits.new }
+    ensures marks { AreMarkedAlike visits.old visits.new }
 {
     let mut node = target;
     while visits[node].depth > 0 {
@@ -508,6 +530,7 @@ fn find_path(
     requires excess_in { length excess.now ≡ length visits.old }
     requires spent_in { length spent.old ≡ length visits.old }
     ensures paths { ArePaths rows.now potentials.now visits.new }
+    ensures marks { AreMarkedAlike visits.old visits.new }
 {
     for _ in 0..spent.len() {
         if spent[target] || !is_found_deficit(excess, visits, target) {
@@ -528,6 +551,7 @@ fn push_more_to(
     star: &Star,
     rows: &[ArcRow],
     flow: &mut [i64],
+    touched: &mut Touched,
     potentials: &[i64],
     excess: &mut [i64],
     visits: &mut [Visit],
@@ -536,13 +560,16 @@ fn push_more_to(
 ) -> u64
     requires net { AreRowsOf net.now rows.now }
     requires star { Covers (length potentials.now) net.now.arcs star.now }
+    requires touched_in { length flow.old ≤ length touched.old }
     requires state { IsUnderWay (length visits.old) rows.now potentials.now flow.old excess.old }
     requires potentials_in { ArePotentials (length visits.old) potential_floor potentials.now }
     requires paths { ArePaths rows.now potentials.now visits.old }
     requires target_in { target < length visits.old }
     requires spent_in { length spent.old ≡ length visits.old }
+    ensures noted { AreNoted touched.old flow.old touched.new flow.new }
     ensures state { IsUnderWay (length visits.new) rows.now potentials.now flow.new excess.new }
     ensures paths { ArePaths rows.now potentials.now visits.new }
+    ensures marks { AreMarkedAlike visits.old visits.new }
     ensures pushes { ArePushes rows.now result flow.old excess.old flow.new excess.new }
 {
     let mut pushes = 0;
@@ -552,7 +579,7 @@ fn push_more_to(
         ) {
             return pushes;
         }
-        pushes += push_to(rows, flow, potentials, excess, visits, target);
+        pushes += push_to(rows, flow, touched, potentials, excess, visits, target);
     }
     pushes
 }
@@ -563,6 +590,7 @@ fn push_all_to(
     star: &Star,
     rows: &[ArcRow],
     flow: &mut [i64],
+    touched: &mut Touched,
     potentials: &[i64],
     excess: &mut [i64],
     visits: &mut [Visit],
@@ -571,13 +599,16 @@ fn push_all_to(
 ) -> u64
     requires net { AreRowsOf net.now rows.now }
     requires star { Covers (length potentials.now) net.now.arcs star.now }
+    requires touched_in { length flow.old ≤ length touched.old }
     requires state { IsUnderWay (length visits.old) rows.now potentials.now flow.old excess.old }
     requires potentials_in { ArePotentials (length visits.old) potential_floor potentials.now }
     requires paths { ArePaths rows.now potentials.now visits.old }
     requires target_in { target < length visits.old }
     requires spent_in { length spent.old ≡ length visits.old }
+    ensures noted { AreNoted touched.old flow.old touched.new flow.new }
     ensures state { IsUnderWay (length visits.new) rows.now potentials.now flow.new excess.new }
     ensures paths { ArePaths rows.now potentials.now visits.new }
+    ensures marks { AreMarkedAlike visits.old visits.new }
     ensures pushes { ArePushes rows.now result flow.old excess.old flow.new excess.new }
     ensures some { CanPush rows.now flow.old excess.old visits.old target → 0 < result }
     ensures kept { IsFoundDeficit excess.old visits.old target ⊎ (visits.new ≡ visits.old) }
@@ -585,9 +616,9 @@ fn push_all_to(
     if !is_found_deficit(excess, visits, target) {
         return 0;
     }
-    let first = push_to(rows, flow, potentials, excess, visits, target);
+    let first = push_to(rows, flow, touched, potentials, excess, visits, target);
     let more = push_more_to(
-        net, star, rows, flow, potentials, excess, visits, spent, target,
+        net, star, rows, flow, touched, potentials, excess, visits, spent, target,
     );
     first + more
 }
@@ -598,27 +629,43 @@ pub fn push_found(
     star: &Star,
     rows: &[ArcRow],
     flow: &mut [i64],
+    touched: &mut Touched,
     potentials: &[i64],
     excess: &mut [i64],
     visits: &mut [Visit],
-    spent: &mut [bool],
+    trail: &mut Trail,
 ) -> u64
     requires net { AreRowsOf net.now rows.now }
     requires star { Covers (length potentials.now) net.now.arcs star.now }
+    requires touched_in { length flow.old ≤ length touched.old }
     requires state { IsUnderWay (length visits.old) rows.now potentials.now flow.old excess.old }
     requires potentials_in { ArePotentials (length visits.old) potential_floor potentials.now }
     requires paths { ArePaths rows.now potentials.now visits.old }
-    requires spent_in { length spent.old ≡ length visits.old }
+    requires trail { IsTrailOf visits.old trail.old }
     requires can_push { (t : ℕ) → IsFoundDeficit excess.old visits.old t → CanPush rows.now flow.old excess.old visits.old t }
+    ensures noted { AreNoted touched.old flow.old touched.new flow.new }
     ensures state { IsUnderWay (length visits.new) rows.now potentials.now flow.new excess.new }
+    ensures marks { AreMarkedAlike visits.old visits.new }
+    ensures trail { trail.new ≡ record trail.old { spent = trail.new.spent } }
+    ensures spent { length trail.new.spent.items ≡ length trail.old.spent.items }
     ensures pushes { ArePushes rows.now result flow.old excess.old flow.new excess.new }
     ensures some { (t : ℕ) → IsFoundDeficit excess.old visits.old t → 0 < result }
 {
-    spent.fill(false);
+    trail.refresh();
     let mut pushes = 0;
-    for target in 0..visits.len() {
+    for j in 0..trail.len {
+        let target = trail.nodes[j] as usize;
         pushes += push_all_to(
-            net, star, rows, flow, potentials, excess, visits, spent, target,
+            net,
+            star,
+            rows,
+            flow,
+            touched,
+            potentials,
+            excess,
+            visits,
+            &mut trail.spent,
+            target,
         );
     }
     pushes

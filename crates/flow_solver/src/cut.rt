@@ -5,9 +5,11 @@ ghost use Rattle.flow_solver.specs.Limits.{entry_limit};
 ghost use Rattle.flow_solver.specs.Residual.{IsFlow, number_at};
 ghost use Rattle.flow_solver.specs.Walk.{AreRowsOf};
 ghost use Rattle.flow_solver.specs.Cut.{in_set, IsRoot, near_of, far_of, near_at, way_from, IsSide, IsLineOf, IsGrown, LeadsOut, IsFarIn, AreFarIn, ArePassedFarIn};
+ghost use Rattle.flow_solver.specs.Touched.{AreNoted};
 ghost use Rattle.flow_solver.specs.declared.residual.Way.{Way};
 
 use crate::residual::Way;
+use crate::touched::Touched;
 use dimacs_text::ArcRow;
 use network::Network;
 
@@ -237,4 +239,19 @@ fn leads_out(side: Side, rows: &[ArcRow], flow: &[i64], cut: &[bool], k: usize, 
     let near = side.near(way, &row) as usize;
     let far = side.far(way, &row) as usize;
     way.room(&row, flow[k]) > 0 && cut[near] && !cut[far]
+}
+
+/// Makes these marks those of a table, which notes the nodes whose mark changes.
+pub fn take_marks(cut: &mut [bool], touched: &mut Touched, marks: &[bool])
+    requires touched_in { length cut.old ≤ length touched.old }
+    requires same_length { length marks.now ≡ length cut.old }
+    ensures cut { cut.new ≡ marks.now }
+    ensures noted { AreNoted touched.old cut.old touched.new cut.new }
+{
+    for v in 0..cut.len() {
+        if cut[v] != marks[v] {
+            cut[v] = marks[v];
+            touched.note(v);
+        }
+    }
 }

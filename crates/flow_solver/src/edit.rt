@@ -1,6 +1,6 @@
 //! Changes of an instance, from the flow that stands.
 
-ghost use Rattle.std.specs.Prelude.{◌≡◌, ℕ, ◌+◌, ◌-◌, ◌<◌, ◌≤◌, drop, length, slice_index_or, slice_set, ◌++◌, ◌∷◌, [], vec_capacity, IsOk, Some, pos};
+ghost use Rattle.std.specs.Prelude.{◌≡◌, ℕ, ℤ, ◌+◌, ◌-◌, ◌<◌, ◌≤◌, drop, length, slice_index_or, slice_set, ◌++◌, ◌∷◌, [], vec_capacity, IsOk, Some, pos};
 ghost use Rattle.dimacs_text.specs.Lawful.{IsLawfulRow, IsNode, IsWithin};
 ghost use Rattle.dimacs_text.specs.declared.problem.TheConstants.{SUPPLY_LIMIT};
 ghost use Rattle.dimacs_text.specs.declared.problem.Kind.TheVariants.{Min};
@@ -11,20 +11,21 @@ ghost use Rattle.network.specs.Instance.{IsLawful, arc_at as number_at_arc, ArcF
 ghost use Rattle.flow_solver.specs.Limits.{potential_floor};
 ghost use Rattle.flow_solver.specs.Residual.{IsRow, IsCertified, ArePotentials, number_at, arc_at};
 ghost use Rattle.flow_solver.specs.Nodes.{IsIdleEntry};
-ghost use Rattle.flow_solver.specs.Labels.{IsLabelsFor};
-ghost use Rattle.flow_solver.specs.Queue.{IsQueueFor};
+ghost use Rattle.flow_solver.specs.Scratch.{IsScratchFor};
+ghost use Rattle.flow_solver.specs.Touched.{IsLedger, IsWritten};
 ghost use Rattle.flow_solver.specs.Star.{Covers};
 ghost use Rattle.flow_solver.specs.Walk.{AreRowsOf};
 ghost use Rattle.flow_solver.specs.Desk.{supplies_in};
+ghost use Rattle.flow_solver.specs.Balance.{IsBalanceOf, IsWrappedCost, IsWrappedExcess};
 ghost use Rattle.flow_solver.specs.Answer.{AreGreatestPotentials, IsChosenCut, IsVerdict};
 ghost use Rattle.flow_solver.specs.Edit.{reduced_cost, IsNearest, IsAddEdit, IsOfAdd, IsOfArc, IsOfSupply, IsSupplyEdit, IsRowChanged, IsRowEdit, IsSupplyChanged};
 
 use crate::answer::{solve, supply_at};
-use crate::labels::Labels;
-use crate::queue::Queue;
+use crate::balance::{Balance, add_difference, carry_over, reprice};
+use crate::ledger::Ledger;
+use crate::scratch::Scratch;
 use crate::star::Star;
 use crate::verdict::Verdict;
-use crate::visit::Visit;
 use dimacs_text::{ArcRow, Edit};
 use network::Network;
 
@@ -52,20 +53,36 @@ fn nearest(row: &ArcRow, reduced: i64, flow: i64) -> i64
 }
 
 /// Replaces a row by one with the same ends, and its flow by the nearest that is allowed.
-fn replace_row(rows: &mut [ArcRow], flow: &mut [i64], potentials: &[i64], place: usize, row: ArcRow)
-    requires certified { IsCertified rows.old flow.old potentials.now }
+fn replace_row(
+    rows: &mut [ArcRow],
+    flow: &mut Ledger<i64>,
+    potentials: &[i64],
+    balance: &mut Balance,
+    place: usize,
+    row: ArcRow,
+)
+    requires excess_in { length balance.old.excess.items ≡ length potentials.now }
+    requires flow_ledger { IsLedger flow.old }
+    requires certified { IsCertified rows.old flow.old.entries.items potentials.now }
     requires place { place < length rows.old }
     requires row { IsRow (length potentials.now) row }
     requires same_tail { row.tail ≡ (arc_at rows.old place).tail }
     requires same_head { row.head ≡ (arc_at rows.old place).head }
     ensures rows { rows.new ≡ slice_set rows.old place row }
-    ensures flow { flow.new ≡ slice_set flow.old place (number_at flow.new place) }
-    ensures nearest { IsNearest row (reduced_cost potentials.now row) (number_at flow.old place) (number_at flow.new place) }
-    ensures certified { IsCertified rows.new flow.new potentials.now }
+    ensures flow_written { IsWritten flow.old flow.new }
+    ensures flow { flow.new.entries.items ≡ slice_set flow.old.entries.items place (number_at flow.new.entries.items place) }
+    ensures nearest { IsNearest row (reduced_cost potentials.now row) (number_at flow.old.entries.items place) (number_at flow.new.entries.items place) }
+    ensures certified { IsCertified rows.new flow.new.entries.items potentials.now }
+    ensures excess_in { length balance.new.excess.items ≡ length balance.old.excess.items }
+    ensures excess { (supply : ℕ → ℤ) → IsWrappedExcess rows.old supply flow.old.entries.items balance.old.excess.items → IsWrappedExcess rows.new supply flow.new.entries.items balance.new.excess.items }
+    ensures cost { IsWrappedCost rows.old flow.old.kept.items balance.old.cost → IsWrappedCost rows.new flow.new.kept.items balance.new.cost }
 {
-    let after = nearest(&row, reduced(&row, potentials), flow[place]);
+    let before = flow.entries[place];
+    let after = nearest(&row, reduced(&row, potentials), before);
+    carry_over(&mut balance.excess, &row, before, after);
+    balance.cost = reprice(balance.cost, rows[place].cost, row.cost, flow.kept[place]);
     rows[place] = row;
-    flow[place] = after;
+    flow.set(place, after);
 }
 
 /// Changes the bounds and the cost of the arc with this number, counted from 1, and settles the flow again. The arc's
@@ -74,13 +91,11 @@ pub fn change_row(
     net: &mut Network,
     star: &Star,
     rows: &mut [ArcRow],
-    flow: &mut [i64],
-    potentials: &mut [i64],
-    excess: &mut [i64],
-    visits: &mut [Visit],
-    labels: &mut Labels,
-    queue: &mut Queue,
-    cut: &mut [bool],
+    flow: &mut Ledger<i64>,
+    potentials: &mut Ledger<i64>,
+    balance: &mut Balance,
+    scratch: &mut Scratch,
+    cut: &mut Ledger<bool>,
     k: u32,
     row: ArcRow,
 ) -> (u64, Verdict)
@@ -91,32 +106,34 @@ pub fn change_row(
     requires head { row.head ≡ (slice_index_or net.old.arcs (k - 1) row).head }
     requires limits { IsLawfulRow net.old.nodes row }
     requires fits { ArcFits net.old.demand row }
-    requires certified { IsCertifiedFlow (reduced net.old) flow.old (at_node (drop 1 potentials.old)) }
-    requires idle { IsIdleEntry potentials.old }
-    requires potentials_in { length potentials.old ≡ net.old.nodes + 1 }
-    requires excess_in { length excess.old ≡ net.old.nodes + 1 }
-    requires visits_in { length visits.old ≡ net.old.nodes + 1 }
-    requires cut_in { length cut.old ≡ net.old.nodes + 1 }
-    requires labels { IsLabelsFor (net.old.nodes + 1) labels.old }
-    requires sized { IsQueueFor (net.old.nodes + 1) queue.old }
+    requires flow_ledger { IsLedger flow.old }
+    requires potentials_ledger { IsLedger potentials.old }
+    requires cut_ledger { IsLedger cut.old }
+    requires certified { IsCertifiedFlow (reduced net.old) flow.old.entries.items (at_node (drop 1 potentials.old.entries.items)) }
+    requires idle { IsIdleEntry potentials.old.entries.items }
+    requires potentials_in { length potentials.old.entries.items ≡ net.old.nodes + 1 }
+    requires balance { IsBalanceOf net.old rows.old flow.old balance.old }
+    requires cut_in { length cut.old.entries.items ≡ net.old.nodes + 1 }
+    requires scratch { IsScratchFor (net.old.nodes + 1) scratch.old }
     ensures net { net.new ≡ record net.old { arcs = slice_set net.old.arcs (k - 1) row } }
     ensures rows { AreRowsOf net.new rows.new }
     ensures star { Covers (net.new.nodes + 1) net.new.arcs star.now }
-    ensures idle { IsIdleEntry potentials.new }
-    ensures labels { IsLabelsFor (net.new.nodes + 1) labels.new }
-    ensures sized { IsQueueFor (net.new.nodes + 1) queue.new }
-    ensures certified { IsCertifiedFlow (reduced net.new) flow.new (at_node (drop 1 potentials.new)) }
-    ensures verdict { IsVerdict result.1 net.new flow.new (is_marked (drop 1 cut.new)) }
-    ensures changed { IsRowChanged net.old net.new k row (at_node (drop 1 potentials.old)) flow.old flow.new result.0 }
-    ensures greatest { AreGreatestPotentials (reduced net.new) flow.new (at_node (drop 1 potentials.new)) }
-    ensures chosen { IsChosenCut result.1 (reduced net.new) (is_marked (drop 1 cut.new)) }
+    ensures flow_written { IsWritten flow.old flow.new }
+    ensures potentials_written { IsWritten potentials.old potentials.new }
+    ensures cut_written { IsWritten cut.old cut.new }
+    ensures balance { IsBalanceOf net.new rows.new flow.new balance.new }
+    ensures idle { IsIdleEntry potentials.new.entries.items }
+    ensures scratch { IsScratchFor (net.new.nodes + 1) scratch.new }
+    ensures certified { IsCertifiedFlow (reduced net.new) flow.new.entries.items (at_node (drop 1 potentials.new.entries.items)) }
+    ensures verdict { IsVerdict result.1 net.new flow.new.entries.items (is_marked (drop 1 cut.new.entries.items)) }
+    ensures changed { IsRowChanged net.old net.new k row (at_node (drop 1 potentials.old.entries.items)) flow.old.entries.items flow.new.entries.items result.0 }
+    ensures greatest { AreGreatestPotentials (reduced net.new) flow.new.entries.items (at_node (drop 1 potentials.new.entries.items)) }
+    ensures chosen { IsChosenCut result.1 (reduced net.new) (is_marked (drop 1 cut.new.entries.items)) }
 {
     let place = rows.len() - net.arcs() as usize + (k as usize - 1);
     net.set_row(k, row);
-    replace_row(rows, flow, potentials, place, row);
-    solve(
-        net, star, rows, flow, potentials, excess, visits, labels, queue, cut,
-    )
+    replace_row(rows, flow, &potentials.entries, balance, place, row);
+    solve(net, star, rows, flow, potentials, balance, scratch, cut)
 }
 
 /// Changes what a node of a least-cost problem has to send out, and settles the flow again; gives the number of pushes
@@ -125,13 +142,11 @@ pub fn change_supply(
     net: &mut Network,
     star: &Star,
     rows: &[ArcRow],
-    flow: &mut [i64],
-    potentials: &mut [i64],
-    excess: &mut [i64],
-    visits: &mut [Visit],
-    labels: &mut Labels,
-    queue: &mut Queue,
-    cut: &mut [bool],
+    flow: &mut Ledger<i64>,
+    potentials: &mut Ledger<i64>,
+    balance: &mut Balance,
+    scratch: &mut Scratch,
+    cut: &mut Ledger<bool>,
     id: u32,
     value: i64,
 ) -> (u64, Verdict)
@@ -140,30 +155,33 @@ pub fn change_supply(
     requires kind { kind_of net.old.demand ≡ Min }
     requires node { IsNode net.old.nodes id }
     requires limit { IsWithin SUPPLY_LIMIT value }
-    requires certified { IsCertifiedFlow (reduced net.old) flow.old (at_node (drop 1 potentials.old)) }
-    requires idle { IsIdleEntry potentials.old }
-    requires potentials_in { length potentials.old ≡ net.old.nodes + 1 }
-    requires excess_in { length excess.old ≡ net.old.nodes + 1 }
-    requires visits_in { length visits.old ≡ net.old.nodes + 1 }
-    requires cut_in { length cut.old ≡ net.old.nodes + 1 }
-    requires labels { IsLabelsFor (net.old.nodes + 1) labels.old }
-    requires sized { IsQueueFor (net.old.nodes + 1) queue.old }
+    requires flow_ledger { IsLedger flow.old }
+    requires potentials_ledger { IsLedger potentials.old }
+    requires cut_ledger { IsLedger cut.old }
+    requires certified { IsCertifiedFlow (reduced net.old) flow.old.entries.items (at_node (drop 1 potentials.old.entries.items)) }
+    requires idle { IsIdleEntry potentials.old.entries.items }
+    requires potentials_in { length potentials.old.entries.items ≡ net.old.nodes + 1 }
+    requires balance { IsBalanceOf net.old rows.now flow.old balance.old }
+    requires cut_in { length cut.old.entries.items ≡ net.old.nodes + 1 }
+    requires scratch { IsScratchFor (net.old.nodes + 1) scratch.old }
     ensures net { net.new ≡ record net.old { demand = with_supply net.old.demand id value } }
     ensures rows { AreRowsOf net.new rows.now }
     ensures star { Covers (net.new.nodes + 1) net.new.arcs star.now }
-    ensures idle { IsIdleEntry potentials.new }
-    ensures labels { IsLabelsFor (net.new.nodes + 1) labels.new }
-    ensures sized { IsQueueFor (net.new.nodes + 1) queue.new }
-    ensures certified { IsCertifiedFlow (reduced net.new) flow.new (at_node (drop 1 potentials.new)) }
-    ensures verdict { IsVerdict result.1 net.new flow.new (is_marked (drop 1 cut.new)) }
-    ensures changed { IsSupplyChanged net.old net.new id value flow.old flow.new result.0 }
-    ensures greatest { AreGreatestPotentials (reduced net.new) flow.new (at_node (drop 1 potentials.new)) }
-    ensures chosen { IsChosenCut result.1 (reduced net.new) (is_marked (drop 1 cut.new)) }
+    ensures flow_written { IsWritten flow.old flow.new }
+    ensures potentials_written { IsWritten potentials.old potentials.new }
+    ensures cut_written { IsWritten cut.old cut.new }
+    ensures balance { IsBalanceOf net.new rows.now flow.new balance.new }
+    ensures idle { IsIdleEntry potentials.new.entries.items }
+    ensures scratch { IsScratchFor (net.new.nodes + 1) scratch.new }
+    ensures certified { IsCertifiedFlow (reduced net.new) flow.new.entries.items (at_node (drop 1 potentials.new.entries.items)) }
+    ensures verdict { IsVerdict result.1 net.new flow.new.entries.items (is_marked (drop 1 cut.new.entries.items)) }
+    ensures changed { IsSupplyChanged net.old net.new id value flow.old.entries.items flow.new.entries.items result.0 }
+    ensures greatest { AreGreatestPotentials (reduced net.new) flow.new.entries.items (at_node (drop 1 potentials.new.entries.items)) }
+    ensures chosen { IsChosenCut result.1 (reduced net.new) (is_marked (drop 1 cut.new.entries.items)) }
 {
+    add_difference(&mut balance.excess, id as usize, supply_at(net, id), value);
     net.set_supply(id, value);
-    solve(
-        net, star, rows, flow, potentials, excess, visits, labels, queue, cut,
-    )
+    solve(net, star, rows, flow, potentials, balance, scratch, cut)
 }
 
 /// Exchanges the bounds and the cost of the arc with this number, counted from 1.

@@ -4,15 +4,17 @@
 
 mod answer;
 mod augment;
+mod balance;
 mod cut;
 mod edit;
-mod excess;
 mod heap;
 mod labels;
+mod ledger;
 mod part;
 mod potentials;
 mod queue;
 mod residual;
+mod scratch;
 mod search;
 mod settle;
 mod solver;
@@ -20,6 +22,8 @@ mod star;
 mod start;
 mod swaps;
 mod tables;
+mod touched;
+mod trail;
 mod verdict;
 mod visit;
 

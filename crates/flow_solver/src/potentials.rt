@@ -1,6 +1,6 @@
 //! Potentials that are lowered after a search, and raised to the shortest labels at the end.
 
-ghost use Rattle.std.specs.Prelude.{◌≡◌, ℕ, length, pos, neg_ℤ, ◌≤ℤ◌, ◌+ℤ◌, FitsSigned};
+ghost use Rattle.std.specs.Prelude.{◌≡◌, ℕ, length, pos, neg_ℤ, ◌≤◌, ◌≤ℤ◌, ◌+ℤ◌, FitsSigned};
 ghost use Rattle.std.specs.Int.{w64};
 ghost use Rattle.flow_solver.specs.Limits.{key_limit, label_floor, potential_floor};
 ghost use Rattle.flow_solver.specs.Residual.{AreGreatest, ArePathsAbove, IsCertified, ArePotentials, number_at};
@@ -9,22 +9,32 @@ ghost use Rattle.flow_solver.specs.Labels.{IsLabelsFor};
 ghost use Rattle.flow_solver.specs.Queue.{IsQueueFor};
 ghost use Rattle.flow_solver.specs.Star.{Covers};
 ghost use Rattle.flow_solver.specs.Walk.{AreRowsOf};
+ghost use Rattle.flow_solver.specs.Touched.{AreNoted};
+ghost use Rattle.flow_solver.specs.Trail.{IsTrailOf};
 
 use crate::labels::{Labels, search_labels};
 use crate::queue::Queue;
 use crate::star::Star;
+use crate::touched::Touched;
+use crate::trail::Trail;
 use crate::visit::Visit;
 use dimacs_text::ArcRow;
 use network::Network;
 
 /// Makes each label a potential.
-fn take_labels(potentials: &mut [i64], visits: &[Visit])
+fn take_labels(potentials: &mut [i64], touched: &mut Touched, visits: &[Visit])
+    requires touched_in { length potentials.old ≤ length touched.old }
     requires same_length { length visits.now ≡ length potentials.old }
     requires fits { (v : ℕ) → FitsSigned w64 (number_at potentials.old v +ℤ key_at visits.now v) }
-    ensures { AreLabels potentials.old potentials.new visits.now }
+    ensures labels { AreLabels potentials.old potentials.new visits.now }
+    ensures noted { AreNoted touched.old potentials.old touched.new potentials.new }
 {
     for v in 0..potentials.len() {
-        potentials[v] += visits[v].key;
+        let rise = visits[v].key;
+        if rise != 0 {
+            potentials[v] += rise;
+            touched.note(v);
+        }
     }
 }
 
@@ -35,14 +45,17 @@ pub fn raise(
     rows: &[ArcRow],
     flow: &[i64],
     potentials: &mut [i64],
+    touched: &mut Touched,
     labels: &mut Labels,
     queue: &mut Queue,
 )
+    requires touched_in { length potentials.old ≤ length touched.old }
     requires net { AreRowsOf net.now rows.now }
     requires star { Covers (length potentials.old) net.now.arcs star.now }
     requires certified { IsCertified rows.now flow.now potentials.old }
     requires labels { IsLabelsFor (length potentials.old) labels.old }
     requires sized { IsQueueFor (length potentials.old) queue.old }
+    ensures noted { AreNoted touched.old potentials.old touched.new potentials.new }
     ensures certified { IsCertified rows.now flow.now potentials.new }
     ensures within { ArePotentials (length potentials.old) label_floor potentials.new }
     ensures greatest { AreGreatest rows.now flow.now potentials.new }
@@ -60,17 +73,28 @@ pub fn raise(
         &mut labels.order,
         queue,
     );
-    take_labels(potentials, &labels.visits);
+    take_labels(potentials, touched, &labels.visits);
 }
 
 /// Lowers the potential of each settled node by what it is nearer than `reach`.
-pub fn lower(potentials: &mut [i64], visits: &[Visit], reach: i64)
+pub fn lower(
+    potentials: &mut [i64],
+    touched: &mut Touched,
+    visits: &[Visit],
+    trail: &Trail,
+    reach: i64,
+)
+    requires touched_in { length potentials.old ≤ length touched.old }
     requires same_length { length visits.now ≡ length potentials.old }
+    requires trail { IsTrailOf visits.now trail.now }
     requires reach { IsReach visits.now reach }
     requires potentials_in { ArePotentials (length potentials.old) potential_floor potentials.old }
-    ensures { IsLowered potentials.old potentials.new visits.now reach }
+    ensures lowered { IsLowered potentials.old potentials.new visits.now reach }
+    ensures noted { AreNoted touched.old potentials.old touched.new potentials.new }
 {
-    for v in 0..potentials.len() {
+    for j in 0..trail.len {
+        let v = trail.nodes[j] as usize;
         potentials[v] = visits[v].lowered(potentials[v], reach);
+        touched.note(v);
     }
 }

@@ -1,8 +1,8 @@
 //! The open nodes of a search, the one of the least key first.
 
 ghost use Rattle.flow_solver.specs.Limits.{entry_limit};
-ghost use Rattle.std.specs.Prelude.{◌≡◌, ℕ, pos, length, ◌<◌, ◌≤◌, ◌≤ℤ◌, slice_set, MatchOption, IfOk, IfSome, IsTrue, ◌↔◌};
-ghost use Rattle.flow_solver.specs.Search.{source_visit, visit_at, key_at, Takes, IsLeastOpen, NoneOpen, settled_visit};
+ghost use Rattle.std.specs.Prelude.{◌≡◌, pos, length, ◌<◌, ◌≤◌, ◌≤ℤ◌, slice_set, MatchOption, IfOk, IfSome, IsTrue, ◌↔◌};
+ghost use Rattle.flow_solver.specs.Search.{visit_at, key_at, Takes, IsLeastOpen, NoneOpen, settled_visit};
 ghost use Rattle.flow_solver.specs.declared.visit.Mark.TheVariants.{Unreached, Open};
 
 use crate::heap;
@@ -131,17 +131,6 @@ impl Queue {
         self.present = 0;
         self.len = 0;
     }
-
-    /// Empties the queue and forgets what is known of each node.
-    pub fn reset(&mut self, visits: &mut [Visit])
-        requires { IsQueueFor (length visits.old) self.old }
-        ensures visits { (v : ℕ) → visit_at visits.new v ≡ source_visit (pos 0) }
-        ensures queue { IsQueueOf visits.new self.new }
-        ensures present { self.new.present ≡ pos 0 }
-    {
-        forget(visits);
-        self.clear(visits);
-    }
 }
 
 /// The length of the best path to a node.
@@ -149,14 +138,4 @@ fn key_of(visit: &Visit) -> i64
     ensures { result ≡ visit.now.key }
 {
     visit.key
-}
-
-/// Forgets what is known of each node.
-fn forget(visits: &mut [Visit])
-    ensures visits { (v : ℕ) → visit_at visits.new v ≡ source_visit (pos 0) }
-    ensures none_open { NoneOpen visits.new (length visits.new) }
-{
-    for v in 0..visits.len() {
-        visits[v] = Visit::unreached();
-    }
 }

@@ -1,17 +1,20 @@
 //! Shortest paths over reduced costs, from the nodes in excess.
 
-ghost use Rattle.std.specs.Prelude.{◌≡◌, ℕ, pos, ◌≤ℤ◌, ◌+ℤ◌, ◌-ℤ◌, ◌<◌, ◌≤◌, IsTrue, ◌↔◌, length, None, MatchOption, ◌+◌, ◌/◌};
+ghost use Rattle.std.specs.Prelude.{◌≡◌, ℕ, pos, ◌≤ℤ◌, ◌+ℤ◌, ◌-ℤ◌, ◌<ℤ◌, ◌<◌, ◌≤◌, IsTrue, ◌↔◌, length, None, MatchOption, ◌+◌, ◌/◌};
 ghost use Rattle.flow_solver.specs.Limits.{entry_limit, key_limit, potential_floor};
 ghost use Rattle.flow_solver.specs.Residual.{IsRow, IsFlow, IsCertified, ArePotentials, IsResidual, IsResidualFrom, number_at, start_at, start_of, end_of, cost_of};
-ghost use Rattle.flow_solver.specs.Search.{IsSearch, IsLastSettled, Improves, IsRelaxed, IsRelaxedFrom, AllRelaxed, Settles, visit_at, key_at, source_visit, IsFromExcess, IsExhausted, HasFound};
+ghost use Rattle.flow_solver.specs.Search.{IsSearch, IsLastSettled, Improves, IsRelaxed, IsRelaxedFrom, AllRelaxed, Settles, visit_at, mark_at, key_at, source_visit, IsFromExcess, IsExhausted, HasFound};
 ghost use Rattle.flow_solver.specs.Queue.{IsQueueOf, IsQueueFor, size, first_of};
 ghost use Rattle.flow_solver.specs.Star.{AllNameOther, AreSpokesRelaxed, Covers, IsSpokeRelaxed, NamesOther};
 ghost use Rattle.flow_solver.specs.Walk.{AreAddedRelaxed, ArePassedRelaxed, AreRowsOf, end_way};
 ghost use Rattle.flow_solver.specs.declared.residual.Way.{Way};
+ghost use Rattle.flow_solver.specs.Trail.{IsFresh, IsTrailFor, IsTrailOf};
+ghost use Rattle.flow_solver.specs.declared.visit.Mark.TheVariants.{Unreached};
 
 use crate::queue::Queue;
 use crate::residual::Way;
 use crate::star::{Spoke, Star};
+use crate::trail::Trail;
 use crate::visit::{Mark, Visit};
 use dimacs_text::ArcRow;
 use network::Network;
@@ -375,8 +378,9 @@ fn open_sources(excess: &[i64], visits: &mut [Visit], queue: &mut Queue)
     requires present { queue.old.present ≡ pos 0 }
     requires few { length visits.old ≤ entry_limit }
     requires same_length { length visits.old ≡ length excess.now }
-    requires fresh { (v : ℕ) → visit_at visits.old v ≡ source_visit (pos 0) }
-    ensures visits { (v : ℕ) → visit_at visits.new v ≡ source_visit (number_at excess.now v) }
+    requires fresh { IsFresh visits.old }
+    ensures sources { (v : ℕ) → pos 0 <ℤ number_at excess.now v → visit_at visits.new v ≡ source_visit (number_at excess.now v) }
+    ensures others { (v : ℕ) → number_at excess.now v ≤ℤ pos 0 → mark_at visits.new v ≡ Unreached }
     ensures queue { IsQueueOf visits.new queue.new }
 {
     for v in 0..visits.len() {
@@ -404,7 +408,7 @@ fn wanted_deficits(excess: &[i64]) -> usize
 }
 
 /// Searches from the nodes in excess until enough nodes in deficit are settled, or no node is open, and gives how far
-/// the search has come; nothing where no node in deficit can be reached.
+/// the search has come; nothing where no node in deficit can be reached. The trail lists the settled nodes.
 pub fn find_deficits(
     net: &Network,
     star: &Star,
@@ -414,26 +418,32 @@ pub fn find_deficits(
     excess: &[i64],
     visits: &mut [Visit],
     queue: &mut Queue,
+    trail: &mut Trail,
 ) -> Option<i64>
     requires net { AreRowsOf net.now rows.now }
     requires star { Covers (length potentials.now) net.now.arcs star.now }
     requires certified { IsCertified rows.now flow.now potentials.now }
     requires excess_in { length excess.now ≡ length potentials.now }
     requires visits_in { length visits.old ≡ length potentials.now }
+    requires fresh { IsFresh visits.old }
     requires sized { IsQueueFor (length potentials.now) queue.old }
+    requires trail_in { IsTrailFor (length potentials.now) trail.old }
     ensures search { IsSearch rows.now flow.now potentials.now visits.new }
     ensures relaxed { AllRelaxed rows.now flow.now potentials.now visits.new }
     ensures from_excess { IsFromExcess excess.now visits.new }
     ensures found { MatchOption result (IsExhausted excess.now visits.new) (HasFound excess.now visits.new) }
-    ensures sized { IsQueueFor (length potentials.now) queue.new }
+    ensures queue { IsQueueOf visits.new queue.new }
+    ensures trail { IsTrailOf visits.new trail.new }
 {
-    queue.reset(visits);
+    queue.clear(visits);
+    trail.len = 0;
     open_sources(excess, visits, queue);
     let wanted = wanted_deficits(excess);
     let mut found = 0;
     let mut reach = 0;
     while let Some(u) = queue.first(visits) {
         let _settled = settle_node(net, star, rows, flow, potentials, visits, queue);
+        trail.note(u);
         reach = visits[u].key;
         if excess[u] < 0 {
             found += 1;

@@ -1,24 +1,31 @@
 //! Searches and pushes in turn, until no node in excess reaches a node in deficit.
 
 ghost use Rattle.flow_solver.specs.Limits.{label_floor};
-ghost use Rattle.std.specs.Prelude.{◌≡◌, ◌≢◌, ℕ, ℤ, List, length, pos, neg_ℤ, ◌≤ℤ◌, ◌<ℤ◌, ◌+ℤ◌, ◌-ℤ◌, ◌<◌, ◌≤◌, ◌+◌, IsTrue, ◌↔◌, MatchOption};
+ghost use Rattle.std.specs.Prelude.{◌≡◌, ◌≢◌, ℕ, ℤ, List, length, pos, neg_ℤ, ◌≤ℤ◌, ◌<ℤ◌, ◌+ℤ◌, ◌-ℤ◌, ◌<◌, ◌≤◌, ◌+◌, IsTrue, ◌↔◌, MatchOption, IfNone, IfSome};
 ghost use Rattle.flow_solver.specs.Residual.{IsFlow, IsCertified, ArePotentials, AreGreatest, ArePathsAbove, number_at};
 ghost use Rattle.flow_solver.specs.Settle.{IsNear, HasSearched};
 ghost use Rattle.flow_solver.specs.Push.{IsExcess, Pushes, left, AreSmall};
 ghost use Rattle.flow_solver.specs.Labels.{IsLabelsFor};
-ghost use Rattle.flow_solver.specs.Queue.{IsQueueFor};
+ghost use Rattle.flow_solver.specs.Queue.{IsQueueFor, IsQueueOf};
+ghost use Rattle.flow_solver.specs.Scratch.{IsScratchFor};
+ghost use Rattle.flow_solver.specs.Touched.{AreNoted, IsLedger, IsWritten};
+ghost use Rattle.flow_solver.specs.Trail.{IsFresh, IsTrailFor, IsTrailOf};
 ghost use Rattle.flow_solver.specs.Star.{Covers};
 ghost use Rattle.flow_solver.specs.Walk.{AreRowsOf};
 ghost use Rattle.flow_solver.specs.Cut.{amount, IsSide, IsParted, IsChosenSet};
 ghost use Rattle.flow_solver.specs.declared.cut.Side.TheVariants.{Ahead, Behind};
 
 use crate::augment::push_found;
-use crate::cut::{Side, mark_side};
+use crate::cut::{Side, mark_side, take_marks};
 use crate::labels::Labels;
+use crate::ledger::Ledger;
 use crate::potentials::{lower, raise};
 use crate::queue::Queue;
+use crate::scratch::Scratch;
 use crate::search::find_deficits;
 use crate::star::Star;
+use crate::touched::Touched;
+use crate::trail::{Trail, forget};
 use crate::visit::Visit;
 use dimacs_text::ArcRow;
 use network::Network;
@@ -26,30 +33,39 @@ use network::Network;
 /// How far potentials may fall before labels are taken again.
 const FALL_LIMIT: i64 = 70_000_000_000_000_000;
 
-/// Pushes flow along shortest paths until no node in excess reaches a node in deficit, and counts the pushes. `spent` is
-/// a table to mark nodes in.
+/// Pushes flow along shortest paths until no node in excess reaches a node in deficit, and counts the pushes. Each search
+/// forgets what it reached before the next.
 pub fn push_all(
     net: &Network,
     star: &Star,
     rows: &[ArcRow],
     flow: &mut [i64],
+    touched_flow: &mut Touched,
     potentials: &mut [i64],
+    touched_potentials: &mut Touched,
     excess: &mut [i64],
     visits: &mut [Visit],
     labels: &mut Labels,
     queue: &mut Queue,
-    spent: &mut [bool],
+    trail: &mut Trail,
 ) -> u64
+    requires touched_flow_in { length flow.old ≤ length touched_flow.old }
+    requires touched_potentials_in { length potentials.old ≤ length touched_potentials.old }
     requires net { AreRowsOf net.now rows.now }
     requires star { Covers (length potentials.old) net.now.arcs star.now }
     requires certified { IsCertified rows.now flow.old potentials.old }
     requires potentials_in { ArePotentials (length potentials.old) label_floor potentials.old }
     requires excess_in { length excess.old ≡ length potentials.old }
     requires visits_in { length visits.old ≡ length potentials.old }
-    requires spent_in { length spent.old ≡ length potentials.old }
+    requires fresh { IsFresh visits.old }
     requires labels { IsLabelsFor (length potentials.old) labels.old }
     requires sized { IsQueueFor (length potentials.old) queue.old }
+    requires trail { IsTrailFor (length potentials.old) trail.old }
     requires small { AreSmall excess.old }
+    ensures noted_flow { AreNoted touched_flow.old flow.old touched_flow.new flow.new }
+    ensures noted_potentials { AreNoted touched_potentials.old potentials.old touched_potentials.new potentials.new }
+    ensures fresh { IsFresh visits.new }
+    ensures trail { IsTrailFor (length potentials.new) trail.new }
     ensures certified { IsCertified rows.now flow.new potentials.new }
     ensures small { AreSmall excess.new }
     ensures excess { (supply : ℕ → ℤ) → IsExcess rows.now supply flow.old excess.old → IsExcess rows.now supply flow.new excess.new }
@@ -61,15 +77,29 @@ pub fn push_all(
 {
     let mut pushes = 0;
     let mut fallen = 0;
-    while let Some(reach) = search_on(net, star, rows, flow, potentials, excess, visits, queue) {
-        lower(potentials, visits, reach);
-        pushes += push_found(net, star, rows, flow, potentials, excess, visits, spent);
+    while let Some(reach) = search_on(
+        net, star, rows, flow, potentials, excess, visits, queue, trail,
+    ) {
+        lower(potentials, touched_potentials, visits, trail, reach);
+        pushes += push_found(
+            net,
+            star,
+            rows,
+            flow,
+            touched_flow,
+            potentials,
+            excess,
+            visits,
+            trail,
+        );
+        forget(visits, queue, trail);
         fallen = keep_near(
             net,
             star,
             rows,
             flow,
             potentials,
+            touched_potentials,
             labels,
             queue,
             fallen + reach,
@@ -79,7 +109,7 @@ pub fn push_all(
 }
 
 /// Searches from the nodes in excess for nodes in deficit, where there are both, and gives how far the search has come;
-/// nothing where no node in excess reaches a node in deficit.
+/// nothing where no node in excess reaches a node in deficit, and then the search is forgotten.
 fn search_on(
     net: &Network,
     star: &Star,
@@ -89,20 +119,33 @@ fn search_on(
     excess: &[i64],
     visits: &mut [Visit],
     queue: &mut Queue,
+    trail: &mut Trail,
 ) -> Option<i64>
     requires net { AreRowsOf net.now rows.now }
     requires star { Covers (length potentials.now) net.now.arcs star.now }
     requires certified { IsCertified rows.now flow.now potentials.now }
     requires excess_in { length excess.now ≡ length potentials.now }
     requires visits_in { length visits.old ≡ length potentials.now }
+    requires fresh { IsFresh visits.old }
     requires sized { IsQueueFor (length potentials.now) queue.old }
+    requires trail_in { IsTrailFor (length potentials.now) trail.old }
     ensures found { MatchOption result (IsParted rows.now flow.now excess.now) (HasSearched rows.now flow.now potentials.now excess.now visits.new) }
+    ensures forgotten { IfNone result (IsFresh visits.new) }
+    ensures queue { IfSome result (λ reach. IsQueueOf visits.new queue.new) }
+    ensures trail { IfSome result (λ reach. IsTrailOf visits.new trail.new) }
     ensures sized { IsQueueFor (length potentials.now) queue.new }
+    ensures trail_in { IsTrailFor (length potentials.now) trail.new }
 {
     if !has_root(Side::Ahead, excess) || !has_root(Side::Behind, excess) {
         return None;
     }
-    find_deficits(net, star, rows, flow, potentials, excess, visits, queue)
+    let reach = find_deficits(
+        net, star, rows, flow, potentials, excess, visits, queue, trail,
+    );
+    if reach.is_none() {
+        forget(visits, queue, trail);
+    }
+    reach
 }
 
 /// Takes the labels again where the potentials, which have fallen by at most `fallen`, could leave their range; gives
@@ -113,10 +156,12 @@ fn keep_near(
     rows: &[ArcRow],
     flow: &[i64],
     potentials: &mut [i64],
+    touched: &mut Touched,
     labels: &mut Labels,
     queue: &mut Queue,
     fallen: i64,
 ) -> i64
+    requires touched_in { length potentials.old ≤ length touched.old }
     requires net { AreRowsOf net.now rows.now }
     requires star { Covers (length potentials.old) net.now.arcs star.now }
     requires certified { IsCertified rows.now flow.now potentials.old }
@@ -124,6 +169,7 @@ fn keep_near(
     requires sized { IsQueueFor (length potentials.old) queue.old }
     requires not_below_0 { pos 0 ≤ℤ fallen }
     requires at_least { (v : ℕ) → (neg_ℤ (pos label_floor) -ℤ fallen) ≤ℤ number_at potentials.old v }
+    ensures noted { AreNoted touched.old potentials.old touched.new potentials.new }
     ensures certified { IsCertified rows.now flow.now potentials.new }
     ensures labels { IsLabelsFor (length potentials.new) labels.new }
     ensures sized { IsQueueFor (length potentials.new) queue.new }
@@ -132,7 +178,7 @@ fn keep_near(
     if fallen <= FALL_LIMIT {
         return fallen;
     }
-    raise(net, star, rows, flow, potentials, labels, queue);
+    raise(net, star, rows, flow, potentials, touched, labels, queue);
     0
 }
 
@@ -148,22 +194,27 @@ fn has_root(side: Side, excess: &[i64]) -> bool
     false
 }
 
-/// Marks the set that tells why some supply is left over or some demand is not met. The queue is not in use then, and
-/// lends its table.
+/// Marks the set that tells why some supply is left over or some demand is not met, first in a table to mark nodes in. The
+/// queue is not in use then, and lends its table.
 fn mark_cut(
     net: &Network,
     rows: &[ArcRow],
     flow: &[i64],
     excess: &[i64],
     queue: &mut Queue,
+    marks: &mut [bool],
     cut: &mut [bool],
+    touched: &mut Touched,
 )
+    requires touched_in { length cut.old ≤ length touched.old }
     requires net { AreRowsOf net.now rows.now }
     requires flow { IsFlow (length excess.now) rows.now flow.now }
+    requires marks_in { length marks.old ≡ length excess.now }
     requires cut_in { length cut.old ≡ length excess.now }
     requires sized { IsQueueFor (length excess.now) queue.old }
     ensures in_excess { 0 < left excess.now → IsSide Ahead rows.now flow.now excess.now cut.new }
     ensures no_excess { left excess.now ≡ 0 → IsSide Behind rows.now flow.now excess.now cut.new }
+    ensures noted { AreNoted touched.old cut.old touched.new cut.new }
     ensures sized { IsQueueFor (length excess.now) queue.new }
 {
     let side = if has_root(Side::Ahead, excess) {
@@ -171,7 +222,8 @@ fn mark_cut(
     } else {
         Side::Behind
     };
-    mark_side(side, net, rows, flow, excess, cut, &mut queue.order);
+    mark_side(side, net, rows, flow, excess, marks, &mut queue.order);
+    take_marks(cut, touched, marks);
 }
 
 /// Makes the flow a best one, or marks the cut that tells why there is none, with the greatest
@@ -180,40 +232,70 @@ pub fn settle(
     net: &Network,
     star: &Star,
     rows: &[ArcRow],
-    flow: &mut [i64],
-    potentials: &mut [i64],
+    flow: &mut Ledger<i64>,
+    potentials: &mut Ledger<i64>,
     excess: &mut [i64],
-    visits: &mut [Visit],
-    labels: &mut Labels,
-    queue: &mut Queue,
-    cut: &mut [bool],
+    scratch: &mut Scratch,
+    cut: &mut Ledger<bool>,
 ) -> u64
     requires net { AreRowsOf net.now rows.now }
-    requires star { Covers (length potentials.old) net.now.arcs star.now }
-    requires certified { IsCertified rows.now flow.old potentials.old }
-    requires potentials_in { ArePotentials (length potentials.old) label_floor potentials.old }
-    requires excess_in { length excess.old ≡ length potentials.old }
-    requires visits_in { length visits.old ≡ length potentials.old }
-    requires cut_in { length cut.old ≡ length potentials.old }
-    requires labels { IsLabelsFor (length potentials.old) labels.old }
-    requires sized { IsQueueFor (length potentials.old) queue.old }
+    requires star { Covers (length potentials.old.entries.items) net.now.arcs star.now }
+    requires flow_ledger { IsLedger flow.old }
+    requires potentials_ledger { IsLedger potentials.old }
+    requires cut_ledger { IsLedger cut.old }
+    requires certified { IsCertified rows.now flow.old.entries.items potentials.old.entries.items }
+    requires potentials_in { ArePotentials (length potentials.old.entries.items) label_floor potentials.old.entries.items }
+    requires excess_in { length excess.old ≡ length potentials.old.entries.items }
+    requires cut_in { length cut.old.entries.items ≡ length potentials.old.entries.items }
+    requires scratch { IsScratchFor (length potentials.old.entries.items) scratch.old }
     requires small { AreSmall excess.old }
-    ensures certified { IsCertified rows.now flow.new potentials.new }
-    ensures potentials_in { ArePotentials (length potentials.new) label_floor potentials.new }
-    ensures greatest { AreGreatest rows.now flow.new potentials.new }
-    ensures above { ArePathsAbove rows.now potentials.new }
+    ensures flow_written { IsWritten flow.old flow.new }
+    ensures potentials_written { IsWritten potentials.old potentials.new }
+    ensures cut_written { IsWritten cut.old cut.new }
+    ensures certified { IsCertified rows.now flow.new.entries.items potentials.new.entries.items }
+    ensures potentials_in { ArePotentials (length potentials.new.entries.items) label_floor potentials.new.entries.items }
+    ensures greatest { AreGreatest rows.now flow.new.entries.items potentials.new.entries.items }
+    ensures above { ArePathsAbove rows.now potentials.new.entries.items }
     ensures small { AreSmall excess.new }
-    ensures excess { (supply : ℕ → ℤ) → IsExcess rows.now supply flow.old excess.old → IsExcess rows.now supply flow.new excess.new }
-    ensures pushes { (supply : ℕ → ℤ) → IsExcess rows.now supply flow.old excess.old → Pushes rows.now supply result flow.old flow.new }
+    ensures excess { (supply : ℕ → ℤ) → IsExcess rows.now supply flow.old.entries.items excess.old → IsExcess rows.now supply flow.new.entries.items excess.new }
+    ensures pushes { (supply : ℕ → ℤ) → IsExcess rows.now supply flow.old.entries.items excess.old → Pushes rows.now supply result flow.old.entries.items flow.new.entries.items }
     ensures count { result + left excess.new ≤ left excess.old }
-    ensures labels { IsLabelsFor (length potentials.new) labels.new }
-    ensures sized { IsQueueFor (length potentials.new) queue.new }
-    ensures cut { (supply : ℕ → ℤ) → IsExcess rows.now supply flow.old excess.old → IsChosenSet rows.now supply excess.new cut.new }
+    ensures scratch { IsScratchFor (length potentials.new.entries.items) scratch.new }
+    ensures cut { (supply : ℕ → ℤ) → IsExcess rows.now supply flow.old.entries.items excess.old → IsChosenSet rows.now supply excess.new cut.new.entries.items }
 {
     let pushes = push_all(
-        net, star, rows, flow, potentials, excess, visits, labels, queue, cut,
+        net,
+        star,
+        rows,
+        &mut flow.entries,
+        &mut flow.touched,
+        &mut potentials.entries,
+        &mut potentials.touched,
+        excess,
+        &mut scratch.visits,
+        &mut scratch.labels,
+        &mut scratch.queue,
+        &mut scratch.trail,
     );
-    mark_cut(net, rows, flow, excess, queue, cut);
-    raise(net, star, rows, flow, potentials, labels, queue);
+    mark_cut(
+        net,
+        rows,
+        &flow.entries,
+        excess,
+        &mut scratch.queue,
+        &mut scratch.trail.spent,
+        &mut cut.entries,
+        &mut cut.touched,
+    );
+    raise(
+        net,
+        star,
+        rows,
+        &flow.entries,
+        &mut potentials.entries,
+        &mut potentials.touched,
+        &mut scratch.labels,
+        &mut scratch.queue,
+    );
     pushes
 }

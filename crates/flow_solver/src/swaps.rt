@@ -1,50 +1,53 @@
 //! Exchanges of single entries of a table.
 
 ghost use Rattle.std.specs.Prelude.{◌≡◌, ◌-◌, ◌<◌, ◌≤◌, drop, length, slice_index_or, slice_set, ◌+◌};
-ghost use Rattle.network.specs.Instance.{reduced};
+ghost use Rattle.network.specs.Instance.{IsLawful, reduced};
+ghost use Rattle.flow_solver.specs.Balance.{IsBalanceOf};
 ghost use Rattle.flow_solver.specs.Moment.{VerdictFits, with_return};
+ghost use Rattle.flow_solver.specs.Touched.{IsLedger, IsWritten};
 
+use crate::balance::{Balance, carry_over};
+use crate::ledger::Ledger;
 use crate::verdict::Verdict;
+use dimacs_text::ArcRow;
 use network::Network;
 
-/// Exchanges an entry of a table with a value.
-pub fn exchange<T: Copy>(table: &mut [T], place: usize, value: &mut T)
-    requires { place < length table.old }
-    ensures table { table.new ≡ slice_set table.old place value.old }
-    ensures value { value.new ≡ slice_index_or table.old place value.old }
-{
-    std::mem::swap(&mut table[place], value);
-}
-
 /// Exchanges the entry of a node, in a table with an entry for no node in front.
-pub fn exchange_node<T: Copy>(table: &mut [T], id: u32, value: &mut T)
-    requires node { (1 ≤ id) × (id < length table.old) }
-    ensures table { drop 1 table.new ≡ slice_set (drop 1 table.old) (id - 1) value.old }
-    ensures value { value.new ≡ slice_index_or (drop 1 table.old) (id - 1) value.old }
-    ensures no_node { (d : T) → slice_index_or table.new 0 d ≡ slice_index_or table.old 0 d }
+pub fn exchange_node<T: Copy>(table: &mut Ledger<T>, id: u32, value: &mut T)
+    requires ledger { IsLedger table.old }
+    requires node { (1 ≤ id) × (id < length table.old.entries.items) }
+    ensures written { IsWritten table.old table.new }
+    ensures table { drop 1 table.new.entries.items ≡ slice_set (drop 1 table.old.entries.items) (id - 1) value.old }
+    ensures value { value.new ≡ slice_index_or (drop 1 table.old.entries.items) (id - 1) value.old }
+    ensures no_node { (d : T) → slice_index_or table.new.entries.items 0 d ≡ slice_index_or table.old.entries.items 0 d }
 {
-    exchange(table, id as usize, value);
-}
-
-/// Copies the entries of the nodes into a table with an entry for no node in front.
-pub fn copy_nodes<T: Copy>(table: &mut [T], nodes: &[T])
-    requires { length table.old ≡ length nodes.now + 1 }
-    ensures table { drop 1 table.new ≡ nodes.now }
-    ensures no_node { (d : T) → slice_index_or table.new 0 d ≡ slice_index_or table.old 0 d }
-{
-    table[1..].copy_from_slice(nodes);
+    table.exchange(id as usize, value);
 }
 
 /// Has the return arc, where there is one, carry the worth that is told.
-pub fn carry_worth(net: &Network, flow: &mut [i64], verdict: Verdict)
+pub fn carry_worth(
+    net: &Network,
+    rows: &[ArcRow],
+    flow: &mut Ledger<i64>,
+    balance: &mut Balance,
+    verdict: Verdict,
+)
+    requires lawful { IsLawful net.now }
+    requires rows { rows.now ≡ (reduced net.now).arcs }
+    requires balance { IsBalanceOf net.now rows.now flow.old balance.old }
     requires fits { VerdictFits net.now.demand verdict }
-    requires flow_in { length flow.old ≡ length (reduced net.now).arcs }
-    ensures { flow.new ≡ with_return net.now.demand verdict flow.old }
+    requires ledger { IsLedger flow.old }
+    requires flow_in { length flow.old.entries.items ≡ length (reduced net.now).arcs }
+    ensures balance { IsBalanceOf net.now rows.now flow.new balance.new }
+    ensures written { IsWritten flow.old flow.new }
+    ensures flow { flow.new.entries.items ≡ with_return net.now.demand verdict flow.old.entries.items }
 {
     if let Some(_) = net.return_arc() {
         let Verdict::Best(worth) = verdict else {
             unreachable!()
         };
-        flow[0] = worth as i64;
+        let carried = worth as i64;
+        carry_over(&mut balance.excess, &rows[0], flow.entries[0], carried);
+        flow.set(0, carried);
     }
 }

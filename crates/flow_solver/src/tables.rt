@@ -7,10 +7,10 @@ ghost use Rattle.dimacs_text.specs.declared.problem.Kind.TheVariants.{Min};
 ghost use Rattle.network.specs.Flow.{IsCertifiedFlow, IsPotential, total_excess};
 ghost use Rattle.network.specs.Edited.{edited};
 ghost use Rattle.network.specs.Instance.{arc_at, at_node, kind_of, numbered_flow, reduced, reduced_supply, with_supply};
-ghost use Rattle.flow_solver.specs.Desk.{IsAnswered, IsFlow, IsRowOf, HasEnds, flow_index, supplies_in};
+ghost use Rattle.flow_solver.specs.Desk.{IsAnswered, IsFlow, IsRowOf, HasEnds, NameChanges, flow_index, supplies_in};
 ghost use Rattle.flow_solver.specs.Edit.{IsChange};
 ghost use Rattle.flow_solver.specs.Moment.{IsSized, IsStart, TellsReturn, VerdictFits, with_verdict};
-ghost use Rattle.flow_solver.specs.Part.{before_part, CanTakeBack};
+ghost use Rattle.flow_solver.specs.Part.{before_part, return_count, CanTakeBack};
 ghost use Rattle.flow_solver.specs.Push.{Pushes};
 
 use crate::part::{Part, part_of, return_count, row_before, supply_before};
@@ -25,36 +25,19 @@ use std::marker::Model;
 #[derive(Drop)]
 pub struct Tables {
     solver: Solver,
-    old_flow: Vec<i64>,
-    old_potentials: Vec<i64>,
-    old_cut: Vec<bool>,
     old_verdict: Verdict,
     part: Option<Part>,
 }
 
 impl Model for Tables {
-    ghost use Rattle.std.specs.Prelude.{vec_capacity};
     ghost use Rattle.flow_solver.specs.Desk.{Desk};
-    ghost use Rattle.flow_solver.specs.Part.{before_of, AreCopies};
+    ghost use Rattle.flow_solver.specs.Part.{before_of, IsKept};
 
     ghost Value = { Desk };
 
-    ghost view = { λ t. record { moment = t.solver; before = before_of t.part t.solver.instance t.old_flow.items t.old_potentials.items t.old_verdict t.old_cut.items } };
+    ghost view = { λ t. record { moment = t.solver.moment; before = before_of t.part t.solver.moment.instance t.solver.kept t.old_verdict } };
 
-    ghost invariant = { λ t. AreCopies t.part t.solver.instance t.old_flow.items t.old_potentials.items t.old_cut.items (vec_capacity t.old_flow) };
-}
-
-/// Copies the flow of the solver.
-fn keep_flow(solver: &Solver, old: &mut Vec<i64>)
-    requires { solver.now.instance.room + 1 ≤ vec_capacity old.old }
-    ensures items { old.new.items ≡ solver.now.flow }
-    ensures capacity { vec_capacity old.old ≤ vec_capacity old.new }
-    ensures sized { IsSized solver.now }
-{
-    old.clear();
-    let Ok(()) = old.extend_from_slice(solver.reduced_flow()) else {
-        unreachable!()
-    };
+    ghost invariant = { λ t. IsKept t.part t.solver.moment.instance t.solver.kept };
 }
 
 impl Tables {
@@ -69,16 +52,9 @@ impl Tables {
         ensures certified { IfOk result
             (λ t. IsCertifiedFlow (reduced t.moment.instance) t.moment.flow (at_node t.moment.potentials)) }
     {
-        let nodes = net.nodes() as usize;
-        let old_flow = Vec::with_capacity(alloc, net.room() as usize + 1)?;
-        let old_potentials = vec![in alloc; 0; nodes]?;
-        let old_cut = vec![in alloc; false; nodes]?;
         let solver = Solver::new(alloc, net)?;
         Ok(Tables {
             solver,
-            old_flow,
-            old_potentials,
-            old_cut,
             old_verdict: Verdict::Best(0),
             part: None,
         })
@@ -107,10 +83,7 @@ impl Tables {
         ensures changed { IsChange self.old.moment.instance self.new.moment.instance edit.now self.old.moment.flow self.new.moment.flow result }
         ensures before { self.new.before ≡ Some self.old.moment }
     {
-        keep_flow(&self.solver, &mut self.old_flow);
-        self.old_potentials
-            .copy_from_slice(self.solver.potentials());
-        self.old_cut.copy_from_slice(self.solver.cut());
+        self.solver.keep();
         self.old_verdict = self.solver.verdict();
         self.part = Some(part_of(self.solver.network(), edit));
         self.solver.change(edit)
@@ -124,12 +97,7 @@ impl Tables {
     {
         if let Some(part) = self.part {
             take_back(&mut self.solver, part);
-            self.solver.put_back(
-                &self.old_flow,
-                &self.old_potentials,
-                self.old_verdict,
-                &self.old_cut,
-            );
+            self.solver.bring_back(self.old_verdict);
         }
         self.part = None;
     }
@@ -178,7 +146,7 @@ impl Tables {
         ensures { IfSome self.now.before (λ old. result.now ≡ numbered_flow old.instance.demand old.flow) }
     {
         let first = return_count(self.solver.network());
-        &self.old_flow[first..]
+        &self.solver.kept_flow()[first..]
     }
 
     /// The potential of each node before the last change.
@@ -186,7 +154,7 @@ impl Tables {
         requires { IsSome self.now.before }
         ensures { IfSome self.now.before (λ old. result.now ≡ old.potentials) }
     {
-        &self.old_potentials
+        self.solver.kept_potentials()
     }
 
     /// The marks of the nodes before the last change.
@@ -194,7 +162,7 @@ impl Tables {
         requires { IsSome self.now.before }
         ensures { IfSome self.now.before (λ old. result.now ≡ old.cut) }
     {
-        &self.old_cut
+        self.solver.kept_cut()
     }
 
     /// What was told of the instance before the last change.
@@ -203,6 +171,33 @@ impl Tables {
         ensures { IfSome self.now.before (λ old. result ≡ old.verdict) }
     {
         self.old_verdict
+    }
+
+    /// The places of the flow that the last change wrote, each once and in no order: arc k has place k - 1, and place k where
+    /// a return arc stands first. The flow of every other arc is what it was.
+    pub fn touched_flow(&self) -> &[u32]
+        requires { IsSome self.now.before }
+        ensures { IfSome self.now.before (λ old. NameChanges (return_count old.instance.demand) result.now (numbered_flow old.instance.demand old.flow) (numbered_flow self.now.moment.instance.demand self.now.moment.flow)) }
+    {
+        self.solver.touched_flow()
+    }
+
+    /// The nodes whose potential the last change wrote, each once and in no order; 0 may be there, and is no node. The
+    /// potential of every other node is what it was.
+    pub fn touched_potentials(&self) -> &[u32]
+        requires { IsSome self.now.before }
+        ensures { IfSome self.now.before (λ old. NameChanges 1 result.now old.potentials self.now.moment.potentials) }
+    {
+        self.solver.touched_potentials()
+    }
+
+    /// The nodes whose mark the last change wrote, each once and in no order; 0 may be there, and is no node. The mark of
+    /// every other node is what it was.
+    pub fn touched_cut(&self) -> &[u32]
+        requires { IsSome self.now.before }
+        ensures { IfSome self.now.before (λ old. NameChanges 1 result.now old.cut self.now.moment.cut) }
+    {
+        self.solver.touched_cut()
     }
 
     /// The arc with this number before the last change, if it was there.
@@ -330,8 +325,10 @@ impl Tables {
 
 /// Takes a change of the instance back.
 fn take_back(solver: &mut Solver, part: Part)
-    requires { CanTakeBack part solver.old.instance }
-    ensures { solver.new.instance ≡ before_part part solver.old.instance }
+    requires can { CanTakeBack part solver.old.moment.instance }
+    requires kept { length solver.old.kept.flow ≡ length (reduced (before_part part solver.old.moment.instance)).arcs }
+    ensures instance { solver.new.moment.instance ≡ before_part part solver.old.moment.instance }
+    ensures kept { solver.new.kept ≡ solver.old.kept }
 {
     match part {
         Part::OtherRow { arc, row } => {

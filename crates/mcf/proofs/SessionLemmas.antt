@@ -15,12 +15,12 @@ use Rattle.mcf.specs.declared.end.End.{End}
 use Rattle.mcf.specs.declared.end.End.TheVariants.{Solved, Infeasible, Ended, Valid, NotValid, Refused, ReadFailed, WriteFailed, Memory}
 use Rattle.mcf.specs.declared.read.ReadError.{ReadError}
 use Rattle.mcf.specs.declared.read.ReadError.TheVariants as read_error
-use Rattle.mcf.specs.Check.{IsProblemText, write_failures}
+use Rattle.mcf.specs.Check.{IsProblemText, write_failures, problem_failures}
 use Rattle.mcf.specs.Printing.{outcome_line}
 use Rattle.mcf.specs.Reading.{Gives, ReadsText, end_of}
 use Rattle.mcf.specs.Run.{Answers}
 use Rattle.mcf.specs.Serving.{CommandsEnd, CommandsFail}
-use Rattle.mcf.specs.Session.{Opens, PrintsBeginning, PrintsRun, SessionTells, SessionWrites}
+use Rattle.mcf.specs.Session.{Opens, PrintsBeginning, PrintsRun, SessionTells, SessionWrites, command_failures}
 use Rattle.mcf.proofs.SourceLemmas.{text_at_end, text_given, problem_text, reads_decided, appended}
 
 -- ---- the problem was not read
@@ -156,3 +156,30 @@ write_counted (Refused input number line) script_old script_new out_old out_new 
 write_counted (ReadFailed the.Problem) script_old script_new out_old out_new fail = absurd fail
 write_counted (ReadFailed the.Answer) script_old script_new out_old out_new fail = absurd fail
 write_counted Memory script_old script_new out_old out_new fail = absurd fail
+
+pub reads_counted : (end : End) (script_old script_new out_old out_new : ℕ) → CommandsFail end script_old script_new out_old out_new → script_new ≡ script_old + command_failures end
+reads_counted Ended script_old script_new out_old out_new fail = omega (arith, fail.0)
+reads_counted (ReadFailed the.Commands) script_old script_new out_old out_new fail = fail.0
+reads_counted WriteFailed script_old script_new out_old out_new fail = omega (arith, fail.0)
+reads_counted Solved script_old script_new out_old out_new fail = absurd fail
+reads_counted Infeasible script_old script_new out_old out_new fail = absurd fail
+reads_counted Valid script_old script_new out_old out_new fail = absurd fail
+reads_counted NotValid script_old script_new out_old out_new fail = absurd fail
+reads_counted (Refused input number line) script_old script_new out_old out_new fail = absurd fail
+reads_counted (ReadFailed the.Problem) script_old script_new out_old out_new fail = absurd fail
+reads_counted (ReadFailed the.Answer) script_old script_new out_old out_new fail = absurd fail
+reads_counted Memory script_old script_new out_old out_new fail = absurd fail
+
+-- the problem text was read to its end before the commands
+pub no_problem_counted : (end : End) (script_old script_new out_old out_new : ℕ) → CommandsFail end script_old script_new out_old out_new → (before after : ℕ) → after ≡ before → after ≡ before + problem_failures end
+no_problem_counted Ended script_old script_new out_old out_new fail before after same = omega (arith, same)
+no_problem_counted (ReadFailed the.Commands) script_old script_new out_old out_new fail before after same = omega (arith, same)
+no_problem_counted WriteFailed script_old script_new out_old out_new fail before after same = omega (arith, same)
+no_problem_counted Solved script_old script_new out_old out_new fail before after same = absurd fail
+no_problem_counted Infeasible script_old script_new out_old out_new fail before after same = absurd fail
+no_problem_counted Valid script_old script_new out_old out_new fail before after same = absurd fail
+no_problem_counted NotValid script_old script_new out_old out_new fail before after same = absurd fail
+no_problem_counted (Refused input number line) script_old script_new out_old out_new fail before after same = absurd fail
+no_problem_counted (ReadFailed the.Problem) script_old script_new out_old out_new fail before after same = absurd fail
+no_problem_counted (ReadFailed the.Answer) script_old script_new out_old out_new fail before after same = absurd fail
+no_problem_counted Memory script_old script_new out_old out_new fail before after same = absurd fail

@@ -1,8 +1,9 @@
 -- The places at which two lists differ, found one after another.
-use Rattle.std.proofs.Common.{◌≡◌, ◌≢◌, ℕ, ◌+◌, ◌-◌, ◌<◌, ◌≤◌, List, [], ◌∷◌, ◌++◌, length, get_or, set, take, drop, sym, ap, ◌∙◌, arith, append_assoc, length-take-le}
+use Rattle.std.proofs.Common.{◌≡◌, ◌≢◌, ℕ, ◌+◌, ◌-◌, ◌<◌, ◌≤◌, zero, suc, List, [], ◌∷◌, ◌++◌, length, get_or, set, take, drop, sym, subst, ap, ◌∙◌, arith, append_assoc, length-take-le}
 use Rattle.std.proofs.lemmas.List.{take_more, drop_more, set_at, get_or_default}
 use Rattle.std.proofs.lemmas.List.Elements.{All-push}
 use Rattle.std.proofs.lemmas.List.Quantifiers.{all_pairs_push}
+use Rattle.flow_solver.specs.Touched.{AgreeAt}
 use Rattle.session.specs.Places.{AreFound}
 use Rattle.session.specs.PlacesLaws.{exchanged-push}
 
@@ -43,3 +44,22 @@ module _ {X : Type 0} (places : List (ℕ × X)) (xs ys : List X) (k : ℕ) (x y
     values = All-push (λ p. get_or xs (p.0 - 1) p.1 ≡ p.1) places (k + 1, x) found.values (ap (λ (n : ℕ). get_or xs n x) index ∙ sym is_x);
     differ = All-push (λ p. get_or ys (p.0 - 1) p.1 ≢ p.1) places (k + 1, x) found.differ (λ same. differs (sym same ∙ ap (λ (n : ℕ). get_or ys n x) index ∙ sym new_at));
   }
+
+-- a value of a list that has one
+some_of : {X : Type 0} (xs : List X) → 0 < length xs → X
+some_of [] some = absurd (omega arith)
+some_of (x ∷ xs) some = x
+
+module _ {X : Type 0} (places : List (ℕ × X)) (xs ys : List X) (fewer : length xs ≤ length ys) where
+  -- what is found among the first k is all that there is among the first m, where the lists agree in between
+  pub found_to : (n k m : ℕ) → m ≡ n + k → m ≤ length xs → AreFound places xs ys k → ((j : ℕ) → k ≤ j → j < m → AgreeAt xs ys j) → AreFound places xs ys m
+  found_to zero k m is inside found agree = subst (AreFound places xs ys) (omega arith) found
+  found_to (suc n) k m is inside found agree =
+      let below : k < length xs = omega arith in
+      let d : X = some_of xs (omega arith) in
+      let x : X = get_or xs k d in
+      let y : X = get_or ys k d in
+      let is_x : x ≡ get_or xs k x = get_or_default xs k d x below in
+      let is_y : y ≡ get_or ys k y = get_or_default ys k d y (omega arith) in
+      let more : AreFound places xs ys (k + 1) = found_same places xs ys k x y below fewer found is_x is_y (sym (agree k (omega arith) (omega arith) d)) in
+      found_to n (k + 1) m (omega arith) inside more (λ j from to. agree j (omega arith) to)

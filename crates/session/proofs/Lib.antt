@@ -1,4 +1,5 @@
 mod Found
+mod Numbers
 mod Exact
 mod Exchanges
 mod Swapping

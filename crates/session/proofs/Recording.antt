@@ -1,5 +1,5 @@
 -- The record of a change fits the tables, leads to the moment before it, and names only what differs.
-use Rattle.std.proofs.Common.{◌≡◌, ℕ, ◌-◌, ◌≤◌, ℤ, Bool, List, ◌++◌, length, take, drop, Option, Some, None, IsSome, IfSome, Ok, refl, sym, ap, ◌∙◌, arith}
+use Rattle.std.proofs.Common.{◌≡◌, ℕ, ◌-◌, ◌≤◌, ℤ, Bool, List, ◌++◌, length, take, drop, Option, Some, None, IsSome, IfSome, Ok, refl, sym, ap, subst, ◌∙◌, arith}
 use mathlib.Core.Bool.{false≢true}
 use Rattle.std.specs.List.{All}
 use Rattle.std.specs.Option.{unwrap_or}
@@ -7,17 +7,18 @@ use Rattle.std.proofs.lemmas.List.{take_all, drop_all, take_at, append-nil}
 use Rattle.dimacs_text.specs.declared.command.Edit.{Edit}
 use Rattle.network.specs.Edited.{edited}
 use Rattle.network.specs.Flow.{IsPotential}
-use Rattle.network.specs.Instance.{Instance}
+use Rattle.network.specs.Instance.{Demand, Supplies, Terminals, Sides, Instance}
 use Rattle.network.proofs.Answering.{potentials_from}
 use Rattle.flow_solver.specs.declared.verdict.Verdict.{Verdict}
 use Rattle.flow_solver.specs.Moment.{Moment, VerdictFits, returned}
-use Rattle.flow_solver.specs.Desk.{IsAnswered, IsFlow}
+use Rattle.flow_solver.specs.Desk.{IsAnswered, IsFlow, NameChanges}
+use Rattle.flow_solver.specs.Part.{return_count}
 use Rattle.flow_solver.proofs.AnswerLemmas.{verdict_fits, flow_told, flows_within}
 use Rattle.session.specs.declared.part.Part.{Part}
 use Rattle.session.specs.declared.part.Part.TheVariants.{Arc, Supply, Last, Gone}
 use Rattle.session.specs.Places.{exchanged, PlacesFit, AreFound, Ending, Kept, Cut, Grown, ended, shared, EndingFits}
 use Rattle.session.specs.PlacesLaws.{length-exchanged}
-use Rattle.session.specs.Record.{Recorded, supplies_of, flow_end, arcs_end, flow_of, instance_swapped, swapped, IsInRange, IsMark, RecordFits, Differs}
+use Rattle.session.specs.Record.{Recorded, demand_swapped, supplies_of, flow_end, arcs_end, flow_of, instance_swapped, swapped, IsInRange, IsMark, RecordFits, Differs}
 use Rattle.session.specs.ReturnLaws.{length-numbered, returned-swapped, verdict_fits-swapped}
 use Rattle.session.specs.RecordLaws.{flow_end_fits, moment_is}
 use Rattle.session.specs.EndingLaws.{shared_within}
@@ -74,6 +75,12 @@ pub record IsRecordOf (r : Recorded) (m old : Moment) : Type 0 where
 
 nodes_same : (part : Part) (I J : Instance) → instance_swapped part J ≡ I → J.nodes ≡ I.nodes
 nodes_same part I J back = ap (λ (K : Instance). K.nodes) back
+
+-- other supplies leave the return arc where it is
+count_same : (places : List (ℕ × ℤ)) (demand : Demand) → return_count (demand_swapped places demand) ≡ return_count demand
+count_same places (Supplies supplies) = refl
+count_same places (Terminals source sink) = refl
+count_same places (Sides marks) = refl
 
 -- what can be told is the same before the edit
 told_before : (part : Part) (I before : Instance) (verdict : Verdict) → instance_swapped part I ≡ before → VerdictFits before.demand verdict → VerdictFits I.demand verdict
@@ -156,6 +163,26 @@ module _ (before : Option Moment) (m : Moment) (edit : Edit) (some : IsSome befo
       let kept = in_range_answered m change.after in
       let nodes = nodes_same (part_before was_moment.instance edit) was_moment.instance m.instance back.back in
       omega (arith, ap length (from_some (λ old. xs ≡ old.cut) is_xs), ap length is_ys, was.marks, kept.marks, nodes)
+
+  -- the touched places name what changed in a list of the moment before
+  changes_named : {T : Type 0} (first : ℕ) (first_in : Moment → ℕ) (list_of : Moment → List T) (places : List ℕ) (xs ys : List T) → first ≡ first_in was_moment → IfSome before (λ old. NameChanges (first_in old) places (list_of old) (list_of m)) → IfSome before (λ old. xs ≡ list_of old) → ys ≡ list_of m → NameChanges first places xs ys
+  changes_named {T} first first_in list_of places xs ys is_first names is_xs is_ys =
+      let named : NameChanges (first_in was_moment) places (list_of was_moment) (list_of m) = from_some (λ old. NameChanges (first_in old) places (list_of old) (list_of m)) names in
+      let old_is : xs ≡ list_of was_moment = from_some (λ old. xs ≡ list_of old) is_xs in
+      subst (λ (n : ℕ). NameChanges n places xs ys) (sym is_first)
+      (subst (λ (zs : List T). NameChanges (first_in was_moment) places zs ys) (sym old_is) (subst (λ (zs : List T). NameChanges (first_in was_moment) places (list_of was_moment) zs) (sym is_ys) named))
+
+  pub flows_named : (first : ℕ) (places : List ℕ) (xs ys : List ℤ) → first ≡ return_count m.instance.demand → IfSome before (λ old. NameChanges (return_count old.instance.demand) places (flow_of old) (flow_of m)) → IfSome before (λ old. xs ≡ flow_of old) → ys ≡ flow_of m → NameChanges first places xs ys
+  flows_named first places xs ys is_first =
+      let same : return_count m.instance.demand ≡ return_count was_moment.instance.demand =
+      sym (count_same (supplies_of (part_before was_moment.instance edit)) m.instance.demand) ∙ ap (λ (I : Instance). return_count I.demand) back.back in
+      changes_named first (λ old. return_count old.instance.demand) flow_of places xs ys (is_first ∙ same)
+
+  pub potentials_named : (places : List ℕ) (xs ys : List ℤ) → IfSome before (λ old. NameChanges 1 places old.potentials m.potentials) → IfSome before (λ old. xs ≡ old.potentials) → ys ≡ m.potentials → NameChanges 1 places xs ys
+  potentials_named places xs ys = changes_named 1 (λ old. 1) (λ old. old.potentials) places xs ys refl
+
+  pub marks_named : (places : List ℕ) (xs ys : List Bool) → IfSome before (λ old. NameChanges 1 places old.cut m.cut) → IfSome before (λ old. xs ≡ old.cut) → ys ≡ m.cut → NameChanges 1 places xs ys
+  marks_named places xs ys = changes_named 1 (λ old. 1) (λ old. old.cut) places xs ys refl
 
   pub told : (part : Part) (flows potentials : List (ℕ × ℤ)) (marks : List (ℕ × Bool)) (verdict : Verdict) (old_flow flow old_potentials new_potentials : List ℤ) (old_cut cut : List Bool) → part ≡ part_before was_moment.instance edit → IfSome before (λ old. old_flow ≡ flow_of old) → flow ≡ flow_of m → IfSome before (λ old. old_potentials ≡ old.potentials) → new_potentials ≡ m.potentials → IfSome before (λ old. old_cut ≡ old.cut) → cut ≡ m.cut → IfSome before (λ old. verdict ≡ old.verdict) → AreFound flows old_flow flow (length old_flow) → AreFound potentials old_potentials new_potentials (length old_potentials) → AreFound marks old_cut cut (length old_cut) → let r : Recorded = record { part = part; flows = flows; potentials = potentials; marks = marks; verdict = verdict } in RecordFits r m × (before ≡ Some (swapped r m))
   told part flows potentials marks verdict old_flow flow old_potentials new_potentials old_cut cut is_part is_old_flow is_flow is_old_potentials is_potentials is_old_cut is_cut is_verdict flows_found potentials_found marks_found =

@@ -6,6 +6,7 @@ ghost use Rattle.dimacs_text.specs.declared.problem.Kind.TheVariants.{Min};
 ghost use Rattle.dimacs_text.specs.Lawful.{IsNode};
 ghost use Rattle.network.specs.Instance.{kind_of};
 ghost use Rattle.flow_solver.specs.Desk.{supplies_in};
+ghost use Rattle.flow_solver.specs.Part.{return_count};
 ghost use Rattle.session.specs.Record.{RecordFits, Differs, no_row, swapped};
 ghost use Rattle.session.specs.Session.{IsAcceptedEdit, old_moment, part_before, place_of, place_of_edit};
 
@@ -59,9 +60,27 @@ impl Record {
         ensures exact { IfOk result (λ r. Differs r tables.now.moment) }
     {
         let part = part_before(edit, tables);
-        let flows = differences(alloc, tables.old_flow(), tables.flow())?;
-        let potentials = differences(alloc, tables.old_potentials(), tables.potentials())?;
-        let marks = differences(alloc, tables.old_cut(), tables.cut())?;
+        let flows = differences(
+            alloc,
+            tables.touched_flow(),
+            place_of_first_arc(tables),
+            tables.old_flow(),
+            tables.flow(),
+        )?;
+        let potentials = differences(
+            alloc,
+            tables.touched_potentials(),
+            1,
+            tables.old_potentials(),
+            tables.potentials(),
+        )?;
+        let marks = differences(
+            alloc,
+            tables.touched_cut(),
+            1,
+            tables.old_cut(),
+            tables.cut(),
+        )?;
         Ok(Record {
             part,
             flows,
@@ -69,6 +88,16 @@ impl Record {
             marks,
             verdict: tables.old_verdict(),
         })
+    }
+}
+
+/// The place of the first arc's flow: that of the return arc comes before it, where there is one.
+fn place_of_first_arc(tables: &Tables) -> usize
+    ensures { result ≡ return_count tables.now.moment.instance.demand }
+{
+    match tables.network().return_arc() {
+        Some(_) => 1,
+        None => 0,
     }
 }
 

@@ -218,7 +218,21 @@ fn records(rt: HostRuntime) -> Result<(), Fail> {
         cap: 5,
         cost: 1,
     };
-    let cases: [(&[u8], Command, Differences, Differences); 2] = [
+    let open = ArcRow {
+        tail: 3,
+        head: 4,
+        low: 0,
+        cap: 3,
+        cost: 0,
+    };
+    let pair = ArcRow {
+        tail: 1,
+        head: 2,
+        low: 0,
+        cap: 1,
+        cost: -5,
+    };
+    let cases: [(&[u8], Command, Differences, Differences); 4] = [
         (
             DIAMOND,
             Command::Apply(Edit::Cap { arc: 5, cap: 3 }),
@@ -256,6 +270,48 @@ fn records(rt: HostRuntime) -> Result<(), Fail> {
                 potentials: &[(1, -1)],
                 marks: &[],
                 verdict: Verdict::Best(3),
+            },
+        ),
+        (
+            MAX_DIAMOND,
+            Command::Apply(Edit::Close { arc: 5 }),
+            Differences {
+                part: Part::Arc { k: 5, row: open },
+                flows: &[(1, 3), (2, 2), (3, 1), (5, 3)],
+                potentials: &[(2, 0), (3, 0)],
+                marks: &[],
+                verdict: Verdict::Best(5),
+            },
+            Differences {
+                part: Part::Arc {
+                    k: 5,
+                    row: ArcRow { cap: 0, ..open },
+                },
+                flows: &[(1, 2), (2, 0), (3, 0), (5, 0)],
+                potentials: &[(2, -1), (3, -1)],
+                marks: &[],
+                verdict: Verdict::Best(2),
+            },
+        ),
+        (
+            PAIR,
+            Command::Apply(Edit::Close { arc: 1 }),
+            Differences {
+                part: Part::Arc { k: 1, row: pair },
+                flows: &[(1, 1)],
+                potentials: &[],
+                marks: &[(1, false)],
+                verdict: Verdict::Best(-5),
+            },
+            Differences {
+                part: Part::Arc {
+                    k: 1,
+                    row: ArcRow { cap: 0, ..pair },
+                },
+                flows: &[(1, 0)],
+                potentials: &[],
+                marks: &[(1, true)],
+                verdict: Verdict::Infeasible(1),
             },
         ),
     ];

@@ -1,14 +1,21 @@
-use Rattle.std.proofs.Common.{◌∙◌, ◌≤◌, ◌^◌, ◌*ℤ◌, sym, subst, List, unsigned_abs}
-use Rattle.std.specs.List.{AllZip}
+use Rattle.std.proofs.Common.{◌∙◌, List, length, ap, sym, subst, rules, SFits}
+use Rattle.std.specs.Int.{w128}
+use Rattle.std.proofs.lemmas.Int.{to_z-of_z}
 use Rattle.dimacs_text.specs.declared.problem.ArcRow.{ArcRow}
 use Rattle.network.specs.Flow.{AllWithinBounds}
-use Rattle.network.proofs.Reduction.{rows_of}
-use Rattle.flow_solver.proofs.InstanceLemmas.{terms_small}
+use Rattle.flow_solver.proofs.AnswerLemmas.{worth_is_cost}
+use Rattle.flow_solver.proofs.BalanceLemmas.{cost_exact}
+use Rattle.flow_solver.proofs.InstanceLemmas.{flow_of_instance}
 use Rattle.flow_solver.proofs.answer.worth.Goals as goal
 
-pub total_cost-requires-clause-terms : goal.total_cost-requires-clause-terms
-total_cost-requires-clause-terms c =
-    let I = c.args.net.now in
-    let bounds = subst (λ (rows : List ArcRow). AllWithinBounds rows c.args.flow.now) c.requires.rows c.requires.bounds in
-    subst (λ (rows : List ArcRow). AllZip (λ arc x. unsigned_abs (arc.cost *ℤ x) ≤ 10 ^ 21) rows c.args.flow.now) (sym c.requires.rows)
-    (terms_small I.nodes I.demand I.arcs c.args.flow.now (sym c.return_arc.ensures.arc ∙ c.in-None.is) (rows_of c.requires.lawful) bounds)
+pub cost_now-requires-clause-as_many : goal.cost_now-requires-clause-as_many
+cost_now-requires-clause-as_many c =
+    let bounds = subst (λ (r : List ArcRow). AllWithinBounds r c.args.flow.now.entries.items) c.requires.rows c.requires.bounds in
+    ap (λ (r : List ArcRow). length r) c.requires.rows ∙ sym (flow_of_instance c.args.net.now c.args.flow.now.entries.items c.requires.lawful bounds).same_length
+
+pub returns-in-None : goal.returns-in-None
+returns-in-None c =
+    let fits : SFits w128 c.cost_now.result = search rules in
+    to_z-of_z w128 c.cost_now.result fits
+    ∙ cost_exact c.args.net.now c.args.rows.now c.args.flow.now.entries.items c.cost_now.result c.requires.lawful c.requires.rows c.requires.bounds c.cost_now.ensures
+    ∙ sym (worth_is_cost c.args.net.now.demand c.args.rows.now c.args.flow.now.entries.items (sym c.return_arc.ensures.arc ∙ c.in-None.is))

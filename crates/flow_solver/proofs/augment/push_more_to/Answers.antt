@@ -1,13 +1,16 @@
 use Rattle.flow_solver.specs.Limits.{left_limit}
-use Rattle.std.proofs.Common.{◌+◌, ◌≤◌, ◌<◌, ◌^◌, length, arith, rules}
+use Rattle.std.proofs.Common.{◌+◌, ◌≤◌, ◌<◌, ◌^◌, ◌∙◌, length, refl, arith, rules}
 use Rattle.flow_solver.specs.Push.{left}
 use Rattle.flow_solver.proofs.SettleLemmas.{left-small, ArePushes-none, ArePushes-more}
+use Rattle.flow_solver.proofs.TouchedLemmas.{AreNoted-none, AreNoted-trans}
 use Rattle.flow_solver.proofs.augment.push_more_to.Goals as goal
 
 pub loop-init : goal.loop-init
 loop-init c = record {
+  noted = AreNoted-none c.args.touched.now c.args.flow.now;
   state = c.requires.state;
   paths = c.requires.paths;
+  marks = λ v. refl;
   pushed = ArePushes-none c.args.rows.now c.args.flow.now c.args.excess.now;
 }
 
@@ -20,7 +23,9 @@ overflow_add-pushes c =
 
 pub loop-preserved : goal.loop-preserved
 loop-preserved c = record {
+  noted = AreNoted-trans c.loop.invariant.noted c.push_to-pushes.ensures.noted;
   state = c.push_to-pushes.ensures.state;
   paths = c.find_path.ensures.paths;
+  marks = λ v. c.find_path.ensures.marks v ∙ c.loop.invariant.marks v;
   pushed = ArePushes-more c.loop.invariant.pushed c.push_to-pushes.ensures.pushes;
 }

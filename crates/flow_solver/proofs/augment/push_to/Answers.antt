@@ -36,8 +36,8 @@ is_done c =
     let in_deficit : number_at e t ≤ℤ neg_ℤ m = omega (arith, ints, same, along.in_deficit) in
     let transfer : IsTransfer (root_to rows s t) t m e f = subst (λ (u : ℕ). IsTransfer u t m e f) along.root c.transfer.ensures in
     record {
-      state = subst (λ (y : List ℤ). IsUnderWay (length s) rows q y f) (sym c.shift.ensures) (state_after rows q x e s t m f c.requires.state c.requires.paths c.requires.tight found at_least_1 room in_excess in_deficit transfer);
-      pushes = subst (λ (y : List ℤ). ArePushes rows 1 x e y f) (sym c.shift.ensures) (one_push rows q x e s t m f c.requires.state c.requires.paths c.requires.tight found at_least_1 room in_excess in_deficit transfer);
+      state = subst (λ (y : List ℤ). IsUnderWay (length s) rows q y f) (sym c.shift.ensures.flow) (state_after rows q x e s t m f c.requires.state c.requires.paths c.requires.tight found at_least_1 room in_excess in_deficit transfer);
+      pushes = subst (λ (y : List ℤ). ArePushes rows 1 x e y f) (sym c.shift.ensures.flow) (one_push rows q x e s t m f c.requires.state c.requires.paths c.requires.tight found at_least_1 room in_excess in_deficit transfer);
     }
 
 pub returns-clause-state : goal.returns-clause-state
@@ -45,3 +45,6 @@ returns-clause-state c = (is_done (goal.at.returns-clause-state c).After-transfe
 
 pub returns-clause-pushes : goal.returns-clause-pushes
 returns-clause-pushes c = (is_done (goal.at.returns-clause-pushes c).After-transfer).pushes
+
+pub returns-clause-noted : goal.returns-clause-noted
+returns-clause-noted c = c.shift.ensures.noted

@@ -5,12 +5,15 @@ use Rattle.network.specs.Flow.{total_excess}
 use Rattle.network.specs.Instance.{Instance, IsLawful, reduced}
 use Rattle.flow_solver.specs.Residual.{IsCertified, number_at, arc_at}
 use Rattle.flow_solver.specs.Push.{Pushes}
+use Rattle.flow_solver.specs.Nodes.{held}
+use Rattle.flow_solver.specs.Balance.{IsBalanceOf}
 use Rattle.flow_solver.specs.Star.{Covers}
 use Rattle.flow_solver.specs.Edit.{reduced_cost, IsNearest, place_of}
 use Rattle.flow_solver.proofs.InstanceLemmas.{certified_of}
 use Rattle.flow_solver.proofs.AnswerLemmas.{certified_at}
 use Rattle.flow_solver.proofs.ChangeLemmas.{with_row, lawful_row, rows_changed, row_is, reduced_is, certified_after, excess_changed}
 use Rattle.flow_solver.proofs.StarLemmas.{covers_set}
+use Rattle.flow_solver.proofs.TouchedLemmas.{IsWritten-trans}
 use Rattle.flow_solver.proofs.edit.change_row.Goals as goal
 use Rattle.flow_solver.proofs.edit.change_row.Goals.{After-set_row, After-replace_row}
 
@@ -21,13 +24,14 @@ row_there : (c : After-set_row) → arc_at c.args.rows.now ((length c.args.rows.
 row_there c =
     ap (arc_at c.args.rows.now) (place_is c) ∙ ap (λ (r : List ArcRow). arc_at r (place_of c.args.net.now c.args.k)) c.requires.rows.rows_are ∙ row_is c.args.net.now c.args.k c.args.row c.requires.arc
 
-certified_before : (c : After-set_row) → IsCertified c.args.rows.now c.args.flow.now c.args.potentials.now
+certified_before : (c : After-set_row) → IsCertified c.args.rows.now c.args.flow.now.entries.items c.args.potentials.now.entries.items
 certified_before c =
-    subst (λ (r : List ArcRow). IsCertified r c.args.flow.now c.args.potentials.now) (sym c.requires.rows.rows_are)
-    (certified_of c.args.net.now c.args.flow.now c.args.potentials.now c.requires.rows.lawful c.requires.potentials_in c.requires.idle (certified_at c.args.net.now c.args.flow.now c.args.potentials.now c.requires.rows.lawful c.requires.certified))
+    subst (λ (r : List ArcRow). IsCertified r c.args.flow.now.entries.items c.args.potentials.now.entries.items) (sym c.requires.rows.rows_are)
+    (certified_of c.args.net.now c.args.flow.now.entries.items c.args.potentials.now.entries.items c.requires.rows.lawful c.requires.potentials_in c.requires.idle (certified_at c.args.net.now c.args.flow.now.entries.items c.args.potentials.now.entries.items c.requires.rows.lawful c.requires.certified))
 
 pub replace_row-requires-clause-certified : goal.replace_row-requires-clause-certified
-replace_row-requires-clause-certified c = certified_before (goal.at.replace_row-requires-clause-certified c).After-set_row
+replace_row-requires-clause-certified c =
+    subst (λ (p : List ℤ). IsCertified c.args.rows.now c.args.flow.now.entries.items p) (sym c.deref.ensures.value) (certified_before (goal.at.replace_row-requires-clause-certified c).After-set_row)
 
 pub replace_row-requires-clause-same_tail : goal.replace_row-requires-clause-same_tail
 replace_row-requires-clause-same_tail c = c.requires.tail ∙ ap (λ (a : ArcRow). a.tail) (sym (row_there (goal.at.replace_row-requires-clause-same_tail c).After-set_row))
@@ -56,8 +60,22 @@ solve-requires-clause-rows c = rows_after (goal.at.solve-requires-clause-rows c)
 pub solve-requires-clause-certified : goal.solve-requires-clause-certified
 solve-requires-clause-certified c =
     let s = (goal.at.solve-requires-clause-certified c).After-replace_row in
-    certified_after c.args.net.now c.set_row.new.self c.args.flow.now c.replace_row.new.flow c.args.potentials.now (lawful_after s) (ap (λ (J : Instance). J.nodes) c.set_row.ensures) c.requires.certified
-    (subst (λ (r : List ArcRow). IsCertified r c.replace_row.new.flow c.args.potentials.now) (rows_after s) c.replace_row.ensures.certified)
+    certified_after c.args.net.now c.set_row.new.self c.args.flow.now.entries.items c.replace_row.new.flow.entries.items c.args.potentials.now.entries.items (lawful_after s) (ap (λ (J : Instance). J.nodes) c.set_row.ensures) c.requires.certified
+    (subst (λ (r : List ArcRow). IsCertified r c.replace_row.new.flow.entries.items c.args.potentials.now.entries.items) (rows_after s)
+    (subst (λ (p : List ℤ). IsCertified c.replace_row.new.rows c.replace_row.new.flow.entries.items p) c.deref.ensures.value c.replace_row.ensures.certified))
+
+-- the balance after the arc has changed
+pub solve-requires-clause-balance : goal.solve-requires-clause-balance
+solve-requires-clause-balance c =
+    let I = c.args.net.now in
+    let supply = held I.nodes (reduced I).supply in
+    let b = c.replace_row.new.balance in
+    let made : IsBalanceOf (with_row I (c.args.k - 1) c.args.row) c.replace_row.new.rows c.replace_row.new.flow b = record {
+      sized = c.replace_row.ensures.excess_in ∙ c.requires.balance.sized;
+      excess = c.replace_row.ensures.excess supply c.requires.balance.excess;
+      cost = c.replace_row.ensures.cost c.requires.balance.cost;
+    } in
+    subst (λ (J : Instance). IsBalanceOf J c.replace_row.new.rows c.replace_row.new.flow b) (sym c.set_row.ensures) made
 
 star_after : (c : After-set_row) → Covers (c.set_row.new.self.nodes + 1) c.set_row.new.self.arcs c.args.star.now
 star_after c =
@@ -81,18 +99,22 @@ returns-clause-changed c =
     let s = (goal.at.returns-clause-changed c).After-replace_row in
     let I = c.args.net.now in
     let place = place_of I c.args.k in
-    let z = number_at c.replace_row.new.flow place in
-    let p = c.args.potentials.now in
+    let z = number_at c.replace_row.new.flow.entries.items place in
+    let p = c.args.potentials.now.entries.items in
     let same = place_is (goal.at.returns-clause-changed c).After-set_row in
-    let flow_is : c.replace_row.new.flow ≡ slice_set c.args.flow.now place z = subst (λ (j : ℕ). c.replace_row.new.flow ≡ slice_set c.args.flow.now j (number_at c.replace_row.new.flow j)) same c.replace_row.ensures.flow in
-    let near : IsNearest c.args.row (reduced_cost p c.args.row) (number_at c.args.flow.now place) z = subst (λ (j : ℕ). IsNearest c.args.row (reduced_cost p c.args.row) (number_at c.args.flow.now j) (number_at c.replace_row.new.flow j)) same c.replace_row.ensures.nearest in
-    let most = excess_changed I c.args.flow.now p c.args.k c.args.row z c.requires.rows.lawful c.requires.limits c.requires.fits c.requires.arc c.requires.tail c.requires.head c.requires.potentials_in c.requires.idle c.requires.certified near in
-    let most_after : total_excess (reduced c.set_row.new.self) c.replace_row.new.flow ≤ℤ (total_excess (reduced I) c.args.flow.now +ℤ pos (unsigned_abs (z -ℤ number_at c.args.flow.now place))) =
-    subst (λ (J : Instance). total_excess (reduced J) c.replace_row.new.flow ≤ℤ (total_excess (reduced I) c.args.flow.now +ℤ pos (unsigned_abs (z -ℤ number_at c.args.flow.now place)))) (sym c.set_row.ensures)
-    (subst (λ (x : List ℤ). total_excess (reduced (with_row I (c.args.k - 1) c.args.row)) x ≤ℤ (total_excess (reduced I) c.args.flow.now +ℤ pos (unsigned_abs (z -ℤ number_at c.args.flow.now place)))) (sym flow_is) most) in
+    let flow_is : c.replace_row.new.flow.entries.items ≡ slice_set c.args.flow.now.entries.items place z = subst (λ (j : ℕ). c.replace_row.new.flow.entries.items ≡ slice_set c.args.flow.now.entries.items j (number_at c.replace_row.new.flow.entries.items j)) same c.replace_row.ensures.flow in
+    let near : IsNearest c.args.row (reduced_cost p c.args.row) (number_at c.args.flow.now.entries.items place) z = subst (λ (j : ℕ). IsNearest c.args.row (reduced_cost p c.args.row) (number_at c.args.flow.now.entries.items j) (number_at c.replace_row.new.flow.entries.items j)) same
+    (subst (λ (q : List ℤ). IsNearest c.args.row (reduced_cost q c.args.row) (number_at c.args.flow.now.entries.items ((length c.args.rows.now - c.arcs.result) + (c.args.k - 1))) (number_at c.replace_row.new.flow.entries.items ((length c.args.rows.now - c.arcs.result) + (c.args.k - 1)))) c.deref.ensures.value c.replace_row.ensures.nearest) in
+    let most = excess_changed I c.args.flow.now.entries.items p c.args.k c.args.row z c.requires.rows.lawful c.requires.limits c.requires.fits c.requires.arc c.requires.tail c.requires.head c.requires.potentials_in c.requires.idle c.requires.certified near in
+    let most_after : total_excess (reduced c.set_row.new.self) c.replace_row.new.flow.entries.items ≤ℤ (total_excess (reduced I) c.args.flow.now.entries.items +ℤ pos (unsigned_abs (z -ℤ number_at c.args.flow.now.entries.items place))) =
+    subst (λ (J : Instance). total_excess (reduced J) c.replace_row.new.flow.entries.items ≤ℤ (total_excess (reduced I) c.args.flow.now.entries.items +ℤ pos (unsigned_abs (z -ℤ number_at c.args.flow.now.entries.items place)))) (sym c.set_row.ensures)
+    (subst (λ (x : List ℤ). total_excess (reduced (with_row I (c.args.k - 1) c.args.row)) x ≤ℤ (total_excess (reduced I) c.args.flow.now.entries.items +ℤ pos (unsigned_abs (z -ℤ number_at c.args.flow.now.entries.items place)))) (sym flow_is) most) in
     record {
       after = z;
-      nearest = subst (λ (r : ℤ). IsNearest c.args.row r (number_at c.args.flow.now place) z) (sym (reduced_is I.nodes p c.args.row c.requires.limits)) near;
-      pushes = subst (λ (x : List ℤ). Pushes (reduced c.set_row.new.self).arcs (reduced c.set_row.new.self).supply c.solve.result.0 x c.solve.new.flow) flow_is c.solve.ensures.pushes;
+      nearest = subst (λ (r : ℤ). IsNearest c.args.row r (number_at c.args.flow.now.entries.items place) z) (sym (reduced_is I.nodes p c.args.row c.requires.limits)) near;
+      pushes = subst (λ (x : List ℤ). Pushes (reduced c.set_row.new.self).arcs (reduced c.set_row.new.self).supply c.solve.result.0 x c.solve.new.flow.entries.items) flow_is c.solve.ensures.pushes;
       count = omega (arith, ints, c.solve.ensures.count, most_after);
     }
+
+pub returns-clause-flow_written : goal.returns-clause-flow_written
+returns-clause-flow_written c = IsWritten-trans c.replace_row.ensures.flow_written c.solve.ensures.flow_written

@@ -1,22 +1,70 @@
-use Rattle.std.proofs.Common.{◌≡◌, ◌<◌, ℕ, ℤ, length, arith, ap, ◌∙◌, w64, to_z, of_z, SFits, rules}
-use Rattle.std.proofs.lemmas.Int.{to_z-of_z}
+use Rattle.std.proofs.Common.{◌≡◌, ◌<◌, ℕ, ℤ, length, arith, ap, sym, subst, ◌∙◌, w64, to_z, of_z, SFits, rules}
+use Rattle.std.proofs.lemmas.Int.{ints, to_z-of_z}
+use Rattle.std.proofs.lemmas.List.{get_or_read}
+use Rattle.flow_solver.specs.Cut.{node_at}
 use Rattle.flow_solver.specs.Residual.{number_at}
-use Rattle.flow_solver.specs.Search.{visit_at, lowered}
-use Rattle.flow_solver.proofs.RunLemmas.{in_place_more, in_place_rest}
+use Rattle.flow_solver.specs.Search.{mark_at, visit_at, lowered, IsLowered}
+use Rattle.flow_solver.specs.declared.visit.Mark.TheVariants.{Settled}
+use Rattle.flow_solver.proofs.SearchLemmas.{in_range, settled_is_reached}
+use Rattle.flow_solver.proofs.TrailLemmas.{IsWrittenAlong, IsWrittenAlong-more, stands_yet, lowered_along}
+use Rattle.flow_solver.proofs.TouchedLemmas.{AreNoted-trans, AreNoted-set}
 use Rattle.flow_solver.proofs.potentials.lower.Goals as goal
+use Rattle.flow_solver.proofs.potentials.lower.Goals.{After-index}
 
-pub loop-v-preserved : goal.loop-v-preserved
-loop-v-preserved c =
+-- the node in the trail, which is one of the nodes, and whose potential stands yet
+node_is : (c : After-index) → node_at c.args.trail.now.nodes.items c.loop-j.j ≡ c.index.result.now
+node_is c = sym (get_or_read c.args.trail.now.nodes.items c.loop-j.j c.index.result.now (omega (arith, c.loop-j-test.true, c.requires.trail.counted, c.requires.trail.sized.nodes_sized)) c.index.ensures 0)
+
+node_in : (c : After-index) → c.index.result.now < length c.args.visits.now
+node_in c =
+    let m : mark_at c.args.visits.now c.index.result.now ≡ Settled = ap (mark_at c.args.visits.now) (sym (node_is c)) ∙ c.requires.trail.settled c.loop-j.j c.loop-j-test.true in
+    in_range c.args.visits.now c.index.result.now (settled_is_reached c.args.visits.now c.index.result.now m)
+
+stands : (c : After-index) → number_at c.loop-j.potentials c.index.result.now ≡ number_at c.args.potentials.now c.index.result.now
+stands c =
+    subst (λ (v : ℕ). number_at c.loop-j.potentials v ≡ number_at c.args.potentials.now v) (node_is c)
+    (stands_yet _ c.args.trail.now.nodes.items c.loop-j.j c.args.potentials.now c.loop-j.potentials c.loop-j.invariant.written (λ i lt. c.requires.trail.apart i c.loop-j.j lt c.loop-j-test.true))
+
+was_read : (c : After-index) → to_z w64 (of_z w64 (number_at c.loop-j.potentials c.index.result.now)) ≡ number_at c.args.potentials.now c.index.result.now
+was_read c =
+    let fits : SFits w64 (number_at c.loop-j.potentials c.index.result.now) = omega (arith, ints, stands c, c.requires.potentials_in.at_least c.index.result.now, c.requires.potentials_in.at_most_0 c.index.result.now) in
+    to_z-of_z w64 (number_at c.loop-j.potentials c.index.result.now) fits ∙ stands c
+
+pub bounds-visits-v : goal.bounds-visits-v
+bounds-visits-v c = node_in (goal.at.bounds-visits-v c).After-index
+
+pub slice_copy_out-lowered : goal.slice_copy_out-lowered
+slice_copy_out-lowered c = omega (arith, node_in (goal.at.slice_copy_out-lowered c).After-index, c.requires.same_length, c.loop-j.auto.potentials)
+
+pub lowered-requires-clause-potential_low : goal.lowered-requires-clause-potential_low
+lowered-requires-clause-potential_low c = omega (arith, ints, was_read (goal.at.lowered-requires-clause-potential_low c).After-index, c.requires.potentials_in.at_least c.index.result.now)
+
+pub bounds-potentials-v : goal.bounds-potentials-v
+bounds-potentials-v c = omega (arith, node_in (goal.at.bounds-potentials-v c).After-index, c.requires.same_length, c.loop-j.auto.potentials)
+
+pub note-requires : goal.note-requires
+note-requires c = record { place = omega (arith, node_in (goal.at.note-requires c).After-index, c.requires.same_length, c.requires.touched_in, c.loop-j.invariant.noted.same_size) }
+
+pub loop-j-preserved : goal.loop-j-preserved
+loop-j-preserved c =
+    let a = (goal.at.loop-j-preserved c).After-index in
+    let v = c.index.result.now in
     let reach_is : to_z w64 (of_z w64 c.args.reach) ≡ c.args.reach = to_z-of_z w64 c.args.reach c.ranges.reach in
     let fits : SFits w64 c.lowered.result = search rules in
-    let same : to_z w64 (of_z w64 c.lowered.result) ≡ c.lowered.result = to_z-of_z w64 c.lowered.result fits in
-    let in_v : c.loop-v.v < length c.loop-v.potentials = omega (arith, c.loop-v.auto.potentials) in
-    let was_fits : SFits w64 (number_at c.loop-v.potentials c.loop-v.v) = search rules in
-    let was : to_z w64 (of_z w64 (number_at c.loop-v.potentials c.loop-v.v)) ≡ number_at c.args.potentials.now c.loop-v.v = to_z-of_z w64 (number_at c.loop-v.potentials c.loop-v.v) was_fits ∙ c.loop-v.invariant.rest c.loop-v.v (omega arith) in
-    let made : c.lowered.result ≡ lowered (to_z w64 (of_z w64 (number_at c.loop-v.potentials c.loop-v.v))) (visit_at c.args.visits.now c.loop-v.v) (to_z w64 (of_z w64 c.args.reach)) = c.lowered.ensures in
+    let written_is : to_z w64 (of_z w64 c.lowered.result) ≡ c.lowered.result = to_z-of_z w64 c.lowered.result fits in
+    let made : c.lowered.result ≡ lowered (to_z w64 (of_z w64 (number_at c.loop-j.potentials v))) (visit_at c.args.visits.now v) (to_z w64 (of_z w64 c.args.reach)) = c.lowered.ensures in
+    let in_table : v < length c.loop-j.potentials = omega (arith, node_in a, c.requires.same_length, c.loop-j.auto.potentials) in
+    let in_touched : v < length c.loop-j.touched = omega (arith, node_in a, c.requires.same_length, c.requires.touched_in, c.loop-j.invariant.noted.same_size) in
     record {
-      done = in_place_more (λ (k : ℕ) (old : ℤ). lowered old (visit_at c.args.visits.now k) (to_z w64 (of_z w64 c.args.reach))) c.args.potentials.now c.loop-v.potentials c.loop-v.v _ in_v
-          (same ∙ made ∙ ap (λ (old : ℤ). lowered old (visit_at c.args.visits.now c.loop-v.v) (to_z w64 (of_z w64 c.args.reach))) was)
-          c.loop-v.invariant.done;
-      rest = in_place_rest c.args.potentials.now c.loop-v.potentials c.loop-v.v _ c.loop-v.invariant.rest;
+      written = IsWrittenAlong-more (λ (w : ℕ) (old : ℤ). lowered old (visit_at c.args.visits.now w) (to_z w64 (of_z w64 c.args.reach))) c.args.trail.now.nodes.items c.loop-j.j c.args.potentials.now c.loop-j.potentials c.loop-j.invariant.written
+          (λ i lt. c.requires.trail.apart i c.loop-j.j lt c.loop-j-test.true) v _ (node_is a) in_table
+          (written_is ∙ made ∙ ap (λ (old : ℤ). lowered old (visit_at c.args.visits.now v) (to_z w64 (of_z w64 c.args.reach))) (was_read a));
+      noted = AreNoted-trans c.loop-j.invariant.noted (rw c.note.ensures (AreNoted-set c.loop-j.touched c.loop-j.potentials v _ in_touched));
     }
+
+pub returns-clause-lowered : goal.returns-clause-lowered
+returns-clause-lowered c =
+    let whole : c.loop-j.j ≡ c.args.trail.now.len = omega (arith, c.loop-j-test.false, c.loop-j.auto.j-end) in
+    let reach_is : to_z w64 (of_z w64 c.args.reach) ≡ c.args.reach = to_z-of_z w64 c.args.reach c.ranges.reach in
+    let written = subst (λ (n : ℕ). IsWrittenAlong (λ (w : ℕ) (old : ℤ). lowered old (visit_at c.args.visits.now w) (to_z w64 (of_z w64 c.args.reach))) c.args.trail.now.nodes.items n c.args.potentials.now c.loop-j.potentials) whole c.loop-j.invariant.written in
+    subst (IsLowered c.args.potentials.now c.loop-j.potentials c.args.visits.now) reach_is (lowered_along c.args.visits.now c.args.trail.now _ c.args.potentials.now c.loop-j.potentials c.requires.trail written)

@@ -1,10 +1,10 @@
-use Rattle.std.proofs.Common.{◌≡◌, ℕ, ◌<◌, ◌≤◌}
-use Rattle.flow_solver.specs.Residual.{number_at}
 use Rattle.flow_solver.specs.Search.{visit_at, lowered}
+use Rattle.flow_solver.specs.Touched.{AreNoted}
+use Rattle.flow_solver.proofs.TrailLemmas.{IsWrittenAlong}
 use Rattle.flow_solver.proofs.potentials.lower.Given as goal
 
-abbrev pub invariant-loop-v : goal.invariant-loop-v
-invariant-loop-v l = record {
-  done : (k : ℕ) → k < l.v → number_at l.potentials k ≡ lowered (number_at l.initial.potentials k) (visit_at l.visits k) l.reach;
-  rest : (k : ℕ) → l.v ≤ k → number_at l.potentials k ≡ number_at l.initial.potentials k;
+abbrev pub invariant-loop-j : goal.invariant-loop-j
+invariant-loop-j l = record {
+  written : IsWrittenAlong (λ v old. lowered old (visit_at l.visits v) l.reach) l.trail.nodes.items l.j l.initial.potentials l.potentials;
+  noted : AreNoted l.initial.touched l.initial.potentials l.touched l.potentials;
 }

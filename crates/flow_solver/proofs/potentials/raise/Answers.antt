@@ -18,7 +18,7 @@ take_labels-requires-clause-fits c = λ v.
     omega (arith, ints, bounds.0, bounds.1, same))
 
 labels : (c : After-take_labels) → c.deref.result.now ≡ c.search_labels.new.visits → AreLabels c.args.potentials.now c.take_labels.new.potentials c.search_labels.new.visits
-labels c same = subst (λ (s : List Visit). AreLabels c.args.potentials.now c.take_labels.new.potentials s) same c.take_labels.ensures
+labels c same = subst (λ (s : List Visit). AreLabels c.args.potentials.now c.take_labels.new.potentials s) same c.take_labels.ensures.labels
 
 pub returns-clause-certified : goal.returns-clause-certified
 returns-clause-certified c =

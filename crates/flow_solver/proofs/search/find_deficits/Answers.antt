@@ -1,16 +1,14 @@
-use Rattle.std.proofs.Common.{◌≡◌, ◌∙◌, ℕ, ℤ, Bool, true, false, cond, List, length, ap, ◌+◌, pos, sym, subst, arith, rules, w64, to_z, of_z, SFits}
-use Rattle.std.specs.Prelude.{◌<ℤ◌, ◌≤ℤ◌, int_lt}
-use Rattle.std.proofs.lemmas.List.Sums.{count_by-le-length}
+use Rattle.std.proofs.Common.{◌≡◌, ◌∙◌, ℤ, length, ◌+◌, pos, refl, sym, subst, arith, w64, to_z, of_z, SFits}
+use Rattle.std.specs.Prelude.{◌<ℤ◌, ◌≤ℤ◌}
 use Rattle.std.proofs.lemmas.Int.{ints, to_z-of_z}
-use Rattle.dimacs_text.specs.declared.problem.ArcRow.{ArcRow}
-use Rattle.flow_solver.specs.declared.visit.Visit.{Visit}
-use Rattle.flow_solver.specs.declared.visit.Mark.TheVariants.{Unreached, Open, Settled}
-use Rattle.flow_solver.specs.Residual.{IsCertified, number_at}
-use Rattle.flow_solver.specs.Search.{key_at, depth_at, mark_at, visit_at, is_unsettled, source_visit, IsSearch, AllRelaxed, IsFromExcess, IsFinding, Settles}
+use Rattle.flow_solver.specs.Residual.{number_at}
+use Rattle.flow_solver.specs.Search.{key_at, IsFinding, Settles}
+use Rattle.flow_solver.specs.Trail.{IsTrailOf}
 use Rattle.flow_solver.proofs.SearchLemmas.{key_high, settled_is_reached}
 use Rattle.flow_solver.proofs.RunLemmas.{IsFromExcess-settles, IsFinding-deficit, IsFinding-other}
+use Rattle.flow_solver.proofs.TrailLemmas.{trail_first, trail_more, none_settled, known_first, relaxed_first, from_excess_first, finding_first}
 use Rattle.flow_solver.proofs.search.find_deficits.Goals as goal
-use Rattle.flow_solver.proofs.search.find_deficits.Goals.{After-settle_node-settled}
+use Rattle.flow_solver.proofs.search.find_deficits.Goals.{After-note, After-settle_node-settled}
 
 settles_u : (c : After-settle_node-settled) → Settles c.loop-u.visits c.settle_node-settled.new.visits c.in-Some.u
 settles_u c = subst (Settles c.loop-u.visits c.settle_node-settled.new.visits) (sym c.settle_node-settled.ensures.first ∙ c.in-Some.ensures.at) c.settle_node-settled.ensures.settles
@@ -35,6 +33,15 @@ no_more c high =
     subst (λ (r : ℤ). IsFinding c.args.excess.now c.settle_node-settled.new.visits r c.loop-u.found) (sym (reach_is c))
     (IsFinding-other c.args.rows.now c.args.flow.now c.args.potentials.now c.args.excess.now c.loop-u.visits c.settle_node-settled.new.visits c.in-Some.u _ c.loop-u.found c.requires.certified c.loop-u.invariant.known c.settle_node-settled.ensures.search c.in-Some.ensures.found.is_open (settles_u c) c.loop-u.invariant.finding high)
 
+-- the node that was settled is in the trail
+noted : (c : After-note) → IsTrailOf c.settle_node-settled.new.visits c.note.new.self
+noted c =
+    let settles = subst (Settles c.loop-u.visits c.settle_node-settled.new.visits) (sym c.settle_node-settled.ensures.first ∙ c.in-Some.ensures.at) c.settle_node-settled.ensures.settles in
+    trail_more c.loop-u.visits c.settle_node-settled.new.visits c.in-Some.u c.loop-u.trail c.loop-u.invariant.trail settles c.in-Some.ensures.found.is_open c.note.new.self c.note.ensures.nodes c.note.ensures.len c.note.ensures.spent
+
+pub returns-then-found-wanted-clause-trail : goal.returns-then-found-wanted-clause-trail
+returns-then-found-wanted-clause-trail c = noted (goal.at.returns-then-found-wanted-clause-trail c).After-note
+
 pub returns-then-found-wanted-clause-from_excess : goal.returns-then-found-wanted-clause-from_excess
 returns-then-found-wanted-clause-from_excess c = IsFromExcess-settles c.loop-u.invariant.from_excess c.settle_node-settled.ensures.search c.settle_node-settled.ensures.settles
 
@@ -46,6 +53,7 @@ returns-then-found-wanted-clause-found c =
 pub loop-u-preserved-else-found-wanted : goal.loop-u-preserved-else-found-wanted
 loop-u-preserved-else-found-wanted c = record {
   queue = c.settle_node-settled.ensures.queue;
+  trail = noted (goal.at.loop-u-preserved-else-found-wanted c).After-note;
   known = c.settle_node-settled.ensures.search;
   relaxed = c.settle_node-settled.ensures.relaxed;
   from_excess = IsFromExcess-settles c.loop-u.invariant.from_excess c.settle_node-settled.ensures.search c.settle_node-settled.ensures.settles;
@@ -56,6 +64,7 @@ loop-u-preserved-else-found-wanted c = record {
 pub loop-u-preserved : goal.loop-u-preserved
 loop-u-preserved c = record {
   queue = c.settle_node-settled.ensures.queue;
+  trail = noted (goal.at.loop-u-preserved c).After-note;
   known = c.settle_node-settled.ensures.search;
   relaxed = c.settle_node-settled.ensures.relaxed;
   from_excess = IsFromExcess-settles c.loop-u.invariant.from_excess c.settle_node-settled.ensures.search c.settle_node-settled.ensures.settles;
@@ -63,47 +72,21 @@ loop-u-preserved c = record {
   finding = no_more (goal.at.loop-u-preserved c).After-settle_node-settled (omega (arith, ints));
 }
 
--- what the search begins with: each node in excess is open, and no other is reached
-module _ (arcs : List ArcRow) (x p excess : List ℤ) (s : List Visit) (certified : IsCertified arcs x p) (sized : length s ≡ length p) (opened : (v : ℕ) → visit_at s v ≡ source_visit (number_at excess v)) where
-  depth_0 : (v : ℕ) → depth_at s v ≡ 0
-  depth_0 v = ap (λ (e : Visit). e.depth) (opened v)
-
-  none_settled : (v : ℕ) → mark_at s v ≡ Settled → ⊥
-  none_settled v m = by_sign (int_lt (pos 0) (number_at excess v)) (sym (ap (λ (e : Visit). e.mark) (opened v)) ∙ m)
-    where
-      by_sign : (b : Bool) → cond b Open Unreached ≡ Settled → ⊥
-      by_sign true h = cc
-      by_sign false h = cc
-
-  known_first : IsSearch arcs x p s
-  known_first = record {
-    sized = sized;
-    in_order = λ v w m o. absurd (none_settled v m);
-    key_at_least_0 = λ v r. omega (arith, ints, ap (λ (e : Visit). e.key) (opened v));
-    settled_depth = λ v m. absurd (none_settled v m);
-    reached_depth = λ v r. omega (arith, depth_0 v, count_by-le-length is_unsettled s);
-    label_low = λ v r. omega (arith, ints, ap (λ (e : Visit). e.key) (opened v), certified.potentials.at_least v);
-    label_high = λ v r. omega (arith, ints, ap (λ (e : Visit). e.key) (opened v), certified.potentials.at_most_0 v);
-    traced = λ v r deep. absurd (omega (arith, depth_0 v));
-  }
-
-  relaxed_first : AllRelaxed arcs x p s
-  relaxed_first = search rules
-
-  from_excess_first : IsFromExcess excess s
-  from_excess_first = search rules
-
-  finding_first : IsFinding excess s (pos 0) 0
-  finding_first = search rules
-
 pub loop-u-init : goal.loop-u-init
 loop-u-init c =
-    let sized = c.open_sources.auto.visits ∙ (c.reset.auto.visits ∙ c.requires.visits_in) in
+    let arcs = c.args.rows.now in
+    let x = c.args.flow.now in
+    let p = c.args.potentials.now in
+    let excess = c.args.excess.now in
+    let s = c.open_sources.new.visits in
+    let opened = c.open_sources.ensures in
+    let sized : length s ≡ length p = c.open_sources.auto.visits ∙ c.requires.visits_in in
     record {
-      queue = c.open_sources.ensures.queue;
-      known = known_first c.args.rows.now c.args.flow.now c.args.potentials.now c.args.excess.now c.open_sources.new.visits c.requires.certified sized c.open_sources.ensures.visits;
-      relaxed = relaxed_first c.args.rows.now c.args.flow.now c.args.potentials.now c.args.excess.now c.open_sources.new.visits c.requires.certified sized c.open_sources.ensures.visits;
-      from_excess = from_excess_first c.args.rows.now c.args.flow.now c.args.potentials.now c.args.excess.now c.open_sources.new.visits c.requires.certified sized c.open_sources.ensures.visits;
+      queue = opened.queue;
+      trail = trail_first s (record c.args.trail.now { len = 0 }) (record { nodes_sized = c.requires.trail_in.nodes_sized ∙ sym sized; spent_sized = c.requires.trail_in.spent_sized ∙ sym sized }) refl (none_settled arcs x p excess s c.requires.certified sized opened.sources opened.others);
+      known = known_first arcs x p excess s c.requires.certified sized opened.sources opened.others;
+      relaxed = relaxed_first arcs x p excess s c.requires.certified sized opened.sources opened.others;
+      from_excess = from_excess_first arcs x p excess s c.requires.certified sized opened.sources opened.others;
       few = c.wanted_deficits-wanted.ensures;
-      finding = finding_first c.args.rows.now c.args.flow.now c.args.potentials.now c.args.excess.now c.open_sources.new.visits c.requires.certified sized c.open_sources.ensures.visits;
+      finding = finding_first arcs x p excess s c.requires.certified sized opened.sources opened.others;
     }

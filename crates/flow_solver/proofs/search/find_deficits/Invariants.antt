@@ -1,11 +1,13 @@
 use Rattle.std.proofs.Common.{◌<◌}
 use Rattle.flow_solver.specs.Queue.{IsQueueOf}
 use Rattle.flow_solver.specs.Search.{IsSearch, AllRelaxed, IsFromExcess, IsFinding, unsettled}
+use Rattle.flow_solver.specs.Trail.{IsTrailOf}
 use Rattle.flow_solver.proofs.search.find_deficits.Given as goal
 
 abbrev pub invariant-loop-u : goal.invariant-loop-u
 invariant-loop-u l = record {
   queue : IsQueueOf l.visits l.queue;
+  trail : IsTrailOf l.visits l.trail;
   known : IsSearch l.rows l.flow l.potentials l.visits;
   relaxed : AllRelaxed l.rows l.flow l.potentials l.visits;
   from_excess : IsFromExcess l.excess l.visits;

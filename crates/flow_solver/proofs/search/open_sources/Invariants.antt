@@ -1,6 +1,8 @@
-use Rattle.std.proofs.Common.{◌≡◌, ℕ, ◌<◌, ◌≤◌, pos}
+use Rattle.std.proofs.Common.{◌≡◌, ℕ, ◌<◌, ◌≤◌, pos, ◌≤ℤ◌}
+use Rattle.std.specs.Prelude.{◌<ℤ◌}
+use Rattle.flow_solver.specs.declared.visit.Mark.TheVariants.{Unreached}
 use Rattle.flow_solver.specs.Residual.{number_at}
-use Rattle.flow_solver.specs.Search.{visit_at, source_visit}
+use Rattle.flow_solver.specs.Search.{mark_at, visit_at, source_visit}
 use Rattle.flow_solver.specs.Queue.{IsQueueOf}
 use Rattle.flow_solver.proofs.search.open_sources.Given as goal
 
@@ -8,6 +10,7 @@ abbrev pub invariant-loop-v : goal.invariant-loop-v
 invariant-loop-v l = record {
   queue : IsQueueOf l.visits l.queue;
   present : l.queue.present ≡ pos 0;
-  done : (k : ℕ) → k < l.v → visit_at l.visits k ≡ source_visit (number_at l.excess k);
-  rest : (k : ℕ) → l.v ≤ k → visit_at l.visits k ≡ source_visit (pos 0);
+  sources : (k : ℕ) → k < l.v → pos 0 <ℤ number_at l.excess k → visit_at l.visits k ≡ source_visit (number_at l.excess k);
+  others : (k : ℕ) → number_at l.excess k ≤ℤ pos 0 → mark_at l.visits k ≡ Unreached;
+  rest : (k : ℕ) → l.v ≤ k → mark_at l.visits k ≡ Unreached;
 }

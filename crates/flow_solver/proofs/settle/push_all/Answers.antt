@@ -1,11 +1,14 @@
 use Rattle.flow_solver.specs.Limits.{potential_floor}
-use Rattle.std.proofs.Common.{◌≡◌, ◌+◌, ◌<◌, ◌^◌, ◌∙◌, ℕ, ℤ, List, length, sym, subst, arith, rules, w64, to_z, of_z, SFits}
+use Rattle.std.proofs.Common.{◌≡◌, ◌+◌, ◌<◌, ◌^◌, ◌∙◌, ℕ, ℤ, List, length, sym, ap, subst, arith, rules, w64, to_z, of_z, SFits}
 use Rattle.std.proofs.lemmas.Int.{ints, to_z-of_z}
 use Rattle.flow_solver.specs.Residual.{IsFlow, ArePotentials}
 use Rattle.flow_solver.specs.Search.{IsLowered, HasFound}
+use Rattle.flow_solver.specs.declared.trail.Trail.{Trail}
 use Rattle.flow_solver.specs.declared.visit.Visit.{Visit}
 use Rattle.flow_solver.specs.Push.{left}
 use Rattle.flow_solver.proofs.SettleLemmas.{paths_of_search, left-small, paths_tight, none_below_after, potentials_after, fallen_further, reach_high, can_push, ArePushes-none, ArePushes-more}
+use Rattle.flow_solver.proofs.TouchedLemmas.{AreNoted-none, AreNoted-trans}
+use Rattle.flow_solver.proofs.TrailLemmas.{held_after_search, held_alike}
 use Rattle.flow_solver.proofs.settle.push_all.Goals as goal
 use Rattle.flow_solver.proofs.settle.push_all.Goals.{After-lower, After-push_found-pushes}
 
@@ -15,6 +18,10 @@ loop-reach-init c = record {
   small = c.requires.small;
   labels = c.requires.labels;
   sized = c.requires.sized;
+  fresh = c.requires.fresh;
+  trail = c.requires.trail;
+  noted_flow = AreNoted-none c.args.touched_flow.now c.args.flow.now;
+  noted_potentials = AreNoted-none c.args.touched_potentials.now c.args.potentials.now;
   near = record {
     not_below_0 = omega (arith, ints);
     not_above = omega (arith, ints);
@@ -30,7 +37,7 @@ reach_is reach e visits found =
 
 is_lowered : (c : After-lower) → IsLowered c.loop-reach.potentials c.lower.new.potentials c.search_on.new.visits c.in-Some.reach
 is_lowered c =
-    subst (λ (r : ℤ). IsLowered c.loop-reach.potentials c.lower.new.potentials c.search_on.new.visits r) (reach_is c.in-Some.reach c.loop-reach.excess c.search_on.new.visits c.in-Some.ensures.found.found) c.lower.ensures
+    subst (λ (r : ℤ). IsLowered c.loop-reach.potentials c.lower.new.potentials c.search_on.new.visits r) (reach_is c.in-Some.reach c.loop-reach.excess c.search_on.new.visits c.in-Some.ensures.found.found) c.lower.ensures.lowered
 
 pub push_found-pushes-requires-clause-state : goal.push_found-pushes-requires-clause-state
 push_found-pushes-requires-clause-state c =
@@ -78,6 +85,13 @@ overflow_add-fallen c =
     let same = reach_is c.in-Some.reach c.loop-reach.excess c.search_on.new.visits c.in-Some.ensures.found.found in
     omega (arith, ints, low, far, same, near.not_below_0, near.not_above)
 
+pub keep_near-fallen-requires-clause-not_below_0 : goal.keep_near-fallen-requires-clause-not_below_0
+keep_near-fallen-requires-clause-not_below_0 c =
+    let near = c.loop-reach.invariant.near in
+    let low = c.in-Some.ensures.found.found.front.not_below_0 in
+    let far = c.in-Some.ensures.found.found.front.settled.not_far in
+    omega (arith, ints, low, far, reach_is c.in-Some.reach c.loop-reach.excess c.search_on.new.visits c.in-Some.ensures.found.found, near.not_below_0, near.not_above)
+
 pub keep_near-fallen-requires-clause-certified : goal.keep_near-fallen-requires-clause-certified
 keep_near-fallen-requires-clause-certified c =
     let at = (goal.at.keep_near-fallen-requires-clause-certified c).After-lower in
@@ -106,6 +120,14 @@ falls c =
 pub loop-reach-smaller : goal.loop-reach-smaller
 loop-reach-smaller c = falls (goal.at.loop-reach-smaller c).After-push_found-pushes
 
+pub forget-requires : goal.forget-requires
+forget-requires c = record {
+  reached = held_alike c.search_on.new.visits c.push_found-pushes.new.visits c.search_on.new.queue c.search_on.new.trail c.push_found-pushes.new.trail
+      (held_after_search c.search_on.new.visits c.search_on.new.queue c.search_on.new.trail c.in-Some.ensures.queue c.in-Some.ensures.trail)
+      c.push_found-pushes.ensures.marks c.push_found-pushes.auto.visits
+      (ap (λ (t : Trail). t.nodes.items) c.push_found-pushes.ensures.trail) (ap (λ (t : Trail). t.len) c.push_found-pushes.ensures.trail);
+}
+
 pub loop-reach-preserved : goal.loop-reach-preserved
 loop-reach-preserved c =
     let fits : SFits w64 c.keep_near-fallen.result = search rules in
@@ -115,6 +137,13 @@ loop-reach-preserved c =
       small = c.push_found-pushes.ensures.state.small;
       labels = c.keep_near-fallen.ensures.labels;
       sized = c.keep_near-fallen.ensures.sized;
+      fresh = c.forget.ensures.fresh;
+      trail = record {
+        nodes_sized = omega (arith, ap (λ (t : Trail). length t.nodes.items) c.push_found-pushes.ensures.trail, c.search_on.ensures.trail_in.nodes_sized, c.keep_near-fallen.auto.potentials, c.lower.auto.potentials);
+        spent_sized = omega (arith, c.push_found-pushes.ensures.spent, c.search_on.ensures.trail_in.spent_sized, c.keep_near-fallen.auto.potentials, c.lower.auto.potentials);
+      };
+      noted_flow = AreNoted-trans c.loop-reach.invariant.noted_flow c.push_found-pushes.ensures.noted;
+      noted_potentials = AreNoted-trans (AreNoted-trans c.loop-reach.invariant.noted_potentials c.lower.ensures.noted) c.keep_near-fallen.ensures.noted;
       near = rw same c.keep_near-fallen.ensures.near;
       pushed = ArePushes-more c.loop-reach.invariant.pushed c.push_found-pushes.ensures.pushes;
     }

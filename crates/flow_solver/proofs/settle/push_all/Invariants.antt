@@ -4,6 +4,8 @@ use Rattle.flow_solver.specs.Push.{ArePushes, left, AreSmall}
 use Rattle.flow_solver.specs.Labels.{IsLabelsFor}
 use Rattle.flow_solver.specs.Queue.{IsQueueFor}
 use Rattle.flow_solver.specs.Settle.{IsNear}
+use Rattle.flow_solver.specs.Touched.{AreNoted}
+use Rattle.flow_solver.specs.Trail.{IsFresh, IsTrailFor}
 use Rattle.flow_solver.proofs.settle.push_all.Given as goal
 
 abbrev pub invariant-loop-reach : goal.invariant-loop-reach
@@ -12,6 +14,10 @@ invariant-loop-reach l = record {
   small : AreSmall l.excess;
   labels : IsLabelsFor (length l.potentials) l.labels;
   sized : IsQueueFor (length l.potentials) l.queue;
+  fresh : IsFresh l.visits;
+  trail : IsTrailFor (length l.potentials) l.trail;
+  noted_flow : AreNoted l.initial.touched_flow l.initial.flow l.touched_flow l.flow;
+  noted_potentials : AreNoted l.initial.touched_potentials l.initial.potentials l.touched_potentials l.potentials;
   near : IsNear l.potentials l.fallen;
   pushed : ArePushes l.rows l.pushes l.initial.flow l.initial.excess l.flow l.excess;
 }

@@ -1,5 +1,5 @@
-use Rattle.std.proofs.Common.{◌≡◌, ◌∙◌, sym, ℕ, ℤ, Bool, false, IsTrue, ◌↔◌, ◌<◌, inl, inr, arith, MatchOption, Some, None}
-use Rattle.std.specs.Prelude.{Option}
+use Rattle.std.proofs.Common.{◌≡◌, ◌∙◌, sym, ℕ, ℤ, Bool, false, IsTrue, ◌↔◌, ◌<◌, inl, inr, arith, rules, MatchOption, Some, None}
+use Rattle.std.specs.Prelude.{Option, is_some}
 use Rattle.std.proofs.lemmas.Bool.{cases_eq, false≢true}
 use Rattle.flow_solver.specs.Search.{HasFound, IsExhausted}
 use Rattle.flow_solver.specs.Settle.{HasSearched}
@@ -22,15 +22,10 @@ returns-then-not-has_root-clause-found c =
       | then-not-has_root-via-else-not-has_root+then-not-has_root-2 w ↦ parted_no_deficit _ c.args.rows.now c.args.flow.now c.args.excess.now c.requires.certified.flow c.requires.excess_in (none_of _ _ w.if-not-has_root-2.true w.has_root-else-not-has_root.ensures)
     ]
 
-pub returns-clause-found : goal.returns-clause-found
-returns-clause-found c = by_result c.find_deficits.result c.find_deficits.ensures.found
+pub returns-then-is_none-clause-found : goal.returns-then-is_none-clause-found
+returns-then-is_none-clause-found c = by_result c.find_deficits-reach.result c.find_deficits-reach.ensures.found (search rules)
   where
-    by_result : (found : Option ℤ) → MatchOption found (IsExhausted c.args.excess.now c.find_deficits.new.visits) (HasFound c.args.excess.now c.find_deficits.new.visits)
-        → MatchOption found (IsParted c.args.rows.now c.args.flow.now c.args.excess.now) (HasSearched c.args.rows.now c.args.flow.now c.args.potentials.now c.args.excess.now c.find_deficits.new.visits)
-    by_result None done = parted_exhausted c.args.rows.now c.args.flow.now c.args.potentials.now c.args.excess.now c.find_deficits.new.visits c.find_deficits.ensures.relaxed c.find_deficits.ensures.from_excess done
-    by_result (Some reach) found = record {
-      search = c.find_deficits.ensures.search;
-      relaxed = c.find_deficits.ensures.relaxed;
-      from_excess = c.find_deficits.ensures.from_excess;
-      found = found;
-    }
+    by_result : (found : Option ℤ) → MatchOption found (IsExhausted c.args.excess.now c.find_deficits-reach.new.visits) (HasFound c.args.excess.now c.find_deficits-reach.new.visits) → is_some found ≡ false
+        → MatchOption found (IsParted c.args.rows.now c.args.flow.now c.args.excess.now) (HasSearched c.args.rows.now c.args.flow.now c.args.potentials.now c.args.excess.now c.forget.new.visits)
+    by_result None done none = parted_exhausted c.args.rows.now c.args.flow.now c.args.potentials.now c.args.excess.now c.find_deficits-reach.new.visits c.find_deficits-reach.ensures.relaxed c.find_deficits-reach.ensures.from_excess done
+    by_result (Some reach) found none = absurd (false≢true (sym none))

@@ -2,7 +2,7 @@ use Rattle.std.proofs.Common.{◌∙◌, ◌+◌, ◌-◌, ℕ, ap, rules}
 use Rattle.dimacs_io.proofs.DeviceLemmas.{Appends-from_ok, AppendsBeginning-from_err, CountsFailure-from_err, CountsFailure-from_ok}
 use Rattle.mcf.specs.Check.{write_failures}
 use Rattle.mcf.specs.Session.{Opens}
-use Rattle.mcf.proofs.SessionLemmas.{SessionTells-problem, SessionTells-opening, SessionTells-commands, write_counted}
+use Rattle.mcf.proofs.SessionLemmas.{SessionTells-problem, SessionTells-opening, SessionTells-commands, write_counted, reads_counted, no_problem_counted}
 use Rattle.mcf.proofs.interaction.run_session.Goals as goal
 
 pub returns-in-Err-clause-session : goal.returns-in-Err-clause-session
@@ -38,3 +38,9 @@ pub returns-clause-out_failed : goal.returns-clause-out_failed
 returns-clause-out_failed g c =
     let opened = CountsFailure-from_ok c.tell_opening.result _ _ (search rules) c.tell_opening.ensures.failed in
     write_counted c.serve_commands.result _ _ _ _ c.serve_commands.ensures.failed ∙ ap (λ (n : ℕ). n + write_failures c.serve_commands.result) opened
+
+pub returns-clause-script_failed : goal.returns-clause-script_failed
+returns-clause-script_failed g c = reads_counted c.serve_commands.result _ _ _ _ c.serve_commands.ensures.failed
+
+pub returns-clause-problem_failed : goal.returns-clause-problem_failed
+returns-clause-problem_failed g c = no_problem_counted c.serve_commands.result _ _ _ _ c.serve_commands.ensures.failed _ _ c.in-Ok.ensures.failed

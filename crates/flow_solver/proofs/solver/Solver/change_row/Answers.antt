@@ -1,15 +1,15 @@
-use Rattle.std.proofs.Common.{◌∙◌, rules}
+use Rattle.std.proofs.Common.{◌∙◌, ap, arith, length}
+use Rattle.std.specs.Prelude.{vec_capacity}
 use Rattle.std.proofs.lemmas.List.{with_items_is}
+use Rattle.network.specs.Instance.{Instance}
+use Rattle.flow_solver.proofs.DeskLemmas.{tables_written}
 use Rattle.flow_solver.proofs.solver.Solver.change_row.Goals as goal
 
-pub returns-clause-answered : goal.returns-clause-answered
-returns-clause-answered c =
-    let flow = with_items_is c.self.inside.flow c.change_row-pushes.new.flow (c.change_row-pushes.auto.flow ∙ c.deref_mut-2.ensures.len) in
-    let potentials = with_items_is c.self.inside.potentials c.change_row-pushes.new.potentials (c.change_row-pushes.auto.potentials ∙ c.deref_mut-3.ensures.len) in
-    let cut = with_items_is c.self.inside.cut c.change_row-pushes.new.cut (c.change_row-pushes.auto.cut ∙ c.deref_mut-6.ensures.len) in
-    rw flow (rw potentials (rw cut (search rules)))
-
-pub returns-clause-changed : goal.returns-clause-changed
-returns-clause-changed c =
-    let flow = with_items_is c.self.inside.flow c.change_row-pushes.new.flow (c.change_row-pushes.auto.flow ∙ c.deref_mut-2.ensures.len) in
-    rw flow (search rules)
+pub invariant_of-self : goal.invariant_of-self
+invariant_of-self c =
+    let t = c.self.inside in
+    let call = c.change_row-pushes in
+    let whole = with_items_is t.rows call.new.rows (call.auto.rows ∙ c.deref_mut.ensures.len) in
+    rw whole (tables_written t.net call.new.net t.star t.rows.items call.new.rows t.flow call.new.flow t.potentials call.new.potentials t.balance call.new.balance t.cut call.new.cut t.scratch call.new.scratch (vec_capacity t.rows) (vec_capacity t.rows)
+    c.self.invariant (ap (λ (I : Instance). I.nodes) call.ensures.net) (ap (λ (I : Instance). I.room) call.ensures.net) call.ensures.rows (call.auto.rows ∙ ap length c.deref_mut.ensures.value) call.ensures.star
+    call.ensures.flow_written call.ensures.potentials_written call.ensures.idle call.ensures.balance call.ensures.cut_written call.ensures.scratch (omega arith))

@@ -1,0 +1,158 @@
+-- What the tables of a solver keep where entries are written, and what was kept of them.
+use Rattle.std.proofs.Common.{◌≡◌, ℕ, ◌+◌, ◌-◌, ◌≤◌, ℤ, Bool, List, length, take, drop, refl, sym, ap, subst, ◌∙◌, arith, Option, None, Some}
+use Rattle.std.specs.Prelude.{IfSome}
+use Rattle.std.proofs.lemmas.List.{length-take-le, length-drop}
+use Rattle.dimacs_text.specs.declared.problem.ArcRow.{ArcRow}
+use Rattle.network.specs.Instance.{Demand, Supplies, Terminals, Sides, Instance, numbered_flow, reduced, with_supply}
+use Rattle.flow_solver.specs.declared.balance.Balance.{Balance}
+use Rattle.flow_solver.specs.declared.ledger.Ledger.{Ledger}
+use Rattle.flow_solver.specs.declared.part.Part.{Part}
+use Rattle.flow_solver.specs.declared.part.Part.TheVariants.{OtherRow, OtherSupply, NoArc}
+use Rattle.flow_solver.specs.declared.scratch.Scratch.{Scratch}
+use Rattle.flow_solver.specs.declared.star.Star.{Star}
+use Rattle.flow_solver.specs.declared.verdict.Verdict.{Verdict}
+use Rattle.flow_solver.specs.Balance.{IsBalanceOf}
+use Rattle.flow_solver.specs.Desk.{NameChanges}
+use Rattle.flow_solver.specs.Moment.{AreTables, IsOfNodes, IsSized, Kept, Moment, kept_of}
+use Rattle.flow_solver.specs.Nodes.{IsIdleEntry}
+use Rattle.flow_solver.specs.Part.{before_of, before_part, return_count}
+use Rattle.flow_solver.specs.Scratch.{IsScratchFor}
+use Rattle.flow_solver.specs.Star.{Covers}
+use Rattle.flow_solver.specs.Touched.{IsLedger, IsWritten, kept_in}
+use Rattle.flow_solver.specs.Walk.{AreRowsOf}
+use Rattle.flow_solver.proofs.TouchedLemmas.{named_after_first}
+
+module _ {T : Type 0} where
+  -- a write leaves what was kept
+  pub kept_written : (l m : Ledger T) → IsWritten l m → kept_in m ≡ kept_in l
+  kept_written l m written = ap (λ (n : ℕ). take n m.kept.items) written.size ∙ ap (λ v. take l.size v.items) written.kept
+
+  pub length_kept : (l : Ledger T) → IsLedger l → length (kept_in l) ≡ l.size
+  length_kept l ledger = length-take-le l.size l.kept.items (omega (arith, ledger.size_in, ledger.same_length))
+
+  -- what was kept of a ledger of nodes has an entry for each node
+  pub length_kept_nodes : (nodes : ℕ) (l : Ledger T) → IsOfNodes nodes l → length (drop 1 (kept_in l)) ≡ nodes
+  length_kept_nodes nodes l of = omega (arith, length-drop 1 (kept_in l), length_kept l of.ledger, of.size_is)
+
+  pub nodes_written : (nodes : ℕ) (l m : Ledger T) → IsOfNodes nodes l → IsWritten l m → IsOfNodes nodes m
+  nodes_written nodes l m of written = record {
+    ledger = written.ledger;
+    entries_in = written.same_length ∙ of.entries_in;
+    size_is = written.size ∙ of.size_is;
+  }
+
+  -- a ledger of nodes is one still where its entries and what was kept are as many
+  pub nodes_alike : (nodes : ℕ) (m : Ledger T) (entries kept : List T) → IsLedger m → m.entries.items ≡ entries → kept_in m ≡ kept → length entries ≡ nodes + 1 → length kept ≡ nodes + 1 → IsOfNodes nodes m
+  nodes_alike nodes m entries kept ledger entries_are kept_is many as_many = record {
+    ledger = ledger;
+    entries_in = ap (λ (xs : List T). length xs) entries_are ∙ many;
+    size_is = sym (length_kept m ledger) ∙ ap (λ (xs : List T). length xs) kept_is ∙ as_many;
+  }
+
+-- what was kept of three ledgers
+abbrev pub kept_tables : Ledger ℤ → Ledger ℤ → Ledger Bool → Kept
+kept_tables flow potentials cut = record { flow = kept_in flow; potentials = drop 1 (kept_in potentials); cut = drop 1 (kept_in cut) }
+
+pub kept_alike : (flow flow' potentials potentials' : Ledger ℤ) (cut cut' : Ledger Bool) → kept_in flow' ≡ kept_in flow → kept_in potentials' ≡ kept_in potentials → kept_in cut' ≡ kept_in cut → kept_tables flow' potentials' cut' ≡ kept_tables flow potentials cut
+kept_alike flow flow' potentials potentials' cut cut' one two three =
+    ap (λ (xs : List ℤ). record { flow = xs; potentials = drop 1 (kept_in potentials'); cut = drop 1 (kept_in cut') }) one
+    ∙ ap (λ (xs : List ℤ). record { flow = kept_in flow; potentials = drop 1 xs; cut = drop 1 (kept_in cut') }) two
+    ∙ ap (λ (xs : List Bool). record { flow = kept_in flow; potentials = drop 1 (kept_in potentials); cut = drop 1 xs }) three
+
+pub kept_after : (flow flow' potentials potentials' : Ledger ℤ) (cut cut' : Ledger Bool) → IsWritten flow flow' → IsWritten potentials potentials' → IsWritten cut cut' → kept_tables flow' potentials' cut' ≡ kept_tables flow potentials cut
+kept_after flow flow' potentials potentials' cut cut' one two three =
+    kept_alike flow flow' potentials potentials' cut cut' (kept_written flow flow' one) (kept_written potentials potentials' two) (kept_written cut cut' three)
+
+pub idle_kept : (l m : Ledger ℤ) → IsWritten l m → IsIdleEntry (kept_in l) → IsIdleEntry (kept_in m)
+idle_kept l m written idle = subst IsIdleEntry (sym (kept_written l m written)) idle
+
+-- the tables of an instance stay tables where they are written, and fit an instance of as many arcs and nodes
+pub tables_written : (I J : Instance) (star : Star) (rows rows' : List ArcRow) (flow flow' potentials potentials' : Ledger ℤ) (balance balance' : Balance) (cut cut' : Ledger Bool) (scratch scratch' : Scratch) (room room' : ℕ) →
+    AreTables I star rows flow potentials balance cut scratch room → J.nodes ≡ I.nodes → J.room ≡ I.room → AreRowsOf J rows' → length rows' ≡ length rows → Covers (J.nodes + 1) J.arcs star →
+    IsWritten flow flow' → IsWritten potentials potentials' → IsIdleEntry potentials'.entries.items → IsBalanceOf J rows' flow' balance' → IsWritten cut cut' → IsScratchFor (J.nodes + 1) scratch' → room ≤ room' →
+    AreTables J star rows' flow' potentials' balance' cut' scratch' room'
+tables_written I J star rows rows' flow flow' potentials potentials' balance balance' cut cut' scratch scratch' room room' t nodes room_is of many covers flow_written potentials_written idle balance_is cut_written scratch_in more = record {
+  lawful = of.lawful;
+  rows_are = of.rows_are;
+  covers = covers;
+  flow_ledger = flow_written.ledger;
+  flow_in = flow_written.same_length ∙ t.flow_in ∙ sym many;
+  flow_fits = omega (arith, t.flow_fits, room_is, flow_written.same_room);
+  potentials_in = subst (λ (n : ℕ). IsOfNodes n potentials') (sym nodes) (nodes_written I.nodes potentials potentials' t.potentials_in potentials_written);
+  idle = idle;
+  kept_idle = idle_kept potentials potentials' potentials_written t.kept_idle;
+  balance_is = balance_is;
+  cut_in = subst (λ (n : ℕ). IsOfNodes n cut') (sym nodes) (nodes_written I.nodes cut cut' t.cut_in cut_written);
+  scratch_in = scratch_in;
+  rows_fit = omega (arith, t.rows_fit, room_is, more);
+}
+
+-- so their moment has its sizes
+pub sized_written : (I J : Instance) (star : Star) (rows rows' : List ArcRow) (flow flow' potentials potentials' : Ledger ℤ) (balance : Balance) (cut cut' : Ledger Bool) (scratch : Scratch) (room : ℕ) (verdict : Verdict) →
+    AreTables I star rows flow potentials balance cut scratch room → J.nodes ≡ I.nodes → AreRowsOf J rows' → length rows' ≡ length rows →
+    IsWritten flow flow' → IsWritten potentials potentials' → IsWritten cut cut' →
+    IsSized (record { instance = J; flow = flow'.entries.items; potentials = drop 1 potentials'.entries.items; verdict = verdict; cut = drop 1 cut'.entries.items })
+sized_written I J star rows rows' flow flow' potentials potentials' balance cut cut' scratch room verdict t nodes of many flow_written potentials_written cut_written = record {
+  lawful = of.lawful;
+  one_flow = flow_written.same_length ∙ t.flow_in ∙ sym many ∙ ap (λ (xs : List ArcRow). length xs) of.rows_are;
+  one_potential = omega (arith, length-drop 1 potentials'.entries.items, potentials_written.same_length, t.potentials_in.entries_in, nodes);
+  one_mark = omega (arith, length-drop 1 cut'.entries.items, cut_written.same_length, t.cut_in.entries_in, nodes);
+}
+
+-- the tables stay tables where the arcs become others, with as many flows
+pub tables_with_arcs : (I J : Instance) (star star' : Star) (rows rows' : List ArcRow) (flow flow' potentials : Ledger ℤ) (balance balance' : Balance) (cut : Ledger Bool) (scratch : Scratch) (room room' : ℕ) →
+    AreTables I star rows flow potentials balance cut scratch room → J.nodes ≡ I.nodes → J.room ≡ I.room → AreRowsOf J rows' → Covers (J.nodes + 1) J.arcs star' →
+    IsLedger flow' → length flow'.entries.items ≡ length rows' → length flow'.touched ≡ length flow.touched → IsBalanceOf J rows' flow' balance' → room ≤ room' →
+    AreTables J star' rows' flow' potentials balance' cut scratch room'
+tables_with_arcs I J star star' rows rows' flow flow' potentials balance balance' cut scratch room room' t nodes room_is of covers ledger flow_in same_room balance_is more = record {
+  lawful = of.lawful;
+  rows_are = of.rows_are;
+  covers = covers;
+  flow_ledger = ledger;
+  flow_in = flow_in;
+  flow_fits = omega (arith, t.flow_fits, room_is, same_room);
+  potentials_in = subst (λ (n : ℕ). IsOfNodes n potentials) (sym nodes) t.potentials_in;
+  idle = t.idle;
+  kept_idle = t.kept_idle;
+  balance_is = balance_is;
+  cut_in = subst (λ (n : ℕ). IsOfNodes n cut) (sym nodes) t.cut_in;
+  scratch_in = subst (λ (n : ℕ). IsScratchFor (n + 1) scratch) (sym nodes) t.scratch_in;
+  rows_fit = omega (arith, t.rows_fit, room_is, more);
+}
+
+-- places that name what is changed of a flow name what is changed of the numbered arcs
+pub named_numbered : (D : Demand) (places : List ℕ) (xs ys : List ℤ) → NameChanges 0 places xs ys → NameChanges (return_count D) places (numbered_flow D xs) (numbered_flow D ys)
+named_numbered (Supplies supplies) places xs ys named = named
+named_numbered (Terminals source sink) places xs ys named = named_after_first places xs ys named
+named_numbered (Sides marks) places xs ys named = named
+
+-- the same where the first flow is of the instance before a change
+pub named_before : (part : Part) (I : Instance) (places : List ℕ) (xs ys : List ℤ) → NameChanges 0 places xs ys → NameChanges (return_count (before_part part I).demand) places (numbered_flow (before_part part I).demand xs) (numbered_flow I.demand ys)
+named_before (OtherRow k row) I places xs ys named = named_numbered I.demand places xs ys named
+named_before (OtherSupply v value) I places xs ys named = of I.demand
+  where
+    of : (D : Demand) → NameChanges (return_count (with_supply D v value)) places (numbered_flow (with_supply D v value) xs) (numbered_flow D ys)
+    of (Supplies supplies) = named
+    of (Terminals source sink) = named_after_first places xs ys named
+    of (Sides marks) = named
+named_before NoArc I places xs ys named = named_numbered I.demand places xs ys named
+
+-- the places name what is changed since the moment before, where there is one
+pub named_since : (part : Option Part) (I : Instance) (kept : Kept) (verdict : Verdict) (places : List ℕ) (ys : List ℤ) → NameChanges 0 places kept.flow ys → IfSome (before_of part I kept verdict) (λ old. NameChanges (return_count old.instance.demand) places (numbered_flow old.instance.demand old.flow) (numbered_flow I.demand ys))
+named_since None I kept verdict places ys named = tt
+named_since (Some part) I kept verdict places ys named = named_before part I places kept.flow ys named
+
+-- what is kept of a moment, with its instance and verdict, is that moment
+pub moment_kept : (I : Instance) (kept : Kept) (verdict : Verdict) (m : Moment) → I ≡ m.instance → kept ≡ kept_of m → verdict ≡ m.verdict → record { instance = I; flow = kept.flow; potentials = kept.potentials; verdict = verdict; cut = kept.cut } ≡ m
+moment_kept I kept verdict m one two three =
+    ap (λ (J : Instance). record { instance = J; flow = kept.flow; potentials = kept.potentials; verdict = verdict; cut = kept.cut }) one
+    ∙ ap (λ (k : Kept). record { instance = m.instance; flow = k.flow; potentials = k.potentials; verdict = verdict; cut = k.cut }) two
+    ∙ ap (λ (v : Verdict). record { instance = m.instance; flow = m.flow; potentials = m.potentials; verdict = v; cut = m.cut }) three
+
+pub potentials_since : (part : Option Part) (I : Instance) (kept : Kept) (verdict : Verdict) (places : List ℕ) (ys : List ℤ) → NameChanges 1 places kept.potentials ys → IfSome (before_of part I kept verdict) (λ old. NameChanges 1 places old.potentials ys)
+potentials_since None I kept verdict places ys named = tt
+potentials_since (Some part) I kept verdict places ys named = named
+
+pub cut_since : (part : Option Part) (I : Instance) (kept : Kept) (verdict : Verdict) (places : List ℕ) (ys : List Bool) → NameChanges 1 places kept.cut ys → IfSome (before_of part I kept verdict) (λ old. NameChanges 1 places old.cut ys)
+cut_since None I kept verdict places ys named = tt
+cut_since (Some part) I kept verdict places ys named = named

@@ -1,0 +1,50 @@
+use Rattle.std.proofs.Common.{◌≡◌, ◌∙◌, ℤ, List, pos, ◌<◌, length, arith, subst, sym, slice_index_or, slice_set, w64, SFits, rules, to_z, of_z}
+use Rattle.std.proofs.lemmas.Int.{to_z-of_z}
+use Rattle.std.proofs.lemmas.List.{get_or_default}
+use Rattle.flow_solver.specs.Residual.{arc_at, number_at}
+use Rattle.flow_solver.specs.Balance.{IsCarried, IsWrappedExcess}
+use Rattle.flow_solver.proofs.BalanceLemmas.{excess_step, part_step, part_past, part_ends}
+use Rattle.flow_solver.proofs.balance.carry_back.Goals as goal
+use Rattle.flow_solver.proofs.balance.carry_back.Goals.{then-k-rows, else-k-rows}
+
+pub loop-j-preserved : goal.loop-j-preserved
+loop-j-preserved c =
+    let places = c.places-places.result.now in
+    let rows = c.args.rows.now in
+    let kept = c.args.flow.now.kept.items in
+    let entries = c.args.flow.now.entries.items in
+    let z = c.loop-j.invariant.0 in
+    let part = c.loop-j.invariant.1 in
+    let apart = c.places-places.ensures.apart in
+    let place = slice_index_or c.places-places.result.now c.loop-j.j 0 in
+    elim c.if-k-rows.branch [
+      | then-k-rows w ↦ (let place_in : slice_index_or places c.loop-j.j 0 < length c.args.rows.now = w.if-k-rows.true in
+          let f = w.carry_over.new.excess in
+          let next = slice_set z place (number_at kept place) in
+          let entry_fits : SFits w64 w.index.result.now = search rules in
+          let kept_fits : SFits w64 w.index-then-k-rows.result.now = search rules in
+          let entry : to_z w64 (of_z w64 w.index.result.now) ≡ number_at entries place = to_z-of_z w64 w.index.result.now entry_fits ∙ w.index.ensures ∙ get_or_default entries place w.index.result.now (pos 0) (omega (arith, c.requires.as_many)) in
+          let was : to_z w64 (of_z w64 w.index-then-k-rows.result.now) ≡ number_at kept place = to_z-of_z w64 w.index-then-k-rows.result.now kept_fits ∙ w.index-then-k-rows.ensures ∙ get_or_default kept place w.index-then-k-rows.result.now (pos 0) (omega (arith, c.requires.as_many, c.requires.ledger.same_length)) in
+          let carried : IsCarried (arc_at rows place) (number_at entries place) (number_at kept place) c.loop-j.excess w.carry_over.new.excess =
+          subst (λ (m : ℤ). IsCarried (arc_at rows place) (number_at entries place) m c.loop-j.excess w.carry_over.new.excess) was
+          (subst (λ (m : ℤ). IsCarried (arc_at rows place) m (to_z w64 (of_z w64 w.index-then-k-rows.result.now)) c.loop-j.excess w.carry_over.new.excess) entry w.carry_over.ensures) in (
+            next,
+            part_step places entries kept c.loop-j.j z (omega arith) apart part (omega (arith, c.requires.as_many)),
+            λ supply is. subst (λ (e : List ℤ). IsWrappedExcess rows supply next e) (sym w.excess-is)
+                (excess_step places entries kept c.loop-j.j z (omega arith) apart part rows supply c.loop-j.excess f (sym c.requires.as_many) place_in carried (c.loop-j.invariant.2 supply is)),
+          ))
+      | else-k-rows w ↦ (
+        z,
+        part_past places entries kept c.loop-j.j z (omega arith) apart part (omega (arith, c.requires.as_many)) c.requires.ledger.same_length,
+        λ supply is. subst (λ (e : List ℤ). IsWrappedExcess rows supply z e) (sym w.excess-is) (c.loop-j.invariant.2 supply is),
+      )
+    ]
+
+pub returns : goal.returns
+returns c =
+    let rows = c.args.rows.now in
+    let kept = c.args.flow.now.kept.items in
+    let entries = c.args.flow.now.entries.items in
+    λ supply is. subst (λ (x : List ℤ). IsWrappedExcess rows supply x c.loop-j.excess)
+    (part_ends c.args.flow.now.touched c.places-places.result.now entries kept c.loop-j.j c.loop-j.invariant.0 (omega arith) (omega arith) c.requires.ledger.same_length c.places-places.ensures.listed c.places-places.ensures.noted (λ k none. sym (c.requires.ledger.elsewhere k none (pos 0))) c.loop-j.invariant.1)
+    (c.loop-j.invariant.2 supply is)

@@ -1,0 +1,32 @@
+use Rattle.std.proofs.Common.{◌∙◌, List, ap, arith, length, refl, subst, sym}
+use Rattle.std.specs.Int.{w128}
+use Rattle.std.proofs.lemmas.Int.{to_z-of_z}
+use Rattle.dimacs_text.specs.declared.problem.ArcRow.{ArcRow}
+use Rattle.flow_solver.specs.Balance.{IsWrappedCost}
+use Rattle.flow_solver.specs.Nodes.{IsIdleEntry}
+use Rattle.flow_solver.proofs.CarryLemmas.{balance_kept}
+use Rattle.flow_solver.proofs.DeskLemmas.{nodes_alike}
+use Rattle.flow_solver.proofs.solver.Solver.keep.Goals as goal
+
+pub invariant_of-self : goal.invariant_of-self
+invariant_of-self c =
+    let t = c.self.inside in
+    let inv = c.self.invariant in
+    let result = c.cost_now-self-inside.result in
+    let cost = to_z-of_z w128 result (record { sfits = c.cost_now-self-inside.type_inv })
+    ∙ subst (λ (r : List ArcRow). IsWrappedCost r t.flow.entries.items result) c.deref.ensures.value c.cost_now-self-inside.ensures in
+    record {
+      lawful = inv.lawful;
+      rows_are = inv.rows_are;
+      covers = inv.covers;
+      flow_ledger = c.keep.ensures.ledger;
+      flow_in = ap length c.keep.ensures.entries ∙ inv.flow_in;
+      flow_fits = omega (arith, inv.flow_fits, c.keep.ensures.room);
+      potentials_in = nodes_alike t.net.nodes c.keep-2.new.self t.potentials.entries.items t.potentials.entries.items c.keep-2.ensures.ledger c.keep-2.ensures.entries c.keep-2.ensures.kept inv.potentials_in.entries_in inv.potentials_in.entries_in;
+      idle = subst IsIdleEntry (sym c.keep-2.ensures.entries) inv.idle;
+      kept_idle = subst IsIdleEntry (sym c.keep-2.ensures.kept) inv.idle;
+      balance_is = balance_kept t.net t.rows.items t.flow c.keep.new.self t.balance _ c.keep.ensures.entries c.keep.ensures.whole refl cost inv.balance_is;
+      cut_in = nodes_alike t.net.nodes c.keep-3.new.self t.cut.entries.items t.cut.entries.items c.keep-3.ensures.ledger c.keep-3.ensures.entries c.keep-3.ensures.kept inv.cut_in.entries_in inv.cut_in.entries_in;
+      scratch_in = inv.scratch_in;
+      rows_fit = inv.rows_fit;
+    }

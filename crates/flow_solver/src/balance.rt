@@ -1,0 +1,146 @@
+//! The excess of each node and the cost of a flow, carried over from one flow to another.
+
+ghost use Rattle.std.specs.Prelude.{◌≡◌, ℕ, ℤ, pos, ◌+◌, ◌*ℤ◌, ◌+ℤ◌, ◌-ℤ◌, ◌<◌, ◌≤◌, IfOk, length};
+ghost use Rattle.std.specs.Int.{int_wrap, w128};
+ghost use Rattle.network.specs.Instance.{reduced};
+ghost use Rattle.flow_solver.specs.Limits.{entry_limit};
+ghost use Rattle.flow_solver.specs.Residual.{arc_at, number_at};
+ghost use Rattle.flow_solver.specs.Nodes.{held};
+ghost use Rattle.flow_solver.specs.Touched.{IsLedger};
+ghost use Rattle.flow_solver.specs.Balance.{AreEndsIn, AreWrapped, IsCarried, IsRaised, IsWrappedCost, IsWrappedExcess};
+
+use crate::answer::supply_at;
+use crate::ledger::Ledger;
+use dimacs_text::ArcRow;
+use network::Network;
+use std::alloc::{AllocError, Global};
+
+/// The excess of each node and the cost of the flow. Both are sums that wrap: so each is carried over as one arc or one
+/// supply changes, whatever the flows are in between, and of a flow within its bounds it is exact, since it fits.
+#[derive(Drop)]
+pub struct Balance {
+    pub excess: Vec<i64>,
+    pub cost: i128,
+}
+
+impl Balance {
+    /// The balance of a flow of the network, all of it.
+    pub fn new(
+        alloc: Global,
+        net: &Network,
+        rows: &[ArcRow],
+        flow: &[i64],
+    ) -> Result<Balance, AllocError>
+        requires same_length { length flow.now ≡ length rows.now }
+        requires ends { AreEndsIn (net.now.nodes + 1) rows.now }
+        requires few { net.now.nodes + 1 ≤ entry_limit }
+        ensures sized { IfOk result (λ b. length b.excess.items ≡ net.now.nodes + 1) }
+        ensures excess { IfOk result (λ b. IsWrappedExcess rows.now (held net.now.nodes (reduced net.now).supply) flow.now b.excess.items) }
+        ensures cost { IfOk result (λ b. IsWrappedCost rows.now flow.now b.cost) }
+    {
+        let mut excess = vec![in alloc; 0; net.nodes() as usize + 1]?;
+        fill(net, rows, flow, &mut excess);
+        Ok(Balance {
+            excess,
+            cost: cost_of(rows, flow),
+        })
+    }
+}
+
+/// Adds to the entry of a node what `after` exceeds `before` by, as where its supply goes from the one to the other.
+pub fn add_difference(excess: &mut [i64], v: usize, before: i64, after: i64)
+    requires { v < length excess.old }
+    ensures { IsRaised v before after excess.old excess.new }
+{
+    excess[v] = excess[v].wrapping_add(after.wrapping_sub(before));
+}
+
+/// Carries the excess over as the flow of an arc goes from `before` to `after`.
+pub fn carry_over(excess: &mut [i64], row: &ArcRow, before: i64, after: i64)
+    requires tail_in { row.now.tail < length excess.old }
+    requires head_in { row.now.head < length excess.old }
+    ensures { IsCarried row.now before after excess.old excess.new }
+{
+    add_difference(excess, row.tail as usize, after, before);
+    add_difference(excess, row.head as usize, before, after);
+}
+
+/// Carries a cost over as one factor of an arc's share, its cost or its flow, goes from `before` to `after`.
+pub fn reprice(cost: i128, before: i64, after: i64, factor: i64) -> i128
+    ensures { result ≡ int_wrap w128 (cost +ℤ (after -ℤ before) *ℤ factor) }
+{
+    let more = i128::from(after) - i128::from(before);
+    cost.wrapping_add(more.wrapping_mul(i128::from(factor)))
+}
+
+/// The cost of what stands in the table, from that of what was kept.
+pub fn cost_now(rows: &[ArcRow], flow: &Ledger<i64>, cost: i128) -> i128
+    requires ledger { IsLedger flow.now }
+    requires as_many { length rows.now ≡ length flow.now.entries.items }
+    requires cost { IsWrappedCost rows.now flow.now.kept.items cost }
+    ensures { IsWrappedCost rows.now flow.now.entries.items result }
+{
+    let mut now = cost;
+    let places = flow.touched.places();
+    for j in 0..places.len() {
+        let k = places[j] as usize;
+        // The last arcs may have been taken off since.
+        if k < rows.len() {
+            now = reprice(now, flow.kept[k], flow.entries[k], rows[k].cost);
+        }
+    }
+    now
+}
+
+/// Carries the excess of what stands in the table back to that of what was kept.
+pub fn carry_back(rows: &[ArcRow], flow: &Ledger<i64>, excess: &mut [i64])
+    requires ledger { IsLedger flow.now }
+    requires as_many { length rows.now ≡ length flow.now.entries.items }
+    requires ends { AreEndsIn (length excess.old) rows.now }
+    ensures { (supply : ℕ → ℤ) → IsWrappedExcess rows.now supply flow.now.entries.items excess.old → IsWrappedExcess rows.now supply flow.now.kept.items excess.new }
+{
+    let places = flow.touched.places();
+    for j in 0..places.len() {
+        let k = places[j] as usize;
+        if k < rows.len() {
+            carry_over(excess, &rows[k], flow.entries[k], flow.kept[k]);
+        }
+    }
+}
+
+/// Fills the table with what each node has to send out.
+fn fill_supplies(net: &Network, excess: &mut [i64])
+    requires sized { length excess.old ≡ net.now.nodes + 1 }
+    requires few { length excess.old ≤ entry_limit }
+    ensures { AreWrapped (held net.now.nodes (reduced net.now).supply) excess.new }
+{
+    for v in 0..excess.len() {
+        excess[v] = supply_at(net, v as u32);
+    }
+}
+
+/// Fills the table with what each node has to send out beyond what the flow sends.
+fn fill(net: &Network, rows: &[ArcRow], flow: &[i64], excess: &mut [i64])
+    requires sized { length excess.old ≡ net.now.nodes + 1 }
+    requires few { length excess.old ≤ entry_limit }
+    requires same_length { length flow.now ≡ length rows.now }
+    requires ends { AreEndsIn (length excess.old) rows.now }
+    ensures { IsWrappedExcess rows.now (held net.now.nodes (reduced net.now).supply) flow.now excess.new }
+{
+    fill_supplies(net, excess);
+    for k in 0..rows.len() {
+        carry_over(excess, &rows[k], 0, flow[k]);
+    }
+}
+
+/// The cost of a flow.
+fn cost_of(rows: &[ArcRow], flow: &[i64]) -> i128
+    requires { length flow.now ≡ length rows.now }
+    ensures { IsWrappedCost rows.now flow.now result }
+{
+    let mut cost = 0;
+    for k in 0..rows.len() {
+        cost = reprice(cost, 0, flow[k], rows[k].cost);
+    }
+    cost
+}

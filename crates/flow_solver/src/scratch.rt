@@ -1,0 +1,38 @@
+//! The tables that searches write in.
+
+ghost use Rattle.std.specs.Prelude.{IfOk};
+ghost use Rattle.flow_solver.specs.Scratch.{IsScratchFor};
+
+use crate::labels::Labels;
+use crate::queue::Queue;
+use crate::trail::Trail;
+use crate::visit::Visit;
+use std::alloc::{AllocError, Global};
+
+/// Tables with one entry a node. Between two calls nothing is known of them but their size, and that no node is marked
+/// as reached.
+#[derive(Drop)]
+pub struct Scratch {
+    pub visits: Vec<Visit>,
+    pub labels: Labels,
+    pub queue: Queue,
+    pub trail: Trail,
+}
+
+impl Scratch {
+    /// Tables for so many entries.
+    pub fn new(alloc: Global, entries: u32) -> Result<Scratch, AllocError>
+        ensures { IfOk result (λ s. IsScratchFor entries s) }
+    {
+        let visits = vec![in alloc; Visit::unreached(); entries as usize]?;
+        let labels = Labels::new(alloc, entries)?;
+        let queue = Queue::new(alloc, entries as usize)?;
+        let trail = Trail::new(alloc, entries as usize)?;
+        Ok(Scratch {
+            visits,
+            labels,
+            queue,
+            trail,
+        })
+    }
+}
