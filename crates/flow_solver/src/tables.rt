@@ -173,8 +173,8 @@ impl Tables {
         self.old_verdict
     }
 
-    /// The places of the flow that the last change wrote, each once and in no order: arc k has place k - 1, and place k where
-    /// a return arc stands first. The flow of every other arc is what it was.
+    /// Places of the flow, in no order, which name each arc whose flow the last change altered, and maybe others: arc k has
+    /// place k - 1, and place k where a return arc stands first. The flow of every arc not named is what it was.
     pub fn touched_flow(&self) -> &[u32]
         requires { IsSome self.now.before }
         ensures { IfSome self.now.before (λ old. NameChanges (return_count old.instance.demand) result.now (numbered_flow old.instance.demand old.flow) (numbered_flow self.now.moment.instance.demand self.now.moment.flow)) }
@@ -182,8 +182,8 @@ impl Tables {
         self.solver.touched_flow()
     }
 
-    /// The nodes whose potential the last change wrote, each once and in no order; 0 may be there, and is no node. The
-    /// potential of every other node is what it was.
+    /// Nodes, in no order, which are all those whose potential the last change altered, and maybe others; 0 may be there,
+    /// and is no node. The potential of every node not named is what it was.
     pub fn touched_potentials(&self) -> &[u32]
         requires { IsSome self.now.before }
         ensures { IfSome self.now.before (λ old. NameChanges 1 result.now old.potentials self.now.moment.potentials) }
@@ -191,8 +191,8 @@ impl Tables {
         self.solver.touched_potentials()
     }
 
-    /// The nodes whose mark the last change wrote, each once and in no order; 0 may be there, and is no node. The mark of
-    /// every other node is what it was.
+    /// Nodes, in no order, which are all those whose mark the last change altered, and maybe others; 0 may be there, and is
+    /// no node. The mark of every node not named is what it was.
     pub fn touched_cut(&self) -> &[u32]
         requires { IsSome self.now.before }
         ensures { IfSome self.now.before (λ old. NameChanges 1 result.now old.cut self.now.moment.cut) }
