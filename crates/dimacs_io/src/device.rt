@@ -13,8 +13,8 @@ pub struct Broken;
 
 /// Gives bytes up to an end.
 ///
-/// A read of n bytes lowers `most_left` by n and a failed one keeps it, so that reading ends, and what was given is as many
-/// first bytes of what it had as `most_left` has fallen. Each call asks that the count of failed calls can still rise.
+/// A read of n bytes lowers `most_left` by n, a failed one keeps it: so reading ends, and what was given is the first
+/// bytes of what it had, as many as `most_left` fell by. Each call asks that the count of failed calls can still rise.
 pub trait Source {
     /// The bytes that it still gives, where it tells them.
     ghost remaining: { Self → Option (List ℕ) };
@@ -25,8 +25,8 @@ pub trait Source {
     /// How many of its calls have failed.
     ghost failures: { Self → ℕ };
 
-    /// Puts bytes at the start of `piece`, and says how many: one at least, unless `piece` is empty or the end is reached.
-    /// Fails with `Broken`, having given nothing.
+    /// Puts bytes at the start of `piece`, and says how many: one at least, unless `piece` is empty or the end is
+    /// reached. Fails with `Broken`, having given nothing.
     fn read(&mut self, piece: &mut [u8]) -> Result<usize, Broken>
         requires { failures self.old < 2 ^ 64 - 1 }
         ensures bound { ReadsAtMost result piece.new }

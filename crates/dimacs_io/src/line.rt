@@ -4,7 +4,7 @@ ghost use Rattle.std.specs.Prelude.{◌≡◌, ◌+◌, ◌≤◌, [], ◌∷◌
 use itoa::{Buffer, Integer};
 use std::marker::Model;
 
-/// How many bytes a line has at most. The longest that is written, `f` with two ids and a flow, has 45.
+/// How many bytes a line has at most. The longest of a solution, `f`, has 45, and the longest message 51.
 const ROOM: usize = 64;
 
 /// The beginning of a line, of at most 64 bytes.

@@ -55,8 +55,8 @@ impl<R: Read> Source for ReadSource<R> {
     }
 }
 
-/// A sink over a writer. It tells the bytes that the writer tells. Each error of the writer is a failed call, and so is a
-/// write that takes nothing of a piece that is not empty.
+/// A sink over a writer. It tells the bytes that the writer tells. Each error of the writer is a failed call, and so is
+/// a write that takes nothing of a piece that is not empty.
 #[derive(Drop)]
 pub struct WriteSink<W: Write> {
     inner: W,

@@ -61,8 +61,8 @@ impl<'a> Model for Script<'a> {
 }
 
 impl<'a> Script<'a> {
-    /// A script that gives `bytes`, at most `most` of them a call, and fails from call number `fails` on, counted from 1
-    /// (`None`: never).
+    /// A script that gives `bytes`, at most `most` of them a call, and fails from call number `fails` on, counted from
+    /// 1 (`None`: never).
     pub fn new(bytes: &'a [u8], most: usize, fails: Option<u64>) -> Script<'a>
         requires { 0 < most }
         ensures bytes { ⟦<Script<'a> as Source>⟧.remaining result ≡ Some bytes.now }
@@ -87,7 +87,8 @@ impl Source for Script<'_> {
 
     ghost failures = { λ s. s.failures };
 
-    /// Gives as much as the piece, the script's choice and what is left allow; fails exactly where the good calls are used up.
+    /// Gives as much as the piece, the script's choice and what is left allow; fails exactly where the good calls are
+    /// used up.
     fn read(&mut self, piece: &mut [u8]) -> Result<usize, Broken>
         requires { self.old.failures < 2 ^ 64 - 1 }
         ensures bound { ReadsAtMost result piece.new }
@@ -136,8 +137,8 @@ impl Model for Pad {
 }
 
 impl Pad {
-    /// An empty pad that takes at most `most` bytes a call, and fails from call number `fails` on, counted from 1 (`None`:
-    /// never). A `flush` is a call too.
+    /// An empty pad that takes at most `most` bytes a call, and fails from call number `fails` on, counted from 1
+    /// (`None`: never). A `flush` is a call too.
     pub fn new(most: usize, fails: Option<u64>) -> Pad
         requires { 0 < most }
         ensures bytes { ⟦<Pad as Sink>⟧.contents result ≡ Some [] }
@@ -167,8 +168,8 @@ impl Sink for Pad {
 
     ghost failures = { λ p. p.failures };
 
-    /// Takes as much as the piece, the pad's choice and its room allow; fails exactly where the good calls are used up or
-    /// there is no room for a piece that is not empty.
+    /// Takes as much as the piece, the pad's choice and its room allow; fails exactly where the good calls are used up
+    /// or there is no room for a piece that is not empty.
     fn write(&mut self, piece: &[u8]) -> Result<usize, Broken>
         requires { self.old.failures < 2 ^ 64 - 1 }
         ensures bound { WritesAtMost result piece.now }

@@ -1,6 +1,6 @@
 use super::*;
 use std::io;
-use std::io::{ErrorKind, Write};
+use std::io::{ErrorKind, Read, Write};
 use std::test::Fail;
 
 /// Takes nothing of any piece, and fails to flush.
@@ -14,6 +14,46 @@ impl Write for Full {
 
     fn flush(&mut self) -> io::Result<()> {
         Err(io::Error::from(ErrorKind::Other))
+    }
+}
+
+/// Fails at its first call alone, and counts its calls.
+#[derive(Drop)]
+struct FailsOnce {
+    kind: ErrorKind,
+    calls: u64,
+}
+
+impl FailsOnce {
+    fn new(kind: ErrorKind) -> FailsOnce {
+        FailsOnce { kind, calls: 0 }
+    }
+
+    fn call(&mut self) -> io::Result<()> {
+        self.calls = self.calls.saturating_add(1);
+        if self.calls == 1 {
+            return Err(io::Error::from(self.kind));
+        }
+        Ok(())
+    }
+}
+
+impl Read for FailsOnce {
+    fn read(&mut self, buf: &mut [u8]) -> io::Result<usize> {
+        self.call()?;
+        buf.fill(b'x');
+        Ok(buf.len())
+    }
+}
+
+impl Write for FailsOnce {
+    fn write(&mut self, buf: &[u8]) -> io::Result<usize> {
+        self.call()?;
+        Ok(buf.len())
+    }
+
+    fn flush(&mut self) -> io::Result<()> {
+        self.call()
     }
 }
 
@@ -58,6 +98,31 @@ fn a_writer_that_takes_nothing_is_broken(rt: HostRuntime) {
     assert!(rt; write_s(&mut sink, 1).is_err());
     assert!(rt; sink.write(b"").is_ok());
     assert!(rt; sink.flush().is_err());
+}
+
+// No clause counts the calls of the reader or the writer: each error, an interruption too, is told at once.
+#[test]
+fn no_call_is_made_again(rt: HostRuntime) {
+    for kind in [
+        ErrorKind::Interrupted,
+        ErrorKind::WouldBlock,
+        ErrorKind::Other,
+    ] {
+        let mut reader = FailsOnce::new(kind);
+        let mut piece = [0u8; 2];
+        assert!(rt; ReadSource::new(&mut reader).read(&mut piece) == Err(Broken));
+        assert_eq!(rt; reader.calls, 1);
+        assert_eq!(rt; piece, [0, 0]);
+        let mut writer = FailsOnce::new(kind);
+        assert!(rt; WriteSink::new(&mut writer).write(b"s 1") == Err(Broken));
+        assert_eq!(rt; writer.calls, 1);
+        let mut flushed = FailsOnce::new(kind);
+        assert!(rt; WriteSink::new(&mut flushed).flush() == Err(Broken));
+        assert_eq!(rt; flushed.calls, 1);
+        let mut whole = FailsOnce::new(kind);
+        assert!(rt; write_s(&mut WriteSink::new(&mut whole), 1) == Err(Broken));
+        assert_eq!(rt; whole.calls, 1);
+    }
 }
 
 #[test]

@@ -19,7 +19,7 @@ pub enum Answer {
         flows: Sequence<FlowLine>,
         potentials: Sequence<i64>,
     },
-    /// A cut that shows by how much no legal flow exists, with its nodes in rising order.
+    /// A shortage, and the nodes of a cut in rising order.
     Cut {
         shortage: i64,
         nodes: Sequence<u32>,

@@ -28,9 +28,9 @@ impl LineTaker for AnswerDraft {
     }
 }
 
-/// A reader of an answer text: an `s VALUE` line, an `f SRC DST FLOW` line for each arc, and then a `v ID POTENTIAL` line
-/// for each node; or an `i SHORTAGE` line, and then `k ID` lines by rising ID. It holds one line of the text beside what it
-/// has read.
+/// A reader of an answer text: an `s VALUE` line, an `f SRC DST FLOW` line for each arc, and then a `v ID POTENTIAL`
+/// line for each node; or an `i SHORTAGE` line, and then `k ID` lines by rising ID. It holds one line of the text
+/// beside what it has read.
 #[derive(Drop)]
 pub struct AnswerReader {
     reader: TextReader<AnswerDraft>,
@@ -48,18 +48,19 @@ impl AnswerReader {
         }
     }
 
-    /// Takes the next piece of the text, and answers the fault that is decided by now.
+    /// Takes the next piece of the text, and answers the fault that is decided by now. After a fault or want of memory
+    /// every later call answers the same.
     pub fn feed(&mut self, piece: &[u8]) -> Result<(), TextFault>
         ensures text { (nodes arcs : ℕ) (text : List ℕ) → StandsFor nodes arcs self.old text
             → Feeds nodes arcs result self.new (text ++ piece.now) }
-        // Every later call answers the same.
         ensures err { IfErr result (HasFailed self.new) }
         ensures failed { (e : TextFault) → HasFailed self.old e → result ≡ Err e }
     {
         self.reader.feed(piece)
     }
 
-    /// Ends the text, and answers what it says. A line that is missing is a fault of the last line.
+    /// Ends the text, and answers what it says. Where a line is missing at the end, that is fault 40 with the number of
+    /// lines.
     pub fn finish(self) -> Result<Answer, TextFault>
         ensures text { (nodes arcs : ℕ) (text : List ℕ) → StandsFor nodes arcs self text
             → Finishes nodes arcs result text }
@@ -76,8 +77,8 @@ impl AnswerReader {
     }
 }
 
-/// A law, with nothing to run: a fault is decided by a text exactly where each text has it that goes on from there, as an
-/// answer to a problem with so many nodes and arcs.
+/// A law, with nothing to run: a fault is decided by a text exactly where each text has it that goes on from there, as
+/// an answer to a problem with so many nodes and arcs.
 pub fn answer_decided_for_all()
     ensures always { (nodes arcs : ℕ) (text more : List ℕ) (fault : TextFault)
         → decided (answer_rule nodes arcs) text ≡ Some fault → answers nodes arcs (text ++ more) ≡ Err fault }

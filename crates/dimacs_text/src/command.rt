@@ -10,7 +10,8 @@ use crate::numbers::{integer_in, natural, natural_in};
 use crate::problem::{CAP_LIMIT, COST_LIMIT, Kind, SUPPLY_LIMIT};
 use crate::words::Words;
 
-/// A change of an instance. Arcs and nodes are named by their numbers, counted from 1, of which nothing is known yet.
+/// A change of an instance. Arcs and nodes are named by their numbers, counted from 1; whether they exist is not tested
+/// yet.
 #[derive(Clone, Copy, Debug, PartialEq, Eq)]
 pub enum Edit {
     /// Sets the capacity of an arc, 0 to `CAP_LIMIT`.

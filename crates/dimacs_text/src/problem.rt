@@ -44,7 +44,8 @@ impl NodeMark {
     }
 }
 
-/// What an arc line says: nodes are counted from 1, and `0 <= low <= cap`.
+/// An arc: nodes counted from 1; bounds in units of flow, `0 <= low <= cap <= CAP_LIMIT`; cost a unit of flow. `max`:
+/// low and cost 0; `asn`: low 0, cap 1, or 0 once closed. A return arc has a greater cap, and cost -1.
 #[derive(Clone, Copy, Debug, PartialEq, Eq)]
 pub struct ArcRow {
     pub tail: u32,

@@ -52,8 +52,8 @@ impl ProblemReader {
         }
     }
 
-    /// Takes the next piece of the text, and answers the fault that is decided by now: the first one, at its line's LF, or
-    /// at the byte that makes the line too long. After a fault or want of memory every later call answers the same.
+    /// Takes the next piece of the text, and answers the fault that is decided by now: the first one, at its line's LF,
+    /// or at the byte that makes the line too long. After a fault or want of memory every later call answers the same.
     pub fn feed(&mut self, piece: &[u8]) -> Result<(), TextFault>
         ensures text { (text : List ℕ) → StandsFor self.old text → Feeds result self.new (text ++ piece.now) }
         ensures err { IfErr result (HasFailed self.new) }

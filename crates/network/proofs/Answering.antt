@@ -1,9 +1,10 @@
 -- What the parts of the test of an answer come to.
-use Rattle.std.proofs.Common.{◌≡◌, ◌↔◌, ◌*ℤ◌, mul-le-mul, ℕ, suc, ◌-◌, ◌*◌, ◌^◌, ◌≤◌, ℤ, pos, Bool, IsTrue, List, [], ◌∷◌, length, All, unsigned_abs, arith}
+use Rattle.std.proofs.Common.{◌≡◌, ◌↔◌, ◌*ℤ◌, mul-le-mul, ℕ, suc, ◌-◌, ◌*◌, ◌≤◌, ℤ, pos, Bool, IsTrue, List, [], ◌∷◌, length, All, unsigned_abs, arith}
 use Rattle.std.proofs.lemmas.Int.{ints, unsigned_abs-mul}
 use Rattle.std.proofs.lemmas.List.{get_or_default}
 use Rattle.std.specs.List.{AllZip, AllByRecursion}
 use Rattle.dimacs_text.specs.declared.problem.ArcRow.{ArcRow}
+use Rattle.dimacs_text.specs.declared.problem.TheConstants.{CAP_LIMIT, COST_LIMIT}
 use Rattle.dimacs_text.specs.Lawful.{IsLawfulRow}
 use Rattle.network.specs.Flow.{AllWithinBounds, FollowsSign, IsPotential}
 use Rattle.network.specs.Instance.{Demand, Supplies, Terminals, Sides, Instance, IsLawful, ArcFits, at_node, IsLegal, IsCertified, IsBalanced, IsReturnCertified}
@@ -42,7 +43,7 @@ pub certified_is : (I : Instance) (flow : List ℤ) (p : ℕ → ℤ)
 certified_is I flow p = certified_by I.nodes I.demand I.arcs I.room flow p
 
 -- each arc's cost is small
-pub costs_small : (n : ℕ) (D : Demand) (arcs : List ArcRow) (flow : List ℤ) → AllByRecursion (λ arc. IsLawfulRow n arc × ArcFits D arc) arcs → AllWithinBounds arcs flow → AllZip (λ arc x. unsigned_abs (arc.cost *ℤ x) ≤ 10 ^ 21) arcs flow
+pub costs_small : (n : ℕ) (D : Demand) (arcs : List ArcRow) (flow : List ℤ) → AllByRecursion (λ arc. IsLawfulRow n arc × ArcFits D arc) arcs → AllWithinBounds arcs flow → AllZip (λ arc x. unsigned_abs (arc.cost *ℤ x) ≤ unsigned_abs COST_LIMIT * CAP_LIMIT) arcs flow
 costs_small n D [] [] rows bounds = tt
 costs_small n D [] (x ∷ flow) rows bounds = absurd bounds
 costs_small n D (arc ∷ arcs) [] rows bounds = absurd bounds
@@ -50,10 +51,10 @@ costs_small n D (arc ∷ arcs) (x ∷ flow) rows bounds =
     let low = rows.0.0.low in
     let cap = rows.0.0.limit in
     let here = bounds.0 in
-    let small : unsigned_abs x ≤ 10 ^ 9 = omega (arith, ints) in
+    let small : unsigned_abs x ≤ CAP_LIMIT = omega (arith, ints) in
     let within = rows.0.0.cost in
-    let cost : unsigned_abs arc.cost ≤ 10 ^ 12 = omega (arith, ints) in
-    let product : unsigned_abs arc.cost * unsigned_abs x ≤ 10 ^ 12 * 10 ^ 9 = mul-le-mul cost small in
+    let cost : unsigned_abs arc.cost ≤ unsigned_abs COST_LIMIT = omega (arith, ints) in
+    let product : unsigned_abs arc.cost * unsigned_abs x ≤ unsigned_abs COST_LIMIT * CAP_LIMIT = mul-le-mul cost small in
     (rw (unsigned_abs-mul arc.cost x) (omega arith), costs_small n D arcs flow rows.1 bounds.1)
 
 -- the second test answers for both facts where the first holds, and the first where it fails

@@ -4,6 +4,7 @@ use Rattle.std.proofs.lemmas.Int.{to_z-of_z, fits_signed_from_abs}
 use Rattle.std.proofs.lemmas.List.{at_drop_more}
 use mir.Syntax.{w64}
 use Rattle.dimacs_text.specs.declared.problem.ArcRow.{ArcRow}
+use Rattle.network.specs.declared.TheConstants.{RETURN_CAP}
 use Rattle.network.specs.declared.CutForm.{CutForm}
 use Rattle.network.specs.declared.CutForm.TheVariants.{Surplus, Shortfall}
 use Rattle.network.specs.Flow.{arcs_sum, nodes_sum, MinCost, crosses, outside, supply_of}
@@ -46,7 +47,7 @@ cut_value_is Shortfall I set =
 
 -- the return arc, where there is one, is one more arc
 pub reduced_arcs_sum : (f : ArcRow → ℤ) (D : Demand) (arcs : List ArcRow) (arc : ArcRow) → Some arc ≡ return_arc_of D
-    → (arcs_sum f (reduced_arcs D arcs) ≡ f arc +ℤ arcs_sum f arcs) × (unsigned_abs arc.low + unsigned_abs arc.cap ≤ 10 ^ 14)
+    → (arcs_sum f (reduced_arcs D arcs) ≡ f arc +ℤ arcs_sum f arcs) × (unsigned_abs arc.low + unsigned_abs arc.cap ≤ unsigned_abs RETURN_CAP)
 reduced_arcs_sum f (Supplies supplies) arcs arc is = absurd (cc)
 reduced_arcs_sum f (Terminals source sink) arcs arc is =
     let same : arc ≡ return_arc source sink = cc in

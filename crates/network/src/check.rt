@@ -107,7 +107,8 @@ impl Network {
     }
 }
 
-/// Are the flow, its worth and the potentials an answer to the instance?
+/// Whether the slices have one flow an arc and one potential a node, in order, the flow is legal, `value` is its worth,
+/// and the potentials certify it.
 pub fn check_best(net: &Network, flow: &[i64], pot: &[i64], value: i128) -> bool
     ensures exact { IsTrue result ↔ IsBestAnswer net.now flow.now pot.now value }
     ensures best { IsTrue result → IsBest net.now flow.now }
@@ -121,7 +122,7 @@ pub fn check_best(net: &Network, flow: &[i64], pot: &[i64], value: i128) -> bool
     net.is_certified(flow, pot) && net.worth(flow) == value
 }
 
-/// Are the set of nodes and the number a breach of the instance?
+/// Whether `cut` has one mark a node and `short` is above 0 and the set's value by either form.
 pub fn check_cut(net: &Network, cut: &[bool], short: i64) -> bool
     ensures exact { IsTrue result ↔ IsCutAnswer net.now cut.now short }
     ensures none { IsTrue result → (flow : List ℤ) → IsLegal net.now flow → ⊥ }

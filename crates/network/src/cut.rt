@@ -1,8 +1,10 @@
 //! The two values of a cut, each of which rules out a legal flow where it is above 0.
-ghost use Rattle.std.specs.Prelude.{◌≡◌, ◌+◌, ◌*◌, ◌^◌, ◌<◌, ◌≤◌, pos, if◌then◌else◌, All, length, unsigned_abs};
+ghost use Rattle.std.specs.Prelude.{◌≡◌, ◌+◌, ◌*◌, ◌<◌, ◌≤◌, pos, if◌then◌else◌, All, length, unsigned_abs};
 ghost use Rattle.network.specs.Flow.{arcs_sum, supply_of};
 ghost use Rattle.network.specs.Cut.{arc_part, cut_value};
-ghost use Rattle.dimacs_text.specs.Lawful.{IsLawfulRow};
+ghost use Rattle.dimacs_text.specs.Lawful.{IsLawfulRow, IsWithin};
+ghost use Rattle.dimacs_text.specs.declared.problem.TheConstants.{CAP_LIMIT, NODE_LIMIT, SUPPLY_LIMIT};
+ghost use Rattle.network.specs.declared.TheConstants.{RETURN_CAP};
 ghost use Rattle.network.specs.Instance.{is_marked, reduced, reduced_supply};
 
 use crate::{CutForm, Network};
@@ -12,8 +14,8 @@ use dimacs_text::{ARC_LIMIT, ArcRow};
 fn arc_part(form: CutForm, arc: &ArcRow, cut: &[bool]) -> i64
     requires tail { (1 ≤ arc.now.tail) × (arc.now.tail ≤ length cut.now) }
     requires head { (1 ≤ arc.now.head) × (arc.now.head ≤ length cut.now) }
-    requires low { unsigned_abs arc.now.low ≤ 10 ^ 14 }
-    requires cap { unsigned_abs arc.now.cap ≤ 10 ^ 14 }
+    requires low { IsWithin RETURN_CAP arc.now.low }
+    requires cap { IsWithin RETURN_CAP arc.now.cap }
     ensures value { result ≡ arc_part form (is_marked cut.now) arc.now }
     ensures small { unsigned_abs result ≤ unsigned_abs arc.now.low + unsigned_abs arc.now.cap }
 {
@@ -37,7 +39,7 @@ fn arcs_part(form: CutForm, arcs: &[ArcRow], cut: &[bool]) -> i64
     requires few { length arcs.now ≤ ARC_LIMIT }
     requires limits { All (IsLawfulRow (length cut.now)) arcs.now }
     ensures value { result ≡ arcs_sum (arc_part form (is_marked cut.now)) arcs.now }
-    ensures small { unsigned_abs result ≤ 2 * 10 ^ 14 }
+    ensures small { unsigned_abs result ≤ 2 * CAP_LIMIT * ARC_LIMIT }
 {
     let mut total = 0;
     for arc in arcs {
@@ -53,7 +55,7 @@ impl Network {
         requires node { k < self.now.nodes }
         ensures value { result ≡ (if is_marked cut.now (k + 1) then reduced_supply self.now.demand (k + 1)
             else pos 0) }
-        ensures small { unsigned_abs result ≤ 10 ^ 9 }
+        ensures small { IsWithin SUPPLY_LIMIT result }
     {
         if cut[k] { self.supplies[k] } else { 0 }
     }
@@ -62,7 +64,7 @@ impl Network {
     fn supply_of(&self, cut: &[bool]) -> i64
         requires nodes { length cut.now ≡ self.now.nodes }
         ensures value { result ≡ supply_of (reduced self.now) (is_marked cut.now) }
-        ensures small { unsigned_abs result ≤ 10 ^ 14 }
+        ensures small { unsigned_abs result ≤ unsigned_abs SUPPLY_LIMIT * NODE_LIMIT }
     {
         let mut total = 0;
         for k in 0..self.supplies.len() {
@@ -75,7 +77,7 @@ impl Network {
     fn reduced_part(&self, form: CutForm, cut: &[bool]) -> i64
         requires nodes { length cut.now ≡ self.now.nodes }
         ensures value { result ≡ arcs_sum (arc_part form (is_marked cut.now)) (reduced self.now).arcs }
-        ensures small { unsigned_abs result ≤ 3 * 10 ^ 14 }
+        ensures small { unsigned_abs result ≤ 2 * CAP_LIMIT * ARC_LIMIT + unsigned_abs RETURN_CAP }
     {
         let arcs = arcs_part(form, &self.arcs, cut);
         match self.return_arc() {

@@ -253,8 +253,9 @@ impl Network {
         }
     }
 
-    /// May the instance be edited so? Else the number of the first refusal that applies: 23 not for this kind, 5 a number out of range,
-    /// 20 no such arc, 21 no such node, 22 low above cap, 27 not from the source side to the sink side, 24 no room for an arc.
+    /// May the instance be edited so? Else the number of the first refusal that applies: 23 not for this kind, 5 a
+    /// number out of range, 20 no such arc, 21 no such node, 22 low above cap, 27 not from the source side to the sink
+    /// side, 24 no room for an arc.
     pub fn edited(&self, edit: &Edit) -> Result<(), u8>
         ensures { result ≡ outcome (edited self.now edit.now) }
     {

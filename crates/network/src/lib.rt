@@ -19,14 +19,14 @@ ghost use Rattle.network.specs.Instance.{Instance};
 ghost use Rattle.network.specs.Representation.{instance_of, IsSound};
 
 pub use check::{check_best, check_cut};
-pub use cost::total_cost;
 use dimacs_text::ArcRow;
 pub use start::build;
 use std::marker::Model;
 
 /// The least potential, in cost a unit of flow; the greatest is 0.
 pub const LEAST_POTENTIAL: i64 = -10_000_000_000_000;
-/// The capacity of the return arc, in units of flow. No flow exceeds it: it is what all arcs together can carry at most.
+/// The capacity of the return arc, in units of flow. No flow exceeds it: it is what all arcs together can carry at
+/// most.
 pub const RETURN_CAP: i64 = 100_000_000_000_000;
 
 /// What is asked for.

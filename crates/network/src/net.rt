@@ -1,5 +1,6 @@
 //! What a node sends out in all, by the list of its ends.
-ghost use Rattle.std.specs.Prelude.{◌≡◌, ◌^◌, ◌*◌, ◌<◌, ◌≤◌, All, length, unsigned_abs};
+ghost use Rattle.std.specs.Prelude.{◌≡◌, ◌*◌, ◌<◌, ◌≤◌, All, length, unsigned_abs};
+ghost use Rattle.dimacs_text.specs.declared.problem.TheConstants.{CAP_LIMIT};
 ghost use Rattle.network.specs.Ends.{end_flow, end_node, last_end_below};
 ghost use Rattle.network.specs.Flow.{AllWithinBounds, IsNode, net};
 ghost use Rattle.network.specs.Instance.{reduced};
@@ -9,7 +10,7 @@ use crate::Network;
 /// What an end adds to its node's net.
 fn end_flow(flow: &[i64], end: u32) -> i64
     requires end { end < 2 * length flow.now }
-    requires size { All (λ x. unsigned_abs x ≤ 10 ^ 9) flow.now }
+    requires size { All (λ x. unsigned_abs x ≤ CAP_LIMIT) flow.now }
     ensures { result ≡ end_flow flow.now end }
 {
     let amount = flow[end as usize / 2];
@@ -17,7 +18,8 @@ fn end_flow(flow: &[i64], end: u32) -> i64
 }
 
 impl Network {
-    /// The greatest end at a node, if there is one. With arcs counted from 0, end 2k is the tail of arc k and end 2k + 1 its head.
+    /// The greatest end at a node, if there is one. With arcs counted from 0, end 2k is the tail of arc k and end
+    /// 2k + 1 its head.
     pub fn first_end(&self, id: u32) -> Option<u32>
         ensures node { IsNode (reduced self.now) id
             → result ≡ last_end_below self.now.arcs id (2 * length self.now.arcs) }
@@ -41,8 +43,9 @@ impl Network {
         self.next[end as usize]
     }
 
-    /// What a node sends out in all.
-    pub fn net_at(&self, flow: &[i64], id: u32) -> i64
+    /// The net outflow of a node: the flow on its arcs out less that on its arcs in; a self-loop adds 0. `flow` has one
+    /// entry an arc, within its bounds.
+    pub(crate) fn net_at(&self, flow: &[i64], id: u32) -> i64
         requires node { IsNode (reduced self.now) id }
         requires bounds { AllWithinBounds self.now.arcs flow.now }
         ensures { result ≡ net self.now.arcs flow.now id }
