@@ -240,9 +240,6 @@ cost_more arcs x cost result k lt sized result_is is =
     result_is ∙ wrapped_more w128 cost (total_cost (take k arcs) (take k x)) ((number_at x k -ℤ pos 0) *ℤ (arc_at arcs k).cost) (total_cost (take (k + 1) arcs) (take (k + 1) x)) is
     (flow_sum-more price arcs x k lt sized ∙ ap (λ (m : ℤ). total_cost (take k arcs) (take k x) +ℤ m) (sym (from_zero (number_at x k) (arc_at arcs k).cost)))
 
-pub cost_starts : IsWrappedCost [] [] (pos 0)
-cost_starts = sym (int_wrap_fits w128 (pos 0) (record { sfits = omega arith }))
-
 -- no arc costs more than 10^26
 total_bound : (nodes : ℕ) (arcs : List ArcRow) (x : List ℤ) → length x ≡ length arcs → ((k : ℕ) → k < length arcs → IsRow nodes (arc_at arcs k)) → ((k : ℕ) → k < length arcs → IsWithin (arc_at arcs k) (number_at x k)) → unsigned_abs (total_cost arcs x) ≤ 10 ^ 12 * 10 ^ 14 * length arcs
 total_bound nodes [] [] sized rows within = omega arith
@@ -272,9 +269,6 @@ pub record IsPartWay (places : List ℕ) (before after : List ℤ) (j : ℕ) (z 
   pub same_length : length z ≡ length before
   pub taken : (i : ℕ) → i < j → number_at z (slice_index_or places i 0) ≡ number_at after (slice_index_or places i 0)
   pub others : (k : ℕ) → ((i : ℕ) → i < j → slice_index_or places i 0 ≢ k) → number_at z k ≡ number_at before k
-
-pub part_starts : (places : List ℕ) (before after : List ℤ) → IsPartWay places before after 0 before
-part_starts places before after = record { same_length = refl; taken = λ i lt. absurd (omega arith); others = λ k apart. refl }
 
 module _ (places : List ℕ) (before after : List ℤ) (j : ℕ) (z : List ℤ) (j_in : j < length places) (apart : AllPairs ◌≢◌ places) (part : IsPartWay places before after j z) where
   -- the next place has not been taken yet

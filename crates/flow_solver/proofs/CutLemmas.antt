@@ -353,16 +353,6 @@ left-none (z ∷ e) h = omega (arith, sum_by-cons positive_part z e, no_part z (
 pub lack-none : (e : List ℤ) → lack e ≡ 0 → (v : ℕ) → pos 0 ≤ℤ number_at e v
 lack-none e h v = omega (arith, ints, none_above (map neg_ℤ e) (left-neg e ∙ h) v, number_at-neg e v)
 
-pub amount-some : (side : Side) (e : List ℤ) (v : ℕ) → IsRoot side (number_at e v) → 0 < amount side e
-amount-some Ahead e v high = elim (cases_eq (left e) 0) [
-  | inl none ↦ absurd (omega (arith, ints, high, none_above e none v))
-  | inr some ↦ omega (arith, some)
-]
-amount-some Behind e v low = elim (cases_eq (lack e) 0) [
-  | inl none ↦ absurd (omega (arith, ints, low, lack-none e none v))
-  | inr some ↦ omega (arith, some)
-]
-
 pub amount-none : (side : Side) (e : List ℤ) → ((v : ℕ) → v < length e → IsRoot side (number_at e v) → ⊥) → amount side e ≡ 0
 amount-none Ahead e none = left-none e (λ v lt. by_lt_z (pos 0) (number_at e v) (λ high. absurd (none v lt high)) (λ le. omega (arith, ints, le)))
 amount-none Behind e none =

@@ -1,23 +1,23 @@
 -- What the tables of a solver keep where entries are written, and what was kept of them.
-use Rattle.std.proofs.Common.{◌≡◌, ℕ, ◌+◌, ◌-◌, ◌≤◌, ℤ, Bool, List, length, take, drop, refl, sym, ap, subst, ◌∙◌, arith, Option, None, Some}
-use Rattle.std.specs.Prelude.{IfSome}
+use Rattle.std.proofs.Common.{◌≡◌, ℕ, ◌+◌, ◌≤◌, ℤ, Bool, List, length, take, drop, sym, ap, subst, ◌∙◌, arith, Option, None, Some}
+use Rattle.std.specs.Prelude.{IfSome, vec_capacity}
 use Rattle.std.proofs.lemmas.List.{length-take-le, length-drop}
 use Rattle.dimacs_text.specs.declared.problem.ArcRow.{ArcRow}
-use Rattle.network.specs.Instance.{Demand, Supplies, Terminals, Sides, Instance, numbered_flow, reduced, with_supply}
+use Rattle.network.specs.Instance.{Demand, Supplies, Terminals, Sides, Instance, numbered_flow, with_supply}
 use Rattle.flow_solver.specs.declared.balance.Balance.{Balance}
+use Rattle.flow_solver.specs.declared.graph.Graph.{Graph}
 use Rattle.flow_solver.specs.declared.ledger.Ledger.{Ledger}
 use Rattle.flow_solver.specs.declared.part.Part.{Part}
 use Rattle.flow_solver.specs.declared.part.Part.TheVariants.{OtherRow, OtherSupply, NoArc}
 use Rattle.flow_solver.specs.declared.scratch.Scratch.{Scratch}
-use Rattle.flow_solver.specs.declared.star.Star.{Star}
 use Rattle.flow_solver.specs.declared.verdict.Verdict.{Verdict}
 use Rattle.flow_solver.specs.Balance.{IsBalanceOf}
 use Rattle.flow_solver.specs.Desk.{NameChanges}
 use Rattle.flow_solver.specs.Moment.{AreTables, IsOfNodes, IsSized, Kept, Moment, kept_of}
+use Rattle.flow_solver.specs.Graph.{IsGraphFor}
 use Rattle.flow_solver.specs.Nodes.{IsIdleEntry}
 use Rattle.flow_solver.specs.Part.{before_of, before_part, return_count}
 use Rattle.flow_solver.specs.Scratch.{IsScratchFor}
-use Rattle.flow_solver.specs.Star.{Covers}
 use Rattle.flow_solver.specs.Touched.{IsLedger, IsWritten, kept_in}
 use Rattle.flow_solver.specs.Walk.{AreRowsOf}
 use Rattle.flow_solver.proofs.TouchedLemmas.{named_after_first}
@@ -29,10 +29,6 @@ module _ {T : Type 0} where
 
   pub length_kept : (l : Ledger T) → IsLedger l → length (kept_in l) ≡ l.size
   length_kept l ledger = length-take-le l.size l.kept.items (omega (arith, ledger.size_in, ledger.same_length))
-
-  -- what was kept of a ledger of nodes has an entry for each node
-  pub length_kept_nodes : (nodes : ℕ) (l : Ledger T) → IsOfNodes nodes l → length (drop 1 (kept_in l)) ≡ nodes
-  length_kept_nodes nodes l of = omega (arith, length-drop 1 (kept_in l), length_kept l of.ledger, of.size_is)
 
   pub nodes_written : (nodes : ℕ) (l m : Ledger T) → IsOfNodes nodes l → IsWritten l m → IsOfNodes nodes m
   nodes_written nodes l m of written = record {
@@ -49,50 +45,34 @@ module _ {T : Type 0} where
     size_is = sym (length_kept m ledger) ∙ ap (λ (xs : List T). length xs) kept_is ∙ as_many;
   }
 
--- what was kept of three ledgers
-abbrev pub kept_tables : Ledger ℤ → Ledger ℤ → Ledger Bool → Kept
-kept_tables flow potentials cut = record { flow = kept_in flow; potentials = drop 1 (kept_in potentials); cut = drop 1 (kept_in cut) }
-
-pub kept_alike : (flow flow' potentials potentials' : Ledger ℤ) (cut cut' : Ledger Bool) → kept_in flow' ≡ kept_in flow → kept_in potentials' ≡ kept_in potentials → kept_in cut' ≡ kept_in cut → kept_tables flow' potentials' cut' ≡ kept_tables flow potentials cut
-kept_alike flow flow' potentials potentials' cut cut' one two three =
-    ap (λ (xs : List ℤ). record { flow = xs; potentials = drop 1 (kept_in potentials'); cut = drop 1 (kept_in cut') }) one
-    ∙ ap (λ (xs : List ℤ). record { flow = kept_in flow; potentials = drop 1 xs; cut = drop 1 (kept_in cut') }) two
-    ∙ ap (λ (xs : List Bool). record { flow = kept_in flow; potentials = drop 1 (kept_in potentials); cut = drop 1 xs }) three
-
-pub kept_after : (flow flow' potentials potentials' : Ledger ℤ) (cut cut' : Ledger Bool) → IsWritten flow flow' → IsWritten potentials potentials' → IsWritten cut cut' → kept_tables flow' potentials' cut' ≡ kept_tables flow potentials cut
-kept_after flow flow' potentials potentials' cut cut' one two three =
-    kept_alike flow flow' potentials potentials' cut cut' (kept_written flow flow' one) (kept_written potentials potentials' two) (kept_written cut cut' three)
-
 pub idle_kept : (l m : Ledger ℤ) → IsWritten l m → IsIdleEntry (kept_in l) → IsIdleEntry (kept_in m)
 idle_kept l m written idle = subst IsIdleEntry (sym (kept_written l m written)) idle
 
 -- the tables of an instance stay tables where they are written, and fit an instance of as many arcs and nodes
-pub tables_written : (I J : Instance) (star : Star) (rows rows' : List ArcRow) (flow flow' potentials potentials' : Ledger ℤ) (balance balance' : Balance) (cut cut' : Ledger Bool) (scratch scratch' : Scratch) (room room' : ℕ) →
-    AreTables I star rows flow potentials balance cut scratch room → J.nodes ≡ I.nodes → J.room ≡ I.room → AreRowsOf J rows' → length rows' ≡ length rows → Covers (J.nodes + 1) J.arcs star →
-    IsWritten flow flow' → IsWritten potentials potentials' → IsIdleEntry potentials'.entries.items → IsBalanceOf J rows' flow' balance' → IsWritten cut cut' → IsScratchFor (J.nodes + 1) scratch' → room ≤ room' →
-    AreTables J star rows' flow' potentials' balance' cut' scratch' room'
-tables_written I J star rows rows' flow flow' potentials potentials' balance balance' cut cut' scratch scratch' room room' t nodes room_is of many covers flow_written potentials_written idle balance_is cut_written scratch_in more = record {
-  lawful = of.lawful;
-  rows_are = of.rows_are;
-  covers = covers;
+pub tables_written : (g h : Graph) (flow flow' potentials potentials' : Ledger ℤ) (balance balance' : Balance) (cut cut' : Ledger Bool) (scratch scratch' : Scratch) →
+    AreTables g flow potentials balance cut scratch → h.net.nodes ≡ g.net.nodes → h.net.room ≡ g.net.room → IsGraphFor (h.net.nodes + 1) h → length h.rows.items ≡ length g.rows.items → vec_capacity g.rows ≤ vec_capacity h.rows →
+    IsWritten flow flow' → IsWritten potentials potentials' → IsIdleEntry potentials'.entries.items → IsBalanceOf h.net h.rows.items flow' balance' → IsWritten cut cut' → IsScratchFor (h.net.nodes + 1) scratch' →
+    AreTables h flow' potentials' balance' cut' scratch'
+tables_written g h flow flow' potentials potentials' balance balance' cut cut' scratch scratch' t nodes room_is graph many more flow_written potentials_written idle balance_is cut_written scratch_in = record {
+  graph = graph;
   flow_ledger = flow_written.ledger;
   flow_in = flow_written.same_length ∙ t.flow_in ∙ sym many;
   flow_fits = omega (arith, t.flow_fits, room_is, flow_written.same_room);
-  potentials_in = subst (λ (n : ℕ). IsOfNodes n potentials') (sym nodes) (nodes_written I.nodes potentials potentials' t.potentials_in potentials_written);
+  potentials_in = subst (λ (n : ℕ). IsOfNodes n potentials') (sym nodes) (nodes_written g.net.nodes potentials potentials' t.potentials_in potentials_written);
   idle = idle;
   kept_idle = idle_kept potentials potentials' potentials_written t.kept_idle;
   balance_is = balance_is;
-  cut_in = subst (λ (n : ℕ). IsOfNodes n cut') (sym nodes) (nodes_written I.nodes cut cut' t.cut_in cut_written);
+  cut_in = subst (λ (n : ℕ). IsOfNodes n cut') (sym nodes) (nodes_written g.net.nodes cut cut' t.cut_in cut_written);
   scratch_in = scratch_in;
   rows_fit = omega (arith, t.rows_fit, room_is, more);
 }
 
 -- so their moment has its sizes
-pub sized_written : (I J : Instance) (star : Star) (rows rows' : List ArcRow) (flow flow' potentials potentials' : Ledger ℤ) (balance : Balance) (cut cut' : Ledger Bool) (scratch : Scratch) (room : ℕ) (verdict : Verdict) →
-    AreTables I star rows flow potentials balance cut scratch room → J.nodes ≡ I.nodes → AreRowsOf J rows' → length rows' ≡ length rows →
+pub sized_written : (g h : Graph) (flow flow' potentials potentials' : Ledger ℤ) (balance : Balance) (cut cut' : Ledger Bool) (scratch : Scratch) (verdict : Verdict) →
+    AreTables g flow potentials balance cut scratch → h.net.nodes ≡ g.net.nodes → AreRowsOf h.net h.rows.items → length h.rows.items ≡ length g.rows.items →
     IsWritten flow flow' → IsWritten potentials potentials' → IsWritten cut cut' →
-    IsSized (record { instance = J; flow = flow'.entries.items; potentials = drop 1 potentials'.entries.items; verdict = verdict; cut = drop 1 cut'.entries.items })
-sized_written I J star rows rows' flow flow' potentials potentials' balance cut cut' scratch room verdict t nodes of many flow_written potentials_written cut_written = record {
+    IsSized (record { instance = h.net; flow = flow'.entries.items; potentials = drop 1 potentials'.entries.items; verdict = verdict; cut = drop 1 cut'.entries.items })
+sized_written g h flow flow' potentials potentials' balance cut cut' scratch verdict t nodes of many flow_written potentials_written cut_written = record {
   lawful = of.lawful;
   one_flow = flow_written.same_length ∙ t.flow_in ∙ sym many ∙ ap (λ (xs : List ArcRow). length xs) of.rows_are;
   one_potential = omega (arith, length-drop 1 potentials'.entries.items, potentials_written.same_length, t.potentials_in.entries_in, nodes);
@@ -100,14 +80,12 @@ sized_written I J star rows rows' flow flow' potentials potentials' balance cut 
 }
 
 -- the tables stay tables where the arcs become others, with as many flows
-pub tables_with_arcs : (I J : Instance) (star star' : Star) (rows rows' : List ArcRow) (flow flow' potentials : Ledger ℤ) (balance balance' : Balance) (cut : Ledger Bool) (scratch : Scratch) (room room' : ℕ) →
-    AreTables I star rows flow potentials balance cut scratch room → J.nodes ≡ I.nodes → J.room ≡ I.room → AreRowsOf J rows' → Covers (J.nodes + 1) J.arcs star' →
-    IsLedger flow' → length flow'.entries.items ≡ length rows' → length flow'.touched ≡ length flow.touched → IsBalanceOf J rows' flow' balance' → room ≤ room' →
-    AreTables J star' rows' flow' potentials balance' cut scratch room'
-tables_with_arcs I J star star' rows rows' flow flow' potentials balance balance' cut scratch room room' t nodes room_is of covers ledger flow_in same_room balance_is more = record {
-  lawful = of.lawful;
-  rows_are = of.rows_are;
-  covers = covers;
+pub tables_with_arcs : (g h : Graph) (flow flow' potentials : Ledger ℤ) (balance balance' : Balance) (cut : Ledger Bool) (scratch : Scratch) →
+    AreTables g flow potentials balance cut scratch → h.net.nodes ≡ g.net.nodes → h.net.room ≡ g.net.room → IsGraphFor (h.net.nodes + 1) h → vec_capacity g.rows ≤ vec_capacity h.rows →
+    IsLedger flow' → length flow'.entries.items ≡ length h.rows.items → length flow'.touched ≡ length flow.touched → IsBalanceOf h.net h.rows.items flow' balance' →
+    AreTables h flow' potentials balance' cut scratch
+tables_with_arcs g h flow flow' potentials balance balance' cut scratch t nodes room_is graph more ledger flow_in same_room balance_is = record {
+  graph = graph;
   flow_ledger = ledger;
   flow_in = flow_in;
   flow_fits = omega (arith, t.flow_fits, room_is, same_room);

@@ -1,5 +1,5 @@
 -- What the limits of an instance give the tables of a solver.
-use Rattle.std.proofs.Common.{◌≡◌, ℕ, zero, suc, ◌+◌, ◌-◌, ◌*◌, ◌<◌, ◌≤◌, ℤ, pos, negsuc, neg_ℤ, ◌≤ℤ◌, List, [], ◌∷◌, length, refl, sym, ap, subst, inl, inr, arith, Bool, true, false, cond, ◌++◌, drop, map, replicate}
+use Rattle.std.proofs.Common.{◌≡◌, ℕ, zero, suc, ◌+◌, ◌-◌, ◌*◌, ◌<◌, ◌≤◌, ℤ, pos, negsuc, neg_ℤ, ◌≤ℤ◌, List, [], ◌∷◌, length, refl, sym, subst, inl, inr, arith, Bool, true, false, cond, ◌++◌, drop, map, replicate}
 use Rattle.std.specs.Prelude.{int_lt}
 use Rattle.std.specs.List.{AllByRecursion, AllZip}
 use Rattle.std.proofs.lemmas.Int.{ints}
@@ -11,7 +11,7 @@ use Rattle.dimacs_text.specs.declared.problem.ArcRow.{ArcRow}
 use Rattle.dimacs_text.specs.Lawful.{IsLawfulRow, IsWithin}
 use Rattle.network.specs.Flow.{AllWithinBounds, FollowsSign, IsCertifiedFlow, IsPotential}
 use Rattle.flow_solver.specs.Moment.{start}
-use Rattle.network.specs.Instance.{Demand, Supplies, Terminals, Sides, Instance, IsLawful, ArcFits, DemandFits, at_node, is_marked, return_arc, reduced, reduced_arcs, reduced_supply, numbered_flow}
+use Rattle.network.specs.Instance.{Demand, Supplies, Terminals, Sides, Instance, IsLawful, ArcFits, DemandFits, at_node, is_marked, return_arc, reduced, reduced_arcs, reduced_supply}
 use Rattle.network.proofs.Reduction.{rows_of, reduced_ends}
 use Rattle.flow_solver.specs.declared.residual.Way.{Way}
 use Rattle.flow_solver.specs.declared.residual.Way.TheVariants.{Forward, Backward}
@@ -175,11 +175,6 @@ pub rows_push : (D : Demand) (xs : List ArcRow) (a : ArcRow) → reduced_arcs D 
 rows_push (Supplies s) xs a = refl
 rows_push (Terminals source sink) xs a = refl
 rows_push (Sides marks) xs a = refl
-
-pub numbered_is : (D : Demand) (arcs : List ArcRow) (flow : List ℤ) → drop (length (reduced_arcs D arcs) - length arcs) flow ≡ numbered_flow D flow
-numbered_is (Supplies s) arcs flow = (let none : length arcs - length arcs ≡ 0 = omega arith in ap (λ (n : ℕ). drop n flow) none)
-numbered_is (Terminals source sink) arcs flow = (let one : suc (length arcs) - length arcs ≡ 1 = omega arith in ap (λ (n : ℕ). drop n flow) one)
-numbered_is (Sides marks) arcs flow = (let none : length arcs - length arcs ≡ 0 = omega arith in ap (λ (n : ℕ). drop n flow) none)
 
 start_within : (n : ℕ) (a : ArcRow) → IsCheapRow n a → (b : Bool) → (a.low ≤ℤ cond b a.cap a.low) × (cond b a.cap a.low ≤ℤ a.cap)
 start_within n a row true = (row.row.low_at_most_cap, omega (arith, ints))

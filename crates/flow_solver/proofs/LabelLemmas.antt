@@ -12,7 +12,7 @@ use Rattle.flow_solver.specs.declared.visit.Visit.{Visit}
 use Rattle.flow_solver.specs.Labels.{IsForest, Reaches, Opens, IsShortest, NothingOpen, IsEntered}
 use Rattle.flow_solver.specs.Queue.{IsPassedKey}
 use Rattle.flow_solver.specs.Residual.{IsCertified, IsRow, IsWithin, room_of, number_at, arc_at, start_at, end_at, IsResidual}
-use Rattle.flow_solver.specs.Search.{is_not_settled, is_unsettled, visit_at, mark_at, key_at, depth_at, IsReached, unsettled, IsTraced, IsTracedBy, IsRelaxed, AllRelaxed, IsFromAll, TakesBy, Takes}
+use Rattle.flow_solver.specs.Search.{is_not_settled, is_unsettled, visit_at, mark_at, key_at, depth_at, IsReached, unsettled, IsTraced, IsTracedBy, IsRelaxed, AllRelaxed, TakesBy, Takes}
 use Rattle.flow_solver.proofs.SearchLemmas.{IsPut, IsTraced-stays, weight_of, weight_unsettled, end_of-in, settled_is_reached, open_is_reached}
 
 -- ---- a residual arc
@@ -29,28 +29,6 @@ flow_fits {arcs} {x} {p} k certified lt =
     to_z-of_z w64 (number_at x k) fits
 
 -- ---- the forest
-
-pub IsForest-none : (arcs : List ArcRow) (x p : List ℤ) (s : List Visit) → length s ≡ length p → ((v : ℕ) → mark_at s v ≡ Unreached) → IsForest arcs x p s
-IsForest-none arcs x p s sized none =
-    let unsettled_all : (v : ℕ) → mark_at s v ≡ Settled → ⊥ = λ v m. (let n : mark_at s v ≡ Unreached = none v in cc) in
-    record {
-      known = record {
-        sized = sized;
-        in_order = λ v w mv mw. absurd (unsettled_all v mv);
-        key_at_least_0 = λ v r. absurd (r (none v));
-        settled_depth = λ v m. absurd (unsettled_all v m);
-        reached_depth = λ v r. absurd (r (none v));
-        label_low = λ v r. absurd (r (none v));
-        label_high = λ v r. absurd (r (none v));
-        traced = λ v r d. absurd (r (none v));
-      };
-      kept = λ v m. absurd (unsettled_all v m);
-      roots = λ v r d. absurd (r (none v));
-      at_most_0 = λ v r. absurd (r (none v));
-    }
-
-pub NothingOpen-none : (s : List Visit) → ((v : ℕ) → mark_at s v ≡ Unreached) → NothingOpen s
-NothingOpen-none s none v m = (let n : mark_at s v ≡ Unreached = none v in cc)
 
 weight_at_most_1 : (m : Mark) → cond (is_not_settled m) 1 0 ≤ 1
 weight_at_most_1 Unreached = omega arith
@@ -194,14 +172,6 @@ NothingOpen-stands s t v e closed put settled q m = elim (cases_eq q v) [
 
 -- ---- the other nodes
 
-pub IsEntered-none : (arcs : List ArcRow) (x p : List ℤ) (s : List Visit) → IsForest arcs x p s → NothingOpen s → IsEntered arcs x p s 0
-IsEntered-none arcs x p s forest closed = record {
-  forest = forest;
-  reached = λ v lt. absurd (omega (arith, lt));
-  relaxed = λ k way residual lt m. absurd (omega (arith, lt));
-  rest = λ v le. closed v;
-}
-
 -- no residual arc reaches a kept node nearer
 pub IsEntered-kept : (arcs : List ArcRow) (x p : List ℤ) (s : List Visit) (i : ℕ) → IsCertified arcs x p → IsEntered arcs x p s i → mark_at s i ≡ Settled → IsEntered arcs x p s (i + 1)
 IsEntered-kept arcs x p s i certified before settled = record {
@@ -282,13 +252,6 @@ module _ (arcs : List ArcRow) (x p : List ℤ) (s t : List Visit) (i : ℕ) (e :
 pub entered_relaxed : (arcs : List ArcRow) (x p : List ℤ) (s : List Visit) → IsCertified arcs x p → IsEntered arcs x p s (length s) → AllRelaxed arcs x p s
 entered_relaxed arcs x p s certified entered k way residual m =
     entered.relaxed k way residual (rw entered.forest.known.sized (end_of-in (length p) (arc_at arcs k) way (certified.flow.rows k residual.is_arc))) m
-
-pub entered_from_all : (arcs : List ArcRow) (x p : List ℤ) (s : List Visit) → IsEntered arcs x p s (length s) → IsFromAll p s
-entered_from_all arcs x p s entered = record {
-  reached = λ v lt. entered.reached v (rw entered.forest.known.sized lt);
-  roots = entered.forest.roots;
-  at_most_0 = entered.forest.at_most_0;
-}
 
 -- ---- the queue
 

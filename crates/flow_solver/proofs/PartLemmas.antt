@@ -74,14 +74,3 @@ add_back I edit row change =
     let count : length (I.arcs ++ row ∷ []) - 1 ≡ length I.arcs = omega (arith, more) in
     from_after I (with_last I row) edit NoArc change.after (omega (arith, more))
     (ap (λ (arcs : List ArcRow). record I { arcs = arcs }) (ap (λ (n : ℕ). take n (I.arcs ++ row ∷ [])) count ∙ take-append_seam I.arcs (row ∷ [])))
-
--- taking a change back leaves the nodes and the room
-pub before_nodes : (part : Part) (I : Instance) → (before_part part I).nodes ≡ I.nodes
-before_nodes (OtherRow k row) I = refl
-before_nodes (OtherSupply v value) I = refl
-before_nodes NoArc I = refl
-
-pub before_room : (part : Part) (I : Instance) → (before_part part I).room ≡ I.room
-before_room (OtherRow k row) I = refl
-before_room (OtherSupply v value) I = refl
-before_room NoArc I = refl

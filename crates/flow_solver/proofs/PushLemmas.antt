@@ -286,25 +286,6 @@ pub HasRoom-weaker : (arcs : List ArcRow) (x : List ℤ) (m n : ℤ) (hops : Lis
 HasRoom-weaker arcs x m n [] le room = tt
 HasRoom-weaker arcs x m n (h ∷ hops) le room = (omega (arith, ints, room.0, le), HasRoom-weaker arcs x m n hops le room.1)
 
--- the same, where the two nodes may be one
-pub IsTransfer-any : (u w : ℕ) (m : ℤ) (e : List ℤ) (a b : ℤ) → u < length e → w < length e → a ≡ number_at e u -ℤ m → b ≡ number_at (slice_set e u a) w +ℤ m → IsTransfer u w m e (slice_set (slice_set e u a) w b)
-IsTransfer-any u w m e a b u_in w_in a_is b_is = elim (cases_eq u w) [
-  | inl same ↦ record {
-    same_length = length-set (slice_set e u a) w b ∙ length-set e u a;
-    by_node = λ v. (elim (cases_eq v w) [
-      | inl here ↦ subst (λ (q : ℕ). number_at (slice_set (slice_set e u a) w b) q ≡ (number_at e q -ℤ at_node u m q) +ℤ at_node w m q) (sym here)
-          (get_or-set_same (slice_set e u a) w b (pos 0) (omega (arith, length-set e u a, w_in))
-          ∙ (let old : number_at (slice_set e u a) w ≡ a = ap (number_at (slice_set e u a)) (sym same) ∙ get_or-set_same e u a (pos 0) u_in in
-          let at_u : at_node u m w ≡ at_node w m w = ap (λ (q : ℕ). at_node q m w) same in
-          let at_e : number_at e u ≡ number_at e w = ap (number_at e) same in
-          omega (arith, ints, old, a_is, b_is, at_u, at_e)))
-      | inr ne ↦ get_or-set_other (slice_set e u a) w v b (pos 0) ne ∙ get_or-set_other e u v a (pos 0) (λ h. ne (h ∙ same))
-          ∙ omega (arith, ints, at_other u m v (λ h. ne (h ∙ same)), at_other w m v ne)
-    ]);
-  }
-  | inr apart ↦ IsTransfer-put u w m e a b u_in w_in apart a_is b_is
-]
-
 -- a path that takes another last hop is a path
 module _ (arcs : List ArcRow) (q x : List ℤ) (s : List Visit) (v k : ℕ) (way : Way)
     (paths : ArePaths arcs q s) (hop : IsHopTo arcs q x s v k way) (v_in : v < length s)

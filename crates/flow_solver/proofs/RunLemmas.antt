@@ -1,11 +1,11 @@
 -- What a whole search keeps from step to step, and what follows at its end.
 use Rattle.flow_solver.specs.Limits.{label_floor, cost_limit}
 use Rattle.std.proofs.Common.{◌≡◌, ℕ, zero, suc, ◌⊎◌, ◌+◌, ◌*◌, ◌<◌, ◌≤◌, ℤ, pos, neg_ℤ, ◌-ℤ◌, ◌+ℤ◌, ◌≤ℤ◌, List, length, refl, sym, ap, subst, ◌∙◌, inl, inr, arith}
-use Rattle.std.specs.Prelude.{slice_set, ◌<ℤ◌}
+use Rattle.std.specs.Prelude.{◌<ℤ◌}
 use Rattle.std.proofs.Math.Nat.{mul-suc, mul-zero, mul-le-mul_left}
 use Rattle.std.proofs.lemmas.Int.{ints}
-use Rattle.std.proofs.lemmas.Bool.{cases_lt, cases_eq}
-use Rattle.std.proofs.lemmas.List.{get_or_past, get_or-set_same, get_or-set_other}
+use Rattle.std.proofs.lemmas.Bool.{cases_lt}
+use Rattle.std.proofs.lemmas.List.{get_or_past}
 use Rattle.flow_solver.proofs.SearchLemmas.{cost_of-bounds, start_of-in, settled_is_reached, in_range, key_high}
 use Rattle.dimacs_text.specs.declared.problem.ArcRow.{ArcRow}
 use Rattle.flow_solver.specs.declared.residual.Way.{Way}
@@ -204,13 +204,3 @@ module _ (arcs : List ArcRow) (x p q : List ℤ) (s : List Visit) (reach : ℤ)
 
     pub lowered_none_below : NoneBelow arcs x q
     lowered_none_below k way h = lowered_arc k way (mark_at s (start_at arcs k way)) refl h
-
--- one turn of a loop that writes f of each number in place
-pub in_place_more : (f : ℕ → ℤ → ℤ) (before now : List ℤ) (i : ℕ) (z : ℤ) → i < length now → z ≡ f i (number_at before i) → ((k : ℕ) → k < i → number_at now k ≡ f k (number_at before k)) → (k : ℕ) → k < i + 1 → number_at (slice_set now i z) k ≡ f k (number_at before k)
-in_place_more f before now i z lt e done k h = elim (cases_eq k i) [
-  | inl same ↦ ap (number_at (slice_set now i z)) same ∙ get_or-set_same now i z (pos 0) lt ∙ e ∙ ap (λ (j : ℕ). f j (number_at before j)) (sym same)
-  | inr ne ↦ get_or-set_other now i k z (pos 0) ne ∙ done k (omega arith)
-]
-
-pub in_place_rest : (before now : List ℤ) (i : ℕ) (z : ℤ) → ((k : ℕ) → i ≤ k → number_at now k ≡ number_at before k) → (k : ℕ) → i + 1 ≤ k → number_at (slice_set now i z) k ≡ number_at before k
-in_place_rest before now i z rest k h = get_or-set_other now i k z (pos 0) (λ e. omega arith) ∙ rest k (omega arith)

@@ -258,9 +258,3 @@ ArePushes-more {arcs} {m} {n} {x} {e} {y} {f} {z} {g} first rest =
           let still = rest.none (omega arith) in
           (kept.0 ∙ still.0, kept.1 ∙ still.1));
     }
-
--- what could be pushed before no push can still be pushed
-pub still_can_push : {arcs : List ArcRow} {n : ℕ} {x e y f : List ℤ} {s : List Visit} {t : ℕ} → ArePushes arcs n x e y f → n ≡ 0 → CanPush arcs x e s t → CanPush arcs y f s t
-still_can_push {arcs} {n} {x} {e} {y} {f} {s} {t} pushed none can =
-    let same = pushed.none none in
-    subst (λ (z : List ℤ). CanPush arcs z f s t) same.0 (subst (λ (g : List ℤ). CanPush arcs x g s t) same.1 can)

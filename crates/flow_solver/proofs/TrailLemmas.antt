@@ -184,9 +184,6 @@ pub record IsWrittenAlong (f : ℕ → ℤ → ℤ) (nodes : List ℕ) (j : ℕ)
   pub done : (i : ℕ) → i < j → number_at now (node_at nodes i) ≡ f (node_at nodes i) (number_at before (node_at nodes i))
   pub rest : (w : ℕ) → ((i : ℕ) → i < j → node_at nodes i ≢ w) → number_at now w ≡ number_at before w
 
-pub IsWrittenAlong-none : (f : ℕ → ℤ → ℤ) (nodes : List ℕ) (before : List ℤ) → IsWrittenAlong f nodes 0 before before
-IsWrittenAlong-none f nodes before = record { done = λ i lt. absurd (omega (arith, lt)); rest = λ w other. refl }
-
 module _ (f : ℕ → ℤ → ℤ) (nodes : List ℕ) (j : ℕ) (before now : List ℤ) (known : IsWrittenAlong f nodes j before now)
     (apart : (i : ℕ) → i < j → node_at nodes i ≢ node_at nodes j)
   where

@@ -196,6 +196,3 @@ pub rows_at_least : (D : Demand) (arcs : List ArcRow) → length arcs ≤ length
 rows_at_least (Supplies s) arcs = omega arith
 rows_at_least (Terminals source sink) arcs = omega arith
 rows_at_least (Sides marks) arcs = omega arith
-
-pub enough_rows : (I : Instance) (rows : List ArcRow) → AreRowsOf I rows → length I.arcs ≤ length rows
-enough_rows I rows of = omega (arith, rows_at_least I.demand I.arcs, ap (λ (r : List ArcRow). length r) of.rows_are)

@@ -1,4 +1,5 @@
--- Sets of nodes whose supply cannot leave, or whose demand cannot be met.
+-- Sets of nodes whose supply cannot leave, or whose demand cannot be met
+-- (Ahuja, Magnanti, Orlin, "Network Flows": feasibility of flows, cuts).
 use Rattle.std.specs.Prelude.{◌≡◌, ℕ, suc, ◌+◌, ◌*◌, ◌/◌, ◌<◌, ◌≤◌, ℤ, pos, neg_ℤ, ◌-ℤ◌, ◌+ℤ◌, ◌≤ℤ◌, List, [], ◌∷◌, length, slice_index_or, Bool, true, false, if◌then◌else◌, ◌&&◌, not, IsTrue, Option}
 use Rattle.dimacs_text.specs.declared.problem.ArcRow.{ArcRow}
 use Rattle.std.specs.Prelude.{◌<ℤ◌}

@@ -1,4 +1,5 @@
--- The pass that takes the labels: a forest of shortest paths, of which what still stands is kept.
+-- The pass that takes the labels: a forest of shortest paths, of which what still stands is kept
+-- (Ahuja, Magnanti, Orlin, "Network Flows": shortest path trees, distance labels as potentials).
 use Rattle.std.specs.Prelude.{◌≡◌, ◌≢◌, ℕ, ◌+◌, ◌/◌, ◌<◌, ◌≤◌, ℤ, pos, neg_ℤ, ◌+ℤ◌, ◌≤ℤ◌, List, length, slice_index}
 use Rattle.dimacs_text.specs.declared.problem.ArcRow.{ArcRow}
 use Rattle.flow_solver.specs.declared.labels.Labels.{Labels}

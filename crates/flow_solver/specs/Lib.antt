@@ -6,6 +6,7 @@ pub mod Push
 pub mod Settle
 pub mod Cut
 pub mod Touched
+pub mod Graph
 pub mod Heap
 pub mod Edit
 pub mod Queue

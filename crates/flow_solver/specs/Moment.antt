@@ -1,19 +1,19 @@
 -- What the tables of a solver hold of an instance.
-use Rattle.std.specs.Prelude.{◌≡◌, ℕ, ◌+◌, ◌≤◌, ℤ, pos, ◌≤ℤ◌, int_lt, ⊤, Bool, List, [], ◌∷◌, ◌++◌, length, map, replicate, if◌then◌else◌}
+use Rattle.std.specs.Prelude.{◌≡◌, ℕ, ◌+◌, ◌≤◌, ℤ, pos, ◌≤ℤ◌, int_lt, ⊤, Bool, List, [], ◌∷◌, ◌++◌, length, map, replicate, vec_capacity, if◌then◌else◌}
 use Rattle.dimacs_text.specs.declared.problem.ArcRow.{ArcRow}
 use Rattle.network.specs.Instance.{Demand, Supplies, Terminals, Sides, Instance, IsLawful, numbered_flow, reduced}
 use Rattle.network.specs.declared.TheConstants.{RETURN_CAP}
 use Rattle.flow_solver.specs.declared.verdict.Verdict.{Verdict}
 use Rattle.flow_solver.specs.declared.verdict.Verdict.TheVariants.{Best, Infeasible}
 use Rattle.flow_solver.specs.declared.balance.Balance.{Balance}
+use Rattle.flow_solver.specs.declared.graph.Graph.{Graph}
 use Rattle.flow_solver.specs.declared.ledger.Ledger.{Ledger}
 use Rattle.flow_solver.specs.declared.scratch.Scratch.{Scratch}
-use Rattle.flow_solver.specs.declared.star.Star.{Star}
 use Rattle.flow_solver.specs.Balance.{IsBalanceOf}
+use Rattle.flow_solver.specs.Graph.{IsGraphFor}
 use Rattle.flow_solver.specs.Nodes.{IsIdleEntry}
 use Rattle.flow_solver.specs.Residual.{number_at}
 use Rattle.flow_solver.specs.Scratch.{IsScratchFor}
-use Rattle.flow_solver.specs.Star.{Covers}
 use Rattle.flow_solver.specs.Touched.{IsLedger, kept_in}
 
 -- an instance, a flow of its reduction, a potential for each node, what is told of the instance, and a mark for each node
@@ -51,21 +51,19 @@ pub record IsOfNodes {T : Type 0} (nodes : ℕ) (l : Ledger T) : Type 0 where
   pub entries_in : length l.entries.items ≡ nodes + 1
   pub size_is : l.size ≡ nodes + 1
 
--- one entry for each row, one for each node and one for no node; the rows are the arcs of the reduced instance, and the star holds the ends of its first arcs
-pub record AreTables (I : Instance) (star : Star) (rows : List ArcRow) (flow potentials : Ledger ℤ) (balance : Balance) (cut : Ledger Bool) (scratch : Scratch) (rows_room : ℕ) : Type 0 where
-  pub lawful : IsLawful I
-  pub rows_are : rows ≡ (reduced I).arcs
-  pub covers : Covers (I.nodes + 1) I.arcs star
+-- one entry for each row of the graph, one for each node and one for no node, and room for all arcs that may be added
+pub record AreTables (g : Graph) (flow potentials : Ledger ℤ) (balance : Balance) (cut : Ledger Bool) (scratch : Scratch) : Type 0 where
+  pub graph : IsGraphFor (g.net.nodes + 1) g
   pub flow_ledger : IsLedger flow
-  pub flow_in : length flow.entries.items ≡ length rows
-  pub flow_fits : I.room + 1 ≤ length flow.touched
-  pub potentials_in : IsOfNodes I.nodes potentials
+  pub flow_in : length flow.entries.items ≡ length g.rows.items
+  pub flow_fits : g.net.room + 1 ≤ length flow.touched
+  pub potentials_in : IsOfNodes g.net.nodes potentials
   pub idle : IsIdleEntry potentials.entries.items
   pub kept_idle : IsIdleEntry (kept_in potentials)
-  pub balance_is : IsBalanceOf I rows flow balance
-  pub cut_in : IsOfNodes I.nodes cut
-  pub scratch_in : IsScratchFor (I.nodes + 1) scratch
-  pub rows_fit : I.room + 1 ≤ rows_room
+  pub balance_is : IsBalanceOf g.net g.rows.items flow balance
+  pub cut_in : IsOfNodes g.net.nodes cut
+  pub scratch_in : IsScratchFor (g.net.nodes + 1) scratch
+  pub rows_fit : g.net.room + 1 ≤ vec_capacity g.rows
 
 -- the flow of an arc at the start: its cap where its cost is below 0, else its low
 abbrev pub start : ArcRow → ℤ

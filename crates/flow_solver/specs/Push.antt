@@ -1,4 +1,5 @@
--- Flow that is pushed along a path of arcs, from a node in excess to a node in deficit.
+-- Flow that is pushed along a path of arcs, from a node in excess to a node in deficit
+-- (Ahuja, Magnanti, Orlin, "Network Flows": augmenting paths; excess, deficit and pseudoflow).
 use Rattle.network.specs.Flow.{net}
 use Rattle.flow_solver.specs.Limits.{excess_limit, supply_limit}
 use Rattle.std.specs.Prelude.{◌≡◌, ◌≢◌, ℕ, zero, suc, ◌+◌, ◌<◌, ◌≤◌, ℤ, pos, negsuc, neg_ℤ, ◌-ℤ◌, ◌+ℤ◌, ◌≤ℤ◌, ◌<ℤ◌, List, [], ◌∷◌, length, slice_set, if◌then◌else◌, ◌==◌}
@@ -141,7 +142,7 @@ IsTight arcs q (h ∷ hops) =
 abbrev pub at_node : ℕ → ℤ → ℕ → ℤ
 at_node u m v = if u == v then m else pos 0
 
--- no excess and no deficit is above 3 * 10^14
+-- no excess and no deficit is above the limit
 pub record AreSmall (e : List ℤ) : Type 0 where
   pub low : (v : ℕ) → neg_ℤ (pos excess_limit) ≤ℤ number_at e v
   pub high : (v : ℕ) → number_at e v ≤ℤ pos excess_limit

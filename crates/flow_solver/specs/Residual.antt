@@ -1,4 +1,5 @@
--- Residual arcs of a network under a flow, and potentials that give none of them a reduced cost below 0.
+-- Residual arcs of a network under a flow, and potentials that give none of them a reduced cost below 0
+-- (Ahuja, Magnanti, Orlin, "Network Flows": residual network, reduced-cost optimality).
 use Rattle.flow_solver.specs.Limits.{potential_floor, cost_limit, flow_limit, entry_limit, row_limit}
 use Rattle.std.specs.Prelude.{◌≡◌, ℕ, ◌+◌, ◌*◌, ◌<◌, ◌≤◌, ℤ, pos, neg_ℤ, ◌-ℤ◌, ◌+ℤ◌, ◌<ℤ◌, ◌≤ℤ◌, List, length, slice_index_or}
 use Rattle.dimacs_text.specs.declared.problem.ArcRow.{ArcRow}

@@ -1,4 +1,5 @@
--- What a search for shortest paths over reduced costs knows at each moment.
+-- What a search for shortest paths over reduced costs knows at each moment
+-- (Ahuja, Magnanti, Orlin, "Network Flows": Dijkstra's algorithm, as the successive shortest path algorithm uses it).
 use Rattle.flow_solver.specs.Limits.{potential_floor, key_limit, cost_limit}
 use Rattle.std.specs.Prelude.{◌≡◌, ◌≢◌, ℕ, ◌+◌, ◌*◌, ◌<◌, ◌≤◌, ℤ, pos, neg_ℤ, ◌-ℤ◌, ◌+ℤ◌, ◌<ℤ◌, ◌≤ℤ◌, List, length, slice_index_or, Bool, true, false, ◌⊎◌}
 use Rattle.std.specs.Prelude.{cond, int_lt}

@@ -3,6 +3,7 @@
 ghost use Rattle.std.specs.Prelude.{◌≡◌, ℕ, ◌+◌, ◌^◌, ◌<◌, ◌≤◌, pos, ◌≤ℤ◌, drop, length};
 ghost use Rattle.network.specs.Flow.{AllWithinBounds, IsCertifiedFlow, total_excess};
 ghost use Rattle.network.specs.Instance.{at_node, is_marked, reduced, IsLawful};
+ghost use Rattle.flow_solver.specs.Graph.{IsGraphFor};
 ghost use Rattle.flow_solver.specs.Limits.{entry_limit};
 ghost use Rattle.flow_solver.specs.Residual.{number_at};
 ghost use Rattle.flow_solver.specs.Push.{AreSmall, IsExcess, Pushes, left, positive_part};
@@ -10,15 +11,14 @@ ghost use Rattle.flow_solver.specs.Cut.{lack};
 ghost use Rattle.flow_solver.specs.Nodes.{held, IsIdleEntry};
 ghost use Rattle.flow_solver.specs.Scratch.{IsScratchFor};
 ghost use Rattle.flow_solver.specs.Touched.{IsLedger, IsWritten};
-ghost use Rattle.flow_solver.specs.Star.{Covers};
 ghost use Rattle.flow_solver.specs.Balance.{IsBalanceOf, IsWrappedCost};
 ghost use Rattle.flow_solver.specs.Answer.{AreGreatestPotentials, IsChosenCut, IsJudged, IsVerdict, worth_by};
 
 use crate::balance::{Balance, cost_now};
+use crate::graph::Graph;
 use crate::ledger::Ledger;
 use crate::scratch::Scratch;
 use crate::settle::settle;
-use crate::star::Star;
 use crate::verdict::Verdict;
 use dimacs_text::ArcRow;
 use network::Network;
@@ -108,49 +108,36 @@ fn judge(net: &Network, rows: &[ArcRow], flow: &Ledger<i64>, balance: &Balance) 
 /// Settles the flow from any certified one, with the greatest potentials and the least cut; gives the number of
 /// pushes and the verdict.
 pub fn solve(
-    net: &Network,
-    star: &Star,
-    rows: &[ArcRow],
+    graph: &Graph,
     flow: &mut Ledger<i64>,
     potentials: &mut Ledger<i64>,
     balance: &mut Balance,
     scratch: &mut Scratch,
     cut: &mut Ledger<bool>,
 ) -> (u64, Verdict)
-    requires lawful { IsLawful net.now }
-    requires rows { rows.now ≡ (reduced net.now).arcs }
-    requires star { Covers (net.now.nodes + 1) net.now.arcs star.now }
+    requires graph { IsGraphFor (graph.now.net.nodes + 1) graph.now }
     requires flow_ledger { IsLedger flow.old }
     requires potentials_ledger { IsLedger potentials.old }
     requires cut_ledger { IsLedger cut.old }
-    requires certified { IsCertifiedFlow (reduced net.now) flow.old.entries.items (at_node (drop 1 potentials.old.entries.items)) }
+    requires certified { IsCertifiedFlow (reduced graph.now.net) flow.old.entries.items (at_node (drop 1 potentials.old.entries.items)) }
     requires idle { IsIdleEntry potentials.old.entries.items }
-    requires potentials_in { length potentials.old.entries.items ≡ net.now.nodes + 1 }
-    requires balance { IsBalanceOf net.now rows.now flow.old balance.old }
-    requires cut_in { length cut.old.entries.items ≡ net.now.nodes + 1 }
-    requires scratch { IsScratchFor (net.now.nodes + 1) scratch.old }
+    requires potentials_in { length potentials.old.entries.items ≡ graph.now.net.nodes + 1 }
+    requires balance { IsBalanceOf graph.now.net graph.now.rows.items flow.old balance.old }
+    requires cut_in { length cut.old.entries.items ≡ graph.now.net.nodes + 1 }
+    requires scratch { IsScratchFor (graph.now.net.nodes + 1) scratch.old }
     ensures flow_written { IsWritten flow.old flow.new }
     ensures potentials_written { IsWritten potentials.old potentials.new }
     ensures cut_written { IsWritten cut.old cut.new }
-    ensures balance { IsBalanceOf net.now rows.now flow.new balance.new }
+    ensures balance { IsBalanceOf graph.now.net graph.now.rows.items flow.new balance.new }
     ensures idle { IsIdleEntry potentials.new.entries.items }
-    ensures scratch { IsScratchFor (net.now.nodes + 1) scratch.new }
-    ensures certified { IsCertifiedFlow (reduced net.now) flow.new.entries.items (at_node (drop 1 potentials.new.entries.items)) }
-    ensures verdict { IsVerdict result.1 net.now flow.new.entries.items (is_marked (drop 1 cut.new.entries.items)) }
-    ensures pushes { Pushes (reduced net.now).arcs (reduced net.now).supply result.0 flow.old.entries.items flow.new.entries.items }
-    ensures count { pos result.0 ≤ℤ total_excess (reduced net.now) flow.old.entries.items }
-    ensures greatest { AreGreatestPotentials (reduced net.now) flow.new.entries.items (at_node (drop 1 potentials.new.entries.items)) }
-    ensures chosen { IsChosenCut result.1 (reduced net.now) (is_marked (drop 1 cut.new.entries.items)) }
+    ensures scratch { IsScratchFor (graph.now.net.nodes + 1) scratch.new }
+    ensures certified { IsCertifiedFlow (reduced graph.now.net) flow.new.entries.items (at_node (drop 1 potentials.new.entries.items)) }
+    ensures verdict { IsVerdict result.1 graph.now.net flow.new.entries.items (is_marked (drop 1 cut.new.entries.items)) }
+    ensures pushes { Pushes (reduced graph.now.net).arcs (reduced graph.now.net).supply result.0 flow.old.entries.items flow.new.entries.items }
+    ensures count { pos result.0 ≤ℤ total_excess (reduced graph.now.net) flow.old.entries.items }
+    ensures greatest { AreGreatestPotentials (reduced graph.now.net) flow.new.entries.items (at_node (drop 1 potentials.new.entries.items)) }
+    ensures chosen { IsChosenCut result.1 (reduced graph.now.net) (is_marked (drop 1 cut.new.entries.items)) }
 {
-    let pushes = settle(
-        net,
-        star,
-        rows,
-        flow,
-        potentials,
-        &mut balance.excess,
-        scratch,
-        cut,
-    );
-    (pushes, judge(net, rows, flow, balance))
+    let pushes = settle(graph, flow, potentials, &mut balance.excess, scratch, cut);
+    (pushes, judge(&graph.net, &graph.rows, flow, balance))
 }

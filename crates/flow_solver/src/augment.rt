@@ -1,8 +1,9 @@
-//! Flow pushed along the path that a search found.
+//! Flow pushed along the paths that a search found, and along others like them where these are full.
 
 ghost use Rattle.std.specs.Prelude.{◌≡◌, ◌≢◌, ℕ, ℤ, List, length, slice_set, pos, neg_ℤ, ◌≤ℤ◌, ◌<ℤ◌, ◌+ℤ◌, ◌-ℤ◌, ◌<◌, ◌≤◌, ◌+◌, ◌/◌, ◌^◌, ◌⊎◌, IsTrue, ◌↔◌, ◌-◌, IfSome, IfNone};
+ghost use Rattle.flow_solver.specs.Graph.{IsGraphFor};
 ghost use Rattle.flow_solver.specs.Limits.{potential_floor};
-ghost use Rattle.flow_solver.specs.Star.{AllNameOther, AllSpokes, Covers, NamesOther};
+ghost use Rattle.flow_solver.specs.Star.{AllNameOther, AllSpokes, NamesOther};
 ghost use Rattle.flow_solver.specs.Walk.{AllAdded, AreRowsOf, AreHopsSpent, IsEndSpent};
 ghost use Rattle.flow_solver.specs.Residual.{IsRow, IsWithin, IsFlow, ArePotentials, number_at, arc_at, start_at, start_of, end_of, cost_of, room_of};
 ghost use Rattle.flow_solver.specs.Search.{visit_at, mark_at, depth_at, IsFoundDeficit};
@@ -11,63 +12,57 @@ ghost use Rattle.flow_solver.specs.Touched.{AreNoted};
 ghost use Rattle.flow_solver.specs.Trail.{AreMarkedAlike, IsTrailOf};
 ghost use Rattle.flow_solver.specs.declared.visit.Mark.TheVariants.{Settled};
 
+use crate::graph::Graph;
 use crate::residual::Way;
-use crate::star::{Spoke, Star};
+use crate::star::Spoke;
 use crate::touched::Touched;
 use crate::trail::Trail;
 use crate::visit::Visit;
 use dimacs_text::ArcRow;
-use network::Network;
 
 /// Where the path to a node begins, and how much fits along it, at most `limit`.
 fn bottleneck(
-    rows: &[ArcRow],
+    graph: &Graph,
     flow: &[i64],
     visits: &[Visit],
     target: usize,
     limit: i64,
 ) -> (usize, i64)
-    requires flow { IsFlow (length visits.now) rows.now flow.now }
-    requires paths { HavePaths rows.now visits.now }
+    requires flow { IsFlow (length visits.now) graph.now.rows.items flow.now }
+    requires paths { HavePaths graph.now.rows.items visits.now }
     requires settled { mark_at visits.now target ≡ Settled }
-    ensures root { result.0 ≡ root_to rows.now visits.now target }
+    ensures root { result.0 ≡ root_to graph.now.rows.items visits.now target }
     ensures at_most { result.1 ≤ℤ limit }
-    ensures room { HasRoom rows.now flow.now result.1 (path_to rows.now visits.now target) }
-    ensures some { pos 1 ≤ℤ limit → HasRoom rows.now flow.now (pos 1) (path_to rows.now visits.now target) → pos 1 ≤ℤ result.1 }
+    ensures room { HasRoom graph.now.rows.items flow.now result.1 (path_to graph.now.rows.items visits.now target) }
+    ensures most { (m : ℤ) → m ≤ℤ limit → HasRoom graph.now.rows.items flow.now m (path_to graph.now.rows.items visits.now target) → m ≤ℤ result.1 }
 {
     let mut node = target;
     let mut room = limit;
     while visits[node].depth > 0 {
-        (node, room) = step_back(rows, flow, visits, node, room);
+        (node, room) = step_back(graph, flow, visits, node, room);
     }
     (node, room)
 }
 
 /// The node before this one on its path, and what fits along the hop between the two, at most `room`.
-fn step_back(
-    rows: &[ArcRow],
-    flow: &[i64],
-    visits: &[Visit],
-    node: usize,
-    room: i64,
-) -> (usize, i64)
-    requires flow { IsFlow (length visits.now) rows.now flow.now }
+fn step_back(graph: &Graph, flow: &[i64], visits: &[Visit], node: usize, room: i64) -> (usize, i64)
+    requires flow { IsFlow (length visits.now) graph.now.rows.items flow.now }
     requires node_in { node < length visits.now }
-    requires came { IsCameBy rows.now visits.now node (visit_at visits.now node).arc (visit_at visits.now node).way }
-    ensures node { result.0 ≡ start_at rows.now (visit_at visits.now node).arc (visit_at visits.now node).way }
+    requires came { IsCameBy graph.now.rows.items visits.now node (visit_at visits.now node).arc (visit_at visits.now node).way }
+    ensures node { result.0 ≡ start_at graph.now.rows.items (visit_at visits.now node).arc (visit_at visits.now node).way }
     ensures at_most { result.1 ≤ℤ room }
-    ensures fits { result.1 ≤ℤ room_of (arc_at rows.now (visit_at visits.now node).arc) (number_at flow.now (visit_at visits.now node).arc) (visit_at visits.now node).way }
-    ensures most { (m : ℤ) → m ≤ℤ room → m ≤ℤ room_of (arc_at rows.now (visit_at visits.now node).arc) (number_at flow.now (visit_at visits.now node).arc) (visit_at visits.now node).way → m ≤ℤ result.1 }
+    ensures fits { result.1 ≤ℤ room_of (arc_at graph.now.rows.items (visit_at visits.now node).arc) (number_at flow.now (visit_at visits.now node).arc) (visit_at visits.now node).way }
+    ensures most { (m : ℤ) → m ≤ℤ room → m ≤ℤ room_of (arc_at graph.now.rows.items (visit_at visits.now node).arc) (number_at flow.now (visit_at visits.now node).arc) (visit_at visits.now node).way → m ≤ℤ result.1 }
 {
     let visit = visits[node];
-    let row = rows[visit.arc as usize];
+    let row = graph.rows[visit.arc as usize];
     let fits = visit.way.room(&row, flow[visit.arc as usize]);
     (visit.way.start(&row) as usize, room.min(fits))
 }
 
 /// Moves `amount` along the path to `target`.
 fn shift(
-    rows: &[ArcRow],
+    graph: &Graph,
     flow: &mut [i64],
     touched: &mut Touched,
     visits: &[Visit],
@@ -75,23 +70,23 @@ fn shift(
     amount: i64,
 )
     requires touched_in { length flow.old ≤ length touched.old }
-    requires flow { IsFlow (length visits.now) rows.now flow.old }
-    requires paths { HavePaths rows.now visits.now }
+    requires flow { IsFlow (length visits.now) graph.now.rows.items flow.old }
+    requires paths { HavePaths graph.now.rows.items visits.now }
     requires settled { mark_at visits.now target ≡ Settled }
     requires amount { pos 1 ≤ℤ amount }
-    requires room { HasRoom rows.now flow.old amount (path_to rows.now visits.now target) }
-    ensures flow { flow.new ≡ push_along (path_to rows.now visits.now target) amount flow.old }
+    requires room { HasRoom graph.now.rows.items flow.old amount (path_to graph.now.rows.items visits.now target) }
+    ensures flow { flow.new ≡ push_along (path_to graph.now.rows.items visits.now target) amount flow.old }
     ensures noted { AreNoted touched.old flow.old touched.new flow.new }
 {
     let mut node = target;
     while visits[node].depth > 0 {
-        node = shift_back(rows, flow, touched, visits, node, amount);
+        node = shift_back(graph, flow, touched, visits, node, amount);
     }
 }
 
 /// Moves `amount` along the hop to this node, and gives the node before it.
 fn shift_back(
-    rows: &[ArcRow],
+    graph: &Graph,
     flow: &mut [i64],
     touched: &mut Touched,
     visits: &[Visit],
@@ -99,18 +94,18 @@ fn shift_back(
     amount: i64,
 ) -> usize
     requires touched_in { length flow.old ≤ length touched.old }
-    requires flow { IsFlow (length visits.now) rows.now flow.old }
+    requires flow { IsFlow (length visits.now) graph.now.rows.items flow.old }
     requires node_in { node < length visits.now }
-    requires arc_in { (visit_at visits.now node).arc < length rows.now }
+    requires arc_in { (visit_at visits.now node).arc < length graph.now.rows.items }
     requires amount { pos 1 ≤ℤ amount }
-    requires fits { amount ≤ℤ room_of (arc_at rows.now (visit_at visits.now node).arc) (number_at flow.old (visit_at visits.now node).arc) (visit_at visits.now node).way }
-    ensures node { result ≡ start_at rows.now (visit_at visits.now node).arc (visit_at visits.now node).way }
+    requires fits { amount ≤ℤ room_of (arc_at graph.now.rows.items (visit_at visits.now node).arc) (number_at flow.old (visit_at visits.now node).arc) (visit_at visits.now node).way }
+    ensures node { result ≡ start_at graph.now.rows.items (visit_at visits.now node).arc (visit_at visits.now node).way }
     ensures flow { flow.new ≡ slice_set flow.old (visit_at visits.now node).arc (moved (visit_at visits.now node).way (number_at flow.old (visit_at visits.now node).arc) amount) }
     ensures noted { AreNoted touched.old flow.old touched.new flow.new }
 {
     let visit = visits[node];
     let arc = visit.arc as usize;
-    let row = rows[arc];
+    let row = graph.rows[arc];
     flow[arc] = shifted(&row, flow[arc], visit.way, amount);
     touched.note(arc);
     visit.way.start(&row) as usize
@@ -147,25 +142,25 @@ fn transfer(excess: &mut [i64], source: usize, target: usize, amount: i64)
 
 /// Where the path to `target` begins, and how much can be pushed along it: nothing where this is below 1.
 fn amount_along(
-    rows: &[ArcRow],
+    graph: &Graph,
     flow: &[i64],
     excess: &[i64],
     visits: &[Visit],
     target: usize,
 ) -> (usize, i64)
-    requires flow { IsFlow (length visits.now) rows.now flow.now }
-    requires paths { HavePaths rows.now visits.now }
+    requires flow { IsFlow (length visits.now) graph.now.rows.items flow.now }
+    requires paths { HavePaths graph.now.rows.items visits.now }
     requires excess_in { length excess.now ≡ length visits.now }
     requires small { AreSmall excess.now }
     requires found { IsFoundDeficit excess.now visits.now target }
-    ensures root { result.0 ≡ root_to rows.now visits.now target }
+    ensures root { result.0 ≡ root_to graph.now.rows.items visits.now target }
     ensures in_excess { result.1 ≤ℤ number_at excess.now result.0 }
     ensures in_deficit { number_at excess.now target ≤ℤ neg_ℤ result.1 }
-    ensures room { HasRoom rows.now flow.now result.1 (path_to rows.now visits.now target) }
-    ensures some { CanPush rows.now flow.now excess.now visits.now target → pos 1 ≤ℤ result.1 }
+    ensures room { HasRoom graph.now.rows.items flow.now result.1 (path_to graph.now.rows.items visits.now target) }
+    ensures most { (m : ℤ) → m ≤ℤ number_at excess.now result.0 → number_at excess.now target ≤ℤ neg_ℤ m → HasRoom graph.now.rows.items flow.now m (path_to graph.now.rows.items visits.now target) → m ≤ℤ result.1 }
 {
     let limit = -excess[target];
-    let (root, room) = bottleneck(rows, flow, visits, target, limit);
+    let (root, room) = bottleneck(graph, flow, visits, target, limit);
     let surplus = excess[root];
     (root, room.min(surplus))
 }
@@ -182,7 +177,7 @@ fn is_found_deficit(excess: &[i64], visits: &[Visit], v: usize) -> bool
 /// Pushes what fits along the path to a node, if the search found it and it is in deficit; gives the number of pushes,
 /// 0 or 1.
 fn push_to(
-    rows: &[ArcRow],
+    graph: &Graph,
     flow: &mut [i64],
     touched: &mut Touched,
     potentials: &[i64],
@@ -191,23 +186,23 @@ fn push_to(
     target: usize,
 ) -> u64
     requires touched_in { length flow.old ≤ length touched.old }
-    requires state { IsUnderWay (length visits.now) rows.now potentials.now flow.old excess.old }
-    requires paths { HavePaths rows.now visits.now }
-    requires tight { ArePathsTight rows.now potentials.now visits.now }
+    requires state { IsUnderWay (length visits.now) graph.now.rows.items potentials.now flow.old excess.old }
+    requires paths { HavePaths graph.now.rows.items visits.now }
+    requires tight { ArePathsTight graph.now.rows.items potentials.now visits.now }
     requires target_in { target < length visits.now }
     ensures noted { AreNoted touched.old flow.old touched.new flow.new }
-    ensures state { IsUnderWay (length visits.now) rows.now potentials.now flow.new excess.new }
-    ensures pushes { ArePushes rows.now result flow.old excess.old flow.new excess.new }
-    ensures some { CanPush rows.now flow.old excess.old visits.now target → 0 < result }
+    ensures state { IsUnderWay (length visits.now) graph.now.rows.items potentials.now flow.new excess.new }
+    ensures pushes { ArePushes graph.now.rows.items result flow.old excess.old flow.new excess.new }
+    ensures some { CanPush graph.now.rows.items flow.old excess.old visits.now target → 0 < result }
 {
     if !is_found_deficit(excess, visits, target) {
         return 0;
     }
-    let (root, amount) = amount_along(rows, flow, excess, visits, target);
+    let (root, amount) = amount_along(graph, flow, excess, visits, target);
     if amount < 1 {
         return 0;
     }
-    shift(rows, flow, touched, visits, target, amount);
+    shift(graph, flow, touched, visits, target, amount);
     transfer(excess, root, target, amount);
     1
 }
@@ -235,7 +230,7 @@ fn is_tight(row: &ArcRow, potentials: &[i64], way: Way) -> bool
 
 /// Whether arc `k`, gone along in this way, is a hop that a path to the node can take.
 fn is_hop_to(
-    rows: &[ArcRow],
+    graph: &Graph,
     flow: &[i64],
     potentials: &[i64],
     visits: &[Visit],
@@ -243,13 +238,13 @@ fn is_hop_to(
     k: usize,
     way: Way,
 ) -> bool
-    requires flow { IsFlow (length visits.now) rows.now flow.now }
+    requires flow { IsFlow (length visits.now) graph.now.rows.items flow.now }
     requires potentials_in { ArePotentials (length visits.now) potential_floor potentials.now }
     requires node_in { node < length visits.now }
-    requires arc_in { k < length rows.now }
-    ensures { IsTrue result ↔ IsHopTo rows.now potentials.now flow.now visits.now node k way }
+    requires arc_in { k < length graph.now.rows.items }
+    ensures { IsTrue result ↔ IsHopTo graph.now.rows.items potentials.now flow.now visits.now node k way }
 {
-    let row = rows[k];
+    let row = graph.rows[k];
     if way.end(&row) as usize != node {
         return false;
     }
@@ -267,66 +262,63 @@ fn is_hop_to(
 }
 
 /// Another hop to the node along a numbered arc which the star does not cover, from a node that is not spent. The network
-/// lists these first. Its first arc has row `row`.
+/// lists these first. Its first arc has row `first_row`.
 fn added_hop(
-    net: &Network,
-    star: &Star,
-    rows: &[ArcRow],
+    graph: &Graph,
     flow: &[i64],
     potentials: &[i64],
     visits: &[Visit],
     spent: &[bool],
     node: usize,
-    row: usize,
+    first_row: usize,
 ) -> Option<(usize, Way)>
-    requires net { AreRowsOf net.now rows.now }
-    requires split { row + length net.now.arcs ≡ length rows.now }
-    requires flow { IsFlow (length visits.now) rows.now flow.now }
+    requires net { AreRowsOf graph.now.net graph.now.rows.items }
+    requires split { first_row + length graph.now.net.arcs ≡ length graph.now.rows.items }
+    requires flow { IsFlow (length visits.now) graph.now.rows.items flow.now }
     requires potentials_in { ArePotentials (length visits.now) potential_floor potentials.now }
     requires node_in { node < length visits.now }
     requires spent_in { length spent.now ≡ length visits.now }
-    ensures some { IfSome result (λ hop. IsHopTo rows.now potentials.now flow.now visits.now node hop.0 hop.1) }
-    ensures none { IfNone result (AllAdded net.now.arcs node star.now.arcs (IsEndSpent rows.now potentials.now flow.now visits.now spent.now node row)) }
+    ensures some { IfSome result (λ hop. IsHopTo graph.now.rows.items potentials.now flow.now visits.now node hop.0 hop.1) }
+    ensures none { IfNone result (AllAdded graph.now.net.arcs node graph.now.star.arcs (IsEndSpent graph.now.rows.items potentials.now flow.now visits.now spent.now node first_row)) }
 {
-    let mut current = net.first_end(node as u32);
+    let mut current = graph.net.first_end(node as u32);
     while let Some(end) = current {
-        if end / 2 < star.arcs {
+        if end / 2 < graph.star.arcs {
             return None;
         }
-        let k = end as usize / 2 + row;
+        let k = end as usize / 2 + first_row;
         let way = Way::to_end(end);
-        let start = way.start(&rows[k]) as usize;
-        if !spent[start] && is_hop_to(rows, flow, potentials, visits, node, k, way) {
+        let start = graph.start(k, way);
+        if !spent[start] && is_hop_to(graph, flow, potentials, visits, node, k, way) {
             return Some((k, way));
         }
-        current = net.next_end(end);
+        current = graph.net.next_end(end);
     }
     None
 }
 
-/// The hop to the node along the residual arc to this end, where its arc is one of the first ones, so many, and it comes
-/// from a node that is not spent.
+/// The hop to the node along the residual arc to this end, where the star covers its arc, and it comes from a node that is
+/// not spent.
 fn spoke_hop(
+    graph: &Graph,
     spoke: Spoke,
-    arcs: u32,
-    rows: &[ArcRow],
     flow: &[i64],
     potentials: &[i64],
     visits: &[Visit],
     spent: &[bool],
     node: usize,
-    row: usize,
+    first_row: usize,
 ) -> Option<(usize, Way)>
-    requires few { row + arcs ≤ length rows.now }
-    requires named { spoke.end / 2 < arcs → NamesOther rows.now row spoke }
-    requires flow { IsFlow (length visits.now) rows.now flow.now }
+    requires few { first_row + graph.now.star.arcs ≤ length graph.now.rows.items }
+    requires named { spoke.end / 2 < graph.now.star.arcs → NamesOther graph.now.rows.items first_row spoke }
+    requires flow { IsFlow (length visits.now) graph.now.rows.items flow.now }
     requires potentials_in { ArePotentials (length visits.now) potential_floor potentials.now }
     requires node_in { node < length visits.now }
     requires spent_in { length spent.now ≡ length visits.now }
-    ensures some { IfSome result (λ hop. IsHopTo rows.now potentials.now flow.now visits.now node hop.0 hop.1) }
-    ensures none { IfNone result (spoke.end / 2 < arcs → IsEndSpent rows.now potentials.now flow.now visits.now spent.now node row spoke.end) }
+    ensures some { IfSome result (λ hop. IsHopTo graph.now.rows.items potentials.now flow.now visits.now node hop.0 hop.1) }
+    ensures none { IfNone result (spoke.end / 2 < graph.now.star.arcs → IsEndSpent graph.now.rows.items potentials.now flow.now visits.now spent.now node first_row spoke.end) }
 {
-    if spoke.end / 2 >= arcs {
+    if spoke.end / 2 >= graph.star.arcs {
         return None;
     }
     // No hop comes from such a node: neither the arc nor its flow is read.
@@ -334,39 +326,38 @@ fn spoke_hop(
     if spent[other] || !visits[other].is_settled() {
         return None;
     }
-    let k = spoke.end as usize / 2 + row;
+    let k = spoke.end as usize / 2 + first_row;
     let way = Way::to_end(spoke.end);
-    if !is_hop_to(rows, flow, potentials, visits, node, k, way) {
+    if !is_hop_to(graph, flow, potentials, visits, node, k, way) {
         return None;
     }
     Some((k, way))
 }
 
-/// A hop to the node along a residual arc to one of these ends, where the arc is one of the first ones, so many, from a
-/// node that is not spent.
+/// A hop to the node along a residual arc to one of these ends, of an arc which the star covers, from a node that is not
+/// spent.
 fn covered_hop(
+    graph: &Graph,
     spokes: &[Spoke],
-    arcs: u32,
-    rows: &[ArcRow],
     flow: &[i64],
     potentials: &[i64],
     visits: &[Visit],
     spent: &[bool],
     node: usize,
-    row: usize,
+    first_row: usize,
 ) -> Option<(usize, Way)>
-    requires few { row + arcs ≤ length rows.now }
-    requires named { AllNameOther rows.now row arcs spokes.now }
-    requires flow { IsFlow (length visits.now) rows.now flow.now }
+    requires few { first_row + graph.now.star.arcs ≤ length graph.now.rows.items }
+    requires named { AllNameOther graph.now.rows.items first_row graph.now.star.arcs spokes.now }
+    requires flow { IsFlow (length visits.now) graph.now.rows.items flow.now }
     requires potentials_in { ArePotentials (length visits.now) potential_floor potentials.now }
     requires node_in { node < length visits.now }
     requires spent_in { length spent.now ≡ length visits.now }
-    ensures some { IfSome result (λ hop. IsHopTo rows.now potentials.now flow.now visits.now node hop.0 hop.1) }
-    ensures none { IfNone result (AllSpokes arcs spokes.now (length spokes.now) (IsEndSpent rows.now potentials.now flow.now visits.now spent.now node row)) }
+    ensures some { IfSome result (λ hop. IsHopTo graph.now.rows.items potentials.now flow.now visits.now node hop.0 hop.1) }
+    ensures none { IfNone result (AllSpokes graph.now.star.arcs spokes.now (length spokes.now) (IsEndSpent graph.now.rows.items potentials.now flow.now visits.now spent.now node first_row)) }
 {
     for spoke in spokes {
         if let Some(hop) = spoke_hop(
-            *spoke, arcs, rows, flow, potentials, visits, spent, node, row,
+            graph, *spoke, flow, potentials, visits, spent, node, first_row,
         ) {
             return Some(hop);
         }
@@ -376,39 +367,35 @@ fn covered_hop(
 
 /// Another hop to the node along a numbered arc, from a node that is not spent.
 fn other_hop(
-    net: &Network,
-    star: &Star,
-    rows: &[ArcRow],
+    graph: &Graph,
     flow: &[i64],
     potentials: &[i64],
     visits: &[Visit],
     spent: &[bool],
     node: usize,
 ) -> Option<(usize, Way)>
-    requires net { AreRowsOf net.now rows.now }
-    requires star { Covers (length potentials.now) net.now.arcs star.now }
-    requires flow { IsFlow (length visits.now) rows.now flow.now }
+    requires graph { IsGraphFor (length potentials.now) graph.now }
+    requires flow { IsFlow (length visits.now) graph.now.rows.items flow.now }
     requires potentials_in { ArePotentials (length visits.now) potential_floor potentials.now }
     requires node_in { node < length visits.now }
     requires spent_in { length spent.now ≡ length visits.now }
-    ensures some { IfSome result (λ hop. IsHopTo rows.now potentials.now flow.now visits.now node hop.0 hop.1) }
+    ensures some { IfSome result (λ hop. IsHopTo graph.now.rows.items potentials.now flow.now visits.now node hop.0 hop.1) }
     // The return arc has no end in the lists: a hop along it is passed over.
-    ensures none { IfNone result (AreHopsSpent rows.now potentials.now flow.now visits.now spent.now node (length rows.now - length net.now.arcs)) }
+    ensures none { IfNone result (AreHopsSpent graph.now.rows.items potentials.now flow.now visits.now spent.now node (length graph.now.rows.items - length graph.now.net.arcs)) }
 {
-    let row = rows.len() - net.arcs() as usize;
-    if let Some(hop) = added_hop(net, star, rows, flow, potentials, visits, spent, node, row) {
+    let first_row = graph.first_row();
+    if let Some(hop) = added_hop(graph, flow, potentials, visits, spent, node, first_row) {
         return Some(hop);
     }
     covered_hop(
-        star.spokes_of(node),
-        star.arcs,
-        rows,
+        graph,
+        graph.star.spokes_of(node),
         flow,
         potentials,
         visits,
         spent,
         node,
-        row,
+        first_row,
     )
 }
 
@@ -431,38 +418,32 @@ fn turn(visits: &mut [Visit], node: usize, k: usize, way: Way)
 /// The node before this one on its path, which is turned to another hop where the last one is used up or comes from a
 /// spent node; nothing where there is no other.
 fn hop_back(
-    net: &Network,
-    star: &Star,
-    rows: &[ArcRow],
+    graph: &Graph,
     flow: &[i64],
     potentials: &[i64],
     visits: &mut [Visit],
     spent: &[bool],
     node: usize,
 ) -> Option<usize>
-    requires net { AreRowsOf net.now rows.now }
-    requires star { Covers (length potentials.now) net.now.arcs star.now }
-    requires flow { IsFlow (length visits.old) rows.now flow.now }
+    requires graph { IsGraphFor (length potentials.now) graph.now }
+    requires flow { IsFlow (length visits.old) graph.now.rows.items flow.now }
     requires potentials_in { ArePotentials (length visits.old) potential_floor potentials.now }
-    requires paths { ArePaths rows.now potentials.now visits.old }
+    requires paths { ArePaths graph.now.rows.items potentials.now visits.old }
     requires settled { mark_at visits.old node ≡ Settled }
     requires deep { 0 < depth_at visits.old node }
     requires spent_in { length spent.now ≡ length visits.old }
-    ensures paths { ArePaths rows.now potentials.now visits.new }
+    ensures paths { ArePaths graph.now.rows.items potentials.now visits.new }
     ensures marks { AreMarkedAlike visits.old visits.new }
     ensures before { IfSome result (IsBefore visits.new (depth_at visits.old node)) }
 {
-    let visit = visits[node];
-    let k = visit.arc as usize;
-    let row = rows[k];
-    let start = visit.way.start(&row) as usize;
-    if visit.way.room(&row, flow[k]) > 0 && !spent[start] {
+    let (start, room) = step_back(graph, flow, visits, node, 1);
+    if room > 0 && !spent[start] {
         return Some(start);
     }
-    match other_hop(net, star, rows, flow, potentials, visits, spent, node) {
+    match other_hop(graph, flow, potentials, visits, spent, node) {
         Some((other, way)) => {
             turn(visits, node, other, way);
-            Some(way.start(&rows[other]) as usize)
+            Some(graph.start(other, way))
         }
         None => None,
     }
@@ -471,9 +452,7 @@ fn hop_back(
 /// Goes back from `target` to a node in excess, and tells whether it came to one. Where it came to a node from which
 /// nothing more is to be had, that one is spent.
 fn walk_back(
-    net: &Network,
-    star: &Star,
-    rows: &[ArcRow],
+    graph: &Graph,
     flow: &[i64],
     potentials: &[i64],
     excess: &[i64],
@@ -481,20 +460,19 @@ fn walk_back(
     spent: &mut [bool],
     target: usize,
 ) -> bool
-    requires net { AreRowsOf net.now rows.now }
-    requires star { Covers (length potentials.now) net.now.arcs star.now }
-    requires flow { IsFlow (length visits.old) rows.now flow.now }
+    requires graph { IsGraphFor (length potentials.now) graph.now }
+    requires flow { IsFlow (length visits.old) graph.now.rows.items flow.now }
     requires potentials_in { ArePotentials (length visits.old) potential_floor potentials.now }
-    requires paths { ArePaths rows.now potentials.now visits.old }
+    requires paths { ArePaths graph.now.rows.items potentials.now visits.old }
     requires settled { mark_at visits.old target ≡ Settled }
     requires excess_in { length excess.now ≡ length visits.old }
     requires spent_in { length spent.old ≡ length visits.old }
-    ensures paths { ArePaths rows.now potentials.now visits.new }
+    ensures paths { ArePaths graph.now.rows.items potentials.now visits.new }
     ensures marks { AreMarkedAlike visits.old visits.new }
 {
     let mut node = target;
     while visits[node].depth > 0 {
-        match hop_back(net, star, rows, flow, potentials, visits, spent, node) {
+        match hop_back(graph, flow, potentials, visits, spent, node) {
             Some(before) => node = before,
             None => {
                 spent[node] = true;
@@ -511,9 +489,7 @@ fn walk_back(
 
 /// Looks for a path to `target` that has room and begins at a node in excess, and tells whether there is one.
 fn find_path(
-    net: &Network,
-    star: &Star,
-    rows: &[ArcRow],
+    graph: &Graph,
     flow: &[i64],
     potentials: &[i64],
     excess: &[i64],
@@ -521,24 +497,21 @@ fn find_path(
     spent: &mut [bool],
     target: usize,
 ) -> bool
-    requires net { AreRowsOf net.now rows.now }
-    requires star { Covers (length potentials.now) net.now.arcs star.now }
-    requires flow { IsFlow (length visits.old) rows.now flow.now }
+    requires graph { IsGraphFor (length potentials.now) graph.now }
+    requires flow { IsFlow (length visits.old) graph.now.rows.items flow.now }
     requires potentials_in { ArePotentials (length visits.old) potential_floor potentials.now }
-    requires paths { ArePaths rows.now potentials.now visits.old }
+    requires paths { ArePaths graph.now.rows.items potentials.now visits.old }
     requires target_in { target < length visits.old }
     requires excess_in { length excess.now ≡ length visits.old }
     requires spent_in { length spent.old ≡ length visits.old }
-    ensures paths { ArePaths rows.now potentials.now visits.new }
+    ensures paths { ArePaths graph.now.rows.items potentials.now visits.new }
     ensures marks { AreMarkedAlike visits.old visits.new }
 {
     for _ in 0..spent.len() {
         if spent[target] || !is_found_deficit(excess, visits, target) {
             return false;
         }
-        if walk_back(
-            net, star, rows, flow, potentials, excess, visits, spent, target,
-        ) {
+        if walk_back(graph, flow, potentials, excess, visits, spent, target) {
             return true;
         }
     }
@@ -547,9 +520,7 @@ fn find_path(
 
 /// Pushes to a node in deficit as long as another path to it is found, and counts the pushes.
 fn push_more_to(
-    net: &Network,
-    star: &Star,
-    rows: &[ArcRow],
+    graph: &Graph,
     flow: &mut [i64],
     touched: &mut Touched,
     potentials: &[i64],
@@ -558,37 +529,32 @@ fn push_more_to(
     spent: &mut [bool],
     target: usize,
 ) -> u64
-    requires net { AreRowsOf net.now rows.now }
-    requires star { Covers (length potentials.now) net.now.arcs star.now }
+    requires graph { IsGraphFor (length potentials.now) graph.now }
     requires touched_in { length flow.old ≤ length touched.old }
-    requires state { IsUnderWay (length visits.old) rows.now potentials.now flow.old excess.old }
+    requires state { IsUnderWay (length visits.old) graph.now.rows.items potentials.now flow.old excess.old }
     requires potentials_in { ArePotentials (length visits.old) potential_floor potentials.now }
-    requires paths { ArePaths rows.now potentials.now visits.old }
+    requires paths { ArePaths graph.now.rows.items potentials.now visits.old }
     requires target_in { target < length visits.old }
     requires spent_in { length spent.old ≡ length visits.old }
     ensures noted { AreNoted touched.old flow.old touched.new flow.new }
-    ensures state { IsUnderWay (length visits.new) rows.now potentials.now flow.new excess.new }
-    ensures paths { ArePaths rows.now potentials.now visits.new }
+    ensures state { IsUnderWay (length visits.new) graph.now.rows.items potentials.now flow.new excess.new }
+    ensures paths { ArePaths graph.now.rows.items potentials.now visits.new }
     ensures marks { AreMarkedAlike visits.old visits.new }
-    ensures pushes { ArePushes rows.now result flow.old excess.old flow.new excess.new }
+    ensures pushes { ArePushes graph.now.rows.items result flow.old excess.old flow.new excess.new }
 {
     let mut pushes = 0;
     for _ in 0..spent.len() {
-        if !find_path(
-            net, star, rows, flow, potentials, excess, visits, spent, target,
-        ) {
+        if !find_path(graph, flow, potentials, excess, visits, spent, target) {
             return pushes;
         }
-        pushes += push_to(rows, flow, touched, potentials, excess, visits, target);
+        pushes += push_to(graph, flow, touched, potentials, excess, visits, target);
     }
     pushes
 }
 
 /// Pushes to a node in deficit that the search found, along one path after the other, and counts the pushes.
 fn push_all_to(
-    net: &Network,
-    star: &Star,
-    rows: &[ArcRow],
+    graph: &Graph,
     flow: &mut [i64],
     touched: &mut Touched,
     potentials: &[i64],
@@ -597,37 +563,34 @@ fn push_all_to(
     spent: &mut [bool],
     target: usize,
 ) -> u64
-    requires net { AreRowsOf net.now rows.now }
-    requires star { Covers (length potentials.now) net.now.arcs star.now }
+    requires graph { IsGraphFor (length potentials.now) graph.now }
     requires touched_in { length flow.old ≤ length touched.old }
-    requires state { IsUnderWay (length visits.old) rows.now potentials.now flow.old excess.old }
+    requires state { IsUnderWay (length visits.old) graph.now.rows.items potentials.now flow.old excess.old }
     requires potentials_in { ArePotentials (length visits.old) potential_floor potentials.now }
-    requires paths { ArePaths rows.now potentials.now visits.old }
+    requires paths { ArePaths graph.now.rows.items potentials.now visits.old }
     requires target_in { target < length visits.old }
     requires spent_in { length spent.old ≡ length visits.old }
     ensures noted { AreNoted touched.old flow.old touched.new flow.new }
-    ensures state { IsUnderWay (length visits.new) rows.now potentials.now flow.new excess.new }
-    ensures paths { ArePaths rows.now potentials.now visits.new }
+    ensures state { IsUnderWay (length visits.new) graph.now.rows.items potentials.now flow.new excess.new }
+    ensures paths { ArePaths graph.now.rows.items potentials.now visits.new }
     ensures marks { AreMarkedAlike visits.old visits.new }
-    ensures pushes { ArePushes rows.now result flow.old excess.old flow.new excess.new }
-    ensures some { CanPush rows.now flow.old excess.old visits.old target → 0 < result }
+    ensures pushes { ArePushes graph.now.rows.items result flow.old excess.old flow.new excess.new }
+    ensures some { CanPush graph.now.rows.items flow.old excess.old visits.old target → 0 < result }
     ensures kept { IsFoundDeficit excess.old visits.old target ⊎ (visits.new ≡ visits.old) }
 {
     if !is_found_deficit(excess, visits, target) {
         return 0;
     }
-    let first = push_to(rows, flow, touched, potentials, excess, visits, target);
+    let first = push_to(graph, flow, touched, potentials, excess, visits, target);
     let more = push_more_to(
-        net, star, rows, flow, touched, potentials, excess, visits, spent, target,
+        graph, flow, touched, potentials, excess, visits, spent, target,
     );
     first + more
 }
 
 /// Pushes to the nodes in deficit that the search found, and counts the pushes.
 pub fn push_found(
-    net: &Network,
-    star: &Star,
-    rows: &[ArcRow],
+    graph: &Graph,
     flow: &mut [i64],
     touched: &mut Touched,
     potentials: &[i64],
@@ -635,20 +598,19 @@ pub fn push_found(
     visits: &mut [Visit],
     trail: &mut Trail,
 ) -> u64
-    requires net { AreRowsOf net.now rows.now }
-    requires star { Covers (length potentials.now) net.now.arcs star.now }
+    requires graph { IsGraphFor (length potentials.now) graph.now }
     requires touched_in { length flow.old ≤ length touched.old }
-    requires state { IsUnderWay (length visits.old) rows.now potentials.now flow.old excess.old }
+    requires state { IsUnderWay (length visits.old) graph.now.rows.items potentials.now flow.old excess.old }
     requires potentials_in { ArePotentials (length visits.old) potential_floor potentials.now }
-    requires paths { ArePaths rows.now potentials.now visits.old }
+    requires paths { ArePaths graph.now.rows.items potentials.now visits.old }
     requires trail { IsTrailOf visits.old trail.old }
-    requires can_push { (t : ℕ) → IsFoundDeficit excess.old visits.old t → CanPush rows.now flow.old excess.old visits.old t }
+    requires can_push { (t : ℕ) → IsFoundDeficit excess.old visits.old t → CanPush graph.now.rows.items flow.old excess.old visits.old t }
     ensures noted { AreNoted touched.old flow.old touched.new flow.new }
-    ensures state { IsUnderWay (length visits.new) rows.now potentials.now flow.new excess.new }
+    ensures state { IsUnderWay (length visits.new) graph.now.rows.items potentials.now flow.new excess.new }
     ensures marks { AreMarkedAlike visits.old visits.new }
     ensures trail { trail.new ≡ record trail.old { spent = trail.new.spent } }
     ensures spent { length trail.new.spent.items ≡ length trail.old.spent.items }
-    ensures pushes { ArePushes rows.now result flow.old excess.old flow.new excess.new }
+    ensures pushes { ArePushes graph.now.rows.items result flow.old excess.old flow.new excess.new }
     ensures some { (t : ℕ) → IsFoundDeficit excess.old visits.old t → 0 < result }
 {
     trail.refresh();
@@ -656,9 +618,7 @@ pub fn push_found(
     for j in 0..trail.len {
         let target = trail.nodes[j] as usize;
         pushes += push_all_to(
-            net,
-            star,
-            rows,
+            graph,
             flow,
             touched,
             potentials,

@@ -1,4 +1,4 @@
-//! The excess of each node and the cost of a flow, carried over from one flow to another.
+//! The excess of each node and the cost of a flow, carried over from one flow to the next.
 
 ghost use Rattle.std.specs.Prelude.{◌≡◌, ℕ, ℤ, pos, ◌+◌, ◌*ℤ◌, ◌+ℤ◌, ◌-ℤ◌, ◌<◌, ◌≤◌, IfOk, length};
 ghost use Rattle.std.specs.Int.{int_wrap, w128};
@@ -15,8 +15,9 @@ use dimacs_text::ArcRow;
 use network::Network;
 use std::alloc::{AllocError, Global};
 
-/// The excess of each node and the cost of the flow. Both are sums that wrap: so each is carried over as one arc or one
-/// supply changes, whatever the flows are in between, and of a flow within its bounds it is exact, since it fits.
+/// The excess of each node under the flow that stands in a ledger, and the cost of the flow that the ledger kept. Both are
+/// sums that wrap: so each is carried over as one arc or one supply changes, whatever the flows are in between, and of a
+/// flow within its bounds it is exact, since it fits. `cost_now` gives the cost of the flow that stands.
 #[derive(Drop)]
 pub struct Balance {
     pub excess: Vec<i64>,

@@ -8,10 +8,10 @@ ghost use Rattle.flow_solver.specs.Cut.{in_set, IsRoot, near_of, far_of, near_at
 ghost use Rattle.flow_solver.specs.Touched.{AreNoted};
 ghost use Rattle.flow_solver.specs.declared.residual.Way.{Way};
 
+use crate::graph::Graph;
 use crate::residual::Way;
 use crate::touched::Touched;
 use dimacs_text::ArcRow;
-use network::Network;
 
 /// The two sides of a flow that is stuck: the nodes that those in excess reach along residual arcs, and the nodes that
 /// reach one in deficit. The roots of a side are the nodes in excess, or those in deficit.
@@ -66,24 +66,23 @@ impl Side {
 /// Marks the nodes of a side. `line` is a table to list them in.
 pub fn mark_side(
     side: Side,
-    net: &Network,
-    rows: &[ArcRow],
+    graph: &Graph,
     flow: &[i64],
     excess: &[i64],
     cut: &mut [bool],
     line: &mut [u32],
 )
-    requires net { AreRowsOf net.now rows.now }
-    requires flow { IsFlow (length excess.now) rows.now flow.now }
+    requires net { AreRowsOf graph.now.net graph.now.rows.items }
+    requires flow { IsFlow (length excess.now) graph.now.rows.items flow.now }
     requires cut_in { length cut.old ≡ length excess.now }
     requires line_in { length line.old ≡ length excess.now }
-    ensures { IsSide side rows.now flow.now excess.now cut.new }
+    ensures { IsSide side graph.now.rows.items flow.now excess.now cut.new }
 {
     let mut len = mark_roots(side, excess, cut, line);
     let mut next = 0;
     while next < len {
         let node = line[next];
-        len = mark_from(side, net, rows, flow, cut, line, len, node);
+        len = mark_from(side, graph, flow, cut, line, len, node);
         next += 1;
     }
 }
@@ -125,81 +124,79 @@ fn mark(cut: &mut [bool], line: &mut [u32], len: usize, node: usize) -> usize
 /// Marks the nodes to which residual arcs lead on from a marked node, and gives the length of the line.
 fn mark_from(
     side: Side,
-    net: &Network,
-    rows: &[ArcRow],
+    graph: &Graph,
     flow: &[i64],
     cut: &mut [bool],
     line: &mut [u32],
     len: usize,
     node: u32,
 ) -> usize
-    requires net { AreRowsOf net.now rows.now }
-    requires flow { IsFlow (length cut.old) rows.now flow.now }
+    requires net { AreRowsOf graph.now.net graph.now.rows.items }
+    requires flow { IsFlow (length cut.old) graph.now.rows.items flow.now }
     requires line { IsLineOf cut.old line.old len }
     requires marked { in_set cut.old node ≡ true }
     ensures line { IsLineOf cut.new line.new result }
-    ensures grown { IsGrown side rows.now flow.now cut.old line.old len cut.new line.new result }
-    ensures far { AreFarIn side rows.now flow.now cut.new node }
+    ensures grown { IsGrown side graph.now.rows.items flow.now cut.old line.old len cut.new line.new result }
+    ensures far { AreFarIn side graph.now.rows.items flow.now cut.new node }
 {
-    let row = rows.len() - net.arcs() as usize;
-    let longer = mark_by_return(side, rows, flow, cut, line, len, row);
-    mark_by_ends(side, net, rows, flow, cut, line, longer, node, row)
+    let first_row = graph.first_row();
+    let longer = mark_by_return(side, graph, flow, cut, line, len, first_row);
+    mark_by_ends(side, graph, flow, cut, line, longer, node, first_row)
 }
 
 /// Marks the node to which the return arc, which stands in the rows before the arcs of the network, leads on from a
 /// marked node, and gives the length of the line.
 fn mark_by_return(
     side: Side,
-    rows: &[ArcRow],
+    graph: &Graph,
     flow: &[i64],
     cut: &mut [bool],
     line: &mut [u32],
     len: usize,
-    row: usize,
+    first_row: usize,
 ) -> usize
-    requires flow { IsFlow (length cut.old) rows.now flow.now }
-    requires row { row ≤ length rows.now }
+    requires flow { IsFlow (length cut.old) graph.now.rows.items flow.now }
+    requires first_row { first_row ≤ length graph.now.rows.items }
     requires line { IsLineOf cut.old line.old len }
     ensures line { IsLineOf cut.new line.new result }
-    ensures grown { IsGrown side rows.now flow.now cut.old line.old len cut.new line.new result }
-    ensures far { 0 < row → (way : Way) → in_set cut.old (near_at side rows.now 0 way) ≡ true → IsFarIn side rows.now flow.now cut.new 0 way }
+    ensures grown { IsGrown side graph.now.rows.items flow.now cut.old line.old len cut.new line.new result }
+    ensures far { 0 < first_row → (way : Way) → in_set cut.old (near_at side graph.now.rows.items 0 way) ≡ true → IsFarIn side graph.now.rows.items flow.now cut.new 0 way }
 {
-    if row == 0 {
+    if first_row == 0 {
         return len;
     }
-    let longer = mark_far(side, rows, flow, cut, line, len, 0, Way::Forward);
-    mark_far(side, rows, flow, cut, line, longer, 0, Way::Backward)
+    let longer = mark_far(side, graph, flow, cut, line, len, 0, Way::Forward);
+    mark_far(side, graph, flow, cut, line, longer, 0, Way::Backward)
 }
 
-/// Marks the nodes to which residual arcs along arcs of the network, the first of which has row `row`, lead on from a
+/// Marks the nodes to which residual arcs along arcs of the network, the first of which has row `first_row`, lead on from a
 /// marked node, and gives the length of the line.
 fn mark_by_ends(
     side: Side,
-    net: &Network,
-    rows: &[ArcRow],
+    graph: &Graph,
     flow: &[i64],
     cut: &mut [bool],
     line: &mut [u32],
     len: usize,
     node: u32,
-    row: usize,
+    first_row: usize,
 ) -> usize
-    requires net { AreRowsOf net.now rows.now }
-    requires split { row + length net.now.arcs ≡ length rows.now }
-    requires flow { IsFlow (length cut.old) rows.now flow.now }
+    requires net { AreRowsOf graph.now.net graph.now.rows.items }
+    requires split { first_row + length graph.now.net.arcs ≡ length graph.now.rows.items }
+    requires flow { IsFlow (length cut.old) graph.now.rows.items flow.now }
     requires line { IsLineOf cut.old line.old len }
     requires marked { in_set cut.old node ≡ true }
     ensures line { IsLineOf cut.new line.new result }
-    ensures grown { IsGrown side rows.now flow.now cut.old line.old len cut.new line.new result }
-    ensures far { ArePassedFarIn side rows.now flow.now cut.new node net.now.arcs row None }
+    ensures grown { IsGrown side graph.now.rows.items flow.now cut.old line.old len cut.new line.new result }
+    ensures far { ArePassedFarIn side graph.now.rows.items flow.now cut.new node graph.now.net.arcs first_row None }
 {
     let mut longer = len;
-    let mut current = net.first_end(node);
+    let mut current = graph.net.first_end(node);
     while let Some(end) = current {
-        let k = end as usize / 2 + row;
+        let k = end as usize / 2 + first_row;
         let way = side.way_from(end);
-        longer = mark_far(side, rows, flow, cut, line, longer, k, way);
-        current = net.next_end(end);
+        longer = mark_far(side, graph, flow, cut, line, longer, k, way);
+        current = graph.net.next_end(end);
     }
     longer
 }
@@ -208,7 +205,7 @@ fn mark_by_ends(
 /// the length of the line.
 fn mark_far(
     side: Side,
-    rows: &[ArcRow],
+    graph: &Graph,
     flow: &[i64],
     cut: &mut [bool],
     line: &mut [u32],
@@ -216,26 +213,26 @@ fn mark_far(
     k: usize,
     way: Way,
 ) -> usize
-    requires flow { IsFlow (length cut.old) rows.now flow.now }
-    requires arc_in { k < length rows.now }
+    requires flow { IsFlow (length cut.old) graph.now.rows.items flow.now }
+    requires arc_in { k < length graph.now.rows.items }
     requires line { IsLineOf cut.old line.old len }
     ensures line { IsLineOf cut.new line.new result }
-    ensures grown { IsGrown side rows.now flow.now cut.old line.old len cut.new line.new result }
-    ensures far { in_set cut.old (near_at side rows.now k way) ≡ true → IsFarIn side rows.now flow.now cut.new k way }
+    ensures grown { IsGrown side graph.now.rows.items flow.now cut.old line.old len cut.new line.new result }
+    ensures far { in_set cut.old (near_at side graph.now.rows.items k way) ≡ true → IsFarIn side graph.now.rows.items flow.now cut.new k way }
 {
-    if !leads_out(side, rows, flow, cut, k, way) {
+    if !leads_out(side, graph, flow, cut, k, way) {
         return len;
     }
-    mark(cut, line, len, side.far(way, &rows[k]) as usize)
+    mark(cut, line, len, side.far(way, &graph.rows[k]) as usize)
 }
 
 /// Whether the residual arc along arc `k` is there and leads on out of the set of marked nodes.
-fn leads_out(side: Side, rows: &[ArcRow], flow: &[i64], cut: &[bool], k: usize, way: Way) -> bool
-    requires flow { IsFlow (length cut.now) rows.now flow.now }
-    requires arc_in { k < length rows.now }
-    ensures { IsTrue result ↔ LeadsOut side rows.now flow.now cut.now k way }
+fn leads_out(side: Side, graph: &Graph, flow: &[i64], cut: &[bool], k: usize, way: Way) -> bool
+    requires flow { IsFlow (length cut.now) graph.now.rows.items flow.now }
+    requires arc_in { k < length graph.now.rows.items }
+    ensures { IsTrue result ↔ LeadsOut side graph.now.rows.items flow.now cut.now k way }
 {
-    let row = rows[k];
+    let row = graph.rows[k];
     let near = side.near(way, &row) as usize;
     let far = side.far(way, &row) as usize;
     way.room(&row, flow[k]) > 0 && cut[near] && !cut[far]

@@ -8,12 +8,12 @@ ghost use Rattle.network.specs.Flow.{IsCertifiedFlow};
 ghost use Rattle.dimacs_text.specs.declared.problem.ArcRow.{ArcRow};
 ghost use Rattle.network.specs.Edited.{edited};
 ghost use Rattle.network.specs.Instance.{IsLawful, arc_at as number_at_arc, ArcFits, at_node, is_marked, kind_of, reduced, with_supply};
+ghost use Rattle.flow_solver.specs.Graph.{IsGraphFor};
 ghost use Rattle.flow_solver.specs.Limits.{potential_floor};
 ghost use Rattle.flow_solver.specs.Residual.{IsRow, IsCertified, ArePotentials, number_at, arc_at};
 ghost use Rattle.flow_solver.specs.Nodes.{IsIdleEntry};
 ghost use Rattle.flow_solver.specs.Scratch.{IsScratchFor};
 ghost use Rattle.flow_solver.specs.Touched.{IsLedger, IsWritten};
-ghost use Rattle.flow_solver.specs.Star.{Covers};
 ghost use Rattle.flow_solver.specs.Walk.{AreRowsOf};
 ghost use Rattle.flow_solver.specs.Desk.{supplies_in};
 ghost use Rattle.flow_solver.specs.Balance.{IsBalanceOf, IsWrappedCost, IsWrappedExcess};
@@ -22,9 +22,9 @@ ghost use Rattle.flow_solver.specs.Edit.{reduced_cost, IsNearest, IsAddEdit, IsO
 
 use crate::answer::{solve, supply_at};
 use crate::balance::{Balance, add_difference, carry_over, reprice};
+use crate::graph::Graph;
 use crate::ledger::Ledger;
 use crate::scratch::Scratch;
-use crate::star::Star;
 use crate::verdict::Verdict;
 use dimacs_text::{ArcRow, Edit};
 use network::Network;
@@ -88,9 +88,7 @@ fn replace_row(
 /// Changes the bounds and the cost of the arc with this number, counted from 1, and settles the flow again. The arc's
 /// flow goes to the nearest value that is allowed; gives the number of pushes after that, and the verdict.
 pub fn change_row(
-    net: &mut Network,
-    star: &Star,
-    rows: &mut [ArcRow],
+    graph: &mut Graph,
     flow: &mut Ledger<i64>,
     potentials: &mut Ledger<i64>,
     balance: &mut Balance,
@@ -99,49 +97,54 @@ pub fn change_row(
     k: u32,
     row: ArcRow,
 ) -> (u64, Verdict)
-    requires rows { AreRowsOf net.old rows.old }
-    requires star { Covers (net.old.nodes + 1) net.old.arcs star.now }
-    requires arc { (1 ≤ k) × (k ≤ length net.old.arcs) }
-    requires tail { row.tail ≡ (slice_index_or net.old.arcs (k - 1) row).tail }
-    requires head { row.head ≡ (slice_index_or net.old.arcs (k - 1) row).head }
-    requires limits { IsLawfulRow net.old.nodes row }
-    requires fits { ArcFits net.old.demand row }
+    requires graph { IsGraphFor (graph.old.net.nodes + 1) graph.old }
+    requires arc { (1 ≤ k) × (k ≤ length graph.old.net.arcs) }
+    requires tail { row.tail ≡ (slice_index_or graph.old.net.arcs (k - 1) row).tail }
+    requires head { row.head ≡ (slice_index_or graph.old.net.arcs (k - 1) row).head }
+    requires limits { IsLawfulRow graph.old.net.nodes row }
+    requires fits { ArcFits graph.old.net.demand row }
     requires flow_ledger { IsLedger flow.old }
     requires potentials_ledger { IsLedger potentials.old }
     requires cut_ledger { IsLedger cut.old }
-    requires certified { IsCertifiedFlow (reduced net.old) flow.old.entries.items (at_node (drop 1 potentials.old.entries.items)) }
+    requires certified { IsCertifiedFlow (reduced graph.old.net) flow.old.entries.items (at_node (drop 1 potentials.old.entries.items)) }
     requires idle { IsIdleEntry potentials.old.entries.items }
-    requires potentials_in { length potentials.old.entries.items ≡ net.old.nodes + 1 }
-    requires balance { IsBalanceOf net.old rows.old flow.old balance.old }
-    requires cut_in { length cut.old.entries.items ≡ net.old.nodes + 1 }
-    requires scratch { IsScratchFor (net.old.nodes + 1) scratch.old }
-    ensures net { net.new ≡ record net.old { arcs = slice_set net.old.arcs (k - 1) row } }
-    ensures rows { AreRowsOf net.new rows.new }
-    ensures star { Covers (net.new.nodes + 1) net.new.arcs star.now }
+    requires potentials_in { length potentials.old.entries.items ≡ graph.old.net.nodes + 1 }
+    requires balance { IsBalanceOf graph.old.net graph.old.rows.items flow.old balance.old }
+    requires cut_in { length cut.old.entries.items ≡ graph.old.net.nodes + 1 }
+    requires scratch { IsScratchFor (graph.old.net.nodes + 1) scratch.old }
+    ensures net { graph.new.net ≡ record graph.old.net { arcs = slice_set graph.old.net.arcs (k - 1) row } }
+    ensures graph { IsGraphFor (graph.new.net.nodes + 1) graph.new }
+    ensures room { vec_capacity graph.new.rows ≡ vec_capacity graph.old.rows }
+    ensures as_many { length graph.new.rows.items ≡ length graph.old.rows.items }
     ensures flow_written { IsWritten flow.old flow.new }
     ensures potentials_written { IsWritten potentials.old potentials.new }
     ensures cut_written { IsWritten cut.old cut.new }
-    ensures balance { IsBalanceOf net.new rows.new flow.new balance.new }
+    ensures balance { IsBalanceOf graph.new.net graph.new.rows.items flow.new balance.new }
     ensures idle { IsIdleEntry potentials.new.entries.items }
-    ensures scratch { IsScratchFor (net.new.nodes + 1) scratch.new }
-    ensures certified { IsCertifiedFlow (reduced net.new) flow.new.entries.items (at_node (drop 1 potentials.new.entries.items)) }
-    ensures verdict { IsVerdict result.1 net.new flow.new.entries.items (is_marked (drop 1 cut.new.entries.items)) }
-    ensures changed { IsRowChanged net.old net.new k row (at_node (drop 1 potentials.old.entries.items)) flow.old.entries.items flow.new.entries.items result.0 }
-    ensures greatest { AreGreatestPotentials (reduced net.new) flow.new.entries.items (at_node (drop 1 potentials.new.entries.items)) }
-    ensures chosen { IsChosenCut result.1 (reduced net.new) (is_marked (drop 1 cut.new.entries.items)) }
+    ensures scratch { IsScratchFor (graph.new.net.nodes + 1) scratch.new }
+    ensures certified { IsCertifiedFlow (reduced graph.new.net) flow.new.entries.items (at_node (drop 1 potentials.new.entries.items)) }
+    ensures verdict { IsVerdict result.1 graph.new.net flow.new.entries.items (is_marked (drop 1 cut.new.entries.items)) }
+    ensures changed { IsRowChanged graph.old.net graph.new.net k row (at_node (drop 1 potentials.old.entries.items)) flow.old.entries.items flow.new.entries.items result.0 }
+    ensures greatest { AreGreatestPotentials (reduced graph.new.net) flow.new.entries.items (at_node (drop 1 potentials.new.entries.items)) }
+    ensures chosen { IsChosenCut result.1 (reduced graph.new.net) (is_marked (drop 1 cut.new.entries.items)) }
 {
-    let place = rows.len() - net.arcs() as usize + (k as usize - 1);
-    net.set_row(k, row);
-    replace_row(rows, flow, &potentials.entries, balance, place, row);
-    solve(net, star, rows, flow, potentials, balance, scratch, cut)
+    let place = graph.first_row() + (k as usize - 1);
+    graph.net.set_row(k, row);
+    replace_row(
+        &mut graph.rows,
+        flow,
+        &potentials.entries,
+        balance,
+        place,
+        row,
+    );
+    solve(graph, flow, potentials, balance, scratch, cut)
 }
 
 /// Changes what a node of a least-cost problem has to send out, and settles the flow again; gives the number of pushes
 /// and the verdict.
 pub fn change_supply(
-    net: &mut Network,
-    star: &Star,
-    rows: &[ArcRow],
+    graph: &mut Graph,
     flow: &mut Ledger<i64>,
     potentials: &mut Ledger<i64>,
     balance: &mut Balance,
@@ -150,38 +153,42 @@ pub fn change_supply(
     id: u32,
     value: i64,
 ) -> (u64, Verdict)
-    requires rows { AreRowsOf net.old rows.now }
-    requires star { Covers (net.old.nodes + 1) net.old.arcs star.now }
-    requires kind { kind_of net.old.demand ≡ Min }
-    requires node { IsNode net.old.nodes id }
+    requires graph { IsGraphFor (graph.old.net.nodes + 1) graph.old }
+    requires kind { kind_of graph.old.net.demand ≡ Min }
+    requires node { IsNode graph.old.net.nodes id }
     requires limit { IsWithin SUPPLY_LIMIT value }
     requires flow_ledger { IsLedger flow.old }
     requires potentials_ledger { IsLedger potentials.old }
     requires cut_ledger { IsLedger cut.old }
-    requires certified { IsCertifiedFlow (reduced net.old) flow.old.entries.items (at_node (drop 1 potentials.old.entries.items)) }
+    requires certified { IsCertifiedFlow (reduced graph.old.net) flow.old.entries.items (at_node (drop 1 potentials.old.entries.items)) }
     requires idle { IsIdleEntry potentials.old.entries.items }
-    requires potentials_in { length potentials.old.entries.items ≡ net.old.nodes + 1 }
-    requires balance { IsBalanceOf net.old rows.now flow.old balance.old }
-    requires cut_in { length cut.old.entries.items ≡ net.old.nodes + 1 }
-    requires scratch { IsScratchFor (net.old.nodes + 1) scratch.old }
-    ensures net { net.new ≡ record net.old { demand = with_supply net.old.demand id value } }
-    ensures rows { AreRowsOf net.new rows.now }
-    ensures star { Covers (net.new.nodes + 1) net.new.arcs star.now }
+    requires potentials_in { length potentials.old.entries.items ≡ graph.old.net.nodes + 1 }
+    requires balance { IsBalanceOf graph.old.net graph.old.rows.items flow.old balance.old }
+    requires cut_in { length cut.old.entries.items ≡ graph.old.net.nodes + 1 }
+    requires scratch { IsScratchFor (graph.old.net.nodes + 1) scratch.old }
+    ensures net { graph.new.net ≡ record graph.old.net { demand = with_supply graph.old.net.demand id value } }
+    ensures graph { IsGraphFor (graph.new.net.nodes + 1) graph.new }
+    ensures rows { graph.new.rows ≡ graph.old.rows }
     ensures flow_written { IsWritten flow.old flow.new }
     ensures potentials_written { IsWritten potentials.old potentials.new }
     ensures cut_written { IsWritten cut.old cut.new }
-    ensures balance { IsBalanceOf net.new rows.now flow.new balance.new }
+    ensures balance { IsBalanceOf graph.new.net graph.new.rows.items flow.new balance.new }
     ensures idle { IsIdleEntry potentials.new.entries.items }
-    ensures scratch { IsScratchFor (net.new.nodes + 1) scratch.new }
-    ensures certified { IsCertifiedFlow (reduced net.new) flow.new.entries.items (at_node (drop 1 potentials.new.entries.items)) }
-    ensures verdict { IsVerdict result.1 net.new flow.new.entries.items (is_marked (drop 1 cut.new.entries.items)) }
-    ensures changed { IsSupplyChanged net.old net.new id value flow.old.entries.items flow.new.entries.items result.0 }
-    ensures greatest { AreGreatestPotentials (reduced net.new) flow.new.entries.items (at_node (drop 1 potentials.new.entries.items)) }
-    ensures chosen { IsChosenCut result.1 (reduced net.new) (is_marked (drop 1 cut.new.entries.items)) }
+    ensures scratch { IsScratchFor (graph.new.net.nodes + 1) scratch.new }
+    ensures certified { IsCertifiedFlow (reduced graph.new.net) flow.new.entries.items (at_node (drop 1 potentials.new.entries.items)) }
+    ensures verdict { IsVerdict result.1 graph.new.net flow.new.entries.items (is_marked (drop 1 cut.new.entries.items)) }
+    ensures changed { IsSupplyChanged graph.old.net graph.new.net id value flow.old.entries.items flow.new.entries.items result.0 }
+    ensures greatest { AreGreatestPotentials (reduced graph.new.net) flow.new.entries.items (at_node (drop 1 potentials.new.entries.items)) }
+    ensures chosen { IsChosenCut result.1 (reduced graph.new.net) (is_marked (drop 1 cut.new.entries.items)) }
 {
-    add_difference(&mut balance.excess, id as usize, supply_at(net, id), value);
-    net.set_supply(id, value);
-    solve(net, star, rows, flow, potentials, balance, scratch, cut)
+    add_difference(
+        &mut balance.excess,
+        id as usize,
+        supply_at(&graph.net, id),
+        value,
+    );
+    graph.net.set_supply(id, value);
+    solve(graph, flow, potentials, balance, scratch, cut)
 }
 
 /// Exchanges the bounds and the cost of the arc with this number, counted from 1.

@@ -5,19 +5,20 @@ ghost use Rattle.flow_solver.specs.Limits.{entry_limit, potential_floor};
 ghost use Rattle.flow_solver.specs.Residual.{ArePotentials, IsCertified, number_at};
 ghost use Rattle.flow_solver.specs.Search.{IsSearch, AllRelaxed, IsFromAll, NoneOpen, mark_at, root_visit, settled_visit};
 ghost use Rattle.flow_solver.specs.Labels.{AreInOrder, IsLabelsFor, IsForest, IsHop, IsThrough, Stands, Opens, IsNoDearer, IsShortest, IsEndNoDearer, NothingOpen, IsEntered};
+ghost use Rattle.flow_solver.specs.Graph.{IsGraphFor};
 ghost use Rattle.flow_solver.specs.Queue.{IsQueueOf, IsQueueFor};
-ghost use Rattle.flow_solver.specs.Star.{AllNameOther, AllSpokes, Covers, NamesOther};
+ghost use Rattle.flow_solver.specs.Star.{AllNameOther, AllSpokes, NamesOther};
 ghost use Rattle.flow_solver.specs.Walk.{AllAdded, AllEnds, AreRowsOf};
 ghost use Rattle.flow_solver.specs.declared.residual.Way.{Way};
 ghost use Rattle.flow_solver.specs.declared.visit.Mark.TheVariants.{Unreached, Open};
 
+use crate::graph::Graph;
 use crate::queue::Queue;
 use crate::residual::Way;
 use crate::search::{key_through, settle_node};
-use crate::star::{Spoke, Star};
+use crate::star::Spoke;
 use crate::visit::{Mark, Visit};
 use dimacs_text::ArcRow;
-use network::Network;
 use std::alloc::{AllocError, Global};
 
 /// How the last pass reached each node, and the nodes in the order in which it settled them. Both are hints, which are
@@ -118,26 +119,26 @@ fn visit_through(
 /// How the node was reached, where it is still reached so: as a root whose potential is 0, or by a residual arc of
 /// reduced cost 0 from a node that is kept.
 fn standing(
-    rows: &[ArcRow],
+    graph: &Graph,
     flow: &[i64],
     potentials: &[i64],
     visits: &[Visit],
     v: usize,
 ) -> Option<Visit>
-    requires certified { IsCertified rows.now flow.now potentials.now }
-    requires forest { IsForest rows.now flow.now potentials.now visits.now }
+    requires certified { IsCertified graph.now.rows.items flow.now potentials.now }
+    requires forest { IsForest graph.now.rows.items flow.now potentials.now visits.now }
     requires v_in { v < length visits.now }
-    ensures { IfSome result (Stands rows.now flow.now potentials.now visits.now v) }
+    ensures { IfSome result (Stands graph.now.rows.items flow.now potentials.now visits.now v) }
 {
     if potentials[v] == 0 {
         return Some(settled(root(potentials, v)));
     }
     let hint = visits[v];
     let k = hint.arc as usize;
-    if k >= rows.len() {
+    if k >= graph.rows.len() {
         return None;
     }
-    match visit_through(rows, flow, potentials, visits, v, k, hint.way) {
+    match visit_through(&graph.rows, flow, potentials, visits, v, k, hint.way) {
         Some(visit) if visit.key == 0 => Some(settled(visit)),
         _ => None,
     }
@@ -145,16 +146,16 @@ fn standing(
 
 /// Settles the node where it stands, and tells whether it does.
 fn keep_node(
-    rows: &[ArcRow],
+    graph: &Graph,
     flow: &[i64],
     potentials: &[i64],
     visits: &mut [Visit],
     v: usize,
 ) -> bool
-    requires certified { IsCertified rows.now flow.now potentials.now }
-    requires forest { IsForest rows.now flow.now potentials.now visits.old }
+    requires certified { IsCertified graph.now.rows.items flow.now potentials.now }
+    requires forest { IsForest graph.now.rows.items flow.now potentials.now visits.old }
     requires closed { NothingOpen visits.old }
-    ensures forest { IsForest rows.now flow.now potentials.now visits.new }
+    ensures forest { IsForest graph.now.rows.items flow.now potentials.now visits.new }
     ensures closed { NothingOpen visits.new }
 {
     if v >= visits.len() {
@@ -163,7 +164,7 @@ fn keep_node(
     if visits[v].is_settled() {
         return false;
     }
-    match standing(rows, flow, potentials, visits, v) {
+    match standing(graph, flow, potentials, visits, v) {
         Some(visit) => {
             visits[v] = visit;
             true
@@ -175,23 +176,23 @@ fn keep_node(
 /// Settles each node that stands, after the node before it on its path; moves these nodes to the front of `order`, and
 /// gives their number.
 fn keep(
-    rows: &[ArcRow],
+    graph: &Graph,
     flow: &[i64],
     potentials: &[i64],
     visits: &mut [Visit],
     order: &mut [u32],
 ) -> usize
-    requires certified { IsCertified rows.now flow.now potentials.now }
-    requires forest { IsForest rows.now flow.now potentials.now visits.old }
+    requires certified { IsCertified graph.now.rows.items flow.now potentials.now }
+    requires forest { IsForest graph.now.rows.items flow.now potentials.now visits.old }
     requires closed { NothingOpen visits.old }
-    ensures forest { IsForest rows.now flow.now potentials.now visits.new }
+    ensures forest { IsForest graph.now.rows.items flow.now potentials.now visits.new }
     ensures closed { NothingOpen visits.new }
     ensures count { result ≤ length order.new }
 {
     let mut kept = 0;
     for i in 0..order.len() {
         let v = order[i];
-        if keep_node(rows, flow, potentials, visits, v as usize) {
+        if keep_node(graph, flow, potentials, visits, v as usize) {
             order[kept] = v;
             kept += 1;
         }
@@ -201,7 +202,7 @@ fn keep(
 
 /// The nearer of `best` and of the visit along arc `k` in this way, where that is a residual arc from a settled node.
 fn nearer(
-    rows: &[ArcRow],
+    graph: &Graph,
     flow: &[i64],
     potentials: &[i64],
     visits: &[Visit],
@@ -210,15 +211,15 @@ fn nearer(
     way: Way,
     best: Visit,
 ) -> Visit
-    requires certified { IsCertified rows.now flow.now potentials.now }
-    requires forest { IsForest rows.now flow.now potentials.now visits.now }
-    requires arc_in { k < length rows.now }
-    requires opens { Opens rows.now flow.now potentials.now visits.now v best }
-    ensures opens { Opens rows.now flow.now potentials.now visits.now v result }
+    requires certified { IsCertified graph.now.rows.items flow.now potentials.now }
+    requires forest { IsForest graph.now.rows.items flow.now potentials.now visits.now }
+    requires arc_in { k < length graph.now.rows.items }
+    requires opens { Opens graph.now.rows.items flow.now potentials.now visits.now v best }
+    ensures opens { Opens graph.now.rows.items flow.now potentials.now visits.now v result }
     ensures falls { result.key ≤ℤ best.key }
-    ensures no_dearer { IsNoDearer rows.now flow.now potentials.now visits.now v result k way }
+    ensures no_dearer { IsNoDearer graph.now.rows.items flow.now potentials.now visits.now v result k way }
 {
-    match visit_through(rows, flow, potentials, visits, v, k, way) {
+    match visit_through(&graph.rows, flow, potentials, visits, v, k, way) {
         Some(visit) if visit.key < best.key => visit,
         _ => best,
     }
@@ -226,98 +227,112 @@ fn nearer(
 
 /// The nearest of `best` and of the visits along the return arc, which stands in the rows before the arcs of the network.
 fn by_return(
-    rows: &[ArcRow],
+    graph: &Graph,
     flow: &[i64],
     potentials: &[i64],
     visits: &[Visit],
     v: usize,
-    row: usize,
+    first_row: usize,
     best: Visit,
 ) -> Visit
-    requires certified { IsCertified rows.now flow.now potentials.now }
-    requires forest { IsForest rows.now flow.now potentials.now visits.now }
-    requires row { row ≤ length rows.now }
-    requires opens { Opens rows.now flow.now potentials.now visits.now v best }
-    ensures opens { Opens rows.now flow.now potentials.now visits.now v result }
-    ensures no_dearer { 0 < row → (way : Way) → IsNoDearer rows.now flow.now potentials.now visits.now v result 0 way }
+    requires certified { IsCertified graph.now.rows.items flow.now potentials.now }
+    requires forest { IsForest graph.now.rows.items flow.now potentials.now visits.now }
+    requires first_row { first_row ≤ length graph.now.rows.items }
+    requires opens { Opens graph.now.rows.items flow.now potentials.now visits.now v best }
+    ensures opens { Opens graph.now.rows.items flow.now potentials.now visits.now v result }
+    ensures no_dearer { 0 < first_row → (way : Way) → IsNoDearer graph.now.rows.items flow.now potentials.now visits.now v result 0 way }
 {
-    if row == 0 {
+    if first_row == 0 {
         return best;
     }
-    let forward = nearer(rows, flow, potentials, visits, v, 0, Way::Forward, best);
-    nearer(rows, flow, potentials, visits, v, 0, Way::Backward, forward)
+    let forward = nearer(graph, flow, potentials, visits, v, 0, Way::Forward, best);
+    nearer(
+        graph,
+        flow,
+        potentials,
+        visits,
+        v,
+        0,
+        Way::Backward,
+        forward,
+    )
 }
 
 /// The nearest of `first` and of the visits along the arcs of the network which the star does not cover. The network
-/// lists these first. Its first arc has row `row`.
+/// lists these first. Its first arc has row `first_row`.
 fn by_added(
-    net: &Network,
-    star: &Star,
-    rows: &[ArcRow],
+    graph: &Graph,
     flow: &[i64],
     potentials: &[i64],
     visits: &[Visit],
     v: usize,
-    row: usize,
+    first_row: usize,
     first: Visit,
 ) -> Visit
-    requires net { AreRowsOf net.now rows.now }
-    requires split { row + length net.now.arcs ≡ length rows.now }
-    requires certified { IsCertified rows.now flow.now potentials.now }
-    requires forest { IsForest rows.now flow.now potentials.now visits.now }
+    requires net { AreRowsOf graph.now.net graph.now.rows.items }
+    requires split { first_row + length graph.now.net.arcs ≡ length graph.now.rows.items }
+    requires certified { IsCertified graph.now.rows.items flow.now potentials.now }
+    requires forest { IsForest graph.now.rows.items flow.now potentials.now visits.now }
     requires v_in { v < length visits.now }
-    requires opens { Opens rows.now flow.now potentials.now visits.now v first }
-    ensures opens { Opens rows.now flow.now potentials.now visits.now v result }
+    requires opens { Opens graph.now.rows.items flow.now potentials.now visits.now v first }
+    ensures opens { Opens graph.now.rows.items flow.now potentials.now visits.now v result }
     ensures falls { result.key ≤ℤ first.key }
-    ensures no_dearer { AllAdded net.now.arcs v star.now.arcs (IsEndNoDearer rows.now flow.now potentials.now visits.now v result row) }
+    ensures no_dearer { AllAdded graph.now.net.arcs v graph.now.star.arcs (IsEndNoDearer graph.now.rows.items flow.now potentials.now visits.now v result first_row) }
 {
     let mut best = first;
-    let mut current = net.first_end(v as u32);
+    let mut current = graph.net.first_end(v as u32);
     while let Some(end) = current {
-        if end / 2 < star.arcs {
+        if end / 2 < graph.star.arcs {
             return best;
         }
         // Read before the arc is looked at, so that the walk does not wait for the tests there.
-        let next = net.next_end(end);
-        let k = end as usize / 2 + row;
-        best = nearer(rows, flow, potentials, visits, v, k, Way::to_end(end), best);
+        let next = graph.net.next_end(end);
+        let k = end as usize / 2 + first_row;
+        best = nearer(
+            graph,
+            flow,
+            potentials,
+            visits,
+            v,
+            k,
+            Way::to_end(end),
+            best,
+        );
         current = next;
     }
     best
 }
 
-/// The nearer of `best` and of the visit along the residual arc to an end of an arc, where the arc is one of the first
-/// ones, so many.
+/// The nearer of `best` and of the visit along the residual arc to an end of an arc, where the star covers the arc.
 fn by_spoke(
+    graph: &Graph,
     spoke: Spoke,
-    arcs: u32,
-    rows: &[ArcRow],
     flow: &[i64],
     potentials: &[i64],
     visits: &[Visit],
     v: usize,
-    row: usize,
+    first_row: usize,
     best: Visit,
 ) -> Visit
-    requires few { row + arcs ≤ length rows.now }
-    requires named { spoke.end / 2 < arcs → NamesOther rows.now row spoke }
-    requires certified { IsCertified rows.now flow.now potentials.now }
-    requires forest { IsForest rows.now flow.now potentials.now visits.now }
-    requires opens { Opens rows.now flow.now potentials.now visits.now v best }
-    ensures opens { Opens rows.now flow.now potentials.now visits.now v result }
+    requires few { first_row + graph.now.star.arcs ≤ length graph.now.rows.items }
+    requires named { spoke.end / 2 < graph.now.star.arcs → NamesOther graph.now.rows.items first_row spoke }
+    requires certified { IsCertified graph.now.rows.items flow.now potentials.now }
+    requires forest { IsForest graph.now.rows.items flow.now potentials.now visits.now }
+    requires opens { Opens graph.now.rows.items flow.now potentials.now visits.now v best }
+    ensures opens { Opens graph.now.rows.items flow.now potentials.now visits.now v result }
     ensures falls { result.key ≤ℤ best.key }
-    ensures no_dearer { spoke.end / 2 < arcs → IsEndNoDearer rows.now flow.now potentials.now visits.now v result row spoke.end }
+    ensures no_dearer { spoke.end / 2 < graph.now.star.arcs → IsEndNoDearer graph.now.rows.items flow.now potentials.now visits.now v result first_row spoke.end }
 {
-    if spoke.end / 2 >= arcs {
+    if spoke.end / 2 >= graph.star.arcs {
         return best;
     }
     // No path goes on from a node that is not settled: neither the arc nor its flow is read.
     if !visits[spoke.other as usize].is_settled() {
         return best;
     }
-    let k = spoke.end as usize / 2 + row;
+    let k = spoke.end as usize / 2 + first_row;
     nearer(
-        rows,
+        graph,
         flow,
         potentials,
         visits,
@@ -328,143 +343,124 @@ fn by_spoke(
     )
 }
 
-/// The nearest of `first` and of the visits along the residual arcs to these ends, where the arc is one of the first
-/// ones, so many.
+/// The nearest of `first` and of the visits along the residual arcs to these ends, of arcs which the star covers.
 fn by_spokes(
+    graph: &Graph,
     spokes: &[Spoke],
-    arcs: u32,
-    rows: &[ArcRow],
     flow: &[i64],
     potentials: &[i64],
     visits: &[Visit],
     v: usize,
-    row: usize,
+    first_row: usize,
     first: Visit,
 ) -> Visit
-    requires few { row + arcs ≤ length rows.now }
-    requires named { AllNameOther rows.now row arcs spokes.now }
-    requires certified { IsCertified rows.now flow.now potentials.now }
-    requires forest { IsForest rows.now flow.now potentials.now visits.now }
-    requires opens { Opens rows.now flow.now potentials.now visits.now v first }
-    ensures opens { Opens rows.now flow.now potentials.now visits.now v result }
+    requires few { first_row + graph.now.star.arcs ≤ length graph.now.rows.items }
+    requires named { AllNameOther graph.now.rows.items first_row graph.now.star.arcs spokes.now }
+    requires certified { IsCertified graph.now.rows.items flow.now potentials.now }
+    requires forest { IsForest graph.now.rows.items flow.now potentials.now visits.now }
+    requires opens { Opens graph.now.rows.items flow.now potentials.now visits.now v first }
+    ensures opens { Opens graph.now.rows.items flow.now potentials.now visits.now v result }
     ensures falls { result.key ≤ℤ first.key }
-    ensures no_dearer { AllSpokes arcs spokes.now (length spokes.now) (IsEndNoDearer rows.now flow.now potentials.now visits.now v result row) }
+    ensures no_dearer { AllSpokes graph.now.star.arcs spokes.now (length spokes.now) (IsEndNoDearer graph.now.rows.items flow.now potentials.now visits.now v result first_row) }
 {
     let mut best = first;
     for spoke in spokes {
-        best = by_spoke(*spoke, arcs, rows, flow, potentials, visits, v, row, best);
+        best = by_spoke(graph, *spoke, flow, potentials, visits, v, first_row, best);
     }
     best
 }
 
-/// The nearest of `first` and of the visits along the arcs of the network, the first of which has row `row`.
+/// The nearest of `first` and of the visits along the arcs of the network, the first of which has row `first_row`.
 fn by_ends(
-    net: &Network,
-    star: &Star,
-    rows: &[ArcRow],
+    graph: &Graph,
     flow: &[i64],
     potentials: &[i64],
     visits: &[Visit],
     v: usize,
-    row: usize,
+    first_row: usize,
     first: Visit,
 ) -> Visit
-    requires net { AreRowsOf net.now rows.now }
-    requires star { Covers (length potentials.now) net.now.arcs star.now }
-    requires split { row + length net.now.arcs ≡ length rows.now }
-    requires certified { IsCertified rows.now flow.now potentials.now }
-    requires forest { IsForest rows.now flow.now potentials.now visits.now }
+    requires graph { IsGraphFor (length potentials.now) graph.now }
+    requires split { first_row + length graph.now.net.arcs ≡ length graph.now.rows.items }
+    requires certified { IsCertified graph.now.rows.items flow.now potentials.now }
+    requires forest { IsForest graph.now.rows.items flow.now potentials.now visits.now }
     requires v_in { v < length visits.now }
-    requires opens { Opens rows.now flow.now potentials.now visits.now v first }
-    ensures opens { Opens rows.now flow.now potentials.now visits.now v result }
+    requires opens { Opens graph.now.rows.items flow.now potentials.now visits.now v first }
+    ensures opens { Opens graph.now.rows.items flow.now potentials.now visits.now v result }
     ensures falls { result.key ≤ℤ first.key }
-    ensures no_dearer { AllEnds net.now.arcs v (IsEndNoDearer rows.now flow.now potentials.now visits.now v result row) }
+    ensures no_dearer { AllEnds graph.now.net.arcs v (IsEndNoDearer graph.now.rows.items flow.now potentials.now visits.now v result first_row) }
 {
-    let added = by_added(net, star, rows, flow, potentials, visits, v, row, first);
+    let added = by_added(graph, flow, potentials, visits, v, first_row, first);
     by_spokes(
-        star.spokes_of(v),
-        star.arcs,
-        rows,
+        graph,
+        graph.star.spokes_of(v),
         flow,
         potentials,
         visits,
         v,
-        row,
+        first_row,
         added,
     )
 }
 
 /// The nearest visit to the node: as a root, or by a residual arc from a settled node.
-fn nearest(
-    net: &Network,
-    star: &Star,
-    rows: &[ArcRow],
-    flow: &[i64],
-    potentials: &[i64],
-    visits: &[Visit],
-    v: usize,
-) -> Visit
-    requires net { AreRowsOf net.now rows.now }
-    requires star { Covers (length potentials.now) net.now.arcs star.now }
-    requires certified { IsCertified rows.now flow.now potentials.now }
-    requires forest { IsForest rows.now flow.now potentials.now visits.now }
+fn nearest(graph: &Graph, flow: &[i64], potentials: &[i64], visits: &[Visit], v: usize) -> Visit
+    requires graph { IsGraphFor (length potentials.now) graph.now }
+    requires certified { IsCertified graph.now.rows.items flow.now potentials.now }
+    requires forest { IsForest graph.now.rows.items flow.now potentials.now visits.now }
     requires v_in { v < length visits.now }
-    ensures opens { Opens rows.now flow.now potentials.now visits.now v result }
-    ensures nearest { IsShortest rows.now flow.now potentials.now visits.now v result }
+    ensures opens { Opens graph.now.rows.items flow.now potentials.now visits.now v result }
+    ensures nearest { IsShortest graph.now.rows.items flow.now potentials.now visits.now v result }
 {
-    let row = rows.len() - net.arcs() as usize;
-    let first = by_return(rows, flow, potentials, visits, v, row, root(potentials, v));
-    by_ends(net, star, rows, flow, potentials, visits, v, row, first)
+    let first_row = graph.first_row();
+    let first = by_return(
+        graph,
+        flow,
+        potentials,
+        visits,
+        v,
+        first_row,
+        root(potentials, v),
+    );
+    by_ends(graph, flow, potentials, visits, v, first_row, first)
 }
 
 /// Opens the node, where it is not settled.
 fn enter_node(
-    net: &Network,
-    star: &Star,
-    rows: &[ArcRow],
+    graph: &Graph,
     flow: &[i64],
     potentials: &[i64],
     visits: &mut [Visit],
     queue: &mut Queue,
     v: usize,
 )
-    requires net { AreRowsOf net.now rows.now }
-    requires star { Covers (length potentials.now) net.now.arcs star.now }
-    requires certified { IsCertified rows.now flow.now potentials.now }
-    requires entered { IsEntered rows.now flow.now potentials.now visits.old v }
+    requires graph { IsGraphFor (length potentials.now) graph.now }
+    requires certified { IsCertified graph.now.rows.items flow.now potentials.now }
+    requires entered { IsEntered graph.now.rows.items flow.now potentials.now visits.old v }
     requires v_in { v < length visits.old }
     requires queue { IsQueueOf visits.old queue.old }
-    ensures entered { IsEntered rows.now flow.now potentials.now visits.new (v + 1) }
+    ensures entered { IsEntered graph.now.rows.items flow.now potentials.now visits.new (v + 1) }
     ensures queue { IsQueueOf visits.new queue.new }
 {
     if visits[v].is_settled() {
         return;
     }
-    let visit = nearest(net, star, rows, flow, potentials, visits, v);
+    let visit = nearest(graph, flow, potentials, visits, v);
     queue.improve(visits, v, visit);
 }
 
 /// Opens each node that is not settled.
-fn enter(
-    net: &Network,
-    star: &Star,
-    rows: &[ArcRow],
-    flow: &[i64],
-    potentials: &[i64],
-    visits: &mut [Visit],
-    queue: &mut Queue,
-)
-    requires net { AreRowsOf net.now rows.now }
-    requires star { Covers (length potentials.now) net.now.arcs star.now }
-    requires certified { IsCertified rows.now flow.now potentials.now }
-    requires forest { IsForest rows.now flow.now potentials.now visits.old }
+fn enter(graph: &Graph, flow: &[i64], potentials: &[i64], visits: &mut [Visit], queue: &mut Queue)
+    requires graph { IsGraphFor (length potentials.now) graph.now }
+    requires certified { IsCertified graph.now.rows.items flow.now potentials.now }
+    requires forest { IsForest graph.now.rows.items flow.now potentials.now visits.old }
     requires closed { NothingOpen visits.old }
     requires queue { IsQueueOf visits.old queue.old }
-    ensures entered { IsEntered rows.now flow.now potentials.now visits.new (length visits.new) }
+    ensures entered { IsEntered graph.now.rows.items flow.now potentials.now visits.new (length visits.new) }
     ensures queue { IsQueueOf visits.new queue.new }
 {
     for v in 0..visits.len() {
-        enter_node(net, star, rows, flow, potentials, visits, queue, v);
+        enter_node(graph, flow, potentials, visits, queue, v);
     }
 }
 
@@ -483,9 +479,7 @@ fn note(order: &mut [u32], place: usize, v: usize) -> usize
 
 /// Settles the open nodes, and notes them behind those that were kept.
 fn search_rest(
-    net: &Network,
-    star: &Star,
-    rows: &[ArcRow],
+    graph: &Graph,
     flow: &[i64],
     potentials: &[i64],
     visits: &mut [Visit],
@@ -493,54 +487,48 @@ fn search_rest(
     queue: &mut Queue,
     kept: usize,
 )
-    requires net { AreRowsOf net.now rows.now }
-    requires star { Covers (length potentials.now) net.now.arcs star.now }
-    requires certified { IsCertified rows.now flow.now potentials.now }
-    requires search { IsSearch rows.now flow.now potentials.now visits.old }
-    requires relaxed { AllRelaxed rows.now flow.now potentials.now visits.old }
+    requires graph { IsGraphFor (length potentials.now) graph.now }
+    requires certified { IsCertified graph.now.rows.items flow.now potentials.now }
+    requires search { IsSearch graph.now.rows.items flow.now potentials.now visits.old }
+    requires relaxed { AllRelaxed graph.now.rows.items flow.now potentials.now visits.old }
     requires from_all { IsFromAll potentials.now visits.old }
     requires queue { IsQueueOf visits.old queue.old }
     requires kept { kept ≤ length order.old }
-    ensures search { IsSearch rows.now flow.now potentials.now visits.new }
-    ensures relaxed { AllRelaxed rows.now flow.now potentials.now visits.new }
+    ensures search { IsSearch graph.now.rows.items flow.now potentials.now visits.new }
+    ensures relaxed { AllRelaxed graph.now.rows.items flow.now potentials.now visits.new }
     ensures from_all { IsFromAll potentials.now visits.new }
     ensures done { NoneOpen visits.new (length visits.new) }
     ensures queue { IsQueueOf visits.new queue.new }
 {
     let mut place = kept;
     while let Some(u) = queue.first(visits) {
-        let _settled = settle_node(net, star, rows, flow, potentials, visits, queue);
+        let _settled = settle_node(graph, flow, potentials, visits, queue);
         place = note(order, place, u);
     }
 }
 
 /// Takes the labels of all nodes: keeps those that stand, and searches the others.
 pub fn search_labels(
-    net: &Network,
-    star: &Star,
-    rows: &[ArcRow],
+    graph: &Graph,
     flow: &[i64],
     potentials: &[i64],
     visits: &mut [Visit],
     order: &mut [u32],
     queue: &mut Queue,
 )
-    requires net { AreRowsOf net.now rows.now }
-    requires star { Covers (length potentials.now) net.now.arcs star.now }
-    requires certified { IsCertified rows.now flow.now potentials.now }
+    requires graph { IsGraphFor (length potentials.now) graph.now }
+    requires certified { IsCertified graph.now.rows.items flow.now potentials.now }
     requires visits_in { length visits.old ≡ length potentials.now }
     requires sized { IsQueueFor (length potentials.now) queue.old }
-    ensures search { IsSearch rows.now flow.now potentials.now visits.new }
-    ensures relaxed { AllRelaxed rows.now flow.now potentials.now visits.new }
+    ensures search { IsSearch graph.now.rows.items flow.now potentials.now visits.new }
+    ensures relaxed { AllRelaxed graph.now.rows.items flow.now potentials.now visits.new }
     ensures from_all { IsFromAll potentials.now visits.new }
     ensures done { NoneOpen visits.new (length visits.new) }
     ensures sized { IsQueueFor (length potentials.now) queue.new }
 {
     unmark(visits);
-    let kept = keep(rows, flow, potentials, visits, order);
+    let kept = keep(graph, flow, potentials, visits, order);
     queue.clear(visits);
-    enter(net, star, rows, flow, potentials, visits, queue);
-    search_rest(
-        net, star, rows, flow, potentials, visits, order, queue, kept,
-    );
+    enter(graph, flow, potentials, visits, queue);
+    search_rest(graph, flow, potentials, visits, order, queue, kept);
 }

@@ -1,6 +1,7 @@
 //! A table beside what stood in it before.
 
-ghost use Rattle.std.specs.Prelude.{◌≡◌, ℕ, ◌<◌, ◌≤◌, ◌+◌, ◌++◌, ◌∷◌, [], length, take, slice_index_or, slice_set, IfOk, vec_capacity};
+ghost use Rattle.std.specs.Prelude.{◌≡◌, ℕ, ◌<◌, ◌≤◌, ◌+◌, ◌++◌, ◌∷◌, [], true, false, length, take, slice_index_or, slice_set, IfOk, vec_capacity};
+ghost use Rattle.flow_solver.specs.Cut.{in_set};
 ghost use Rattle.flow_solver.specs.Desk.{NameChanges};
 ghost use Rattle.flow_solver.specs.Limits.{row_limit};
 
@@ -51,6 +52,7 @@ impl<T: Copy> Ledger<T> {
         requires place { place < length self.old.entries.items }
         ensures written { IsWritten self.old self.new }
         ensures entries { self.new.entries.items ≡ slice_set self.old.entries.items place value }
+        ensures noted { self.new.touched ≡ slice_set self.old.touched place true }
     {
         self.entries[place] = value;
         self.touched.note(place);
@@ -62,6 +64,7 @@ impl<T: Copy> Ledger<T> {
         requires place { place < length self.old.entries.items }
         ensures written { IsWritten self.old self.new }
         ensures entries { self.new.entries.items ≡ slice_set self.old.entries.items place value.old }
+        ensures noted { self.new.touched ≡ slice_set self.old.touched place true }
         ensures value { value.new ≡ slice_index_or self.old.entries.items place value.old }
     {
         let before = self.entries[place];
@@ -76,6 +79,7 @@ impl<T: Copy> Ledger<T> {
         ensures entries { self.new.entries.items ≡ self.old.entries.items }
         ensures kept { kept_in self.new ≡ self.old.entries.items }
         ensures whole { self.new.kept.items ≡ self.old.entries.items }
+        ensures cleared { (k : ℕ) → in_set self.new.touched k ≡ false }
         ensures room { length self.new.touched ≡ length self.old.touched }
     {
         catch_up(&mut self.kept, &self.entries, self.touched.places());
@@ -91,6 +95,7 @@ impl<T: Copy> Ledger<T> {
         ensures entries { self.new.entries.items ≡ kept_in self.old }
         ensures kept { kept_in self.new ≡ kept_in self.old }
         ensures whole { self.new.kept ≡ self.old.kept }
+        ensures cleared { (k : ℕ) → in_set self.new.touched k ≡ false }
         ensures room { length self.new.touched ≡ length self.old.touched }
     {
         catch_up(&mut self.entries, &self.kept, self.touched.places());

@@ -7,6 +7,7 @@ mod augment;
 mod balance;
 mod cut;
 mod edit;
+mod graph;
 mod heap;
 mod labels;
 mod ledger;

@@ -2,24 +2,21 @@
 
 ghost use Rattle.std.specs.Prelude.{◌≡◌, ℕ, length, pos, neg_ℤ, ◌≤◌, ◌≤ℤ◌, ◌+ℤ◌, FitsSigned};
 ghost use Rattle.std.specs.Int.{w64};
+ghost use Rattle.flow_solver.specs.Graph.{IsGraphFor};
 ghost use Rattle.flow_solver.specs.Limits.{key_limit, label_floor, potential_floor};
 ghost use Rattle.flow_solver.specs.Residual.{AreGreatest, ArePathsAbove, IsCertified, ArePotentials, number_at};
 ghost use Rattle.flow_solver.specs.Search.{key_at, AreLabels, IsReach, lowered, IsLowered};
 ghost use Rattle.flow_solver.specs.Labels.{IsLabelsFor};
 ghost use Rattle.flow_solver.specs.Queue.{IsQueueFor};
-ghost use Rattle.flow_solver.specs.Star.{Covers};
-ghost use Rattle.flow_solver.specs.Walk.{AreRowsOf};
 ghost use Rattle.flow_solver.specs.Touched.{AreNoted};
 ghost use Rattle.flow_solver.specs.Trail.{IsTrailOf};
 
+use crate::graph::Graph;
 use crate::labels::{Labels, search_labels};
 use crate::queue::Queue;
-use crate::star::Star;
 use crate::touched::Touched;
 use crate::trail::Trail;
 use crate::visit::Visit;
-use dimacs_text::ArcRow;
-use network::Network;
 
 /// Makes each label a potential.
 fn take_labels(potentials: &mut [i64], touched: &mut Touched, visits: &[Visit])
@@ -40,9 +37,7 @@ fn take_labels(potentials: &mut [i64], touched: &mut Touched, visits: &[Visit])
 
 /// Raises the potentials to the shortest labels, the greatest that certify the flow.
 pub fn raise(
-    net: &Network,
-    star: &Star,
-    rows: &[ArcRow],
+    graph: &Graph,
     flow: &[i64],
     potentials: &mut [i64],
     touched: &mut Touched,
@@ -50,23 +45,20 @@ pub fn raise(
     queue: &mut Queue,
 )
     requires touched_in { length potentials.old ≤ length touched.old }
-    requires net { AreRowsOf net.now rows.now }
-    requires star { Covers (length potentials.old) net.now.arcs star.now }
-    requires certified { IsCertified rows.now flow.now potentials.old }
+    requires graph { IsGraphFor (length potentials.old) graph.now }
+    requires certified { IsCertified graph.now.rows.items flow.now potentials.old }
     requires labels { IsLabelsFor (length potentials.old) labels.old }
     requires sized { IsQueueFor (length potentials.old) queue.old }
     ensures noted { AreNoted touched.old potentials.old touched.new potentials.new }
-    ensures certified { IsCertified rows.now flow.now potentials.new }
+    ensures certified { IsCertified graph.now.rows.items flow.now potentials.new }
     ensures within { ArePotentials (length potentials.old) label_floor potentials.new }
-    ensures greatest { AreGreatest rows.now flow.now potentials.new }
-    ensures above { ArePathsAbove rows.now potentials.new }
+    ensures greatest { AreGreatest graph.now.rows.items flow.now potentials.new }
+    ensures above { ArePathsAbove graph.now.rows.items potentials.new }
     ensures labels { IsLabelsFor (length potentials.old) labels.new }
     ensures sized { IsQueueFor (length potentials.old) queue.new }
 {
     search_labels(
-        net,
-        star,
-        rows,
+        graph,
         flow,
         potentials,
         &mut labels.visits,

@@ -1,7 +1,7 @@
 //! The open nodes of a search, the one of the least key first.
 
 ghost use Rattle.flow_solver.specs.Limits.{entry_limit};
-ghost use Rattle.std.specs.Prelude.{◌≡◌, pos, length, ◌<◌, ◌≤◌, ◌≤ℤ◌, slice_set, MatchOption, IfOk, IfSome, IsTrue, ◌↔◌};
+ghost use Rattle.std.specs.Prelude.{◌≡◌, ℕ, pos, length, ◌<◌, ◌≤◌, ◌≤ℤ◌, slice_index, slice_set, MatchOption, IfOk, IfSome, IsTrue, ◌↔◌};
 ghost use Rattle.flow_solver.specs.Search.{visit_at, key_at, Takes, IsLeastOpen, NoneOpen, settled_visit};
 ghost use Rattle.flow_solver.specs.declared.visit.Mark.TheVariants.{Unreached, Open};
 
@@ -50,7 +50,7 @@ impl Queue {
         matches!(visit.mark, Mark::Unreached) && key == self.present && self.end < self.line.len()
     }
 
-    /// Writes what is known of a node whose path got better. A new node with the present key joins the line.
+    /// Writes what is known of a node whose path got better. A new node with the present key joins the line at its end.
     pub fn improve(&mut self, visits: &mut [Visit], v: usize, visit: Visit)
         requires queue { IsQueueOf visits.old self.old }
         requires few { length visits.old ≤ entry_limit }
@@ -61,6 +61,8 @@ impl Queue {
         ensures visits { visits.new ≡ slice_set visits.old v visit }
         ensures queue { IsQueueOf visits.new self.new }
         ensures present { self.new.present ≡ self.old.present }
+        ensures next { self.new.next ≡ self.old.next }
+        ensures line { (i : ℕ) → i < self.old.end → slice_index self.new.line.items i ≡ slice_index self.old.line.items i }
     {
         if self.takes_in_line(&visits[v], visit.key) {
             visits[v] = visit;

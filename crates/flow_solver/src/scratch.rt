@@ -10,7 +10,7 @@ use crate::visit::Visit;
 use std::alloc::{AllocError, Global};
 
 /// Tables with one entry a node. Between two calls nothing is known of them but their size, and that no node is marked
-/// as reached.
+/// as reached in `visits`. What `labels` holds of the last pass is a hint.
 #[derive(Drop)]
 pub struct Scratch {
     pub visits: Vec<Visit>,

@@ -1,23 +1,25 @@
 //! Shortest paths over reduced costs, from the nodes in excess.
 
-ghost use Rattle.std.specs.Prelude.{◌≡◌, ℕ, pos, ◌≤ℤ◌, ◌+ℤ◌, ◌-ℤ◌, ◌<ℤ◌, ◌<◌, ◌≤◌, IsTrue, ◌↔◌, length, None, MatchOption, ◌+◌, ◌/◌};
+ghost use Rattle.std.specs.Prelude.{◌≡◌, ℕ, pos, ◌≤ℤ◌, ◌+ℤ◌, ◌-ℤ◌, ◌<ℤ◌, ◌<◌, ◌≤◌, IsTrue, ◌↔◌, int_lt, length, None, MatchOption, ◌+◌, ◌/◌};
+ghost use Rattle.std.specs.List.{count_by};
 ghost use Rattle.flow_solver.specs.Limits.{entry_limit, key_limit, potential_floor};
 ghost use Rattle.flow_solver.specs.Residual.{IsRow, IsFlow, IsCertified, ArePotentials, IsResidual, IsResidualFrom, number_at, start_at, start_of, end_of, cost_of};
 ghost use Rattle.flow_solver.specs.Search.{IsSearch, IsLastSettled, Improves, IsRelaxed, IsRelaxedFrom, AllRelaxed, Settles, visit_at, mark_at, key_at, source_visit, IsFromExcess, IsExhausted, HasFound};
+ghost use Rattle.flow_solver.specs.Graph.{IsGraphFor};
 ghost use Rattle.flow_solver.specs.Queue.{IsQueueOf, IsQueueFor, size, first_of};
-ghost use Rattle.flow_solver.specs.Star.{AllNameOther, AreSpokesRelaxed, Covers, IsSpokeRelaxed, NamesOther};
+ghost use Rattle.flow_solver.specs.Star.{AllNameOther, AreSpokesRelaxed, IsSpokeRelaxed, NamesOther};
 ghost use Rattle.flow_solver.specs.Walk.{AreAddedRelaxed, ArePassedRelaxed, AreRowsOf, end_way};
 ghost use Rattle.flow_solver.specs.declared.residual.Way.{Way};
 ghost use Rattle.flow_solver.specs.Trail.{IsFresh, IsTrailFor, IsTrailOf};
 ghost use Rattle.flow_solver.specs.declared.visit.Mark.TheVariants.{Unreached};
 
+use crate::graph::Graph;
 use crate::queue::Queue;
 use crate::residual::Way;
-use crate::star::{Spoke, Star};
+use crate::star::Spoke;
 use crate::trail::Trail;
 use crate::visit::{Mark, Visit};
 use dimacs_text::ArcRow;
-use network::Network;
 
 /// The length of the path to the end of a residual arc by way of its start.
 pub fn key_through(row: &ArcRow, way: Way, potentials: &[i64], visits: &[Visit]) -> i64
@@ -34,12 +36,12 @@ pub fn key_through(row: &ArcRow, way: Way, potentials: &[i64], visits: &[Visit])
 }
 
 /// Whether there is a residual arc from node `u` along arc `k`.
-fn is_residual_from(rows: &[ArcRow], flow: &[i64], u: usize, k: usize, way: Way) -> bool
-    requires flow { (nodes : ℕ) × IsFlow nodes rows.now flow.now }
-    requires arc_in { k < length rows.now }
-    ensures { IsTrue result ↔ IsResidualFrom rows.now flow.now u k way }
+fn is_residual_from(graph: &Graph, flow: &[i64], u: usize, k: usize, way: Way) -> bool
+    requires flow { (nodes : ℕ) × IsFlow nodes graph.now.rows.items flow.now }
+    requires arc_in { k < length graph.now.rows.items }
+    ensures { IsTrue result ↔ IsResidualFrom graph.now.rows.items flow.now u k way }
 {
-    let row = rows[k];
+    let row = graph.rows[k];
     way.start(&row) as usize == u && way.room(&row, flow[k]) > 0
 }
 
@@ -86,7 +88,7 @@ fn relax_residual(
 
 /// Takes arc `k` into account in this way, where it is a residual arc from the node settled last.
 fn relax(
-    rows: &[ArcRow],
+    graph: &Graph,
     flow: &[i64],
     potentials: &[i64],
     visits: &mut [Visit],
@@ -95,24 +97,24 @@ fn relax(
     k: usize,
     way: Way,
 )
-    requires certified { IsCertified rows.now flow.now potentials.now }
-    requires search { IsSearch rows.now flow.now potentials.now visits.old }
+    requires certified { IsCertified graph.now.rows.items flow.now potentials.now }
+    requires search { IsSearch graph.now.rows.items flow.now potentials.now visits.old }
     requires queue { IsQueueOf visits.old queue.old }
     requires last { IsLastSettled visits.old u }
-    requires arc_in { k < length rows.now }
-    ensures search { IsSearch rows.now flow.now potentials.now visits.new }
+    requires arc_in { k < length graph.now.rows.items }
+    ensures search { IsSearch graph.now.rows.items flow.now potentials.now visits.new }
     ensures queue { IsQueueOf visits.new queue.new }
     ensures improves { Improves visits.old visits.new }
-    ensures relaxed { IsResidualFrom rows.now flow.now u k way → IsRelaxed rows.now potentials.now visits.new k way }
+    ensures relaxed { IsResidualFrom graph.now.rows.items flow.now u k way → IsRelaxed graph.now.rows.items potentials.now visits.new k way }
 {
-    if is_residual_from(rows, flow, u, k, way) {
-        relax_residual(rows, flow, potentials, visits, queue, u, k, way);
+    if is_residual_from(graph, flow, u, k, way) {
+        relax_residual(&graph.rows, flow, potentials, visits, queue, u, k, way);
     }
 }
 
 /// Takes arc `k` into account in both ways.
 fn relax_both(
-    rows: &[ArcRow],
+    graph: &Graph,
     flow: &[i64],
     potentials: &[i64],
     visits: &mut [Visit],
@@ -120,79 +122,77 @@ fn relax_both(
     u: usize,
     k: usize,
 )
-    requires certified { IsCertified rows.now flow.now potentials.now }
-    requires search { IsSearch rows.now flow.now potentials.now visits.old }
+    requires certified { IsCertified graph.now.rows.items flow.now potentials.now }
+    requires search { IsSearch graph.now.rows.items flow.now potentials.now visits.old }
     requires queue { IsQueueOf visits.old queue.old }
     requires last { IsLastSettled visits.old u }
-    requires arc_in { k < length rows.now }
-    ensures search { IsSearch rows.now flow.now potentials.now visits.new }
+    requires arc_in { k < length graph.now.rows.items }
+    ensures search { IsSearch graph.now.rows.items flow.now potentials.now visits.new }
     ensures queue { IsQueueOf visits.new queue.new }
     ensures improves { Improves visits.old visits.new }
-    ensures relaxed { (way : Way) → IsResidualFrom rows.now flow.now u k way → IsRelaxed rows.now potentials.now visits.new k way }
+    ensures relaxed { (way : Way) → IsResidualFrom graph.now.rows.items flow.now u k way → IsRelaxed graph.now.rows.items potentials.now visits.new k way }
 {
-    relax(rows, flow, potentials, visits, queue, u, k, Way::Forward);
-    relax(rows, flow, potentials, visits, queue, u, k, Way::Backward);
+    relax(graph, flow, potentials, visits, queue, u, k, Way::Forward);
+    relax(graph, flow, potentials, visits, queue, u, k, Way::Backward);
 }
 
 /// Takes the return arc, which stands in the rows before the arcs of the network, into account in both ways.
 fn relax_return(
-    rows: &[ArcRow],
+    graph: &Graph,
     flow: &[i64],
     potentials: &[i64],
     visits: &mut [Visit],
     queue: &mut Queue,
     u: usize,
-    row: usize,
+    first_row: usize,
 )
-    requires certified { IsCertified rows.now flow.now potentials.now }
-    requires search { IsSearch rows.now flow.now potentials.now visits.old }
+    requires certified { IsCertified graph.now.rows.items flow.now potentials.now }
+    requires search { IsSearch graph.now.rows.items flow.now potentials.now visits.old }
     requires queue { IsQueueOf visits.old queue.old }
     requires last { IsLastSettled visits.old u }
-    requires row { row ≤ length rows.now }
-    ensures search { IsSearch rows.now flow.now potentials.now visits.new }
+    requires first_row { first_row ≤ length graph.now.rows.items }
+    ensures search { IsSearch graph.now.rows.items flow.now potentials.now visits.new }
     ensures queue { IsQueueOf visits.new queue.new }
     ensures improves { Improves visits.old visits.new }
-    ensures relaxed { 0 < row → (way : Way) → IsResidualFrom rows.now flow.now u 0 way → IsRelaxed rows.now potentials.now visits.new 0 way }
+    ensures relaxed { 0 < first_row → (way : Way) → IsResidualFrom graph.now.rows.items flow.now u 0 way → IsRelaxed graph.now.rows.items potentials.now visits.new 0 way }
 {
-    if row > 0 {
-        relax_both(rows, flow, potentials, visits, queue, u, 0);
+    if first_row > 0 {
+        relax_both(graph, flow, potentials, visits, queue, u, 0);
     }
 }
 
 /// Takes each residual arc from the node settled last into account that goes along an arc of the network which the star
-/// does not cover. The network lists these first. Its first arc has row `row`.
+/// does not cover. The network lists these first. Its first arc has row `first_row`.
 fn relax_added(
-    net: &Network,
-    star: &Star,
-    rows: &[ArcRow],
+    graph: &Graph,
     flow: &[i64],
     potentials: &[i64],
     visits: &mut [Visit],
     queue: &mut Queue,
     u: usize,
-    row: usize,
+    first_row: usize,
 )
-    requires net { AreRowsOf net.now rows.now }
-    requires split { row + length net.now.arcs ≡ length rows.now }
-    requires certified { IsCertified rows.now flow.now potentials.now }
-    requires search { IsSearch rows.now flow.now potentials.now visits.old }
+    requires net { AreRowsOf graph.now.net graph.now.rows.items }
+    requires split { first_row + length graph.now.net.arcs ≡ length graph.now.rows.items }
+    requires certified { IsCertified graph.now.rows.items flow.now potentials.now }
+    requires search { IsSearch graph.now.rows.items flow.now potentials.now visits.old }
     requires queue { IsQueueOf visits.old queue.old }
     requires last { IsLastSettled visits.old u }
-    ensures search { IsSearch rows.now flow.now potentials.now visits.new }
+    ensures search { IsSearch graph.now.rows.items flow.now potentials.now visits.new }
     ensures queue { IsQueueOf visits.new queue.new }
     ensures improves { Improves visits.old visits.new }
-    ensures relaxed { AreAddedRelaxed rows.now flow.now potentials.now visits.new u net.now.arcs row star.now.arcs }
+    ensures relaxed { AreAddedRelaxed graph.now.rows.items flow.now potentials.now visits.new u graph.now.net.arcs first_row graph.now.star.arcs }
 {
-    let mut current = net.first_end(u as u32);
+    let mut current = graph.net.first_end(u as u32);
     while let Some(end) = current {
-        if end / 2 < star.arcs {
+        if end / 2 < graph.star.arcs {
             return;
         }
         // Read before the arc is looked at, so that the walk does not wait for the tests there.
-        let next = net.next_end(end);
-        let k = end as usize / 2 + row;
+        let next = graph.net.next_end(end);
+        let k = end as usize / 2 + first_row;
         relax(
-            rows,
+            graph,
             flow,
             potentials,
             visits,
@@ -205,40 +205,39 @@ fn relax_added(
     }
 }
 
-/// Takes the residual arc from an end of an arc into account, where the arc is one of the first ones, so many, and this is
-/// a residual arc from the node settled last.
+/// Takes the residual arc from an end of an arc into account, where the star covers the arc and this is a residual arc from
+/// the node settled last. The first arc of the network has row `first_row`.
 fn relax_spoke(
+    graph: &Graph,
     spoke: Spoke,
-    arcs: u32,
-    rows: &[ArcRow],
     flow: &[i64],
     potentials: &[i64],
     visits: &mut [Visit],
     queue: &mut Queue,
     u: usize,
-    row: usize,
+    first_row: usize,
 )
-    requires few { row + arcs ≤ length rows.now }
-    requires named { spoke.end / 2 < arcs → NamesOther rows.now row spoke }
-    requires certified { IsCertified rows.now flow.now potentials.now }
-    requires search { IsSearch rows.now flow.now potentials.now visits.old }
+    requires few { first_row + graph.now.star.arcs ≤ length graph.now.rows.items }
+    requires named { spoke.end / 2 < graph.now.star.arcs → NamesOther graph.now.rows.items first_row spoke }
+    requires certified { IsCertified graph.now.rows.items flow.now potentials.now }
+    requires search { IsSearch graph.now.rows.items flow.now potentials.now visits.old }
     requires queue { IsQueueOf visits.old queue.old }
     requires last { IsLastSettled visits.old u }
-    ensures search { IsSearch rows.now flow.now potentials.now visits.new }
+    ensures search { IsSearch graph.now.rows.items flow.now potentials.now visits.new }
     ensures queue { IsQueueOf visits.new queue.new }
     ensures improves { Improves visits.old visits.new }
-    ensures relaxed { spoke.end / 2 < arcs → IsSpokeRelaxed rows.now flow.now potentials.now visits.new u row spoke }
+    ensures relaxed { spoke.end / 2 < graph.now.star.arcs → IsSpokeRelaxed graph.now.rows.items flow.now potentials.now visits.new u first_row spoke }
 {
-    if spoke.end / 2 >= arcs {
+    if spoke.end / 2 >= graph.star.arcs {
         return;
     }
     // No path to a settled node gets better: neither the arc nor its flow is read.
     if visits[spoke.other as usize].is_settled() {
         return;
     }
-    let k = spoke.end as usize / 2 + row;
+    let k = spoke.end as usize / 2 + first_row;
     relax(
-        rows,
+        graph,
         flow,
         potentials,
         visits,
@@ -249,126 +248,115 @@ fn relax_spoke(
     );
 }
 
-/// Takes each residual arc from the node settled last into account that goes along one of the first arcs, so many, and
-/// from one of these ends.
+/// Takes each residual arc from the node settled last into account that goes along an arc which the star covers, and from
+/// one of these ends.
 fn relax_spokes(
+    graph: &Graph,
     spokes: &[Spoke],
-    arcs: u32,
-    rows: &[ArcRow],
     flow: &[i64],
     potentials: &[i64],
     visits: &mut [Visit],
     queue: &mut Queue,
     u: usize,
-    row: usize,
+    first_row: usize,
 )
-    requires few { row + arcs ≤ length rows.now }
-    requires named { AllNameOther rows.now row arcs spokes.now }
-    requires certified { IsCertified rows.now flow.now potentials.now }
-    requires search { IsSearch rows.now flow.now potentials.now visits.old }
+    requires few { first_row + graph.now.star.arcs ≤ length graph.now.rows.items }
+    requires named { AllNameOther graph.now.rows.items first_row graph.now.star.arcs spokes.now }
+    requires certified { IsCertified graph.now.rows.items flow.now potentials.now }
+    requires search { IsSearch graph.now.rows.items flow.now potentials.now visits.old }
     requires queue { IsQueueOf visits.old queue.old }
     requires last { IsLastSettled visits.old u }
-    ensures search { IsSearch rows.now flow.now potentials.now visits.new }
+    ensures search { IsSearch graph.now.rows.items flow.now potentials.now visits.new }
     ensures queue { IsQueueOf visits.new queue.new }
     ensures improves { Improves visits.old visits.new }
-    ensures relaxed { AreSpokesRelaxed rows.now flow.now potentials.now visits.new u row arcs spokes.now (length spokes.now) }
+    ensures relaxed { AreSpokesRelaxed graph.now.rows.items flow.now potentials.now visits.new u first_row graph.now.star.arcs spokes.now (length spokes.now) }
 {
     for spoke in spokes {
-        relax_spoke(*spoke, arcs, rows, flow, potentials, visits, queue, u, row);
+        relax_spoke(graph, *spoke, flow, potentials, visits, queue, u, first_row);
     }
 }
 
 /// Takes each residual arc from the node settled last into account that goes along an arc of the network. The first
-/// of these has row `row`.
+/// of these has row `first_row`.
 fn relax_ends(
-    net: &Network,
-    star: &Star,
-    rows: &[ArcRow],
+    graph: &Graph,
     flow: &[i64],
     potentials: &[i64],
     visits: &mut [Visit],
     queue: &mut Queue,
     u: usize,
-    row: usize,
+    first_row: usize,
 )
-    requires net { AreRowsOf net.now rows.now }
-    requires star { Covers (length potentials.now) net.now.arcs star.now }
-    requires split { row + length net.now.arcs ≡ length rows.now }
-    requires certified { IsCertified rows.now flow.now potentials.now }
-    requires search { IsSearch rows.now flow.now potentials.now visits.old }
+    requires graph { IsGraphFor (length potentials.now) graph.now }
+    requires split { first_row + length graph.now.net.arcs ≡ length graph.now.rows.items }
+    requires certified { IsCertified graph.now.rows.items flow.now potentials.now }
+    requires search { IsSearch graph.now.rows.items flow.now potentials.now visits.old }
     requires queue { IsQueueOf visits.old queue.old }
     requires last { IsLastSettled visits.old u }
-    ensures search { IsSearch rows.now flow.now potentials.now visits.new }
+    ensures search { IsSearch graph.now.rows.items flow.now potentials.now visits.new }
     ensures queue { IsQueueOf visits.new queue.new }
     ensures improves { Improves visits.old visits.new }
-    ensures relaxed { ArePassedRelaxed rows.now flow.now potentials.now visits.new u net.now.arcs row None }
+    ensures relaxed { ArePassedRelaxed graph.now.rows.items flow.now potentials.now visits.new u graph.now.net.arcs first_row None }
 {
-    relax_added(net, star, rows, flow, potentials, visits, queue, u, row);
+    relax_added(graph, flow, potentials, visits, queue, u, first_row);
     relax_spokes(
-        star.spokes_of(u),
-        star.arcs,
-        rows,
+        graph,
+        graph.star.spokes_of(u),
         flow,
         potentials,
         visits,
         queue,
         u,
-        row,
+        first_row,
     );
 }
 
 /// Takes each residual arc from the node settled last into account.
 fn relax_all(
-    net: &Network,
-    star: &Star,
-    rows: &[ArcRow],
+    graph: &Graph,
     flow: &[i64],
     potentials: &[i64],
     visits: &mut [Visit],
     queue: &mut Queue,
     u: usize,
 )
-    requires net { AreRowsOf net.now rows.now }
-    requires star { Covers (length potentials.now) net.now.arcs star.now }
-    requires certified { IsCertified rows.now flow.now potentials.now }
-    requires search { IsSearch rows.now flow.now potentials.now visits.old }
+    requires graph { IsGraphFor (length potentials.now) graph.now }
+    requires certified { IsCertified graph.now.rows.items flow.now potentials.now }
+    requires search { IsSearch graph.now.rows.items flow.now potentials.now visits.old }
     requires queue { IsQueueOf visits.old queue.old }
     requires last { IsLastSettled visits.old u }
-    ensures search { IsSearch rows.now flow.now potentials.now visits.new }
+    ensures search { IsSearch graph.now.rows.items flow.now potentials.now visits.new }
     ensures queue { IsQueueOf visits.new queue.new }
     ensures improves { Improves visits.old visits.new }
-    ensures relaxed { IsRelaxedFrom rows.now flow.now potentials.now visits.new u (length rows.now) }
+    ensures relaxed { IsRelaxedFrom graph.now.rows.items flow.now potentials.now visits.new u (length graph.now.rows.items) }
 {
-    let row = rows.len() - net.arcs() as usize;
-    relax_return(rows, flow, potentials, visits, queue, u, row);
-    relax_ends(net, star, rows, flow, potentials, visits, queue, u, row);
+    let first_row = graph.first_row();
+    relax_return(graph, flow, potentials, visits, queue, u, first_row);
+    relax_ends(graph, flow, potentials, visits, queue, u, first_row);
 }
 
 /// Settles the open node of the least key.
 pub fn settle_node(
-    net: &Network,
-    star: &Star,
-    rows: &[ArcRow],
+    graph: &Graph,
     flow: &[i64],
     potentials: &[i64],
     visits: &mut [Visit],
     queue: &mut Queue,
 ) -> usize
-    requires net { AreRowsOf net.now rows.now }
-    requires star { Covers (length potentials.now) net.now.arcs star.now }
-    requires certified { IsCertified rows.now flow.now potentials.now }
-    requires search { IsSearch rows.now flow.now potentials.now visits.old }
+    requires graph { IsGraphFor (length potentials.now) graph.now }
+    requires certified { IsCertified graph.now.rows.items flow.now potentials.now }
+    requires search { IsSearch graph.now.rows.items flow.now potentials.now visits.old }
     requires queue { IsQueueOf visits.old queue.old }
-    requires relaxed { AllRelaxed rows.now flow.now potentials.now visits.old }
+    requires relaxed { AllRelaxed graph.now.rows.items flow.now potentials.now visits.old }
     requires some { 0 < size queue.old }
-    ensures search { IsSearch rows.now flow.now potentials.now visits.new }
+    ensures search { IsSearch graph.now.rows.items flow.now potentials.now visits.new }
     ensures queue { IsQueueOf visits.new queue.new }
-    ensures relaxed { AllRelaxed rows.now flow.now potentials.now visits.new }
+    ensures relaxed { AllRelaxed graph.now.rows.items flow.now potentials.now visits.new }
     ensures first { first_of queue.old ≡ result }
     ensures settles { Settles visits.old visits.new result }
 {
     let first = queue.settle_first(visits);
-    relax_all(net, star, rows, flow, potentials, visits, queue, first);
+    relax_all(graph, flow, potentials, visits, queue, first);
     first
 }
 
@@ -402,7 +390,7 @@ fn open_sources(excess: &[i64], visits: &mut [Visit], queue: &mut Queue)
 
 /// How many nodes in deficit one search looks for: more than half of them.
 fn wanted_deficits(excess: &[i64]) -> usize
-    ensures { 0 < result }
+    ensures { result ≡ count_by (λ e. int_lt e (pos 0)) excess.now / 2 + 1 }
 {
     excess.iter().filter(|e| **e < 0).count() / 2 + 1
 }
@@ -410,9 +398,7 @@ fn wanted_deficits(excess: &[i64]) -> usize
 /// Searches from the nodes in excess until enough nodes in deficit are settled, or no node is open, and gives how far
 /// the search has come; nothing where no node in deficit can be reached. The trail lists the settled nodes.
 pub fn find_deficits(
-    net: &Network,
-    star: &Star,
-    rows: &[ArcRow],
+    graph: &Graph,
     flow: &[i64],
     potentials: &[i64],
     excess: &[i64],
@@ -420,16 +406,15 @@ pub fn find_deficits(
     queue: &mut Queue,
     trail: &mut Trail,
 ) -> Option<i64>
-    requires net { AreRowsOf net.now rows.now }
-    requires star { Covers (length potentials.now) net.now.arcs star.now }
-    requires certified { IsCertified rows.now flow.now potentials.now }
+    requires graph { IsGraphFor (length potentials.now) graph.now }
+    requires certified { IsCertified graph.now.rows.items flow.now potentials.now }
     requires excess_in { length excess.now ≡ length potentials.now }
     requires visits_in { length visits.old ≡ length potentials.now }
     requires fresh { IsFresh visits.old }
     requires sized { IsQueueFor (length potentials.now) queue.old }
     requires trail_in { IsTrailFor (length potentials.now) trail.old }
-    ensures search { IsSearch rows.now flow.now potentials.now visits.new }
-    ensures relaxed { AllRelaxed rows.now flow.now potentials.now visits.new }
+    ensures search { IsSearch graph.now.rows.items flow.now potentials.now visits.new }
+    ensures relaxed { AllRelaxed graph.now.rows.items flow.now potentials.now visits.new }
     ensures from_excess { IsFromExcess excess.now visits.new }
     ensures found { MatchOption result (IsExhausted excess.now visits.new) (HasFound excess.now visits.new) }
     ensures queue { IsQueueOf visits.new queue.new }
@@ -442,7 +427,7 @@ pub fn find_deficits(
     let mut found = 0;
     let mut reach = 0;
     while let Some(u) = queue.first(visits) {
-        let _settled = settle_node(net, star, rows, flow, potentials, visits, queue);
+        let _settled = settle_node(graph, flow, potentials, visits, queue);
         trail.note(u);
         reach = visits[u].key;
         if excess[u] < 0 {

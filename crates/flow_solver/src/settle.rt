@@ -1,6 +1,7 @@
 //! Searches and pushes in turn, until no node in excess reaches a node in deficit.
 
-ghost use Rattle.flow_solver.specs.Limits.{label_floor};
+ghost use Rattle.flow_solver.specs.Graph.{IsGraphFor};
+ghost use Rattle.flow_solver.specs.Limits.{drift_limit, label_floor};
 ghost use Rattle.std.specs.Prelude.{◌≡◌, ◌≢◌, ℕ, ℤ, List, length, pos, neg_ℤ, ◌≤ℤ◌, ◌<ℤ◌, ◌+ℤ◌, ◌-ℤ◌, ◌<◌, ◌≤◌, ◌+◌, IsTrue, ◌↔◌, MatchOption, IfNone, IfSome};
 ghost use Rattle.flow_solver.specs.Residual.{IsFlow, IsCertified, ArePotentials, AreGreatest, ArePathsAbove, number_at};
 ghost use Rattle.flow_solver.specs.Settle.{IsNear, HasSearched};
@@ -10,25 +11,22 @@ ghost use Rattle.flow_solver.specs.Queue.{IsQueueFor, IsQueueOf};
 ghost use Rattle.flow_solver.specs.Scratch.{IsScratchFor};
 ghost use Rattle.flow_solver.specs.Touched.{AreNoted, IsLedger, IsWritten};
 ghost use Rattle.flow_solver.specs.Trail.{IsFresh, IsTrailFor, IsTrailOf};
-ghost use Rattle.flow_solver.specs.Star.{Covers};
 ghost use Rattle.flow_solver.specs.Walk.{AreRowsOf};
 ghost use Rattle.flow_solver.specs.Cut.{amount, IsSide, IsParted, IsChosenSet};
 ghost use Rattle.flow_solver.specs.declared.cut.Side.TheVariants.{Ahead, Behind};
 
 use crate::augment::push_found;
 use crate::cut::{Side, mark_side, take_marks};
+use crate::graph::Graph;
 use crate::labels::Labels;
 use crate::ledger::Ledger;
 use crate::potentials::{lower, raise};
 use crate::queue::Queue;
 use crate::scratch::Scratch;
 use crate::search::find_deficits;
-use crate::star::Star;
 use crate::touched::Touched;
 use crate::trail::{Trail, forget};
 use crate::visit::Visit;
-use dimacs_text::ArcRow;
-use network::Network;
 
 /// How far potentials may fall before labels are taken again.
 const FALL_LIMIT: i64 = 70_000_000_000_000_000;
@@ -36,9 +34,7 @@ const FALL_LIMIT: i64 = 70_000_000_000_000_000;
 /// Pushes flow along shortest paths until no node in excess reaches a node in deficit, and counts the pushes. Each search
 /// forgets what it reached before the next.
 pub fn push_all(
-    net: &Network,
-    star: &Star,
-    rows: &[ArcRow],
+    graph: &Graph,
     flow: &mut [i64],
     touched_flow: &mut Touched,
     potentials: &mut [i64],
@@ -51,9 +47,8 @@ pub fn push_all(
 ) -> u64
     requires touched_flow_in { length flow.old ≤ length touched_flow.old }
     requires touched_potentials_in { length potentials.old ≤ length touched_potentials.old }
-    requires net { AreRowsOf net.now rows.now }
-    requires star { Covers (length potentials.old) net.now.arcs star.now }
-    requires certified { IsCertified rows.now flow.old potentials.old }
+    requires graph { IsGraphFor (length potentials.old) graph.now }
+    requires certified { IsCertified graph.now.rows.items flow.old potentials.old }
     requires potentials_in { ArePotentials (length potentials.old) label_floor potentials.old }
     requires excess_in { length excess.old ≡ length potentials.old }
     requires visits_in { length visits.old ≡ length potentials.old }
@@ -66,37 +61,23 @@ pub fn push_all(
     ensures noted_potentials { AreNoted touched_potentials.old potentials.old touched_potentials.new potentials.new }
     ensures fresh { IsFresh visits.new }
     ensures trail { IsTrailFor (length potentials.new) trail.new }
-    ensures certified { IsCertified rows.now flow.new potentials.new }
+    ensures certified { IsCertified graph.now.rows.items flow.new potentials.new }
     ensures small { AreSmall excess.new }
-    ensures excess { (supply : ℕ → ℤ) → IsExcess rows.now supply flow.old excess.old → IsExcess rows.now supply flow.new excess.new }
-    ensures pushes { (supply : ℕ → ℤ) → IsExcess rows.now supply flow.old excess.old → Pushes rows.now supply result flow.old flow.new }
+    ensures excess { (supply : ℕ → ℤ) → IsExcess graph.now.rows.items supply flow.old excess.old → IsExcess graph.now.rows.items supply flow.new excess.new }
+    ensures pushes { (supply : ℕ → ℤ) → IsExcess graph.now.rows.items supply flow.old excess.old → Pushes graph.now.rows.items supply result flow.old flow.new }
     ensures count { result + left excess.new ≤ left excess.old }
-    ensures parted { IsParted rows.now flow.new excess.new }
+    ensures parted { IsParted graph.now.rows.items flow.new excess.new }
     ensures labels { IsLabelsFor (length potentials.new) labels.new }
     ensures sized { IsQueueFor (length potentials.new) queue.new }
 {
     let mut pushes = 0;
     let mut fallen = 0;
-    while let Some(reach) = search_on(
-        net, star, rows, flow, potentials, excess, visits, queue, trail,
-    ) {
+    while let Some(reach) = search_on(graph, flow, potentials, excess, visits, queue, trail) {
         lower(potentials, touched_potentials, visits, trail, reach);
-        pushes += push_found(
-            net,
-            star,
-            rows,
-            flow,
-            touched_flow,
-            potentials,
-            excess,
-            visits,
-            trail,
-        );
+        pushes += push_found(graph, flow, touched_flow, potentials, excess, visits, trail);
         forget(visits, queue, trail);
         fallen = keep_near(
-            net,
-            star,
-            rows,
+            graph,
             flow,
             potentials,
             touched_potentials,
@@ -111,9 +92,7 @@ pub fn push_all(
 /// Searches from the nodes in excess for nodes in deficit, where there are both, and gives how far the search has come;
 /// nothing where no node in excess reaches a node in deficit, and then the search is forgotten.
 fn search_on(
-    net: &Network,
-    star: &Star,
-    rows: &[ArcRow],
+    graph: &Graph,
     flow: &[i64],
     potentials: &[i64],
     excess: &[i64],
@@ -121,15 +100,14 @@ fn search_on(
     queue: &mut Queue,
     trail: &mut Trail,
 ) -> Option<i64>
-    requires net { AreRowsOf net.now rows.now }
-    requires star { Covers (length potentials.now) net.now.arcs star.now }
-    requires certified { IsCertified rows.now flow.now potentials.now }
+    requires graph { IsGraphFor (length potentials.now) graph.now }
+    requires certified { IsCertified graph.now.rows.items flow.now potentials.now }
     requires excess_in { length excess.now ≡ length potentials.now }
     requires visits_in { length visits.old ≡ length potentials.now }
     requires fresh { IsFresh visits.old }
     requires sized { IsQueueFor (length potentials.now) queue.old }
     requires trail_in { IsTrailFor (length potentials.now) trail.old }
-    ensures found { MatchOption result (IsParted rows.now flow.now excess.now) (HasSearched rows.now flow.now potentials.now excess.now visits.new) }
+    ensures found { MatchOption result (IsParted graph.now.rows.items flow.now excess.now) (HasSearched graph.now.rows.items flow.now potentials.now excess.now visits.new) }
     ensures forgotten { IfNone result (IsFresh visits.new) }
     ensures queue { IfSome result (λ reach. IsQueueOf visits.new queue.new) }
     ensures trail { IfSome result (λ reach. IsTrailOf visits.new trail.new) }
@@ -139,9 +117,7 @@ fn search_on(
     if !has_root(Side::Ahead, excess) || !has_root(Side::Behind, excess) {
         return None;
     }
-    let reach = find_deficits(
-        net, star, rows, flow, potentials, excess, visits, queue, trail,
-    );
+    let reach = find_deficits(graph, flow, potentials, excess, visits, queue, trail);
     if reach.is_none() {
         forget(visits, queue, trail);
     }
@@ -151,9 +127,7 @@ fn search_on(
 /// Takes the labels again where the potentials, which have fallen by at most `fallen`, could leave their range; gives
 /// what they have fallen by since.
 fn keep_near(
-    net: &Network,
-    star: &Star,
-    rows: &[ArcRow],
+    graph: &Graph,
     flow: &[i64],
     potentials: &mut [i64],
     touched: &mut Touched,
@@ -162,23 +136,23 @@ fn keep_near(
     fallen: i64,
 ) -> i64
     requires touched_in { length potentials.old ≤ length touched.old }
-    requires net { AreRowsOf net.now rows.now }
-    requires star { Covers (length potentials.old) net.now.arcs star.now }
-    requires certified { IsCertified rows.now flow.now potentials.old }
+    requires graph { IsGraphFor (length potentials.old) graph.now }
+    requires certified { IsCertified graph.now.rows.items flow.now potentials.old }
     requires labels { IsLabelsFor (length potentials.old) labels.old }
     requires sized { IsQueueFor (length potentials.old) queue.old }
     requires not_below_0 { pos 0 ≤ℤ fallen }
     requires at_least { (v : ℕ) → (neg_ℤ (pos label_floor) -ℤ fallen) ≤ℤ number_at potentials.old v }
     ensures noted { AreNoted touched.old potentials.old touched.new potentials.new }
-    ensures certified { IsCertified rows.now flow.now potentials.new }
+    ensures certified { IsCertified graph.now.rows.items flow.now potentials.new }
     ensures labels { IsLabelsFor (length potentials.new) labels.new }
     ensures sized { IsQueueFor (length potentials.new) queue.new }
     ensures near { IsNear potentials.new result }
+    ensures kept { fallen ≤ℤ pos drift_limit → (potentials.new ≡ potentials.old) × (result ≡ fallen) }
 {
     if fallen <= FALL_LIMIT {
         return fallen;
     }
-    raise(net, star, rows, flow, potentials, touched, labels, queue);
+    raise(graph, flow, potentials, touched, labels, queue);
     0
 }
 
@@ -197,8 +171,7 @@ fn has_root(side: Side, excess: &[i64]) -> bool
 /// Marks the set that tells why some supply is left over or some demand is not met, first in a table to mark nodes in. The
 /// queue is not in use then, and lends its table.
 fn mark_cut(
-    net: &Network,
-    rows: &[ArcRow],
+    graph: &Graph,
     flow: &[i64],
     excess: &[i64],
     queue: &mut Queue,
@@ -207,13 +180,13 @@ fn mark_cut(
     touched: &mut Touched,
 )
     requires touched_in { length cut.old ≤ length touched.old }
-    requires net { AreRowsOf net.now rows.now }
-    requires flow { IsFlow (length excess.now) rows.now flow.now }
+    requires net { AreRowsOf graph.now.net graph.now.rows.items }
+    requires flow { IsFlow (length excess.now) graph.now.rows.items flow.now }
     requires marks_in { length marks.old ≡ length excess.now }
     requires cut_in { length cut.old ≡ length excess.now }
     requires sized { IsQueueFor (length excess.now) queue.old }
-    ensures in_excess { 0 < left excess.now → IsSide Ahead rows.now flow.now excess.now cut.new }
-    ensures no_excess { left excess.now ≡ 0 → IsSide Behind rows.now flow.now excess.now cut.new }
+    ensures in_excess { 0 < left excess.now → IsSide Ahead graph.now.rows.items flow.now excess.now cut.new }
+    ensures no_excess { left excess.now ≡ 0 → IsSide Behind graph.now.rows.items flow.now excess.now cut.new }
     ensures noted { AreNoted touched.old cut.old touched.new cut.new }
     ensures sized { IsQueueFor (length excess.now) queue.new }
 {
@@ -222,28 +195,25 @@ fn mark_cut(
     } else {
         Side::Behind
     };
-    mark_side(side, net, rows, flow, excess, marks, &mut queue.order);
+    mark_side(side, graph, flow, excess, marks, &mut queue.order);
     take_marks(cut, touched, marks);
 }
 
 /// Makes the flow a best one, or marks the cut that tells why there is none, with the greatest
 /// potentials that certify it, and counts the pushes.
 pub fn settle(
-    net: &Network,
-    star: &Star,
-    rows: &[ArcRow],
+    graph: &Graph,
     flow: &mut Ledger<i64>,
     potentials: &mut Ledger<i64>,
     excess: &mut [i64],
     scratch: &mut Scratch,
     cut: &mut Ledger<bool>,
 ) -> u64
-    requires net { AreRowsOf net.now rows.now }
-    requires star { Covers (length potentials.old.entries.items) net.now.arcs star.now }
+    requires graph { IsGraphFor (length potentials.old.entries.items) graph.now }
     requires flow_ledger { IsLedger flow.old }
     requires potentials_ledger { IsLedger potentials.old }
     requires cut_ledger { IsLedger cut.old }
-    requires certified { IsCertified rows.now flow.old.entries.items potentials.old.entries.items }
+    requires certified { IsCertified graph.now.rows.items flow.old.entries.items potentials.old.entries.items }
     requires potentials_in { ArePotentials (length potentials.old.entries.items) label_floor potentials.old.entries.items }
     requires excess_in { length excess.old ≡ length potentials.old.entries.items }
     requires cut_in { length cut.old.entries.items ≡ length potentials.old.entries.items }
@@ -252,21 +222,19 @@ pub fn settle(
     ensures flow_written { IsWritten flow.old flow.new }
     ensures potentials_written { IsWritten potentials.old potentials.new }
     ensures cut_written { IsWritten cut.old cut.new }
-    ensures certified { IsCertified rows.now flow.new.entries.items potentials.new.entries.items }
+    ensures certified { IsCertified graph.now.rows.items flow.new.entries.items potentials.new.entries.items }
     ensures potentials_in { ArePotentials (length potentials.new.entries.items) label_floor potentials.new.entries.items }
-    ensures greatest { AreGreatest rows.now flow.new.entries.items potentials.new.entries.items }
-    ensures above { ArePathsAbove rows.now potentials.new.entries.items }
+    ensures greatest { AreGreatest graph.now.rows.items flow.new.entries.items potentials.new.entries.items }
+    ensures above { ArePathsAbove graph.now.rows.items potentials.new.entries.items }
     ensures small { AreSmall excess.new }
-    ensures excess { (supply : ℕ → ℤ) → IsExcess rows.now supply flow.old.entries.items excess.old → IsExcess rows.now supply flow.new.entries.items excess.new }
-    ensures pushes { (supply : ℕ → ℤ) → IsExcess rows.now supply flow.old.entries.items excess.old → Pushes rows.now supply result flow.old.entries.items flow.new.entries.items }
+    ensures excess { (supply : ℕ → ℤ) → IsExcess graph.now.rows.items supply flow.old.entries.items excess.old → IsExcess graph.now.rows.items supply flow.new.entries.items excess.new }
+    ensures pushes { (supply : ℕ → ℤ) → IsExcess graph.now.rows.items supply flow.old.entries.items excess.old → Pushes graph.now.rows.items supply result flow.old.entries.items flow.new.entries.items }
     ensures count { result + left excess.new ≤ left excess.old }
     ensures scratch { IsScratchFor (length potentials.new.entries.items) scratch.new }
-    ensures cut { (supply : ℕ → ℤ) → IsExcess rows.now supply flow.old.entries.items excess.old → IsChosenSet rows.now supply excess.new cut.new.entries.items }
+    ensures cut { (supply : ℕ → ℤ) → IsExcess graph.now.rows.items supply flow.old.entries.items excess.old → IsChosenSet graph.now.rows.items supply excess.new cut.new.entries.items }
 {
     let pushes = push_all(
-        net,
-        star,
-        rows,
+        graph,
         &mut flow.entries,
         &mut flow.touched,
         &mut potentials.entries,
@@ -278,8 +246,7 @@ pub fn settle(
         &mut scratch.trail,
     );
     mark_cut(
-        net,
-        rows,
+        graph,
         &flow.entries,
         excess,
         &mut scratch.queue,
@@ -288,9 +255,7 @@ pub fn settle(
         &mut cut.touched,
     );
     raise(
-        net,
-        star,
-        rows,
+        graph,
         &flow.entries,
         &mut potentials.entries,
         &mut potentials.touched,

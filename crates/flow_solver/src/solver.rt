@@ -1,6 +1,6 @@
 //! A solver, whose tables have their final size from the start.
 
-ghost use Rattle.std.specs.Prelude.{◌≡◌, pos, ◌≤ℤ◌, IfOk, length, ◌≤◌, ◌-◌, slice_index_or, slice_set, None, ◌<◌, ◌++◌, ◌∷◌, [], ◌+◌, IsOk, Ok};
+ghost use Rattle.std.specs.Prelude.{◌≡◌, ◌≢◌, AllPairs, pos, ◌≤ℤ◌, IfOk, length, ◌≤◌, ◌-◌, slice_index_or, slice_set, None, ◌<◌, ◌++◌, ◌∷◌, [], ◌+◌, IsOk, Ok};
 ghost use Rattle.network.specs.Flow.{IsCertifiedFlow, IsPotential, total_excess};
 ghost use Rattle.network.specs.Instance.{ArcFits, IsLawful, at_node, kind_of, numbered_flow, reduced, with_supply};
 ghost use Rattle.flow_solver.specs.Push.{Pushes};
@@ -18,10 +18,10 @@ use crate::edit::{
     added_row, change_row, change_supply, closed, drop_row, edited_row, edited_supply, put_row,
     swap_row, swap_supply,
 };
+use crate::graph::Graph;
 use crate::ledger::Ledger;
 use crate::scratch::Scratch;
-use crate::star::Star;
-use crate::start::{reduced_rows, start_flow};
+use crate::start::start_flow;
 use crate::swaps::{carry_worth, exchange_node};
 use crate::verdict::Verdict;
 use dimacs_text::{ArcRow, Edit, NODE_LIMIT};
@@ -33,9 +33,7 @@ use std::marker::Model;
 /// of the searches.
 #[derive(Drop)]
 pub struct Solver {
-    net: Network,
-    star: Star,
-    rows: Vec<ArcRow>,
+    graph: Graph,
     flow: Ledger<i64>,
     potentials: Ledger<i64>,
     balance: Balance,
@@ -45,18 +43,18 @@ pub struct Solver {
 }
 
 impl Model for Solver {
-    ghost use Rattle.std.specs.Prelude.{drop, vec_capacity};
+    ghost use Rattle.std.specs.Prelude.{drop};
     ghost use Rattle.flow_solver.specs.Moment.{AreTables, Bench};
     ghost use Rattle.flow_solver.specs.Touched.{kept_in};
 
     ghost Value = { Bench };
 
     ghost view = { λ t. record {
-      moment = record { instance = t.net; flow = t.flow.entries.items; potentials = drop 1 t.potentials.entries.items; verdict = t.verdict; cut = drop 1 t.cut.entries.items };
+      moment = record { instance = t.graph.net; flow = t.flow.entries.items; potentials = drop 1 t.potentials.entries.items; verdict = t.verdict; cut = drop 1 t.cut.entries.items };
       kept = record { flow = kept_in t.flow; potentials = drop 1 (kept_in t.potentials); cut = drop 1 (kept_in t.cut) };
     } };
 
-    ghost invariant = { λ t. AreTables t.net t.star t.rows.items t.flow t.potentials t.balance t.cut t.scratch (vec_capacity t.rows) };
+    ghost invariant = { λ t. AreTables t.graph t.flow t.potentials t.balance t.cut t.scratch };
 }
 
 impl Solver {
@@ -70,19 +68,16 @@ impl Solver {
         ensures certified { IfOk result
             (λ t. IsCertifiedFlow (reduced t.moment.instance) t.moment.flow (at_node t.moment.potentials)) }
     {
-        let entries = net.nodes() as usize + 1;
-        let star = Star::new(alloc, &net)?;
-        let rows = reduced_rows(alloc, &net)?;
-        let room = net.room() as usize + 1;
-        let flow = Ledger::new(alloc, start_flow(alloc, &rows, room)?, room)?;
+        let graph = Graph::new(alloc, net)?;
+        let entries = graph.net.nodes() as usize + 1;
+        let room = graph.net.room() as usize + 1;
+        let flow = Ledger::new(alloc, start_flow(alloc, &graph.rows, room)?, room)?;
         let potentials = Ledger::new(alloc, vec![in alloc; 0; entries]?, entries)?;
-        let balance = Balance::new(alloc, &net, &rows, &flow.entries)?;
+        let balance = Balance::new(alloc, &graph.net, &graph.rows, &flow.entries)?;
         let cut = Ledger::new(alloc, vec![in alloc; false; entries]?, entries)?;
-        let scratch = Scratch::new(alloc, net.nodes() + 1)?;
+        let scratch = Scratch::new(alloc, graph.net.nodes() + 1)?;
         Ok(Solver {
-            net,
-            star,
-            rows,
+            graph,
             flow,
             potentials,
             balance,
@@ -96,7 +91,7 @@ impl Solver {
     pub fn network(&self) -> &Network
         ensures { result.now ≡ self.now.moment.instance }
     {
-        &self.net
+        &self.graph.net
     }
 
     /// The flow of each arc, in the order of the arcs.
@@ -104,8 +99,7 @@ impl Solver {
         ensures value { result.now ≡ numbered_flow self.now.moment.instance.demand self.now.moment.flow }
         ensures one_an_arc { length result.now ≡ length self.now.moment.instance.arcs }
     {
-        let returned = self.rows.len() - self.net.arcs() as usize;
-        &self.flow.entries[returned..]
+        &self.flow.entries[self.graph.first_row()..]
     }
 
     /// The potential of each node, in the order of the nodes.
@@ -145,9 +139,7 @@ impl Solver {
         ensures count { pos result ≤ℤ total_excess (reduced self.old.moment.instance) self.old.moment.flow }
     {
         let (pushes, verdict) = solve(
-            &self.net,
-            &self.star,
-            &self.rows,
+            &self.graph,
             &mut self.flow,
             &mut self.potentials,
             &mut self.balance,
@@ -173,9 +165,7 @@ impl Solver {
         ensures changed { IsRowChanged self.old.moment.instance self.new.moment.instance k row (at_node self.old.moment.potentials) self.old.moment.flow self.new.moment.flow result }
     {
         let (pushes, verdict) = change_row(
-            &mut self.net,
-            &self.star,
-            &mut self.rows,
+            &mut self.graph,
             &mut self.flow,
             &mut self.potentials,
             &mut self.balance,
@@ -201,9 +191,7 @@ impl Solver {
         ensures changed { IsSupplyChanged self.old.moment.instance self.new.moment.instance id value self.old.moment.flow self.new.moment.flow result }
     {
         let (pushes, verdict) = change_supply(
-            &mut self.net,
-            &self.star,
-            &self.rows,
+            &mut self.graph,
             &mut self.flow,
             &mut self.potentials,
             &mut self.balance,
@@ -241,21 +229,24 @@ impl Solver {
 
     /// The places of the flow that were written since it was kept.
     pub(crate) fn touched_flow(&self) -> &[u32]
-        ensures { NameChanges 0 result.now self.now.kept.flow self.now.moment.flow }
+        ensures named { NameChanges 0 result.now self.now.kept.flow self.now.moment.flow }
+        ensures apart { AllPairs ◌≢◌ result.now }
     {
         self.flow.touched.places()
     }
 
     /// The nodes whose potential was written since it was kept.
     pub(crate) fn touched_potentials(&self) -> &[u32]
-        ensures { NameChanges 1 result.now self.now.kept.potentials self.now.moment.potentials }
+        ensures named { NameChanges 1 result.now self.now.kept.potentials self.now.moment.potentials }
+        ensures apart { AllPairs ◌≢◌ result.now }
     {
         self.potentials.touched.places()
     }
 
     /// The nodes whose mark was written since it was kept.
     pub(crate) fn touched_cut(&self) -> &[u32]
-        ensures { NameChanges 1 result.now self.now.kept.cut self.now.moment.cut }
+        ensures named { NameChanges 1 result.now self.now.kept.cut self.now.moment.cut }
+        ensures apart { AllPairs ◌≢◌ result.now }
     {
         self.cut.touched.places()
     }
@@ -266,7 +257,7 @@ impl Solver {
         ensures kept { self.new.kept ≡ kept_of self.old.moment }
         ensures sized { IsSized self.new.moment }
     {
-        self.balance.cost = cost_now(&self.rows, &self.flow, self.balance.cost);
+        self.balance.cost = cost_now(&self.graph.rows, &self.flow, self.balance.cost);
         self.flow.keep();
         self.potentials.keep();
         self.cut.keep();
@@ -277,7 +268,7 @@ impl Solver {
         requires { length self.old.kept.flow ≡ length (reduced self.old.moment.instance).arcs }
         ensures { self.new.moment ≡ record self.old.moment { flow = self.old.kept.flow; potentials = self.old.kept.potentials; verdict = verdict; cut = self.old.kept.cut } }
     {
-        carry_back(&self.rows, &self.flow, &mut self.balance.excess);
+        carry_back(&self.graph.rows, &self.flow, &mut self.balance.excess);
         self.flow.bring_back();
         self.potentials.bring_back();
         self.cut.bring_back();
@@ -291,10 +282,10 @@ impl Solver {
         ensures moment { self.new.moment ≡ record self.old.moment { flow = slice_set self.old.moment.flow (flow_index self.old.moment.instance.demand k) value.old } }
         ensures value { value.new ≡ slice_index_or self.old.moment.flow (flow_index self.old.moment.instance.demand k) value.old }
     {
-        let place = self.rows.len() - self.net.arcs() as usize + (k as usize - 1);
+        let place = self.graph.first_row() + (k as usize - 1);
         carry_over(
             &mut self.balance.excess,
-            &self.rows[place],
+            &self.graph.rows[place],
             self.flow.entries[place],
             *value,
         );
@@ -327,8 +318,8 @@ impl Solver {
         ensures value { verdict.new ≡ self.old.moment.verdict }
     {
         carry_worth(
-            &self.net,
-            &self.rows,
+            &self.graph.net,
+            &self.graph.rows,
             &mut self.flow,
             &mut self.balance,
             *verdict,
@@ -349,10 +340,10 @@ impl Solver {
         ensures moment { self.new.moment ≡ record self.old.moment { instance = record self.old.moment.instance { arcs = slice_set self.old.moment.instance.arcs (k - 1) row.old } } }
         ensures row { row.new ≡ slice_index_or self.old.moment.instance.arcs (k - 1) row.old }
     {
-        let place = self.rows.len() - self.net.arcs() as usize + (k as usize - 1);
-        let cost = self.rows[place].cost;
+        let place = self.graph.first_row() + (k as usize - 1);
+        let cost = self.graph.rows[place].cost;
         self.balance.cost = reprice(self.balance.cost, cost, row.cost, self.flow.kept[place]);
-        swap_row(&mut self.net, &mut self.rows, k, row);
+        swap_row(&mut self.graph.net, &mut self.graph.rows, k, row);
     }
 
     /// Exchanges what a node of a least-cost problem has to send out.
@@ -367,10 +358,10 @@ impl Solver {
         add_difference(
             &mut self.balance.excess,
             id as usize,
-            supply_at(&self.net, id),
+            supply_at(&self.graph.net, id),
             *value,
         );
-        swap_supply(&mut self.net, &self.rows, id, value);
+        swap_supply(&mut self.graph.net, &self.graph.rows, id, value);
     }
 
     /// Takes the last arc off, and gives its row and its flow.
@@ -381,12 +372,12 @@ impl Solver {
         ensures kept { length self.old.kept.flow ≡ length (reduced self.new.moment.instance).arcs → self.new.kept ≡ self.old.kept }
         ensures rest { self.new.moment ≡ record self.old.moment { instance = self.new.moment.instance; flow = self.new.moment.flow } }
     {
-        let last = self.rows.len() - 1;
-        let row = self.rows[last];
+        let last = self.graph.rows.len() - 1;
+        let row = self.graph.rows[last];
         carry_over(&mut self.balance.excess, &row, self.flow.entries[last], 0);
         self.balance.cost = reprice(self.balance.cost, self.flow.kept[last], 0, row.cost);
-        let row = drop_row(&mut self.net, &mut self.rows);
-        self.star.keep(self.net.arcs());
+        let row = drop_row(&mut self.graph.net, &mut self.graph.rows);
+        self.graph.star.keep(self.graph.net.arcs());
         let flow = self.flow.pop();
         (row, flow)
     }
@@ -405,7 +396,7 @@ impl Solver {
     {
         carry_over(&mut self.balance.excess, &row, 0, flow);
         self.balance.cost = reprice(self.balance.cost, 0, flow, row.cost);
-        put_row(&mut self.net, &mut self.rows, row);
+        put_row(&mut self.graph.net, &mut self.graph.rows, row);
         self.flow.push(flow);
     }
 
@@ -419,7 +410,7 @@ impl Solver {
         ensures answered { IsAnswered self.new.moment }
         ensures changed { IsChange self.old.moment.instance self.new.moment.instance edit.now self.old.moment.flow self.new.moment.flow result }
     {
-        let (k, row) = edited_row(&self.net, edit);
+        let (k, row) = edited_row(&self.graph.net, edit);
         self.change_row(k, row)
     }
 
@@ -433,7 +424,7 @@ impl Solver {
         ensures answered { IsAnswered self.new.moment }
         ensures changed { IsChange self.old.moment.instance self.new.moment.instance edit.now self.old.moment.flow self.new.moment.flow result }
     {
-        let (id, value) = edited_supply(&self.net, edit);
+        let (id, value) = edited_supply(&self.graph.net, edit);
         self.change_supply(id, value)
     }
 
@@ -451,7 +442,7 @@ impl Solver {
         ensures added { IsAdded self.old.moment.instance self.new.moment.instance row self.old.moment.flow self.new.moment.flow result }
     {
         self.put_last(closed(row), 0);
-        let k = self.net.arcs();
+        let k = self.graph.net.arcs();
         self.change_row(k, row)
     }
 
@@ -466,7 +457,7 @@ impl Solver {
         ensures answered { IsAnswered self.new.moment }
         ensures changed { IsChange self.old.moment.instance self.new.moment.instance edit.now self.old.moment.flow self.new.moment.flow result }
     {
-        let row = added_row(&self.net, edit);
+        let row = added_row(&self.graph.net, edit);
         self.add_arc(row)
     }
 

@@ -1,4 +1,4 @@
-//! Exchanges of single entries of a table.
+//! Single entries of a table that are exchanged or set.
 
 ghost use Rattle.std.specs.Prelude.{◌≡◌, ◌-◌, ◌<◌, ◌≤◌, drop, length, slice_index_or, slice_set, ◌+◌};
 ghost use Rattle.network.specs.Instance.{IsLawful, reduced};

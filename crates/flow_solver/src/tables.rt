@@ -1,6 +1,6 @@
 //! The solver with what stood before its last change.
 
-ghost use Rattle.std.specs.Prelude.{◌≡◌, pos, ◌≤ℤ◌, ◌-◌, ◌<◌, ◌≤◌, ◌++◌, ◌∷◌, [], IfOk, IfSome, IsOk, IsSome, None, Ok, Some, length, slice_index_or, slice_set, vec_capacity, ◌+◌};
+ghost use Rattle.std.specs.Prelude.{◌≡◌, ◌≢◌, AllPairs, pos, ◌≤ℤ◌, ◌-◌, ◌<◌, ◌≤◌, ◌++◌, ◌∷◌, [], IfOk, IfSome, IsOk, IsSome, None, Ok, Some, length, slice_index_or, slice_set, vec_capacity, ◌+◌};
 ghost use Rattle.dimacs_text.specs.Lawful.{IsNode, IsWithin};
 ghost use Rattle.dimacs_text.specs.declared.problem.TheConstants.{SUPPLY_LIMIT};
 ghost use Rattle.dimacs_text.specs.declared.problem.Kind.TheVariants.{Min};
@@ -177,7 +177,8 @@ impl Tables {
     /// place k - 1, and place k where a return arc stands first. The flow of every arc not named is what it was.
     pub fn touched_flow(&self) -> &[u32]
         requires { IsSome self.now.before }
-        ensures { IfSome self.now.before (λ old. NameChanges (return_count old.instance.demand) result.now (numbered_flow old.instance.demand old.flow) (numbered_flow self.now.moment.instance.demand self.now.moment.flow)) }
+        ensures named { IfSome self.now.before (λ old. NameChanges (return_count old.instance.demand) result.now (numbered_flow old.instance.demand old.flow) (numbered_flow self.now.moment.instance.demand self.now.moment.flow)) }
+        ensures apart { AllPairs ◌≢◌ result.now }
     {
         self.solver.touched_flow()
     }
@@ -186,7 +187,8 @@ impl Tables {
     /// and is no node. The potential of every node not named is what it was.
     pub fn touched_potentials(&self) -> &[u32]
         requires { IsSome self.now.before }
-        ensures { IfSome self.now.before (λ old. NameChanges 1 result.now old.potentials self.now.moment.potentials) }
+        ensures named { IfSome self.now.before (λ old. NameChanges 1 result.now old.potentials self.now.moment.potentials) }
+        ensures apart { AllPairs ◌≢◌ result.now }
     {
         self.solver.touched_potentials()
     }
@@ -195,7 +197,8 @@ impl Tables {
     /// no node. The mark of every node not named is what it was.
     pub fn touched_cut(&self) -> &[u32]
         requires { IsSome self.now.before }
-        ensures { IfSome self.now.before (λ old. NameChanges 1 result.now old.cut self.now.moment.cut) }
+        ensures named { IfSome self.now.before (λ old. NameChanges 1 result.now old.cut self.now.moment.cut) }
+        ensures apart { AllPairs ◌≢◌ result.now }
     {
         self.solver.touched_cut()
     }

@@ -1,6 +1,7 @@
 //! The nodes that a search settled, and how it forgets those that it reached.
 
-ghost use Rattle.std.specs.Prelude.{◌≡◌, ℕ, ◌<◌, ◌+◌, length, IfOk};
+ghost use Rattle.std.specs.Prelude.{◌≡◌, ℕ, ◌<◌, ◌+◌, false, length, IfOk};
+ghost use Rattle.flow_solver.specs.Cut.{in_set};
 ghost use Rattle.flow_solver.specs.Limits.{entry_limit};
 
 use crate::queue::Queue;
@@ -44,12 +45,13 @@ impl Trail {
         self.len += 1;
     }
 
-    /// Takes the mark of each node in the trail away.
+    /// Takes the mark of each node in the trail away: each may have something to give again.
     pub fn refresh(&mut self)
         requires in_table { (j : ℕ) → j < self.old.len → slice_index self.old.nodes.items j < length self.old.spent.items }
         requires fits { self.old.len ≤ length self.old.nodes.items }
         ensures rest { self.new ≡ record self.old { spent = self.new.spent } }
         ensures sized { length self.new.spent.items ≡ length self.old.spent.items }
+        ensures cleared { (j : ℕ) → j < self.old.len → in_set self.new.spent.items (slice_index self.old.nodes.items j) ≡ false }
     {
         for j in 0..self.len {
             self.spent[self.nodes[j] as usize] = false;

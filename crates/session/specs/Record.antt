@@ -1,5 +1,5 @@
 -- What a step changes: one place of the instance, the flows, potentials and marks that differ, and the verdict, each
--- with the value of the side that is not present.
+-- with the value of the moment farther from the present.
 use Rattle.std.specs.Prelude.{◌≡◌, ℕ, ◌-◌, ◌<◌, ℤ, pos, Bool, List, [], ◌∷◌, ◌++◌, length, All, slice_index_or}
 use Rattle.dimacs_text.specs.declared.problem.ArcRow.{ArcRow}
 use Rattle.dimacs_text.specs.declared.problem.Kind.TheVariants.{Min}

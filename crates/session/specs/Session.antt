@@ -39,7 +39,7 @@ pub record IsAcceptedEdit (edit : Edit) (old new : Moment) : Type 0 where
 abbrev pub old_moment : Desk → Moment
 old_moment desk = unwrap_or desk.before desk.moment
 
--- the part names the one place at which the instances differ, with what the other moment has there
+-- the part names one place, with what the other moment has there; outside it the instances are equal
 abbrev pub PartTells : Part → Moment → Moment → Type 0
 PartTells (Arc k row) present other = (1 ≤ k) × (k ≤ length present.instance.arcs) × (other.instance ≡ with_arc present.instance k row)
 PartTells (Supply id value) present other = IsNode present.instance.nodes id × (other.instance ≡ record present.instance { demand = with_supply present.instance.demand id value })

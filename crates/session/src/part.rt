@@ -1,8 +1,8 @@
-//! The place of an instance that a step changes.
+//! The place of an instance that a step may change.
 
 use dimacs_text::ArcRow;
 
-/// The place of the instance that a step changes, with the value of the side that is not present.
+/// A place of the instance, outside which a step changes nothing, with the value of the moment farther from the present.
 #[derive(Clone, Copy, Debug, PartialEq, Eq)]
 pub enum Part {
     /// The bounds and the cost of an arc, which is counted from 1.

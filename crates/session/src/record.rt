@@ -19,10 +19,10 @@ use history::Change;
 use std::alloc::{AllocError, Global};
 use std::marker::Model;
 
-/// What differs between two moments, with the values of the one that is not present.
+/// What differs between two moments, with the values of the one farther from the present.
 #[derive(Debug, Drop)]
 pub struct Record {
-    /// The one place at which the instances differ.
+    /// One place, with the value of the moment farther from the present, outside which the instances are equal.
     pub part: Part,
     /// The arcs of both moments whose flow differs, in rising order, each with its flow.
     pub flows: Vec<(u32, i64)>,
@@ -63,7 +63,7 @@ impl Record {
         let flows = differences(
             alloc,
             tables.touched_flow(),
-            place_of_first_arc(tables),
+            index_of_first_arc(tables),
             tables.old_flow(),
             tables.flow(),
         )?;
@@ -91,8 +91,8 @@ impl Record {
     }
 }
 
-/// The place of the first arc's flow: that of the return arc comes before it, where there is one.
-fn place_of_first_arc(tables: &Tables) -> usize
+/// The index of the first arc's flow: that of the return arc comes before it, where there is one.
+fn index_of_first_arc(tables: &Tables) -> usize
     ensures { result ≡ return_count tables.now.moment.instance.demand }
 {
     match tables.network().return_arc() {

@@ -157,7 +157,8 @@ impl Session {
         self.history.steps()
     }
 
-    /// What differs between moment i and the next, counted from 0 at the opening.
+    /// The record between moment i and the next, counted from 0 at the opening, with the values of the one farther from the
+    /// present; none from the number of steps on.
     pub fn moved(&self, i: usize) -> Option<&Record>
         ensures there { IsNone result ↔ (length self.now.moments.past + length self.now.moments.future ≤ i) }
         ensures record { option_copied result ≡ slice_get self.now.records i }

@@ -1,7 +1,7 @@
-use crate::{Part, Record, Refusal, Session};
-use dimacs_text::{ArcRow, Edit, ProblemReader};
+use crate::{Part, Refusal, Session};
+use dimacs_text::{ArcRow, Edit, ProblemReader, TextFault};
 use flow_solver::Verdict;
-use std::alloc::{AllocError, Global};
+use std::alloc::Global;
 use std::process::Abort;
 use std::test::Fail;
 
@@ -19,15 +19,14 @@ const MAX_DIAMOND: &[u8] =
 const PAIR: &[u8] = b"p asn 2 1\nn 1\na 1 2 -5\n";
 
 /// A session on a problem text.
-fn session(alloc: Global, text: &[u8], extra: u32) -> Result<Session, AllocError> {
+fn session(alloc: Global, text: &[u8], extra: u32) -> Result<Session, TextFault> {
     let mut reader = ProblemReader::new(alloc);
-    let Ok(()) = reader.feed(text) else {
-        return Err(AllocError);
-    };
-    let Ok(problem) = reader.finish() else {
-        return Err(AllocError);
-    };
-    Session::open(alloc, &problem, extra)
+    reader.feed(text)?;
+    let problem = reader.finish()?;
+    match Session::open(alloc, &problem, extra) {
+        Ok(session) => Ok(session),
+        Err(_) => Err(TextFault::Memory),
+    }
 }
 
 /// What is asked of a session.
@@ -173,33 +172,32 @@ fn pushes(rt: HostRuntime) -> Result<(), Fail> {
     ];
     for (text, edit, least, most) in cases {
         let mut session = session(rt.alloc(), text, 0)?;
-        let pushes = session.apply(&edit).unwrap_or(6);
+        let pushes = session.apply(&edit)?;
         assert!(rt; least <= pushes && pushes <= most);
     }
     Ok(())
 }
 
-/// What a record holds.
-#[derive(Clone, Copy)]
-struct Differences {
+/// What a record holds, to be compared whole.
+#[derive(Clone, Copy, Debug, PartialEq)]
+struct Differences<'a> {
     part: Part,
-    flows: &'static [(u32, i64)],
-    potentials: &'static [(u32, i64)],
-    marks: &'static [(u32, bool)],
+    flows: &'a [(u32, i64)],
+    potentials: &'a [(u32, i64)],
+    marks: &'a [(u32, bool)],
     verdict: Verdict,
 }
 
-fn are_in(expected: &Differences, record: Option<&Record>) -> bool {
-    match record {
-        Some(record) => {
-            record.part == expected.part
-                && record.flows.as_slice() == expected.flows
-                && record.potentials.as_slice() == expected.potentials
-                && record.marks.as_slice() == expected.marks
-                && record.verdict == expected.verdict
-        }
-        None => false,
-    }
+/// What the record of the first step holds.
+fn first_differences(session: &Session) -> Option<Differences<'_>> {
+    let record = session.moved(0)?;
+    Some(Differences {
+        part: record.part,
+        flows: &record.flows,
+        potentials: &record.potentials,
+        marks: &record.marks,
+        verdict: record.verdict,
+    })
 }
 
 #[test]
@@ -319,22 +317,21 @@ fn records(rt: HostRuntime) -> Result<(), Fail> {
         let mut session = session(rt.alloc(), text, 1000)?;
         replied(&mut session, &command);
         assert_eq!(rt; session.steps(), (1, 0));
-        assert!(rt; are_in(&done, session.moved(0)));
+        assert_eq!(rt; first_differences(&session), Some(done));
         assert!(rt; session.undo());
         assert_eq!(rt; session.steps(), (0, 1));
-        assert!(rt; are_in(&undone, session.moved(0)));
+        assert_eq!(rt; first_differences(&session), Some(undone));
+        assert!(rt; session.redo());
+        assert_eq!(rt; first_differences(&session), Some(done));
         assert!(rt; session.moved(1).is_none());
     }
     Ok(())
 }
 
 /// The marks and the verdict of the record of the first step.
-fn marks_and_verdict(session: &Session) -> Option<((u32, bool), Verdict)> {
+fn marks_and_verdict(session: &Session) -> Option<(&[(u32, bool)], Verdict)> {
     let record = session.moved(0)?;
-    match record.marks.as_slice() {
-        [mark] => Some((*mark, record.verdict)),
-        _ => None,
-    }
+    Some((&record.marks, record.verdict))
 }
 
 #[test]
@@ -348,13 +345,13 @@ fn cuts_come_and_go(rt: HostRuntime) -> Result<(), Fail> {
     assert_eq!(rt; session.cut(), [true, false, false, false].as_slice());
     assert_eq!(rt;
         marks_and_verdict(&session),
-        Some(((1, false), Verdict::Best(14)))
+        Some(([(1, false)].as_slice(), Verdict::Best(14)))
     );
     assert!(rt; session.undo());
     assert_eq!(rt; session.cut(), [false; 4].as_slice());
     assert_eq!(rt;
         marks_and_verdict(&session),
-        Some(((1, true), Verdict::Infeasible(1)))
+        Some(([(1, true)].as_slice(), Verdict::Infeasible(1)))
     );
     assert_eq!(rt; session.potentials(), [-4, -2, -1, 0].as_slice());
     assert_eq!(rt; session.flow(), [2, 2, 2, 0, 4].as_slice());

@@ -3,8 +3,8 @@ use Rattle.flow_solver.proofs.augment.added_hop.Given as goal
 
 abbrev pub invariant-loop-current : goal.invariant-loop-current
 invariant-loop-current l = record {
-  stands : StandsAt l.net.arcs l.node l.current;
-  spent : AllPassed l.net.arcs l.node l.current (IsEndSpent l.rows l.potentials l.flow l.visits l.spent l.node l.row);
+  stands : StandsAt l.graph.net.arcs l.node l.current;
+  spent : AllPassed l.graph.net.arcs l.node l.current (IsEndSpent l.graph.rows.items l.potentials l.flow l.visits l.spent l.node l.first_row);
 }
 
 abbrev pub decreases-loop-current : goal.decreases-loop-current

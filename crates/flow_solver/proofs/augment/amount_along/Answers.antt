@@ -10,8 +10,8 @@ use Rattle.flow_solver.proofs.augment.amount_along.Goals.{After-bottleneck-root}
 
 root_in : (c : After-bottleneck-root) → c.bottleneck-root.result.0 < length c.args.excess.now
 root_in c =
-    let root = root_reached c.args.rows.now c.args.visits.now c.requires.paths (depth_at c.args.visits.now c.args.target) c.args.target c.requires.found.settled refl in
-    rw (c.bottleneck-root.ensures.root, c.requires.excess_in) (in_range c.args.visits.now (root_to c.args.rows.now c.args.visits.now c.args.target) (settled_is_reached c.args.visits.now _ root.0))
+    let root = root_reached c.args.graph.now.rows.items c.args.visits.now c.requires.paths (depth_at c.args.visits.now c.args.target) c.args.target c.requires.found.settled refl in
+    rw (c.bottleneck-root.ensures.root, c.requires.excess_in) (in_range c.args.visits.now (root_to c.args.graph.now.rows.items c.args.visits.now c.args.target) (settled_is_reached c.args.visits.now _ root.0))
 
 pub offset_bounds-excess-root : goal.offset_bounds-excess-root
 offset_bounds-excess-root c =
@@ -34,12 +34,11 @@ pub returns-clause-room : goal.returns-clause-room
 returns-clause-room c =
     let low_r = c.requires.small.low c.bottleneck-root.result.0 in
     let high_r = c.requires.small.high c.bottleneck-root.result.0 in
-    HasRoom-weaker c.args.rows.now c.args.flow.now c.bottleneck-root.result.1 _ _ (omega (arith, ints, clamps, c.min.ensures.value, low_r, high_r)) c.bottleneck-root.ensures.room
+    HasRoom-weaker c.args.graph.now.rows.items c.args.flow.now c.bottleneck-root.result.1 _ _ (omega (arith, ints, clamps, c.min.ensures.value, low_r, high_r)) c.bottleneck-root.ensures.room
 
-pub returns-clause-some : goal.returns-clause-some
-returns-clause-some c = λ can.
+pub returns-clause-most : goal.returns-clause-most
+returns-clause-most c = λ m in_excess in_deficit room.
     (let low_t = c.requires.small.low c.args.target in
-    let high = rw (← c.bottleneck-root.ensures.root) at can.in_excess in
     let high_r = c.requires.small.high c.bottleneck-root.result.0 in
-    let fits = c.bottleneck-root.ensures.some (omega (arith, ints, low_t, c.requires.found.deficit)) can.room in
-    omega (arith, ints, clamps, c.min.ensures.value, high, high_r, fits))
+    let fits = c.bottleneck-root.ensures.most m (omega (arith, ints, low_t, in_deficit)) room in
+    omega (arith, ints, clamps, c.min.ensures.value, in_excess, high_r, fits))

@@ -4,6 +4,6 @@ use Rattle.flow_solver.proofs.augment.find_path.Given as goal
 
 abbrev pub invariant-loop : goal.invariant-loop
 invariant-loop l = record {
-  paths : ArePaths l.rows l.potentials l.visits;
+  paths : ArePaths l.graph.rows.items l.potentials l.visits;
   marks : AreMarkedAlike l.initial.visits l.visits;
 }

@@ -30,7 +30,7 @@ loop-j-init c = record {
   marks = λ v. refl;
   trail = c.refresh.ensures.rest;
   spent = c.refresh.ensures.sized;
-  done = ArePushes-none c.args.rows.now c.args.flow.now c.args.excess.now;
+  done = ArePushes-none c.args.graph.now.rows.items c.args.flow.now c.args.excess.now;
   fresh = λ h. refl;
   some = λ i lt found. absurd (omega (arith, lt));
 }
@@ -72,7 +72,7 @@ overflow_add-pushes c =
 first_pushed : (c : After-push_all_to-pushes) → c.loop-j.pushes ≡ 0 → IsFoundDeficit c.args.excess.now c.args.visits.now c.index.result.now → 0 < c.push_all_to-pushes.result
 first_pushed c none found =
     let same = c.loop-j.invariant.done.none none in
-    let rows = c.args.rows.now in
+    let rows = c.args.graph.now.rows.items in
     let t = c.index.result.now in
     let can = c.requires.can_push t found in
     c.push_all_to-pushes.ensures.some (subst (λ (s : List Visit). CanPush rows c.loop-j.flow c.loop-j.excess s t) (sym (c.loop-j.invariant.fresh none))

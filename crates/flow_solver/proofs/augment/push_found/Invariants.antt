@@ -9,12 +9,12 @@ use Rattle.flow_solver.proofs.augment.push_found.Given as goal
 abbrev pub invariant-loop-j : goal.invariant-loop-j
 invariant-loop-j l = record {
   noted : AreNoted l.initial.touched l.initial.flow l.touched l.flow;
-  state : IsUnderWay (length l.visits) l.rows l.potentials l.flow l.excess;
-  paths : ArePaths l.rows l.potentials l.visits;
+  state : IsUnderWay (length l.visits) l.graph.rows.items l.potentials l.flow l.excess;
+  paths : ArePaths l.graph.rows.items l.potentials l.visits;
   marks : AreMarkedAlike l.initial.visits l.visits;
   trail : l.trail ≡ record l.fn.trail { spent = l.trail.spent };
   spent : length l.trail.spent.items ≡ length l.fn.trail.spent.items;
-  done : ArePushes l.rows l.pushes l.initial.flow l.initial.excess l.flow l.excess;
+  done : ArePushes l.graph.rows.items l.pushes l.initial.flow l.initial.excess l.flow l.excess;
   fresh : l.pushes ≡ 0 → l.visits ≡ l.initial.visits;
   some : (i : ℕ) → i < l.j → IsFoundDeficit l.initial.excess l.initial.visits (node_at l.fn.trail.nodes.items i) → 0 < l.pushes;
 }

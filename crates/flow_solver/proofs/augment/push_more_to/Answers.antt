@@ -11,7 +11,7 @@ loop-init c = record {
   state = c.requires.state;
   paths = c.requires.paths;
   marks = λ v. refl;
-  pushed = ArePushes-none c.args.rows.now c.args.flow.now c.args.excess.now;
+  pushed = ArePushes-none c.args.graph.now.rows.items c.args.flow.now c.args.excess.now;
 }
 
 pub overflow_add-pushes : goal.overflow_add-pushes

@@ -14,12 +14,12 @@ same_amount c =
     to_z-of_z w64 c.amount_along-root.result.1 fits
 
 pub record IsDone (c : After-transfer) : Type 0 where
-  pub state : IsUnderWay (length c.args.visits.now) c.args.rows.now c.args.potentials.now c.shift.new.flow c.transfer.new.excess
-  pub pushes : ArePushes c.args.rows.now 1 c.args.flow.now c.args.excess.now c.shift.new.flow c.transfer.new.excess
+  pub state : IsUnderWay (length c.args.visits.now) c.args.graph.now.rows.items c.args.potentials.now c.shift.new.flow c.transfer.new.excess
+  pub pushes : ArePushes c.args.graph.now.rows.items 1 c.args.flow.now c.args.excess.now c.shift.new.flow c.transfer.new.excess
 
 is_done : (c : After-transfer) → IsDone c
 is_done c =
-    let rows = c.args.rows.now in
+    let rows = c.args.graph.now.rows.items in
     let q = c.args.potentials.now in
     let x = c.args.flow.now in
     let e = c.args.excess.now in
@@ -48,3 +48,12 @@ returns-clause-pushes c = (is_done (goal.at.returns-clause-pushes c).After-trans
 
 pub returns-clause-noted : goal.returns-clause-noted
 returns-clause-noted c = c.shift.ensures.noted
+
+pub returns-then-amount-lt1-clause-some : goal.returns-then-amount-lt1-clause-some
+returns-then-amount-lt1-clause-some c = λ can.
+    (let along = c.amount_along-root.ensures in
+    let fits : SFits w64 c.amount_along-root.result.1 = search rules in
+    let same : to_z w64 (of_z w64 c.amount_along-root.result.1) ≡ c.amount_along-root.result.1 = to_z-of_z w64 c.amount_along-root.result.1 fits in
+    let high = rw (← along.root) at can.in_excess in
+    let most = along.most (pos 1) (omega (arith, ints, high)) (omega (arith, ints, can.found.deficit)) can.room in
+    omega (arith, ints, same, most))

@@ -8,7 +8,7 @@ use Rattle.flow_solver.proofs.augment.walk_back.Given as goal
 abbrev pub invariant-loop-visits : goal.invariant-loop-visits
 invariant-loop-visits l = record {
   settled : mark_at l.visits l.node ≡ Settled;
-  paths : ArePaths l.rows l.potentials l.visits;
+  paths : ArePaths l.graph.rows.items l.potentials l.visits;
   marks : AreMarkedAlike l.initial.visits l.visits;
 }
 

@@ -1,4 +1,4 @@
-use Rattle.std.proofs.Common.{◌<◌, ◌-ℤ◌, SFits, arith, mod-lt, w64, rules}
+use Rattle.std.proofs.Common.{◌-ℤ◌, SFits, arith, mod-lt, w64, rules}
 use Rattle.std.proofs.lemmas.Int.{wrapping_sub_is}
 use Rattle.flow_solver.specs.Residual.{number_at}
 use Rattle.flow_solver.proofs.BalanceLemmas.{IsRaised-put, wrapped_onto}

@@ -11,41 +11,41 @@ use Rattle.flow_solver.proofs.cut.mark_by_ends.Goals.{In-Some, After-next_end-cu
 
 pub loop-current-init : goal.loop-current-init
 loop-current-init c =
-    let arcs = c.args.net.now.arcs in
-    let is = first_end_is c.args.net.now c.args.node c.first_end-current.result c.requires.net.lawful c.first_end-current.ensures.node c.first_end-current.ensures.no_node in
+    let arcs = c.args.graph.now.net.arcs in
+    let is = first_end_is c.args.graph.now.net c.args.node c.first_end-current.result c.requires.net.lawful c.first_end-current.ensures.node c.first_end-current.ensures.no_node in
     record {
       line = c.requires.line;
-      grown = IsGrown-refl c.args.side c.args.rows.now c.args.flow.now c.args.cut.now c.args.line.now c.args.len;
+      grown = IsGrown-refl c.args.side c.args.graph.now.rows.items c.args.flow.now c.args.cut.now c.args.line.now c.args.len;
       stands = stands_at arcs c.args.node (2 * length arcs) c.first_end-current.result (omega arith) is;
-      done = passed_far_first c.args.side c.args.rows.now c.args.flow.now c.args.cut.now c.args.node arcs c.args.row c.first_end-current.result is;
+      done = passed_far_first c.args.side c.args.graph.now.rows.items c.args.flow.now c.args.cut.now c.args.node arcs c.args.first_row c.first_end-current.result is;
     }
 
 -- the walk stands at this end
-at_end : (c : In-Some) → StandsAt c.args.net.now.arcs c.args.node (Some c.in-Some.end)
-at_end c = subst (StandsAt c.args.net.now.arcs c.args.node) c.in-Some.is c.loop-current.invariant.stands
+at_end : (c : In-Some) → StandsAt c.args.graph.now.net.arcs c.args.node (Some c.in-Some.end)
+at_end c = subst (StandsAt c.args.graph.now.net.arcs c.args.node) c.in-Some.is c.loop-current.invariant.stands
 
-next_is : (c : After-next_end-current) → IsNextEnd c.args.net.now.arcs c.args.node c.in-Some.end c.next_end-current.result
+next_is : (c : After-next_end-current) → IsNextEnd c.args.graph.now.net.arcs c.args.node c.in-Some.end c.next_end-current.result
 next_is c =
-    let arcs = c.args.net.now.arcs in
+    let arcs = c.args.graph.now.net.arcs in
     let at : StandsAt arcs c.args.node (Some c.in-Some.end) = subst (StandsAt arcs c.args.node) c.in-Some.is c.loop-current.invariant.stands in
     let next : c.next_end-current.result ≡ last_end_below arcs c.args.node c.in-Some.end = subst (λ (v : ℕ). c.next_end-current.result ≡ last_end_below arcs v c.in-Some.end) at.1 (c.next_end-current.ensures.end at.0) in
     subst (IsNextEnd arcs c.args.node c.in-Some.end) (sym next) (next_end_is arcs c.args.node c.in-Some.end)
 
 pub loop-current-smaller : goal.loop-current-smaller
 loop-current-smaller c =
-    let less = ends_left_less c.args.net.now.arcs c.args.node c.in-Some.end c.next_end-current.result (next_is (goal.at.loop-current-smaller c).After-next_end-current) in
+    let less = ends_left_less c.args.graph.now.net.arcs c.args.node c.in-Some.end c.next_end-current.result (next_is (goal.at.loop-current-smaller c).After-next_end-current) in
     subst (λ (o : Option ℕ). ends_left c.next_end-current.result < ends_left o) (sym c.in-Some.is) less
 
 pub loop-current-preserved : goal.loop-current-preserved
 loop-current-preserved c =
-    let arcs = c.args.net.now.arcs in
-    let rows = c.args.rows.now in
+    let arcs = c.args.graph.now.net.arcs in
+    let rows = c.args.graph.now.rows.items in
     let flow = c.args.flow.now in
-    let k = c.in-Some.end / 2 + c.args.row in
+    let k = c.in-Some.end / 2 + c.args.first_row in
     let next = next_is (goal.at.loop-current-preserved c).After-next_end-current in
     let at = at_end (goal.at.loop-current-preserved c).In-Some in
     let side = c.args.side in
-    let done : ArePassedFarIn side rows flow c.loop-current.cut c.args.node arcs c.args.row (Some c.in-Some.end) = subst (λ (o : Option ℕ). ArePassedFarIn side rows flow c.loop-current.cut c.args.node arcs c.args.row o) c.in-Some.is c.loop-current.invariant.done in
+    let done : ArePassedFarIn side rows flow c.loop-current.cut c.args.node arcs c.args.first_row (Some c.in-Some.end) = subst (λ (o : Option ℕ). ArePassedFarIn side rows flow c.loop-current.cut c.args.node arcs c.args.first_row o) c.in-Some.is c.loop-current.invariant.done in
     let far : in_set c.loop-current.cut (near_at side rows k (way_from side c.in-Some.end)) ≡ true → IsFarIn side rows flow c.mark_far-longer.new.cut k (way_from side c.in-Some.end) =
     subst (λ (w : Way). in_set c.loop-current.cut (near_at side rows k w) ≡ true → IsFarIn side rows flow c.mark_far-longer.new.cut k w) c.way_from-way.ensures c.mark_far-longer.ensures.far in
     let marked = c.loop-current.invariant.grown.kept c.args.node c.requires.marked in
@@ -53,9 +53,9 @@ loop-current-preserved c =
       line = c.mark_far-longer.ensures.line;
       grown = IsGrown-trans c.loop-current.invariant.grown c.mark_far-longer.ensures.grown;
       stands = stands_at arcs c.args.node c.in-Some.end c.next_end-current.result (omega (arith, at.0)) next;
-      done = passed_far_more side rows flow c.loop-current.cut c.mark_far-longer.new.cut c.args.node arcs c.args.row c.in-Some.end c.next_end-current.result c.mark_far-longer.ensures.grown.kept done (λ near. far (ap (in_set c.loop-current.cut) near ∙ marked)) next;
+      done = passed_far_more side rows flow c.loop-current.cut c.mark_far-longer.new.cut c.args.node arcs c.args.first_row c.in-Some.end c.next_end-current.result c.mark_far-longer.ensures.grown.kept done (λ near. far (ap (in_set c.loop-current.cut) near ∙ marked)) next;
     }
 
 pub returns-clause-far : goal.returns-clause-far
 returns-clause-far c =
-    subst (λ (o : Option ℕ). ArePassedFarIn c.args.side c.args.rows.now c.args.flow.now c.loop-current.cut c.args.node c.args.net.now.arcs c.args.row o) c.in_default.is c.loop-current.invariant.done
+    subst (λ (o : Option ℕ). ArePassedFarIn c.args.side c.args.graph.now.rows.items c.args.flow.now c.loop-current.cut c.args.node c.args.graph.now.net.arcs c.args.first_row o) c.in_default.is c.loop-current.invariant.done

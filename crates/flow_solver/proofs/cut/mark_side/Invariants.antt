@@ -6,8 +6,8 @@ abbrev pub invariant-loop-next : goal.invariant-loop-next
 invariant-loop-next l = record {
   line : IsLineOf l.cut l.line l.len;
   holds : HoldsRoots l.side l.excess l.cut;
-  least : (other : List Bool) → IsClosed l.side l.rows l.flow other → HoldsRoots l.side l.excess other → (v : ℕ) → in_set l.cut v ≡ true → in_set other v ≡ true;
-  done : (j : ℕ) → j < l.next → AreFarIn l.side l.rows l.flow l.cut (node_at l.line j);
+  least : (other : List Bool) → IsClosed l.side l.graph.rows.items l.flow other → HoldsRoots l.side l.excess other → (v : ℕ) → in_set l.cut v ≡ true → in_set other v ≡ true;
+  done : (j : ℕ) → j < l.next → AreFarIn l.side l.graph.rows.items l.flow l.cut (node_at l.line j);
 }
 
 abbrev pub decreases-loop-next : goal.decreases-loop-next

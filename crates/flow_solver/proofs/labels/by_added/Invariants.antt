@@ -5,10 +5,10 @@ use Rattle.flow_solver.proofs.labels.by_added.Given as goal
 
 abbrev pub invariant-loop-current : goal.invariant-loop-current
 invariant-loop-current l = record {
-  opens : Opens l.rows l.flow l.potentials l.visits l.v l.best;
+  opens : Opens l.graph.rows.items l.flow l.potentials l.visits l.v l.best;
   falls : l.best.key ≤ℤ l.fn.first.key;
-  stands : StandsAt l.net.arcs l.v l.current;
-  done : AllPassed l.net.arcs l.v l.current (IsEndNoDearer l.rows l.flow l.potentials l.visits l.v l.best l.row);
+  stands : StandsAt l.graph.net.arcs l.v l.current;
+  done : AllPassed l.graph.net.arcs l.v l.current (IsEndNoDearer l.graph.rows.items l.flow l.potentials l.visits l.v l.best l.first_row);
 }
 
 abbrev pub decreases-loop-current : goal.decreases-loop-current

@@ -7,22 +7,22 @@ use Rattle.flow_solver.proofs.StarLemmas.{all_ends, named_rows}
 use Rattle.flow_solver.proofs.labels.by_ends.Goals as goal
 
 pub spokes_of-requires-clause-node : goal.spokes_of-requires-clause-node
-spokes_of-requires-clause-node c = omega (arith, c.requires.star.sized, c.requires.forest.known.sized, c.requires.v_in)
+spokes_of-requires-clause-node c = omega (arith, c.requires.graph.star.sized, c.requires.forest.known.sized, c.requires.v_in)
 
 pub spokes_of-requires-clause-rising : goal.spokes_of-requires-clause-rising
-spokes_of-requires-clause-rising c = c.requires.star.rising c.args.v (omega (arith, c.requires.forest.known.sized, c.requires.v_in))
+spokes_of-requires-clause-rising c = c.requires.graph.star.rising c.args.v (omega (arith, c.requires.forest.known.sized, c.requires.v_in))
 
 pub by_spokes-requires-clause-named : goal.by_spokes-requires-clause-named
 by_spokes-requires-clause-named c =
-    subst (AllNameOther c.args.rows.now c.args.row c.args.star.now.arcs) (sym c.spokes_of.ensures)
-    (named_rows c.args.net.now c.args.rows.now c.args.row (length c.args.potentials.now) c.args.v c.args.star.now c.requires.net c.requires.split c.requires.star)
+    subst (AllNameOther c.args.graph.now.rows.items c.args.first_row c.args.graph.now.star.arcs) (sym c.spokes_of.ensures)
+    (named_rows c.args.graph.now.net c.args.graph.now.rows.items c.args.first_row (length c.args.potentials.now) c.args.v c.args.graph.now.star c.requires.graph.rows c.requires.split c.requires.graph.star)
 
 pub returns-clause-falls : goal.returns-clause-falls
 returns-clause-falls c = omega (arith, ints, c.by_spokes.ensures.falls, c.by_added-added.ensures.falls)
 
 pub returns-clause-no_dearer : goal.returns-clause-no_dearer
 returns-clause-no_dearer c =
-    all_ends c.args.net.now.arcs c.args.v (length c.args.potentials.now) c.args.star.now (IsEndNoDearer c.args.rows.now c.args.flow.now c.args.potentials.now c.args.visits.now c.args.v c.by_spokes.result c.args.row) c.requires.star
+    all_ends c.args.graph.now.net.arcs c.args.v (length c.args.potentials.now) c.args.graph.now.star (IsEndNoDearer c.args.graph.now.rows.items c.args.flow.now c.args.potentials.now c.args.visits.now c.args.v c.by_spokes.result c.args.first_row) c.requires.graph.star
     (λ end later lt at hop. omega (arith, ints, c.by_spokes.ensures.falls, c.by_added-added.ensures.no_dearer end later lt at hop))
-    (subst (λ (spokes : List Spoke). AllSpokes c.args.star.now.arcs spokes (length spokes) (IsEndNoDearer c.args.rows.now c.args.flow.now c.args.potentials.now c.args.visits.now c.args.v c.by_spokes.result c.args.row))
+    (subst (λ (spokes : List Spoke). AllSpokes c.args.graph.now.star.arcs spokes (length spokes) (IsEndNoDearer c.args.graph.now.rows.items c.args.flow.now c.args.potentials.now c.args.visits.now c.args.v c.by_spokes.result c.args.first_row))
     c.spokes_of.ensures c.by_spokes.ensures.no_dearer)

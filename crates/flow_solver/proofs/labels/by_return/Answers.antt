@@ -8,6 +8,6 @@ use Rattle.flow_solver.proofs.labels.by_return.Goals as goal
 pub returns-clause-no_dearer : goal.returns-clause-no_dearer
 returns-clause-no_dearer c = by_way
   where
-    by_way : 0 < c.args.row → (way : Way) → IsNoDearer c.args.rows.now c.args.flow.now c.args.potentials.now c.args.visits.now c.args.v c.nearer.result 0 way
+    by_way : 0 < c.args.first_row → (way : Way) → IsNoDearer c.args.graph.now.rows.items c.args.flow.now c.args.potentials.now c.args.visits.now c.args.v c.nearer.result 0 way
     by_way some Forward hop = omega (arith, ints, c.nearer.ensures.falls, c.nearer-forward.ensures.no_dearer hop)
     by_way some Backward hop = c.nearer.ensures.no_dearer hop

@@ -5,7 +5,7 @@ use Rattle.flow_solver.proofs.labels.by_spokes.Given as goal
 
 abbrev pub invariant-loop-spoke : goal.invariant-loop-spoke
 invariant-loop-spoke l = record {
-  opens : Opens l.rows l.flow l.potentials l.visits l.v l.best;
+  opens : Opens l.graph.rows.items l.flow l.potentials l.visits l.v l.best;
   falls : l.best.key ≤ℤ l.fn.first.key;
-  done : AllSpokes l.arcs l.spokes l.spoke-index (IsEndNoDearer l.rows l.flow l.potentials l.visits l.v l.best l.row);
+  done : AllSpokes l.graph.star.arcs l.spokes l.spoke-index (IsEndNoDearer l.graph.rows.items l.flow l.potentials l.visits l.v l.best l.first_row);
 }

@@ -4,6 +4,6 @@ use Rattle.flow_solver.proofs.labels.enter.Given as goal
 
 abbrev pub invariant-loop-v : goal.invariant-loop-v
 invariant-loop-v l = record {
-  entered : IsEntered l.rows l.flow l.potentials l.visits l.v;
+  entered : IsEntered l.graph.rows.items l.flow l.potentials l.visits l.v;
   queue : IsQueueOf l.visits l.queue;
 }

@@ -6,8 +6,8 @@ use Rattle.flow_solver.proofs.labels.search_rest.Given as goal
 abbrev pub invariant-loop-u : goal.invariant-loop-u
 invariant-loop-u l = record {
   queue : IsQueueOf l.visits l.queue;
-  known : IsSearch l.rows l.flow l.potentials l.visits;
-  relaxed : AllRelaxed l.rows l.flow l.potentials l.visits;
+  known : IsSearch l.graph.rows.items l.flow l.potentials l.visits;
+  relaxed : AllRelaxed l.graph.rows.items l.flow l.potentials l.visits;
   from_all : IsFromAll l.potentials l.visits;
   place : l.place ≤ length l.order;
 }

@@ -18,7 +18,7 @@ reach_is c =
     let known = c.settle_node-settled.ensures.search in
     let reached = settled_is_reached c.settle_node-settled.new.visits c.in-Some.u (settles_u c).now_settled in
     let low = known.key_at_least_0 c.in-Some.u reached in
-    let high = key_high c.args.rows.now c.args.flow.now c.args.potentials.now c.settle_node-settled.new.visits c.in-Some.u c.requires.certified known reached in
+    let high = key_high c.args.graph.now.rows.items c.args.flow.now c.args.potentials.now c.settle_node-settled.new.visits c.in-Some.u c.requires.certified known reached in
     let fits : SFits w64 (key_at c.settle_node-settled.new.visits c.in-Some.u) = omega (arith, ints, low, high) in
     to_z-of_z w64 (key_at c.settle_node-settled.new.visits c.in-Some.u) fits
 
@@ -26,12 +26,12 @@ reach_is c =
 one_more : (c : After-settle_node-settled) → number_at c.args.excess.now c.in-Some.u <ℤ pos 0 → IsFinding c.args.excess.now c.settle_node-settled.new.visits (to_z w64 (of_z w64 (key_at c.settle_node-settled.new.visits c.in-Some.u))) (c.loop-u.found + 1)
 one_more c low =
     subst (λ (r : ℤ). IsFinding c.args.excess.now c.settle_node-settled.new.visits r (c.loop-u.found + 1)) (sym (reach_is c))
-    (IsFinding-deficit c.args.rows.now c.args.flow.now c.args.potentials.now c.args.excess.now c.loop-u.visits c.settle_node-settled.new.visits c.in-Some.u _ c.loop-u.found c.requires.certified c.loop-u.invariant.known c.settle_node-settled.ensures.search c.in-Some.ensures.found.is_open (settles_u c) c.loop-u.invariant.finding low)
+    (IsFinding-deficit c.args.graph.now.rows.items c.args.flow.now c.args.potentials.now c.args.excess.now c.loop-u.visits c.settle_node-settled.new.visits c.in-Some.u _ c.loop-u.found c.requires.certified c.loop-u.invariant.known c.settle_node-settled.ensures.search c.in-Some.ensures.found.is_open (settles_u c) c.loop-u.invariant.finding low)
 
 no_more : (c : After-settle_node-settled) → pos 0 ≤ℤ number_at c.args.excess.now c.in-Some.u → IsFinding c.args.excess.now c.settle_node-settled.new.visits (to_z w64 (of_z w64 (key_at c.settle_node-settled.new.visits c.in-Some.u))) c.loop-u.found
 no_more c high =
     subst (λ (r : ℤ). IsFinding c.args.excess.now c.settle_node-settled.new.visits r c.loop-u.found) (sym (reach_is c))
-    (IsFinding-other c.args.rows.now c.args.flow.now c.args.potentials.now c.args.excess.now c.loop-u.visits c.settle_node-settled.new.visits c.in-Some.u _ c.loop-u.found c.requires.certified c.loop-u.invariant.known c.settle_node-settled.ensures.search c.in-Some.ensures.found.is_open (settles_u c) c.loop-u.invariant.finding high)
+    (IsFinding-other c.args.graph.now.rows.items c.args.flow.now c.args.potentials.now c.args.excess.now c.loop-u.visits c.settle_node-settled.new.visits c.in-Some.u _ c.loop-u.found c.requires.certified c.loop-u.invariant.known c.settle_node-settled.ensures.search c.in-Some.ensures.found.is_open (settles_u c) c.loop-u.invariant.finding high)
 
 -- the node that was settled is in the trail
 noted : (c : After-note) → IsTrailOf c.settle_node-settled.new.visits c.note.new.self
@@ -74,7 +74,7 @@ loop-u-preserved c = record {
 
 pub loop-u-init : goal.loop-u-init
 loop-u-init c =
-    let arcs = c.args.rows.now in
+    let arcs = c.args.graph.now.rows.items in
     let x = c.args.flow.now in
     let p = c.args.potentials.now in
     let excess = c.args.excess.now in
@@ -87,6 +87,6 @@ loop-u-init c =
       known = known_first arcs x p excess s c.requires.certified sized opened.sources opened.others;
       relaxed = relaxed_first arcs x p excess s c.requires.certified sized opened.sources opened.others;
       from_excess = from_excess_first arcs x p excess s c.requires.certified sized opened.sources opened.others;
-      few = c.wanted_deficits-wanted.ensures;
+      few = omega (arith, c.wanted_deficits-wanted.ensures);
       finding = finding_first arcs x p excess s c.requires.certified sized opened.sources opened.others;
     }

@@ -6,10 +6,10 @@ use Rattle.flow_solver.proofs.search.relax_added.Given as goal
 abbrev pub invariant-loop-current : goal.invariant-loop-current
 invariant-loop-current l = record {
   queue : IsQueueOf l.visits l.queue;
-  known : IsSearch l.rows l.flow l.potentials l.visits;
+  known : IsSearch l.graph.rows.items l.flow l.potentials l.visits;
   better : Improves l.initial.visits l.visits;
-  stands : StandsAt l.net.arcs l.u l.current;
-  done : ArePassedRelaxed l.rows l.flow l.potentials l.visits l.u l.net.arcs l.row l.current;
+  stands : StandsAt l.graph.net.arcs l.u l.current;
+  done : ArePassedRelaxed l.graph.rows.items l.flow l.potentials l.visits l.u l.graph.net.arcs l.first_row l.current;
 }
 
 abbrev pub decreases-loop-current : goal.decreases-loop-current

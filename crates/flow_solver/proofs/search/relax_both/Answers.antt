@@ -12,7 +12,7 @@ returns-clause-improves c = Improves-trans c.relax.ensures.improves c.relax-2.en
 pub returns-clause-relaxed : goal.returns-clause-relaxed
 returns-clause-relaxed c = by_way
   where
-    by_way : (way : Way) → IsResidualFrom c.args.rows.now c.args.flow.now c.args.u c.args.k way → IsRelaxed c.args.rows.now c.args.potentials.now c.relax-2.new.visits c.args.k way
+    by_way : (way : Way) → IsResidualFrom c.args.graph.now.rows.items c.args.flow.now c.args.u c.args.k way → IsRelaxed c.args.graph.now.rows.items c.args.potentials.now c.relax-2.new.visits c.args.k way
     by_way Forward h =
         let last = IsLastSettled-improves c.requires.last c.relax.ensures.improves in
         IsRelaxed-improves (ap (mark_at c.relax.new.visits) h.starts ∙ last.settled) c.relax-2.ensures.improves (c.relax.ensures.relaxed h)

@@ -7,16 +7,16 @@ use Rattle.flow_solver.proofs.search.relax_ends.Goals as goal
 
 pub spokes_of-requires-clause-node : goal.spokes_of-requires-clause-node
 spokes_of-requires-clause-node c =
-    omega (arith, c.requires.star.sized, c.requires.search.sized, in_range c.args.visits.now c.args.u (settled_is_reached c.args.visits.now c.args.u c.requires.last.settled))
+    omega (arith, c.requires.graph.star.sized, c.requires.search.sized, in_range c.args.visits.now c.args.u (settled_is_reached c.args.visits.now c.args.u c.requires.last.settled))
 
 pub spokes_of-requires-clause-rising : goal.spokes_of-requires-clause-rising
 spokes_of-requires-clause-rising c =
-    c.requires.star.rising c.args.u (omega (arith, c.requires.search.sized, in_range c.args.visits.now c.args.u (settled_is_reached c.args.visits.now c.args.u c.requires.last.settled)))
+    c.requires.graph.star.rising c.args.u (omega (arith, c.requires.search.sized, in_range c.args.visits.now c.args.u (settled_is_reached c.args.visits.now c.args.u c.requires.last.settled)))
 
 pub relax_spokes-requires-clause-named : goal.relax_spokes-requires-clause-named
 relax_spokes-requires-clause-named c =
-    subst (AllNameOther c.args.rows.now c.args.row c.args.star.now.arcs) (sym c.spokes_of.ensures)
-    (named_rows c.args.net.now c.args.rows.now c.args.row (length c.args.potentials.now) c.args.u c.args.star.now c.requires.net c.requires.split c.requires.star)
+    subst (AllNameOther c.args.graph.now.rows.items c.args.first_row c.args.graph.now.star.arcs) (sym c.spokes_of.ensures)
+    (named_rows c.args.graph.now.net c.args.graph.now.rows.items c.args.first_row (length c.args.potentials.now) c.args.u c.args.graph.now.star c.requires.graph.rows c.requires.split c.requires.graph.star)
 
 pub relax_spokes-requires-clause-last : goal.relax_spokes-requires-clause-last
 relax_spokes-requires-clause-last c = IsLastSettled-improves c.requires.last c.relax_added.ensures.improves
@@ -26,6 +26,6 @@ returns-clause-improves c = Improves-trans c.relax_added.ensures.improves c.rela
 
 pub returns-clause-relaxed : goal.returns-clause-relaxed
 returns-clause-relaxed c =
-    ends_relaxed c.args.net.now c.args.rows.now c.args.flow.now c.args.potentials.now c.relax_added.new.visits c.relax_spokes.new.visits c.args.u c.args.row (length c.args.potentials.now) c.args.star.now
-    c.requires.net c.requires.split c.requires.star (IsLastSettled-improves c.requires.last c.relax_added.ensures.improves) c.relax_spokes.ensures.improves c.relax_added.ensures.relaxed
-    (subst (λ (spokes : List Spoke). AreSpokesRelaxed c.args.rows.now c.args.flow.now c.args.potentials.now c.relax_spokes.new.visits c.args.u c.args.row c.args.star.now.arcs spokes (length spokes)) c.spokes_of.ensures c.relax_spokes.ensures.relaxed)
+    ends_relaxed c.args.graph.now.net c.args.graph.now.rows.items c.args.flow.now c.args.potentials.now c.relax_added.new.visits c.relax_spokes.new.visits c.args.u c.args.first_row (length c.args.potentials.now) c.args.graph.now.star
+    c.requires.graph.rows c.requires.split c.requires.graph.star (IsLastSettled-improves c.requires.last c.relax_added.ensures.improves) c.relax_spokes.ensures.improves c.relax_added.ensures.relaxed
+    (subst (λ (spokes : List Spoke). AreSpokesRelaxed c.args.graph.now.rows.items c.args.flow.now c.args.potentials.now c.relax_spokes.new.visits c.args.u c.args.first_row c.args.graph.now.star.arcs spokes (length spokes)) c.spokes_of.ensures c.relax_spokes.ensures.relaxed)

@@ -9,10 +9,10 @@ use Rattle.flow_solver.proofs.search.relax_spoke.Goals as goal
 
 pub bounds-visits-spoke : goal.bounds-visits-spoke
 bounds-visits-spoke c =
-    rw (c.requires.named (omega arith)) (rw c.requires.search.sized (end_of-in (length c.args.potentials.now) (arc_at c.args.rows.now (c.args.spoke.end / 2 + c.args.row)) (end_way c.args.spoke.end) (c.requires.certified.flow.rows (c.args.spoke.end / 2 + c.args.row) (omega (arith, c.requires.few)))))
+    rw (c.requires.named (omega arith)) (rw c.requires.search.sized (end_of-in (length c.args.potentials.now) (arc_at c.args.graph.now.rows.items (c.args.spoke.end / 2 + c.args.first_row)) (end_way c.args.spoke.end) (c.requires.certified.flow.rows (c.args.spoke.end / 2 + c.args.first_row) (omega (arith, c.requires.few)))))
 
 pub returns-then-is_settled-clause-relaxed : goal.returns-then-is_settled-clause-relaxed
 returns-then-is_settled-clause-relaxed c = λ covered from.
     (let settled : mark_at c.args.visits.now c.args.spoke.other ≡ Settled = search rules in
-    relaxed_settled c.args.rows.now c.args.flow.now c.args.potentials.now c.args.visits.now c.args.u (c.args.spoke.end / 2 + c.args.row) (end_way c.args.spoke.end) c.requires.certified c.requires.last from
+    relaxed_settled c.args.graph.now.rows.items c.args.flow.now c.args.potentials.now c.args.visits.now c.args.u (c.args.spoke.end / 2 + c.args.first_row) (end_way c.args.spoke.end) c.requires.certified c.requires.last from
     (ap (mark_at c.args.visits.now) (sym (c.requires.named covered)) ∙ settled))

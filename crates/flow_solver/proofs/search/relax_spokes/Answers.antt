@@ -11,7 +11,7 @@ loop-spoke-preserved c = record {
   queue = c.relax_spoke.ensures.queue;
   known = c.relax_spoke.ensures.search;
   better = Improves-trans c.loop-spoke.invariant.better c.relax_spoke.ensures.improves;
-  done = spokes_more c.args.rows.now c.args.flow.now c.args.potentials.now c.loop-spoke.visits c.relax_spoke.new.visits c.args.u c.args.row c.args.arcs c.args.spokes.now c.loop-spoke.spoke-index
+  done = spokes_more c.args.graph.now.rows.items c.args.flow.now c.args.potentials.now c.loop-spoke.visits c.relax_spoke.new.visits c.args.u c.args.first_row c.args.graph.now.star.arcs c.args.spokes.now c.loop-spoke.spoke-index
       (IsLastSettled-improves c.requires.last c.loop-spoke.invariant.better) c.relax_spoke.ensures.improves c.loop-spoke.invariant.done c.relax_spoke.ensures.relaxed;
 }
 

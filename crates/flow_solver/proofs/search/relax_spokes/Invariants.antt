@@ -6,7 +6,7 @@ use Rattle.flow_solver.proofs.search.relax_spokes.Given as goal
 abbrev pub invariant-loop-spoke : goal.invariant-loop-spoke
 invariant-loop-spoke l = record {
   queue : IsQueueOf l.visits l.queue;
-  known : IsSearch l.rows l.flow l.potentials l.visits;
+  known : IsSearch l.graph.rows.items l.flow l.potentials l.visits;
   better : Improves l.initial.visits l.visits;
-  done : AreSpokesRelaxed l.rows l.flow l.potentials l.visits l.u l.row l.arcs l.spokes l.spoke-index;
+  done : AreSpokesRelaxed l.graph.rows.items l.flow l.potentials l.visits l.u l.first_row l.graph.star.arcs l.spokes l.spoke-index;
 }

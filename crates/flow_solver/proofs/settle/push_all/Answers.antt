@@ -27,7 +27,7 @@ loop-reach-init c = record {
     not_above = omega (arith, ints);
     at_least = λ v. omega (arith, ints, c.requires.potentials_in.at_least v);
   };
-  pushed = ArePushes-none c.args.rows.now c.args.flow.now c.args.excess.now;
+  pushed = ArePushes-none c.args.graph.now.rows.items c.args.flow.now c.args.excess.now;
 }
 
 reach_is : (reach : ℤ) (e : List ℤ) (visits : List Visit) → HasFound e visits reach → to_z w64 (of_z w64 reach) ≡ reach
@@ -44,8 +44,8 @@ push_found-pushes-requires-clause-state c =
     let at = (goal.at.push_found-pushes-requires-clause-state c).After-lower in
     let inv = c.loop-reach.invariant in
     record {
-      flow = subst (λ (n : ℕ). IsFlow n c.args.rows.now c.loop-reach.flow) (sym c.in-Some.ensures.found.search.sized) inv.certified.flow;
-      none_below = none_below_after c.args.rows.now c.loop-reach.flow c.loop-reach.potentials c.lower.new.potentials c.search_on.new.visits c.in-Some.reach (to_z w64 c.loop-reach.fallen-bits) inv.certified c.in-Some.ensures.found.search c.in-Some.ensures.found.relaxed c.in-Some.ensures.found.found.front (is_lowered at) inv.near;
+      flow = subst (λ (n : ℕ). IsFlow n c.args.graph.now.rows.items c.loop-reach.flow) (sym c.in-Some.ensures.found.search.sized) inv.certified.flow;
+      none_below = none_below_after c.args.graph.now.rows.items c.loop-reach.flow c.loop-reach.potentials c.lower.new.potentials c.search_on.new.visits c.in-Some.reach (to_z w64 c.loop-reach.fallen-bits) inv.certified c.in-Some.ensures.found.search c.in-Some.ensures.found.relaxed c.in-Some.ensures.found.found.front (is_lowered at) inv.near;
       excess_sized = omega (arith, c.loop-reach.auto.excess, c.loop-reach.auto.potentials, c.requires.excess_in, c.in-Some.ensures.found.search.sized);
       small = inv.small;
     }
@@ -55,19 +55,19 @@ push_found-pushes-requires-clause-potentials_in c =
     let at = (goal.at.push_found-pushes-requires-clause-potentials_in c).After-lower in
     let same : length c.search_on.new.visits ≡ length c.lower.new.potentials = c.in-Some.ensures.found.search.sized ∙ sym c.lower.auto.potentials in
     subst (λ (n : ℕ). ArePotentials n potential_floor c.lower.new.potentials) (sym same)
-    (potentials_after c.args.rows.now c.loop-reach.flow c.loop-reach.potentials c.lower.new.potentials c.search_on.new.visits c.in-Some.reach (to_z w64 c.loop-reach.fallen-bits) c.loop-reach.invariant.certified c.in-Some.ensures.found.search c.in-Some.ensures.found.relaxed c.in-Some.ensures.found.found.front (is_lowered at) c.loop-reach.invariant.near)
+    (potentials_after c.args.graph.now.rows.items c.loop-reach.flow c.loop-reach.potentials c.lower.new.potentials c.search_on.new.visits c.in-Some.reach (to_z w64 c.loop-reach.fallen-bits) c.loop-reach.invariant.certified c.in-Some.ensures.found.search c.in-Some.ensures.found.relaxed c.in-Some.ensures.found.found.front (is_lowered at) c.loop-reach.invariant.near)
 
 pub push_found-pushes-requires-clause-paths : goal.push_found-pushes-requires-clause-paths
 push_found-pushes-requires-clause-paths c =
     let at = (goal.at.push_found-pushes-requires-clause-paths c).After-lower in
     record {
       paths = paths_of_search c.in-Some.ensures.found.search;
-      tight = paths_tight c.args.rows.now c.loop-reach.flow c.loop-reach.potentials c.lower.new.potentials c.search_on.new.visits c.in-Some.reach (to_z w64 c.loop-reach.fallen-bits) c.loop-reach.invariant.certified c.in-Some.ensures.found.search c.in-Some.ensures.found.relaxed c.in-Some.ensures.found.found.front (is_lowered at) c.loop-reach.invariant.near;
+      tight = paths_tight c.args.graph.now.rows.items c.loop-reach.flow c.loop-reach.potentials c.lower.new.potentials c.search_on.new.visits c.in-Some.reach (to_z w64 c.loop-reach.fallen-bits) c.loop-reach.invariant.certified c.in-Some.ensures.found.search c.in-Some.ensures.found.relaxed c.in-Some.ensures.found.found.front (is_lowered at) c.loop-reach.invariant.near;
     }
 
 pub push_found-pushes-requires-clause-can_push : goal.push_found-pushes-requires-clause-can_push
 push_found-pushes-requires-clause-can_push c = λ t found.
-    can_push c.args.rows.now c.loop-reach.flow c.loop-reach.potentials c.loop-reach.excess c.search_on.new.visits t c.in-Some.ensures.found.search c.in-Some.ensures.found.from_excess found
+    can_push c.args.graph.now.rows.items c.loop-reach.flow c.loop-reach.potentials c.loop-reach.excess c.search_on.new.visits t c.in-Some.ensures.found.search c.in-Some.ensures.found.from_excess found
 
 pub overflow_add-pushes : goal.overflow_add-pushes
 overflow_add-pushes c =
@@ -97,8 +97,8 @@ keep_near-fallen-requires-clause-certified c =
     let at = (goal.at.keep_near-fallen-requires-clause-certified c).After-lower in
     let same : length c.push_found-pushes.new.visits ≡ length c.lower.new.potentials = c.push_found-pushes.auto.visits ∙ c.in-Some.ensures.found.search.sized ∙ sym c.lower.auto.potentials in
     record {
-      flow = subst (λ (n : ℕ). IsFlow n c.args.rows.now c.push_found-pushes.new.flow) same c.push_found-pushes.ensures.state.flow;
-      potentials = potentials_after c.args.rows.now c.loop-reach.flow c.loop-reach.potentials c.lower.new.potentials c.search_on.new.visits c.in-Some.reach (to_z w64 c.loop-reach.fallen-bits) c.loop-reach.invariant.certified c.in-Some.ensures.found.search c.in-Some.ensures.found.relaxed c.in-Some.ensures.found.found.front (is_lowered at) c.loop-reach.invariant.near;
+      flow = subst (λ (n : ℕ). IsFlow n c.args.graph.now.rows.items c.push_found-pushes.new.flow) same c.push_found-pushes.ensures.state.flow;
+      potentials = potentials_after c.args.graph.now.rows.items c.loop-reach.flow c.loop-reach.potentials c.lower.new.potentials c.search_on.new.visits c.in-Some.reach (to_z w64 c.loop-reach.fallen-bits) c.loop-reach.invariant.certified c.in-Some.ensures.found.search c.in-Some.ensures.found.relaxed c.in-Some.ensures.found.found.front (is_lowered at) c.loop-reach.invariant.near;
       none_below = c.push_found-pushes.ensures.state.none_below;
     }
 
@@ -106,8 +106,8 @@ pub keep_near-fallen-requires-clause-at_least : goal.keep_near-fallen-requires-c
 keep_near-fallen-requires-clause-at_least c = λ v.
     (let at = (goal.at.keep_near-fallen-requires-clause-at_least c).After-lower in
     let near = c.loop-reach.invariant.near in
-    let further = fallen_further c.args.rows.now c.loop-reach.flow c.loop-reach.potentials c.lower.new.potentials c.search_on.new.visits c.in-Some.reach (to_z w64 c.loop-reach.fallen-bits) c.loop-reach.invariant.certified c.in-Some.ensures.found.search c.in-Some.ensures.found.relaxed c.in-Some.ensures.found.found.front (is_lowered at) near v in
-    let high = reach_high c.args.rows.now c.loop-reach.flow c.loop-reach.potentials c.lower.new.potentials c.search_on.new.visits c.in-Some.reach (to_z w64 c.loop-reach.fallen-bits) c.loop-reach.invariant.certified c.in-Some.ensures.found.search c.in-Some.ensures.found.relaxed c.in-Some.ensures.found.found.front (is_lowered at) near in
+    let further = fallen_further c.args.graph.now.rows.items c.loop-reach.flow c.loop-reach.potentials c.lower.new.potentials c.search_on.new.visits c.in-Some.reach (to_z w64 c.loop-reach.fallen-bits) c.loop-reach.invariant.certified c.in-Some.ensures.found.search c.in-Some.ensures.found.relaxed c.in-Some.ensures.found.found.front (is_lowered at) near v in
+    let high = reach_high c.args.graph.now.rows.items c.loop-reach.flow c.loop-reach.potentials c.lower.new.potentials c.search_on.new.visits c.in-Some.reach (to_z w64 c.loop-reach.fallen-bits) c.loop-reach.invariant.certified c.in-Some.ensures.found.search c.in-Some.ensures.found.relaxed c.in-Some.ensures.found.found.front (is_lowered at) near in
     let low = c.in-Some.ensures.found.found.front.not_below_0 in
     omega (arith, ints, further, high, low, near.not_below_0, near.not_above, reach_is c.in-Some.reach c.loop-reach.excess c.search_on.new.visits c.in-Some.ensures.found.found))
 

@@ -10,7 +10,7 @@ use Rattle.flow_solver.proofs.settle.push_all.Given as goal
 
 abbrev pub invariant-loop-reach : goal.invariant-loop-reach
 invariant-loop-reach l = record {
-  certified : IsCertified l.rows l.flow l.potentials;
+  certified : IsCertified l.graph.rows.items l.flow l.potentials;
   small : AreSmall l.excess;
   labels : IsLabelsFor (length l.potentials) l.labels;
   sized : IsQueueFor (length l.potentials) l.queue;
@@ -19,7 +19,7 @@ invariant-loop-reach l = record {
   noted_flow : AreNoted l.initial.touched_flow l.initial.flow l.touched_flow l.flow;
   noted_potentials : AreNoted l.initial.touched_potentials l.initial.potentials l.touched_potentials l.potentials;
   near : IsNear l.potentials l.fallen;
-  pushed : ArePushes l.rows l.pushes l.initial.flow l.initial.excess l.flow l.excess;
+  pushed : ArePushes l.graph.rows.items l.pushes l.initial.flow l.initial.excess l.flow l.excess;
 }
 
 abbrev pub decreases-loop-reach : goal.decreases-loop-reach

@@ -1,34 +1,36 @@
 use Rattle.std.proofs.Common.{refl, arith}
-use Rattle.session.proofs.Numbers.{in_order, passed_again, passed_more, all_passed}
+use Rattle.session.proofs.Numbers.{in_order, listed_more, all_listed}
 use Rattle.session.proofs.differences.differences.Goals as goal
-use Rattle.session.proofs.differences.differences.Goals.{then-last-k+in_ok-push, else-last-k}
 
-pub bounds-old-last : goal.bounds-old-last
-bounds-old-last g c =
-    let order = in_order c.in_ok-numbers.numbers.items c.sort_unstable.new.self.items c.deref-k-items.result.now c.args.old.now c.args.new.now c.in_ok-numbers.ensures.differ c.in_ok-numbers.ensures.named c.sort_unstable.ensures.permutation c.sort_unstable.ensures.sorted c.deref-k-items.ensures.value in
-    let at = order.differ c.loop-k.k-index 0 c.loop-k-test.true in
+pub overflow_sub-number : goal.overflow_sub-number
+overflow_sub-number g c =
+    let order = in_order c.in_ok-numbers.numbers.items c.sort_unstable.new.self.items c.args.old.now c.args.new.now c.sort_unstable.ensures.permutation c.deref-number-items.result.now c.in_ok-numbers.ensures.differ c.in_ok-numbers.ensures.named c.in_ok-numbers.ensures.apart c.sort_unstable.ensures.sorted c.deref-number-items.ensures.value in
+    let at = order.differ c.loop-number.number-index 0 c.loop-number-test.true in
     omega (arith, at.0, at.1)
 
-pub offset_bounds-old-last : goal.offset_bounds-old-last
-offset_bounds-old-last g c =
-    let order = in_order c.in_ok-numbers.numbers.items c.sort_unstable.new.self.items c.deref-k-items.result.now c.args.old.now c.args.new.now c.in_ok-numbers.ensures.differ c.in_ok-numbers.ensures.named c.sort_unstable.ensures.permutation c.sort_unstable.ensures.sorted c.deref-k-items.ensures.value in
-    let at = order.differ c.loop-k.k-index 0 c.loop-k-test.true in
+pub offset_bounds-old-number : goal.offset_bounds-old-number
+offset_bounds-old-number g c =
+    let order = in_order c.in_ok-numbers.numbers.items c.sort_unstable.new.self.items c.args.old.now c.args.new.now c.sort_unstable.ensures.permutation c.deref-number-items.result.now c.in_ok-numbers.ensures.differ c.in_ok-numbers.ensures.named c.in_ok-numbers.ensures.apart c.sort_unstable.ensures.sorted c.deref-number-items.ensures.value in
+    let at = order.differ c.loop-number.number-index 0 c.loop-number-test.true in
     omega (arith, at.0, at.1)
 
--- a greater number is found, and one again is passed over
-pub loop-k-preserved : goal.loop-k-preserved
-loop-k-preserved g c =
-    let ns = c.deref-k-items.result.now in
-    let xs = c.args.old.now in
-    let ys = c.args.new.now in
-    let i = c.loop-k.k-index in
-    let order = in_order c.in_ok-numbers.numbers.items c.sort_unstable.new.self.items c.deref-k-items.result.now c.args.old.now c.args.new.now c.in_ok-numbers.ensures.differ c.in_ok-numbers.ensures.named c.sort_unstable.ensures.permutation c.sort_unstable.ensures.sorted c.deref-k-items.ensures.value in
-    elim c.if-last-k.branch [
-      | then-last-k+in_ok-push w ↦ rw (w.found-is, w.last-is, w.in_ok-push.ensures.items) (passed_more ns xs ys c.requires.fewer order.sorted order.differ order.names c.loop-k.found.items c.loop-k.last i c.loop-k.invariant _ w.index-old-last.result refl c.loop-k-test.true w.if-last-k.true w.index-old-last.is)
-      | else-last-k w ↦ rw (w.found-is, w.last-is) (passed_again ns xs ys c.requires.fewer order.sorted order.differ order.names c.loop-k.found.items c.loop-k.last i c.loop-k.invariant w.if-last-k.false)
-    ]
+pub bounds-old-number : goal.bounds-old-number
+bounds-old-number g c =
+    let order = in_order c.in_ok-numbers.numbers.items c.sort_unstable.new.self.items c.args.old.now c.args.new.now c.sort_unstable.ensures.permutation c.deref-number-items.result.now c.in_ok-numbers.ensures.differ c.in_ok-numbers.ensures.named c.in_ok-numbers.ensures.apart c.sort_unstable.ensures.sorted c.deref-number-items.ensures.value in
+    let at = order.differ c.loop-number.number-index 0 c.loop-number-test.true in
+    omega (arith, at.0, at.1)
+
+-- one number more is listed
+pub loop-number-preserved : goal.loop-number-preserved
+loop-number-preserved g c =
+    let kept = c.loop-number.invariant in
+    let order = in_order c.in_ok-numbers.numbers.items c.sort_unstable.new.self.items c.args.old.now c.args.new.now c.sort_unstable.ensures.permutation c.deref-number-items.result.now c.in_ok-numbers.ensures.differ c.in_ok-numbers.ensures.named c.in_ok-numbers.ensures.apart c.sort_unstable.ensures.sorted c.deref-number-items.ensures.value in
+    record {
+      listed = rw c.push_reserved.ensures.items (listed_more c.deref-number-items.result.now c.args.old.now c.args.new.now c.requires.fewer order c.loop-number.found.items c.loop-number.number-index _ c.index-old-number.result kept.listed c.loop-number-test.true refl c.index-old-number.is);
+      room = rw c.push_reserved.ensures.capacity kept.room;
+    }
 
 pub returns : goal.returns
 returns g c =
-    let order = in_order c.in_ok-numbers.numbers.items c.sort_unstable.new.self.items c.deref-k-items.result.now c.args.old.now c.args.new.now c.in_ok-numbers.ensures.differ c.in_ok-numbers.ensures.named c.sort_unstable.ensures.permutation c.sort_unstable.ensures.sorted c.deref-k-items.ensures.value in
-    all_passed c.deref-k-items.result.now c.args.old.now c.args.new.now c.requires.fewer order.sorted order.differ order.names c.loop-k.found.items c.loop-k.last c.loop-k.k-index c.loop-k.invariant (omega arith)
+    let order = in_order c.in_ok-numbers.numbers.items c.sort_unstable.new.self.items c.args.old.now c.args.new.now c.sort_unstable.ensures.permutation c.deref-number-items.result.now c.in_ok-numbers.ensures.differ c.in_ok-numbers.ensures.named c.in_ok-numbers.ensures.apart c.sort_unstable.ensures.sorted c.deref-number-items.ensures.value in
+    all_listed c.deref-number-items.result.now c.args.old.now c.args.new.now c.requires.fewer order c.loop-number.found.items c.loop-number.number-index c.loop-number.invariant.listed (omega arith)

@@ -16,17 +16,15 @@ invariant_of-self c =
     let cost = to_z-of_z w128 result (record { sfits = c.cost_now-self-inside.type_inv })
     ∙ subst (λ (r : List ArcRow). IsWrappedCost r t.flow.entries.items result) c.deref.ensures.value c.cost_now-self-inside.ensures in
     record {
-      lawful = inv.lawful;
-      rows_are = inv.rows_are;
-      covers = inv.covers;
+      graph = inv.graph;
       flow_ledger = c.keep.ensures.ledger;
       flow_in = ap length c.keep.ensures.entries ∙ inv.flow_in;
       flow_fits = omega (arith, inv.flow_fits, c.keep.ensures.room);
-      potentials_in = nodes_alike t.net.nodes c.keep-2.new.self t.potentials.entries.items t.potentials.entries.items c.keep-2.ensures.ledger c.keep-2.ensures.entries c.keep-2.ensures.kept inv.potentials_in.entries_in inv.potentials_in.entries_in;
+      potentials_in = nodes_alike t.graph.net.nodes c.keep-2.new.self t.potentials.entries.items t.potentials.entries.items c.keep-2.ensures.ledger c.keep-2.ensures.entries c.keep-2.ensures.kept inv.potentials_in.entries_in inv.potentials_in.entries_in;
       idle = subst IsIdleEntry (sym c.keep-2.ensures.entries) inv.idle;
       kept_idle = subst IsIdleEntry (sym c.keep-2.ensures.kept) inv.idle;
-      balance_is = balance_kept t.net t.rows.items t.flow c.keep.new.self t.balance _ c.keep.ensures.entries c.keep.ensures.whole refl cost inv.balance_is;
-      cut_in = nodes_alike t.net.nodes c.keep-3.new.self t.cut.entries.items t.cut.entries.items c.keep-3.ensures.ledger c.keep-3.ensures.entries c.keep-3.ensures.kept inv.cut_in.entries_in inv.cut_in.entries_in;
+      balance_is = balance_kept t.graph.net t.graph.rows.items t.flow c.keep.new.self t.balance _ c.keep.ensures.entries c.keep.ensures.whole refl cost inv.balance_is;
+      cut_in = nodes_alike t.graph.net.nodes c.keep-3.new.self t.cut.entries.items t.cut.entries.items c.keep-3.ensures.ledger c.keep-3.ensures.entries c.keep-3.ensures.kept inv.cut_in.entries_in inv.cut_in.entries_in;
       scratch_in = inv.scratch_in;
       rows_fit = inv.rows_fit;
     }

@@ -1,7 +1,7 @@
 use Rattle.std.proofs.Common.{◌≡◌, ◌∙◌, ◌+◌, ℕ, suc, ℤ, arith, pos, false, List, map, drop, length, replicate, rules, ap, sym, subst}
 use Rattle.std.proofs.lemmas.List.{length-map}
 use Rattle.network.specs.Flow.{IsCertifiedFlow}
-use Rattle.network.specs.Instance.{at_node, reduced}
+use Rattle.network.specs.Instance.{Instance, at_node, reduced}
 use Rattle.dimacs_text.specs.declared.problem.ArcRow.{ArcRow}
 use Rattle.flow_solver.specs.Balance.{IsWrappedCost, IsWrappedExcess}
 use Rattle.flow_solver.specs.Moment.{start}
@@ -12,7 +12,7 @@ use Rattle.flow_solver.proofs.InstanceLemmas.{start_certified, zero_entries}
 use Rattle.flow_solver.proofs.solver.Solver.new.Goals as goal
 
 pub new-requires-4-clause-ends : goal.new-requires-4-clause-ends
-new-requires-4-clause-ends c = ends_of_rows c.args.net c.deref-2.result.now c.nodes.ensures.lawful (c.deref-2.ensures.value ∙ c.in_ok-rows.ensures.rows)
+new-requires-4-clause-ends c = ends_of_rows c.in_ok-graph.graph.net c.deref-2.result.now c.in_ok-graph.ensures.graph.rows.lawful (c.deref-2.ensures.value ∙ c.in_ok-graph.ensures.graph.rows.rows_are)
 
 pub invariant_of-result : goal.invariant_of-result
 invariant_of-result c =
@@ -25,23 +25,21 @@ invariant_of-result c =
     let unmarked : cut.entries.items ≡ replicate (c.nodes.result + 1) false = search rules in
     let kept_unmarked : kept_in cut ≡ replicate (c.nodes.result + 1) false = search rules in
     record {
-      lawful = search rules;
-      rows_are = search rules;
-      covers = search rules;
+      graph = search rules;
       flow_ledger = search rules;
-      flow_in = ap (λ (xs : List ℤ). length xs) (c.in_ok-flow.ensures.entries ∙ c.in_ok-start_flow.ensures.flow ∙ ap (map start) c.deref.ensures.value) ∙ length-map c.in_ok-rows.rows.items start;
+      flow_in = ap (λ (xs : List ℤ). length xs) (c.in_ok-flow.ensures.entries ∙ c.in_ok-start_flow.ensures.flow ∙ ap (map start) c.deref.ensures.value) ∙ length-map c.in_ok-graph.graph.rows.items start;
       flow_fits = search rules;
-      potentials_in = nodes_alike c.args.net.nodes potentials (replicate (c.nodes.result + 1) (pos 0)) (replicate (c.nodes.result + 1) (pos 0)) c.in_ok-potentials.ensures.ledger zeros kept_zeros (search rules) (search rules);
+      potentials_in = nodes_alike c.in_ok-graph.graph.net.nodes potentials (replicate (c.nodes.result + 1) (pos 0)) (replicate (c.nodes.result + 1) (pos 0)) c.in_ok-potentials.ensures.ledger zeros kept_zeros (search rules) (search rules);
       idle = search rules;
       kept_idle = search rules;
       balance_is = record {
         sized = c.in_ok-balance.ensures.sized;
-        excess = subst (λ (r : List ArcRow). IsWrappedExcess r (sends c.args.net) flow.entries.items balance.excess.items) c.deref-2.ensures.value
-            (subst (λ (x : List ℤ). IsWrappedExcess c.deref-2.result.now (sends c.args.net) x balance.excess.items) c.deref-3.ensures.value c.in_ok-balance.ensures.excess);
+        excess = subst (λ (r : List ArcRow). IsWrappedExcess r (sends c.in_ok-graph.graph.net) flow.entries.items balance.excess.items) c.deref-2.ensures.value
+            (subst (λ (x : List ℤ). IsWrappedExcess c.deref-2.result.now (sends c.in_ok-graph.graph.net) x balance.excess.items) c.deref-3.ensures.value c.in_ok-balance.ensures.excess);
         cost = subst (λ (r : List ArcRow). IsWrappedCost r flow.kept.items balance.cost) c.deref-2.ensures.value
             (subst (λ (x : List ℤ). IsWrappedCost c.deref-2.result.now x balance.cost) (c.deref-3.ensures.value ∙ c.in_ok-flow.ensures.entries ∙ sym c.in_ok-flow.ensures.whole) c.in_ok-balance.ensures.cost);
       };
-      cut_in = nodes_alike c.args.net.nodes cut (replicate (c.nodes.result + 1) false) (replicate (c.nodes.result + 1) false) c.in_ok-cut.ensures.ledger unmarked kept_unmarked (search rules) (search rules);
+      cut_in = nodes_alike c.in_ok-graph.graph.net.nodes cut (replicate (c.nodes.result + 1) false) (replicate (c.nodes.result + 1) false) c.in_ok-cut.ensures.ledger unmarked kept_unmarked (search rules) (search rules);
       scratch_in = search rules;
       rows_fit = search rules;
     }
@@ -49,18 +47,19 @@ invariant_of-result c =
 pub returns-clause-start : goal.returns-clause-start
 returns-clause-start c =
     let zeros : c.in_ok-potentials.potentials.entries.items ≡ replicate (c.nodes.result + 1) (pos 0) = search rules in
-    let one_more : c.args.net.nodes + 1 ≡ suc c.args.net.nodes = omega arith in
+    let net = c.in_ok-graph.graph.net in
+    let one_more : net.nodes + 1 ≡ suc net.nodes = omega arith in
     record {
       instance = search rules;
-      flow = c.in_ok-flow.ensures.entries ∙ c.in_ok-start_flow.ensures.flow ∙ ap (map start) (c.deref.ensures.value ∙ c.in_ok-rows.ensures.rows);
-      potentials = ap (drop 1) zeros ∙ (ap (λ (n : ℕ). drop 1 (replicate (n + 1) (pos 0))) c.nodes.ensures.value ∙ ap (λ (n : ℕ). drop 1 (replicate n (pos 0))) one_more);
+      flow = c.in_ok-flow.ensures.entries ∙ c.in_ok-start_flow.ensures.flow ∙ ap (map start) (c.deref.ensures.value ∙ c.in_ok-graph.ensures.graph.rows.rows_are ∙ ap (λ (J : Instance). (reduced J).arcs) c.in_ok-graph.ensures.net);
+      potentials = ap (drop 1) zeros ∙ (ap (λ (n : ℕ). drop 1 (replicate (n + 1) (pos 0))) c.nodes.ensures.value ∙ ap (λ (n : ℕ). drop 1 (replicate n (pos 0))) one_more ∙ ap (λ (J : Instance). replicate J.nodes (pos 0)) c.in_ok-graph.ensures.net);
     }
 
 pub returns-clause-certified : goal.returns-clause-certified
 returns-clause-certified c =
-    let I = c.args.net in
+    let I = c.in_ok-graph.graph.net in
     let potentials = c.in_ok-potentials.potentials.entries.items in
     let zeros : potentials ≡ replicate (c.nodes.result + 1) (pos 0) = search rules in
-    let flow : c.in_ok-flow.flow.entries.items ≡ map start (reduced I).arcs = c.in_ok-flow.ensures.entries ∙ c.in_ok-start_flow.ensures.flow ∙ ap (map start) (c.deref.ensures.value ∙ c.in_ok-rows.ensures.rows) in
+    let flow : c.in_ok-flow.flow.entries.items ≡ map start (reduced I).arcs = c.in_ok-flow.ensures.entries ∙ c.in_ok-start_flow.ensures.flow ∙ ap (map start) (c.deref.ensures.value ∙ c.in_ok-graph.ensures.graph.rows.rows_are) in
     subst (λ (x : List ℤ). IsCertifiedFlow (reduced I) x (at_node (drop 1 potentials))) (sym flow)
-    (start_certified I (at_node (drop 1 potentials)) c.nodes.ensures.lawful (λ v. ap (λ (p : List ℤ). at_node (drop 1 p) v) zeros ∙ zero_entries (c.nodes.result + 1) v))
+    (start_certified I (at_node (drop 1 potentials)) c.in_ok-graph.ensures.graph.rows.lawful (λ v. ap (λ (p : List ℤ). at_node (drop 1 p) v) zeros ∙ zero_entries (c.nodes.result + 1) v))

@@ -1,5 +1,4 @@
 use Rattle.std.proofs.Common.{◌∙◌, ◌≡◌, ◌+◌, ap, arith, refl, rules, subst, sym, w64, SFits}
-use Rattle.std.specs.Prelude.{vec_capacity}
 use Rattle.std.specs.Vec.{with_items}
 use Rattle.std.proofs.lemmas.Int.{to_z-of_z}
 use Rattle.std.proofs.lemmas.List.{with_items_is}
@@ -7,6 +6,7 @@ use Rattle.dimacs_text.specs.Lawful.{IsNode}
 use Rattle.dimacs_text.specs.declared.problem.Kind.TheVariants.{Min}
 use Rattle.network.specs.Instance.{Instance, kind_of, reduced}
 use Rattle.flow_solver.specs.Balance.{IsBalanceOf}
+use Rattle.flow_solver.specs.Graph.{IsGraphFor}
 use Rattle.flow_solver.specs.Moment.{Bench}
 use Rattle.flow_solver.specs.Scratch.{IsScratchFor}
 use Rattle.flow_solver.specs.Star.{Covers}
@@ -20,7 +20,7 @@ use Rattle.flow_solver.proofs.solver.Solver.swap_supply.Goals as goal
 pub invariant_of-self : goal.invariant_of-self
 invariant_of-self c =
     let t = c.self.inside in
-    let I = t.net in
+    let I = t.graph.net in
     let J = c.swap_supply.new.net in
     let inv = c.self.invariant in
     let net = c.swap_supply.ensures.net in
@@ -33,8 +33,11 @@ invariant_of-self c =
     let excess = with_items_is t.balance.excess c.add_difference.new.excess (c.add_difference.auto.excess ∙ c.deref_mut.ensures.len) in
     let raised = raised_as c.args.id ((reduced I).supply c.args.id) _ c.args.value.now _ t.balance.excess.items _ _ _ before after c.deref_mut.ensures.value (sym excess) c.add_difference.ensures in
     let now = record t.balance { excess = with_items t.balance.excess c.add_difference.new.excess } in
-    let balance = subst (λ (K : Instance). IsBalanceOf K t.rows.items t.flow now) (sym net) (balance_supplied I t.rows.items t.flow t.balance now c.args.id c.args.value.now inv.lawful kind node raised refl inv.balance_is) in
-    tables_written I J t.star t.rows.items t.rows.items t.flow t.flow t.potentials t.potentials t.balance now t.cut t.cut t.scratch t.scratch (vec_capacity t.rows) (vec_capacity t.rows)
-    inv (ap (λ (K : Instance). K.nodes) net) (ap (λ (K : Instance). K.room) net) (subst (AreRowsOf J) c.deref.ensures.value c.swap_supply.ensures.rows) refl
-    (subst (λ (K : Instance). Covers (K.nodes + 1) K.arcs t.star) (sym net) inv.covers) (IsWritten-same t.flow inv.flow_ledger) (IsWritten-same t.potentials inv.potentials_in.ledger)
-    inv.idle balance (IsWritten-same t.cut inv.cut_in.ledger) (subst (λ (K : Instance). IsScratchFor (K.nodes + 1) t.scratch) (sym net) inv.scratch_in) (omega arith)
+    let balance = subst (λ (K : Instance). IsBalanceOf K t.graph.rows.items t.flow now) (sym net) (balance_supplied I t.graph.rows.items t.flow t.balance now c.args.id c.args.value.now inv.graph.rows.lawful kind node raised refl inv.balance_is) in
+    let graph : IsGraphFor (J.nodes + 1) (record t.graph { net = J }) = record {
+      rows = subst (AreRowsOf J) c.deref.ensures.value c.swap_supply.ensures.rows;
+      star = subst (λ (K : Instance). Covers (K.nodes + 1) K.arcs t.graph.star) (sym net) inv.graph.star;
+    } in
+    tables_written t.graph (record t.graph { net = J }) t.flow t.flow t.potentials t.potentials t.balance now t.cut t.cut t.scratch t.scratch
+    inv (ap (λ (K : Instance). K.nodes) net) (ap (λ (K : Instance). K.room) net) graph refl (omega arith) (IsWritten-same t.flow inv.flow_ledger) (IsWritten-same t.potentials inv.potentials_in.ledger)
+    inv.idle balance (IsWritten-same t.cut inv.cut_in.ledger) (subst (λ (K : Instance). IsScratchFor (K.nodes + 1) t.scratch) (sym net) inv.scratch_in)

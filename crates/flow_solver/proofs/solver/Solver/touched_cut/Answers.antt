@@ -4,7 +4,7 @@ use Rattle.flow_solver.specs.Moment.{Bench}
 use Rattle.flow_solver.proofs.TouchedLemmas.{kept_named_after_first}
 use Rattle.flow_solver.proofs.solver.Solver.touched_cut.Goals as goal
 
-pub returns : goal.returns
-returns c =
+pub returns-clause-named : goal.returns-clause-named
+returns-clause-named c =
     subst (λ (b : Bench). NameChanges 1 c.places.result.now b.kept.cut b.moment.cut) c.self.view_is
     (kept_named_after_first c.self.inside.cut c.places.result.now c.self.invariant.cut_in.ledger c.places.ensures.listed)

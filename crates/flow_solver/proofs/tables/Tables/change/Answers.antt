@@ -1,4 +1,4 @@
-use Rattle.std.proofs.Common.{◌∙◌, List, ℤ, length, sym, ap, subst, Some}
+use Rattle.std.proofs.Common.{◌∙◌, length, sym, ap, subst, Some}
 use Rattle.network.specs.Instance.{Instance, IsLawful, reduced}
 use Rattle.flow_solver.specs.Desk.{Desk}
 use Rattle.flow_solver.specs.Moment.{Kept, Moment}

@@ -6,9 +6,9 @@ use Rattle.flow_solver.specs.Part.{return_count}
 use Rattle.flow_solver.proofs.DeskLemmas.{named_since}
 use Rattle.flow_solver.proofs.tables.Tables.touched_flow.Goals as goal
 
-pub returns : goal.returns
-returns c =
+pub returns-clause-named : goal.returns-clause-named
+returns-clause-named c =
     let t = c.self.inside in
     let places = c.touched_flow.result.now in
     subst (λ (d : Desk). IfSome d.before (λ old. NameChanges (return_count old.instance.demand) places (numbered_flow old.instance.demand old.flow) (numbered_flow d.moment.instance.demand d.moment.flow))) c.self.view_is
-    (named_since t.part t.solver.moment.instance t.solver.kept t.old_verdict places t.solver.moment.flow c.touched_flow.ensures)
+    (named_since t.part t.solver.moment.instance t.solver.kept t.old_verdict places t.solver.moment.flow c.touched_flow.ensures.named)

@@ -4,9 +4,9 @@ use Rattle.flow_solver.specs.Desk.{Desk, NameChanges}
 use Rattle.flow_solver.proofs.DeskLemmas.{potentials_since}
 use Rattle.flow_solver.proofs.tables.Tables.touched_potentials.Goals as goal
 
-pub returns : goal.returns
-returns c =
+pub returns-clause-named : goal.returns-clause-named
+returns-clause-named c =
     let t = c.self.inside in
     let places = c.touched_potentials.result.now in
     subst (λ (d : Desk). IfSome d.before (λ old. NameChanges 1 places old.potentials d.moment.potentials)) c.self.view_is
-    (potentials_since t.part t.solver.moment.instance t.solver.kept t.old_verdict places t.solver.moment.potentials c.touched_potentials.ensures)
+    (potentials_since t.part t.solver.moment.instance t.solver.kept t.old_verdict places t.solver.moment.potentials c.touched_potentials.ensures.named)

@@ -9,7 +9,7 @@ differences-requires-clause-fewer c =
 pub differences-requires-clause-named : goal.differences-requires-clause-named
 differences-requires-clause-named c =
     let desk = c.args.tables.now in
-    flows_named desk.before desk.moment c.args.edit.now c.requires.before c.requires.change c.place_of_first_arc.result c.touched_flow.result.now c.old_flow.result.now c.flow.result.now c.place_of_first_arc.ensures c.touched_flow.ensures c.old_flow.ensures c.flow.ensures.value
+    flows_named desk.before desk.moment c.args.edit.now c.requires.before c.requires.change c.index_of_first_arc.result c.touched_flow.result.now c.old_flow.result.now c.flow.result.now c.index_of_first_arc.ensures c.touched_flow.ensures.named c.old_flow.ensures c.flow.ensures.value
 
 pub differences-requires-2-clause-fewer : goal.differences-requires-2-clause-fewer
 differences-requires-2-clause-fewer c =
@@ -19,7 +19,7 @@ differences-requires-2-clause-fewer c =
 pub differences-requires-2-clause-named : goal.differences-requires-2-clause-named
 differences-requires-2-clause-named c =
     let desk = c.args.tables.now in
-    potentials_named desk.before desk.moment c.args.edit.now c.requires.before c.requires.change c.touched_potentials.result.now c.old_potentials.result.now c.potentials.result.now c.touched_potentials.ensures c.old_potentials.ensures c.potentials.ensures.value
+    potentials_named desk.before desk.moment c.args.edit.now c.requires.before c.requires.change c.touched_potentials.result.now c.old_potentials.result.now c.potentials.result.now c.touched_potentials.ensures.named c.old_potentials.ensures c.potentials.ensures.value
 
 pub differences-requires-3-clause-fewer : goal.differences-requires-3-clause-fewer
 differences-requires-3-clause-fewer c =
@@ -29,7 +29,7 @@ differences-requires-3-clause-fewer c =
 pub differences-requires-3-clause-named : goal.differences-requires-3-clause-named
 differences-requires-3-clause-named c =
     let desk = c.args.tables.now in
-    marks_named desk.before desk.moment c.args.edit.now c.requires.before c.requires.change c.touched_cut.result.now c.old_cut.result.now c.cut.result.now c.touched_cut.ensures c.old_cut.ensures c.cut.ensures.value
+    marks_named desk.before desk.moment c.args.edit.now c.requires.before c.requires.change c.touched_cut.result.now c.old_cut.result.now c.cut.result.now c.touched_cut.ensures.named c.old_cut.ensures c.cut.ensures.value
 
 pub returns-clause-fits : goal.returns-clause-fits
 returns-clause-fits c =
