@@ -3,12 +3,17 @@
 use clap::Error;
 use std::alloc::AllocError;
 
+/// For how many arcs more a session may be asked to have room.
+pub const EXTRA_LIMIT: u32 = 100_000;
+/// For how many arcs more a session has room where the command line does not say it.
+pub const DEFAULT_EXTRA: u32 = 1_000;
+
 /// What the program is asked to do.
 #[derive(Clone, Copy, Debug, PartialEq, Eq)]
 pub enum Task<'a> {
     /// Solve the problem in a file, or on the standard input, with a proof or not.
     Solve { proof: bool, file: Option<&'a str> },
-    /// Run a session on the problem in a file, with room for `extra` arcs more.
+    /// Run a session on the problem in a file, with room for `extra` arcs more, 0 to `EXTRA_LIMIT`.
     Session { problem: &'a str, extra: u32 },
     /// Check the answer in one file to the problem in another.
     Check { problem: &'a str, answer: &'a str },

@@ -2,8 +2,10 @@
 ghost use Rattle.std.specs.Prelude.{◌≡◌, IfOk, false};
 ghost use Rattle.clap.specs.Words.{app_of, rule_of};
 ghost use Rattle.clap.specs.declared.builder.command.Command.TheViews.{out-Command};
-ghost use Rattle.mcf.specs.Tasks.{check_command, extra_rule, file_rule, needed_rule, program as program_command, proof_rule, session_command, solve_command};
+ghost use Rattle.mcf.specs.Tasks as tasks;
+ghost use Rattle.mcf.specs.Tasks.{extra_rule, file_rule, needed_rule, proof_rule};
 
+use crate::command_line::EXTRA_LIMIT;
 use clap::{Arg, ArgAction, Command};
 use std::alloc::{AllocError, Global};
 
@@ -17,7 +19,7 @@ fn proof<'a>(alloc: Global) -> Arg<'a>
         .action(ArgAction::SetTrue)
 }
 
-/// `--extra N`, with N up to 100,000.
+/// `--extra N`, with N up to `EXTRA_LIMIT`.
 fn extra<'a>(alloc: Global) -> Arg<'a>
     ensures rule { rule_of result ≡ extra_rule }
     ensures local { result.global ≡ false }
@@ -25,7 +27,7 @@ fn extra<'a>(alloc: Global) -> Arg<'a>
     Arg::new(alloc, "extra")
         .long("extra")
         .action(ArgAction::Set)
-        .value_parser(clap::value_parser!(u32).range(0..=100_000))
+        .value_parser(clap::value_parser!(u32).range(0..=i64::from(EXTRA_LIMIT)))
 }
 
 /// A file that may be left out.
@@ -45,8 +47,8 @@ fn needed<'a>(alloc: Global, id: &'a str) -> Arg<'a>
 }
 
 /// `solve [--proof] [FILE]`
-fn solve<'a>(alloc: Global) -> Result<Command<'a>, AllocError>
-    ensures app { IfOk result (λ c. app_of c ≡ solve_command) }
+fn solve_command<'a>(alloc: Global) -> Result<Command<'a>, AllocError>
+    ensures app { IfOk result (λ c. app_of c ≡ tasks.solve_command) }
     ensures local { IfOk result (λ c. (out-Command c).has_globals ≡ false) }
 {
     Command::new(alloc, "solve")
@@ -55,8 +57,8 @@ fn solve<'a>(alloc: Global) -> Result<Command<'a>, AllocError>
 }
 
 /// `session [--extra N] PROBLEM`
-fn session<'a>(alloc: Global) -> Result<Command<'a>, AllocError>
-    ensures app { IfOk result (λ c. app_of c ≡ session_command) }
+fn session_command<'a>(alloc: Global) -> Result<Command<'a>, AllocError>
+    ensures app { IfOk result (λ c. app_of c ≡ tasks.session_command) }
     ensures local { IfOk result (λ c. (out-Command c).has_globals ≡ false) }
 {
     Command::new(alloc, "session")
@@ -65,8 +67,8 @@ fn session<'a>(alloc: Global) -> Result<Command<'a>, AllocError>
 }
 
 /// `check PROBLEM ANSWER`
-fn check<'a>(alloc: Global) -> Result<Command<'a>, AllocError>
-    ensures app { IfOk result (λ c. app_of c ≡ check_command) }
+fn check_command<'a>(alloc: Global) -> Result<Command<'a>, AllocError>
+    ensures app { IfOk result (λ c. app_of c ≡ tasks.check_command) }
     ensures local { IfOk result (λ c. (out-Command c).has_globals ≡ false) }
 {
     Command::new(alloc, "check")
@@ -76,11 +78,11 @@ fn check<'a>(alloc: Global) -> Result<Command<'a>, AllocError>
 
 /// The program with its commands.
 pub fn program<'a>(alloc: Global) -> Result<Command<'a>, AllocError>
-    ensures app { IfOk result (λ c. app_of c ≡ program_command) }
+    ensures app { IfOk result (λ c. app_of c ≡ tasks.program) }
 {
     Command::new(alloc, "mcf")
         .subcommand_required(true)
-        .subcommand(solve(alloc)?)?
-        .subcommand(session(alloc)?)?
-        .subcommand(check(alloc)?)
+        .subcommand(solve_command(alloc)?)?
+        .subcommand(session_command(alloc)?)?
+        .subcommand(check_command(alloc)?)
 }

@@ -3,13 +3,10 @@ ghost use Rattle.std.specs.Prelude.{◌≡◌, IfOk, Some, codes, map, string_by
 ghost use Rattle.clap.specs.Words.{found_of, rows_of, subcommand_of};
 ghost use Rattle.mcf.specs.Tasks.{Names, program as program_command};
 
-use crate::command_line::{Task, Usage};
+use crate::command_line::{DEFAULT_EXTRA, Task, Usage};
 use crate::commands::program;
 use clap::ArgMatches;
 use std::alloc::Global;
-
-/// What `--extra` is where it is left out.
-const EXTRA: u32 = 1_000;
 
 /// Reads the words of a command line, the program's own name first.
 pub fn task<'a>(alloc: Global, words: &'a [String]) -> Result<Task<'a>, Usage>
@@ -20,15 +17,15 @@ pub fn task<'a>(alloc: Global, words: &'a [String]) -> Result<Task<'a>, Usage>
         return Err(Usage::Missing);
     };
     match name {
-        "solve" => Ok(solve(found)),
-        "session" => session(found),
-        "check" => check(found),
+        "solve" => Ok(solve_task(found)),
+        "session" => session_task(found),
+        "check" => check_task(found),
         _ => Err(Usage::Missing),
     }
 }
 
 /// The task of `solve`, by its matches.
-fn solve<'a>(found: &ArgMatches<'a>) -> Task<'a>
+fn solve_task<'a>(found: &ArgMatches<'a>) -> Task<'a>
     ensures { Names (Some (codes "solve", rows_of (found_of found.now))) result }
 {
     Task::Solve {
@@ -38,7 +35,7 @@ fn solve<'a>(found: &ArgMatches<'a>) -> Task<'a>
 }
 
 /// The task of `session`, by its matches.
-fn session<'a>(found: &ArgMatches<'a>) -> Result<Task<'a>, Usage>
+fn session_task<'a>(found: &ArgMatches<'a>) -> Result<Task<'a>, Usage>
     ensures { IfOk result (Names (Some (codes "session", rows_of (found_of found.now)))) }
 {
     let Some(problem) = found.get_str("problem") else {
@@ -49,12 +46,12 @@ fn session<'a>(found: &ArgMatches<'a>) -> Result<Task<'a>, Usage>
     };
     Ok(Task::Session {
         problem,
-        extra: extra.unwrap_or(EXTRA),
+        extra: extra.unwrap_or(DEFAULT_EXTRA),
     })
 }
 
 /// The task of `check`, by its matches.
-fn check<'a>(found: &ArgMatches<'a>) -> Result<Task<'a>, Usage>
+fn check_task<'a>(found: &ArgMatches<'a>) -> Result<Task<'a>, Usage>
     ensures { IfOk result (Names (Some (codes "check", rows_of (found_of found.now)))) }
 {
     let (Some(problem), Some(answer)) = (found.get_str("problem"), found.get_str("answer")) else {

@@ -1,15 +1,15 @@
 use crate::end::{End, Text};
 use crate::interaction::run_session;
 use crate::tests::{
-    DIAMOND, EQUAL_ARCS, MAX_DIAMOND, MAX_WITHOUT_ARCS, PAIRS, PARALLEL_ARCS, PIECES, PROBLEM,
-    SURPLUS,
+    CLOSED_PAIR, DIAMOND, EQUAL_ARCS_SAME_BLOCK, MAX_DIAMOND, MAX_WITHOUT_ARCS, PAIRS,
+    PARALLEL_ARCS, PIECES, SINGLE_ARC, SURPLUS,
 };
 use dimacs_io::{Pad, Script};
 use std::test::Fail;
 
-const NARROWED: &[u8] = b"cap 5 3\nundo\nredo\nshow\n";
+const DIAMOND_NARROWED: &[u8] = b"cap 5 3\nundo\nredo\nshow\n";
 
-const NARROWED_REPLIES: &[u8] =
+const DIAMOND_NARROWED_REPLIES: &[u8] =
     b"s 14\ns 15\ns 14\ns 15\ns 15\nf 1 2 2\nf 1 3 2\nf 2 3 1\nf 2 4 1\nf 3 4 3\n";
 
 /// Runs a session whose devices pass at most `most` bytes a call.
@@ -36,7 +36,7 @@ fn session(
 fn sessions_answer_so_in_any_pieces(rt: HostRuntime) {
     // A problem, how many arcs there is room for beside its own, commands, and what is written.
     let cases = [
-        (DIAMOND, 1000, NARROWED, NARROWED_REPLIES),
+        (DIAMOND, 1000, DIAMOND_NARROWED, DIAMOND_NARROWED_REPLIES),
         (
             DIAMOND,
             1000,
@@ -58,25 +58,25 @@ fn sessions_answer_so_in_any_pieces(rt: HostRuntime) {
             b"s 14\ns 15\ns 14\n",
         ),
         (
-            PROBLEM,
+            SINGLE_ARC,
             1000,
             b"supply 1 4\nsupply 2 -4\nundo\nshow\nsupply 3 1\nredo\n",
             b"s 12\ni 1\ns 16\ni 1\ni 1\nk 1\nk 2\nr 21\ns 16\n",
         ),
         (
-            PROBLEM,
+            SINGLE_ARC,
             1000,
             b"undo\ncap 9 1\nlow 1 6\ncap 1 1000000001\nfly\nshow\n",
             b"s 12\nr 25\nr 20\nr 22\nr 5\nr 2\ns 12\nf 1 2 3\n",
         ),
         (
-            PROBLEM,
+            SINGLE_ARC,
             1000,
             b"add 1 2 0 5 1\nundo\ncap 2 1\nredo\nundo\ncost 1 3\nredo\n",
             b"s 12\ns 3\ns 12\nr 20\ns 3\ns 12\ns 9\nr 26\n",
         ),
         (
-            PROBLEM,
+            SINGLE_ARC,
             0,
             b"add 1 2 0 5 1\nadd 1 3 0 5 1\ncap 1 5\nundo\nundo\n",
             b"s 12\nr 24\nr 21\ns 12\ns 12\nr 25\n",
@@ -88,13 +88,13 @@ fn sessions_answer_so_in_any_pieces(rt: HostRuntime) {
             b"s 6\ns 10\nr 22\ns 2\ns 10\n",
         ),
         (
-            PROBLEM,
+            SINGLE_ARC,
             1000,
             b"add 1 1 0 3 -2\nshow\n",
             b"s 12\ns 6\ns 6\nf 1 2 3\nf 1 1 3\n",
         ),
         (
-            PROBLEM,
+            SINGLE_ARC,
             1000,
             b"close 1\ncap 1 3\nclose 2\n",
             b"s 12\ni 3\ns 12\nr 20\n",
@@ -119,7 +119,7 @@ fn sessions_answer_so_in_any_pieces(rt: HostRuntime) {
             b"s 3\ns 9\nr 27\nr 23\ns 3\ns 2\n",
         ),
         (
-            b"p asn 2 1\nn 1\na 1 2 -5\n",
+            CLOSED_PAIR,
             1000,
             b"close 1\ncost 1 3\nshow\nundo\nundo\n",
             b"s -5\ni 1\ni 1\ni 1\nk 1\ni 1\ns -5\n",
@@ -136,8 +136,6 @@ fn sessions_answer_so_in_any_pieces(rt: HostRuntime) {
 
 #[test]
 fn undo_brings_back_the_very_flow(rt: HostRuntime) {
-    let (end, out) = session(&rt, EQUAL_ARCS, 1000, b"show\ncost 1 9\nundo\nshow\n", 7);
-    assert_eq!(rt; end, End::Ended);
     // How the two arcs share three units is free, but not from one `show` to the next.
     let lawful = [
         b"s 12\ns 12\nf 1 2 0\nf 1 2 3\ns 12\ns 12\ns 12\nf 1 2 0\nf 1 2 3\n".as_slice(),
@@ -145,7 +143,12 @@ fn undo_brings_back_the_very_flow(rt: HostRuntime) {
         b"s 12\ns 12\nf 1 2 2\nf 1 2 1\ns 12\ns 12\ns 12\nf 1 2 2\nf 1 2 1\n",
         b"s 12\ns 12\nf 1 2 3\nf 1 2 0\ns 12\ns 12\ns 12\nf 1 2 3\nf 1 2 0\n",
     ];
-    assert!(rt; lawful.contains(&out.held()));
+    let commands = b"show\ncost 1 9\nundo\nshow\n";
+    for most in PIECES {
+        let (end, out) = session(&rt, EQUAL_ARCS_SAME_BLOCK, 1000, commands, most);
+        assert_eq!(rt; end, End::Ended);
+        assert!(rt; lawful.contains(&out.held()));
+    }
 }
 
 #[test]
@@ -168,7 +171,7 @@ fn a_command_of_1025_bytes_is_refused(rt: HostRuntime) -> Result<(), Fail> {
 #[test]
 fn a_reply_comes_before_the_next_read(rt: HostRuntime) {
     // The first command is the first eight bytes; its reply is the third call of the output.
-    let mut commands = Script::new(NARROWED, 1, Some(9));
+    let mut commands = Script::new(DIAMOND_NARROWED, 1, Some(9));
     let mut out = Pad::new(100, Some(3));
     let end = run_session(
         rt.alloc(),
@@ -194,14 +197,14 @@ fn a_failed_read_ends_a_session(rt: HostRuntime) {
         (
             DIAMOND,
             Some(2),
-            NARROWED,
+            DIAMOND_NARROWED,
             End::ReadFailed(Text::Problem),
             b"",
         ),
         (
             b"x 1\n",
             Some(2),
-            NARROWED,
+            DIAMOND_NARROWED,
             End::Refused {
                 input: Text::Problem,
                 number: 2,
@@ -227,17 +230,17 @@ fn a_failed_read_ends_a_session(rt: HostRuntime) {
 #[test]
 fn nothing_follows_a_failed_write_in_a_session(rt: HostRuntime) {
     // A call for each byte, and a flush after the opening line and after each of four replies.
-    let calls = NARROWED_REPLIES.len() as u64 + 5;
+    let calls = DIAMOND_NARROWED_REPLIES.len() as u64 + 5;
     for fails in 1..=calls + 1 {
         let mut out = Pad::new(1, Some(fails));
         let end = run_session(
             rt.alloc(),
             &mut Script::new(DIAMOND, 100, None),
-            &mut Script::new(NARROWED, 100, None),
+            &mut Script::new(DIAMOND_NARROWED, 100, None),
             &mut out,
             1000,
         );
-        assert!(rt; NARROWED_REPLIES.starts_with(out.held()));
+        assert!(rt; DIAMOND_NARROWED_REPLIES.starts_with(out.held()));
         assert_eq!(rt;
             end,
             if fails > calls {
@@ -252,7 +255,7 @@ fn nothing_follows_a_failed_write_in_a_session(rt: HostRuntime) {
     let end = run_session(
         rt.alloc(),
         &mut Script::new(DIAMOND, 100, None),
-        &mut Script::new(NARROWED, 100, None),
+        &mut Script::new(DIAMOND_NARROWED, 100, None),
         &mut out,
         1000,
     );

@@ -8,9 +8,9 @@ use dimacs_io::{Pad, ReadSource, Script, WriteSink};
 use std::alloc::AllocError;
 use std::test::Fail;
 
-pub const PROBLEM: &[u8] = b"p min 2 1\nn 1 3\nn 2 -3\na 1 2 0 5 4\n";
+pub const SINGLE_ARC: &[u8] = b"p min 2 1\nn 1 3\nn 2 -3\na 1 2 0 5 4\n";
 
-const ANSWER: &[u8] = b"s 12\nf 1 2 3\nv 1 -4\nv 2 0\n";
+const RIGHT_ANSWER: &[u8] = b"s 12\nf 1 2 3\nv 1 -4\nv 2 0\n";
 
 const LONE_NODE: &[u8] = b"p min 1 0\n";
 
@@ -33,10 +33,10 @@ const GREATEST_PRODUCT: &[u8] =
 
 const UNFED_LOWER_BOUND: &[u8] = b"p min 2 1\na 1 2 2 5 1\n";
 
-const FIRST_FORM: &[u8] = b"p min 3 1\nn 1 1\nn 2 -3\na 3 2 0 1 1\n";
+const FIRST_FORM_COMES_FIRST: &[u8] = b"p min 3 1\nn 1 1\nn 2 -3\na 3 2 0 1 1\n";
 
 /// Two arcs that serve equally well.
-pub const EQUAL_ARCS: &[u8] = b"p min 2 2\nn 1 3\nn 2 -3\na 1 2 0 5 4\na 1 2 0 5 4\n";
+pub const EQUAL_ARCS_SAME_BLOCK: &[u8] = b"p min 2 2\nn 1 3\nn 2 -3\na 1 2 0 5 4\na 1 2 0 5 4\n";
 
 pub const MAX_DIAMOND: &[u8] =
     b"p max 4 5\nn 1 s\nn 4 t\na 1 2 3\na 1 3 2\na 2 3 1\na 2 4 2\na 3 4 3\n";
@@ -44,11 +44,42 @@ pub const MAX_DIAMOND: &[u8] =
 pub const MAX_WITHOUT_ARCS: &[u8] = b"p max 2 0\nn 1 s\nn 2 t\n";
 
 /// Its first two arcs may carry one unit round, or none.
-const MAX_TWO_FLOWS: &[u8] = b"p max 3 3\nn 1 s\nn 3 t\na 1 2 2\na 2 1 1\na 2 3 1\n";
+const MAX_TWO_BEST_FLOWS: &[u8] = b"p max 3 3\nn 1 s\nn 3 t\na 1 2 2\na 2 1 1\na 2 3 1\n";
 
 pub const PAIRS: &[u8] = b"p asn 4 4\nn 1\nn 2\na 1 3 5\na 1 4 2\na 2 3 1\na 2 4 4\n";
 
+pub const CLOSED_PAIR: &[u8] = b"p asn 2 1\nn 1\na 1 2 -5\n";
+
+const LONE_SINK_SIDE_NODE: &[u8] = b"p asn 1 0\n";
+
 const ONE_AGAINST_TWO: &[u8] = b"p asn 3 2\nn 1\na 1 2 1\na 1 3 1\n";
+
+/// Problem texts with a fault that a last LF does not change: a text, the number of its fault, and the faulty line.
+const FAULTY_PROBLEMS: [(&[u8], u8, u32); 23] = [
+    (&[b'c'; 1025], 1, 1),
+    (b"x 1", 2, 1),
+    (b"p min 2", 3, 1),
+    (b"p min +2 1", 4, 1),
+    (b"p min 10001 0", 5, 1),
+    (b"a 1 2 0 1 1", 6, 1),
+    (b"p min 1 0\np min 1 0", 7, 2),
+    (b"p sp 2 1", 8, 1),
+    (b"p min 2 1\na 1 2 0 1 1\nn 1 0", 9, 3),
+    (b"p min 2 0\nn 1 1\nn 1 1", 10, 3),
+    (b"p max 2 1\nn 1 s\na 1 2 1", 11, 3),
+    (b"p min 2 0\na 1 2 0 1 1", 12, 2),
+    (b"p min 2 2\na 1 2 0 1 1", 13, 2),
+    (b"c only", 14, 1),
+    (b"p min 2 1\na 1 2 2 1 0", 15, 2),
+    (b"p asn 2 1\nn 1\na 2 1 0", 16, 3),
+    (b"p max 2 0\nn 1 x", 17, 2),
+    (b"p max 2 0\nn 1 s", 11, 2),
+    (b"p min 2 1\na 1 2 -1 1 1", 4, 2),
+    (b"p min 2 1\na 1 3 x 1 1", 5, 2),
+    (b"p min 2 1\na 1 3 0 1 1", 5, 2),
+    (b"n 1 s\np max 2 0", 6, 1),
+    (b"p max 2 0\nn 1 s\nn 1 t", 10, 3),
+];
 
 /// How many bytes a device passes in one call.
 pub const PIECES: [usize; 6] = [1, 2, 7, 1024, 1025, 100_000];
@@ -74,56 +105,98 @@ fn checked(rt: &HostRuntime, problem: &[u8], answer: &[u8], most: usize) -> (End
     (end, out)
 }
 
+/// Solves a text that comes in pieces of at most `most` bytes, and says how that ends and what is written.
+fn solved(rt: &HostRuntime, problem: &[u8], proof: bool, most: usize) -> (End, Pad) {
+    let most = most.max(1);
+    let mut out = Pad::new(most, None);
+    let end = solve(
+        rt.alloc(),
+        &mut Script::new(problem, most, None),
+        &mut out,
+        proof,
+    );
+    (end, out)
+}
+
+/// Whether each engine refuses a problem text for this fault, in any pieces, and writes nothing.
+fn is_refused(rt: &HostRuntime, problem: &[u8], number: u8, line: u64) -> bool {
+    let want = refused(Text::Problem, number, line);
+    for most in PIECES {
+        for (end, out) in [
+            solved(rt, problem, true, most),
+            checked(rt, problem, RIGHT_ANSWER, most),
+        ] {
+            if end != want || !out.held().is_empty() {
+                return false;
+            }
+        }
+    }
+    true
+}
+
+#[test]
+fn faulty_problems_are_refused_by_each_engine(rt: HostRuntime) -> Result<(), Fail> {
+    assert!(rt; is_refused(&rt, b"", 14, 0), "the empty text");
+    for (problem, number, line) in FAULTY_PROBLEMS {
+        for (before, lines) in [(b"".as_slice(), 0), (b" \t\r\nc a comment\n", 2)] {
+            let line = u64::from(line) + lines;
+            let mut text = Vec::new(rt.alloc());
+            text.extend_from_slice(before)?;
+            text.extend_from_slice(problem)?;
+            assert!(rt;
+                is_refused(&rt, &text, number, line),
+                "fault {number}, line {line}"
+            );
+            text.push(b'\n')?;
+            assert!(rt;
+                is_refused(&rt, &text, number, line),
+                "fault {number}, line {line}, LF"
+            );
+        }
+    }
+    Ok(())
+}
+
 #[test]
 fn worked_examples_end_so_in_any_pieces(rt: HostRuntime) {
-    let no_problem = b"".as_slice();
-    let too_few = b"p min 2 2\na 1 2 0 1 1\n".as_slice();
     let cases = [
-        (PROBLEM, ANSWER, End::Valid),
-        (PROBLEM, b"s 12\nf 1 2 3\nv 1 -5\nv 2 -1", End::Valid),
-        (PROBLEM, b"s 13\nf 1 2 3\nv 1 -4\nv 2 0\n", End::NotValid),
-        (PROBLEM, b"s 12\nf 2 1 3\nv 1 -4\nv 2 0\n", End::NotValid),
-        (PROBLEM, b"s 12\nf 1 2 3\nv 1 0\nv 2 0\n", End::NotValid),
+        (SINGLE_ARC, RIGHT_ANSWER, End::Valid),
+        (SINGLE_ARC, b"s 12\nf 1 2 3\nv 1 -5\nv 2 -1", End::Valid),
+        (SINGLE_ARC, b"s 13\nf 1 2 3\nv 1 -4\nv 2 0\n", End::NotValid),
+        (SINGLE_ARC, b"s 12\nf 2 1 3\nv 1 -4\nv 2 0\n", End::NotValid),
+        (SINGLE_ARC, b"s 12\nf 1 2 3\nv 1 0\nv 2 0\n", End::NotValid),
         (
-            PROBLEM,
+            SINGLE_ARC,
             b"s 12\nf 1 2 3\nv 1 -10000000000001\nv 2 -9999999999997\n",
             End::NotValid,
         ),
         (LONE_NODE, b"s 0\nv 1 0\n", End::Valid),
         (LONE_NODE, b"s 0\nv 1 1\n", End::NotValid),
         (
-            PROBLEM,
+            SINGLE_ARC,
             b"s 12\nf 1 2 3\nv 1 -4\n",
             refused(Text::Answer, 40, 3),
         ),
-        (PROBLEM, b"s 12\nf 1 2 3\n", refused(Text::Answer, 40, 2)),
+        (SINGLE_ARC, b"s 12\nf 1 2 3\n", refused(Text::Answer, 40, 2)),
         (SURPLUS, b"i 1\nk 1\nk 2\n", End::Valid),
         (SURPLUS, b"i 2\nk 1\nk 2\n", End::NotValid),
         (SURPLUS, b"i 1\nk 1\n", End::NotValid),
         (SURPLUS, b"i 1\n", End::NotValid),
         (SURPLUS, b"i 1\nk 2\nk 1\n", refused(Text::Answer, 40, 3)),
-        (FIRST_FORM, b"i 1\nk 1\n", End::Valid),
-        (FIRST_FORM, b"i 2\nk 2\n", End::Valid),
-        (FIRST_FORM, b"i 2\nk 1\nk 2\nk 3\n", End::Valid),
-        (FIRST_FORM, b"i 3\nk 2\n", End::NotValid),
+        (FIRST_FORM_COMES_FIRST, b"i 1\nk 1\n", End::Valid),
+        (FIRST_FORM_COMES_FIRST, b"i 2\nk 2\n", End::Valid),
+        (FIRST_FORM_COMES_FIRST, b"i 2\nk 1\nk 2\nk 3\n", End::Valid),
+        (FIRST_FORM_COMES_FIRST, b"i 3\nk 2\n", End::NotValid),
         (
-            MAX_TWO_FLOWS,
+            MAX_TWO_BEST_FLOWS,
             b"s 1\nf 1 2 2\nf 2 1 1\nf 2 3 1\nv 1 -1\nv 2 -1\nv 3 0\n",
             End::Valid,
         ),
         (
-            MAX_TWO_FLOWS,
+            MAX_TWO_BEST_FLOWS,
             b"s 2\nf 1 2 2\nf 2 1 1\nf 2 3 1\nv 1 -1\nv 2 -1\nv 3 0\n",
             End::NotValid,
         ),
-        (b"a 1 2 0 1 1\n", ANSWER, refused(Text::Problem, 6, 1)),
-        (
-            b"p min 2 1\na 1 3 0 1 1\n",
-            ANSWER,
-            refused(Text::Problem, 5, 2),
-        ),
-        (too_few, ANSWER, refused(Text::Problem, 13, 2)),
-        (no_problem, ANSWER, refused(Text::Problem, 14, 0)),
     ];
     for (problem, answer, want) in cases {
         for most in PIECES {
@@ -142,9 +215,14 @@ fn worked_examples_end_so_in_any_pieces(rt: HostRuntime) {
 #[test]
 fn problems_are_solved_in_any_pieces(rt: HostRuntime) {
     let cases = [
-        (PROBLEM, false, End::Solved, b"s 12\nf 1 2 3\n".as_slice()),
         (
-            PROBLEM,
+            SINGLE_ARC,
+            false,
+            End::Solved,
+            b"s 12\nf 1 2 3\n".as_slice(),
+        ),
+        (
+            SINGLE_ARC,
             true,
             End::Solved,
             b"s 12\nf 1 2 3\nv 1 -4\nv 2 0\n",
@@ -173,7 +251,12 @@ fn problems_are_solved_in_any_pieces(rt: HostRuntime) {
             b"s 1000000000000000000\nf 1 2 1000000000\n",
         ),
         (UNFED_LOWER_BOUND, false, End::Infeasible, b"i 2\nk 2\n"),
-        (FIRST_FORM, false, End::Infeasible, b"i 1\nk 1\n"),
+        (
+            FIRST_FORM_COMES_FIRST,
+            false,
+            End::Infeasible,
+            b"i 1\nk 1\n",
+        ),
         (
             MAX_DIAMOND,
             true,
@@ -193,30 +276,33 @@ fn problems_are_solved_in_any_pieces(rt: HostRuntime) {
             End::Infeasible,
             b"i 1\nk 1\nk 2\nk 3\n",
         ),
-        (b"p asn 1 0\n", false, End::Infeasible, b"i 1\nk 1\n"),
-        (
-            b"p min 2 2\na 1 2 0 1 1\n",
-            false,
-            refused(Text::Problem, 13, 2),
-            b"",
-        ),
-        (b"a 1 2 0 1 1\n", false, refused(Text::Problem, 6, 1), b""),
-        (
-            b"p min 2 1\na 1 3 0 1 1\n",
-            true,
-            refused(Text::Problem, 5, 2),
-            b"",
-        ),
-        (b"", false, refused(Text::Problem, 14, 0), b""),
+        (LONE_SINK_SIDE_NODE, false, End::Infeasible, b"i 1\nk 1\n"),
     ];
     for (problem, proof, want, text) in cases {
-        for most in PIECES {
-            let mut out = Pad::new(most, None);
-            let mut input = Script::new(problem, most, None);
-            let end = solve(rt.alloc(), &mut input, &mut out, proof);
-            assert_eq!(rt; end, want);
-            assert_eq!(rt; out.held(), text);
+        // The last line may lack its LF.
+        for input in [problem, problem.strip_suffix(b"\n").unwrap_or(problem)] {
+            for most in PIECES {
+                let (end, out) = solved(&rt, input, proof, most);
+                assert_eq!(rt; end, want);
+                assert_eq!(rt; out.held(), text);
+            }
         }
+    }
+}
+
+#[test]
+fn either_of_two_best_flows_is_written(rt: HostRuntime) {
+    let lawful = [
+        b"s 1\nf 1 2 1\nf 2 1 0\nf 2 3 1\nv 1 -1\nv 2 -1\nv 3 0\n".as_slice(),
+        b"s 1\nf 1 2 2\nf 2 1 1\nf 2 3 1\nv 1 -1\nv 2 -1\nv 3 0\n",
+    ];
+    for most in PIECES {
+        let (end, out) = solved(&rt, MAX_TWO_BEST_FLOWS, true, most);
+        assert_eq!(rt; end, End::Solved);
+        assert!(rt; lawful.contains(&out.held()));
+        let (end, out) = solved(&rt, MAX_TWO_BEST_FLOWS, false, most);
+        assert_eq!(rt; end, End::Solved);
+        assert!(rt; out.held().starts_with(b"s 1\n"));
     }
 }
 
@@ -226,16 +312,14 @@ fn a_comment_of_1024_bytes_is_skipped(rt: HostRuntime) -> Result<(), Fail> {
         let mut text = vec![in rt.alloc(); b'x'; letters + 1]?;
         text[0] = b'c';
         text.push(b'\n')?;
-        text.extend_from_slice(PROBLEM)?;
+        text.extend_from_slice(SINGLE_ARC)?;
         for most in PIECES {
-            let (end, _) = checked(&rt, text.as_slice(), ANSWER, most);
+            let (end, _) = checked(&rt, text.as_slice(), RIGHT_ANSWER, most);
             assert_eq!(rt; end, want);
-            let mut out = Pad::new(most, None);
-            let mut input = Script::new(text.as_slice(), most, None);
-            let end = solve(rt.alloc(), &mut input, &mut out, true);
+            let (end, out) = solved(&rt, text.as_slice(), true, most);
             if want == End::Valid {
                 assert_eq!(rt; end, End::Solved);
-                assert_eq!(rt; out.held(), ANSWER);
+                assert_eq!(rt; out.held(), RIGHT_ANSWER);
             } else {
                 assert_eq!(rt; end, want);
                 assert!(rt; out.held().is_empty());
@@ -248,7 +332,7 @@ fn a_comment_of_1024_bytes_is_skipped(rt: HostRuntime) -> Result<(), Fail> {
 #[test]
 fn what_is_solved_is_valid(rt: HostRuntime) {
     let problems = [
-        PROBLEM,
+        SINGLE_ARC,
         DIAMOND,
         LONE_NODE,
         GAINFUL_CYCLE,
@@ -257,18 +341,18 @@ fn what_is_solved_is_valid(rt: HostRuntime) {
         PARALLEL_ARCS,
         GREATEST_PRODUCT,
         UNFED_LOWER_BOUND,
-        FIRST_FORM,
-        EQUAL_ARCS,
+        FIRST_FORM_COMES_FIRST,
+        EQUAL_ARCS_SAME_BLOCK,
         MAX_DIAMOND,
         MAX_WITHOUT_ARCS,
-        MAX_TWO_FLOWS,
+        MAX_TWO_BEST_FLOWS,
         PAIRS,
         ONE_AGAINST_TWO,
+        CLOSED_PAIR,
+        LONE_SINK_SIDE_NODE,
     ];
     for problem in problems {
-        let mut solution = Pad::new(100, None);
-        let mut input = Script::new(problem, 100, None);
-        let _ = solve(rt.alloc(), &mut input, &mut solution, true);
+        let (_, solution) = solved(&rt, problem, true, 100);
         let (end, _) = checked(&rt, problem, solution.held(), 7);
         assert_eq!(rt; end, End::Valid);
     }
@@ -291,14 +375,14 @@ fn a_failed_read_is_told_unless_a_fault_came_first(rt: HostRuntime) {
     let cases = [
         (b"x 1\n".as_slice(), refused(Text::Problem, 2, 1)),
         (b"p min".as_slice(), End::ReadFailed(Text::Problem)),
-        (PROBLEM, End::ReadFailed(Text::Problem)),
+        (SINGLE_ARC, End::ReadFailed(Text::Problem)),
     ];
     for (problem, want) in cases {
         let mut out = Pad::new(1, None);
         let end = check(
             rt.alloc(),
             &mut Script::new(problem, 100, Some(2)),
-            &mut Script::new(ANSWER, 100, None),
+            &mut Script::new(RIGHT_ANSWER, 100, None),
             &mut out,
         );
         assert_eq!(rt; end, want);
@@ -308,8 +392,8 @@ fn a_failed_read_is_told_unless_a_fault_came_first(rt: HostRuntime) {
         let mut out = Pad::new(1, None);
         let end = check(
             rt.alloc(),
-            &mut Script::new(PROBLEM, 100, None),
-            &mut Script::new(ANSWER, 5, Some(fails)),
+            &mut Script::new(SINGLE_ARC, 100, None),
+            &mut Script::new(RIGHT_ANSWER, 5, Some(fails)),
             &mut out,
         );
         assert_eq!(rt; end, End::ReadFailed(Text::Answer));
@@ -324,8 +408,8 @@ fn nothing_follows_a_failed_write(rt: HostRuntime) {
         let mut out = Pad::new(1, Some(written as u64 + 1));
         let end = check(
             rt.alloc(),
-            &mut Script::new(PROBLEM, 100, None),
-            &mut Script::new(ANSWER, 100, None),
+            &mut Script::new(SINGLE_ARC, 100, None),
+            &mut Script::new(RIGHT_ANSWER, 100, None),
             &mut out,
         );
         assert_eq!(rt; end, End::WriteFailed);
@@ -337,8 +421,8 @@ fn nothing_follows_a_failed_write(rt: HostRuntime) {
 fn std_streams_serve(rt: HostRuntime) {
     let end = check(
         rt.alloc(),
-        &mut ReadSource::new(PROBLEM),
-        &mut ReadSource::new(ANSWER),
+        &mut ReadSource::new(SINGLE_ARC),
+        &mut ReadSource::new(RIGHT_ANSWER),
         &mut WriteSink::new(Vec::new(rt.alloc())),
     );
     assert_eq!(rt; end, End::Valid);

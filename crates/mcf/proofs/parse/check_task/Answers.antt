@@ -2,7 +2,7 @@ use Rattle.std.proofs.Common.{refl, sym, ap, ◌∙◌, codes}
 use Rattle.std.specs.Prelude.{option_map}
 use Rattle.clap.specs.Words.{found_of, rows_of}
 use Rattle.clap.proofs.WalkLemmas.{first_value-rows}
-use Rattle.mcf.proofs.parse.check.Goals as goal
+use Rattle.mcf.proofs.parse.check_task.Goals as goal
 
 pub returns : goal.returns
 returns c =

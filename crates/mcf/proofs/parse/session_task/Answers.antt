@@ -4,7 +4,7 @@ use Rattle.std.specs.Str.Parse.{ParsesUnsigned, ExplainsUnsignedError, HasUnsign
 use Rattle.clap.specs.Words.{found_of, rows_of}
 use Rattle.clap.proofs.WalkLemmas.{first_value-rows, one_text-rows}
 use Rattle.mcf.proofs.MatchLemmas.{extra_is}
-use Rattle.mcf.proofs.parse.session.Goals as goal
+use Rattle.mcf.proofs.parse.session_task.Goals as goal
 
 pub returns : goal.returns
 returns c =

@@ -2,7 +2,7 @@ use Rattle.std.proofs.Common.{refl, ◌∙◌, codes}
 use Rattle.clap.specs.Words.{found_of, rows_of}
 use Rattle.clap.proofs.WalkLemmas.{first_value-rows, one_text-rows}
 use Rattle.mcf.proofs.MatchLemmas.{flag_is}
-use Rattle.mcf.proofs.parse.solve.Goals as goal
+use Rattle.mcf.proofs.parse.solve_task.Goals as goal
 
 pub returns : goal.returns
 returns c =
