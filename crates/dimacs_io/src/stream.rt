@@ -1,12 +1,40 @@
 //! Devices over std's readers and writers: each failed call is counted, and none is made again.
-ghost use Rattle.std.specs.Prelude.{◌≡◌, ℕ, ◌-◌, ◌^◌, ◌<◌, ◌≤◌, take};
+ghost use Rattle.std.specs.Prelude.{◌≡◌, ◌⊎◌, ℕ, ◌-◌, ◌^◌, ◌<◌, ◌≤◌, [], Ok, IsErr, IfOk, MatchResult, length, take};
 ghost use Rattle.std.specs.Option.{option_map};
+ghost use Rattle.dimacs_io.specs.Device.{CountsFailure};
 
 use crate::device::{Broken, Sink, Source};
-use std::io::{Read, Write};
+use std::io;
+use std::io::{ErrorKind, Read, Write};
 
 /// How many bytes a `ReadSource` gives in all.
 const MOST_BYTES: u64 = 1 << 63;
+
+/// Tells what a call answered, and counts it where it failed.
+fn counted<T>(failures: &mut u64, answer: io::Result<T>) -> Result<T, Broken>
+    requires { failures.old < 2 ^ 64 - 1 }
+    ensures told { MatchResult answer (λ x. result ≡ Ok x) (λ _. IsErr result) }
+    ensures counts { CountsFailure answer failures.old failures.new }
+{
+    match answer {
+        Ok(x) => Ok(x),
+        Err(_) => {
+            *failures += 1;
+            Err(Broken)
+        }
+    }
+}
+
+/// What a write answered: one that takes nothing of a piece that is not empty has failed.
+fn some_taken(piece: &[u8], answer: io::Result<usize>) -> io::Result<usize>
+    ensures told { IfOk result (λ n. (answer ≡ Ok n) × (0 < length piece.now → 0 < n)) }
+    ensures kept { IfOk answer (λ n. (0 < n) ⊎ (piece.now ≡ []) → result ≡ Ok n) }
+{
+    match answer {
+        Ok(0) if !piece.is_empty() => Err(io::Error::from(ErrorKind::WriteZero)),
+        answer => answer,
+    }
+}
 
 /// A source over a reader. It tells the bytes that the reader tells, and is at its end once it has given 2^63 bytes, so
 /// that reading always ends. Each error of the reader, an interrupted read too, is a failed call.
@@ -42,16 +70,9 @@ impl<R: Read> Source for ReadSource<R> {
 
     fn read(&mut self, piece: &mut [u8]) -> Result<usize, Broken> {
         let most = self.left.min(piece.len() as u64) as usize;
-        match self.inner.read(&mut piece[..most]) {
-            Ok(n) => {
-                self.left -= n as u64;
-                Ok(n)
-            }
-            Err(_) => {
-                self.failures += 1;
-                Err(Broken)
-            }
-        }
+        let n = counted(&mut self.failures, self.inner.read(&mut piece[..most]))?;
+        self.left -= n as u64;
+        Ok(n)
     }
 }
 
@@ -79,22 +100,13 @@ impl<W: Write> Sink for WriteSink<W> {
     ghost failures = { λ s. s.failures };
 
     fn write(&mut self, piece: &[u8]) -> Result<usize, Broken> {
-        match self.inner.write(piece) {
-            Ok(n) if n > 0 || piece.is_empty() => Ok(n),
-            _ => {
-                self.failures += 1;
-                Err(Broken)
-            }
-        }
+        counted(
+            &mut self.failures,
+            some_taken(piece, self.inner.write(piece)),
+        )
     }
 
     fn flush(&mut self) -> Result<(), Broken> {
-        match self.inner.flush() {
-            Ok(()) => Ok(()),
-            Err(_) => {
-                self.failures += 1;
-                Err(Broken)
-            }
-        }
+        counted(&mut self.failures, self.inner.flush())
     }
 }

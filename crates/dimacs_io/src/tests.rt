@@ -1,59 +1,61 @@
+ghost use Rattle.std.specs.Prelude.{◌≤◌, IfOk};
+
 use super::*;
 use std::io;
 use std::io::{ErrorKind, Read, Write};
 use std::test::Fail;
 
-/// Takes nothing of any piece, and fails to flush.
+/// Takes or gives at most so many bytes a call, counts its calls, and fails at one of them (at call 0: never).
 #[derive(Drop)]
-struct Full;
-
-impl Write for Full {
-    fn write(&mut self, _buf: &[u8]) -> io::Result<usize> {
-        Ok(0)
-    }
-
-    fn flush(&mut self) -> io::Result<()> {
-        Err(io::Error::from(ErrorKind::Other))
-    }
-}
-
-/// Fails at its first call alone, and counts its calls.
-#[derive(Drop)]
-struct FailsOnce {
+struct Device {
+    most: usize,
+    fails_at: u64,
     kind: ErrorKind,
-    calls: u64,
+    moves: u64,
+    flushes: u64,
 }
 
-impl FailsOnce {
-    fn new(kind: ErrorKind) -> FailsOnce {
-        FailsOnce { kind, calls: 0 }
+impl Device {
+    fn new(most: usize, fails_at: u64) -> Device {
+        Device {
+            most,
+            fails_at,
+            kind: ErrorKind::Other,
+            moves: 0,
+            flushes: 0,
+        }
     }
 
-    fn call(&mut self) -> io::Result<()> {
-        self.calls = self.calls.saturating_add(1);
-        if self.calls == 1 {
+    fn answer(&self) -> io::Result<()> {
+        if self.moves.saturating_add(self.flushes) == self.fails_at {
             return Err(io::Error::from(self.kind));
         }
         Ok(())
     }
-}
 
-impl Read for FailsOnce {
-    fn read(&mut self, buf: &mut [u8]) -> io::Result<usize> {
-        self.call()?;
-        buf.fill(b'x');
-        Ok(buf.len())
+    fn moved(&mut self, piece: usize) -> io::Result<usize>
+        ensures { IfOk result (λ n. n ≤ piece) }
+    {
+        self.moves = self.moves.saturating_add(1);
+        self.answer()?;
+        Ok(self.most.min(piece))
     }
 }
 
-impl Write for FailsOnce {
+impl Read for Device {
+    fn read(&mut self, buf: &mut [u8]) -> io::Result<usize> {
+        self.moved(buf.len())
+    }
+}
+
+impl Write for Device {
     fn write(&mut self, buf: &[u8]) -> io::Result<usize> {
-        self.call()?;
-        Ok(buf.len())
+        self.moved(buf.len())
     }
 
     fn flush(&mut self) -> io::Result<()> {
-        self.call()
+        self.flushes = self.flushes.saturating_add(1);
+        self.answer()
     }
 }
 
@@ -90,17 +92,59 @@ fn a_full_pad_fails(rt: HostRuntime) {
     assert_eq!(rt; pad.held().len(), 4096);
 }
 
-// What a flush brings anywhere no clause says: here the writer's own flush shows by its failure.
+// No clause ties the answer of a wrapper to that of the reader or the writer, nor counts their calls: the tests below
+// do.
+
 #[test]
-fn a_writer_that_takes_nothing_is_broken(rt: HostRuntime) {
-    let mut sink = WriteSink::new(Full);
-    assert!(rt; sink.write(b"s").is_err());
-    assert!(rt; write_s(&mut sink, 1).is_err());
-    assert!(rt; sink.write(b"").is_ok());
-    assert!(rt; sink.flush().is_err());
+fn each_line_is_one_write(rt: HostRuntime) {
+    let mut device = Device::new(64, 0);
+    assert!(rt; write_s(&mut WriteSink::new(&mut device), i128::MIN).is_ok());
+    assert!(rt; write_f(&mut WriteSink::new(&mut device), 1, 2, i64::MIN).is_ok());
+    assert!(rt; write_v(&mut WriteSink::new(&mut device), 1, -1).is_ok());
+    assert!(rt; write_i(&mut WriteSink::new(&mut device), 1).is_ok());
+    assert!(rt; write_k(&mut WriteSink::new(&mut device), 1).is_ok());
+    assert!(rt; write_r(&mut WriteSink::new(&mut device), 1).is_ok());
+    assert_eq!(rt; (device.moves, device.flushes), (6, 0));
+    assert!(rt; WriteSink::new(&mut device).flush().is_ok());
+    assert_eq!(rt; (device.moves, device.flushes), (6, 1));
 }
 
-// No clause counts the calls of the reader or the writer: each error, an interruption too, is told at once.
+#[test]
+fn no_failure_is_made_up(rt: HostRuntime) {
+    let mut device = Device::new(5_000, 0);
+    let mut piece = [b'x'; 5_000];
+    for length in 1..=5_000usize {
+        assert!(rt; ReadSource::new(&mut device).read(&mut piece[..length]) == Ok(length));
+        assert!(rt; WriteSink::new(&mut device).write(&piece[..length]) == Ok(length));
+        assert!(rt; write_all(&mut WriteSink::new(&mut device), &piece[..length]).is_ok());
+    }
+    assert_eq!(rt; (device.moves, device.flushes), (15_000, 0));
+}
+
+// `s 12345678` with its LF is written by six calls, and each is the one that fails in turn.
+#[test]
+fn the_first_failed_call_ends_a_line(rt: HostRuntime) {
+    for fails_at in 1..=6u64 {
+        let mut device = Device::new(2, fails_at);
+        assert!(rt; write_s(&mut WriteSink::new(&mut device), 12_345_678) == Err(Broken));
+        assert_eq!(rt; (device.moves, device.flushes), (fails_at, 0));
+    }
+    let mut device = Device::new(2, 7);
+    assert!(rt; write_s(&mut WriteSink::new(&mut device), 12_345_678).is_ok());
+    assert!(rt; WriteSink::new(&mut device).flush() == Err(Broken));
+    assert_eq!(rt; (device.moves, device.flushes), (6, 1));
+}
+
+#[test]
+fn a_writer_that_takes_nothing_is_broken(rt: HostRuntime) {
+    let mut device = Device::new(0, 0);
+    assert!(rt; WriteSink::new(&mut device).write(b"") == Ok(0));
+    assert!(rt; WriteSink::new(&mut device).write(b"s") == Err(Broken));
+    assert!(rt; write_s(&mut WriteSink::new(&mut device), 1) == Err(Broken));
+    assert_eq!(rt; (device.moves, device.flushes), (3, 0));
+}
+
+// An interruption too is a failed call, told at once.
 #[test]
 fn no_call_is_made_again(rt: HostRuntime) {
     for kind in [
@@ -108,20 +152,19 @@ fn no_call_is_made_again(rt: HostRuntime) {
         ErrorKind::WouldBlock,
         ErrorKind::Other,
     ] {
-        let mut reader = FailsOnce::new(kind);
+        let mut reader = Device::new(2, 1);
+        reader.kind = kind;
         let mut piece = [0u8; 2];
         assert!(rt; ReadSource::new(&mut reader).read(&mut piece) == Err(Broken));
-        assert_eq!(rt; reader.calls, 1);
-        assert_eq!(rt; piece, [0, 0]);
-        let mut writer = FailsOnce::new(kind);
+        assert_eq!(rt; (reader.moves, reader.flushes), (1, 0));
+        let mut writer = Device::new(2, 1);
+        writer.kind = kind;
         assert!(rt; WriteSink::new(&mut writer).write(b"s 1") == Err(Broken));
-        assert_eq!(rt; writer.calls, 1);
-        let mut flushed = FailsOnce::new(kind);
+        assert_eq!(rt; (writer.moves, writer.flushes), (1, 0));
+        let mut flushed = Device::new(2, 1);
+        flushed.kind = kind;
         assert!(rt; WriteSink::new(&mut flushed).flush() == Err(Broken));
-        assert_eq!(rt; flushed.calls, 1);
-        let mut whole = FailsOnce::new(kind);
-        assert!(rt; write_s(&mut WriteSink::new(&mut whole), 1) == Err(Broken));
-        assert_eq!(rt; whole.calls, 1);
+        assert_eq!(rt; (flushed.moves, flushed.flushes), (0, 1));
     }
 }
 

@@ -66,7 +66,7 @@ module _ (nodes arcs : ℕ) (text : List ℕ) where
 
   pub answers_fault : (e : TextFault) → generic.Finishes (answer_rule nodes arcs) (holds nodes arcs) (Err e) text → Finishes nodes arcs (Err e) text
   unfolding answers
-  answers_fault text_fault.Memory found = tt
+  answers_fault text_fault.Memory found = found
   answers_fault (text_fault.Fault number line) found = rw found refl
 
 -- a fault that is decided is that of each text that goes on

@@ -10,9 +10,9 @@ use Rattle.dimacs_text.specs.Fault.{number_of, located}
 use Rattle.dimacs_text.specs.Lines.{Line, parts_of, lines_of, last_line, is_too_long}
 use Rattle.dimacs_text.specs.Cut.{Cut, kept, begun_line, has_bytes}
 use Rattle.dimacs_text.proofs.BegunLemmas.{cut_line_of, bytes_begun, no_bytes_begun}
-use Rattle.dimacs_text.specs.Stream.{Rule, counted, or_else, first_fault, decided, Reports, cut_fault, lines_after, IsOpen}
+use Rattle.dimacs_text.specs.Stream.{Rule, counted, or_else, first_fault, decided, ReportsCut, cut_fault, lines_after, IsOpen}
 use Rattle.dimacs_text.specs.Reader.{Finishes}
-use Rattle.dimacs_text.proofs.StreamLemmas.{first_of_both, first_fault-append, no_fault_ended, complete_fault, decided-goes_on, lines_go_on_nothing}
+use Rattle.dimacs_text.proofs.StreamLemmas.{first_of_both, first_fault-append, no_fault_ended, complete_fault, decided-goes_on, lines_go_on_nothing, no_memory_decided}
 
 rest_by : (long : Bool) (rest : Line) → cond long None (Some rest) ≡ Some [] → rest ≡ []
 rest_by true rest e = absurd cc
@@ -58,8 +58,12 @@ module _ {T : Type 0} (rule : Rule) (holds : List Line → T → Type 0) (text :
         let count : min (lines + 1) (2 ^ 64 - 1) ≡ counted (length (lines_of text)) = rw (all_is, length_push, open_is.lines_are) (omega arith) in
         (none, rw (← lines_eq) t.1, count)
 
-    pub last_fails : (e : LineError) → ((before : List Line) → holds before taker → Reports e (cut_fault rule cut.line true before)) → Finishes rule holds (Err (located e (min (lines + 1) (2 ^ 64 - 1)))) text
-    last_fails line_error.Memory reported = tt
+    pub last_fails : (e : LineError) → ((before : List Line) → holds before taker → ReportsCut rule e cut.line true before) → Finishes rule holds (Err (located e (min (lines + 1) (2 ^ 64 - 1)))) text
+    last_fails line_error.Memory reported =
+        let p = parts_of text in record {
+          begun = λ e. rest_begun (ap kept e);
+          faultless = found ∙ ap (λ (f : Option Fault). or_else f (length p.ended + 1) None) (reported p.ended open_is.held).0;
+        }
     last_fails (line_error.Fault f) reported =
         let p = parts_of text in
         let count : counted (length p.ended + 1) ≡ min (lines + 1) (2 ^ 64 - 1) = rw open_is.lines_are (omega arith) in
@@ -67,5 +71,5 @@ module _ {T : Type 0} (rule : Rule) (holds : List Line → T → Type 0) (text :
 
 -- a fault that is decided is the first of the lines
 pub finishes_failed : {T : Type 0} (rule : Rule) (holds : List Line → T → Type 0) (fault : TextFault) (text : List ℕ) → decided rule text ≡ Some fault → Finishes rule holds (Err fault) text
-finishes_failed rule holds text_fault.Memory text e = tt
+finishes_failed rule holds text_fault.Memory text e = absurd (no_memory_decided rule text e)
 finishes_failed rule holds (text_fault.Fault number line) text e = decided-goes_on rule text (lines_of text) (text_fault.Fault number line) (lines_go_on_nothing text) e

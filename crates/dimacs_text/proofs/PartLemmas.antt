@@ -3,7 +3,7 @@ use Rattle.std.proofs.Common.{◌≡◌, ℕ, suc, ◌+◌, ◌<◌, ◌≤◌, 
 use Rattle.std.proofs.Math.Numerals.{one-add, add-one}
 use Rattle.std.specs.List.{position_or_len, before_first}
 use Rattle.std.proofs.lemmas.List.{take_all}
-use Rattle.std.proofs.lemmas.Bool.{ltb-true, ltb-false}
+use Rattle.std.proofs.lemmas.Bool.{eqb-true, ltb-true, ltb-false}
 use Rattle.dimacs_text.specs.Lines.{Line, Parts, parts_of, is_line_feed, is_too_long}
 use Rattle.dimacs_text.specs.Cut.{Cut, kept, extended, begun_line, cut_after, has_line_feed, bytes_used}
 use Rattle.dimacs_text.proofs.LineLemmas.{joined, joined_parts, parts_of-append}
@@ -45,6 +45,23 @@ first_by true piece is = rw add-one (parts_of-ended piece (ltb-true _ _ is))
 first_by false piece is =
     let le : length piece ≤ position_or_len is_line_feed piece = ltb-false _ _ is in
     rw (take_all (length piece) piece (omega arith), take_all (position_or_len is_line_feed piece) piece le) (parts_of-begun piece le)
+
+line_feed_by : (lf : Bool) (byte : ℕ) (piece : List ℕ) (place : ℕ) → is_line_feed byte ≡ lf → cond (not lf) (1 + place) 0 < suc (length piece)
+    → (place < length piece → take (suc place) piece ≡ take place piece ++ 10 ∷ [])
+    → take (suc (cond (not lf) (1 + place) 0)) (byte ∷ piece) ≡ take (cond (not lf) (1 + place) 0) (byte ∷ piece) ++ 10 ∷ []
+line_feed_by true byte piece place is lt later = ap (λ (b : ℕ). b ∷ []) (eqb-true byte 10 is)
+line_feed_by false byte piece place is lt later =
+    let ih = later (omega arith) in
+    rw one-add (ap (λ (r : List ℕ). byte ∷ r) ih)
+
+line_feed_at : (piece : List ℕ) → position_or_len is_line_feed piece < length piece
+    → take (suc (position_or_len is_line_feed piece)) piece ≡ take (position_or_len is_line_feed piece) piece ++ 10 ∷ []
+line_feed_at [] lt = absurd (omega arith)
+line_feed_at (byte ∷ piece) lt = line_feed_by (is_line_feed byte) byte piece (position_or_len is_line_feed piece) refl lt (line_feed_at piece)
+
+-- what is used of a piece ends with its first LF
+pub line_feed_used : (piece : List ℕ) → has_line_feed piece ≡ true → take (bytes_used piece) piece ≡ before_first is_line_feed piece ++ 10 ∷ []
+line_feed_used piece is = rw (is, add-one) (line_feed_at piece (ltb-true _ _ is))
 
 pub parts_of-first : (piece : List ℕ) → parts_of (take (bytes_used piece) piece) ≡ first_parts (has_line_feed piece) (before_first is_line_feed piece)
 parts_of-first piece = first_by (has_line_feed piece) piece refl

@@ -15,7 +15,7 @@ use Rattle.dimacs_text.specs.Stream.{counted, decided, first_fault, TakesLine}
 use Rattle.dimacs_text.specs.Reader as generic
 use Rattle.dimacs_text.specs.ProblemReader.{holds, Finishes}
 
-pub line_taken : (result : Result (Unit {0}) LineError) (old new : Told) (before : List Line) (line : Line) → Takes result line old new → old ≡ told_of before → TakesLine problem_rule holds result before line (record { draft = new })
+pub line_taken : (result : Result (Unit {0}) LineError) (old new : Told) (before : List Line) (line : Line) → Takes result line old new → old ≡ told_of before → TakesLine problem_rule holds result before line new
 line_taken (Ok x) old new before line taken held = rw (← held) (taken.0, taken.1 ∙ rw (told_of_push, ← held) refl)
 line_taken (Err e) old new before line taken held = rw (← held) taken
 
@@ -30,7 +30,7 @@ reads_end text draft f lines found held count closed = rw (found, ← held, ← 
 
 pub reads_fault : (e : TextFault) (text : List ℕ) → generic.Finishes problem_rule holds (Err e) text → Finishes (Err e) text
 unfolding reads
-reads_fault text_fault.Memory text found = tt
+reads_fault text_fault.Memory text found = found
 reads_fault (text_fault.Fault number line) text found = rw found refl
 
 pub told_of_nothing : record { size = None; marks = []; rows = [] } ≡ told_of []

@@ -1,5 +1,5 @@
 -- What a reader answers.
-use Rattle.std.proofs.Common.{◌≡◌, ℕ, List, Some, Err}
+use Rattle.std.proofs.Common.{◌≡◌, ℕ, List, ◌++◌, Some, Err}
 use Rattle.dimacs_text.specs.declared.fault.TextFault.{TextFault}
 use Rattle.dimacs_text.specs.declared.fault.TextFault.TheVariants as text_fault
 use Rattle.dimacs_text.specs.Lines.{Line}
@@ -7,6 +7,6 @@ use Rattle.dimacs_text.specs.declared.reader.TextReader.{TextReader}
 use Rattle.dimacs_text.specs.Stream.{Rule, Tells}
 use Rattle.dimacs_text.specs.Reader.{Feeds}
 
-pub feeds_failed : {T : Type 0} (rule : Rule) (holds : List Line → T → Type 0) (fault : TextFault) (reader : TextReader T) (text : List ℕ) → reader.failure ≡ Some fault → Tells rule fault text → Feeds rule holds (Err fault) reader text
-feeds_failed rule holds text_fault.Memory reader text e t = tt
-feeds_failed rule holds (text_fault.Fault number line) reader text e t = (t, rw e t)
+pub feeds_failed : {T : Type 0} (rule : Rule) (holds : List Line → T → Type 0) (fault : TextFault) (reader : TextReader T) (text piece : List ℕ) → reader.failure ≡ Some fault → Tells rule fault text piece → Feeds rule holds (Err fault) reader (text ++ piece)
+feeds_failed rule holds text_fault.Memory reader text piece e t = tt
+feeds_failed rule holds (text_fault.Fault number line) reader text piece e t = (t, rw e t)

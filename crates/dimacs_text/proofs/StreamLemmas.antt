@@ -1,5 +1,5 @@
 -- What a reader holds after a part of a piece, under any rule.
-use Rattle.std.proofs.Common.{◌≡◌, ℕ, ◌+◌, ◌-◌, ◌^◌, ◌<◌, min, Bool, true, false, cond, if◌then◌else◌, List, [], ◌∷◌, ◌++◌, length, take, drop, Option, Some, None, refl, sym, ap, ◌∙◌, append_assoc, arith}
+use Rattle.std.proofs.Common.{◌≡◌, ◌≢◌, ℕ, ◌+◌, ◌-◌, ◌^◌, ◌<◌, min, Bool, true, false, cond, if◌then◌else◌, List, [], ◌∷◌, ◌++◌, length, take, drop, Option, Some, None, Result, Err, refl, sym, ap, ◌∙◌, append_assoc, arith}
 use Rattle.std.specs.List.{before_first}
 use Rattle.std.proofs.lemmas.List.{append-nil, length_push, take-append-drop, take_rest}
 use Rattle.dimacs_text.specs.declared.fault.Fault.{Fault}
@@ -13,8 +13,8 @@ use Rattle.dimacs_text.specs.Lines.{Line, Parts, parts_of, lines_of, last_line, 
 use Rattle.dimacs_text.specs.Cut.{Cut, kept, extended, begun_line, cut_after, has_line_feed, bytes_used}
 use Rattle.dimacs_text.proofs.LineLemmas.{joined, joined_parts, parts_of-append}
 use Rattle.dimacs_text.proofs.GoesOnLemmas.{GoesOn, settled_go_on, last_line-too_long}
-use Rattle.dimacs_text.proofs.PartLemmas.{begun_with, first_parts, parts_of-first, parts_with, extended-kept, cut_after_bytes}
-use Rattle.dimacs_text.specs.Stream.{Rule, counted, at_line, fault_among, or_else, first_fault, settled_lines, decided, Reports, cut_fault, lines_after, IsOpen, Tells}
+use Rattle.dimacs_text.proofs.PartLemmas.{line_feed_used, begun_with, first_parts, parts_of-first, parts_with, extended-kept, cut_after_bytes}
+use Rattle.dimacs_text.specs.Stream.{Rule, counted, at_line, fault_among, or_else, first_fault, settled_lines, decided, ReportsCut, cut_fault, lines_after, IsOpen, EndsWell, Tells}
 
 -- the first fault of two lists in a row
 abbrev pub first_of_both : Option TextFault → Option TextFault → Option TextFault
@@ -131,13 +131,30 @@ module _ {T : Type 0} (rule : Rule) (holds : List Line → T → Type 0) where
     cut_begun : begun_line (cut_after cutter piece) ≡ begun_with (has_line_feed piece) (kept ((parts_of text).rest ++ before_first is_line_feed piece))
     cut_begun = ap begun_line (cut_after_bytes cutter piece some) ∙ ap (begun_with (has_line_feed piece)) line_is
 
+    part_undecided : cut_fault rule (cut_after cutter piece).line (has_line_feed piece) (parts_of text).ended ≡ None → decided rule (text ++ take (bytes_used piece) piece) ≡ None
+    part_undecided fault =
+        let line = before_first is_line_feed piece in let p = parts_of text in
+        let fault_is : cut_fault rule (kept (p.rest ++ line)) (has_line_feed piece) p.ended ≡ None = rw (← cut_line) fault in
+        decided_part rule text (take (bytes_used piece) piece) (has_line_feed piece) line (parts_of-first piece) open_is.undecided ∙ ap (λ (f : Option Fault). or_else f (length p.ended + 1) None) fault_is
+
+    pub part_ends : has_line_feed piece ≡ true → cut_fault rule (cut_after cutter piece).line (has_line_feed piece) (parts_of text).ended ≡ None → EndsWell rule text piece
+    part_ends has fault =
+        let line = before_first is_line_feed piece in let rest = drop (bytes_used piece) piece in
+        let used = line_feed_used piece has in
+        record {
+          front = line;
+          rest = rest;
+          piece_is = sym (take-append-drop (bytes_used piece) piece) ∙ ap (λ (p : List ℕ). p ++ rest) used ∙ append_assoc line (10 ∷ []) rest;
+          undecided = sym (ap (λ (p : List ℕ). decided rule (text ++ p)) used) ∙ part_undecided fault;
+        }
+
     pub part_ok : (new : T) → cut_fault rule (cut_after cutter piece).line (has_line_feed piece) (parts_of text).ended ≡ None → holds (lines_after (cut_after cutter piece).line (has_line_feed piece) (parts_of text).ended) new
         → (decided rule (text ++ take (bytes_used piece) piece) ≡ None) × IsOpen rule holds (text ++ take (bytes_used piece) piece) (lines_with (has_line_feed piece) lines) new (begun_line (cut_after cutter piece))
     part_ok new fault held =
         let line = before_first is_line_feed piece in let p = parts_of text in
         let fault_is : cut_fault rule (kept (p.rest ++ line)) (has_line_feed piece) p.ended ≡ None = rw (← cut_line) fault in
         let held_is : holds (lines_after (kept (p.rest ++ line)) (has_line_feed piece) p.ended) new = rw (← cut_line) held in
-        let none : decided rule (text ++ take (bytes_used piece) piece) ≡ None = decided_part rule text (take (bytes_used piece) piece) (has_line_feed piece) line (parts_of-first piece) open_is.undecided ∙ ap (λ (f : Option Fault). or_else f (length p.ended + 1) None) fault_is in
+        let none = part_undecided fault in
         (none, rw cut_begun (part_open (has_line_feed piece) (is_too_long (p.rest ++ line)) text (take (bytes_used piece) piece) line lines new (parts_of-first piece) refl none open_is.lines_are fault_is held_is))
 
     pub part_fails : (f : Fault) → cut_fault rule (cut_after cutter piece).line (has_line_feed piece) (parts_of text).ended ≡ Some f
@@ -166,15 +183,32 @@ whole_piece rule text piece used fault e =
     sym (ap (decided rule) whole) ∙ decided-append rule (text ++ take used piece) (drop used piece) fault e
 
 pub piece_failed : {T : Type 0} (rule : Rule) (holds : List Line → T → Type 0) (e : LineError) (text piece : List ℕ) (cutter after : Cut) (taker : T) (lines : ℕ) (complete : Bool) → 0 < length piece → complete ≡ has_line_feed piece → after ≡ cut_after cutter piece
-    → ((before : List Line) → holds before taker → Reports e (cut_fault rule after.line complete before)) → IsOpen rule holds text lines taker (begun_line cutter)
-    → Tells rule (located e (min (lines + 1) (2 ^ 64 - 1))) (text ++ piece)
-piece_failed rule holds line_error.Memory text piece cutter after taker lines complete some complete_is after_is reported open_is = tt
+    → ((before : List Line) → holds before taker → ReportsCut rule e after.line complete before) → IsOpen rule holds text lines taker (begun_line cutter)
+    → Tells rule (located e (min (lines + 1) (2 ^ 64 - 1))) text piece
+piece_failed rule holds line_error.Memory text piece cutter after taker lines complete some complete_is after_is reported open_is =
+    let r = reported (parts_of text).ended open_is.held in
+    let fault : cut_fault rule (cut_after cutter piece).line (has_line_feed piece) (parts_of text).ended ≡ None = rw (← after_is, ← complete_is) r.0 in
+    part_ends rule holds text piece cutter taker lines some open_is (sym complete_is ∙ r.1) fault
 piece_failed rule holds (line_error.Fault f) text piece cutter after taker lines complete some complete_is after_is reported open_is =
     let fault : cut_fault rule (cut_after cutter piece).line (has_line_feed piece) (parts_of text).ended ≡ Some f = rw (← after_is, ← complete_is) (reported (parts_of text).ended open_is.held) in
     whole_piece rule text piece (bytes_used piece) _ (part_fails rule holds text piece cutter taker lines some open_is f fault)
 
-pub tells_failed : (rule : Rule) (fault : TextFault) (text piece : List ℕ) → decided rule text ≡ Some fault → Tells rule fault (text ++ piece)
-tells_failed rule text_fault.Memory text piece e = tt
+-- want of memory is never decided
+no_memory_by : (here : Option Fault) (line : ℕ) (later : Option TextFault) → later ≢ Some text_fault.Memory → or_else here line later ≢ Some text_fault.Memory
+no_memory_by None line later ne = ne
+no_memory_by (Some f) line later ne = λ e. absurd cc
+
+no_memory_first : (rule : Rule) (before lines : List Line) → first_fault rule before lines ≢ Some text_fault.Memory
+unfolding first_fault
+no_memory_first rule before [] = λ e. absurd cc
+no_memory_first rule before (line ∷ lines) = no_memory_by (fault_among rule before line) (length before + 1) (first_fault rule (before ++ line ∷ []) lines) (no_memory_first rule (before ++ line ∷ []) lines)
+
+pub no_memory_decided : (rule : Rule) (text : List ℕ) → decided rule text ≢ Some text_fault.Memory
+unfolding decided
+no_memory_decided rule text = no_memory_first rule [] (settled_lines (parts_of text))
+
+pub tells_failed : (rule : Rule) (fault : TextFault) (text piece : List ℕ) → decided rule text ≡ Some fault → Tells rule fault text piece
+tells_failed rule text_fault.Memory text piece e = absurd (no_memory_decided rule text e)
 tells_failed rule (text_fault.Fault number line) text piece e = decided-append rule text piece (text_fault.Fault number line) e
 
 -- the reader of the empty text
@@ -197,6 +231,20 @@ fed_more rule stands piece done rest used old now new e before part = (
   rw take_rest (e ∙ ap (λ (r : List ℕ). done ++ r) (sym (take-append-drop used rest)) ∙ sym (append_assoc done (take used rest) (drop used rest))),
   λ setting text h. let b = before setting text h in rw (← append_assoc text done (take used rest)) (part setting (text ++ done) b.1),
 )
+
+-- where want of memory is told, it is for a line without a fault
+pub well_told : (rule : Rule) (fault : TextFault) (text piece : List ℕ) → Tells rule fault text piece → ◌≡◌ {A = Result (Unit {0}) TextFault} (Err fault) (Err text_fault.Memory) → EndsWell rule text piece
+well_told rule text_fault.Memory text piece tells is = tells
+well_told rule (text_fault.Fault number line) text piece tells is = absurd cc
+
+-- a line that ends in what is left of a piece ends in the piece
+pub ends_later : (rule : Rule) (text piece done rest : List ℕ) → piece ≡ done ++ rest → EndsWell rule (text ++ done) rest → EndsWell rule text piece
+ends_later rule text piece done rest e well = record {
+  front = done ++ well.front;
+  rest = well.rest;
+  piece_is = e ∙ ap (λ (r : List ℕ). done ++ r) well.piece_is ∙ sym (append_assoc done well.front (10 ∷ well.rest));
+  undecided = ap (decided rule) (ap (λ (r : List ℕ). text ++ r) (append_assoc done well.front (10 ∷ [])) ∙ sym (append_assoc text done (well.front ++ 10 ∷ []))) ∙ well.undecided;
+}
 
 -- the lines of a text, as those of the same text that goes on with nothing
 pub lines_go_on_nothing : (text : List ℕ) → GoesOn (parts_of text) (lines_of text)

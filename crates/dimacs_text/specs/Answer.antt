@@ -263,7 +263,7 @@ and_said said line = record {
   cut = said.cut ++ cut_in line;
 }
 
--- what was taken is without a fault, and held as expected; or its fault is told, memory aside
+-- what was taken is without a fault, and held as expected; or its fault is told, or want of memory where it has none
 abbrev pub TakesAs : Result (Unit {0}) LineError → Option Fault → Drafted → Said → Drafted → Type 0
 TakesAs (Ok _) found old expected new = (found ≡ None) × (new ≡ record old { said = expected })
 TakesAs (Err e) found old expected new = Reports e found

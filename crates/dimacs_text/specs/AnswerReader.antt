@@ -4,6 +4,7 @@ use Rattle.dimacs_text.specs.declared.fault.TextFault.{TextFault}
 use Rattle.dimacs_text.specs.declared.fault.TextFault.TheVariants as text_fault
 use Rattle.dimacs_text.specs.Lines.{Line}
 use Rattle.dimacs_text.specs.Reader as generic
+use Rattle.dimacs_text.specs.Stream.{StopsWell}
 use Rattle.dimacs_text.specs.declared.answer.Answer.{Answer}
 use Rattle.dimacs_text.specs.declared.answer_draft.AnswerDraft.{AnswerDraft}
 use Rattle.dimacs_text.specs.declared.answer_reader.AnswerReader.{AnswerReader}
@@ -21,10 +22,10 @@ StandsFor nodes arcs reader text = generic.StandsFor (answer_rule nodes arcs) (h
 abbrev pub Feeds : ℕ → ℕ → Result (Unit {0}) TextFault → AnswerReader → List ℕ → Type 0
 Feeds nodes arcs result reader text = generic.Feeds (answer_rule nodes arcs) (holds nodes arcs) result reader.reader text
 
--- at the end: memory aside, what reading gives
+-- at the end: what reading gives; memory is wanted for a last line alone, where none is faulty
 abbrev pub Finishes : ℕ → ℕ → Result Answer TextFault → List ℕ → Type 0
 Finishes nodes arcs (Ok answer) text = answers nodes arcs text ≡ Ok answer
-Finishes nodes arcs (Err text_fault.Memory) text = Unit {0}
+Finishes nodes arcs (Err text_fault.Memory) text = StopsWell (answer_rule nodes arcs) text
 Finishes nodes arcs (Err (text_fault.Fault number line)) text = answers nodes arcs text ≡ Err (text_fault.Fault number line)
 
 -- the reader answered this, and answers it from then on

@@ -5,13 +5,14 @@ use Rattle.dimacs_text.specs.declared.fault.TextFault.TheVariants as text_fault
 use Rattle.dimacs_text.specs.Lines.{Line}
 use Rattle.dimacs_text.specs.Problem.{told_of}
 use Rattle.dimacs_text.specs.Reader as generic
-use Rattle.dimacs_text.specs.declared.problem_reader.ProblemTaker.{ProblemTaker}
+use Rattle.dimacs_text.specs.Stream.{StopsWell}
+use Rattle.dimacs_text.specs.declared.draft.Draft.{Draft}
 use Rattle.dimacs_text.specs.declared.problem_reader.ProblemReader.{ProblemReader}
 use Rattle.dimacs_text.specs.Reading.{ProblemValue, problem_rule, reads}
 
--- the taker holds what the lines tell
-abbrev pub holds : List Line → ProblemTaker → Type 0
-holds before taker = taker.draft ≡ told_of before
+-- the draft holds what the lines tell
+abbrev pub holds : List Line → Draft → Type 0
+holds before draft = draft ≡ told_of before
 
 -- the reader holds what reading takes from the text
 abbrev pub StandsFor : ProblemReader → List ℕ → Type 0
@@ -21,10 +22,10 @@ StandsFor reader text = generic.StandsFor problem_rule holds reader.reader text
 abbrev pub Feeds : Result (Unit {0}) TextFault → ProblemReader → List ℕ → Type 0
 Feeds result reader text = generic.Feeds problem_rule holds result reader.reader text
 
--- at the end: memory aside, what reading gives
+-- at the end: what reading gives; memory is wanted for a last line alone, where none is faulty
 abbrev pub Finishes : Result ProblemValue TextFault → List ℕ → Type 0
 Finishes (Ok problem) text = reads text ≡ Ok problem
-Finishes (Err text_fault.Memory) text = Unit {0}
+Finishes (Err text_fault.Memory) text = StopsWell problem_rule text
 Finishes (Err (text_fault.Fault number line)) text = reads text ≡ Err (text_fault.Fault number line)
 
 -- the reader answered this, and answers it from then on

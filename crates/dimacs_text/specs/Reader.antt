@@ -5,7 +5,7 @@ use Rattle.dimacs_text.specs.declared.fault.TextFault.TheVariants as text_fault
 use Rattle.dimacs_text.specs.Lines.{Line, lines_of}
 use Rattle.dimacs_text.specs.Cut.{begun_line}
 use Rattle.dimacs_text.specs.declared.reader.TextReader.{TextReader}
-use Rattle.dimacs_text.specs.Stream.{Rule, Stands, Tells, decided, first_fault, counted}
+use Rattle.dimacs_text.specs.Stream.{Rule, Stands, StopsWell, Tells, decided, first_fault, counted}
 
 module _ {T : Type 0} where
   -- the reader holds what reading takes from the text
@@ -21,14 +21,14 @@ module _ {T : Type 0} where
   -- after a part of a piece, which ends at an LF or with the piece
   abbrev pub FeedsPart : Rule → (List Line → T → Type 0) → Result ℕ TextFault → List ℕ → TextReader T → List ℕ → Type 0
   FeedsPart rule holds (Ok used) piece reader text = (decided rule (text ++ take used piece) ≡ None) × StandsFor rule holds reader (text ++ take used piece)
-  FeedsPart rule holds (Err e) piece reader text = Tells rule e (text ++ piece)
+  FeedsPart rule holds (Err e) piece reader text = Tells rule e text piece
 
   -- the reader answered this, and answers it from then on
   abbrev pub HasFailed : TextReader T → TextFault → Type 0
   HasFailed reader fault = reader.failure ≡ Some fault
 
-  -- at the end: memory aside, the first fault of the lines, or what they tell, with their count
+  -- at the end: the first fault of the lines, or what they tell, with their count; memory is wanted for a last line alone
   abbrev pub Finishes : Rule → (List Line → T → Type 0) → Result (T × ℕ) TextFault → List ℕ → Type 0
   Finishes rule holds (Ok x) text = (first_fault rule [] (lines_of text) ≡ None) × holds (lines_of text) x.0 × (x.1 ≡ counted (length (lines_of text)))
-  Finishes rule holds (Err text_fault.Memory) text = Unit {0}
+  Finishes rule holds (Err text_fault.Memory) text = StopsWell rule text
   Finishes rule holds (Err (text_fault.Fault number line)) text = first_fault rule [] (lines_of text) ≡ Some (text_fault.Fault number line)

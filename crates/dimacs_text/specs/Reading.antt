@@ -42,7 +42,7 @@ problem_end lines = or_at (ending (told_of lines)) (length lines)
 unfoldable pub reads : List ℕ → Result ProblemValue TextFault
 reads text = fault_or (first_fault problem_rule [] (lines_of text)) (problem_end (lines_of text))
 
--- what was taken is without a fault, and told as expected; or its fault is told, memory aside
+-- what was taken is without a fault, and told as expected; or its fault is told, or want of memory where it has none
 abbrev pub TakesAs : Result (Unit {0}) LineError → Option Fault → Told → Told → Type 0
 TakesAs (Ok _) found expected new = (found ≡ None) × (new ≡ expected)
 TakesAs (Err e) found expected new = Reports e found

@@ -1,5 +1,5 @@
 -- A text whose lines are taken one after the other, each by a rule over itself and the lines before it.
-use Rattle.std.specs.Prelude.{◌≡◌, ℕ, ◌+◌, ◌-◌, ◌^◌, min, Bool, List, [], ◌∷◌, ◌++◌, Option, Some, None, Result, Ok, Err, length, if◌then◌else◌}
+use Rattle.std.specs.Prelude.{◌≡◌, ◌≢◌, ℕ, ◌+◌, ◌-◌, ◌^◌, min, Bool, true, List, [], ◌∷◌, ◌++◌, Option, Some, None, Result, Ok, Err, length, if◌then◌else◌}
 use Rattle.dimacs_text.specs.declared.fault.Fault.{Fault}
 use Rattle.dimacs_text.specs.declared.fault.Fault.TheVariants as fault
 use Rattle.dimacs_text.specs.declared.fault.LineError.{LineError}
@@ -7,7 +7,7 @@ use Rattle.dimacs_text.specs.declared.fault.LineError.TheVariants as line_error
 use Rattle.dimacs_text.specs.declared.fault.TextFault.{TextFault}
 use Rattle.dimacs_text.specs.declared.fault.TextFault.TheVariants as text_fault
 use Rattle.dimacs_text.specs.Fault.{number_of}
-use Rattle.dimacs_text.specs.Lines.{Line, Parts, parts_of, is_too_long}
+use Rattle.dimacs_text.specs.Lines.{Line, Parts, parts_of, lines_of, is_too_long}
 use Rattle.dimacs_text.specs.Cut.{kept}
 
 -- the fault of a line that fits, among the lines before it
@@ -51,15 +51,20 @@ settled_lines parts = parts.ended ++ (if is_too_long parts.rest then parts.rest 
 unfoldable pub decided : Rule → List ℕ → Option TextFault
 decided rule text = first_fault rule [] (settled_lines (parts_of text))
 
--- what is told of a line that was not taken, memory aside
+-- what is told of a line that was not taken: its fault, or want of memory where it has none
 abbrev pub Reports : LineError → Option Fault → Type 0
-Reports line_error.Memory found = Unit {0}
+Reports line_error.Memory found = found ≡ None
 Reports (line_error.Fault fault) found = found ≡ Some fault
 
 -- a line that is cut: too long, complete, or begun
 abbrev pub cut_fault : Rule → Option Line → Bool → List Line → Option Fault
 cut_fault rule None complete before = Some fault.LineTooLong
 cut_fault rule (Some line) complete before = if complete then rule before line else None
+
+-- what is told of a line that is cut: a complete one alone can want memory
+abbrev pub ReportsCut : Rule → LineError → Option Line → Bool → List Line → Type 0
+ReportsCut rule line_error.Memory line complete before = (cut_fault rule line complete before ≡ None) × (complete ≡ true)
+ReportsCut rule (line_error.Fault fault) line complete before = cut_fault rule line complete before ≡ Some fault
 
 abbrev pub lines_after : Option Line → Bool → List Line → List Line
 lines_after None complete before = before
@@ -73,7 +78,7 @@ module _ {T : Type 0} where
 
   abbrev pub TakesCut : Rule → (List Line → T → Type 0) → Result (Unit {0}) LineError → List Line → Option Line → Bool → T → Type 0
   TakesCut rule holds (Ok _) before line complete new = (cut_fault rule line complete before ≡ None) × holds (lines_after line complete before) new
-  TakesCut rule holds (Err e) before line complete new = Reports e (cut_fault rule line complete before)
+  TakesCut rule holds (Err e) before line complete new = ReportsCut rule e line complete before
 
   -- nothing is decided, and this is what the text leaves
   pub record IsOpen (rule : Rule) (holds : List Line → T → Type 0) (text : List ℕ) (lines : ℕ) (taker : T) (begun : Option Line) : Type 0 where
@@ -87,7 +92,19 @@ module _ {T : Type 0} where
   Stands rule holds (Some fault) lines taker begun text = decided rule text ≡ Some fault
   Stands rule holds None lines taker begun text = IsOpen rule holds text lines taker begun
 
--- memory aside, the fault is decided by the text
-abbrev pub Tells : Rule → TextFault → List ℕ → Type 0
-Tells rule text_fault.Memory text = Unit {0}
-Tells rule (text_fault.Fault number line) text = decided rule text ≡ Some (text_fault.Fault number line)
+-- a line ends in the piece, and the text through its LF decides no fault
+pub record EndsWell (rule : Rule) (text piece : List ℕ) : Type 0 where
+  pub front : List ℕ
+  pub rest : List ℕ
+  pub piece_is : piece ≡ front ++ 10 ∷ rest
+  pub undecided : decided rule (text ++ (front ++ 10 ∷ [])) ≡ None
+
+-- the text ends without an LF, and none of its lines is faulty
+pub record StopsWell (rule : Rule) (text : List ℕ) : Type 0 where
+  pub begun : (parts_of text).rest ≢ []
+  pub faultless : first_fault rule [] (lines_of text) ≡ None
+
+-- the fault is decided by the text with the piece, or memory was wanted for a line of the piece, through which none is
+abbrev pub Tells : Rule → TextFault → List ℕ → List ℕ → Type 0
+Tells rule text_fault.Memory text piece = EndsWell rule text piece
+Tells rule (text_fault.Fault number line) text piece = decided rule (text ++ piece) ≡ Some (text_fault.Fault number line)

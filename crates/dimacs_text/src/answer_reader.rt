@@ -1,8 +1,8 @@
 //! A reader of answer texts.
 
-ghost use Rattle.std.specs.Prelude.{◌≡◌, List, ℕ, [], ◌++◌, Some, Err, IfOk, IfErr};
+ghost use Rattle.std.specs.Prelude.{◌≡◌, List, ℕ, [], ◌++◌, Some, None, Err, IfOk, IfErr};
 ghost use Rattle.dimacs_text.specs.Lines.{IsBytes};
-ghost use Rattle.dimacs_text.specs.Stream.{decided};
+ghost use Rattle.dimacs_text.specs.Stream.{decided, EndsWell};
 ghost use Rattle.dimacs_text.specs.Answer.{FitsSize, answer_rule, answers};
 ghost use Rattle.dimacs_text.specs.declared.fault.TextFault.{TextFault};
 
@@ -53,6 +53,9 @@ impl AnswerReader {
     pub fn feed(&mut self, piece: &[u8]) -> Result<(), TextFault>
         ensures text { (nodes arcs : ℕ) (text : List ℕ) → StandsFor nodes arcs self.old text
             → Feeds nodes arcs result self.new (text ++ piece.now) }
+        // No want of memory stands for a fault: it is answered at the end of a line before any.
+        ensures memory { (nodes arcs : ℕ) (text : List ℕ) → StandsFor nodes arcs self.old text
+            → result ≡ Err TextFault.Memory → EndsWell (answer_rule nodes arcs) text piece.now }
         ensures err { IfErr result (HasFailed self.new) }
         ensures failed { (e : TextFault) → HasFailed self.old e → result ≡ Err e }
     {
@@ -78,8 +81,9 @@ impl AnswerReader {
 }
 
 /// A law, with nothing to run: a fault is decided by a text exactly where each text has it that goes on from there, as
-/// an answer to a problem with so many nodes and arcs.
+/// an answer to a problem with so many nodes and arcs, and none is by the empty text.
 pub fn answer_decided_for_all()
+    ensures nothing { (nodes arcs : ℕ) → decided (answer_rule nodes arcs) [] ≡ None }
     ensures always { (nodes arcs : ℕ) (text more : List ℕ) (fault : TextFault)
         → decided (answer_rule nodes arcs) text ≡ Some fault → answers nodes arcs (text ++ more) ≡ Err fault }
     ensures only { (nodes arcs : ℕ) (text : List ℕ) (fault : TextFault)

@@ -10,6 +10,7 @@ mod command;
 mod cutter;
 mod draft;
 mod fault;
+mod limits;
 mod numbers;
 mod problem;
 mod problem_reader;
@@ -25,6 +26,7 @@ pub use answer_reader::{AnswerReader, answer_decided_for_all};
 pub use command::{Command, Edit, read_command};
 pub use cutter::{LINE_LIMIT, LineCutter};
 pub use fault::{Fault, TextFault};
+pub use limits::limits_are;
 pub use problem::{
     ARC_LIMIT, ArcRow, CAP_LIMIT, COST_LIMIT, Kind, NODE_LIMIT, NodeMark, Problem, SUPPLY_LIMIT,
 };

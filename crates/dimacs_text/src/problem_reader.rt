@@ -1,8 +1,8 @@
 //! Reading a problem text in pieces.
 
-ghost use Rattle.std.specs.Prelude.{◌≡◌, List, ℕ, [], ◌++◌, Some, Err, IfErr};
+ghost use Rattle.std.specs.Prelude.{◌≡◌, List, ℕ, [], ◌++◌, Some, None, Err, IfErr};
 ghost use Rattle.dimacs_text.specs.Lines.{IsBytes};
-ghost use Rattle.dimacs_text.specs.Stream.{decided};
+ghost use Rattle.dimacs_text.specs.Stream.{decided, EndsWell};
 ghost use Rattle.dimacs_text.specs.Reading.{problem_rule, reads};
 ghost use Rattle.dimacs_text.specs.declared.fault.TextFault.{TextFault};
 
@@ -12,13 +12,7 @@ use crate::problem::Problem;
 use crate::reader::{LineTaker, TextReader};
 use std::alloc::Global;
 
-/// Takes the lines of a problem text.
-#[derive(Drop)]
-pub struct ProblemTaker {
-    draft: Draft,
-}
-
-impl LineTaker for ProblemTaker {
+impl LineTaker for Draft {
     ghost use Rattle.dimacs_text.specs.Reading.{problem_rule};
     ghost use Rattle.dimacs_text.specs.ProblemReader.{holds as holds_lines};
 
@@ -27,7 +21,7 @@ impl LineTaker for ProblemTaker {
     ghost holds = { λ _. holds_lines };
 
     fn take_line(&mut self, line: &[u8]) -> Result<(), LineError> {
-        self.draft.take_line(line)
+        self.take(line)
     }
 }
 
@@ -35,7 +29,7 @@ impl LineTaker for ProblemTaker {
 /// it is read the same.
 #[derive(Drop)]
 pub struct ProblemReader {
-    reader: TextReader<ProblemTaker>,
+    reader: TextReader<Draft>,
 }
 
 impl ProblemReader {
@@ -46,9 +40,7 @@ impl ProblemReader {
         ensures { StandsFor result [] }
     {
         ProblemReader {
-            reader: TextReader::new(ProblemTaker {
-                draft: Draft::new(alloc),
-            }),
+            reader: TextReader::new(Draft::new(alloc)),
         }
     }
 
@@ -56,6 +48,9 @@ impl ProblemReader {
     /// or at the byte that makes the line too long. After a fault or want of memory every later call answers the same.
     pub fn feed(&mut self, piece: &[u8]) -> Result<(), TextFault>
         ensures text { (text : List ℕ) → StandsFor self.old text → Feeds result self.new (text ++ piece.now) }
+        // No want of memory stands for a fault: it is answered at the end of a line before any.
+        ensures memory { (text : List ℕ) → StandsFor self.old text → result ≡ Err TextFault.Memory
+            → EndsWell problem_rule text piece.now }
         ensures err { IfErr result (HasFailed self.new) }
         ensures failed { (e : TextFault) → HasFailed self.old e → result ≡ Err e }
     {
@@ -68,8 +63,7 @@ impl ProblemReader {
         ensures failed { (e : TextFault) → HasFailed self e → result ≡ Err e }
     {
         let ProblemReader { reader } = self;
-        let (taker, lines) = reader.finish()?;
-        let ProblemTaker { draft } = taker;
+        let (draft, lines) = reader.finish()?;
         match draft.close() {
             Ok(problem) => Ok(problem),
             Err(fault) => Err(LineError::Fault(fault).at_line(lines)),
@@ -77,8 +71,10 @@ impl ProblemReader {
     }
 }
 
-/// A law, with nothing to run: a fault is decided by a text exactly where each text has it that goes on from there.
+/// A law, with nothing to run: a fault is decided by a text exactly where each text has it that goes on from there, and
+/// none is by the empty text.
 pub fn decided_for_all()
+    ensures nothing { decided problem_rule [] ≡ None }
     ensures always { (text more : List ℕ) (fault : TextFault)
         → decided problem_rule text ≡ Some fault → reads (text ++ more) ≡ Err fault }
     ensures only { (text : List ℕ) (fault : TextFault)

@@ -3,7 +3,7 @@
 ghost use Rattle.std.specs.Prelude.{◌≡◌, ◌<◌, ◌≤◌, List, ℕ, [], ◌++◌, Option, Err, IfOk, IfErr, length};
 ghost use Rattle.dimacs_text.specs.declared.fault.Fault.{Fault};
 ghost use Rattle.dimacs_text.specs.declared.fault.TextFault.{TextFault};
-ghost use Rattle.dimacs_text.specs.Stream.{TakesLine, TakesCut};
+ghost use Rattle.dimacs_text.specs.Stream.{TakesLine, TakesCut, EndsWell};
 
 use crate::cutter::LineCutter;
 use crate::fault::{Fault, LineError, TextFault};
@@ -74,6 +74,8 @@ impl<T: LineTaker> TextReader<T> {
     pub fn feed(&mut self, piece: &[u8]) -> Result<(), TextFault>
         ensures text { (setting : T.Setting) (text : List ℕ) → StandsFor (T.rule setting) (T.holds setting) self.old text
             → Feeds (T.rule setting) (T.holds setting) result self.new (text ++ piece.now) }
+        ensures memory { (setting : T.Setting) (text : List ℕ) → StandsFor (T.rule setting) (T.holds setting) self.old text
+            → result ≡ Err TextFault.Memory → EndsWell (T.rule setting) text piece.now }
         // Every later call answers the same.
         ensures err { IfErr result (HasFailed self.new) }
         ensures failed { (e : TextFault) → HasFailed self.old e → result ≡ Err e }

@@ -14,6 +14,7 @@ pub mod Answering
 pub mod CutSums
 pub mod Surplus
 pub mod EndLinks
+pub mod EndWalk
 pub mod Growth
 pub mod Opening
 pub mod EditedLemmas

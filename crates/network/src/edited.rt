@@ -1,8 +1,9 @@
 //! Which edits an instance takes.
-ghost use Rattle.std.specs.Prelude.{◌≡◌, ◌≤◌, ◌&&◌, ℤ};
+ghost use Rattle.std.specs.Prelude.{◌≡◌, ◌≤◌, ◌&&◌, ℤ, Ok};
+ghost use Rattle.dimacs_text.specs.declared.command.Edit.{Edit};
 ghost use Rattle.network.specs.Edited.{added, edited, edited_by, has_room, has_edit, is_across, is_bound, is_new_row, is_node, is_within, refusal_number, suits_kind, outcome, tried};
 ghost use Rattle.network.specs.Flow.{IsNode};
-ghost use Rattle.network.specs.Instance.{arc_at, kind_of, reduced};
+ghost use Rattle.network.specs.Instance.{Instance, IsLawful, arc_at, kind_of, reduced};
 
 use crate::{Goal, Network};
 use dimacs_text::{ArcRow, CAP_LIMIT, COST_LIMIT, Edit, Kind, SUPPLY_LIMIT};
@@ -265,3 +266,9 @@ impl Network {
         }
     }
 }
+
+/// A law, with nothing to run: a lawful instance is lawful once it is edited, so that further edits can follow.
+pub fn edits_keep_lawful()
+    ensures { (before : Instance) (edit : Edit) (after : Instance) → IsLawful before → edited before edit ≡ Ok after
+        → IsLawful after }
+{}

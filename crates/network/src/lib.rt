@@ -7,6 +7,7 @@ mod cost;
 mod cut;
 mod edit;
 mod edited;
+mod limits;
 mod net;
 mod signs;
 mod start;
@@ -20,6 +21,9 @@ ghost use Rattle.network.specs.Representation.{instance_of, IsSound};
 
 pub use check::{check_best, check_cut};
 use dimacs_text::ArcRow;
+pub use edited::edits_keep_lawful;
+pub use limits::limits_are;
+pub use net::ends_come_once;
 pub use start::build;
 use std::marker::Model;
 

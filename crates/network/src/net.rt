@@ -1,7 +1,8 @@
 //! What a node sends out in all, by the list of its ends.
-ghost use Rattle.std.specs.Prelude.{◌≡◌, ◌*◌, ◌<◌, ◌≤◌, All, length, unsigned_abs};
+ghost use Rattle.std.specs.Prelude.{◌≡◌, ◌*◌, ◌<◌, ◌≤◌, ℕ, List, All, length, unsigned_abs};
+ghost use Rattle.dimacs_text.specs.declared.problem.ArcRow.{ArcRow};
 ghost use Rattle.dimacs_text.specs.declared.problem.TheConstants.{CAP_LIMIT};
-ghost use Rattle.network.specs.Ends.{end_flow, end_node, last_end_below};
+ghost use Rattle.network.specs.Ends.{end_flow, end_node, last_end_below, WalksEnds};
 ghost use Rattle.network.specs.Flow.{AllWithinBounds, IsNode, net};
 ghost use Rattle.network.specs.Instance.{reduced};
 
@@ -59,3 +60,8 @@ impl Network {
         sum
     }
 }
+
+/// A law, with nothing to run: `first_end` and then `next_end`, up to `None`, give each end at a node once.
+pub fn ends_come_once()
+    ensures { (arcs : List ArcRow) (v : ℕ) → (ends : List ℕ) × WalksEnds arcs v ends }
+{}

@@ -1,6 +1,6 @@
 //! What an instance is made of, and its reduction to minimum cost.
 ghost use Rattle.std.specs.Prelude.{◌≡◌, Some, None, length, option_map};
-ghost use Rattle.network.specs.Flow.{IsNode};
+ghost use Rattle.network.specs.Flow.{AllEndsAreNodes, IsNode};
 ghost use Rattle.network.specs.Instance.{IsLawful, arc_at, kind_of, reduced, reduced_supply};
 
 use crate::{Goal, Network};
@@ -22,6 +22,7 @@ impl Network {
     pub fn nodes(&self) -> u32
         ensures value { result ≡ self.now.nodes }
         ensures lawful { IsLawful self.now }
+        ensures ends { AllEndsAreNodes (reduced self.now) }
     {
         self.nodes
     }
