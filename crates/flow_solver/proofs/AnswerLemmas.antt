@@ -16,11 +16,11 @@ use Rattle.network.proofs.Reduction.{made, rows_of, reduced_ends, certified_is_b
 use Rattle.network.proofs.Surplus.{surplus_at_most}
 use Rattle.flow_solver.specs.declared.verdict.Verdict.{Verdict}
 use Rattle.flow_solver.specs.declared.verdict.Verdict.TheVariants.{Best, Infeasible}
-use Rattle.flow_solver.specs.Limits.{supply_limit, entry_limit, cap_sum_limit}
-use Rattle.flow_solver.specs.Residual.{IsCertified, AreGreatest, ArePathsAbove, number_at, arc_at}
-use Rattle.flow_solver.specs.Push.{AreSmall, IsExcess, AreSupplies, positive_part, left, cap_total}
-use Rattle.flow_solver.specs.Cut.{in_set, sum_in, sum_leaving, sum_entering, lack, IsChosenSet}
-use Rattle.flow_solver.specs.Nodes.{held}
+use Rattle.shortest_paths.specs.Limits.{supply_limit, entry_limit, cap_sum_limit}
+use Rattle.shortest_paths.specs.Residual.{IsCertified, AreGreatest, ArePathsAbove, number_at, arc_at}
+use Rattle.shortest_paths.specs.Push.{AreSmall, IsExcess, AreSupplies, positive_part, left, cap_total}
+use Rattle.shortest_paths.specs.Cut.{in_set, sum_in, sum_leaving, sum_entering, lack, IsChosenSet}
+use Rattle.shortest_paths.specs.Nodes.{held}
 use Rattle.flow_solver.specs.Answer.{IsBestMoment, IsInfeasibleMoment, IsVerdict, IsChosenBreach, IsChosenCut, IsJudged, worth_by}
 use Rattle.flow_solver.specs.Balance.{IsWrappedExcess}
 use Rattle.flow_solver.specs.Desk.{IsAnswered, IsFlow}

@@ -10,17 +10,17 @@ use Rattle.network.specs.Instance.{Demand, Supplies, Terminals, Sides, Instance,
 use Rattle.flow_solver.specs.declared.balance.Balance.{Balance}
 use Rattle.flow_solver.specs.declared.ledger.Ledger.{Ledger}
 use Rattle.flow_solver.specs.Balance.{AreEndsIn, IsBalanceOf, IsCarried, IsRaised, IsWrappedCost, IsWrappedExcess}
-use Rattle.flow_solver.specs.Nodes.{held}
-use Rattle.flow_solver.specs.Push.{at_node}
-use Rattle.flow_solver.specs.Residual.{IsRow, arc_at, number_at}
+use Rattle.shortest_paths.specs.Nodes.{held}
+use Rattle.shortest_paths.specs.Push.{at_node}
+use Rattle.shortest_paths.specs.Residual.{IsRow, arc_at, number_at}
 use Rattle.flow_solver.specs.Desk.{flow_index}
 use Rattle.flow_solver.specs.Edit.{place_of}
-use Rattle.flow_solver.specs.Touched.{IsLedger, kept_in}
+use Rattle.flow_solver.specs.Ledger.{IsLedger, kept_in}
 use Rattle.flow_solver.proofs.BalanceLemmas.{cost_first, cost_last, cost_row, excess_first, excess_last, excess_row, excess_set, excess_supplied}
 use Rattle.flow_solver.proofs.ChangeLemmas.{place_in, row_is, rows_changed, rows_more, supplied, supply_at, with_last, with_row}
 use Rattle.flow_solver.proofs.InstanceLemmas.{rows_of_instance}
-use Rattle.flow_solver.proofs.NodeLemmas.{IsNodeOf, is_node_or_not, held_node, held_other}
-use Rattle.flow_solver.proofs.PushLemmas.{at_other}
+use Rattle.shortest_paths.proofs.NodeLemmas.{IsNodeOf, is_node_or_not, held_node, held_other}
+use Rattle.shortest_paths.proofs.PushLemmas.{at_other}
 
 -- what each node of an instance has to send out
 abbrev pub sends : Instance → ℕ → ℤ

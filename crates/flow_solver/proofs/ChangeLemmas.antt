@@ -13,18 +13,19 @@ use Rattle.network.specs.Flow.{MinCost, AllEndsAreNodes, net, total_excess, IsCe
 use Rattle.network.specs.Flow as flow
 use Rattle.network.specs.Instance.{Demand, Supplies, Terminals, Sides, Instance, IsLawful, ArcFits, DemandFits, at_node, kind_of, reduced, reduced_arcs, reduced_supply, with_supply}
 use Rattle.network.proofs.Reduction.{reduced_ends}
-use Rattle.flow_solver.specs.Residual.{IsCertified, IsRow, number_at, arc_at}
-use Rattle.flow_solver.specs.Push.{IsExcess, IsTransfer, at_node as at_one}
-use Rattle.flow_solver.specs.Nodes.{table, held, IsIdleEntry}
+use Rattle.shortest_paths.specs.Residual.{IsCertified, IsRow, number_at, arc_at}
+use Rattle.shortest_paths.specs.Push.{IsExcess, IsTransfer, at_node as at_one}
+use Rattle.shortest_paths.specs.Nodes.{table, held, IsIdleEntry}
 use Rattle.flow_solver.specs.Edit.{reduced_cost, IsNearest, place_of}
 use Rattle.flow_solver.specs.Desk.{supplies_in}
-use Rattle.flow_solver.proofs.NodeLemmas.{IsNodeOf, length-table, table_at, is_node_or_not, held_node, held_other, net-none}
-use Rattle.flow_solver.proofs.PushLemmas.{at_same, at_other}
+use Rattle.shortest_paths.proofs.NodeLemmas.{IsNodeOf, length-table, table_at, is_node_or_not, held_node, held_other, net-none}
+use Rattle.shortest_paths.proofs.PushLemmas.{at_same, at_other}
 use Rattle.flow_solver.proofs.ExcessLemmas.{left-gain, at_node_bounds}
 use Rattle.flow_solver.proofs.FlowLaws.{certified_flow}
 use Rattle.flow_solver.proofs.PushLaws.{left_is}
 use Rattle.flow_solver.proofs.EditLemmas.{net_replaced, left-carried}
-use Rattle.flow_solver.proofs.InstanceLemmas.{row_in_tables, certified_of, rows_push}
+use Rattle.flow_solver.proofs.InstanceLemmas.{row_in_tables, certified_of}
+use Rattle.shortest_paths.proofs.WalkLemmas.{rows_push}
 use Rattle.flow_solver.proofs.AnswerLemmas.{agrees_at, certified_at}
 
 -- ---- the instance and its rows

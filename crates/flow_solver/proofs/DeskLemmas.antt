@@ -5,22 +5,22 @@ use Rattle.std.proofs.lemmas.List.{length-take-le, length-drop}
 use Rattle.dimacs_text.specs.declared.problem.ArcRow.{ArcRow}
 use Rattle.network.specs.Instance.{Demand, Supplies, Terminals, Sides, Instance, numbered_flow, with_supply}
 use Rattle.flow_solver.specs.declared.balance.Balance.{Balance}
-use Rattle.flow_solver.specs.declared.graph.Graph.{Graph}
+use Rattle.shortest_paths.specs.declared.graph.Graph.{Graph}
 use Rattle.flow_solver.specs.declared.ledger.Ledger.{Ledger}
 use Rattle.flow_solver.specs.declared.part.Part.{Part}
 use Rattle.flow_solver.specs.declared.part.Part.TheVariants.{OtherRow, OtherSupply, NoArc}
-use Rattle.flow_solver.specs.declared.scratch.Scratch.{Scratch}
+use Rattle.shortest_paths.specs.declared.scratch.Scratch.{Scratch}
 use Rattle.flow_solver.specs.declared.verdict.Verdict.{Verdict}
 use Rattle.flow_solver.specs.Balance.{IsBalanceOf}
 use Rattle.flow_solver.specs.Desk.{NameChanges}
 use Rattle.flow_solver.specs.Moment.{AreTables, IsOfNodes, IsSized, Kept, Moment, kept_of}
-use Rattle.flow_solver.specs.Graph.{IsGraphFor}
-use Rattle.flow_solver.specs.Nodes.{IsIdleEntry}
+use Rattle.shortest_paths.specs.Graph.{IsGraphFor}
+use Rattle.shortest_paths.specs.Nodes.{IsIdleEntry}
 use Rattle.flow_solver.specs.Part.{before_of, before_part, return_count}
-use Rattle.flow_solver.specs.Scratch.{IsScratchFor}
-use Rattle.flow_solver.specs.Touched.{IsLedger, IsWritten, kept_in}
-use Rattle.flow_solver.specs.Walk.{AreRowsOf}
-use Rattle.flow_solver.proofs.TouchedLemmas.{named_after_first}
+use Rattle.shortest_paths.specs.Scratch.{IsScratchFor}
+use Rattle.flow_solver.specs.Ledger.{IsLedger, IsWritten, kept_in}
+use Rattle.shortest_paths.specs.Walk.{AreRowsOf}
+use Rattle.flow_solver.proofs.LedgerLemmas.{named_after_first}
 
 module _ {T : Type 0} where
   -- a write leaves what was kept

@@ -5,13 +5,13 @@ use Rattle.std.proofs.lemmas.Int.{ints, by_lt_z}
 use Rattle.std.proofs.lemmas.Bool.{cases_eq}
 use Rattle.std.proofs.lemmas.List.{get_or-set_same, get_or-set_other, length-set}
 use Rattle.dimacs_text.specs.declared.problem.ArcRow.{ArcRow}
-use Rattle.flow_solver.specs.declared.residual.Way.{Way}
-use Rattle.flow_solver.specs.declared.residual.Way.TheVariants.{Forward, Backward}
-use Rattle.flow_solver.specs.Residual.{IsRow, IsWithin, IsFlow, IsCertified, NoneBelow, number_at, arc_at, start_of, end_of, cost_of, room_of}
+use Rattle.shortest_paths.specs.declared.residual.Way.{Way}
+use Rattle.shortest_paths.specs.declared.residual.Way.TheVariants.{Forward, Backward}
+use Rattle.shortest_paths.specs.Residual.{IsRow, IsWithin, IsFlow, IsCertified, NoneBelow, number_at, arc_at, start_of, end_of, cost_of, room_of}
 use Rattle.network.specs.Flow.{net, outflow, inflow}
-use Rattle.flow_solver.specs.Push.{at_node, IsTransfer, left}
+use Rattle.shortest_paths.specs.Push.{at_node, IsTransfer, left}
 use Rattle.flow_solver.specs.Edit.{reduced_cost, IsNearest}
-use Rattle.flow_solver.proofs.PushLemmas.{flow_out-set, flow_in-set, at_node-sub}
+use Rattle.shortest_paths.proofs.PushLemmas.{flow_out-set, flow_in-set, at_node-sub}
 use Rattle.flow_solver.proofs.ExcessLemmas.{left-gain, at_node_bounds}
 
 flow_out-row : (arcs : List ArcRow) (x : List ℤ) (k : ℕ) (a : ArcRow) (v : ℕ) → a.tail ≡ (arc_at arcs k).tail → outflow (slice_set arcs k a) x v ≡ outflow arcs x v

@@ -5,7 +5,7 @@ use Rattle.std.proofs.lemmas.Int.{ints, by_lt_z}
 use Rattle.std.proofs.lemmas.Option.{slice_get_within, get_or_from_slice_get}
 use Rattle.std.proofs.lemmas.List.{get_or-set_same, length-set, length-append, get_or_push}
 use Rattle.std.specs.List.{AllZip}
-use Rattle.flow_solver.specs.Push.{Pushes, at_node as at_one}
+use Rattle.shortest_paths.specs.Push.{Pushes, at_node as at_one}
 use Rattle.network.proofs.Reduction.{reduced_ends}
 use Rattle.dimacs_text.specs.declared.command.Edit.{Edit}
 use Rattle.dimacs_text.specs.declared.command.Edit.TheVariants.{Cap, Low, Cost, Add, Close}
@@ -16,11 +16,11 @@ use Rattle.network.specs.Edited.{with_arc, edited, has_edit, is_bound, is_within
 use Rattle.dimacs_text.specs.declared.problem.TheConstants.{COST_LIMIT}
 use Rattle.network.specs.Instance.{Instance, IsLawful, ArcFits, arc_at, kind_of}
 use Rattle.network.proofs.EditedLemmas.{edited_lawful}
-use Rattle.flow_solver.specs.Residual.{IsWithin, number_at}
+use Rattle.shortest_paths.specs.Residual.{IsWithin, number_at}
 use Rattle.network.specs.Flow.{IsCertifiedFlow, FollowsSign, AllWithinBounds, IsWithinBounds, net, outflow, inflow, total_excess}
 use Rattle.network.specs.Instance.{reduced, Demand, Supplies, Terminals, Sides}
 use Rattle.flow_solver.proofs.FlowLaws.{bounds_at, bounds_length, signs_at}
-use Rattle.flow_solver.proofs.WalkLemmas.{rows_at_least}
+use Rattle.shortest_paths.proofs.WalkLemmas.{rows_at_least}
 use Rattle.flow_solver.proofs.ChangeLemmas.{place_in, row_is, with_last, rows_more, excess_carried}
 use Rattle.flow_solver.specs.Edit.{IsNearest, IsRowEdit, IsAltered, AltersAt, IsRowChanged, IsChange, IsAddEdit, IsAdded, place_of}
 

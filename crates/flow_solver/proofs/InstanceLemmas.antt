@@ -1,5 +1,5 @@
 -- What the limits of an instance give the tables of a solver.
-use Rattle.std.proofs.Common.{◌≡◌, ℕ, zero, suc, ◌+◌, ◌-◌, ◌*◌, ◌<◌, ◌≤◌, ℤ, pos, negsuc, neg_ℤ, ◌≤ℤ◌, List, [], ◌∷◌, length, refl, sym, subst, inl, inr, arith, Bool, true, false, cond, ◌++◌, drop, map, replicate}
+use Rattle.std.proofs.Common.{◌≡◌, ℕ, zero, suc, ◌+◌, ◌-◌, ◌*◌, ◌<◌, ◌≤◌, ℤ, pos, negsuc, neg_ℤ, ◌≤ℤ◌, List, [], ◌∷◌, length, refl, sym, subst, inl, inr, arith, Bool, true, false, cond, drop, map, replicate}
 use Rattle.std.specs.Prelude.{int_lt}
 use Rattle.std.specs.List.{AllByRecursion, AllZip}
 use Rattle.std.proofs.lemmas.Int.{ints}
@@ -13,13 +13,13 @@ use Rattle.network.specs.Flow.{AllWithinBounds, FollowsSign, IsCertifiedFlow, Is
 use Rattle.flow_solver.specs.Moment.{start}
 use Rattle.network.specs.Instance.{Demand, Supplies, Terminals, Sides, Instance, IsLawful, ArcFits, DemandFits, at_node, is_marked, return_arc, reduced, reduced_arcs, reduced_supply}
 use Rattle.network.proofs.Reduction.{rows_of, reduced_ends}
-use Rattle.flow_solver.specs.declared.residual.Way.{Way}
-use Rattle.flow_solver.specs.declared.residual.Way.TheVariants.{Forward, Backward}
-use Rattle.flow_solver.specs.Limits.{entry_limit, row_limit, cap_sum_limit, supply_limit, label_floor}
-use Rattle.flow_solver.specs.Residual.{IsRow, IsFlow, IsCertified, ArePotentials, ArePathsAbove, IsCheap, number_at, arc_at, cost_of}
-use Rattle.flow_solver.specs.Push.{AreSupplies, positive_part, cap_total}
-use Rattle.flow_solver.specs.Nodes.{held, IsIdleEntry}
-use Rattle.flow_solver.proofs.NodeLemmas.{IsNodeOf, is_node_or_not, held_node, held_other}
+use Rattle.shortest_paths.specs.declared.residual.Way.{Way}
+use Rattle.shortest_paths.specs.declared.residual.Way.TheVariants.{Forward, Backward}
+use Rattle.shortest_paths.specs.Limits.{entry_limit, row_limit, cap_sum_limit, supply_limit, label_floor}
+use Rattle.shortest_paths.specs.Residual.{IsRow, IsFlow, IsCertified, ArePotentials, ArePathsAbove, IsCheap, number_at, arc_at, cost_of}
+use Rattle.shortest_paths.specs.Push.{AreSupplies, positive_part, cap_total}
+use Rattle.shortest_paths.specs.Nodes.{held, IsIdleEntry}
+use Rattle.shortest_paths.proofs.NodeLemmas.{IsNodeOf, is_node_or_not, held_node, held_other}
 use Rattle.flow_solver.proofs.FlowLaws.{bounds_length, bounds_at, none_below_of}
 
 -- an arc of the instance is a row of the tables, and costs no more than 10^9 a unit either way
@@ -170,11 +170,6 @@ range_of_labels I p lawful sized above low v =
     (omega (arith, ints, above 1000000000 I.nodes (cheap_instance I lawful) sized v, lawful.nodes.1), low v)
 
 -- ---- the rows of the tables, and the start flow
-
-pub rows_push : (D : Demand) (xs : List ArcRow) (a : ArcRow) → reduced_arcs D xs ++ a ∷ [] ≡ reduced_arcs D (xs ++ a ∷ [])
-rows_push (Supplies s) xs a = refl
-rows_push (Terminals source sink) xs a = refl
-rows_push (Sides marks) xs a = refl
 
 start_within : (n : ℕ) (a : ArcRow) → IsCheapRow n a → (b : Bool) → (a.low ≤ℤ cond b a.cap a.low) × (cond b a.cap a.low ≤ℤ a.cap)
 start_within n a row true = (row.row.low_at_most_cap, omega (arith, ints))

@@ -1,8 +1,8 @@
 -- One more step of a loop that writes a table at noted places.
 use Rattle.std.proofs.Common.{◌≡◌, ℕ, ◌<◌, List, length, sym, subst, Bool, true}
 use Rattle.std.specs.Prelude.{slice_set}
-use Rattle.flow_solver.specs.Touched.{AreNoted}
-use Rattle.flow_solver.proofs.TouchedLemmas.{AreNoted-set, AreNoted-trans}
+use Rattle.shortest_paths.specs.Touched.{AreNoted}
+use Rattle.shortest_paths.proofs.TouchedLemmas.{AreNoted-set, AreNoted-trans}
 
 module _ {T : Type 0} where
   -- the step changes nothing

@@ -5,12 +5,12 @@ use Rattle.std.proofs.lemmas.List.Sums.{sum_by-cons}
 use Rattle.dimacs_text.specs.declared.problem.ArcRow.{ArcRow}
 use Rattle.network.specs.Flow.{MinCost, IsNode, AllEndsAreNodes, IsLegalFlow, AllWithinBounds, nodes_sum, net, excess, total_excess}
 use Rattle.network.specs.Flow as flow
-use Rattle.flow_solver.specs.Residual.{number_at}
-use Rattle.flow_solver.specs.Push.{IsExcess, IsPush, Pushes, positive_part, left}
-use Rattle.flow_solver.specs.Cut.{lack}
-use Rattle.flow_solver.specs.Nodes.{held}
-use Rattle.flow_solver.proofs.CutLemmas.{none_above, lack-none}
-use Rattle.flow_solver.proofs.NodeLemmas.{AllEndsIn, is_node_or_not, held_node, held_other, net-none, nodes_sum-first}
+use Rattle.shortest_paths.specs.Residual.{number_at}
+use Rattle.shortest_paths.specs.Push.{IsExcess, IsPush, Pushes, positive_part, left}
+use Rattle.shortest_paths.specs.Cut.{lack}
+use Rattle.shortest_paths.specs.Nodes.{held}
+use Rattle.shortest_paths.proofs.CutLemmas.{none_above, lack-none}
+use Rattle.shortest_paths.proofs.NodeLemmas.{AllEndsIn, is_node_or_not, held_node, held_other, net-none, nodes_sum-first}
 
 -- ---- pushes
 

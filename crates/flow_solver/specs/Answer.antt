@@ -5,9 +5,9 @@ use Rattle.network.specs.Flow.{MinCost, total_cost, surplus_of, IsGreatestPotent
 use Rattle.network.specs.Instance.{Demand, Supplies, Terminals, Sides, Instance, numbered_flow, reduced_flow, worth, IsLegal, IsBest, IsBreach}
 use Rattle.flow_solver.specs.declared.verdict.Verdict.{Verdict}
 use Rattle.flow_solver.specs.declared.verdict.Verdict.TheVariants.{Best, Infeasible}
-use Rattle.flow_solver.specs.Residual.{number_at}
-use Rattle.flow_solver.specs.Push.{left}
-use Rattle.flow_solver.specs.Cut.{lack}
+use Rattle.shortest_paths.specs.Residual.{number_at}
+use Rattle.shortest_paths.specs.Push.{left}
+use Rattle.shortest_paths.specs.Cut.{lack}
 
 -- the numbered arcs of a flow of the reduced instance carry a best flow of this worth, the return arc what the source sends out, and no node is marked
 pub record IsBestMoment (I : Instance) (flow : List ℤ) (set : ℕ → Bool) (w : ℤ) : Type 0 where

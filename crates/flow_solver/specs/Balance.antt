@@ -3,12 +3,12 @@ use Rattle.std.specs.Prelude.{◌≡◌, ℕ, ◌+◌, ◌<◌, ℤ, ◌+ℤ◌,
 use Rattle.std.specs.Int.{int_wrap, w64, w128}
 use Rattle.dimacs_text.specs.declared.problem.ArcRow.{ArcRow}
 use Rattle.network.specs.Flow.{net, total_cost}
-use Rattle.flow_solver.specs.Residual.{arc_at, number_at}
+use Rattle.shortest_paths.specs.Residual.{arc_at, number_at}
 use Rattle.network.specs.Instance.{Instance, reduced}
 use Rattle.flow_solver.specs.declared.balance.Balance.{Balance}
 use Rattle.flow_solver.specs.declared.ledger.Ledger.{Ledger}
-use Rattle.flow_solver.specs.Nodes.{held}
-use Rattle.flow_solver.specs.Push.{at_node}
+use Rattle.shortest_paths.specs.Nodes.{held}
+use Rattle.shortest_paths.specs.Push.{at_node}
 
 -- e holds the numbers as they wrap
 abbrev pub AreWrapped : (ℕ → ℤ) → List ℤ → Type 0

@@ -6,7 +6,7 @@ use Rattle.dimacs_text.specs.Lawful.{IsLawfulRow}
 use Rattle.network.specs.Flow.{IsCertifiedFlow}
 use Rattle.network.specs.Instance.{Demand, Supplies, Terminals, Sides, Instance, ArcFits, at_node, is_marked, reduced}
 use Rattle.flow_solver.specs.Moment.{IsSized, Moment}
-use Rattle.flow_solver.specs.Touched.{AgreeAt}
+use Rattle.shortest_paths.specs.Touched.{AgreeAt}
 use Rattle.flow_solver.specs.Answer.{AreGreatestPotentials, IsChosenCut, IsVerdict}
 
 pub record Desk : Type 0 where

@@ -10,8 +10,8 @@ use Rattle.dimacs_text.specs.declared.problem.TheConstants.{SUPPLY_LIMIT}
 use Rattle.dimacs_text.specs.declared.problem.Kind.TheVariants.{Min}
 use Rattle.dimacs_text.specs.declared.command.Edit.{Edit}
 use Rattle.dimacs_text.specs.declared.command.Edit.TheVariants.{Cap, Low, Cost, Supply, Add, Close}
-use Rattle.flow_solver.specs.Residual.{number_at, IsWithin}
-use Rattle.flow_solver.specs.Push.{Pushes}
+use Rattle.shortest_paths.specs.Residual.{number_at, IsWithin}
+use Rattle.shortest_paths.specs.Push.{Pushes}
 
 -- the reduced cost of an arc
 abbrev pub reduced_cost : List ℤ → ArcRow → ℤ

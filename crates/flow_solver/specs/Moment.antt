@@ -6,15 +6,15 @@ use Rattle.network.specs.declared.TheConstants.{RETURN_CAP}
 use Rattle.flow_solver.specs.declared.verdict.Verdict.{Verdict}
 use Rattle.flow_solver.specs.declared.verdict.Verdict.TheVariants.{Best, Infeasible}
 use Rattle.flow_solver.specs.declared.balance.Balance.{Balance}
-use Rattle.flow_solver.specs.declared.graph.Graph.{Graph}
+use Rattle.shortest_paths.specs.declared.graph.Graph.{Graph}
 use Rattle.flow_solver.specs.declared.ledger.Ledger.{Ledger}
-use Rattle.flow_solver.specs.declared.scratch.Scratch.{Scratch}
+use Rattle.shortest_paths.specs.declared.scratch.Scratch.{Scratch}
 use Rattle.flow_solver.specs.Balance.{IsBalanceOf}
-use Rattle.flow_solver.specs.Graph.{IsGraphFor}
-use Rattle.flow_solver.specs.Nodes.{IsIdleEntry}
-use Rattle.flow_solver.specs.Residual.{number_at}
-use Rattle.flow_solver.specs.Scratch.{IsScratchFor}
-use Rattle.flow_solver.specs.Touched.{IsLedger, kept_in}
+use Rattle.shortest_paths.specs.Graph.{IsGraphFor}
+use Rattle.shortest_paths.specs.Nodes.{IsIdleEntry}
+use Rattle.shortest_paths.specs.Residual.{number_at}
+use Rattle.shortest_paths.specs.Scratch.{IsScratchFor}
+use Rattle.flow_solver.specs.Ledger.{IsLedger, kept_in}
 
 -- an instance, a flow of its reduction, a potential for each node, what is told of the instance, and a mark for each node
 pub record Moment : Type 0 where

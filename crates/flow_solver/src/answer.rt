@@ -3,25 +3,24 @@
 ghost use Rattle.std.specs.Prelude.{◌≡◌, ℕ, ◌+◌, ◌^◌, ◌<◌, ◌≤◌, pos, ◌≤ℤ◌, drop, length};
 ghost use Rattle.network.specs.Flow.{AllWithinBounds, IsCertifiedFlow, total_excess};
 ghost use Rattle.network.specs.Instance.{at_node, is_marked, reduced, IsLawful};
-ghost use Rattle.flow_solver.specs.Graph.{IsGraphFor};
-ghost use Rattle.flow_solver.specs.Limits.{entry_limit};
-ghost use Rattle.flow_solver.specs.Residual.{number_at};
-ghost use Rattle.flow_solver.specs.Push.{AreSmall, IsExcess, Pushes, left, positive_part};
-ghost use Rattle.flow_solver.specs.Cut.{lack};
-ghost use Rattle.flow_solver.specs.Nodes.{held, IsIdleEntry};
-ghost use Rattle.flow_solver.specs.Scratch.{IsScratchFor};
-ghost use Rattle.flow_solver.specs.Touched.{IsLedger, IsWritten};
+ghost use Rattle.shortest_paths.specs.Graph.{IsGraphFor};
+ghost use Rattle.shortest_paths.specs.Limits.{entry_limit};
+ghost use Rattle.shortest_paths.specs.Residual.{number_at};
+ghost use Rattle.shortest_paths.specs.Push.{AreSmall, IsExcess, Pushes, left, positive_part};
+ghost use Rattle.shortest_paths.specs.Cut.{lack};
+ghost use Rattle.shortest_paths.specs.Nodes.{held, IsIdleEntry};
+ghost use Rattle.shortest_paths.specs.Scratch.{IsScratchFor};
+ghost use Rattle.flow_solver.specs.Ledger.{IsLedger, IsWritten};
 ghost use Rattle.flow_solver.specs.Balance.{IsBalanceOf, IsWrappedCost};
 ghost use Rattle.flow_solver.specs.Answer.{AreGreatestPotentials, IsChosenCut, IsJudged, IsVerdict, worth_by};
 
 use crate::balance::{Balance, cost_now};
-use crate::graph::Graph;
 use crate::ledger::Ledger;
-use crate::scratch::Scratch;
 use crate::settle::settle;
 use crate::verdict::Verdict;
 use dimacs_text::ArcRow;
 use network::Network;
+use shortest_paths::{Graph, Scratch};
 
 /// What a node has to send out in the reduced instance; 0 where there is no such node.
 pub fn supply_at(net: &Network, id: u32) -> i64

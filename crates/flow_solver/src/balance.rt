@@ -3,10 +3,10 @@
 ghost use Rattle.std.specs.Prelude.{◌≡◌, ℕ, ℤ, pos, ◌+◌, ◌*ℤ◌, ◌+ℤ◌, ◌-ℤ◌, ◌<◌, ◌≤◌, IfOk, length};
 ghost use Rattle.std.specs.Int.{int_wrap, w128};
 ghost use Rattle.network.specs.Instance.{reduced};
-ghost use Rattle.flow_solver.specs.Limits.{entry_limit};
-ghost use Rattle.flow_solver.specs.Residual.{arc_at, number_at};
-ghost use Rattle.flow_solver.specs.Nodes.{held};
-ghost use Rattle.flow_solver.specs.Touched.{IsLedger};
+ghost use Rattle.shortest_paths.specs.Limits.{entry_limit};
+ghost use Rattle.shortest_paths.specs.Residual.{arc_at, number_at};
+ghost use Rattle.shortest_paths.specs.Nodes.{held};
+ghost use Rattle.flow_solver.specs.Ledger.{IsLedger};
 ghost use Rattle.flow_solver.specs.Balance.{AreEndsIn, AreWrapped, IsCarried, IsRaised, IsWrappedCost, IsWrappedExcess};
 
 use crate::answer::supply_at;

@@ -8,13 +8,13 @@ ghost use Rattle.network.specs.Flow.{IsCertifiedFlow};
 ghost use Rattle.dimacs_text.specs.declared.problem.ArcRow.{ArcRow};
 ghost use Rattle.network.specs.Edited.{edited};
 ghost use Rattle.network.specs.Instance.{IsLawful, arc_at as number_at_arc, ArcFits, at_node, is_marked, kind_of, reduced, with_supply};
-ghost use Rattle.flow_solver.specs.Graph.{IsGraphFor};
-ghost use Rattle.flow_solver.specs.Limits.{potential_floor};
-ghost use Rattle.flow_solver.specs.Residual.{IsRow, IsCertified, ArePotentials, number_at, arc_at};
-ghost use Rattle.flow_solver.specs.Nodes.{IsIdleEntry};
-ghost use Rattle.flow_solver.specs.Scratch.{IsScratchFor};
-ghost use Rattle.flow_solver.specs.Touched.{IsLedger, IsWritten};
-ghost use Rattle.flow_solver.specs.Walk.{AreRowsOf};
+ghost use Rattle.shortest_paths.specs.Graph.{IsGraphFor};
+ghost use Rattle.shortest_paths.specs.Limits.{potential_floor};
+ghost use Rattle.shortest_paths.specs.Residual.{IsRow, IsCertified, ArePotentials, number_at, arc_at};
+ghost use Rattle.shortest_paths.specs.Nodes.{IsIdleEntry};
+ghost use Rattle.shortest_paths.specs.Scratch.{IsScratchFor};
+ghost use Rattle.flow_solver.specs.Ledger.{IsLedger, IsWritten};
+ghost use Rattle.shortest_paths.specs.Walk.{AreRowsOf};
 ghost use Rattle.flow_solver.specs.Desk.{supplies_in};
 ghost use Rattle.flow_solver.specs.Balance.{IsBalanceOf, IsWrappedCost, IsWrappedExcess};
 ghost use Rattle.flow_solver.specs.Answer.{AreGreatestPotentials, IsChosenCut, IsVerdict};
@@ -22,12 +22,11 @@ ghost use Rattle.flow_solver.specs.Edit.{reduced_cost, IsNearest, IsAddEdit, IsO
 
 use crate::answer::{solve, supply_at};
 use crate::balance::{Balance, add_difference, carry_over, reprice};
-use crate::graph::Graph;
 use crate::ledger::Ledger;
-use crate::scratch::Scratch;
 use crate::verdict::Verdict;
 use dimacs_text::{ArcRow, Edit};
 use network::Network;
+use shortest_paths::{Graph, Scratch};
 
 /// The reduced cost of an arc.
 fn reduced(row: &ArcRow, potentials: &[i64]) -> i64

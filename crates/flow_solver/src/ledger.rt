@@ -1,11 +1,11 @@
 //! A table beside what stood in it before.
 
 ghost use Rattle.std.specs.Prelude.{◌≡◌, ℕ, ◌<◌, ◌≤◌, ◌+◌, ◌++◌, ◌∷◌, [], true, false, length, take, slice_index_or, slice_set, IfOk, vec_capacity};
-ghost use Rattle.flow_solver.specs.Cut.{in_set};
+ghost use Rattle.shortest_paths.specs.Cut.{in_set};
 ghost use Rattle.flow_solver.specs.Desk.{NameChanges};
-ghost use Rattle.flow_solver.specs.Limits.{row_limit};
+ghost use Rattle.shortest_paths.specs.Limits.{row_limit};
 
-use crate::touched::Touched;
+use shortest_paths::Touched;
 use std::alloc::{AllocError, Global};
 
 /// A table, what stood in it when it was last kept, and the places at which it was written since. To keep it, to compare
@@ -20,7 +20,7 @@ pub struct Ledger<T> {
     pub touched: Touched,
 }
 
-ghost use Rattle.flow_solver.specs.Touched.{IsLedger, IsWritten, kept_in};
+ghost use Rattle.flow_solver.specs.Ledger.{IsLedger, IsWritten, kept_in};
 
 impl<T: Copy> Ledger<T> {
     /// A ledger with these entries, which has room for as many as they have.

@@ -2,21 +2,16 @@
 
 ghost use Rattle.std.specs.Prelude.{◌≡◌, ℕ, length, pos, neg_ℤ, ◌≤◌, ◌≤ℤ◌, ◌+ℤ◌, FitsSigned};
 ghost use Rattle.std.specs.Int.{w64};
-ghost use Rattle.flow_solver.specs.Graph.{IsGraphFor};
-ghost use Rattle.flow_solver.specs.Limits.{key_limit, label_floor, potential_floor};
-ghost use Rattle.flow_solver.specs.Residual.{AreGreatest, ArePathsAbove, IsCertified, ArePotentials, number_at};
-ghost use Rattle.flow_solver.specs.Search.{key_at, AreLabels, IsReach, lowered, IsLowered};
-ghost use Rattle.flow_solver.specs.Labels.{IsLabelsFor};
-ghost use Rattle.flow_solver.specs.Queue.{IsQueueFor};
-ghost use Rattle.flow_solver.specs.Touched.{AreNoted};
-ghost use Rattle.flow_solver.specs.Trail.{IsTrailOf};
+ghost use Rattle.shortest_paths.specs.Graph.{IsGraphFor};
+ghost use Rattle.shortest_paths.specs.Limits.{key_limit, label_floor, potential_floor};
+ghost use Rattle.shortest_paths.specs.Residual.{AreGreatest, ArePathsAbove, IsCertified, ArePotentials, number_at};
+ghost use Rattle.shortest_paths.specs.Search.{key_at, AreLabels, IsReach, lowered, IsLowered};
+ghost use Rattle.shortest_paths.specs.Labels.{IsLabelsFor};
+ghost use Rattle.shortest_paths.specs.Queue.{IsQueueFor};
+ghost use Rattle.shortest_paths.specs.Touched.{AreNoted};
+ghost use Rattle.shortest_paths.specs.Trail.{IsTrailOf};
 
-use crate::graph::Graph;
-use crate::labels::{Labels, search_labels};
-use crate::queue::Queue;
-use crate::touched::Touched;
-use crate::trail::Trail;
-use crate::visit::Visit;
+use shortest_paths::{Graph, Labels, Queue, Touched, Trail, Visit, search_labels};
 
 /// Makes each label a potential.
 fn take_labels(potentials: &mut [i64], touched: &mut Touched, visits: &[Visit])

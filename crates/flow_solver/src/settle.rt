@@ -1,32 +1,27 @@
 //! Searches and pushes in turn, until no node in excess reaches a node in deficit.
 
-ghost use Rattle.flow_solver.specs.Graph.{IsGraphFor};
-ghost use Rattle.flow_solver.specs.Limits.{drift_limit, label_floor};
+ghost use Rattle.shortest_paths.specs.Graph.{IsGraphFor};
+ghost use Rattle.shortest_paths.specs.Limits.{drift_limit, label_floor};
 ghost use Rattle.std.specs.Prelude.{◌≡◌, ◌≢◌, ℕ, ℤ, List, length, pos, neg_ℤ, ◌≤ℤ◌, ◌<ℤ◌, ◌+ℤ◌, ◌-ℤ◌, ◌<◌, ◌≤◌, ◌+◌, IsTrue, ◌↔◌, MatchOption, IfNone, IfSome};
-ghost use Rattle.flow_solver.specs.Residual.{IsFlow, IsCertified, ArePotentials, AreGreatest, ArePathsAbove, number_at};
-ghost use Rattle.flow_solver.specs.Settle.{IsNear, HasSearched};
-ghost use Rattle.flow_solver.specs.Push.{IsExcess, Pushes, left, AreSmall};
-ghost use Rattle.flow_solver.specs.Labels.{IsLabelsFor};
-ghost use Rattle.flow_solver.specs.Queue.{IsQueueFor, IsQueueOf};
-ghost use Rattle.flow_solver.specs.Scratch.{IsScratchFor};
-ghost use Rattle.flow_solver.specs.Touched.{AreNoted, IsLedger, IsWritten};
-ghost use Rattle.flow_solver.specs.Trail.{IsFresh, IsTrailFor, IsTrailOf};
-ghost use Rattle.flow_solver.specs.Walk.{AreRowsOf};
-ghost use Rattle.flow_solver.specs.Cut.{amount, IsSide, IsParted, IsChosenSet};
-ghost use Rattle.flow_solver.specs.declared.cut.Side.TheVariants.{Ahead, Behind};
+ghost use Rattle.shortest_paths.specs.Residual.{IsFlow, IsCertified, ArePotentials, AreGreatest, ArePathsAbove, number_at};
+ghost use Rattle.shortest_paths.specs.Settle.{IsNear, HasSearched};
+ghost use Rattle.shortest_paths.specs.Blocking.{IsWalksFor};
+ghost use Rattle.shortest_paths.specs.Push.{IsExcess, Pushes, left, AreSmall};
+ghost use Rattle.shortest_paths.specs.Labels.{IsLabelsFor};
+ghost use Rattle.shortest_paths.specs.Queue.{IsQueueFor, IsQueueOf};
+ghost use Rattle.shortest_paths.specs.Scratch.{IsScratchFor};
+ghost use Rattle.shortest_paths.specs.Touched.{AreNoted};
+ghost use Rattle.flow_solver.specs.Ledger.{IsLedger, IsWritten};
+ghost use Rattle.shortest_paths.specs.Trail.{IsFresh, IsTrailFor, IsTrailOf};
+ghost use Rattle.shortest_paths.specs.Cut.{amount, IsSide, IsParted, IsChosenSet};
+ghost use Rattle.shortest_paths.specs.declared.cut.Side.TheVariants.{Ahead, Behind};
 
-use crate::augment::push_found;
-use crate::cut::{Side, mark_side, take_marks};
-use crate::graph::Graph;
-use crate::labels::Labels;
 use crate::ledger::Ledger;
 use crate::potentials::{lower, raise};
-use crate::queue::Queue;
-use crate::scratch::Scratch;
-use crate::search::find_deficits;
-use crate::touched::Touched;
-use crate::trail::{Trail, forget};
-use crate::visit::Visit;
+use shortest_paths::{
+    Graph, Labels, Queue, Scratch, Side, Touched, Trail, Visit, Walks, find_deficits, forget,
+    mark_side, push_found, take_marks,
+};
 
 /// How far potentials may fall before labels are taken again.
 const FALL_LIMIT: i64 = 70_000_000_000_000_000;
@@ -44,6 +39,7 @@ pub fn push_all(
     labels: &mut Labels,
     queue: &mut Queue,
     trail: &mut Trail,
+    walks: &mut Walks,
 ) -> u64
     requires touched_flow_in { length flow.old ≤ length touched_flow.old }
     requires touched_potentials_in { length potentials.old ≤ length touched_potentials.old }
@@ -56,11 +52,13 @@ pub fn push_all(
     requires labels { IsLabelsFor (length potentials.old) labels.old }
     requires sized { IsQueueFor (length potentials.old) queue.old }
     requires trail { IsTrailFor (length potentials.old) trail.old }
+    requires walks { IsWalksFor (length potentials.old) walks.old }
     requires small { AreSmall excess.old }
     ensures noted_flow { AreNoted touched_flow.old flow.old touched_flow.new flow.new }
     ensures noted_potentials { AreNoted touched_potentials.old potentials.old touched_potentials.new potentials.new }
     ensures fresh { IsFresh visits.new }
     ensures trail { IsTrailFor (length potentials.new) trail.new }
+    ensures walks { IsWalksFor (length potentials.new) walks.new }
     ensures certified { IsCertified graph.now.rows.items flow.new potentials.new }
     ensures small { AreSmall excess.new }
     ensures excess { (supply : ℕ → ℤ) → IsExcess graph.now.rows.items supply flow.old excess.old → IsExcess graph.now.rows.items supply flow.new excess.new }
@@ -74,7 +72,16 @@ pub fn push_all(
     let mut fallen = 0;
     while let Some(reach) = search_on(graph, flow, potentials, excess, visits, queue, trail) {
         lower(potentials, touched_potentials, visits, trail, reach);
-        pushes += push_found(graph, flow, touched_flow, potentials, excess, visits, trail);
+        pushes += push_found(
+            graph,
+            flow,
+            touched_flow,
+            potentials,
+            excess,
+            visits,
+            trail,
+            walks,
+        );
         forget(visits, queue, trail);
         fallen = keep_near(
             graph,
@@ -180,7 +187,7 @@ fn mark_cut(
     touched: &mut Touched,
 )
     requires touched_in { length cut.old ≤ length touched.old }
-    requires net { AreRowsOf graph.now.net graph.now.rows.items }
+    requires graph { IsGraphFor (length excess.now) graph.now }
     requires flow { IsFlow (length excess.now) graph.now.rows.items flow.now }
     requires marks_in { length marks.old ≡ length excess.now }
     requires cut_in { length cut.old ≡ length excess.now }
@@ -244,13 +251,14 @@ pub fn settle(
         &mut scratch.labels,
         &mut scratch.queue,
         &mut scratch.trail,
+        &mut scratch.walks,
     );
     mark_cut(
         graph,
         &flow.entries,
         excess,
         &mut scratch.queue,
-        &mut scratch.trail.spent,
+        &mut scratch.walks.dead,
         &mut cut.entries,
         &mut cut.touched,
     );

@@ -3,7 +3,7 @@
 ghost use Rattle.std.specs.Prelude.{◌≡◌, ◌≢◌, AllPairs, pos, ◌≤ℤ◌, IfOk, length, ◌≤◌, ◌-◌, slice_index_or, slice_set, None, ◌<◌, ◌++◌, ◌∷◌, [], ◌+◌, IsOk, Ok};
 ghost use Rattle.network.specs.Flow.{IsCertifiedFlow, IsPotential, total_excess};
 ghost use Rattle.network.specs.Instance.{ArcFits, IsLawful, at_node, kind_of, numbered_flow, reduced, with_supply};
-ghost use Rattle.flow_solver.specs.Push.{Pushes};
+ghost use Rattle.shortest_paths.specs.Push.{Pushes};
 ghost use Rattle.dimacs_text.specs.Lawful.{IsLawfulRow, IsNode, IsWithin};
 ghost use Rattle.dimacs_text.specs.declared.problem.TheConstants.{SUPPLY_LIMIT};
 ghost use Rattle.dimacs_text.specs.declared.problem.Kind.TheVariants.{Min};
@@ -18,14 +18,13 @@ use crate::edit::{
     added_row, change_row, change_supply, closed, drop_row, edited_row, edited_supply, put_row,
     swap_row, swap_supply,
 };
-use crate::graph::Graph;
 use crate::ledger::Ledger;
-use crate::scratch::Scratch;
 use crate::start::start_flow;
 use crate::swaps::{carry_worth, exchange_node};
 use crate::verdict::Verdict;
 use dimacs_text::{ArcRow, Edit, NODE_LIMIT};
 use network::Network;
+use shortest_paths::{Graph, Scratch};
 use std::alloc::{AllocError, Global};
 use std::marker::Model;
 
@@ -45,7 +44,7 @@ pub struct Solver {
 impl Model for Solver {
     ghost use Rattle.std.specs.Prelude.{drop};
     ghost use Rattle.flow_solver.specs.Moment.{AreTables, Bench};
-    ghost use Rattle.flow_solver.specs.Touched.{kept_in};
+    ghost use Rattle.flow_solver.specs.Ledger.{kept_in};
 
     ghost Value = { Bench };
 

@@ -4,7 +4,7 @@ ghost use Rattle.std.specs.Prelude.{◌≡◌, ◌-◌, ◌<◌, ◌≤◌, drop
 ghost use Rattle.network.specs.Instance.{IsLawful, reduced};
 ghost use Rattle.flow_solver.specs.Balance.{IsBalanceOf};
 ghost use Rattle.flow_solver.specs.Moment.{VerdictFits, with_return};
-ghost use Rattle.flow_solver.specs.Touched.{IsLedger, IsWritten};
+ghost use Rattle.flow_solver.specs.Ledger.{IsLedger, IsWritten};
 
 use crate::balance::{Balance, carry_over};
 use crate::ledger::Ledger;

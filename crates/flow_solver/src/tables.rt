@@ -11,7 +11,7 @@ ghost use Rattle.flow_solver.specs.Desk.{IsAnswered, IsFlow, IsRowOf, HasEnds, N
 ghost use Rattle.flow_solver.specs.Edit.{IsChange};
 ghost use Rattle.flow_solver.specs.Moment.{IsSized, IsStart, TellsReturn, VerdictFits, with_verdict};
 ghost use Rattle.flow_solver.specs.Part.{before_part, return_count, CanTakeBack};
-ghost use Rattle.flow_solver.specs.Push.{Pushes};
+ghost use Rattle.shortest_paths.specs.Push.{Pushes};
 
 use crate::part::{Part, part_of, return_count, row_before, supply_before};
 use crate::solver::Solver;

@@ -6,13 +6,13 @@ use Rattle.dimacs_text.specs.declared.problem.ArcRow.{ArcRow}
 use Rattle.network.specs.Flow.{AllWithinBounds}
 use Rattle.network.specs.Instance.{at_node, reduced}
 use Rattle.network.proofs.Reduction.{reduced_ends}
-use Rattle.flow_solver.specs.Limits.{cap_sum_limit, entry_limit}
-use Rattle.flow_solver.specs.Residual.{IsCertified}
-use Rattle.flow_solver.specs.Push.{AreSmall, IsExcess, Pushes, cap_total, left}
-use Rattle.flow_solver.specs.Cut.{lack}
+use Rattle.shortest_paths.specs.Limits.{cap_sum_limit, entry_limit}
+use Rattle.shortest_paths.specs.Residual.{IsCertified}
+use Rattle.shortest_paths.specs.Push.{AreSmall, IsExcess, Pushes, cap_total, left}
+use Rattle.shortest_paths.specs.Cut.{lack}
 use Rattle.flow_solver.specs.Balance.{IsWrappedCost, IsWrappedExcess}
 use Rattle.flow_solver.specs.Answer.{IsJudged, worth_by}
-use Rattle.flow_solver.specs.Nodes.{held}
+use Rattle.shortest_paths.specs.Nodes.{held}
 use Rattle.flow_solver.proofs.FlowLaws.{bounds_from}
 use Rattle.flow_solver.proofs.PushLaws.{pushes_of, left_is}
 use Rattle.flow_solver.proofs.InstanceLemmas.{few_entries, potentials_of, certified_of, supplies_of_instance, caps_of_instance}

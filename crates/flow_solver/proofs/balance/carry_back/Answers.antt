@@ -1,7 +1,7 @@
 use Rattle.std.proofs.Common.{◌≡◌, ◌∙◌, ℤ, List, pos, ◌<◌, length, arith, subst, sym, slice_index_or, slice_set, w64, SFits, rules, to_z, of_z}
 use Rattle.std.proofs.lemmas.Int.{to_z-of_z}
 use Rattle.std.proofs.lemmas.List.{get_or_default}
-use Rattle.flow_solver.specs.Residual.{arc_at, number_at}
+use Rattle.shortest_paths.specs.Residual.{arc_at, number_at}
 use Rattle.flow_solver.specs.Balance.{IsCarried, IsWrappedExcess}
 use Rattle.flow_solver.proofs.BalanceLemmas.{excess_step, part_step, part_past, part_ends}
 use Rattle.flow_solver.proofs.balance.carry_back.Goals as goal

@@ -2,7 +2,7 @@ use Rattle.std.proofs.Common.{◌≡◌, ◌∙◌, ◌-ℤ◌, ◌*ℤ◌, ◌+
 use Rattle.std.specs.Int.{int_wrap, w128}
 use Rattle.std.proofs.lemmas.Int.{to_z-of_z}
 use Rattle.std.proofs.lemmas.List.{get_or_default}
-use Rattle.flow_solver.specs.Residual.{arc_at, number_at}
+use Rattle.shortest_paths.specs.Residual.{arc_at, number_at}
 use Rattle.flow_solver.specs.Balance.{IsWrappedCost}
 use Rattle.flow_solver.proofs.BalanceLemmas.{cost_step, part_step, part_past, part_ends}
 use Rattle.flow_solver.proofs.balance.cost_now.Goals as goal

@@ -5,17 +5,17 @@ use Rattle.std.proofs.lemmas.List.{with_items_is}
 use Rattle.dimacs_text.specs.declared.problem.ArcRow.{ArcRow}
 use Rattle.network.specs.Flow.{total_excess}
 use Rattle.network.specs.Instance.{Instance, IsLawful, reduced}
-use Rattle.flow_solver.specs.Residual.{IsCertified, number_at, arc_at}
-use Rattle.flow_solver.specs.Push.{Pushes}
-use Rattle.flow_solver.specs.Nodes.{held}
+use Rattle.shortest_paths.specs.Residual.{IsCertified, number_at, arc_at}
+use Rattle.shortest_paths.specs.Push.{Pushes}
+use Rattle.shortest_paths.specs.Nodes.{held}
 use Rattle.flow_solver.specs.Balance.{IsBalanceOf, IsWrappedCost, IsWrappedExcess}
-use Rattle.flow_solver.specs.Star.{Covers}
+use Rattle.shortest_paths.specs.Star.{Covers}
 use Rattle.flow_solver.specs.Edit.{reduced_cost, IsNearest, place_of}
 use Rattle.flow_solver.proofs.InstanceLemmas.{certified_of}
 use Rattle.flow_solver.proofs.AnswerLemmas.{certified_at}
 use Rattle.flow_solver.proofs.ChangeLemmas.{with_row, lawful_row, rows_changed, row_is, reduced_is, certified_after, excess_changed}
-use Rattle.flow_solver.proofs.StarLemmas.{covers_set}
-use Rattle.flow_solver.proofs.TouchedLemmas.{IsWritten-trans}
+use Rattle.shortest_paths.proofs.StarLemmas.{covers_set}
+use Rattle.flow_solver.proofs.LedgerLemmas.{IsWritten-trans}
 use Rattle.flow_solver.proofs.edit.change_row.Goals as goal
 use Rattle.flow_solver.proofs.edit.change_row.Goals.{After-set_row, After-replace_row}
 

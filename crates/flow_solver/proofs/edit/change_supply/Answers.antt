@@ -4,9 +4,9 @@ use Rattle.std.proofs.lemmas.Int.{ints, to_z-of_z}
 use Rattle.std.proofs.lemmas.List.{with_items_is}
 use Rattle.network.specs.Flow.{total_excess}
 use Rattle.network.specs.Instance.{Instance, IsLawful, reduced}
-use Rattle.flow_solver.specs.Graph.{IsGraphFor}
-use Rattle.flow_solver.specs.Nodes.{held}
-use Rattle.flow_solver.specs.Star.{Covers}
+use Rattle.shortest_paths.specs.Graph.{IsGraphFor}
+use Rattle.shortest_paths.specs.Nodes.{held}
+use Rattle.shortest_paths.specs.Star.{Covers}
 use Rattle.flow_solver.specs.Balance.{IsBalanceOf, IsRaised, IsWrappedExcess}
 use Rattle.flow_solver.proofs.BalanceLemmas.{excess_supplied as wrapped_supplied}
 use Rattle.flow_solver.proofs.ChangeLemmas.{supplied, lawful_supplied, held_supplied, rows_kept, excess_supplied}

@@ -4,7 +4,7 @@ use Rattle.std.specs.Vec.{with_items}
 use Rattle.std.proofs.lemmas.Int.{ints, to_z-of_z}
 use Rattle.std.proofs.lemmas.List.{get_or_default, get_or-set_same, length-set, with_items_is}
 use Rattle.dimacs_text.specs.declared.problem.ArcRow.{ArcRow}
-use Rattle.flow_solver.specs.Residual.{IsCertified, arc_at, number_at}
+use Rattle.shortest_paths.specs.Residual.{IsCertified, arc_at, number_at}
 use Rattle.flow_solver.specs.Edit.{reduced_cost, IsNearest}
 use Rattle.flow_solver.specs.Balance.{IsCarried, IsWrappedCost, IsWrappedExcess}
 use Rattle.flow_solver.proofs.BalanceLemmas.{cost_row, excess_row, excess_set}

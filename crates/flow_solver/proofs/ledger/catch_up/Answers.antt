@@ -1,5 +1,5 @@
 use Rattle.std.proofs.Common.{arith}
-use Rattle.flow_solver.proofs.TouchedLemmas.{AreLeft-start, AreLeft-more, AreLeft-past, AreLeft-all}
+use Rattle.flow_solver.proofs.LedgerLemmas.{AreLeft-start, AreLeft-more, AreLeft-past, AreLeft-all}
 use Rattle.flow_solver.proofs.ledger.catch_up.Goals as goal
 use Rattle.flow_solver.proofs.ledger.catch_up.Goals.{then-k-table, else-k-table}
 

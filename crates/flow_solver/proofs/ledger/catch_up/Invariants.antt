@@ -1,4 +1,4 @@
-use Rattle.flow_solver.proofs.TouchedLemmas.{AreLeft}
+use Rattle.flow_solver.proofs.LedgerLemmas.{AreLeft}
 use Rattle.flow_solver.proofs.ledger.catch_up.Given as goal
 
 abbrev pub invariant-loop-place : goal.invariant-loop-place

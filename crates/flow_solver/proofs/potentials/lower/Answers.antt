@@ -1,13 +1,13 @@
 use Rattle.std.proofs.Common.{◌≡◌, ◌<◌, ℕ, ℤ, length, arith, ap, sym, subst, ◌∙◌, w64, to_z, of_z, SFits, rules}
 use Rattle.std.proofs.lemmas.Int.{ints, to_z-of_z}
 use Rattle.std.proofs.lemmas.List.{get_or_read}
-use Rattle.flow_solver.specs.Cut.{node_at}
-use Rattle.flow_solver.specs.Residual.{number_at}
-use Rattle.flow_solver.specs.Search.{mark_at, visit_at, lowered, IsLowered}
-use Rattle.flow_solver.specs.declared.visit.Mark.TheVariants.{Settled}
-use Rattle.flow_solver.proofs.SearchLemmas.{in_range, settled_is_reached}
-use Rattle.flow_solver.proofs.TrailLemmas.{IsWrittenAlong, IsWrittenAlong-more, stands_yet, lowered_along}
-use Rattle.flow_solver.proofs.TouchedLemmas.{AreNoted-trans, AreNoted-set}
+use Rattle.shortest_paths.specs.Cut.{node_at}
+use Rattle.shortest_paths.specs.Residual.{number_at}
+use Rattle.shortest_paths.specs.Search.{mark_at, visit_at, lowered, IsLowered}
+use Rattle.shortest_paths.specs.declared.visit.Mark.TheVariants.{Settled}
+use Rattle.shortest_paths.proofs.SearchLemmas.{in_range, settled_is_reached}
+use Rattle.shortest_paths.proofs.TrailLemmas.{IsWrittenAlong, IsWrittenAlong-more, stands_yet, lowered_along}
+use Rattle.shortest_paths.proofs.TouchedLemmas.{AreNoted-trans, AreNoted-set}
 use Rattle.flow_solver.proofs.potentials.lower.Goals as goal
 use Rattle.flow_solver.proofs.potentials.lower.Goals.{After-index}
 

@@ -1,6 +1,6 @@
-use Rattle.flow_solver.specs.Search.{visit_at, lowered}
-use Rattle.flow_solver.specs.Touched.{AreNoted}
-use Rattle.flow_solver.proofs.TrailLemmas.{IsWrittenAlong}
+use Rattle.shortest_paths.specs.Search.{visit_at, lowered}
+use Rattle.shortest_paths.specs.Touched.{AreNoted}
+use Rattle.shortest_paths.proofs.TrailLemmas.{IsWrittenAlong}
 use Rattle.flow_solver.proofs.potentials.lower.Given as goal
 
 abbrev pub invariant-loop-j : goal.invariant-loop-j

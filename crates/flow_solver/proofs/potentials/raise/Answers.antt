@@ -1,9 +1,9 @@
 use Rattle.std.proofs.Common.{◌≡◌, ◌∙◌, List, ap, subst, arith}
 use Rattle.std.proofs.lemmas.Int.{ints}
 use Rattle.std.proofs.lemmas.List.{with_items_is}
-use Rattle.flow_solver.specs.declared.visit.Visit.{Visit}
-use Rattle.flow_solver.specs.Search.{AreLabels, key_at}
-use Rattle.flow_solver.proofs.RunLemmas.{label_fits, labels_within, labels_certified, labels_greatest, labels_above}
+use Rattle.shortest_paths.specs.declared.visit.Visit.{Visit}
+use Rattle.shortest_paths.specs.Search.{AreLabels, key_at}
+use Rattle.shortest_paths.proofs.RunLemmas.{label_fits, labels_within, labels_certified, labels_greatest, labels_above}
 use Rattle.flow_solver.proofs.potentials.raise.Goals as goal
 use Rattle.flow_solver.proofs.potentials.raise.Goals.{After-deref, After-take_labels}
 

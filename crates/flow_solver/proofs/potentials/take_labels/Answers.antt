@@ -1,5 +1,5 @@
 use Rattle.std.proofs.Common.{◌∙◌, arith, rules}
-use Rattle.flow_solver.proofs.TouchedLemmas.{AreNoted-none}
+use Rattle.shortest_paths.proofs.TouchedLemmas.{AreNoted-none}
 use Rattle.flow_solver.proofs.NotedLemmas.{AreNoted-kept, AreNoted-more}
 use Rattle.flow_solver.proofs.potentials.take_labels.Goals as goal
 use Rattle.flow_solver.proofs.potentials.take_labels.Goals.{then-rise-ne0, else-rise-ne0}

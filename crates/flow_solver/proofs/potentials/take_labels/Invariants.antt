@@ -1,7 +1,7 @@
 use Rattle.std.proofs.Common.{◌≡◌, ℕ, ◌<◌, ◌≤◌, ◌+ℤ◌}
-use Rattle.flow_solver.specs.Residual.{number_at}
-use Rattle.flow_solver.specs.Search.{key_at}
-use Rattle.flow_solver.specs.Touched.{AreNoted}
+use Rattle.shortest_paths.specs.Residual.{number_at}
+use Rattle.shortest_paths.specs.Search.{key_at}
+use Rattle.shortest_paths.specs.Touched.{AreNoted}
 use Rattle.flow_solver.proofs.potentials.take_labels.Given as goal
 
 abbrev pub invariant-loop-v : goal.invariant-loop-v

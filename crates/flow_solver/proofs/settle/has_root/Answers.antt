@@ -1,6 +1,6 @@
 use Rattle.std.proofs.Common.{arith}
 use Rattle.std.proofs.lemmas.Bool.{false≢true}
-use Rattle.flow_solver.proofs.CutLemmas.{amount-none}
+use Rattle.shortest_paths.proofs.CutLemmas.{amount-none}
 use Rattle.flow_solver.proofs.settle.has_root.Goals as goal
 
 pub returns : goal.returns

@@ -1,14 +1,14 @@
-use Rattle.flow_solver.specs.Limits.{potential_floor}
+use Rattle.shortest_paths.specs.Limits.{potential_floor}
 use Rattle.std.proofs.Common.{◌≡◌, ◌+◌, ◌<◌, ◌^◌, ◌∙◌, ℕ, ℤ, List, length, sym, ap, subst, arith, rules, w64, to_z, of_z, SFits}
 use Rattle.std.proofs.lemmas.Int.{ints, to_z-of_z}
-use Rattle.flow_solver.specs.Residual.{IsFlow, ArePotentials}
-use Rattle.flow_solver.specs.Search.{IsLowered, HasFound}
-use Rattle.flow_solver.specs.declared.trail.Trail.{Trail}
-use Rattle.flow_solver.specs.declared.visit.Visit.{Visit}
-use Rattle.flow_solver.specs.Push.{left}
-use Rattle.flow_solver.proofs.SettleLemmas.{paths_of_search, left-small, paths_tight, none_below_after, potentials_after, fallen_further, reach_high, can_push, ArePushes-none, ArePushes-more}
-use Rattle.flow_solver.proofs.TouchedLemmas.{AreNoted-none, AreNoted-trans}
-use Rattle.flow_solver.proofs.TrailLemmas.{held_after_search, held_alike}
+use Rattle.shortest_paths.specs.Blocking.{IsWalksFor}
+use Rattle.shortest_paths.specs.Residual.{IsFlow, ArePotentials}
+use Rattle.shortest_paths.specs.Search.{IsLowered, HasFound}
+use Rattle.shortest_paths.specs.declared.visit.Visit.{Visit}
+use Rattle.shortest_paths.specs.Push.{left}
+use Rattle.shortest_paths.proofs.SettleLemmas.{paths_of_search, left-small, paths_tight, none_below_after, potentials_after, fallen_further, reach_high, can_push, ArePushes-none, ArePushes-more}
+use Rattle.shortest_paths.proofs.TouchedLemmas.{AreNoted-none, AreNoted-trans}
+use Rattle.shortest_paths.proofs.TrailLemmas.{held_after_search}
 use Rattle.flow_solver.proofs.settle.push_all.Goals as goal
 use Rattle.flow_solver.proofs.settle.push_all.Goals.{After-lower, After-push_found-pushes}
 
@@ -20,6 +20,7 @@ loop-reach-init c = record {
   sized = c.requires.sized;
   fresh = c.requires.fresh;
   trail = c.requires.trail;
+  walks = c.requires.walks;
   noted_flow = AreNoted-none c.args.touched_flow.now c.args.flow.now;
   noted_potentials = AreNoted-none c.args.touched_potentials.now c.args.potentials.now;
   near = record {
@@ -95,7 +96,7 @@ keep_near-fallen-requires-clause-not_below_0 c =
 pub keep_near-fallen-requires-clause-certified : goal.keep_near-fallen-requires-clause-certified
 keep_near-fallen-requires-clause-certified c =
     let at = (goal.at.keep_near-fallen-requires-clause-certified c).After-lower in
-    let same : length c.push_found-pushes.new.visits ≡ length c.lower.new.potentials = c.push_found-pushes.auto.visits ∙ c.in-Some.ensures.found.search.sized ∙ sym c.lower.auto.potentials in
+    let same : length c.search_on.new.visits ≡ length c.lower.new.potentials = c.in-Some.ensures.found.search.sized ∙ sym c.lower.auto.potentials in
     record {
       flow = subst (λ (n : ℕ). IsFlow n c.args.graph.now.rows.items c.push_found-pushes.new.flow) same c.push_found-pushes.ensures.state.flow;
       potentials = potentials_after c.args.graph.now.rows.items c.loop-reach.flow c.loop-reach.potentials c.lower.new.potentials c.search_on.new.visits c.in-Some.reach (to_z w64 c.loop-reach.fallen-bits) c.loop-reach.invariant.certified c.in-Some.ensures.found.search c.in-Some.ensures.found.relaxed c.in-Some.ensures.found.found.front (is_lowered at) c.loop-reach.invariant.near;
@@ -122,28 +123,29 @@ loop-reach-smaller c = falls (goal.at.loop-reach-smaller c).After-push_found-pus
 
 pub forget-requires : goal.forget-requires
 forget-requires c = record {
-  reached = held_alike c.search_on.new.visits c.push_found-pushes.new.visits c.search_on.new.queue c.search_on.new.trail c.push_found-pushes.new.trail
-      (held_after_search c.search_on.new.visits c.search_on.new.queue c.search_on.new.trail c.in-Some.ensures.queue c.in-Some.ensures.trail)
-      c.push_found-pushes.ensures.marks c.push_found-pushes.auto.visits
-      (ap (λ (t : Trail). t.nodes.items) c.push_found-pushes.ensures.trail) (ap (λ (t : Trail). t.len) c.push_found-pushes.ensures.trail);
+  reached = held_after_search c.search_on.new.visits c.search_on.new.queue c.search_on.new.trail c.in-Some.ensures.queue c.in-Some.ensures.trail;
 }
 
 pub loop-reach-preserved : goal.loop-reach-preserved
 loop-reach-preserved c =
     let fits : SFits w64 c.keep_near-fallen.result = search rules in
     let same : to_z w64 (of_z w64 c.keep_near-fallen.result) ≡ c.keep_near-fallen.result = to_z-of_z w64 c.keep_near-fallen.result fits in
+    let sized : length c.search_on.new.visits ≡ length c.keep_near-fallen.new.potentials = c.in-Some.ensures.found.search.sized ∙ sym c.lower.auto.potentials ∙ sym c.keep_near-fallen.auto.potentials in
     record {
       certified = c.keep_near-fallen.ensures.certified;
       small = c.push_found-pushes.ensures.state.small;
       labels = c.keep_near-fallen.ensures.labels;
       sized = c.keep_near-fallen.ensures.sized;
       fresh = c.forget.ensures.fresh;
-      trail = record {
-        nodes_sized = omega (arith, ap (λ (t : Trail). length t.nodes.items) c.push_found-pushes.ensures.trail, c.search_on.ensures.trail_in.nodes_sized, c.keep_near-fallen.auto.potentials, c.lower.auto.potentials);
-        spent_sized = omega (arith, c.push_found-pushes.ensures.spent, c.search_on.ensures.trail_in.spent_sized, c.keep_near-fallen.auto.potentials, c.lower.auto.potentials);
-      };
+      trail = record { nodes_sized = omega (arith, c.search_on.ensures.trail_in.nodes_sized, c.keep_near-fallen.auto.potentials, c.lower.auto.potentials) };
+      walks = subst (λ (n : ℕ). IsWalksFor n c.push_found-pushes.new.walks) sized c.push_found-pushes.ensures.walks;
       noted_flow = AreNoted-trans c.loop-reach.invariant.noted_flow c.push_found-pushes.ensures.noted;
       noted_potentials = AreNoted-trans (AreNoted-trans c.loop-reach.invariant.noted_potentials c.lower.ensures.noted) c.keep_near-fallen.ensures.noted;
       near = rw same c.keep_near-fallen.ensures.near;
       pushed = ArePushes-more c.loop-reach.invariant.pushed c.push_found-pushes.ensures.pushes;
     }
+
+pub push_found-pushes-requires-clause-walks : goal.push_found-pushes-requires-clause-walks
+push_found-pushes-requires-clause-walks c =
+    let sized : length c.loop-reach.potentials ≡ length c.search_on.new.visits = sym c.in-Some.ensures.found.search.sized in
+    subst (λ (n : ℕ). IsWalksFor n c.loop-reach.walks) sized c.loop-reach.invariant.walks

@@ -1,11 +1,12 @@
 use Rattle.std.proofs.Common.{length}
-use Rattle.flow_solver.specs.Residual.{IsCertified}
-use Rattle.flow_solver.specs.Push.{ArePushes, left, AreSmall}
-use Rattle.flow_solver.specs.Labels.{IsLabelsFor}
-use Rattle.flow_solver.specs.Queue.{IsQueueFor}
-use Rattle.flow_solver.specs.Settle.{IsNear}
-use Rattle.flow_solver.specs.Touched.{AreNoted}
-use Rattle.flow_solver.specs.Trail.{IsFresh, IsTrailFor}
+use Rattle.shortest_paths.specs.Residual.{IsCertified}
+use Rattle.shortest_paths.specs.Push.{ArePushes, left, AreSmall}
+use Rattle.shortest_paths.specs.Blocking.{IsWalksFor}
+use Rattle.shortest_paths.specs.Labels.{IsLabelsFor}
+use Rattle.shortest_paths.specs.Queue.{IsQueueFor}
+use Rattle.shortest_paths.specs.Settle.{IsNear}
+use Rattle.shortest_paths.specs.Touched.{AreNoted}
+use Rattle.shortest_paths.specs.Trail.{IsFresh, IsTrailFor}
 use Rattle.flow_solver.proofs.settle.push_all.Given as goal
 
 abbrev pub invariant-loop-reach : goal.invariant-loop-reach
@@ -16,6 +17,7 @@ invariant-loop-reach l = record {
   sized : IsQueueFor (length l.potentials) l.queue;
   fresh : IsFresh l.visits;
   trail : IsTrailFor (length l.potentials) l.trail;
+  walks : IsWalksFor (length l.potentials) l.walks;
   noted_flow : AreNoted l.initial.touched_flow l.initial.flow l.touched_flow l.flow;
   noted_potentials : AreNoted l.initial.touched_potentials l.initial.potentials l.touched_potentials l.potentials;
   near : IsNear l.potentials l.fallen;

@@ -1,10 +1,10 @@
 use Rattle.std.proofs.Common.{◌≡◌, ◌∙◌, sym, ℕ, ℤ, Bool, false, IsTrue, ◌↔◌, ◌<◌, inl, inr, arith, rules, MatchOption, Some, None}
 use Rattle.std.specs.Prelude.{Option, is_some}
 use Rattle.std.proofs.lemmas.Bool.{cases_eq, false≢true}
-use Rattle.flow_solver.specs.Search.{HasFound, IsExhausted}
-use Rattle.flow_solver.specs.Settle.{HasSearched}
-use Rattle.flow_solver.specs.Cut.{IsParted}
-use Rattle.flow_solver.proofs.CutLemmas.{parted_no_excess, parted_no_deficit, parted_exhausted}
+use Rattle.shortest_paths.specs.Search.{HasFound, IsExhausted}
+use Rattle.shortest_paths.specs.Settle.{HasSearched}
+use Rattle.shortest_paths.specs.Cut.{IsParted}
+use Rattle.shortest_paths.proofs.CutLemmas.{parted_no_excess, parted_no_deficit, parted_exhausted}
 use Rattle.flow_solver.proofs.settle.search_on.Goals as goal
 use Rattle.flow_solver.proofs.settle.search_on.Goals.{then-not-has_root-via-then-not-has_root, then-not-has_root-via-else-not-has_root+then-not-has_root-2}
 

@@ -1,6 +1,6 @@
 use Rattle.std.proofs.Common.{List, subst, sym}
 use Rattle.flow_solver.specs.Desk.{NameChanges}
-use Rattle.flow_solver.proofs.TouchedLemmas.{entries_differ}
+use Rattle.flow_solver.proofs.LedgerLemmas.{entries_differ}
 use Rattle.flow_solver.proofs.ledger.Ledger.bring_back.Goals as goal
 
 pub catch_up-requires-clause-named : goal.catch_up-requires-clause-named

@@ -1,6 +1,6 @@
 use Rattle.std.proofs.Common.{List, subst, sym}
 use Rattle.flow_solver.specs.Desk.{NameChanges}
-use Rattle.flow_solver.proofs.TouchedLemmas.{kept_differs}
+use Rattle.flow_solver.proofs.LedgerLemmas.{kept_differs}
 use Rattle.flow_solver.proofs.ledger.Ledger.keep.Goals as goal
 
 pub catch_up-requires-clause-named : goal.catch_up-requires-clause-named

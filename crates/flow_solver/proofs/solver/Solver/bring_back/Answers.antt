@@ -4,8 +4,8 @@ use Rattle.dimacs_text.specs.declared.problem.ArcRow.{ArcRow}
 use Rattle.network.specs.Instance.{reduced}
 use Rattle.flow_solver.specs.Balance.{IsWrappedExcess}
 use Rattle.flow_solver.specs.Moment.{Bench}
-use Rattle.flow_solver.specs.Nodes.{IsIdleEntry}
-use Rattle.flow_solver.specs.Touched.{kept_in}
+use Rattle.shortest_paths.specs.Nodes.{IsIdleEntry}
+use Rattle.flow_solver.specs.Ledger.{kept_in}
 use Rattle.flow_solver.proofs.CarryLemmas.{balance_back, sends}
 use Rattle.flow_solver.proofs.DeskLemmas.{length_kept, nodes_alike}
 use Rattle.flow_solver.proofs.solver.Solver.bring_back.Goals as goal

@@ -6,12 +6,12 @@ use Rattle.std.proofs.lemmas.List.{get_or_default, length-append, with_items_is}
 use Rattle.dimacs_text.specs.declared.problem.ArcRow.{ArcRow}
 use Rattle.network.specs.Instance.{Instance}
 use Rattle.flow_solver.specs.Moment.{Bench}
-use Rattle.flow_solver.specs.Residual.{arc_at, number_at}
-use Rattle.flow_solver.specs.Star.{Covers}
-use Rattle.flow_solver.specs.Touched.{kept_in}
+use Rattle.shortest_paths.specs.Residual.{arc_at, number_at}
+use Rattle.shortest_paths.specs.Star.{Covers}
+use Rattle.flow_solver.specs.Ledger.{kept_in}
 use Rattle.flow_solver.proofs.CarryLemmas.{arcs_in, balance_dropped, carried_as, ends_in}
 use Rattle.flow_solver.proofs.DeskLemmas.{length_kept, tables_with_arcs}
-use Rattle.flow_solver.proofs.StarLemmas.{covers_dropped}
+use Rattle.shortest_paths.proofs.StarLemmas.{covers_dropped}
 use Rattle.flow_solver.proofs.solver.Solver.drop_last.Goals as goal
 use Rattle.flow_solver.proofs.solver.Solver.drop_last.Goals.{After-len-last}
 

@@ -1,11 +1,14 @@
-use Rattle.std.proofs.Common.{◌≡◌, ◌∙◌, ◌+◌, ℕ, suc, ℤ, arith, pos, false, List, map, drop, length, replicate, rules, ap, sym, subst}
+use Rattle.std.proofs.Common.{add-one, ◌≡◌, ◌∙◌, ◌+◌, ℕ, suc, ℤ, arith, pos, false, List, map, drop, length, replicate, rules, ap, sym, subst}
+use Rattle.std.proofs.lemmas.Int.{ints}
 use Rattle.std.proofs.lemmas.List.{length-map}
 use Rattle.network.specs.Flow.{IsCertifiedFlow}
 use Rattle.network.specs.Instance.{Instance, at_node, reduced}
 use Rattle.dimacs_text.specs.declared.problem.ArcRow.{ArcRow}
 use Rattle.flow_solver.specs.Balance.{IsWrappedCost, IsWrappedExcess}
 use Rattle.flow_solver.specs.Moment.{start}
-use Rattle.flow_solver.specs.Touched.{kept_in}
+use Rattle.flow_solver.specs.Ledger.{kept_in}
+use Rattle.shortest_paths.specs.Nodes.{IsIdleEntry}
+use Rattle.shortest_paths.specs.Residual.{number_at}
 use Rattle.flow_solver.proofs.CarryLemmas.{ends_of_rows, sends}
 use Rattle.flow_solver.proofs.DeskLemmas.{nodes_alike}
 use Rattle.flow_solver.proofs.InstanceLemmas.{start_certified, zero_entries}
@@ -13,6 +16,12 @@ use Rattle.flow_solver.proofs.solver.Solver.new.Goals as goal
 
 pub new-requires-4-clause-ends : goal.new-requires-4-clause-ends
 new-requires-4-clause-ends c = ends_of_rows c.in_ok-graph.graph.net c.deref-2.result.now c.in_ok-graph.ensures.graph.rows.lawful (c.deref-2.ensures.value ∙ c.in_ok-graph.ensures.graph.rows.rows_are)
+
+-- a potential of 0 is within its limits
+idle_zeros : (n : ℕ) → IsIdleEntry (replicate (n + 1) (pos 0))
+idle_zeros n =
+    let first : number_at (replicate (n + 1) (pos 0)) 0 ≡ pos 0 = ap (λ (k : ℕ). number_at (replicate k (pos 0)) 0) (add-one n) in
+    (omega (arith, ints, first), omega (arith, ints, first))
 
 pub invariant_of-result : goal.invariant_of-result
 invariant_of-result c =
@@ -30,8 +39,8 @@ invariant_of-result c =
       flow_in = ap (λ (xs : List ℤ). length xs) (c.in_ok-flow.ensures.entries ∙ c.in_ok-start_flow.ensures.flow ∙ ap (map start) c.deref.ensures.value) ∙ length-map c.in_ok-graph.graph.rows.items start;
       flow_fits = search rules;
       potentials_in = nodes_alike c.in_ok-graph.graph.net.nodes potentials (replicate (c.nodes.result + 1) (pos 0)) (replicate (c.nodes.result + 1) (pos 0)) c.in_ok-potentials.ensures.ledger zeros kept_zeros (search rules) (search rules);
-      idle = search rules;
-      kept_idle = search rules;
+      idle = subst IsIdleEntry (sym zeros) (idle_zeros c.nodes.result);
+      kept_idle = subst IsIdleEntry (sym kept_zeros) (idle_zeros c.nodes.result);
       balance_is = record {
         sized = c.in_ok-balance.ensures.sized;
         excess = subst (λ (r : List ArcRow). IsWrappedExcess r (sends c.in_ok-graph.graph.net) flow.entries.items balance.excess.items) c.deref-2.ensures.value

@@ -4,10 +4,10 @@ use Rattle.std.specs.Vec.{with_items}
 use Rattle.std.proofs.lemmas.Int.{to_z-of_z}
 use Rattle.std.proofs.lemmas.List.{length-append, with_items_is}
 use Rattle.network.specs.Instance.{Instance}
-use Rattle.flow_solver.specs.Star.{Covers}
+use Rattle.shortest_paths.specs.Star.{Covers}
 use Rattle.flow_solver.proofs.CarryLemmas.{balance_put, carried_as}
 use Rattle.flow_solver.proofs.DeskLemmas.{tables_with_arcs}
-use Rattle.flow_solver.proofs.StarLemmas.{covers_added}
+use Rattle.shortest_paths.proofs.StarLemmas.{covers_added}
 use Rattle.flow_solver.proofs.solver.Solver.put_last.Goals as goal
 
 pub invariant_of-self : goal.invariant_of-self

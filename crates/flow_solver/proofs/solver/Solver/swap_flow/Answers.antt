@@ -1,12 +1,13 @@
 use Rattle.std.proofs.Common.{◌≡◌, ◌∙◌, ◌≤◌, ◌-◌, ◌+◌, ℕ, ℤ, List, pos, length, slice_set, drop, ap, arith, refl, rules, subst, sym, w64, SFits}
+use Rattle.std.specs.Prelude.{slice_index_or}
 use Rattle.std.proofs.lemmas.Int.{to_z-of_z}
 use Rattle.std.proofs.lemmas.List.{get_or_default, with_items_is}
 use Rattle.flow_solver.specs.Desk.{flow_index}
 use Rattle.flow_solver.specs.Moment.{Bench}
-use Rattle.flow_solver.specs.Residual.{arc_at, number_at}
+use Rattle.shortest_paths.specs.Residual.{arc_at, number_at}
 use Rattle.flow_solver.proofs.CarryLemmas.{IsPlace, balance_set, carried_as, ends_in, place_is}
 use Rattle.flow_solver.proofs.DeskLemmas.{tables_written}
-use Rattle.flow_solver.proofs.TouchedLemmas.{IsWritten-same}
+use Rattle.flow_solver.proofs.LedgerLemmas.{IsWritten-same}
 use Rattle.flow_solver.proofs.solver.Solver.swap_flow.Goals as goal
 use Rattle.flow_solver.proofs.solver.Solver.swap_flow.Goals.{After-first_row}
 
@@ -66,3 +67,11 @@ returns-clause-moment c =
     ap (λ (x : List ℤ). record { instance = t.graph.net; flow = x; potentials = drop 1 t.potentials.entries.items; verdict = t.verdict; cut = drop 1 t.cut.entries.items })
     (c.exchange.ensures.entries ∙ ap (λ (n : ℕ). slice_set t.flow.entries.items n c.args.value.now) index)
     ∙ ap (λ (b : Bench). record b.moment { flow = slice_set b.moment.flow (flow_index b.moment.instance.demand c.args.k) c.args.value.now }) c.self.view_is
+
+pub returns-clause-value : goal.returns-clause-value
+returns-clause-value c =
+    let t = c.self.inside in
+    let index = (place_there (goal.at.returns-clause-value c).After-first_row).index_is in
+    c.exchange.ensures.value
+    ∙ ap (λ (n : ℕ). slice_index_or t.flow.entries.items n c.args.value.now) index
+    ∙ ap (λ (b : Bench). slice_index_or b.moment.flow (flow_index b.moment.instance.demand c.args.k) c.args.value.now) c.self.view_is

@@ -1,9 +1,9 @@
 use Rattle.std.proofs.Common.{◌≡◌, ℤ, arith, pos, refl, subst, sym}
 use Rattle.std.specs.Prelude.{◌≤ℤ◌, neg_ℤ}
-use Rattle.flow_solver.specs.Limits.{label_floor}
-use Rattle.flow_solver.specs.Residual.{number_at}
+use Rattle.shortest_paths.specs.Limits.{label_floor}
+use Rattle.shortest_paths.specs.Residual.{number_at}
 use Rattle.flow_solver.proofs.DeskLemmas.{tables_written}
-use Rattle.flow_solver.proofs.TouchedLemmas.{IsWritten-same}
+use Rattle.flow_solver.proofs.LedgerLemmas.{IsWritten-same}
 use Rattle.flow_solver.proofs.solver.Solver.swap_potential.Goals as goal
 
 pub invariant_of-self : goal.invariant_of-self

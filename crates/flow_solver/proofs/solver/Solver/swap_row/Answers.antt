@@ -6,16 +6,16 @@ use Rattle.std.proofs.lemmas.List.{get_or_default, with_items_is}
 use Rattle.dimacs_text.specs.declared.problem.ArcRow.{ArcRow}
 use Rattle.network.specs.Instance.{Instance}
 use Rattle.flow_solver.specs.Balance.{IsBalanceOf}
-use Rattle.flow_solver.specs.Graph.{IsGraphFor}
+use Rattle.shortest_paths.specs.Graph.{IsGraphFor}
 use Rattle.flow_solver.specs.Moment.{Bench}
-use Rattle.flow_solver.specs.Residual.{arc_at, number_at}
-use Rattle.flow_solver.specs.Scratch.{IsScratchFor}
-use Rattle.flow_solver.specs.Star.{Covers}
-use Rattle.flow_solver.specs.Walk.{AreRowsOf}
+use Rattle.shortest_paths.specs.Residual.{arc_at, number_at}
+use Rattle.shortest_paths.specs.Scratch.{IsScratchFor}
+use Rattle.shortest_paths.specs.Star.{Covers}
+use Rattle.shortest_paths.specs.Walk.{AreRowsOf}
 use Rattle.flow_solver.proofs.CarryLemmas.{balance_swapped, place_is}
 use Rattle.flow_solver.proofs.DeskLemmas.{tables_written}
-use Rattle.flow_solver.proofs.StarLemmas.{covers_set}
-use Rattle.flow_solver.proofs.TouchedLemmas.{IsWritten-same}
+use Rattle.shortest_paths.proofs.StarLemmas.{covers_set}
+use Rattle.flow_solver.proofs.LedgerLemmas.{IsWritten-same}
 use Rattle.flow_solver.proofs.solver.Solver.swap_row.Goals as goal
 
 pub invariant_of-self : goal.invariant_of-self

@@ -6,15 +6,15 @@ use Rattle.dimacs_text.specs.Lawful.{IsNode}
 use Rattle.dimacs_text.specs.declared.problem.Kind.TheVariants.{Min}
 use Rattle.network.specs.Instance.{Instance, kind_of, reduced}
 use Rattle.flow_solver.specs.Balance.{IsBalanceOf}
-use Rattle.flow_solver.specs.Graph.{IsGraphFor}
+use Rattle.shortest_paths.specs.Graph.{IsGraphFor}
 use Rattle.flow_solver.specs.Moment.{Bench}
-use Rattle.flow_solver.specs.Scratch.{IsScratchFor}
-use Rattle.flow_solver.specs.Star.{Covers}
-use Rattle.flow_solver.specs.Walk.{AreRowsOf}
+use Rattle.shortest_paths.specs.Scratch.{IsScratchFor}
+use Rattle.shortest_paths.specs.Star.{Covers}
+use Rattle.shortest_paths.specs.Walk.{AreRowsOf}
 use Rattle.flow_solver.proofs.CarryLemmas.{balance_supplied, raised_as}
 use Rattle.flow_solver.proofs.DeskLemmas.{tables_written}
-use Rattle.flow_solver.proofs.NodeLemmas.{held_node}
-use Rattle.flow_solver.proofs.TouchedLemmas.{IsWritten-same}
+use Rattle.shortest_paths.proofs.NodeLemmas.{held_node}
+use Rattle.flow_solver.proofs.LedgerLemmas.{IsWritten-same}
 use Rattle.flow_solver.proofs.solver.Solver.swap_supply.Goals as goal
 
 pub invariant_of-self : goal.invariant_of-self

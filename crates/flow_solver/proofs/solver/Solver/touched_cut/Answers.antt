@@ -1,7 +1,7 @@
 use Rattle.std.proofs.Common.{subst}
 use Rattle.flow_solver.specs.Desk.{NameChanges}
 use Rattle.flow_solver.specs.Moment.{Bench}
-use Rattle.flow_solver.proofs.TouchedLemmas.{kept_named_after_first}
+use Rattle.flow_solver.proofs.LedgerLemmas.{kept_named_after_first}
 use Rattle.flow_solver.proofs.solver.Solver.touched_cut.Goals as goal
 
 pub returns-clause-named : goal.returns-clause-named

@@ -1,9 +1,0 @@
-use Rattle.flow_solver.specs.Labels.{IsEntered}
-use Rattle.flow_solver.specs.Queue.{IsQueueOf}
-use Rattle.flow_solver.proofs.labels.enter.Given as goal
-
-abbrev pub invariant-loop-v : goal.invariant-loop-v
-invariant-loop-v l = record {
-  entered : IsEntered l.graph.rows.items l.flow l.potentials l.visits l.v;
-  queue : IsQueueOf l.visits l.queue;
-}

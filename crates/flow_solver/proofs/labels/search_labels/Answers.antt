@@ -1,5 +1,0 @@
-use Rattle.flow_solver.proofs.LabelLemmas.{entered_relaxed}
-use Rattle.flow_solver.proofs.labels.search_labels.Goals as goal
-
-pub search_rest-requires-clause-relaxed : goal.search_rest-requires-clause-relaxed
-search_rest-requires-clause-relaxed c = entered_relaxed c.args.graph.now.rows.items c.args.flow.now c.args.potentials.now c.enter.new.visits c.requires.certified c.enter.ensures.entered

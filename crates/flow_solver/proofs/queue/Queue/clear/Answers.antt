@@ -1,5 +1,0 @@
-use Rattle.flow_solver.proofs.QueueLemmas.{empty_queue}
-use Rattle.flow_solver.proofs.queue.Queue.clear.Goals as goal
-
-pub returns-clause-queue : goal.returns-clause-queue
-returns-clause-queue c = empty_queue c.args.visits.now c.args.self.now c.requires.none_open c.requires.sized

@@ -1,0 +1,16 @@
+pub mod SearchLemmas
+pub mod RunLemmas
+pub mod PushLemmas
+pub mod BlockingLemmas
+pub mod FirstWalk
+pub mod SettleLemmas
+pub mod CutLemmas
+pub mod HeapLemmas
+pub mod QueueLemmas
+pub mod NodeLemmas
+pub mod WalkLemmas
+pub mod LabelLemmas
+pub mod StarLemmas
+pub mod TrailLemmas
+pub mod TouchedLemmas
+pub mod ApartLemmas

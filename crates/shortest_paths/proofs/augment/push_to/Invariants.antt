@@ -1,0 +1,20 @@
+use Rattle.std.proofs.Common.{◌≡◌, ◌⊎◌, ◌<◌, length, pos}
+use Rattle.std.specs.Prelude.{◌<ℤ◌}
+use Rattle.shortest_paths.specs.Blocking.{IsWalksFor}
+use Rattle.shortest_paths.specs.Push.{IsUnderWay, ArePushes, left}
+use Rattle.shortest_paths.specs.Residual.{number_at}
+use Rattle.shortest_paths.specs.Touched.{AreNoted}
+use Rattle.shortest_paths.proofs.augment.push_to.Given as goal
+
+abbrev pub invariant-loop-excess : goal.invariant-loop-excess
+invariant-loop-excess l = record {
+  noted : AreNoted l.initial.touched l.initial.flow l.touched l.flow;
+  state : IsUnderWay (length l.visits) l.graph.rows.items l.potentials l.flow l.excess;
+  walks : IsWalksFor (length l.visits) l.walks;
+  pushed : ArePushes l.graph.rows.items l.pushes l.initial.flow l.initial.excess l.flow l.excess;
+  first : l.pushes ≡ 0 → l.walks ≡ l.initial.walks;
+  kept : (l.pushes ≡ 0) ⊎ (number_at l.initial.excess l.target <ℤ pos 0);
+}
+
+abbrev pub decreases-loop-excess : goal.decreases-loop-excess
+decreases-loop-excess l = left l.excess

@@ -1,0 +1,16 @@
+use Rattle.std.proofs.Common.{◌≤◌, length}
+use Rattle.shortest_paths.specs.Queue.{IsQueueOf}
+use Rattle.shortest_paths.specs.Search.{IsSearch, AllRelaxed, IsFromAll, unsettled}
+use Rattle.shortest_paths.proofs.labels.search_rest.Given as goal
+
+abbrev pub invariant-loop-u : goal.invariant-loop-u
+invariant-loop-u l = record {
+  queue : IsQueueOf l.visits l.queue;
+  known : IsSearch l.graph.rows.items l.flow l.potentials l.visits;
+  relaxed : AllRelaxed l.graph.rows.items l.flow l.potentials l.visits;
+  from_all : IsFromAll l.potentials l.visits;
+  place : l.place ≤ length l.order;
+}
+
+abbrev pub decreases-loop-u : goal.decreases-loop-u
+decreases-loop-u l = unsettled l.visits

@@ -1,0 +1,17 @@
+pub mod Limits
+pub mod Residual
+pub mod Nodes
+pub mod Search
+pub mod Push
+pub mod Settle
+pub mod Cut
+pub mod Touched
+pub mod Graph
+pub mod Heap
+pub mod Queue
+pub mod Trail
+pub mod Labels
+pub mod Scratch
+pub mod Walk
+pub mod Star
+pub mod Blocking

@@ -1,0 +1,274 @@
+//! Flow pushed along the paths that walks found.
+
+ghost use Rattle.std.specs.Prelude.{◌≡◌, ◌≢◌, ℕ, ℤ, length, slice_set, pos, neg_ℤ, ◌≤ℤ◌, ◌<ℤ◌, ◌<◌, ◌≤◌, ◌⊎◌, List};
+ghost use Rattle.shortest_paths.specs.Blocking.{AreAlive, IsDone, IsFound, IsWalksFor, IsWay, hops_from};
+ghost use Rattle.shortest_paths.specs.Graph.{IsGraphFor};
+ghost use Rattle.shortest_paths.specs.Limits.{potential_floor};
+ghost use Rattle.shortest_paths.specs.Residual.{IsRow, IsWithin, IsFlow, ArePotentials, number_at, arc_at, room_of};
+ghost use Rattle.shortest_paths.specs.Search.{IsFoundDeficit};
+ghost use Rattle.shortest_paths.specs.Push.{ArePaths, HasRoom, push_along, moved, AreSmall, IsTransfer, IsUnderWay, ArePushes, CanPush};
+ghost use Rattle.shortest_paths.specs.Touched.{AreNoted};
+ghost use Rattle.shortest_paths.specs.Trail.{IsTrailOf};
+
+use crate::blocking::{ResidualArc, Walks, find_path};
+use crate::graph::Graph;
+use crate::residual::Way;
+use crate::touched::Touched;
+use crate::trail::Trail;
+use crate::visit::Visit;
+use dimacs_text::ArcRow;
+
+/// How much fits along a residual arc, at most `limit`.
+fn room_on(graph: &Graph, flow: &[i64], hop: ResidualArc, limit: i64) -> i64
+    requires flow { (nodes : ℕ) × IsFlow nodes graph.now.rows.items flow.now }
+    requires arc_in { hop.arc < length graph.now.rows.items }
+    ensures at_most { result ≤ℤ limit }
+    ensures fits { result ≤ℤ room_of (arc_at graph.now.rows.items hop.arc) (number_at flow.now hop.arc) hop.way }
+    ensures most { (m : ℤ) → m ≤ℤ limit → m ≤ℤ room_of (arc_at graph.now.rows.items hop.arc) (number_at flow.now hop.arc) hop.way → m ≤ℤ result }
+{
+    let row = graph.rows[hop.arc as usize];
+    let fits = hop.way.room(&row, flow[hop.arc as usize]);
+    limit.min(fits)
+}
+
+/// How much fits along the path on which the walk came from `target` to `root`, at most `limit`.
+fn bottleneck(
+    graph: &Graph,
+    flow: &[i64],
+    visits: &[Visit],
+    walks: &Walks,
+    root: usize,
+    target: usize,
+    limit: i64,
+) -> i64
+    requires flow { IsFlow (length visits.now) graph.now.rows.items flow.now }
+    requires walks { IsWalksFor (length visits.now) walks.now }
+    requires target_in { target < length visits.now }
+    requires way { IsWay graph.now.rows.items flow.now visits.now walks.now target root }
+    ensures at_most { result ≤ℤ limit }
+    ensures room { HasRoom graph.now.rows.items flow.now result (hops_from graph.now.rows.items visits.now walks.now.back.items target root) }
+    ensures most { (m : ℤ) → m ≤ℤ limit → HasRoom graph.now.rows.items flow.now m (hops_from graph.now.rows.items visits.now walks.now.back.items target root) → m ≤ℤ result }
+{
+    let mut room = limit;
+    let mut node = root;
+    while visits[node].depth < visits[target].depth {
+        let hop = walks.way_on(node);
+        room = room_on(graph, flow, hop, room);
+        node = graph.end(hop.arc as usize, hop.way);
+    }
+    room
+}
+
+/// How much can be pushed along the path on which the walk came from `target` to `root`.
+fn amount_along(
+    graph: &Graph,
+    flow: &[i64],
+    excess: &[i64],
+    visits: &[Visit],
+    walks: &Walks,
+    root: usize,
+    target: usize,
+) -> i64
+    requires flow { IsFlow (length visits.now) graph.now.rows.items flow.now }
+    requires excess_in { length excess.now ≡ length visits.now }
+    requires small { AreSmall excess.now }
+    requires walks { IsWalksFor (length visits.now) walks.now }
+    requires target_in { target < length visits.now }
+    requires way { IsWay graph.now.rows.items flow.now visits.now walks.now target root }
+    requires some_excess { pos 0 <ℤ number_at excess.now root }
+    requires some_deficit { number_at excess.now target <ℤ pos 0 }
+    ensures at_least_1 { pos 1 ≤ℤ result }
+    ensures in_excess { result ≤ℤ number_at excess.now root }
+    ensures in_deficit { number_at excess.now target ≤ℤ neg_ℤ result }
+    ensures room { HasRoom graph.now.rows.items flow.now result (hops_from graph.now.rows.items visits.now walks.now.back.items target root) }
+    ensures most { (m : ℤ) → m ≤ℤ number_at excess.now root → number_at excess.now target ≤ℤ neg_ℤ m → HasRoom graph.now.rows.items flow.now m (hops_from graph.now.rows.items visits.now walks.now.back.items target root) → m ≤ℤ result }
+{
+    let surplus = excess[root];
+    let lacking = -excess[target];
+    bottleneck(
+        graph,
+        flow,
+        visits,
+        walks,
+        root,
+        target,
+        surplus.min(lacking),
+    )
+}
+
+/// Moves `amount` along the path on which the walk came from `target` to `root`.
+fn shift(
+    graph: &Graph,
+    flow: &mut [i64],
+    touched: &mut Touched,
+    visits: &[Visit],
+    walks: &Walks,
+    root: usize,
+    target: usize,
+    amount: i64,
+)
+    requires touched_in { length flow.old ≤ length touched.old }
+    requires flow { IsFlow (length visits.now) graph.now.rows.items flow.old }
+    requires walks { IsWalksFor (length visits.now) walks.now }
+    requires target_in { target < length visits.now }
+    requires way { IsWay graph.now.rows.items flow.old visits.now walks.now target root }
+    requires amount { pos 1 ≤ℤ amount }
+    requires room { HasRoom graph.now.rows.items flow.old amount (hops_from graph.now.rows.items visits.now walks.now.back.items target root) }
+    ensures flow { flow.new ≡ push_along (hops_from graph.now.rows.items visits.now walks.now.back.items target root) amount flow.old }
+    ensures noted { AreNoted touched.old flow.old touched.new flow.new }
+{
+    let mut node = root;
+    while visits[node].depth < visits[target].depth {
+        let hop = walks.way_on(node);
+        shift_on(graph, flow, touched, hop, amount);
+        node = graph.end(hop.arc as usize, hop.way);
+    }
+}
+
+/// Moves `amount` along a residual arc.
+fn shift_on(graph: &Graph, flow: &mut [i64], touched: &mut Touched, hop: ResidualArc, amount: i64)
+    requires touched_in { length flow.old ≤ length touched.old }
+    requires flow { (nodes : ℕ) × IsFlow nodes graph.now.rows.items flow.old }
+    requires arc_in { hop.arc < length graph.now.rows.items }
+    requires amount { pos 1 ≤ℤ amount }
+    requires fits { amount ≤ℤ room_of (arc_at graph.now.rows.items hop.arc) (number_at flow.old hop.arc) hop.way }
+    ensures flow { flow.new ≡ slice_set flow.old hop.arc (moved hop.way (number_at flow.old hop.arc) amount) }
+    ensures noted { AreNoted touched.old flow.old touched.new flow.new }
+{
+    let arc = hop.arc as usize;
+    let row = graph.rows[arc];
+    flow[arc] = shifted(&row, flow[arc], hop.way, amount);
+    touched.note(arc);
+}
+
+/// A flow with `amount` more in this direction.
+fn shifted(row: &ArcRow, flow: i64, way: Way, amount: i64) -> i64
+    requires row { (nodes : ℕ) × IsRow nodes row.now }
+    requires within { IsWithin row.now flow }
+    requires amount { pos 1 ≤ℤ amount }
+    requires fits { amount ≤ℤ room_of row.now flow way }
+    ensures { result ≡ moved way flow amount }
+{
+    match way {
+        Way::Forward => flow + amount,
+        Way::Backward => flow - amount,
+    }
+}
+
+/// Moves `amount` from the excess of `source` to the deficit of `target`.
+fn transfer(excess: &mut [i64], source: usize, target: usize, amount: i64)
+    requires source_in { source < length excess.old }
+    requires target_in { target < length excess.old }
+    requires small { AreSmall excess.old }
+    requires apart { source ≢ target }
+    requires amount { pos 1 ≤ℤ amount }
+    requires in_excess { amount ≤ℤ number_at excess.old source }
+    requires in_deficit { number_at excess.old target ≤ℤ neg_ℤ amount }
+    ensures { IsTransfer source target amount excess.old excess.new }
+{
+    excess[source] -= amount;
+    excess[target] += amount;
+}
+
+/// Pushes what fits along the path on which the walk came from `target` to `root`.
+fn push_on(
+    graph: &Graph,
+    flow: &mut [i64],
+    touched: &mut Touched,
+    potentials: &[i64],
+    excess: &mut [i64],
+    visits: &[Visit],
+    walks: &Walks,
+    root: usize,
+    target: usize,
+)
+    requires touched_in { length flow.old ≤ length touched.old }
+    requires state { IsUnderWay (length visits.now) graph.now.rows.items potentials.now flow.old excess.old }
+    requires walks { IsWalksFor (length visits.now) walks.now }
+    requires target_in { target < length visits.now }
+    requires some_deficit { number_at excess.old target <ℤ pos 0 }
+    requires found { IsFound graph.now.rows.items potentials.now flow.old excess.old visits.now walks.now target root }
+    ensures noted { AreNoted touched.old flow.old touched.new flow.new }
+    ensures state { IsUnderWay (length visits.now) graph.now.rows.items potentials.now flow.new excess.new }
+    ensures push { ArePushes graph.now.rows.items 1 flow.old excess.old flow.new excess.new }
+{
+    let amount = amount_along(graph, flow, excess, visits, walks, root, target);
+    shift(graph, flow, touched, visits, walks, root, target, amount);
+    transfer(excess, root, target, amount);
+}
+
+/// Pushes to a node until nothing is lacking there or no path leads to it, and counts the pushes.
+fn push_to(
+    graph: &Graph,
+    flow: &mut [i64],
+    touched: &mut Touched,
+    potentials: &[i64],
+    excess: &mut [i64],
+    visits: &[Visit],
+    walks: &mut Walks,
+    target: usize,
+) -> u64
+    requires graph { IsGraphFor (length potentials.now) graph.now }
+    requires touched_in { length flow.old ≤ length touched.old }
+    requires state { IsUnderWay (length visits.now) graph.now.rows.items potentials.now flow.old excess.old }
+    requires potentials_in { ArePotentials (length visits.now) potential_floor potentials.now }
+    requires walks { IsWalksFor (length visits.now) walks.old }
+    requires target_in { target < length visits.now }
+    ensures noted { AreNoted touched.old flow.old touched.new flow.new }
+    ensures state { IsUnderWay (length visits.now) graph.now.rows.items potentials.now flow.new excess.new }
+    ensures walks { IsWalksFor (length visits.now) walks.new }
+    ensures pushes { ArePushes graph.now.rows.items result flow.old excess.old flow.new excess.new }
+    ensures done { IsDone excess.new walks.new target }
+    ensures some { ArePaths graph.now.rows.items potentials.now visits.now → CanPush graph.now.rows.items flow.old excess.old visits.now target → AreAlive visits.now walks.old.dead.items → 0 < result }
+    ensures kept { (number_at excess.old target <ℤ pos 0) ⊎ (walks.new ≡ walks.old) }
+{
+    let mut pushes = 0;
+    while excess[target] < 0 {
+        match find_path(graph, flow, potentials, excess, visits, walks, target) {
+            Some(root) => {
+                push_on(
+                    graph, flow, touched, potentials, excess, visits, walks, root, target,
+                );
+                pushes += 1;
+            }
+            None => return pushes,
+        }
+    }
+    pushes
+}
+
+/// Pushes to the nodes in deficit that the search found, and counts the pushes.
+pub fn push_found(
+    graph: &Graph,
+    flow: &mut [i64],
+    touched: &mut Touched,
+    potentials: &[i64],
+    excess: &mut [i64],
+    visits: &[Visit],
+    trail: &Trail,
+    walks: &mut Walks,
+) -> u64
+    requires graph { IsGraphFor (length potentials.now) graph.now }
+    requires touched_in { length flow.old ≤ length touched.old }
+    requires state { IsUnderWay (length visits.now) graph.now.rows.items potentials.now flow.old excess.old }
+    requires potentials_in { ArePotentials (length visits.now) potential_floor potentials.now }
+    requires paths { ArePaths graph.now.rows.items potentials.now visits.now }
+    requires trail { IsTrailOf visits.now trail.now }
+    requires walks { IsWalksFor (length visits.now) walks.old }
+    requires can_push { (t : ℕ) → IsFoundDeficit excess.old visits.now t → CanPush graph.now.rows.items flow.old excess.old visits.now t }
+    ensures noted { AreNoted touched.old flow.old touched.new flow.new }
+    ensures state { IsUnderWay (length visits.now) graph.now.rows.items potentials.now flow.new excess.new }
+    ensures walks { IsWalksFor (length visits.now) walks.new }
+    ensures pushes { ArePushes graph.now.rows.items result flow.old excess.old flow.new excess.new }
+    ensures some { (t : ℕ) → IsFoundDeficit excess.old visits.now t → 0 < result }
+{
+    walks.refresh(trail);
+    let mut pushes = 0;
+    for j in 0..trail.len {
+        let target = trail.nodes[j] as usize;
+        pushes += push_to(
+            graph, flow, touched, potentials, excess, visits, walks, target,
+        );
+    }
+    pushes
+}

@@ -1,0 +1,64 @@
+//! The network in the forms that searches read.
+
+ghost use Rattle.std.specs.Prelude.{◌≡◌, ◌+◌, ◌<◌, ◌≤◌, IfOk, length, vec_capacity};
+ghost use Rattle.shortest_paths.specs.Graph.{IsGraphFor};
+ghost use Rattle.shortest_paths.specs.Residual.{end_at, start_at};
+ghost use Rattle.shortest_paths.specs.Walk.{AreRowsOf};
+
+use crate::residual::Way;
+use crate::rows::reduced_rows;
+use crate::star::Star;
+use dimacs_text::ArcRow;
+use network::Network;
+use std::alloc::{AllocError, Global};
+
+/// A network, the ends at its nodes side by side, and the arcs of its reduced instance.
+#[derive(Drop)]
+pub struct Graph {
+    /// The instance.
+    pub net: Network,
+    /// The ends of its first arcs at each node.
+    pub star: Star,
+    /// One entry an arc of the reduced instance: the return arc, where there is one, then the arcs of the network.
+    pub rows: Vec<ArcRow>,
+}
+
+impl Graph {
+    /// The graph of a network, with room for all arcs that may be added.
+    ///
+    /// # Errors
+    /// Memory for a table was refused.
+    pub fn new(alloc: Global, net: Network) -> Result<Graph, AllocError>
+        ensures net { IfOk result (λ g. g.net ≡ net) }
+        ensures graph { IfOk result (λ g. IsGraphFor (net.nodes + 1) g) }
+        ensures room { IfOk result (λ g. net.room + 1 ≤ vec_capacity g.rows) }
+    {
+        let star = Star::new(alloc, &net)?;
+        let rows = reduced_rows(alloc, &net)?;
+        Ok(Graph { net, star, rows })
+    }
+
+    /// The row of the first arc of the network: how many rows stand before it.
+    pub fn first_row(&self) -> usize
+        requires { AreRowsOf self.now.net self.now.rows.items }
+        ensures { result + length self.now.net.arcs ≡ length self.now.rows.items }
+    {
+        self.rows.len() - self.net.arcs() as usize
+    }
+
+    /// The node from which the residual arc in this way along the arc in row `k` leads.
+    pub fn start(&self, k: usize, way: Way) -> usize
+        requires { k < length self.now.rows.items }
+        ensures { result ≡ start_at self.now.rows.items k way }
+    {
+        way.start(&self.rows[k]) as usize
+    }
+
+    /// The node to which the residual arc in this way along the arc in row `k` leads.
+    pub fn end(&self, k: usize, way: Way) -> usize
+        requires { k < length self.now.rows.items }
+        ensures { result ≡ end_at self.now.rows.items k way }
+    {
+        way.end(&self.rows[k]) as usize
+    }
+}

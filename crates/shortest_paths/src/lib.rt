@@ -1,0 +1,36 @@
+//! Shortest paths in the residual graph of a flow, and what goes along them: searches over reduced costs, labels of all
+//! nodes, flow pushed along the paths found, and the sets of nodes that residual arcs reach.
+//!
+//! A table of nodes has one entry a node, by the node's number, and entry 0 stands for no node; a table of arcs has one
+//! entry a row of the graph. Flow and excess are in units of flow; costs, potentials and keys in cost a unit of flow.
+#![tactic(auto)]
+
+mod augment;
+mod blocking;
+mod cut;
+mod graph;
+mod heap;
+mod labels;
+mod queue;
+mod residual;
+mod rows;
+mod scratch;
+mod search;
+mod star;
+mod touched;
+mod trail;
+mod visit;
+
+pub use augment::push_found;
+pub use blocking::{Place, ResidualArc, Walks};
+pub use cut::{Side, mark_side, take_marks};
+pub use graph::Graph;
+pub use labels::{Labels, search_labels};
+pub use queue::Queue;
+pub use residual::Way;
+pub use scratch::Scratch;
+pub use search::find_deficits;
+pub use star::{Spoke, Star};
+pub use touched::Touched;
+pub use trail::{Trail, forget};
+pub use visit::{Mark, Visit};

@@ -1,0 +1,45 @@
+//! The tables that searches write in.
+
+ghost use Rattle.std.specs.Prelude.{IfOk};
+ghost use Rattle.shortest_paths.specs.Scratch.{IsScratchFor};
+
+use crate::blocking::Walks;
+use crate::labels::Labels;
+use crate::queue::Queue;
+use crate::trail::Trail;
+use crate::visit::Visit;
+use std::alloc::{AllocError, Global};
+
+/// Tables with one entry a node. Between two calls nothing is known of them but their size, and that no node is marked
+/// as reached in `visits`. What `labels` holds of the last pass is a hint.
+#[derive(Drop)]
+pub struct Scratch {
+    pub visits: Vec<Visit>,
+    pub labels: Labels,
+    pub queue: Queue,
+    pub trail: Trail,
+    pub walks: Walks,
+}
+
+impl Scratch {
+    /// Tables for so many entries.
+    ///
+    /// # Errors
+    /// Memory for a table was refused.
+    pub fn new(alloc: Global, entries: u32) -> Result<Scratch, AllocError>
+        ensures { IfOk result (λ s. IsScratchFor entries s) }
+    {
+        let visits = vec![in alloc; Visit::unreached(); entries as usize]?;
+        let labels = Labels::new(alloc, entries)?;
+        let queue = Queue::new(alloc, entries as usize)?;
+        let trail = Trail::new(alloc, entries as usize)?;
+        let walks = Walks::new(alloc, entries as usize)?;
+        Ok(Scratch {
+            visits,
+            labels,
+            queue,
+            trail,
+            walks,
+        })
+    }
+}

@@ -1,0 +1,441 @@
+//! Shortest paths over reduced costs, from the nodes in excess.
+
+ghost use Rattle.std.specs.Prelude.{◌≡◌, ℕ, pos, ◌≤ℤ◌, ◌+ℤ◌, ◌-ℤ◌, ◌<ℤ◌, ◌<◌, ◌≤◌, IsTrue, ◌↔◌, int_lt, length, None, MatchOption, ◌+◌, ◌/◌};
+ghost use Rattle.std.specs.List.{count_by};
+ghost use Rattle.shortest_paths.specs.Limits.{entry_limit, key_limit, potential_floor};
+ghost use Rattle.shortest_paths.specs.Residual.{IsRow, IsFlow, IsCertified, ArePotentials, IsResidual, IsResidualFrom, number_at, start_at, start_of, end_of, cost_of};
+ghost use Rattle.shortest_paths.specs.Search.{IsSearch, IsLastSettled, Improves, IsRelaxed, IsRelaxedFrom, AllRelaxed, Settles, visit_at, mark_at, key_at, source_visit, IsFromExcess, IsExhausted, HasFound};
+ghost use Rattle.shortest_paths.specs.Graph.{IsGraphFor};
+ghost use Rattle.shortest_paths.specs.Queue.{IsQueueOf, IsQueueFor, size, first_of};
+ghost use Rattle.shortest_paths.specs.Star.{AllNameOther, AreSpokesRelaxed, IsSpokeRelaxed, NamesOther};
+ghost use Rattle.shortest_paths.specs.Walk.{AreAddedRelaxed, ArePassedRelaxed, AreRowsOf, end_way};
+ghost use Rattle.shortest_paths.specs.declared.residual.Way.{Way};
+ghost use Rattle.shortest_paths.specs.Trail.{IsFresh, IsTrailFor, IsTrailOf};
+ghost use Rattle.shortest_paths.specs.declared.visit.Mark.TheVariants.{Unreached};
+
+use crate::graph::Graph;
+use crate::queue::Queue;
+use crate::residual::Way;
+use crate::star::Spoke;
+use crate::trail::Trail;
+use crate::visit::{Mark, Visit};
+use dimacs_text::ArcRow;
+
+/// The length of the path to the end of a residual arc by way of its start.
+pub fn key_through(row: &ArcRow, way: Way, potentials: &[i64], visits: &[Visit]) -> i64
+    requires row { IsRow (length potentials.now) row.now }
+    requires visits_in { length visits.now ≡ length potentials.now }
+    requires potentials_in { ArePotentials (length potentials.now) potential_floor potentials.now }
+    requires key_low { pos 0 ≤ℤ key_at visits.now (start_of row.now way) }
+    requires key_high { key_at visits.now (start_of row.now way) ≤ℤ pos key_limit }
+    ensures { result ≡ key_at visits.now (start_of row.now way) +ℤ ((cost_of row.now way +ℤ number_at potentials.now (start_of row.now way)) -ℤ number_at potentials.now (end_of row.now way)) }
+{
+    let start = way.start(row) as usize;
+    let end = way.end(row) as usize;
+    visits[start].key + (way.unit_cost(row) + potentials[start] - potentials[end])
+}
+
+/// Whether there is a residual arc from node `u` along arc `k`.
+fn is_residual_from(graph: &Graph, flow: &[i64], u: usize, k: usize, way: Way) -> bool
+    requires flow { (nodes : ℕ) × IsFlow nodes graph.now.rows.items flow.now }
+    requires arc_in { k < length graph.now.rows.items }
+    ensures { IsTrue result ↔ IsResidualFrom graph.now.rows.items flow.now u k way }
+{
+    let row = graph.rows[k];
+    way.start(&row) as usize == u && way.room(&row, flow[k]) > 0
+}
+
+/// Takes a residual arc from the node `u` that was settled last into account at its end.
+fn relax_residual(
+    rows: &[ArcRow],
+    flow: &[i64],
+    potentials: &[i64],
+    visits: &mut [Visit],
+    queue: &mut Queue,
+    u: usize,
+    k: usize,
+    way: Way,
+)
+    requires certified { IsCertified rows.now flow.now potentials.now }
+    requires search { IsSearch rows.now flow.now potentials.now visits.old }
+    requires queue { IsQueueOf visits.old queue.old }
+    requires last { IsLastSettled visits.old u }
+    requires residual { IsResidual rows.now flow.now k way }
+    requires starts { start_at rows.now k way ≡ u }
+    ensures search { IsSearch rows.now flow.now potentials.now visits.new }
+    ensures queue { IsQueueOf visits.new queue.new }
+    ensures improves { Improves visits.old visits.new }
+    ensures relaxed { IsRelaxed rows.now potentials.now visits.new k way }
+{
+    let row = rows[k];
+    let end = way.end(&row) as usize;
+    let key = key_through(&row, way, potentials, visits);
+    if visits[end].takes(key) {
+        let depth = visits[u].depth + 1;
+        queue.improve(
+            visits,
+            end,
+            Visit {
+                mark: Mark::Open,
+                key,
+                depth,
+                arc: k as u32,
+                way,
+            },
+        );
+    }
+}
+
+/// Takes arc `k` into account in this way, where it is a residual arc from the node settled last.
+fn relax(
+    graph: &Graph,
+    flow: &[i64],
+    potentials: &[i64],
+    visits: &mut [Visit],
+    queue: &mut Queue,
+    u: usize,
+    k: usize,
+    way: Way,
+)
+    requires certified { IsCertified graph.now.rows.items flow.now potentials.now }
+    requires search { IsSearch graph.now.rows.items flow.now potentials.now visits.old }
+    requires queue { IsQueueOf visits.old queue.old }
+    requires last { IsLastSettled visits.old u }
+    requires arc_in { k < length graph.now.rows.items }
+    ensures search { IsSearch graph.now.rows.items flow.now potentials.now visits.new }
+    ensures queue { IsQueueOf visits.new queue.new }
+    ensures improves { Improves visits.old visits.new }
+    ensures relaxed { IsResidualFrom graph.now.rows.items flow.now u k way → IsRelaxed graph.now.rows.items potentials.now visits.new k way }
+{
+    if is_residual_from(graph, flow, u, k, way) {
+        relax_residual(&graph.rows, flow, potentials, visits, queue, u, k, way);
+    }
+}
+
+/// Takes arc `k` into account in both ways.
+fn relax_both(
+    graph: &Graph,
+    flow: &[i64],
+    potentials: &[i64],
+    visits: &mut [Visit],
+    queue: &mut Queue,
+    u: usize,
+    k: usize,
+)
+    requires certified { IsCertified graph.now.rows.items flow.now potentials.now }
+    requires search { IsSearch graph.now.rows.items flow.now potentials.now visits.old }
+    requires queue { IsQueueOf visits.old queue.old }
+    requires last { IsLastSettled visits.old u }
+    requires arc_in { k < length graph.now.rows.items }
+    ensures search { IsSearch graph.now.rows.items flow.now potentials.now visits.new }
+    ensures queue { IsQueueOf visits.new queue.new }
+    ensures improves { Improves visits.old visits.new }
+    ensures relaxed { (way : Way) → IsResidualFrom graph.now.rows.items flow.now u k way → IsRelaxed graph.now.rows.items potentials.now visits.new k way }
+{
+    relax(graph, flow, potentials, visits, queue, u, k, Way::Forward);
+    relax(graph, flow, potentials, visits, queue, u, k, Way::Backward);
+}
+
+/// Takes the return arc, which stands in the rows before the arcs of the network, into account in both ways.
+fn relax_return(
+    graph: &Graph,
+    flow: &[i64],
+    potentials: &[i64],
+    visits: &mut [Visit],
+    queue: &mut Queue,
+    u: usize,
+    first_row: usize,
+)
+    requires certified { IsCertified graph.now.rows.items flow.now potentials.now }
+    requires search { IsSearch graph.now.rows.items flow.now potentials.now visits.old }
+    requires queue { IsQueueOf visits.old queue.old }
+    requires last { IsLastSettled visits.old u }
+    requires first_row { first_row ≤ length graph.now.rows.items }
+    ensures search { IsSearch graph.now.rows.items flow.now potentials.now visits.new }
+    ensures queue { IsQueueOf visits.new queue.new }
+    ensures improves { Improves visits.old visits.new }
+    ensures relaxed { 0 < first_row → (way : Way) → IsResidualFrom graph.now.rows.items flow.now u 0 way → IsRelaxed graph.now.rows.items potentials.now visits.new 0 way }
+{
+    if first_row > 0 {
+        relax_both(graph, flow, potentials, visits, queue, u, 0);
+    }
+}
+
+/// Takes each residual arc from the node settled last into account that goes along an arc of the network which the star
+/// does not cover. The network lists these first. Its first arc has row `first_row`.
+fn relax_added(
+    graph: &Graph,
+    flow: &[i64],
+    potentials: &[i64],
+    visits: &mut [Visit],
+    queue: &mut Queue,
+    u: usize,
+    first_row: usize,
+)
+    requires net { AreRowsOf graph.now.net graph.now.rows.items }
+    requires split { first_row + length graph.now.net.arcs ≡ length graph.now.rows.items }
+    requires certified { IsCertified graph.now.rows.items flow.now potentials.now }
+    requires search { IsSearch graph.now.rows.items flow.now potentials.now visits.old }
+    requires queue { IsQueueOf visits.old queue.old }
+    requires last { IsLastSettled visits.old u }
+    ensures search { IsSearch graph.now.rows.items flow.now potentials.now visits.new }
+    ensures queue { IsQueueOf visits.new queue.new }
+    ensures improves { Improves visits.old visits.new }
+    ensures relaxed { AreAddedRelaxed graph.now.rows.items flow.now potentials.now visits.new u graph.now.net.arcs first_row graph.now.star.arcs }
+{
+    let mut current = graph.net.first_end(u as u32);
+    while let Some(end) = current {
+        if end / 2 < graph.star.arcs {
+            return;
+        }
+        // Read before the arc is looked at, so that the walk does not wait for the tests there.
+        let next = graph.net.next_end(end);
+        let k = end as usize / 2 + first_row;
+        relax(
+            graph,
+            flow,
+            potentials,
+            visits,
+            queue,
+            u,
+            k,
+            Way::of_end(end),
+        );
+        current = next;
+    }
+}
+
+/// Takes the residual arc from an end of an arc into account, where the star covers the arc and this is a residual arc from
+/// the node settled last. The first arc of the network has row `first_row`.
+fn relax_spoke(
+    graph: &Graph,
+    spoke: Spoke,
+    flow: &[i64],
+    potentials: &[i64],
+    visits: &mut [Visit],
+    queue: &mut Queue,
+    u: usize,
+    first_row: usize,
+)
+    requires few { first_row + graph.now.star.arcs ≤ length graph.now.rows.items }
+    requires named { spoke.end / 2 < graph.now.star.arcs → NamesOther graph.now.rows.items first_row spoke }
+    requires certified { IsCertified graph.now.rows.items flow.now potentials.now }
+    requires search { IsSearch graph.now.rows.items flow.now potentials.now visits.old }
+    requires queue { IsQueueOf visits.old queue.old }
+    requires last { IsLastSettled visits.old u }
+    ensures search { IsSearch graph.now.rows.items flow.now potentials.now visits.new }
+    ensures queue { IsQueueOf visits.new queue.new }
+    ensures improves { Improves visits.old visits.new }
+    ensures relaxed { spoke.end / 2 < graph.now.star.arcs → IsSpokeRelaxed graph.now.rows.items flow.now potentials.now visits.new u first_row spoke }
+{
+    if spoke.end / 2 >= graph.star.arcs {
+        return;
+    }
+    // No path to a settled node gets better: neither the arc nor its flow is read.
+    if visits[spoke.other as usize].is_settled() {
+        return;
+    }
+    let k = spoke.end as usize / 2 + first_row;
+    relax(
+        graph,
+        flow,
+        potentials,
+        visits,
+        queue,
+        u,
+        k,
+        Way::of_end(spoke.end),
+    );
+}
+
+/// Takes each residual arc from the node settled last into account that goes along an arc which the star covers, and from
+/// one of these ends.
+fn relax_spokes(
+    graph: &Graph,
+    spokes: &[Spoke],
+    flow: &[i64],
+    potentials: &[i64],
+    visits: &mut [Visit],
+    queue: &mut Queue,
+    u: usize,
+    first_row: usize,
+)
+    requires few { first_row + graph.now.star.arcs ≤ length graph.now.rows.items }
+    requires named { AllNameOther graph.now.rows.items first_row graph.now.star.arcs spokes.now }
+    requires certified { IsCertified graph.now.rows.items flow.now potentials.now }
+    requires search { IsSearch graph.now.rows.items flow.now potentials.now visits.old }
+    requires queue { IsQueueOf visits.old queue.old }
+    requires last { IsLastSettled visits.old u }
+    ensures search { IsSearch graph.now.rows.items flow.now potentials.now visits.new }
+    ensures queue { IsQueueOf visits.new queue.new }
+    ensures improves { Improves visits.old visits.new }
+    ensures relaxed { AreSpokesRelaxed graph.now.rows.items flow.now potentials.now visits.new u first_row graph.now.star.arcs spokes.now (length spokes.now) }
+{
+    for spoke in spokes {
+        relax_spoke(graph, *spoke, flow, potentials, visits, queue, u, first_row);
+    }
+}
+
+/// Takes each residual arc from the node settled last into account that goes along an arc of the network. The first
+/// of these has row `first_row`.
+fn relax_ends(
+    graph: &Graph,
+    flow: &[i64],
+    potentials: &[i64],
+    visits: &mut [Visit],
+    queue: &mut Queue,
+    u: usize,
+    first_row: usize,
+)
+    requires graph { IsGraphFor (length potentials.now) graph.now }
+    requires split { first_row + length graph.now.net.arcs ≡ length graph.now.rows.items }
+    requires certified { IsCertified graph.now.rows.items flow.now potentials.now }
+    requires search { IsSearch graph.now.rows.items flow.now potentials.now visits.old }
+    requires queue { IsQueueOf visits.old queue.old }
+    requires last { IsLastSettled visits.old u }
+    ensures search { IsSearch graph.now.rows.items flow.now potentials.now visits.new }
+    ensures queue { IsQueueOf visits.new queue.new }
+    ensures improves { Improves visits.old visits.new }
+    ensures relaxed { ArePassedRelaxed graph.now.rows.items flow.now potentials.now visits.new u graph.now.net.arcs first_row None }
+{
+    relax_added(graph, flow, potentials, visits, queue, u, first_row);
+    relax_spokes(
+        graph,
+        graph.star.spokes_of(u),
+        flow,
+        potentials,
+        visits,
+        queue,
+        u,
+        first_row,
+    );
+}
+
+/// Takes each residual arc from the node settled last into account.
+fn relax_all(
+    graph: &Graph,
+    flow: &[i64],
+    potentials: &[i64],
+    visits: &mut [Visit],
+    queue: &mut Queue,
+    u: usize,
+)
+    requires graph { IsGraphFor (length potentials.now) graph.now }
+    requires certified { IsCertified graph.now.rows.items flow.now potentials.now }
+    requires search { IsSearch graph.now.rows.items flow.now potentials.now visits.old }
+    requires queue { IsQueueOf visits.old queue.old }
+    requires last { IsLastSettled visits.old u }
+    ensures search { IsSearch graph.now.rows.items flow.now potentials.now visits.new }
+    ensures queue { IsQueueOf visits.new queue.new }
+    ensures improves { Improves visits.old visits.new }
+    ensures relaxed { IsRelaxedFrom graph.now.rows.items flow.now potentials.now visits.new u (length graph.now.rows.items) }
+{
+    let first_row = graph.first_row();
+    relax_return(graph, flow, potentials, visits, queue, u, first_row);
+    relax_ends(graph, flow, potentials, visits, queue, u, first_row);
+}
+
+/// Settles the open node of the least key.
+pub fn settle_node(
+    graph: &Graph,
+    flow: &[i64],
+    potentials: &[i64],
+    visits: &mut [Visit],
+    queue: &mut Queue,
+) -> usize
+    requires graph { IsGraphFor (length potentials.now) graph.now }
+    requires certified { IsCertified graph.now.rows.items flow.now potentials.now }
+    requires search { IsSearch graph.now.rows.items flow.now potentials.now visits.old }
+    requires queue { IsQueueOf visits.old queue.old }
+    requires relaxed { AllRelaxed graph.now.rows.items flow.now potentials.now visits.old }
+    requires some { 0 < size queue.old }
+    ensures search { IsSearch graph.now.rows.items flow.now potentials.now visits.new }
+    ensures queue { IsQueueOf visits.new queue.new }
+    ensures relaxed { AllRelaxed graph.now.rows.items flow.now potentials.now visits.new }
+    ensures first { first_of queue.old ≡ result }
+    ensures settles { Settles visits.old visits.new result }
+{
+    let first = queue.settle_first(visits);
+    relax_all(graph, flow, potentials, visits, queue, first);
+    first
+}
+
+/// Opens the nodes in excess.
+fn open_sources(excess: &[i64], visits: &mut [Visit], queue: &mut Queue)
+    requires queue { IsQueueOf visits.old queue.old }
+    requires present { queue.old.present ≡ pos 0 }
+    requires few { length visits.old ≤ entry_limit }
+    requires same_length { length visits.old ≡ length excess.now }
+    requires fresh { IsFresh visits.old }
+    ensures sources { (v : ℕ) → pos 0 <ℤ number_at excess.now v → visit_at visits.new v ≡ source_visit (number_at excess.now v) }
+    ensures others { (v : ℕ) → number_at excess.now v ≤ℤ pos 0 → mark_at visits.new v ≡ Unreached }
+    ensures queue { IsQueueOf visits.new queue.new }
+{
+    for v in 0..visits.len() {
+        if excess[v] > 0 {
+            queue.improve(
+                visits,
+                v,
+                Visit {
+                    mark: Mark::Open,
+                    key: 0,
+                    depth: 0,
+                    arc: 0,
+                    way: Way::Forward,
+                },
+            );
+        }
+    }
+}
+
+/// How many nodes in deficit one search looks for: more than half of them.
+fn wanted_deficits(excess: &[i64]) -> usize
+    ensures { result ≡ count_by (λ e. int_lt e (pos 0)) excess.now / 2 + 1 }
+{
+    excess.iter().filter(|e| **e < 0).count() / 2 + 1
+}
+
+/// Searches from the nodes in excess until enough nodes in deficit are settled, or no node is open, and gives how far
+/// the search has come; nothing where no node in deficit can be reached. The trail lists the settled nodes.
+pub fn find_deficits(
+    graph: &Graph,
+    flow: &[i64],
+    potentials: &[i64],
+    excess: &[i64],
+    visits: &mut [Visit],
+    queue: &mut Queue,
+    trail: &mut Trail,
+) -> Option<i64>
+    requires graph { IsGraphFor (length potentials.now) graph.now }
+    requires certified { IsCertified graph.now.rows.items flow.now potentials.now }
+    requires excess_in { length excess.now ≡ length potentials.now }
+    requires visits_in { length visits.old ≡ length potentials.now }
+    requires fresh { IsFresh visits.old }
+    requires sized { IsQueueFor (length potentials.now) queue.old }
+    requires trail_in { IsTrailFor (length potentials.now) trail.old }
+    ensures search { IsSearch graph.now.rows.items flow.now potentials.now visits.new }
+    ensures relaxed { AllRelaxed graph.now.rows.items flow.now potentials.now visits.new }
+    ensures from_excess { IsFromExcess excess.now visits.new }
+    ensures found { MatchOption result (IsExhausted excess.now visits.new) (HasFound excess.now visits.new) }
+    ensures queue { IsQueueOf visits.new queue.new }
+    ensures trail { IsTrailOf visits.new trail.new }
+{
+    queue.clear(visits);
+    trail.len = 0;
+    open_sources(excess, visits, queue);
+    let wanted = wanted_deficits(excess);
+    let mut found = 0;
+    let mut reach = 0;
+    while let Some(u) = queue.first(visits) {
+        let _settled = settle_node(graph, flow, potentials, visits, queue);
+        trail.note(u);
+        reach = visits[u].key;
+        if excess[u] < 0 {
+            found += 1;
+            if found == wanted {
+                return Some(reach);
+            }
+        }
+    }
+    if found > 0 { Some(reach) } else { None }
+}
