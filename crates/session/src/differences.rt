@@ -6,20 +6,20 @@ ghost use Rattle.flow_solver.specs.Desk.{NameChanges};
 ghost use Rattle.flow_solver.specs.Touched.{AgreeAt};
 ghost use Rattle.session.specs.Places.{AreFound, DifferAt};
 
-use std::alloc::{AllocError, Global};
+use std::alloc::{AllocError, Allocator};
 
 /// The numbers, counted from 1 and rising, at which the lists differ, with the old values. The indices name them all, and
 /// maybe others, each once; that of the lists' first values is `first`.
 ///
 /// # Errors
 /// Memory for a list was refused. Each list takes its memory at once.
-pub(crate) fn differences<T: Copy + PartialEq>(
-    alloc: Global,
+pub(crate) fn differences<T: Copy + PartialEq, A: Allocator + Copy>(
+    alloc: A,
     indices: &[u32],
     first: usize,
     old: &[T],
     new: &[T],
-) -> Result<Vec<(u32, T)>, AllocError>
+) -> Result<Vec<(u32, T), A>, AllocError>
     requires exact { (x y : T) → Decides (T.eq x y) (x ≡ y) }
     requires small { length old.now + 1 < 2 ^ 32 }
     requires fewer { length old.now ≤ length new.now }
@@ -37,13 +37,13 @@ pub(crate) fn differences<T: Copy + PartialEq>(
 }
 
 /// The numbers, each once and in no order, of those indices at which the lists differ.
-fn differing<T: Copy + PartialEq>(
-    alloc: Global,
+fn differing<T: Copy + PartialEq, A: Allocator>(
+    alloc: A,
     indices: &[u32],
     first: usize,
     old: &[T],
     new: &[T],
-) -> Result<Vec<u32>, AllocError>
+) -> Result<Vec<u32, A>, AllocError>
     requires exact { (x y : T) → Decides (T.eq x y) (x ≡ y) }
     requires small { length old.now + 1 < 2 ^ 32 }
     requires fewer { length old.now ≤ length new.now }

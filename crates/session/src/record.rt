@@ -16,25 +16,25 @@ use crate::swaps::{swap_flows, swap_marks, swap_part, swap_potentials};
 use dimacs_text::Edit;
 use flow_solver::{Tables, Verdict};
 use history::Change;
-use std::alloc::{AllocError, Global};
+use std::alloc::{AllocError, Allocator, Global};
 use std::marker::Model;
 
 /// What differs between two moments, with the values of the one farther from the present.
 #[derive(Debug, Drop)]
-pub struct Record {
+pub struct Record<A: Allocator = Global> {
     /// One place, with the value of the moment farther from the present, outside which the instances are equal.
     pub part: Part,
     /// The arcs of both moments whose flow differs, in rising order, each with its flow.
-    pub flows: Vec<(u32, i64)>,
+    pub flows: Vec<(u32, i64), A>,
     /// The nodes whose potential differs, in rising order, each with its potential.
-    pub potentials: Vec<(u32, i64)>,
+    pub potentials: Vec<(u32, i64), A>,
     /// The nodes that are in one cut alone, in rising order, each with its mark.
-    pub marks: Vec<(u32, bool)>,
+    pub marks: Vec<(u32, bool), A>,
     /// The verdict of the other moment.
     pub verdict: Verdict,
 }
 
-impl Model for Record {
+impl<A: Allocator> Model for Record<A> {
     ghost use Rattle.session.specs.Record.{Recorded};
 
     ghost Value = { Recorded };
@@ -42,16 +42,12 @@ impl Model for Record {
     ghost view = { λ r. record { part = r.part; flows = r.flows.items; potentials = r.potentials.items; marks = r.marks.items; verdict = r.verdict } };
 }
 
-impl Record {
+impl<A: Allocator + Copy> Record<A> {
     /// What the last change of the tables changed, which was that of the edit.
     ///
     /// # Errors
     /// Memory for a list was refused.
-    pub(crate) fn of_last_change(
-        alloc: Global,
-        edit: &Edit,
-        tables: &Tables,
-    ) -> Result<Self, AllocError>
+    pub(crate) fn of_last_change(alloc: A, edit: &Edit, tables: &Tables) -> Result<Self, AllocError>
         requires before { IsSome tables.now.before }
         requires change { IsAcceptedEdit edit.now (old_moment tables.now) tables.now.moment }
         ensures place { IfOk result (λ r. place_of r ≡ place_of_edit edit.now) }
@@ -147,7 +143,7 @@ fn old_supply(node: u64, tables: &Tables) -> Part
     }
 }
 
-impl Change for Record {
+impl<A: Allocator> Change for Record<A> {
     ghost use Rattle.flow_solver.specs.Moment.{Moment};
     ghost use Rattle.session.specs.Record.{RecordFits, swapped, turned};
     ghost use Rattle.session.specs.RecordLaws.{fits_again, change_again, board_again};

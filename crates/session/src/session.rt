@@ -17,18 +17,20 @@ use dimacs_text::{Edit, Problem};
 use flow_solver::{Tables, Verdict};
 use history::History;
 use network::{Network, build};
-use std::alloc::{AllocError, Global};
+use std::alloc::{AllocError, Allocator, Global};
 use std::marker::Model;
 
 /// Past moments, the present one and future ones, each a network with an answer to it.
+///
+/// Its tables take all their memory when it is opened. What a step keeps takes its memory from `A`.
 #[derive(Drop)]
-pub struct Session {
+pub struct Session<A: Allocator + Copy = Global> {
     tables: Tables,
-    history: History<Record>,
-    alloc: Global,
+    history: History<Record<A>, A>,
+    alloc: A,
 }
 
-impl Model for Session {
+impl<A: Allocator + Copy> Model for Session<A> {
     ghost use Rattle.session.specs.Session.{Stack, stack_of, IsKept};
 
     ghost Value = { Stack };
@@ -50,12 +52,33 @@ impl Session {
         ensures instance { IfOk result (λ s. s.moments.present.instance ≡ first problem.now extra) }
         ensures answered { IfOk result (λ s. IsAnswered s.moments.present) }
     {
+        Session::open_in(alloc, alloc, problem, extra)
+    }
+}
+
+impl<A: Allocator + Copy> Session<A> {
+    /// Opens a session as `open` does, whose steps take their memory from `steps`.
+    ///
+    /// # Errors
+    /// Memory for the tables was refused.
+    pub fn open_in(
+        alloc: Global,
+        steps: A,
+        problem: &Problem,
+        extra: u32,
+    ) -> Result<Self, AllocError>
+        ensures past { IfOk result (λ s. s.moments.past ≡ []) }
+        ensures future { IfOk result (λ s. s.moments.future ≡ []) }
+        ensures records { IfOk result (λ s. s.records ≡ []) }
+        ensures instance { IfOk result (λ s. s.moments.present.instance ≡ first problem.now extra) }
+        ensures answered { IfOk result (λ s. IsAnswered s.moments.present) }
+    {
         let mut tables = Tables::new(alloc, build(alloc, problem, extra)?)?;
         tables.settle();
         Ok(Session {
             tables,
-            history: History::new(alloc),
-            alloc,
+            history: History::new(steps),
+            alloc: steps,
         })
     }
 
@@ -67,7 +90,7 @@ impl Session {
     pub fn apply(&mut self, edit: &Edit) -> Result<u64, Refusal>
         ensures edited { OnOk result (IsEdited edit.now self.old.moments.present self.new.moments.present) }
         ensures advances { OnOk result (Advances self.old.moments self.new.moments) }
-        ensures records { OnOk result ((r : Record) × (self.new.records ≡ take (length self.old.moments.past) self.old.records ++ r ∷ []) × (place_of r ≡ place_of_edit edit.now)) }
+        ensures records { OnOk result ((r : Record A) × (self.new.records ≡ take (length self.old.moments.past) self.old.records ++ r ∷ []) × (place_of r ≡ place_of_edit edit.now)) }
         ensures cause { (number : ℕ) → (result ≡ Err (Refusal.Cause number)) ↔ (edited self.old.moments.present.instance edit.now ≡ Err number) }
         ensures pushes { IfOk result (λ n. IsChange self.old.moments.present.instance self.new.moments.present.instance edit.now self.old.moments.present.flow self.new.moments.present.flow n) }
         ensures refused { OnErr result (self.new ≡ self.old) }
@@ -159,7 +182,7 @@ impl Session {
 
     /// The record between moment i and the next, counted from 0 at the opening, with the values of the one farther from the
     /// present; none from the number of steps on.
-    pub fn moved(&self, i: usize) -> Option<&Record>
+    pub fn moved(&self, i: usize) -> Option<&Record<A>>
         ensures there { IsNone result ↔ (length self.now.moments.past + length self.now.moments.future ≤ i) }
         ensures record { option_copied result ≡ slice_get self.now.records i }
         ensures past { i < length self.now.moments.past → IfSome result (λ r. IsRecord r.now (moment_at self.now (i + 1)) (moment_at self.now i)) }

@@ -7,7 +7,7 @@ use Rattle.session.proofs.Swapping.{tells_third, fits_third, lawful_fourth, one_
 use Rattle.session.proofs.record.RecordChange.swap.Goals as goal
 
 pub swap_verdict-requires-clause-fits : goal.swap_verdict-requires-clause-fits
-swap_verdict-requires-clause-fits c =
+swap_verdict-requires-clause-fits g c =
     let r : Recorded = record { part = c.self.inside.part; flows = c.self.inside.flows.items; potentials = c.self.inside.potentials.items; marks = c.self.inside.marks.items; verdict = c.self.inside.verdict } in
     let m : Moment = c.args.tables.now.moment in
     let fits = subst (λ (q : Recorded). RecordFits q m) (sym c.self.view_is) c.requires in
@@ -17,7 +17,7 @@ swap_verdict-requires-clause-fits c =
     fits_third r m fits c.swap_flows.new.tables.moment c.swap_potentials.new.tables.moment c.swap_marks.new.tables.moment flows potentials marks
 
 pub swap_verdict-requires-clause-worth : goal.swap_verdict-requires-clause-worth
-swap_verdict-requires-clause-worth c =
+swap_verdict-requires-clause-worth g c =
     let r : Recorded = record { part = c.self.inside.part; flows = c.self.inside.flows.items; potentials = c.self.inside.potentials.items; marks = c.self.inside.marks.items; verdict = c.self.inside.verdict } in
     let m : Moment = c.args.tables.now.moment in
     let fits = subst (λ (q : Recorded). RecordFits q m) (sym c.self.view_is) c.requires in
@@ -27,7 +27,7 @@ swap_verdict-requires-clause-worth c =
     tells_third r m fits c.swap_flows.new.tables.moment c.swap_potentials.new.tables.moment c.swap_marks.new.tables.moment flows potentials marks
 
 pub swap_part-self-inside-requires-clause-lawful : goal.swap_part-self-inside-requires-clause-lawful
-swap_part-self-inside-requires-clause-lawful c =
+swap_part-self-inside-requires-clause-lawful g c =
     let r : Recorded = record { part = c.self.inside.part; flows = c.self.inside.flows.items; potentials = c.self.inside.potentials.items; marks = c.self.inside.marks.items; verdict = c.self.inside.verdict } in
     let m : Moment = c.args.tables.now.moment in
     let fits = subst (λ (q : Recorded). RecordFits q m) (sym c.self.view_is) c.requires in
@@ -37,7 +37,7 @@ swap_part-self-inside-requires-clause-lawful c =
     lawful_fourth r m fits c.swap_flows.new.tables.moment c.swap_potentials.new.tables.moment c.swap_marks.new.tables.moment flows potentials marks c.swap_verdict.new.self.moment c.swap_verdict.ensures.moment
 
 pub swap_part-self-inside-requires-clause-one_an_arc : goal.swap_part-self-inside-requires-clause-one_an_arc
-swap_part-self-inside-requires-clause-one_an_arc c =
+swap_part-self-inside-requires-clause-one_an_arc g c =
     let r : Recorded = record { part = c.self.inside.part; flows = c.self.inside.flows.items; potentials = c.self.inside.potentials.items; marks = c.self.inside.marks.items; verdict = c.self.inside.verdict } in
     let m : Moment = c.args.tables.now.moment in
     let fits = subst (λ (q : Recorded). RecordFits q m) (sym c.self.view_is) c.requires in
@@ -47,7 +47,7 @@ swap_part-self-inside-requires-clause-one_an_arc c =
     one_an_arc_fourth r m fits c.swap_flows.new.tables.moment c.swap_potentials.new.tables.moment c.swap_marks.new.tables.moment flows potentials marks c.swap_verdict.new.self.moment c.swap_verdict.ensures.moment
 
 pub swap_part-self-inside-requires-clause-part : goal.swap_part-self-inside-requires-clause-part
-swap_part-self-inside-requires-clause-part c =
+swap_part-self-inside-requires-clause-part g c =
     let r : Recorded = record { part = c.self.inside.part; flows = c.self.inside.flows.items; potentials = c.self.inside.potentials.items; marks = c.self.inside.marks.items; verdict = c.self.inside.verdict } in
     let m : Moment = c.args.tables.now.moment in
     let fits = subst (λ (q : Recorded). RecordFits q m) (sym c.self.view_is) c.requires in
@@ -58,7 +58,7 @@ swap_part-self-inside-requires-clause-part c =
 
 -- each list and the part are left with what the moment had
 pub returns-clause-change : goal.returns-clause-change
-returns-clause-change c =
+returns-clause-change g c =
     let r : Recorded = record { part = c.self.inside.part; flows = c.self.inside.flows.items; potentials = c.self.inside.potentials.items; marks = c.self.inside.marks.items; verdict = c.self.inside.verdict } in
     let m : Moment = c.args.tables.now.moment in
     let fits = subst (λ (q : Recorded). RecordFits q m) (sym c.self.view_is) c.requires in
@@ -77,7 +77,7 @@ returns-clause-change c =
     ∙ ap (λ (q : Recorded). turned q m) c.self.view_is
 
 pub returns-clause-board : goal.returns-clause-board
-returns-clause-board c =
+returns-clause-board g c =
     let r : Recorded = record { part = c.self.inside.part; flows = c.self.inside.flows.items; potentials = c.self.inside.potentials.items; marks = c.self.inside.marks.items; verdict = c.self.inside.verdict } in
     let m : Moment = c.args.tables.now.moment in
     let fits = subst (λ (q : Recorded). RecordFits q m) (sym c.self.view_is) c.requires in

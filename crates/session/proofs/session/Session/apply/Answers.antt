@@ -9,16 +9,16 @@ use Rattle.session.proofs.Keeping.{kept_push, kept_same, present_answered}
 use Rattle.session.proofs.session.Session.apply.Goals as goal
 
 pub change-pushes-requires-clause-certified : goal.change-pushes-requires-clause-certified
-change-pushes-requires-clause-certified c = (present_answered c.self.inside.history c.self.inside.tables.moment c.self.invariant).certified
+change-pushes-requires-clause-certified g c = (present_answered c.self.inside.history c.self.inside.tables.moment c.self.invariant).certified
 
 pub of_last_change-requires-clause-change : goal.of_last_change-requires-clause-change
-of_last_change-requires-clause-change c =
+of_last_change-requires-clause-change g c =
     let did = c.change-pushes.ensures in
     change_is c.change-pushes.new.self c.self.inside.tables.moment c.args.edit.now did.before (present_answered c.self.inside.history c.self.inside.tables.moment c.self.invariant) did.instance did.answered
 
 -- the new moment and its record are kept
 pub invariant_of-self-in-Ok : goal.invariant_of-self-in-Ok
-invariant_of-self-in-Ok c =
+invariant_of-self-in-Ok g c =
     let m : Moment = c.self.inside.tables.moment in
     let d : Moment = c.change-pushes.new.self.moment in
     let did = c.change-pushes.ensures in
@@ -29,7 +29,7 @@ invariant_of-self-in-Ok c =
 
 -- the records of the past stay, and the new one is the last
 pub returns-in-Ok-clause-records : goal.returns-in-Ok-clause-records
-returns-in-Ok-clause-records c =
+returns-in-Ok-clause-records g c =
     let h = c.self.inside.history in
     let r = c.in-Ok.record in
     let past = c.push.ensures.past ∙ ap (λ (rs : List Recorded). rs ++ r ∷ []) c.reserve_one.ensures.past in
