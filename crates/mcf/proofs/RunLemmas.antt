@@ -181,10 +181,9 @@ Answered-none first last given before now none done =
 -- ---- what a call leaves, by its result
 
 pub Stopped-from_err : {E : Type 0} (r : Result (Unit {0}) E) (first : Moments) (given : List ℕ) (present : Moments) (cut : Cut) (before now : Option (List ℕ)) → is_err r ≡ true
-    → GoesOn r first given present cut before now → Stopped first (lines_of given) before now
+    → GoesOn r first given present cut before now → Stopped first (parts_of given).ended before now
 Stopped-from_err (Ok v) first given present cut before now failed goes = absurd (false≢true failed)
-Stopped-from_err (Err e) first given present cut before now failed goes =
-    Stopped-longer first (parts_of given).ended (lines_of given) before now (last_line (parts_of given).rest, refl) goes
+Stopped-from_err (Err e) first given present cut before now failed goes = goes
 
 pub Stands-from_ok : {E : Type 0} (r : Result (Unit {0}) E) (first : Moments) (given : List ℕ) (present : Moments) (cut : Cut) (before now : Option (List ℕ)) → is_err r ≡ false
     → GoesOn r first given present cut before now → Stands first given present cut before now

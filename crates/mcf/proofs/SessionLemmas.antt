@@ -19,9 +19,9 @@ use Rattle.mcf.specs.Check.{IsProblemText, write_failures, problem_failures}
 use Rattle.mcf.specs.Printing.{outcome_line}
 use Rattle.mcf.specs.Reading.{Gives, ReadsText, end_of}
 use Rattle.mcf.specs.Run.{Answers}
-use Rattle.mcf.specs.Serving.{CommandsEnd, CommandsFail}
+use Rattle.mcf.specs.Serving.{CommandsEnd, CommandsFail, Stopped}
 use Rattle.mcf.specs.Session.{Opens, PrintsBeginning, PrintsRun, SessionTells, SessionWrites, command_failures}
-use Rattle.mcf.proofs.SourceLemmas.{text_at_end, text_given, problem_text, reads_decided, appended}
+use Rattle.mcf.proofs.SourceLemmas.{all_given, text_at_end, text_given, problem_text, reads_decided, appended}
 
 -- ---- the problem was not read
 
@@ -65,15 +65,15 @@ SessionTells-opening problem extra opening (Some text) rest given left_old left_
 SessionTells-opening problem extra opening (Some text) rest given left_old left_new (Some commands) count None after gives end is opens part = tt
 SessionTells-opening problem extra opening (Some text) rest given left_old left_new (Some commands) count (Some held) after gives end is opens part =
     let line = outcome_line opening.present.verdict in
-    let begins : PrintsBeginning problem extra (lines_of (take count commands)) part.0 =
+    let begins : PrintsBeginning problem extra (parts_of (take count commands)).ended part.0 =
     record {
       front = [];
-      begins = (lines_of (take count commands), refl);
+      begins = ((parts_of (take count commands)).ended, refl);
       whole = line ++ [];
       prints = prints_opening problem extra opening opens;
       part = (part.1.0, append-nil line ∙ part.1.1);
     } in
-    (part.0, appended held part.0 after part.2, (problem, problem_text text given rest left_old left_new problem gives end is, begins))
+    (part.0, appended held part.0 after part.2, (problem, problem_text text given rest left_old left_new problem gives end is, inl begins))
 
 -- ---- the commands came to their end, or to a failed call
 
@@ -87,6 +87,22 @@ prints_run problem extra opening last lines replies opens answers = record {
   answers = answers;
   written_is = refl;
 }
+
+-- replies were written up to a failed call
+prints_stopped : (extra : ℕ) (problem : ProblemValue) (opening : Timeline Moment) (lines : List Line) (held : List ℕ) (mid after : Option (List ℕ)) → Opens problem extra opening
+    → Appends (Some held) mid (outcome_line opening.present.verdict) → Stopped opening lines mid after
+    → (written : List ℕ) × (after ≡ Some (held ++ written)) × PrintsBeginning problem extra lines written
+prints_stopped extra problem opening lines held mid after opens line stop =
+    let part = AppendsBeginning-after (Some held) mid after (outcome_line opening.present.verdict) stop.whole line stop.appends in
+    let begins : PrintsBeginning problem extra lines part.0 =
+    record {
+      front = stop.front;
+      begins = stop.begins;
+      whole = outcome_line opening.present.verdict ++ stop.whole;
+      prints = prints_run problem extra opening stop.last stop.front stop.whole opens stop.answers;
+      part = part.1;
+    } in
+    (part.0, appended held part.0 after part.2, begins)
 
 -- at known devices
 commands_end : (end : End) (extra : ℕ) (problem : ProblemValue) (opening : Timeline Moment) (text problem_given commands given held : List ℕ) (rest : Option (List ℕ)) (left_old left_new : ℕ) (mid after : Option (List ℕ))
@@ -117,18 +133,14 @@ commands_end (ReadFailed the.Commands) extra problem opening text problem_given 
       appended held _ after all,
       (problem, is, rw came (prints_run problem extra opening ends.0 (parts_of given).ended answered.written opens answered.answers)),
     )
-commands_end WriteFailed extra problem opening text problem_given commands given held rest left_old left_new mid after is opens gives line ends =
+commands_end WriteFailed extra problem opening text problem_given commands given held rest left_old left_new mid after is opens gives line (inl stop) =
+    let begins = prints_stopped extra problem opening (parts_of given).ended held mid after opens line stop in
     let came = text_given commands given rest left_old left_new gives in
-    let part = AppendsBeginning-after (Some held) mid after (outcome_line opening.present.verdict) ends.whole line ends.appends in
-    let begins : PrintsBeginning problem extra (lines_of given) part.0 =
-    record {
-      front = ends.front;
-      begins = ends.begins;
-      whole = outcome_line opening.present.verdict ++ ends.whole;
-      prints = prints_run problem extra opening ends.last ends.front ends.whole opens ends.answers;
-      part = part.1;
-    } in
-    (part.0, appended held part.0 after part.2, (problem, is, rw came begins))
+    (begins.0, begins.1, (problem, is, inl (rw came begins.2)))
+commands_end WriteFailed extra problem opening text problem_given commands given held rest left_old left_new mid after is opens gives line (inr ends) =
+    let begins = prints_stopped extra problem opening (lines_of given) held mid after opens line ends.1 in
+    let whole = text_at_end commands given rest gives.bytes ends.0 in
+    (begins.0, begins.1, (problem, is, inr (all_given commands given rest left_old left_new gives ends.0, rw whole begins.2)))
 
 pub SessionTells-commands : (end : End) (extra : ℕ) (problem : ProblemValue) (opening : Timeline Moment) (known problem_rest : Option (List ℕ)) (problem_given : List ℕ) (problem_old problem_new : ℕ)
     (commands rest : Option (List ℕ)) (given : List ℕ) (left_old left_new : ℕ) (before mid after : Option (List ℕ))

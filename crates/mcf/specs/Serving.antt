@@ -1,5 +1,5 @@
 -- What a session has done at each of its calls, over what has come so far of its commands.
-use Rattle.std.specs.Prelude.{◌≡◌, ℕ, ◌+◌, List, [], Option, Result, MatchResult, MatchBool}
+use Rattle.std.specs.Prelude.{◌≡◌, ℕ, ◌+◌, List, [], ◌⊎◌, Option, Result, MatchResult, MatchBool}
 use Rattle.std.specs.Io.KnownBytes.{Appends, IsAtEnd}
 use Rattle.dimacs_io.specs.Device.{IsBeginning, AppendsBeginning, WritesUpTo}
 use Rattle.dimacs_text.specs.Cut.{Cut, HoldsRest}
@@ -71,7 +71,8 @@ Finishes result opening given present before now =
 abbrev pub CommandsEnd : End → Timeline Moment → List ℕ → Option (List ℕ) → Option (List ℕ) → Option (List ℕ) → Type 0
 CommandsEnd Ended opening given rest before now = IsAtEnd rest × (last : Timeline Moment) × Answered opening (lines_of given) last before now
 CommandsEnd (ReadFailed the.Commands) opening given rest before now = (last : Timeline Moment) × Answered opening (parts_of given).ended last before now
-CommandsEnd WriteFailed opening given rest before now = Stopped opening (lines_of given) before now
+CommandsEnd WriteFailed opening given rest before now =
+    Stopped opening (parts_of given).ended before now ⊎ (IsAtEnd rest × Stopped opening (lines_of given) before now)
 CommandsEnd _ opening given rest before now = ⊥
 
 -- which device failed, by how the commands end

@@ -1,5 +1,5 @@
 -- What a session writes.
-use Rattle.std.specs.Prelude.{◌≡◌, ℕ, List, [], ◌++◌, take, Option, None, Some, Err, IfSome}
+use Rattle.std.specs.Prelude.{◌≡◌, ℕ, List, [], ◌++◌, take, ◌⊎◌, Option, None, Some, Err, IfSome}
 use Rattle.dimacs_io.specs.Device.{IsBeginning}
 use Rattle.dimacs_text.specs.declared.fault.TextFault.TheVariants.{Fault}
 use Rattle.dimacs_text.specs.Lines.{Line, parts_of, lines_of}
@@ -39,6 +39,11 @@ pub record PrintsBeginning (problem : ProblemValue) (extra : ℕ) (lines : List 
   pub prints : PrintsRun problem extra front whole
   pub part : IsBeginning written whole
 
+-- a beginning of the printing of a run over the lines that were ended, or over all lines where the whole command text was given
+abbrev pub PrintsPart : ProblemValue → ℕ → List ℕ → List ℕ → List ℕ → Type 0
+PrintsPart problem extra commands given written =
+    PrintsBeginning problem extra (parts_of given).ended written ⊎ ((given ≡ commands) × PrintsBeginning problem extra (lines_of commands) written)
+
 -- what was written, by how the session ends, over a problem text, a command text, and the first bytes of each that were given
 abbrev pub SessionWrites : End → ℕ → List ℕ → List ℕ → List ℕ → List ℕ → List ℕ → Type 0
 SessionWrites Ended extra problem_text problem_given commands given written =
@@ -46,7 +51,7 @@ SessionWrites Ended extra problem_text problem_given commands given written =
 SessionWrites (ReadFailed the.Commands) extra problem_text problem_given commands given written =
     (problem : ProblemValue) × IsProblemText problem_text problem_given problem × PrintsRun problem extra (parts_of given).ended written
 SessionWrites WriteFailed extra problem_text problem_given commands given written =
-    (problem : ProblemValue) × IsProblemText problem_text problem_given problem × PrintsBeginning problem extra (lines_of given) written
+    (problem : ProblemValue) × IsProblemText problem_text problem_given problem × PrintsPart problem extra commands given written
 SessionWrites (Refused the.Problem number line) extra problem_text problem_given commands given written = (reads problem_text ≡ Err (Fault number line)) × (written ≡ [])
 SessionWrites (ReadFailed the.Problem) extra problem_text problem_given commands given written = (decided problem_rule problem_given ≡ None) × (written ≡ [])
 SessionWrites Memory extra problem_text problem_given commands given written = written ≡ []

@@ -14,15 +14,15 @@ proof_rule = record (new_rule (codes "proof")) { long = Some (codes "proof"); ac
 
 -- `--extra N`, with N up to 100,000
 abbrev pub extra_rule : Rule
-extra_rule = record (new_rule (codes "extra")) { long = Some (codes "extra"); action = Some Set; parser = Some (parser.Signed (pos 0) (pos 100000)) }
+extra_rule = record (new_rule (codes "extra")) { long = Some (codes "extra"); value_names = 1; action = Some Set; parser = Some (parser.Signed (pos 0) (pos 100000)) }
 
 -- a file that may be left out
 abbrev pub file_rule : Rule
-file_rule = record (new_rule (codes "file")) { action = Some Set }
+file_rule = record (new_rule (codes "file")) { value_names = 1; action = Some Set }
 
 -- a file that has to be named
 abbrev pub needed_rule : Text → Rule
-needed_rule id = record (new_rule id) { action = Some Set; required = true }
+needed_rule id = record (new_rule id) { value_names = 1; action = Some Set; required = true }
 
 -- `solve [--proof] [FILE]`
 abbrev pub solve_command : App
@@ -36,9 +36,13 @@ session_command = with_rule (with_rule (new_app (codes "session")) extra_rule) (
 abbrev pub check_command : App
 check_command = with_rule (with_rule (new_app (codes "check")) (needed_rule (codes "problem"))) (needed_rule (codes "answer"))
 
--- `mcf` with its commands, one of which has to be named
+-- `mcf`, which has a version and asks for a command
+abbrev pub named : App
+named = on_top (λ top. record top { has_version = true; subcommand_required = true }) (new_app (codes "mcf"))
+
+-- `mcf` with its commands
 abbrev pub program : App
-program = with_subcommand (with_subcommand (with_subcommand (on_top (λ top. record top { subcommand_required = true }) (new_app (codes "mcf"))) solve_command.top) session_command.top) check_command.top
+program = with_subcommand (with_subcommand (with_subcommand named solve_command.top) session_command.top) check_command.top
 
 -- the number that a text says, and 1,000 where there is none
 abbrev pub IsExtra : Option Text → ℕ → Type 0

@@ -119,7 +119,11 @@ fn names_ends(arc: &ArcRow, line: &FlowLine) -> bool
 fn flow_of_lines(alloc: Global, lines: &[FlowLine]) -> Result<Vec<i64>, AllocError>
     ensures { IfOk result (λ flow. flow.items ≡ flow_of_lines lines.now) }
 {
-    lines.iter().map(|line| line.flow).collect(alloc)
+    let mut flow = Vec::with_capacity(alloc, lines.len())?;
+    for line in lines {
+        flow.push(line.flow)?;
+    }
+    Ok(flow)
 }
 
 /// One mark a node, set where the node is listed.

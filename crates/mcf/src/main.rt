@@ -1,13 +1,21 @@
 //! The program `mcf`: solves flow problems in the DIMACS formats, runs sessions of edits on them, and checks answers.
 #![tactic(auto)]
 
-ghost use Rattle.std.specs.Prelude.{◌<◌, ◌-◌, ◌^◌};
+ghost use Rattle.std.specs.Prelude.{◌≡◌, ◌<◌, ◌-◌, ◌^◌, ◌⊎◌, ◌<ℤ◌, IfOk, IsTrue, pos};
+ghost use Rattle.std.specs.Fd.{file_raw_fd};
+ghost use Rattle.mcf.specs.declared.end.End.TheVariants as end;
+ghost use Rattle.mcf.specs.End.{status_of};
 
 mod check;
 mod command_line;
 mod commands;
+#[cfg(test)]
+mod device_tests;
 mod end;
+mod help;
 mod interaction;
+#[cfg(test)]
+mod large_tests;
 mod parse;
 mod read;
 mod reply;
@@ -28,11 +36,14 @@ use parse::task;
 use solve::solve;
 use std::fs::File;
 use std::io::BufWriter;
+use std::os::fd::AsRawFd;
 use std::process::ExitCode;
 use std::{env, io};
 
 /// The exit status of a command line that names no task.
 const USAGE_STATUS: u8 = 2;
+/// The descriptor of the standard error, the last of the standard streams.
+const STANDARD_ERROR: i32 = 2;
 
 fn main(rt: HostRuntime) -> ExitCode {
     ExitCode::from(run(&rt))
@@ -40,7 +51,7 @@ fn main(rt: HostRuntime) -> ExitCode {
 
 /// Does what the command line asks for, and answers the exit status.
 fn run(rt: &HostRuntime) -> u8 {
-    let words: Vec<String> = match env::args(rt).and_then(|words| Ok(words.collect(rt.alloc())?)) {
+    let words = match words(rt) {
         Ok(words) => words,
         Err(error) => return refuse_words(rt, &error),
     };
@@ -48,6 +59,14 @@ fn run(rt: &HostRuntime) -> u8 {
         Ok(task) => tell(rt, perform(rt, task)),
         Err(usage) => tell_usage(rt, &usage),
     }
+}
+
+/// The words of the command line, the program's own name first.
+fn words(rt: &HostRuntime) -> io::Result<Vec<String>> {
+    let given = env::args(rt)?;
+    let mut words = Vec::with_capacity(rt.alloc(), given.len())?;
+    words.extend(given)?;
+    Ok(words)
 }
 
 /// Performs a task, with the standard output behind a buffer.
@@ -73,7 +92,7 @@ fn solve_file<O: Sink>(rt: &HostRuntime, file: Option<&str>, proof: bool, out: &
 {
     match file {
         None => solve(rt.alloc(), &mut ReadSource::new(rt.stdin()), out, proof),
-        Some(path) => match File::open(rt, path) {
+        Some(path) => match open(rt, path) {
             Ok(file) => solve(rt.alloc(), &mut ReadSource::new(file), out, proof),
             Err(error) => not_opened(&error, Text::Problem),
         },
@@ -84,7 +103,7 @@ fn solve_file<O: Sink>(rt: &HostRuntime, file: Option<&str>, proof: bool, out: &
 fn run_session_on<O: Sink>(rt: &HostRuntime, problem: &str, extra: u32, out: &mut O) -> End
     requires { O.failures out.old < 2 ^ 64 - 1 }
 {
-    match File::open(rt, problem) {
+    match open(rt, problem) {
         Ok(file) => run_session(
             rt.alloc(),
             &mut ReadSource::new(file),
@@ -100,11 +119,11 @@ fn run_session_on<O: Sink>(rt: &HostRuntime, problem: &str, extra: u32, out: &mu
 fn check_files<O: Sink>(rt: &HostRuntime, problem: &str, answer: &str, out: &mut O) -> End
     requires { O.failures out.old < 2 ^ 64 - 1 }
 {
-    let problem = match File::open(rt, problem) {
+    let problem = match open(rt, problem) {
         Ok(file) => file,
         Err(error) => return not_opened(&error, Text::Problem),
     };
-    let answer = match File::open(rt, answer) {
+    let answer = match open(rt, answer) {
         Ok(file) => file,
         Err(error) => return not_opened(&error, Text::Answer),
     };
@@ -116,8 +135,36 @@ fn check_files<O: Sink>(rt: &HostRuntime, problem: &str, answer: &str, out: &mut
     )
 }
 
+/// Opens a file for reading, at a descriptor above those of the standard streams.
+///
+/// Where a standard stream is closed, the system gives its descriptor to the next file that is opened. The file leaves
+/// it here, so that each call on the stream fails, and none reaches the file.
+fn open(rt: &HostRuntime, path: &str) -> io::Result<File>
+    ensures { IfOk result (λ file. pos 2 <ℤ file_raw_fd file) }
+{
+    let file = File::open(rt, path)?;
+    if is_apart(&file) {
+        return Ok(file);
+    }
+    let copy = file.try_clone()?;
+    if is_apart(&copy) {
+        Ok(copy)
+    } else {
+        Err(io::Error::from(io::ErrorKind::Other))
+    }
+}
+
+/// Whether a file's descriptor is above those of the standard streams.
+fn is_apart(file: &File) -> bool
+    ensures { IsTrue result → pos 2 <ℤ file_raw_fd file.now }
+{
+    file.as_raw_fd() > STANDARD_ERROR
+}
+
 /// A file that is not opened is told as a failed read of it.
-fn not_opened(error: &io::Error, text: Text) -> End {
+fn not_opened(error: &io::Error, text: Text) -> End
+    ensures { (result ≡ end.Memory) ⊎ (result ≡ end.ReadFailed text) }
+{
     match error.kind() {
         io::ErrorKind::OutOfMemory => End::Memory,
         _ => End::ReadFailed(text),
@@ -125,7 +172,9 @@ fn not_opened(error: &io::Error, text: Text) -> End {
 }
 
 /// Tells on the standard error how the run ended, and answers its status, whether or not the line was written.
-fn tell(rt: &HostRuntime, end: End) -> u8 {
+fn tell(rt: &HostRuntime, end: End) -> u8
+    ensures { result ≡ status_of end }
+{
     let _ = end.tell(&mut WriteSink::new(rt.stderr()));
     end.status()
 }
@@ -138,7 +187,10 @@ fn tell_usage(rt: &HostRuntime, usage: &Usage) -> u8 {
             let _ = error.print(rt);
             if error.use_stderr() { USAGE_STATUS } else { 0 }
         }
-        Usage::Missing => USAGE_STATUS,
+        Usage::Missing => {
+            let _ = eprintln!(rt; "mcf: the command line names no task");
+            USAGE_STATUS
+        }
     }
 }
 

@@ -7,9 +7,9 @@ use crate::tests::{
 use dimacs_io::{Pad, Script};
 use std::test::Fail;
 
-const DIAMOND_NARROWED: &[u8] = b"cap 5 3\nundo\nredo\nshow\n";
+pub const DIAMOND_NARROWED: &[u8] = b"cap 5 3\nundo\nredo\nshow\n";
 
-const DIAMOND_NARROWED_REPLIES: &[u8] =
+pub const DIAMOND_NARROWED_REPLIES: &[u8] =
     b"s 14\ns 15\ns 14\ns 15\ns 15\nf 1 2 2\nf 1 3 2\nf 2 3 1\nf 2 4 1\nf 3 4 3\n";
 
 /// Runs a session whose devices pass at most `most` bytes a call.

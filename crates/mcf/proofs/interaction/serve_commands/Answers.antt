@@ -1,4 +1,4 @@
-use Rattle.std.proofs.Common.{[], ◌++◌, take, refl, ◌∙◌, arith, rules}
+use Rattle.std.proofs.Common.{[], ◌++◌, take, inl, inr, refl, ◌∙◌, arith, rules}
 use Rattle.mcf.proofs.SourceLemmas.{Gives-nil, Gives-more, Gives-none}
 use Rattle.mcf.proofs.RunLemmas.{Stands-begin, Stopped-from_err, Stands-from_ok, same_from_ok}
 use Rattle.mcf.proofs.interaction.serve_commands.Goals as goal
@@ -16,7 +16,7 @@ returns-then-is_err-clause-served g c =
     let piece = take c.in-Ok.count c.read.new.piece in (
       so_far.0 ++ piece,
       Gives-more _ _ _ so_far.0 c.read.new.piece c.in-Ok.count _ _ _ so_far.1 c.in-Ok.ensures.bytes.0 (search rules) c.in-Ok.ensures.left,
-      Stopped-from_err c.serve_piece.result _ _ _ _ _ _ (search rules) (c.serve_piece.ensures.goes_on _ _ _ so_far.2),
+      inl (Stopped-from_err c.serve_piece.result _ _ _ _ _ _ (search rules) (c.serve_piece.ensures.goes_on _ _ _ so_far.2)),
     )
 
 pub pieces-preserved : goal.pieces-preserved
@@ -46,5 +46,5 @@ returns-in-Err-serve_rest-clause-served g c =
     let so_far = c.pieces.invariant.so_far in (
       so_far.0,
       Gives-none _ _ _ so_far.0 c.read.new.piece c.in-Ok-eq0.field-0 _ _ _ so_far.1 c.in-Ok-eq0.ensures.bytes.0 (omega arith) c.in-Ok-eq0.ensures.left,
-      c.in-Err-serve_rest.ensures.rest _ _ _ so_far.2,
+      inr (c.in-Ok-eq0.ensures.bytes.1 (omega arith) (search rules), c.in-Err-serve_rest.ensures.rest _ _ _ so_far.2),
     )
