@@ -138,13 +138,88 @@ def assignment_as_min(draw, nodes, arcs):
     return problem.lines()
 
 
-SHAPES = {
-    "transport": transport,
-    "transshipment": transshipment,
-    "planning": planning,
-    "layered": layered,
-    "assignment": assignment,
+def parallel(_, nodes, arcs):
+    """A maximum flow over arcs of capacity 1, all between the same two nodes; the other nodes are lone."""
+    yield from max_lines(nodes, 1, 2, [(1, 2, 1)] * arcs)
+
+
+def chain(_, nodes, arcs):
+    """Arcs of capacity 1, each dearer than the one before, into a chain of nodes."""
+    links = nodes - 2
+    problem = MinProblem(nodes)
+    for place in range(arcs - links):
+        problem.ship(1, nodes, 1)
+        problem.add(1, 2, 0, 1, place + 1)
+    for node in range(2, nodes):
+        problem.add(node, node + 1, 0, arcs, 0)
+    return problem.lines()
+
+
+def ladder(_, nodes, _arcs):
+    """A maximum flow that climbs half the nodes, each of which has an arc of capacity 1 into a chain of the others."""
+    rungs = (nodes - 1) // 2
+    first = rungs + 2
+    climb = [(node, node + 1, nodes) for node in range(1, rungs + 1)]
+    steps = [(node + 1, first, 1) for node in range(1, rungs + 1)]
+    links = [(node, node + 1, nodes) for node in range(first, nodes)]
+    yield from max_lines(nodes, 1, nodes, climb + steps + links)
+
+
+def stairs(_, nodes, _arcs):
+    """A stair of nodes, each step of which costs 1 and has an arc of capacity 1 to the target."""
+    problem = MinProblem(nodes)
+    for node in range(1, nodes - 1):
+        problem.add(node, node + 1, 0, nodes, 1)
+    for node in range(1, nodes):
+        problem.ship(1, nodes, 1)
+        problem.add(node, nodes, 0, 1, 0)
+    return problem.lines()
+
+
+def max_lines(nodes, source, sink, arcs):
+    """The lines of a maximum flow problem."""
+    yield f"p max {nodes} {len(arcs)}"
+    yield f"n {source} s"
+    yield f"n {sink} t"
+    for arc in arcs:
+        yield "a {} {} {}".format(*arc)
+
+
+def turned(shape):
+    """A shape of `min` or `max` with each arc turned round, so that what left a node has to reach it."""
+
+    def lines(draw, nodes, arcs):
+        for line in shape(draw, nodes, arcs):
+            letter, *words = line.split()
+            if letter == "a":
+                words[:2] = words[1], words[0]
+            elif letter == "n":
+                words[1] = {"s": "t", "t": "s"}.get(words[1]) or str(-int(words[1]))
+            yield " ".join([letter, *words])
+
+    return lines
+
+
+# What users have, and what hurts: many searches that each push little, long walks, dead ends.
+SETS = {
+    "usual": {
+        "transport": transport,
+        "transshipment": transshipment,
+        "planning": planning,
+        "layered": layered,
+        "assignment": assignment,
+    },
+    "hostile": {
+        "parallel": parallel,
+        "chain": chain,
+        "chain-turned": turned(chain),
+        "ladder": ladder,
+        "ladder-turned": turned(ladder),
+        "stairs": stairs,
+        "stairs-turned": turned(stairs),
+    },
 }
+SHAPES = {name: shape for shapes in SETS.values() for name, shape in shapes.items()}
 
 
 def write_problem(out, shape, size, seed, as_min=False):
