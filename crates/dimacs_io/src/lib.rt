@@ -2,12 +2,14 @@
 #![tactic(auto)]
 
 mod device;
+mod laws;
 mod line;
 mod stream;
 mod testing;
 mod writer;
 
 pub use device::{Broken, Sink, Source};
+pub use laws::writes_follow;
 pub use line::Line;
 pub use stream::{ReadSource, WriteSink};
 pub use testing::{Pad, Script};

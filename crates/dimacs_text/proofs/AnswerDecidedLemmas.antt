@@ -10,10 +10,10 @@ use Rattle.dimacs_text.specs.declared.answer_line.AnswerLine.{AnswerLine}
 use Rattle.dimacs_text.specs.declared.answer_line.AnswerLine.TheVariants as line
 use Rattle.dimacs_text.specs.Fault.{number_of}
 use Rattle.dimacs_text.specs.Lines.{Line, IsBytes}
-use Rattle.dimacs_text.specs.Fields.{Word, natural, integer, words_of}
+use Rattle.dimacs_text.specs.Fields.{Word, natural, integer, words_of, claimed_value}
 use Rattle.dimacs_text.specs.Problem.{◌>>=◌, demand, some_or, natural_in, field, fields_of}
 use Rattle.dimacs_text.specs.Stream.{at_line, or_at, decided}
-use Rattle.dimacs_text.specs.Answer.{Said, said_of, first_of, claimed_value, last_node, read_value, read_flow, read_potential, read_shortage, read_cut_node, fault_by, flow_ending, ending_by, answer_rule, answer_end, answers}
+use Rattle.dimacs_text.specs.Answer.{Said, said_of, first_of, last_node, read_value, read_flow, read_potential, read_shortage, read_cut_node, fault_by, flow_ending, ending_by, answer_rule, answer_end, answers}
 use Rattle.dimacs_text.proofs.OtherLemmas.{IsOther, bind_other, demand_other, some_or_other, natural_in_other, fault_other}
 use Rattle.dimacs_text.proofs.DecidedLemmas.{decided_only}
 

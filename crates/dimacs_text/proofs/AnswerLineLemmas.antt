@@ -2,12 +2,12 @@
 use Rattle.std.proofs.Common.{◌≡◌, ℕ, ◌+◌, true, List, length, Option, Some, None, Ok, ℤ, pos, refl, ap, subst, ◌∙◌}
 use Rattle.std.specs.Prelude.{nat_lt, ◌==◌, is_none, is_some, unwrap_or}
 use Rattle.dimacs_text.specs.declared.fault.Fault.TheVariants as fault
-use Rattle.dimacs_text.specs.Fields.{Word, natural, integer}
+use Rattle.dimacs_text.specs.Fields.{Word, natural, integer, claimed_value}
 use Rattle.dimacs_text.specs.Lawful.{IsNode}
 use Rattle.dimacs_text.specs.Problem.{◌>>=◌, demand, some_or, natural_in, natural_value, field}
 use Rattle.dimacs_text.proofs.RowLemmas.{bind_ok, demand_ok, some_or_ok, ok_is, natural_in-ok}
 use Rattle.dimacs_text.specs.declared.answer.FlowLine.{FlowLine}
-use Rattle.dimacs_text.specs.Answer.{Said, claimed_value, value_said, flow_said, potential_said, shortage_said, cut_node_said, last_node, read_value, read_flow, read_potential, read_shortage, read_cut_node}
+use Rattle.dimacs_text.specs.Answer.{Said, value_said, flow_said, potential_said, shortage_said, cut_node_said, last_node, read_value, read_flow, read_potential, read_shortage, read_cut_node}
 
 none_is : (o : Option ℤ) → is_none o ≡ true → o ≡ None
 none_is None e = refl

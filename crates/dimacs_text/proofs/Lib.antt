@@ -21,4 +21,4 @@ pub mod AnswerLemmas
 pub mod AnswerLineLemmas
 pub mod AnswerTakeLemmas
 pub mod SaidLemmas
-pub mod ValueLemmas
+pub mod GroupLemmas

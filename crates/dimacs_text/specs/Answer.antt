@@ -1,14 +1,13 @@
 -- Answer texts: `s VALUE` and an `f SRC DST FLOW` line for each arc, as in the solutions of the first DIMACS challenge,
 -- and then a `v ID POTENTIAL` line for each node; or an `i SHORTAGE` line, and then a `k ID` line for each node of a cut.
-use Rattle.std.specs.Prelude.{◌≡◌, ℕ, ◌+◌, ◌-◌, ◌&&◌, List, [], ◌∷◌, ◌++◌, Option, Some, None, Result, Ok, Err, length, unwrap_or, nat_le, nat_lt, ◌==◌, is_some, is_none, if◌then◌else◌, ℤ, pos, neg_ℤ, slice_index_or}
-use Rattle.std.specs.List.{All, flat_map, list_all}
-use Rattle.std.specs.Option.{option_map}
+use Rattle.std.specs.Prelude.{◌≡◌, ℕ, ◌+◌, ◌-◌, ◌&&◌, List, [], ◌∷◌, ◌++◌, Option, Some, None, Result, Ok, Err, length, unwrap_or, nat_lt, ◌==◌, is_some, is_none, if◌then◌else◌, ℤ, pos, slice_index_or}
+use Rattle.std.specs.List.{All, flat_map}
 use Rattle.dimacs_text.specs.declared.fault.Fault.{Fault}
 use Rattle.dimacs_text.specs.declared.fault.Fault.TheVariants as fault
 use Rattle.dimacs_text.specs.declared.fault.LineError.{LineError}
 use Rattle.dimacs_text.specs.declared.fault.TextFault.{TextFault}
 use Rattle.dimacs_text.specs.Lines.{Line, lines_of}
-use Rattle.dimacs_text.specs.Fields.{Word, words_of, is_digit, digits_value, natural, integer}
+use Rattle.dimacs_text.specs.Fields.{Word, words_of, natural, integer, claimed_value}
 use Rattle.dimacs_text.specs.Lawful.{IsNode}
 use Rattle.dimacs_text.specs.Problem.{◌>>=◌, demand, some_or, natural_in, natural_value, integer_value, field, fields_of, fault_of}
 use Rattle.dimacs_text.specs.Stream.{Rule, Reports, first_fault, fault_or, or_at}
@@ -17,7 +16,6 @@ use Rattle.dimacs_text.specs.declared.answer.Answer.TheVariants.{Flow, Cut}
 use Rattle.dimacs_text.specs.declared.answer.FlowLine.{FlowLine}
 use Rattle.dimacs_text.specs.declared.answer_line.AnswerLine.{AnswerLine}
 use Rattle.dimacs_text.specs.declared.answer_line.AnswerLine.TheVariants as line
-use Rattle.dimacs_text.specs.declared.answer_value.TheConstants.{VALUE_DIGIT_LIMIT}
 
 -- ---- a line by itself
 
@@ -36,15 +34,6 @@ line_of (byte ∷ _ ∷ _) = if byte == 99 then line.Comment else line.Unknown
 abbrev pub first_of : List Word → Option AnswerLine
 first_of [] = None
 first_of (word ∷ words) = Some (line_of word)
-
--- one to 30 digits
-abbrev pub value_digits : Word → Option ℕ
-value_digits word = if nat_le 1 (length word) && nat_le (length word) VALUE_DIGIT_LIMIT && list_all is_digit word then Some (digits_value word) else None
-
--- the same, after one `-` or none
-unfoldable pub claimed_value : Word → Option ℤ
-claimed_value [] = None
-claimed_value (byte ∷ word) = if byte == 45 then option_map (λ n. neg_ℤ (pos n)) (value_digits word) else option_map pos (value_digits (byte ∷ word))
 
 -- what the fields of a line say, where it has no fault
 abbrev pub value_said : List Word → ℤ

@@ -43,6 +43,15 @@ is_for Max verbs.Supply = false
 is_for Asn verbs.Supply = false
 is_for kind verb = true
 
+-- the verb of an edit
+abbrev pub verb_for : Edit → Verb
+verb_for (edits.Cap arc cap) = verbs.Cap
+verb_for (edits.Low arc low) = verbs.Low
+verb_for (edits.Cost arc cost) = verbs.Cost
+verb_for (edits.Supply node value) = verbs.Supply
+verb_for (edits.Add tail head low cap cost) = verbs.Add
+verb_for (edits.Close arc) = verbs.Close
+
 -- ---- the fields after the verb; arcs and nodes have no range here
 
 unfoldable pub read_cap : List Word → Result Edit Fault

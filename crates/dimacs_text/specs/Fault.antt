@@ -26,7 +26,14 @@ number_of fault.LowAboveCap = 15
 number_of fault.NotAcrossSides = 16
 number_of fault.UnknownNodeWord = 17
 number_of fault.OutOfOrder = 40
+number_of fault.NoSuchArc = 20
+number_of fault.NoSuchNode = 21
+number_of fault.EditLowAboveCap = 22
 number_of fault.NotForKind = 23
+number_of fault.ArcTableFull = 24
+number_of fault.EditNotAcrossSides = 27
+number_of fault.NotInGroup = 29
+number_of fault.GroupTooLong = 31
 
 -- why a line was not taken, at its place in the text
 abbrev pub located : LineError → ℕ → TextFault

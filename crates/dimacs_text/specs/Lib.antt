@@ -11,3 +11,4 @@ pub mod ProblemReader
 pub mod Command
 pub mod Answer
 pub mod AnswerReader
+pub mod Group

@@ -6,9 +6,8 @@ ghost use Rattle.dimacs_text.specs.Answer.{Takes, TakesAs, read_value, read_flow
 
 use crate::answer::{Answer, FlowLine};
 use crate::answer_line::AnswerLine;
-use crate::answer_value::claimed_value;
 use crate::fault::{Fault, LineError};
-use crate::numbers::{integer, natural, natural_in};
+use crate::numbers::{claimed_value, integer, natural, natural_in};
 use crate::sequence::Sequence;
 use crate::words::Words;
 use std::alloc::Global;
@@ -127,39 +126,35 @@ impl AnswerDraft {
 
     /// What an `s` line says, after its designator.
     #[tactic(auto, unfolding(crate::specs::Answer::read_value))]
-    fn read_value(&self, mut fields: Words) -> Result<i128, Fault>
+    fn read_value(&self, fields: Words) -> Result<i128, Fault>
         ensures { result ≡ read_value self.now.said fields.entry }
     {
         if self.value.is_some() || self.shortage.is_some() {
             return Err(Fault::OutOfOrder);
         }
-        if fields.count() != 1 {
-            return Err(Fault::WrongFieldCount);
-        }
-        claimed_value(fields.word()).ok_or(Fault::NotANumber)
+        let word = fields.one()?;
+        claimed_value(word).ok_or(Fault::NotANumber)
     }
 
     /// What an `f` line says, after its designator.
     #[tactic(auto, unfolding(crate::specs::Answer::read_flow))]
-    fn read_flow(&self, mut fields: Words) -> Result<FlowLine, Fault>
+    fn read_flow(&self, fields: Words) -> Result<FlowLine, Fault>
         ensures { result ≡ read_flow self.now.nodes self.now.arcs self.now.said fields.entry }
     {
         if self.value.is_none() || self.flows.len() >= self.arcs as usize {
             return Err(Fault::OutOfOrder);
         }
-        if fields.count() != 3 {
-            return Err(Fault::WrongFieldCount);
-        }
+        let (tail, head, flow) = fields.three()?;
         let nodes = u64::from(self.nodes);
-        let tail = natural_in(fields.word(), 1, nodes)? as u32;
-        let head = natural_in(fields.word(), 1, nodes)? as u32;
-        let flow = natural(fields.word()).ok_or(Fault::NotANumber)? as i64;
+        let tail = natural_in(tail, 1, nodes)? as u32;
+        let head = natural_in(head, 1, nodes)? as u32;
+        let flow = natural(flow).ok_or(Fault::NotANumber)? as i64;
         Ok(FlowLine { tail, head, flow })
     }
 
     /// What a `v` line says, after its designator.
     #[tactic(auto, unfolding(crate::specs::Answer::read_potential))]
-    fn read_potential(&self, mut fields: Words) -> Result<i64, Fault>
+    fn read_potential(&self, fields: Words) -> Result<i64, Fault>
         ensures { result ≡ read_potential self.now.nodes self.now.arcs self.now.said fields.entry }
     {
         if self.value.is_none()
@@ -168,11 +163,9 @@ impl AnswerDraft {
         {
             return Err(Fault::OutOfOrder);
         }
-        if fields.count() != 2 {
-            return Err(Fault::WrongFieldCount);
-        }
-        let id = natural_in(fields.word(), 1, u64::from(self.nodes))?;
-        let potential = integer(fields.word()).ok_or(Fault::NotANumber)?;
+        let (id, potential) = fields.two()?;
+        let id = natural_in(id, 1, u64::from(self.nodes))?;
+        let potential = integer(potential).ok_or(Fault::NotANumber)?;
         if id != self.potentials.len() as u64 + 1 {
             return Err(Fault::OutOfOrder);
         }
@@ -181,31 +174,27 @@ impl AnswerDraft {
 
     /// What an `i` line says, after its designator.
     #[tactic(auto, unfolding(crate::specs::Answer::read_shortage))]
-    fn read_shortage(&self, mut fields: Words) -> Result<i64, Fault>
+    fn read_shortage(&self, fields: Words) -> Result<i64, Fault>
         ensures { result ≡ read_shortage self.now.said fields.entry }
     {
         if self.value.is_some() || self.shortage.is_some() {
             return Err(Fault::OutOfOrder);
         }
-        if fields.count() != 1 {
-            return Err(Fault::WrongFieldCount);
-        }
-        let shortage = natural(fields.word()).ok_or(Fault::NotANumber)? as i64;
+        let shortage = fields.one()?;
+        let shortage = natural(shortage).ok_or(Fault::NotANumber)? as i64;
         Ok(shortage)
     }
 
     /// What a `k` line says, after its designator.
     #[tactic(auto, unfolding(crate::specs::Answer::read_cut_node))]
-    fn read_cut_node(&self, mut fields: Words) -> Result<u32, Fault>
+    fn read_cut_node(&self, fields: Words) -> Result<u32, Fault>
         ensures { result ≡ read_cut_node self.now.nodes self.now.said fields.entry }
     {
         if self.shortage.is_none() {
             return Err(Fault::OutOfOrder);
         }
-        if fields.count() != 1 {
-            return Err(Fault::WrongFieldCount);
-        }
-        let id = natural_in(fields.word(), 1, u64::from(self.nodes))? as u32;
+        let id = fields.one()?;
+        let id = natural_in(id, 1, u64::from(self.nodes))? as u32;
         if id <= self.last_node() {
             return Err(Fault::OutOfOrder);
         }

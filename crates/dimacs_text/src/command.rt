@@ -1,6 +1,6 @@
 //! One line of a command text.
 
-ghost use Rattle.std.specs.Prelude.{◌≡◌, ◌≢◌, [], ◌<◌, length, Ok};
+ghost use Rattle.std.specs.Prelude.{◌≡◌, ◌≢◌, [], ◌∷◌, ◌<◌, length, Ok};
 ghost use Rattle.dimacs_text.specs.Fields.{words_of};
 ghost use Rattle.dimacs_text.specs.Command.{command, verb_of, is_for, read_words, read_by, read_bare, read_cap, read_low, read_cost, read_supply, read_add, read_min_arc, read_max_arc, read_asn_arc, read_close, as_edit};
 
@@ -48,6 +48,38 @@ pub enum Edit {
     },
 }
 
+/// What the unused places of an array of edits hold: no arc has the number 0.
+impl Default for Edit {
+    fn default() -> Self {
+        Edit::Close { arc: 0 }
+    }
+}
+
+impl Edit {
+    ghost use Rattle.dimacs_text.specs.Command.{is_for, verb_for};
+
+    /// Whether problems of the kind have the edit.
+    pub fn is_for(&self, kind: Kind) -> bool
+        ensures { result ≡ is_for kind (verb_for self.now) }
+    {
+        self.verb().is_for(kind)
+    }
+
+    /// The first word of the command that asks for it.
+    fn verb(&self) -> Verb
+        ensures { result ≡ verb_for self.now }
+    {
+        match self {
+            Edit::Cap { .. } => Verb::Cap,
+            Edit::Low { .. } => Verb::Low,
+            Edit::Cost { .. } => Verb::Cost,
+            Edit::Supply { .. } => Verb::Supply,
+            Edit::Add { .. } => Verb::Add,
+            Edit::Close { .. } => Verb::Close,
+        }
+    }
+}
+
 /// What a line asks for.
 #[derive(Clone, Copy, Debug, PartialEq, Eq)]
 pub enum Command {
@@ -64,7 +96,7 @@ pub enum Command {
 }
 
 /// The first word of a command.
-#[derive(Clone, Copy, Debug, PartialEq, Eq)]
+#[derive(Clone, Copy)]
 pub enum Verb {
     Cap,
     Low,
@@ -136,14 +168,22 @@ pub fn read_command(kind: Kind, line: &[u8]) -> Result<Command, u8>
 fn read_words(kind: Kind, mut words: Words) -> Result<Command, Fault>
     ensures { result ≡ read_words kind words.entry }
 {
-    let Some(first) = words.next() else {
-        return Err(Fault::UnknownDesignator);
-    };
+    match words.next() {
+        None => Err(Fault::UnknownDesignator),
+        Some(first) => read_after(kind, first, words),
+    }
+}
+
+/// Reads the words of a line, of which the first is given.
+#[tactic(auto, unfolding(crate::specs::Command::read_words))]
+pub(crate) fn read_after(kind: Kind, first: &[u8], fields: Words) -> Result<Command, Fault>
+    ensures { result ≡ read_words kind (first.now ∷ fields.entry) }
+{
     let verb = Verb::of(first).ok_or(Fault::UnknownDesignator)?;
     if !verb.is_for(kind) {
         return Err(Fault::NotForKind);
     }
-    read_by(kind, verb, words)
+    read_by(kind, verb, fields)
 }
 
 /// Reads the fields after the verb.
@@ -178,61 +218,51 @@ fn as_edit(edit: Result<Edit, Fault>) -> Result<Command, Fault>
 fn read_bare(fields: Words, command: Command) -> Result<Command, Fault>
     ensures { result ≡ read_bare fields.entry command }
 {
-    if fields.count() != 0 {
-        return Err(Fault::WrongFieldCount);
-    }
+    fields.none()?;
     Ok(command)
 }
 
 /// The fields of `cap K V`.
 #[tactic(auto, unfolding(crate::specs::Command::read_cap))]
-fn read_cap(mut fields: Words) -> Result<Edit, Fault>
+fn read_cap(fields: Words) -> Result<Edit, Fault>
     ensures { result ≡ read_cap fields.entry }
 {
-    if fields.count() != 2 {
-        return Err(Fault::WrongFieldCount);
-    }
-    let arc = natural(fields.word()).ok_or(Fault::NotANumber)?;
-    let cap = natural_in(fields.word(), 0, CAP_LIMIT)? as i64;
+    let (arc, cap) = fields.two()?;
+    let arc = natural(arc).ok_or(Fault::NotANumber)?;
+    let cap = natural_in(cap, 0, CAP_LIMIT)? as i64;
     Ok(Edit::Cap { arc, cap })
 }
 
 /// The fields of `low K V`.
 #[tactic(auto, unfolding(crate::specs::Command::read_low))]
-fn read_low(mut fields: Words) -> Result<Edit, Fault>
+fn read_low(fields: Words) -> Result<Edit, Fault>
     ensures { result ≡ read_low fields.entry }
 {
-    if fields.count() != 2 {
-        return Err(Fault::WrongFieldCount);
-    }
-    let arc = natural(fields.word()).ok_or(Fault::NotANumber)?;
-    let low = natural_in(fields.word(), 0, CAP_LIMIT)? as i64;
+    let (arc, low) = fields.two()?;
+    let arc = natural(arc).ok_or(Fault::NotANumber)?;
+    let low = natural_in(low, 0, CAP_LIMIT)? as i64;
     Ok(Edit::Low { arc, low })
 }
 
 /// The fields of `cost K V`.
 #[tactic(auto, unfolding(crate::specs::Command::read_cost))]
-fn read_cost(mut fields: Words) -> Result<Edit, Fault>
+fn read_cost(fields: Words) -> Result<Edit, Fault>
     ensures { result ≡ read_cost fields.entry }
 {
-    if fields.count() != 2 {
-        return Err(Fault::WrongFieldCount);
-    }
-    let arc = natural(fields.word()).ok_or(Fault::NotANumber)?;
-    let cost = integer_in(fields.word(), COST_LIMIT)?;
+    let (arc, cost) = fields.two()?;
+    let arc = natural(arc).ok_or(Fault::NotANumber)?;
+    let cost = integer_in(cost, COST_LIMIT)?;
     Ok(Edit::Cost { arc, cost })
 }
 
 /// The fields of `supply ID V`.
 #[tactic(auto, unfolding(crate::specs::Command::read_supply))]
-fn read_supply(mut fields: Words) -> Result<Edit, Fault>
+fn read_supply(fields: Words) -> Result<Edit, Fault>
     ensures { result ≡ read_supply fields.entry }
 {
-    if fields.count() != 2 {
-        return Err(Fault::WrongFieldCount);
-    }
-    let node = natural(fields.word()).ok_or(Fault::NotANumber)?;
-    let value = integer_in(fields.word(), SUPPLY_LIMIT)?;
+    let (node, value) = fields.two()?;
+    let node = natural(node).ok_or(Fault::NotANumber)?;
+    let value = integer_in(value, SUPPLY_LIMIT)?;
     Ok(Edit::Supply { node, value })
 }
 
@@ -249,17 +279,15 @@ fn read_add(kind: Kind, fields: Words) -> Result<Edit, Fault>
 
 /// The fields `SRC DST LOW CAP COST`.
 #[tactic(auto, unfolding(crate::specs::Command::read_min_arc))]
-fn read_min_arc(mut fields: Words) -> Result<Edit, Fault>
+fn read_min_arc(fields: Words) -> Result<Edit, Fault>
     ensures { result ≡ read_min_arc fields.entry }
 {
-    if fields.count() != 5 {
-        return Err(Fault::WrongFieldCount);
-    }
-    let tail = natural(fields.word()).ok_or(Fault::NotANumber)?;
-    let head = natural(fields.word()).ok_or(Fault::NotANumber)?;
-    let low = natural_in(fields.word(), 0, CAP_LIMIT)? as i64;
-    let cap = natural_in(fields.word(), 0, CAP_LIMIT)? as i64;
-    let cost = integer_in(fields.word(), COST_LIMIT)?;
+    let (tail, head, low, cap, cost) = fields.five()?;
+    let tail = natural(tail).ok_or(Fault::NotANumber)?;
+    let head = natural(head).ok_or(Fault::NotANumber)?;
+    let low = natural_in(low, 0, CAP_LIMIT)? as i64;
+    let cap = natural_in(cap, 0, CAP_LIMIT)? as i64;
+    let cost = integer_in(cost, COST_LIMIT)?;
     Ok(Edit::Add {
         tail,
         head,
@@ -271,15 +299,13 @@ fn read_min_arc(mut fields: Words) -> Result<Edit, Fault>
 
 /// The fields `SRC DST CAP`.
 #[tactic(auto, unfolding(crate::specs::Command::read_max_arc))]
-fn read_max_arc(mut fields: Words) -> Result<Edit, Fault>
+fn read_max_arc(fields: Words) -> Result<Edit, Fault>
     ensures { result ≡ read_max_arc fields.entry }
 {
-    if fields.count() != 3 {
-        return Err(Fault::WrongFieldCount);
-    }
-    let tail = natural(fields.word()).ok_or(Fault::NotANumber)?;
-    let head = natural(fields.word()).ok_or(Fault::NotANumber)?;
-    let cap = natural_in(fields.word(), 0, CAP_LIMIT)? as i64;
+    let (tail, head, cap) = fields.three()?;
+    let tail = natural(tail).ok_or(Fault::NotANumber)?;
+    let head = natural(head).ok_or(Fault::NotANumber)?;
+    let cap = natural_in(cap, 0, CAP_LIMIT)? as i64;
     Ok(Edit::Add {
         tail,
         head,
@@ -291,15 +317,13 @@ fn read_max_arc(mut fields: Words) -> Result<Edit, Fault>
 
 /// The fields `SRC DST COST`.
 #[tactic(auto, unfolding(crate::specs::Command::read_asn_arc))]
-fn read_asn_arc(mut fields: Words) -> Result<Edit, Fault>
+fn read_asn_arc(fields: Words) -> Result<Edit, Fault>
     ensures { result ≡ read_asn_arc fields.entry }
 {
-    if fields.count() != 3 {
-        return Err(Fault::WrongFieldCount);
-    }
-    let tail = natural(fields.word()).ok_or(Fault::NotANumber)?;
-    let head = natural(fields.word()).ok_or(Fault::NotANumber)?;
-    let cost = integer_in(fields.word(), COST_LIMIT)?;
+    let (tail, head, cost) = fields.three()?;
+    let tail = natural(tail).ok_or(Fault::NotANumber)?;
+    let head = natural(head).ok_or(Fault::NotANumber)?;
+    let cost = integer_in(cost, COST_LIMIT)?;
     Ok(Edit::Add {
         tail,
         head,
@@ -311,12 +335,10 @@ fn read_asn_arc(mut fields: Words) -> Result<Edit, Fault>
 
 /// The field of `close K`.
 #[tactic(auto, unfolding(crate::specs::Command::read_close))]
-fn read_close(mut fields: Words) -> Result<Edit, Fault>
+fn read_close(fields: Words) -> Result<Edit, Fault>
     ensures { result ≡ read_close fields.entry }
 {
-    if fields.count() != 1 {
-        return Err(Fault::WrongFieldCount);
-    }
-    let arc = natural(fields.word()).ok_or(Fault::NotANumber)?;
+    let arc = fields.one()?;
+    let arc = natural(arc).ok_or(Fault::NotANumber)?;
     Ok(Edit::Close { arc })
 }

@@ -7,6 +7,7 @@ ghost use Rattle.dimacs_text.specs.Lines.{is_line_feed, is_too_long};
 ghost use Rattle.dimacs_text.specs.Cut.{begun_line, is_begun, extended, HoldsRest, CutsLine, bytes_used, has_line_feed, cut_after};
 
 use arrayvec::ArrayVec;
+use memchr::memchr;
 use std::marker::Model;
 
 /// The most bytes that a line has before its LF.
@@ -121,8 +122,5 @@ impl LineCutter {
 fn line_length(piece: &[u8]) -> usize
     ensures { result ≡ position_or_len is_line_feed piece.now }
 {
-    piece
-        .iter()
-        .position(|byte| *byte == b'\n')
-        .unwrap_or(piece.len())
+    memchr(b'\n', piece).unwrap_or(piece.len())
 }

@@ -6,7 +6,7 @@ ghost use Rattle.dimacs_text.specs.Fault.{number_of, located};
 use std::alloc::{AllocError, AllocFailed};
 use thiserror::Error;
 
-/// What is wrong with a line, or with the end of a text.
+/// What is wrong with a line, with the end of a text, or with a command: each has a number of its own.
 #[derive(Clone, Copy, Debug, PartialEq, Eq)]
 pub enum Fault {
     /// A line has more bytes before its LF than `LINE_LIMIT`.
@@ -39,6 +39,20 @@ pub enum Fault {
     OutOfOrder,
     /// Problems of this kind do not have the command.
     NotForKind,
+    /// A command names an arc that is not there.
+    NoSuchArc,
+    /// A command names a node that is not there.
+    NoSuchNode,
+    /// An edit would put the lower bound of an arc above its capacity.
+    EditLowAboveCap,
+    /// A new arc would not lead from the source side to the sink side.
+    EditNotAcrossSides,
+    /// As many arcs stand as there is room.
+    ArcTableFull,
+    /// A group holds edits alone, and `end` stands after a group.
+    NotInGroup,
+    /// A group has more edits than `GROUP_LIMIT`.
+    GroupTooLong,
 }
 
 impl Fault {
@@ -65,13 +79,20 @@ impl Fault {
             Fault::NotAcrossSides => 16,
             Fault::UnknownNodeWord => 17,
             Fault::OutOfOrder => 40,
+            Fault::NoSuchArc => 20,
+            Fault::NoSuchNode => 21,
+            Fault::EditLowAboveCap => 22,
             Fault::NotForKind => 23,
+            Fault::ArcTableFull => 24,
+            Fault::EditNotAcrossSides => 27,
+            Fault::NotInGroup => 29,
+            Fault::GroupTooLong => 31,
         }
     }
 }
 
 /// Why a line was not taken.
-#[derive(Clone, Copy, Debug, PartialEq, Eq)]
+#[derive(Clone, Copy)]
 pub enum LineError {
     /// The line is faulty.
     Fault(Fault),

@@ -5,11 +5,11 @@ mod answer;
 mod answer_draft;
 mod answer_line;
 mod answer_reader;
-mod answer_value;
 mod command;
 mod cutter;
 mod draft;
 mod fault;
+mod group;
 mod limits;
 mod numbers;
 mod problem;
@@ -26,6 +26,7 @@ pub use answer_reader::{AnswerReader, answer_decided_for_all};
 pub use command::{Command, Edit, read_command};
 pub use cutter::{LINE_LIMIT, LineCutter};
 pub use fault::{Fault, TextFault};
+pub use group::{GROUP_LIMIT, Group};
 pub use limits::limits_are;
 pub use problem::{
     ARC_LIMIT, ArcRow, CAP_LIMIT, COST_LIMIT, Kind, NODE_LIMIT, NodeMark, Problem, SUPPLY_LIMIT,

@@ -1,9 +1,9 @@
 //! The limits of the texts, each by its number, so that no definition of a contract moves with a constant.
 
 ghost use Rattle.std.specs.Prelude.{◌≡◌, pos};
-ghost use Rattle.dimacs_text.specs.declared.answer_value.TheConstants.{VALUE_DIGIT_LIMIT};
 ghost use Rattle.dimacs_text.specs.declared.cutter.TheConstants.{LINE_LIMIT};
-ghost use Rattle.dimacs_text.specs.declared.numbers.TheConstants.{DIGIT_LIMIT};
+ghost use Rattle.dimacs_text.specs.declared.group.TheConstants.{GROUP_LIMIT};
+ghost use Rattle.dimacs_text.specs.declared.numbers.TheConstants.{DIGIT_LIMIT, VALUE_DIGIT_LIMIT};
 ghost use Rattle.dimacs_text.specs.declared.problem.TheConstants.{NODE_LIMIT, ARC_LIMIT, CAP_LIMIT, COST_LIMIT, SUPPLY_LIMIT};
 
 /// A law, with nothing to run: the limits are these numbers.
@@ -16,4 +16,5 @@ pub fn limits_are()
     ensures digits { DIGIT_LIMIT ≡ 18 }
     ensures value_digits { VALUE_DIGIT_LIMIT ≡ 30 }
     ensures line { LINE_LIMIT ≡ 1024 }
+    ensures group { GROUP_LIMIT ≡ 1000 }
 {}

@@ -56,7 +56,7 @@ pub struct ArcRow {
 }
 
 /// What the problem line says.
-#[derive(Clone, Copy, Debug, PartialEq, Eq)]
+#[derive(Clone, Copy)]
 pub struct Size {
     pub kind: Kind,
     pub nodes: u32,

@@ -1,8 +1,8 @@
 ghost use Rattle.std.specs.Prelude.{◌<◌};
 
 use crate::{
-    Command, Edit, Kind, LineCutter, NodeMark, Problem, ProblemReader, TextFault, is_blank,
-    read_command,
+    Command, Edit, GROUP_LIMIT, Group, Kind, LineCutter, NodeMark, Problem, ProblemReader,
+    TextFault, is_blank, read_command,
 };
 use std::alloc::Global;
 use std::process::Abort;
@@ -200,4 +200,45 @@ fn commands(rt: HostRuntime) {
             assert_eq!(rt; read_command(kind, line), expected);
         }
     }
+}
+
+#[test]
+fn groups(rt: HostRuntime) {
+    let cases = [
+        ("end", 0, None),
+        ("cap 5 3\nadd 1 2 0 1 1\nend", 2, None),
+        ("cap 5 3\nfly\ncap 5 3\nend", 1, Some(2)),
+        ("end now\nend", 0, Some(3)),
+        ("cap 5 3\ngroup\nfly\nend", 1, Some(29)),
+        ("undo\nend", 0, Some(29)),
+        ("undo 1\nend", 0, Some(3)),
+    ];
+    for (text, edits, fault) in cases {
+        let mut group = Group::new();
+        let mut ended = false;
+        for line in text.lines() {
+            assert!(rt; !ended);
+            ended = group.take(Kind::Min, Some(line.as_bytes()));
+        }
+        assert!(rt; ended);
+        assert_eq!(rt; group.edits().len(), edits);
+        assert_eq!(rt; group.fault(), fault);
+    }
+}
+
+#[test]
+fn longest_group(rt: HostRuntime) {
+    let mut group = Group::new();
+    for _ in 0..GROUP_LIMIT {
+        assert!(rt; !group.take(Kind::Min, Some(b"cap 5 3")));
+    }
+    assert_eq!(rt; group.fault(), None);
+    assert!(rt; !group.take(Kind::Min, None));
+    assert_eq!(rt; group.fault(), Some(1));
+    let mut group = Group::new();
+    for _ in 0..GROUP_LIMIT + 1 {
+        assert!(rt; !group.take(Kind::Max, Some(b"cap 5 3")));
+    }
+    assert_eq!(rt; group.edits().len(), GROUP_LIMIT);
+    assert_eq!(rt; group.fault(), Some(31));
 }

@@ -1,13 +1,15 @@
 //! The words of a line.
 
-ghost use Rattle.std.specs.Prelude.{◌≡◌, ◌↔◌, IsTrue, ◌∷◌, [], ◌<◌, ◌≤◌, length, not, MatchOption};
+ghost use Rattle.std.specs.Prelude.{◌≡◌, ◌≢◌, ◌↔◌, IsTrue, ◌∷◌, [], ◌<◌, ◌≤◌, length, not, MatchOption, MatchResult};
 ghost use Rattle.std.specs.List.{position_or_len};
 ghost use Rattle.dimacs_text.specs.Fields.{is_blank, words_of};
+ghost use Rattle.dimacs_text.specs.declared.fault.Fault.TheVariants as Fault;
 
+use crate::fault::Fault;
 use std::marker::Model;
 
 /// What the first word makes of a line.
-#[derive(Clone, Copy, Debug, PartialEq, Eq)]
+#[derive(Clone, Copy)]
 pub enum Designator {
     Comment,
     Problem,
@@ -56,19 +58,6 @@ impl<'a> Words<'a> {
         Words { rest: line }
     }
 
-    /// How many words are left.
-    pub fn count(&self) -> usize
-        ensures { result ≡ length self.now }
-    {
-        let mut rest = self.rest;
-        let mut count = 0;
-        while let Some((_, after)) = split_word(rest) {
-            count += 1;
-            rest = after;
-        }
-        count
-    }
-
     /// Takes the next word, if there is one.
     pub fn next(&mut self) -> Option<&'a [u8]>
         ensures { MatchOption result ((self.old ≡ []) × (self.new ≡ [])) (λ word. self.old ≡ word.now ∷ self.new) }
@@ -78,15 +67,62 @@ impl<'a> Words<'a> {
         Some(word)
     }
 
-    /// Takes the next word.
-    pub fn word(&mut self) -> &'a [u8]
-        requires { 0 < length self.old }
-        ensures { self.old ≡ result.now ∷ self.new }
+    /// Takes the next word, which has to be there.
+    fn word(&mut self) -> Result<&'a [u8], Fault>
+        ensures { MatchResult result (λ word. self.old ≡ word.now ∷ self.new) (λ fault. (fault ≡ Fault.WrongFieldCount) × (self.old ≡ [])) }
+    {
+        self.next().ok_or(Fault::WrongFieldCount)
+    }
+
+    /// No word may be left.
+    pub fn none(mut self) -> Result<(), Fault>
+        ensures { MatchResult result (λ _. self.entry ≡ []) (λ fault. (fault ≡ Fault.WrongFieldCount) × (length self.entry ≢ 0)) }
     {
         match self.next() {
-            Some(word) => word,
-            None => unreachable!(),
+            None => Ok(()),
+            Some(_) => Err(Fault::WrongFieldCount),
         }
+    }
+
+    /// The only word that is left.
+    pub fn one(mut self) -> Result<&'a [u8], Fault>
+        ensures { MatchResult result (λ word. self.entry ≡ word.now ∷ []) (λ fault. (fault ≡ Fault.WrongFieldCount) × (length self.entry ≢ 1)) }
+    {
+        let word = self.word()?;
+        self.none()?;
+        Ok(word)
+    }
+
+    /// The two words that are left.
+    pub fn two(mut self) -> Result<(&'a [u8], &'a [u8]), Fault>
+        ensures { MatchResult result (λ words. self.entry ≡ words.0.now ∷ words.1.now ∷ [])
+            (λ fault. (fault ≡ Fault.WrongFieldCount) × (length self.entry ≢ 2)) }
+    {
+        let first = self.word()?;
+        let second = self.one()?;
+        Ok((first, second))
+    }
+
+    /// The three words that are left.
+    pub fn three(mut self) -> Result<(&'a [u8], &'a [u8], &'a [u8]), Fault>
+        ensures { MatchResult result (λ words. self.entry ≡ words.0.now ∷ words.1.now ∷ words.2.now ∷ [])
+            (λ fault. (fault ≡ Fault.WrongFieldCount) × (length self.entry ≢ 3)) }
+    {
+        let first = self.word()?;
+        let (second, third) = self.two()?;
+        Ok((first, second, third))
+    }
+
+    /// The five words that are left.
+    pub fn five(mut self) -> Result<(&'a [u8], &'a [u8], &'a [u8], &'a [u8], &'a [u8]), Fault>
+        ensures { MatchResult result
+            (λ words. self.entry ≡ words.0.now ∷ words.1.now ∷ words.2.now ∷ words.3.now ∷ words.4.now ∷ [])
+            (λ fault. (fault ≡ Fault.WrongFieldCount) × (length self.entry ≢ 5)) }
+    {
+        let first = self.word()?;
+        let second = self.word()?;
+        let (third, fourth, fifth) = self.three()?;
+        Ok((first, second, third, fourth, fifth))
     }
 }
 

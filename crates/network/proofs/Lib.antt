@@ -19,3 +19,4 @@ pub mod Growth
 pub mod Opening
 pub mod EditedLemmas
 pub mod EditedShape
+pub mod EditedAll

@@ -1,40 +1,20 @@
 -- Edits of an instance: the first refusal that applies, else the instance with that one change.
-use Rattle.std.specs.Prelude.{ℕ, ◌-◌, ℤ, pos, neg_ℤ, ◌-ℤ◌, int_le, unsigned_abs, nat_le, nat_lt, Bool, true, false, not, ◌&&◌, if◌then◌else◌, [], ◌∷◌, ◌++◌, length, Option, Some, None, Result, Ok, Err, slice_set}
+use Rattle.std.specs.Prelude.{ℕ, ◌-◌, ℤ, pos, neg_ℤ, ◌-ℤ◌, int_le, unsigned_abs, nat_le, nat_lt, Bool, true, not, ◌&&◌, if◌then◌else◌, List, [], ◌∷◌, ◌++◌, length, Option, Some, None, Result, Ok, Err, slice_set}
 use Rattle.dimacs_text.specs.declared.command.Edit.{Edit}
 use Rattle.dimacs_text.specs.declared.command.Edit.TheVariants.{Cap, Low, Cost, Supply, Add, Close}
 use Rattle.dimacs_text.specs.declared.problem.ArcRow.{ArcRow}
 use Rattle.dimacs_text.specs.declared.problem.Kind.{Kind}
 use Rattle.dimacs_text.specs.declared.problem.Kind.TheVariants.{Min, Max, Asn}
 use Rattle.dimacs_text.specs.declared.problem.TheConstants.{CAP_LIMIT, COST_LIMIT, SUPPLY_LIMIT}
-use Rattle.network.specs.declared.edited.EditFault.{EditFault}
-use Rattle.network.specs.declared.edited.EditFault.TheVariants.{NotForKind, OutOfRange, NoSuchArc, NoSuchNode, LowAboveCap, NotAcrossSides, ArcTableFull}
+use Rattle.dimacs_text.specs.declared.fault.Fault.{Fault}
+use Rattle.dimacs_text.specs.declared.fault.Fault.TheVariants.{NotForKind, OutOfRange, NoSuchArc, NoSuchNode, EditLowAboveCap, EditNotAcrossSides, ArcTableFull}
+use Rattle.dimacs_text.specs.Fault.{number_of}
+use Rattle.dimacs_text.specs.Command.{is_for, verb_for}
 use Rattle.network.specs.Instance.{Demand, Supplies, Terminals, Sides, Instance, arc_at, is_marked, kind_of, reduced_supply, with_supply}
-
--- the number of a refusal
-abbrev pub refusal_number : EditFault → ℕ
-refusal_number OutOfRange = 5
-refusal_number NoSuchArc = 20
-refusal_number NoSuchNode = 21
-refusal_number LowAboveCap = 22
-refusal_number NotForKind = 23
-refusal_number ArcTableFull = 24
-refusal_number NotAcrossSides = 27
 
 -- the kinds that have the edit
 abbrev pub has_edit : Kind → Edit → Bool
-has_edit Min edit = true
-has_edit Max (Cap arc cap) = true
-has_edit Max (Low arc low) = false
-has_edit Max (Cost arc cost) = false
-has_edit Max (Supply node value) = false
-has_edit Max (Add tail head low cap cost) = true
-has_edit Max (Close arc) = true
-has_edit Asn (Cap arc cap) = false
-has_edit Asn (Low arc low) = false
-has_edit Asn (Cost arc cost) = true
-has_edit Asn (Supply node value) = false
-has_edit Asn (Add tail head low cap cost) = true
-has_edit Asn (Close arc) = true
+has_edit kind edit = is_for kind (verb_for edit)
 
 -- a bound of an arc, and a number that is at most the limit either way
 abbrev pub is_bound : ℤ → Bool
@@ -66,29 +46,29 @@ has_room I = nat_lt (length I.arcs) I.room
 
 -- ---- one check after the other
 
-abbrev pub demand : {A : Type 0} → Bool → EditFault → Result A EditFault → Result A EditFault
+abbrev pub demand : {A : Type 0} → Bool → Fault → Result A Fault → Result A Fault
 demand met fault rest = if met then rest else Err fault
 
-abbrev pub row_or : {A : Type 0} → Option ArcRow → (ArcRow → Result A EditFault) → Result A EditFault
+abbrev pub row_or : {A : Type 0} → Option ArcRow → (ArcRow → Result A Fault) → Result A Fault
 row_or None rest = Err NoSuchArc
 row_or (Some row) rest = rest row
 
 abbrev pub with_arc : Instance → ℕ → ArcRow → Instance
 with_arc I k row = record I { arcs = slice_set I.arcs (k - 1) row }
 
-abbrev pub added : Instance → ℕ → ℕ → ℤ → ℤ → ℤ → Result Instance EditFault
+abbrev pub added : Instance → ℕ → ℕ → ℤ → ℤ → ℤ → Result Instance Fault
 added I tail head low cap cost =
     demand (is_node I.nodes tail && is_node I.nodes head) NoSuchNode (
-    demand (int_le low cap) LowAboveCap (
-    demand (is_across I.demand tail head) NotAcrossSides (
+    demand (int_le low cap) EditLowAboveCap (
+    demand (is_across I.demand tail head) EditNotAcrossSides (
     demand (has_room I) ArcTableFull (
     Ok (record I { arcs = I.arcs ++ record { tail = tail; head = head; low = low; cap = cap; cost = cost } ∷ [] })))))
 
-abbrev pub edited_by : Instance → Edit → Result Instance EditFault
+abbrev pub edited_by : Instance → Edit → Result Instance Fault
 edited_by I (Cap k cap) =
-    demand (is_bound cap) OutOfRange (row_or (arc_at I.arcs k) (λ row. demand (int_le row.low cap) LowAboveCap (Ok (with_arc I k (record row { cap = cap })))))
+    demand (is_bound cap) OutOfRange (row_or (arc_at I.arcs k) (λ row. demand (int_le row.low cap) EditLowAboveCap (Ok (with_arc I k (record row { cap = cap })))))
 edited_by I (Low k low) =
-    demand (is_bound low) OutOfRange (row_or (arc_at I.arcs k) (λ row. demand (int_le low row.cap) LowAboveCap (Ok (with_arc I k (record row { low = low })))))
+    demand (is_bound low) OutOfRange (row_or (arc_at I.arcs k) (λ row. demand (int_le low row.cap) EditLowAboveCap (Ok (with_arc I k (record row { low = low })))))
 edited_by I (Cost k cost) =
     demand (is_within COST_LIMIT cost) OutOfRange (row_or (arc_at I.arcs k) (λ row. Ok (with_arc I k (record row { cost = cost }))))
 edited_by I (Supply v value) =
@@ -97,18 +77,30 @@ edited_by I (Add tail head low cap cost) = demand (is_new_row (kind_of I.demand)
 edited_by I (Close k) = row_or (arc_at I.arcs k) (λ row. Ok (with_arc I k (record row { low = pos 0; cap = pos 0 })))
 
 -- each check in its order
-abbrev pub tried : Instance → Edit → Result Instance EditFault
+abbrev pub tried : Instance → Edit → Result Instance Fault
 tried I edit = demand (has_edit (kind_of I.demand) edit) NotForKind (edited_by I edit)
 
-abbrev pub by_number : Result Instance EditFault → Result Instance ℕ
+abbrev pub by_number : Result Instance Fault → Result Instance ℕ
 by_number (Ok I) = Ok I
-by_number (Err fault) = Err (refusal_number fault)
+by_number (Err fault) = Err (number_of fault)
 
 -- the number of the first refusal that applies, else the instance with that one change
 abbrev pub edited : Instance → Edit → Result Instance ℕ
 edited I edit = by_number (tried I edit)
 
--- whether it is done, without the instance
+-- ---- edits made together
+
+abbrev pub and_then : Result Instance ℕ → (Instance → Result Instance ℕ) → Result Instance ℕ
+and_then (Ok I) next = next I
+and_then (Err number) next = Err number
+
+-- one edit after the other, each on what those before it left; the first refusal wins
+unfoldable pub edited_all : Instance → List Edit → Result Instance ℕ
+edited_all I [] = Ok I
+edited_all I (edit ∷ edits) = and_then (edited I edit) (λ after. edited_all after edits)
+
+-- ---- whether it is done, without the instance
+
 abbrev pub outcome : {E : Type 0} → Result Instance E → Result (Unit {0}) E
 outcome (Ok I) = Ok tt
 outcome (Err fault) = Err fault

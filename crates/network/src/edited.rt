@@ -1,62 +1,12 @@
 //! Which edits an instance takes.
-ghost use Rattle.std.specs.Prelude.{◌≡◌, ◌≤◌, ◌&&◌, ℤ, Ok};
+ghost use Rattle.std.specs.Prelude.{◌≡◌, ◌≤◌, ◌&&◌, ℕ, ℤ, List, [], ◌∷◌, ◌++◌, Ok, Err};
 ghost use Rattle.dimacs_text.specs.declared.command.Edit.{Edit};
-ghost use Rattle.network.specs.Edited.{added, edited, edited_by, has_room, has_edit, is_across, is_bound, is_new_row, is_node, is_within, refusal_number, suits_kind, outcome, tried};
+ghost use Rattle.network.specs.Edited.{added, edited, edited_all, edited_by, has_room, is_across, is_bound, is_new_row, is_node, is_within, suits_kind, outcome, tried};
 ghost use Rattle.network.specs.Flow.{IsNode};
 ghost use Rattle.network.specs.Instance.{Instance, IsLawful, arc_at, kind_of, reduced};
 
 use crate::{Goal, Network};
-use dimacs_text::{ArcRow, CAP_LIMIT, COST_LIMIT, Edit, Kind, SUPPLY_LIMIT};
-
-/// Why an edit is refused.
-#[derive(Clone, Copy, Debug, PartialEq, Eq)]
-pub(crate) enum EditFault {
-    /// Problems of this kind do not have the edit.
-    NotForKind,
-    OutOfRange,
-    NoSuchArc,
-    NoSuchNode,
-    /// The lower bound would be above the capacity.
-    LowAboveCap,
-    /// The new arc does not lead from the source side to the sink side.
-    NotAcrossSides,
-    /// As many arcs stand as there is room.
-    ArcTableFull,
-}
-
-impl EditFault {
-    /// The number of the refusal.
-    fn number(self) -> u8
-        ensures { result ≡ refusal_number self }
-    {
-        match self {
-            EditFault::OutOfRange => 5,
-            EditFault::NoSuchArc => 20,
-            EditFault::NoSuchNode => 21,
-            EditFault::LowAboveCap => 22,
-            EditFault::NotForKind => 23,
-            EditFault::ArcTableFull => 24,
-            EditFault::NotAcrossSides => 27,
-        }
-    }
-}
-
-/// Do problems of this kind have the edit?
-fn has_edit(kind: Kind, edit: &Edit) -> bool
-    ensures { result ≡ has_edit kind edit.now }
-{
-    match kind {
-        Kind::Min => true,
-        Kind::Max => match edit {
-            Edit::Cap { .. } | Edit::Add { .. } | Edit::Close { .. } => true,
-            Edit::Low { .. } | Edit::Cost { .. } | Edit::Supply { .. } => false,
-        },
-        Kind::Asn => match edit {
-            Edit::Cost { .. } | Edit::Add { .. } | Edit::Close { .. } => true,
-            Edit::Cap { .. } | Edit::Low { .. } | Edit::Supply { .. } => false,
-        },
-    }
-}
+use dimacs_text::{ArcRow, CAP_LIMIT, COST_LIMIT, Edit, Fault, Kind, SUPPLY_LIMIT};
 
 /// Is it a bound of an arc?
 fn is_bound(x: i64) -> bool
@@ -129,63 +79,63 @@ impl Network {
     }
 
     /// May an arc have the capacity?
-    fn cap_edited(&self, arc: u64, cap: i64) -> Result<(), EditFault>
+    fn cap_edited(&self, arc: u64, cap: i64) -> Result<(), Fault>
         ensures { result ≡ outcome (edited_by self.now (Edit.Cap arc cap)) }
     {
         if !is_bound(cap) {
-            return Err(EditFault::OutOfRange);
+            return Err(Fault::OutOfRange);
         }
         let Some(row) = self.numbered_arc(arc) else {
-            return Err(EditFault::NoSuchArc);
+            return Err(Fault::NoSuchArc);
         };
         if row.low <= cap {
             Ok(())
         } else {
-            Err(EditFault::LowAboveCap)
+            Err(Fault::EditLowAboveCap)
         }
     }
 
     /// May an arc have the lower bound?
-    fn low_edited(&self, arc: u64, low: i64) -> Result<(), EditFault>
+    fn low_edited(&self, arc: u64, low: i64) -> Result<(), Fault>
         ensures { result ≡ outcome (edited_by self.now (Edit.Low arc low)) }
     {
         if !is_bound(low) {
-            return Err(EditFault::OutOfRange);
+            return Err(Fault::OutOfRange);
         }
         let Some(row) = self.numbered_arc(arc) else {
-            return Err(EditFault::NoSuchArc);
+            return Err(Fault::NoSuchArc);
         };
         if low <= row.cap {
             Ok(())
         } else {
-            Err(EditFault::LowAboveCap)
+            Err(Fault::EditLowAboveCap)
         }
     }
 
     /// May an arc have the cost?
-    fn cost_edited(&self, arc: u64, cost: i64) -> Result<(), EditFault>
+    fn cost_edited(&self, arc: u64, cost: i64) -> Result<(), Fault>
         ensures { result ≡ outcome (edited_by self.now (Edit.Cost arc cost)) }
     {
         if !is_cost(cost) {
-            return Err(EditFault::OutOfRange);
+            return Err(Fault::OutOfRange);
         }
         match self.numbered_arc(arc) {
             Some(_) => Ok(()),
-            None => Err(EditFault::NoSuchArc),
+            None => Err(Fault::NoSuchArc),
         }
     }
 
     /// May a node have the supply?
-    fn supply_edited(&self, node: u64, value: i64) -> Result<(), EditFault>
+    fn supply_edited(&self, node: u64, value: i64) -> Result<(), Fault>
         ensures { result ≡ outcome (edited_by self.now (Edit.Supply node value)) }
     {
         if !is_supply(value) {
-            return Err(EditFault::OutOfRange);
+            return Err(Fault::OutOfRange);
         }
         if self.is_node(node) {
             Ok(())
         } else {
-            Err(EditFault::NoSuchNode)
+            Err(Fault::NoSuchNode)
         }
     }
 
@@ -197,41 +147,41 @@ impl Network {
     }
 
     /// May an arc of lawful numbers be put between two nodes?
-    fn arc_added(&self, tail: u64, head: u64, low: i64, cap: i64) -> Result<(), EditFault>
+    fn arc_added(&self, tail: u64, head: u64, low: i64, cap: i64) -> Result<(), Fault>
         ensures { (cost : ℤ) → result ≡ outcome (added self.now tail head low cap cost) }
     {
         if !self.is_node(tail) || !self.is_node(head) {
-            return Err(EditFault::NoSuchNode);
+            return Err(Fault::NoSuchNode);
         }
         if low > cap {
-            return Err(EditFault::LowAboveCap);
+            return Err(Fault::EditLowAboveCap);
         }
         if !self.is_across(tail, head) {
-            return Err(EditFault::NotAcrossSides);
+            return Err(Fault::EditNotAcrossSides);
         }
         if self.has_room() {
             Ok(())
         } else {
-            Err(EditFault::ArcTableFull)
+            Err(Fault::ArcTableFull)
         }
     }
 
     /// May an arc be closed?
-    fn close_edited(&self, arc: u64) -> Result<(), EditFault>
+    fn close_edited(&self, arc: u64) -> Result<(), Fault>
         ensures { result ≡ outcome (edited_by self.now (Edit.Close arc)) }
     {
         match self.numbered_arc(arc) {
             Some(_) => Ok(()),
-            None => Err(EditFault::NoSuchArc),
+            None => Err(Fault::NoSuchArc),
         }
     }
 
     /// The first refusal of an edit that applies, if one does.
-    fn tested(&self, edit: &Edit) -> Result<(), EditFault>
+    fn tested(&self, edit: &Edit) -> Result<(), Fault>
         ensures { result ≡ outcome (tried self.now edit.now) }
     {
-        if !has_edit(self.kind(), edit) {
-            return Err(EditFault::NotForKind);
+        if !edit.is_for(self.kind()) {
+            return Err(Fault::NotForKind);
         }
         match *edit {
             Edit::Cap { arc, cap } => self.cap_edited(arc, cap),
@@ -246,7 +196,7 @@ impl Network {
                 cost,
             } => {
                 if !is_new_row(self.kind(), low, cap, cost) {
-                    return Err(EditFault::OutOfRange);
+                    return Err(Fault::OutOfRange);
                 }
                 self.arc_added(tail, head, low, cap)
             }
@@ -271,4 +221,15 @@ impl Network {
 pub fn edits_keep_lawful()
     ensures { (before : Instance) (edit : Edit) (after : Instance) → IsLawful before → edited before edit ≡ Ok after
         → IsLawful after }
+{}
+
+/// A law, with nothing to run: what edits that are made together lead to.
+pub fn edits_follow()
+    ensures one { (before : Instance) (edit : Edit) → edited_all before (edit ∷ []) ≡ edited before edit }
+    ensures made { (before between : Instance) (edits : List Edit) (more : List Edit)
+        → edited_all before edits ≡ Ok between → edited_all before (edits ++ more) ≡ edited_all between more }
+    ensures refused { (before : Instance) (edits : List Edit) (more : List Edit) (number : ℕ)
+        → edited_all before edits ≡ Err number → edited_all before (edits ++ more) ≡ Err number }
+    ensures lawful { (before : Instance) (edits : List Edit) (after : Instance) → IsLawful before
+        → edited_all before edits ≡ Ok after → IsLawful after }
 {}

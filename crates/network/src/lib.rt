@@ -21,7 +21,7 @@ ghost use Rattle.network.specs.Representation.{instance_of, IsSound};
 
 pub use check::{check_best, check_cut};
 use dimacs_text::ArcRow;
-pub use edited::edits_keep_lawful;
+pub use edited::{edits_follow, edits_keep_lawful};
 pub use limits::limits_are;
 pub use net::ends_come_once;
 pub use start::build;
