@@ -1,15 +1,14 @@
 -- What a walk keeps where its tables are written: each node on it stands at a level of its own.
-use Rattle.std.proofs.Common.{inl, inr, ◌≡◌, ◌≢◌, ℕ, zero, suc, ◌+◌, ◌*◌, ◌-◌, ◌<◌, ◌≤◌, ℤ, pos, ◌≤ℤ◌, Bool, true, false, not, cond, List, [], ◌∷◌, length, refl, sym, ap, subst, ◌∙◌, arith}
+use Rattle.std.proofs.Common.{◌≡◌, ◌≢◌, ℕ, zero, suc, ◌+◌, ◌*◌, ◌-◌, ◌<◌, ◌≤◌, ℤ, pos, ◌≤ℤ◌, Bool, true, false, not, cond, List, [], ◌∷◌, length, sym, ap, subst, ◌∙◌, arith}
 use Rattle.std.specs.Prelude.{slice_set}
 use Rattle.std.specs.List.{All, AllPairs, count_by}
 use Rattle.std.proofs.lemmas.Int.{ints}
-use Rattle.std.proofs.lemmas.Bool.{cases_eq}
-use Rattle.std.proofs.lemmas.List.{get_or-set_other, get_or-set_same, length-set}
+use Rattle.std.proofs.lemmas.List.{get_or-set_other, get_or-set_same}
 use Rattle.std.proofs.lemmas.List.Elements.{All-nil, All-cons, All-weaker}
 use Rattle.std.proofs.lemmas.List.Kept.{AllPairs-cons}
 use Rattle.std.proofs.lemmas.List.Sums.{sum_by-set}
 use Rattle.dimacs_text.specs.declared.problem.ArcRow.{ArcRow}
-use Rattle.shortest_paths.specs.declared.blocking.ResidualArc.{ResidualArc}
+use Rattle.shortest_paths.specs.declared.residual.ResidualArc.{ResidualArc}
 use Rattle.shortest_paths.specs.declared.blocking.Walks.{Walks}
 use Rattle.shortest_paths.specs.declared.residual.Way.{Way}
 use Rattle.shortest_paths.specs.declared.residual.Way.TheVariants.{Forward, Backward}
@@ -18,7 +17,7 @@ use Rattle.shortest_paths.specs.Cut.{in_set}
 use Rattle.shortest_paths.specs.Residual.{IsFlow, arc_at, number_at, room_of, start_at, end_at}
 use Rattle.shortest_paths.specs.Search.{depth_at}
 use Rattle.shortest_paths.specs.Push.{Hop, IsPath, IsTight, HasRoom, moved, nodes_on, push_along}
-use Rattle.shortest_paths.specs.Blocking.{IsStep, IsWalk, IsOnWalk, IsSteppedTo, IsAdmissible, IsWalksFor, IsWay, back_at, head_at, hops_of, hops_from}
+use Rattle.shortest_paths.specs.Blocking.{IsStep, IsWalk, IsOnWalk, IsSteppedTo, IsWalksFor, IsWay, back_at, head_at, hops_of, hops_from}
 use Rattle.shortest_paths.proofs.PushLemmas.{Avoids, AreApart, HasRoom-set, IsFlow-set, IsWithin-moved}
 
 -- one node more that is dead is one less that is not

@@ -1,5 +1,5 @@
 -- Sums over sets of nodes, which set has the greatest surplus, and the line of marked nodes by which a set grows.
-use Rattle.std.proofs.Common.{◌≡◌, ℕ, zero, suc, ◌+◌, ◌/◌, ◌%◌, ◌<◌, ℤ, pos, negsuc, neg_ℤ, ◌-ℤ◌, ◌+ℤ◌, ◌≤ℤ◌, List, [], ◌∷◌, length, map, replicate, refl, sym, ap, subst, ◌∙◌, inl, inr, arith, Bool, true, false, cond, eqb, not, ◌&&◌}
+use Rattle.std.proofs.Common.{◌≡◌, ℕ, zero, suc, ◌+◌, ◌<◌, ℤ, pos, negsuc, neg_ℤ, ◌-ℤ◌, ◌+ℤ◌, ◌≤ℤ◌, List, [], ◌∷◌, length, map, replicate, refl, sym, ap, subst, ◌∙◌, inl, inr, arith, Bool, true, false, cond, not, ◌&&◌}
 use Rattle.std.specs.Prelude.{◌<ℤ◌, slice_set}
 use Rattle.std.proofs.lemmas.Int.{ints, by_lt_z}
 use Rattle.std.proofs.lemmas.Bool.{cases_eq, cases_lt, false≢true, true≢false, true_from_ne_false, false_from_ne_true}
@@ -9,14 +9,13 @@ use Rattle.std.proofs.lemmas.List.{length-map, length-set, get_or-set_same, get_
 use Rattle.dimacs_text.specs.declared.problem.ArcRow.{ArcRow}
 use Rattle.shortest_paths.specs.declared.residual.Way.{Way}
 use Rattle.shortest_paths.specs.declared.residual.Way.TheVariants.{Forward, Backward}
-use Rattle.shortest_paths.specs.Residual.{IsFlow, IsRow, IsWithin, number_at, arc_at, start_of, end_of, start_at, end_at, room_of, IsResidual}
+use Rattle.shortest_paths.specs.Residual.{IsFlow, IsRow, IsWithin, number_at, arc_at, other_way, start_of, end_of, start_at, end_at, room_of, IsResidual}
 use Rattle.network.specs.Flow.{net, outflow, inflow}
-use Rattle.network.specs.Instance.{Instance}
-use Rattle.shortest_paths.specs.declared.star.Spoke.{Spoke}
-use Rattle.shortest_paths.specs.Star.{NamesOther}
-use Rattle.shortest_paths.specs.Walk.{AllEnds, AreRowsOf}
-use Rattle.shortest_paths.proofs.StarLemmas.{other_starts}
-use Rattle.shortest_paths.proofs.WalkLemmas.{all_met}
+use Rattle.shortest_paths.specs.declared.graph.Graph.{Graph}
+use Rattle.shortest_paths.specs.declared.walk.End.{End}
+use Rattle.shortest_paths.specs.declared.walk.Walk.{Walk}
+use Rattle.shortest_paths.specs.Ends.{NothingToCome}
+use Rattle.shortest_paths.proofs.EndLemmas.{AllHaveOrCome, all_ends_met, all_entering}
 use Rattle.shortest_paths.specs.declared.cut.Side.{Side}
 use Rattle.shortest_paths.specs.declared.cut.Side.TheVariants.{Ahead, Behind}
 use Rattle.shortest_paths.specs.Push.{IsExcess, at_node, positive_part, left}
@@ -26,7 +25,7 @@ use Rattle.shortest_paths.specs.declared.visit.Mark.TheVariants.{Unreached, Open
 use Rattle.shortest_paths.specs.declared.visit.Visit.{Visit}
 use Rattle.shortest_paths.specs.Search.{visit_at, mark_at, is_unsettled, is_not_settled, IsReached, AllRelaxed, IsFromExcess, IsExhausted}
 use Rattle.shortest_paths.proofs.SearchLemmas.{in_range}
-use Rattle.shortest_paths.specs.Cut.{in_set, sum_in, sum_leaving, sum_entering, surplus, shortfall, IsLeastSet, IsRoot, amount, near_at, far_at, way_from, IsClosed, HoldsRoots, IsSide, IsParted, IsChosenSet, IsFarIn, AreFarIn, node_at, IsListed, IsLineOf, IsGrown, lack}
+use Rattle.shortest_paths.specs.Cut.{in_set, sum_in, sum_leaving, sum_entering, surplus, shortfall, IsLeastSet, IsRoot, amount, near_at, far_at, leading, IsClosed, HoldsRoots, IsSide, IsParted, IsChosenSet, IsFarIn, AreFarIn, node_at, IsListed, IsLineOf, IsGrown, lack}
 
 pub sum_in-same : (set : List Bool) (f g : ℕ → ℤ) → ((v : ℕ) → f v ≡ g v) → sum_in set f ≡ sum_in set g
 sum_in-same [] f g same = refl
@@ -509,36 +508,41 @@ marked_in set v h = elim (cases_lt v (length set)) [
 
 -- ---- the walk over the ends at a node
 
--- the node that a spoke names is the far node of the residual arc that leads on from its end
-pub other_is_far : (side : Side) (rows : List ArcRow) (row : ℕ) (spoke : Spoke) → NamesOther rows row spoke → far_at side rows (spoke.end / 2 + row) (way_from side spoke.end) ≡ spoke.other
-other_is_far Ahead rows row spoke named = sym named
-other_is_far Behind rows row spoke named = other_starts rows row spoke named
+-- the way of the residual arc that leads on, where the one that leaves the node goes in this way
+abbrev pub way_on : Side → Way → Way
+way_on Ahead way = way
+way_on Behind way = other_way way
 
--- the other way along an arc
-abbrev other_way : Way → Way
-other_way Forward = Backward
-other_way Backward = Forward
+pub leading_is : (side : Side) (end : End) → leading side end ≡ record { arc = end.leaving.arc; way = way_on side end.leaving.way }
+leading_is Ahead end = refl
+leading_is Behind end = refl
 
-other_way_if : (even : Bool) → cond even Forward Backward ≡ other_way (cond even Backward Forward)
-other_way_if true = refl
-other_way_if false = refl
+-- that residual arc goes from the node to the other one
+pub leads_from : (side : Side) (arcs : List ArcRow) (k : ℕ) (way : Way) → near_at side arcs k (way_on side way) ≡ start_at arcs k way
+leads_from Ahead arcs k way = refl
+leads_from Behind arcs k Forward = refl
+leads_from Behind arcs k Backward = refl
 
--- each residual arc that leads on from a node goes along the return arc, or from one of the node's ends
-pub far_in_all : (side : Side) (I : Instance) (rows : List ArcRow) (x : List ℤ) (set : List Bool) (v row : ℕ) → AreRowsOf I rows → row + length I.arcs ≡ length rows
-    → (0 < row → (way : Way) → near_at side rows 0 way ≡ v → IsFarIn side rows x set 0 way)
-    → AllEnds I.arcs v (λ end. near_at side rows (end / 2 + row) (way_from side end) ≡ v → IsFarIn side rows x set (end / 2 + row) (way_from side end)) → AreFarIn side rows x set v
-far_in_all Behind I rows x set v row of split first walked k way near residual =
-    all_met I rows v row (λ k way. end_at rows k way ≡ v → IsFarIn Behind rows x set k way) of split first walked k way residual.is_arc near near residual
-far_in_all Ahead I rows x set v row of split first walked k way near residual = by_way way near residual
-  where
-    P : ℕ → Way → Type 0
-    P k way = start_at rows k (other_way way) ≡ v → IsFarIn Ahead rows x set k (other_way way)
+pub leads_to : (side : Side) (arcs : List ArcRow) (k : ℕ) (way : Way) → far_at side arcs k (way_on side way) ≡ end_at arcs k way
+leads_to Ahead arcs k way = refl
+leads_to Behind arcs k Forward = refl
+leads_to Behind arcs k Backward = refl
 
-    met : (k : ℕ) (way : Way) → k < length rows → end_at rows k way ≡ v → P k way
-    met =
-        all_met I rows v row P of split (λ some way. first some (other_way way))
-        (λ end lt at. subst (λ (w : Way). start_at rows (end / 2 + row) w ≡ v → IsFarIn Ahead rows x set (end / 2 + row) w) (other_way_if (eqb (end % 2) 0)) (walked end lt at))
+-- each residual arc that leads on from a node is met by a walk
+pub far_in_met : (side : Side) (g : Graph) (w : Walk) (v : ℕ) (x : List ℤ) (set : List Bool) → AllHaveOrCome g w v (λ k way. IsFarIn side g.rows.items x set k (way_on side way)) → NothingToCome g w
+    → AreFarIn side g.rows.items x set v
+far_in_met Ahead g w v x set done nothing k way near residual = all_ends_met g w v (λ k way. IsFarIn Ahead g.rows.items x set k way) done nothing k way residual.is_arc near residual
+far_in_met Behind g w v x set done nothing k way near residual = all_entering g w v (λ k way. IsFarIn Behind g.rows.items x set k way) done nothing k way residual.is_arc near residual
 
-    by_way : (way : Way) → start_at rows k way ≡ v → IsFarIn Ahead rows x set k way
-    by_way Forward near residual = met k Backward residual.is_arc near near residual
-    by_way Backward near residual = met k Forward residual.is_arc near near residual
+-- the node to which a residual arc leads on is marked
+pub IsGrown-put : (side : Side) (arcs : List ArcRow) (x : List ℤ) (set : List Bool) (line : List ℕ) (len v k : ℕ) (way : Way) → IsLineOf set line len → IsResidual arcs x k way → in_set set (near_at side arcs k way) ≡ true
+    → far_at side arcs k way ≡ v → v < length set → in_set set v ≡ false → IsGrown side arcs x set line len (slice_set set v true) (slice_set line len v) (len + 1)
+IsGrown-put side arcs x set line len v k way is residual near far node out = record {
+  kept = λ w h. set_kept set line len v is node out w h;
+  least = λ other closed holds w h. elim (cases_eq w v) [
+    | inl same ↦ subst (λ (q : ℕ). in_set other q ≡ true) (far ∙ sym same) (closed k way residual (holds (near_at side arcs k way) near))
+    | inr ne ↦ holds w (sym (get_or-set_other set v w true false ne) ∙ h)
+  ];
+  no_shorter = omega arith;
+  same_before = λ j lt. line_kept set line len v is node out j lt;
+}

@@ -1,5 +1,5 @@
 -- The first walk after a search takes the path by which the search came.
-use Rattle.std.proofs.Common.{◌≡◌, ℕ, zero, suc, ◌+◌, ◌<◌, ℤ, pos, Bool, false, List, [], ◌∷◌, length, refl, sym, ap, subst, ◌∙◌, inl, inr, arith}
+use Rattle.std.proofs.Common.{◌≡◌, ℕ, ℤ, pos, Bool, List, ap, subst, inl, inr, arith}
 use Rattle.std.specs.Prelude.{◌<ℤ◌}
 use Rattle.std.proofs.lemmas.Int.{ints}
 use Rattle.std.proofs.lemmas.Bool.{cases_lt}
@@ -7,7 +7,7 @@ use Rattle.dimacs_text.specs.declared.problem.ArcRow.{ArcRow}
 use Rattle.shortest_paths.specs.declared.visit.Mark.TheVariants.{Settled}
 use Rattle.shortest_paths.specs.declared.visit.Visit.{Visit}
 use Rattle.shortest_paths.specs.Residual.{number_at}
-use Rattle.shortest_paths.specs.Search.{depth_at, mark_at, visit_at}
+use Rattle.shortest_paths.specs.Search.{depth_at, mark_at}
 use Rattle.shortest_paths.specs.Push.{ArePaths, CanPush, HasRoom, path_to, root_of, root_to}
 use Rattle.shortest_paths.specs.Blocking.{AreAlive, IsAdmissible}
 use Rattle.shortest_paths.proofs.PushLemmas.{arc_to, way_to, before, here_room, root_step}

@@ -1,18 +1,20 @@
 -- How the pass that takes the labels goes on.
-use Rattle.std.proofs.Common.{◌≡◌, ◌≢◌, ℕ, ◌+◌, ◌<◌, ◌≤◌, ℤ, pos, neg_ℤ, ◌+ℤ◌, ◌≤ℤ◌, List, length, refl, sym, ap, subst, ◌∙◌, inl, inr, arith, cond, w64, to_z, of_z, SFits}
+use Rattle.std.proofs.Common.{◌≡◌, ◌≢◌, ℕ, ◌+◌, ◌<◌, ◌≤◌, ℤ, pos, neg_ℤ, ◌+ℤ◌, ◌≤ℤ◌, List, length, refl, sym, ap, subst, ◌∙◌, ◌⊎◌, inl, inr, arith, cond, w64, to_z, of_z, SFits, Some, None}
+use Rattle.std.specs.Prelude.{IfSome, Option}
 use Rattle.std.proofs.lemmas.Int.{ints, to_z-of_z}
 use Rattle.std.proofs.lemmas.Bool.{cases_eq, cases_lt}
 use Rattle.std.proofs.lemmas.List.Sums.{count_by-le-length}
 use Rattle.dimacs_text.specs.declared.problem.ArcRow.{ArcRow}
+use Rattle.shortest_paths.specs.declared.residual.ResidualArc.{ResidualArc}
 use Rattle.shortest_paths.specs.declared.residual.Way.{Way}
 use Rattle.shortest_paths.specs.declared.residual.Way.TheVariants.{Forward, Backward}
 use Rattle.shortest_paths.specs.declared.visit.Mark.{Mark}
 use Rattle.shortest_paths.specs.declared.visit.Mark.TheVariants.{Unreached, Open, Settled}
 use Rattle.shortest_paths.specs.declared.visit.Visit.{Visit}
-use Rattle.shortest_paths.specs.Labels.{IsForest, Reaches, Opens, IsShortest, NothingOpen, IsEntered}
+use Rattle.shortest_paths.specs.Labels.{IsForest, IsHop, IsNoDearer, IsThrough, Reaches, Opens, IsShortest, NothingOpen, IsEntered}
 use Rattle.shortest_paths.specs.Queue.{IsPassedKey}
 use Rattle.shortest_paths.specs.Residual.{IsCertified, IsRow, IsWithin, room_of, number_at, arc_at, start_at, end_at, IsResidual}
-use Rattle.shortest_paths.specs.Search.{is_not_settled, is_unsettled, visit_at, mark_at, key_at, depth_at, IsReached, unsettled, IsTraced, IsTracedBy, IsRelaxed, AllRelaxed, TakesBy, Takes}
+use Rattle.shortest_paths.specs.Search.{is_not_settled, is_unsettled, visit_at, mark_at, key_at, depth_at, IsReached, unsettled, IsTraced, IsTracedBy, IsRelaxed, AllRelaxed, TakesBy, Takes, reduced_at, root_visit}
 use Rattle.shortest_paths.proofs.SearchLemmas.{IsPut, IsTraced-stays, weight_of, weight_unsettled, end_of-in, settled_is_reached, open_is_reached}
 
 -- ---- a residual arc
@@ -264,3 +266,41 @@ opens_no_nearer arcs x p s v e present certified forest passed opens =
       | inl deep ↦ (let by = opens.reaches.through deep in omega (arith, ints, low, by.key, certified.none_below e.arc e.way by.hop.residual))
       | inr flat ↦ omega (arith, ints, low, opens.reaches.root (omega (arith, flat)), certified.potentials.at_most_0 v)
     ]
+
+-- ---- the nearest visit
+
+-- what is found along a residual arc to node v: nothing where it is no hop from a settled node
+pub record IsFound (arcs : List ArcRow) (x p : List ℤ) (s : List Visit) (v : ℕ) (a : ResidualArc) (found : Option Visit) : Type 0 where
+  pub none : found ≡ None → IsHop arcs x s v a.arc a.way → ⊥
+  pub through : IfSome found (IsThrough arcs x p s v)
+  pub is_open : IfSome found (λ e. e.mark ≡ Open)
+  pub along : IfSome found (λ e. (e.arc ≡ a.arc) × (e.way ≡ a.way))
+
+pub root_opens : (arcs : List ArcRow) (x p : List ℤ) (s : List Visit) (v : ℕ) → Opens arcs x p s v (root_visit (number_at p v))
+root_opens arcs x p s v = record {
+  is_open = refl;
+  reaches = record {
+    root = λ none. refl;
+    through = λ deep. absurd (omega (arith, deep));
+    at_most_0 = omega (arith, ints);
+  };
+}
+
+pub nearer_opens : (arcs : List ArcRow) (x p : List ℤ) (s : List Visit) (v : ℕ) (a : ResidualArc) (best e : Visit) (found : Option Visit) → IsFound arcs x p s v a found → Opens arcs x p s v best → e.key ≤ℤ best.key
+    → (e ≡ best) ⊎ (found ≡ Some e) → Opens arcs x p s v e
+nearer_opens arcs x p s v a best e found is opens falls (inl same) = subst (Opens arcs x p s v) (sym same) opens
+nearer_opens arcs x p s v a best e found is opens falls (inr this) =
+    let through : IsThrough arcs x p s v e = subst (λ (o : Option Visit). IfSome o (IsThrough arcs x p s v)) this is.through in
+    record {
+      is_open = subst (λ (o : Option Visit). IfSome o (λ e. e.mark ≡ Open)) this is.is_open;
+      reaches = record {
+        root = λ none. absurd (omega (arith, none, through.deeper));
+        through = λ deep. through;
+        at_most_0 = omega (arith, ints, falls, opens.reaches.at_most_0);
+      };
+    }
+
+pub nearer_than : (arcs : List ArcRow) (x p : List ℤ) (s : List Visit) (v : ℕ) (a : ResidualArc) (e : Visit) (found : Option Visit) → IsFound arcs x p s v a found → IfSome found (λ other. e.key ≤ℤ other.key) → IsNoDearer arcs x p s v e a.arc a.way
+nearer_than arcs x p s v a e None is le hop = absurd (is.none refl hop)
+nearer_than arcs x p s v a e (Some other) is le hop =
+    omega (arith, ints, le, is.through.key, ap (λ (k : ℕ). reduced_at arcs p k other.way) is.along.0, ap (λ (w : Way). reduced_at arcs p a.arc w) is.along.1)

@@ -14,3 +14,4 @@ pub mod StarLemmas
 pub mod TrailLemmas
 pub mod TouchedLemmas
 pub mod ApartLemmas
+pub mod EndLemmas

@@ -1,12 +1,11 @@
 -- Paths behind the nodes that a search reached, and the flow pushed along them.
-use Rattle.std.proofs.Common.{◌≡◌, ◌≢◌, ℕ, zero, suc, ◌+◌, ◌<◌, ◌≤◌, ℤ, pos, ◌-ℤ◌, ◌+ℤ◌, ◌≤ℤ◌, List, [], ◌∷◌, length, refl, sym, ap, subst, ◌∙◌, inl, inr, arith, Bool, true, false, cond, add-one, eqb}
+use Rattle.std.proofs.Common.{◌≡◌, ◌≢◌, ℕ, zero, suc, ◌+◌, ◌<◌, ℤ, pos, ◌-ℤ◌, ◌+ℤ◌, ◌≤ℤ◌, List, [], ◌∷◌, length, refl, sym, ap, subst, ◌∙◌, inl, inr, arith, Bool, true, false, cond, add-one, eqb}
 use Rattle.std.specs.Prelude.{slice_set}
-use Rattle.std.specs.List.{All, AllPairs}
+use Rattle.std.specs.List.{All}
 use Rattle.std.proofs.lemmas.Int.{ints}
 use Rattle.std.proofs.lemmas.Bool.{cases_eq, eq-eqb, ne_eqb}
 use Rattle.std.proofs.lemmas.List.{get_or-set_same, get_or-set_other, length-set}
-use Rattle.std.proofs.lemmas.List.Elements.{All-nil, All-cons, All-head, All-tail, All-weaker}
-use Rattle.std.proofs.lemmas.List.Kept.{AllPairs-cons}
+use Rattle.std.proofs.lemmas.List.Elements.{All-nil, All-cons, All-head, All-tail}
 use Rattle.dimacs_text.specs.declared.problem.ArcRow.{ArcRow}
 use Rattle.shortest_paths.specs.declared.residual.Way.{Way}
 use Rattle.shortest_paths.specs.declared.residual.Way.TheVariants.{Forward, Backward}
@@ -14,9 +13,8 @@ use Rattle.shortest_paths.specs.declared.visit.Visit.{Visit}
 use Rattle.shortest_paths.specs.Residual.{IsRow, IsWithin, IsFlow, NoneBelow, number_at, arc_at, room_of, start_at, end_at, cost_at}
 use Rattle.shortest_paths.specs.declared.visit.Mark.TheVariants.{Settled}
 use Rattle.shortest_paths.specs.Search.{visit_at, mark_at, depth_at}
-use Rattle.shortest_paths.proofs.SearchLemmas.{IsPut, IsPut-set}
 use Rattle.network.specs.Flow.{net, outflow, inflow}
-use Rattle.shortest_paths.specs.Push.{Hop, IsPath, nodes_on, moved, IsShift, path_of, root_of, path_to, IsCameBy, HavePaths, ArePaths, IsHopTo, HasRoom, push_along, IsTight, at_node, IsTransfer}
+use Rattle.shortest_paths.specs.Push.{Hop, IsPath, moved, IsShift, path_of, root_of, path_to, HavePaths, HasRoom, push_along, IsTight, at_node, IsTransfer}
 
 -- the last arc of the path to v, and the node before it
 abbrev pub arc_to : List Visit → ℕ → ℕ

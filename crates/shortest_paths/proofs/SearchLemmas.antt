@@ -471,3 +471,11 @@ module _ (arcs : List ArcRow) (x p : List ℤ) (s t : List Visit) (u : ℕ)
             let depth : depth_at t v ≡ 0 = sym (ap (λ (e : Visit). e.depth) same) ∙ d in
             (reached_before v reached, sym (depth_same v) ∙ depth, ap (λ (e : Visit). e.key) same ∙ key_same v));
       }
+
+-- a residual arc from the node settled last to a settled node is relaxed
+pub relaxed_settled : (arcs : List ArcRow) (x p : List ℤ) (s : List Visit) (k : ℕ) (way : Way) → IsCertified arcs x p → IsLastSettled s (start_at arcs k way) → IsResidual arcs x k way
+    → mark_at s (end_at arcs k way) ≡ Settled → IsRelaxed arcs p s k way
+relaxed_settled arcs x p s k way certified last residual settled = record {
+  reached = settled_is_reached s (end_at arcs k way) settled;
+  no_dearer = omega (arith, ints, certified.none_below k way residual, last.furthest (end_at arcs k way) settled);
+}

@@ -16,7 +16,7 @@ use Rattle.network.specs.Flow.{net}
 use Rattle.shortest_paths.specs.Push.{Hop, IsExcess, IsPush, Pushes, path_of, root_to, HavePaths, ArePathsTight, HasRoom, IsTransfer, IsUnderWay, ArePushes, CanPush, push_along, at_node, AreSmall, positive_part, left}
 use Rattle.shortest_paths.specs.Settle.{IsNear}
 use Rattle.shortest_paths.specs.Cut.{lack}
-use Rattle.shortest_paths.proofs.SearchLemmas.{settled_is_reached, in_range}
+use Rattle.shortest_paths.proofs.SearchLemmas.{settled_is_reached}
 use Rattle.shortest_paths.proofs.RunLemmas.{lowered_none_below}
 use Rattle.shortest_paths.proofs.BlockingLemmas.{IsAlong}
 use Rattle.shortest_paths.proofs.PushLemmas.{arc_to, way_to, before, root_reached, IsShift-along, IsFlow-along, NoneBelow-along, net-along, at_same, at_other}

@@ -1,15 +1,16 @@
 -- Sets of nodes whose supply cannot leave, or whose demand cannot be met
 -- (Ahuja, Magnanti, Orlin, "Network Flows": feasibility of flows, cuts).
-use Rattle.std.specs.Prelude.{◌≡◌, ℕ, suc, ◌+◌, ◌/◌, ◌<◌, ◌≤◌, ℤ, pos, neg_ℤ, ◌-ℤ◌, ◌+ℤ◌, ◌≤ℤ◌, List, [], ◌∷◌, length, slice_index_or, Bool, true, false, if◌then◌else◌, ◌&&◌, not, IsTrue}
+use Rattle.std.specs.Prelude.{◌≡◌, ℕ, suc, ◌+◌, ◌<◌, ◌≤◌, ℤ, pos, neg_ℤ, ◌-ℤ◌, ◌+ℤ◌, ◌≤ℤ◌, List, [], ◌∷◌, length, slice_index_or, Bool, true, false, if◌then◌else◌, ◌&&◌, not, IsTrue}
 use Rattle.dimacs_text.specs.declared.problem.ArcRow.{ArcRow}
 use Rattle.std.specs.Prelude.{◌<ℤ◌}
 use Rattle.std.specs.List.{sum_by, count_by}
+use Rattle.shortest_paths.specs.declared.residual.ResidualArc.{ResidualArc}
 use Rattle.shortest_paths.specs.declared.residual.Way.{Way}
+use Rattle.shortest_paths.specs.declared.walk.End.{End}
 use Rattle.shortest_paths.specs.declared.cut.Side.{Side}
 use Rattle.shortest_paths.specs.declared.cut.Side.TheVariants.{Ahead, Behind}
 use Rattle.shortest_paths.specs.Push.{positive_part, left}
-use Rattle.shortest_paths.specs.Residual.{number_at, arc_at, start_of, end_of, IsResidual}
-use Rattle.shortest_paths.specs.Walk.{end_way, way_to_end}
+use Rattle.shortest_paths.specs.Residual.{number_at, arc_at, start_of, end_of, turned, IsResidual}
 
 -- whether node v is in the set
 abbrev pub in_set : List Bool → ℕ → Bool
@@ -76,10 +77,10 @@ near_at side arcs k way = near_of side (arc_at arcs k) way
 abbrev pub far_at : Side → List ArcRow → ℕ → Way → ℕ
 far_at side arcs k way = far_of side (arc_at arcs k) way
 
--- the way in which the residual arc whose near node is at an end of an arc goes along it
-abbrev pub way_from : Side → ℕ → Way
-way_from Ahead end = end_way end
-way_from Behind end = way_to_end end
+-- the residual arc that leads on from an end of an arc
+abbrev pub leading : Side → End → ResidualArc
+leading Ahead end = end.leaving
+leading Behind end = turned end.leaving
 
 -- no residual arc leads on out of the set: ahead none leaves it, and behind none enters it
 abbrev pub IsClosed : Side → List ArcRow → List ℤ → List Bool → Type 0
@@ -102,12 +103,6 @@ pub record IsParted (arcs : List ArcRow) (x e : List ℤ) : Type 0 where
   pub holds : HoldsRoots Ahead e set
   pub no_deficit : (v : ℕ) → in_set set v ≡ true → pos 0 ≤ℤ number_at e v
 
--- the residual arc along arc k is there, and leads on out of the set
-pub record LeadsOut (side : Side) (arcs : List ArcRow) (x : List ℤ) (set : List Bool) (k : ℕ) (way : Way) : Type 0 where
-  pub residual : IsResidual arcs x k way
-  pub near_inside : in_set set (near_at side arcs k way) ≡ true
-  pub far_outside : in_set set (far_at side arcs k way) ≡ false
-
 -- the residual arc along arc k, where it is there, has its far node in the set
 abbrev pub IsFarIn : Side → List ArcRow → List ℤ → List Bool → ℕ → Way → Type 0
 IsFarIn side arcs x set k way = IsResidual arcs x k way → in_set set (far_at side arcs k way) ≡ true
@@ -115,11 +110,6 @@ IsFarIn side arcs x set k way = IsResidual arcs x k way → in_set set (far_at s
 -- so has each residual arc that leads on from node v
 abbrev pub AreFarIn : Side → List ArcRow → List ℤ → List Bool → ℕ → Type 0
 AreFarIn side arcs x set v = (k : ℕ) (way : Way) → near_at side arcs k way ≡ v → IsFarIn side arcs x set k way
-
--- so has the residual arc that leads on from an end, where its near node is in the set `from`; the first arc has this row
-abbrev pub IsEndFarIn : Side → List ArcRow → List ℤ → List Bool → List Bool → ℕ → ℕ → Type 0
-IsEndFarIn side rows x from set row end =
-    in_set from (near_at side rows (end / 2 + row) (way_from side end)) ≡ true → IsFarIn side rows x set (end / 2 + row) (way_from side end)
 
 -- the node at a place in a line
 abbrev pub node_at : List ℕ → ℕ → ℕ

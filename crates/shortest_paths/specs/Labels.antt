@@ -1,6 +1,6 @@
 -- The pass that takes the labels: a forest of shortest paths, of which what still stands is kept
 -- (Ahuja, Magnanti, Orlin, "Network Flows": shortest path trees, distance labels as potentials).
-use Rattle.std.specs.Prelude.{◌≡◌, ◌≢◌, ℕ, ◌+◌, ◌/◌, ◌<◌, ◌≤◌, ℤ, pos, neg_ℤ, ◌+ℤ◌, ◌≤ℤ◌, List, length, slice_index}
+use Rattle.std.specs.Prelude.{◌≡◌, ◌≢◌, ℕ, ◌+◌, ◌<◌, ◌≤◌, ℤ, pos, neg_ℤ, ◌+ℤ◌, ◌≤ℤ◌, List, length, slice_index}
 use Rattle.dimacs_text.specs.declared.problem.ArcRow.{ArcRow}
 use Rattle.shortest_paths.specs.declared.labels.Labels.{Labels}
 use Rattle.shortest_paths.specs.declared.residual.Way.{Way}
@@ -8,7 +8,6 @@ use Rattle.shortest_paths.specs.declared.visit.Mark.TheVariants.{Open, Settled}
 use Rattle.shortest_paths.specs.declared.visit.Visit.{Visit}
 use Rattle.shortest_paths.specs.Residual.{number_at, start_at, end_at, IsResidual}
 use Rattle.shortest_paths.specs.Search.{mark_at, key_at, depth_at, IsReached, IsSearch, IsRelaxed, reduced_at}
-use Rattle.shortest_paths.specs.Walk.{way_to_end}
 
 -- the tables have one entry a node
 pub record IsLabelsFor (entries : ℕ) (l : Labels) : Type 0 where
@@ -62,10 +61,6 @@ IsNoDearer arcs x p s v e k way = IsHop arcs x s v k way → e.key ≤ℤ reduce
 -- node v is no dearer by e than by any residual arc from a settled node
 abbrev pub IsShortest : List ArcRow → List ℤ → List ℤ → List Visit → ℕ → Visit → Type 0
 IsShortest arcs x p s v e = (k : ℕ) (way : Way) → IsNoDearer arcs x p s v e k way
-
--- node v is no dearer by e than by the residual arc to this end; the first arc has this row
-abbrev pub IsEndNoDearer : List ArcRow → List ℤ → List ℤ → List Visit → ℕ → Visit → ℕ → ℕ → Type 0
-IsEndNoDearer rows x p s v e row end = IsNoDearer rows x p s v e (end / 2 + row) (way_to_end end)
 
 -- no node is open
 abbrev pub NothingOpen : List Visit → Type 0

@@ -15,3 +15,4 @@ pub mod Scratch
 pub mod Walk
 pub mod Star
 pub mod Blocking
+pub mod Ends

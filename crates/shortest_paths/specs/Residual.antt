@@ -3,6 +3,7 @@
 use Rattle.shortest_paths.specs.Limits.{potential_floor, cost_limit, flow_limit, entry_limit, row_limit}
 use Rattle.std.specs.Prelude.{◌≡◌, ℕ, ◌+◌, ◌*◌, ◌<◌, ◌≤◌, ℤ, pos, neg_ℤ, ◌-ℤ◌, ◌+ℤ◌, ◌<ℤ◌, ◌≤ℤ◌, List, length, slice_index_or}
 use Rattle.dimacs_text.specs.declared.problem.ArcRow.{ArcRow}
+use Rattle.shortest_paths.specs.declared.residual.ResidualArc.{ResidualArc}
 use Rattle.shortest_paths.specs.declared.residual.Way.{Way}
 use Rattle.shortest_paths.specs.declared.residual.Way.TheVariants.{Forward, Backward}
 
@@ -15,6 +16,15 @@ start_of a Backward = a.head
 abbrev pub end_of : ArcRow → Way → ℕ
 end_of a Forward = a.head
 end_of a Backward = a.tail
+
+-- the other way along an arc
+abbrev pub other_way : Way → Way
+other_way Forward = Backward
+other_way Backward = Forward
+
+-- the residual arc along the same arc in the other way
+abbrev pub turned : ResidualArc → ResidualArc
+turned a = record { arc = a.arc; way = other_way a.way }
 
 -- what a unit of flow along the residual arc costs
 abbrev pub cost_of : ArcRow → Way → ℤ

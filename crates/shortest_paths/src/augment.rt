@@ -10,9 +10,9 @@ ghost use Rattle.shortest_paths.specs.Push.{ArePaths, HasRoom, push_along, moved
 ghost use Rattle.shortest_paths.specs.Touched.{AreNoted};
 ghost use Rattle.shortest_paths.specs.Trail.{IsTrailOf};
 
-use crate::blocking::{ResidualArc, Walks, find_path};
+use crate::blocking::{Walks, find_path};
 use crate::graph::Graph;
-use crate::residual::Way;
+use crate::residual::{ResidualArc, Way};
 use crate::touched::Touched;
 use crate::trail::Trail;
 use crate::visit::Visit;

@@ -1,11 +1,11 @@
 //! The network in the forms that searches read.
 
-ghost use Rattle.std.specs.Prelude.{◌≡◌, ◌+◌, ◌<◌, ◌≤◌, IfOk, length, vec_capacity};
+ghost use Rattle.std.specs.Prelude.{◌≡◌, ℕ, ◌+◌, ◌<◌, ◌≤◌, ◌↔◌, IfOk, IsTrue, length, vec_capacity};
 ghost use Rattle.shortest_paths.specs.Graph.{IsGraphFor};
-ghost use Rattle.shortest_paths.specs.Residual.{end_at, start_at};
+ghost use Rattle.shortest_paths.specs.Residual.{IsFlow, IsResidual, end_at, start_at};
 ghost use Rattle.shortest_paths.specs.Walk.{AreRowsOf};
 
-use crate::residual::Way;
+use crate::residual::{ResidualArc, Way};
 use crate::rows::reduced_rows;
 use crate::star::Star;
 use dimacs_text::ArcRow;
@@ -44,6 +44,16 @@ impl Graph {
         ensures { result + length self.now.net.arcs ≡ length self.now.rows.items }
     {
         self.rows.len() - self.net.arcs() as usize
+    }
+
+    /// Whether this residual arc is there under the flow.
+    pub fn has_room(&self, flow: &[i64], arc: ResidualArc) -> bool
+        requires flow { (nodes : ℕ) × IsFlow nodes self.now.rows.items flow.now }
+        requires arc_in { arc.arc < length self.now.rows.items }
+        ensures { IsTrue result ↔ IsResidual self.now.rows.items flow.now arc.arc arc.way }
+    {
+        let k = arc.arc as usize;
+        arc.way.room(&self.rows[k], flow[k]) > 0
     }
 
     /// The node from which the residual arc in this way along the arc in row `k` leads.

@@ -1,23 +1,20 @@
 //! The labels of all nodes: what still stands of the forest that the last pass left is kept, and the rest is searched.
 
-ghost use Rattle.std.specs.Prelude.{◌≡◌, ℕ, ◌≤ℤ◌, ◌<◌, ◌≤◌, ◌+◌, ◌/◌, length, None, IfSome, IfOk};
+ghost use Rattle.std.specs.Prelude.{◌≡◌, ℕ, ◌≤ℤ◌, ◌<◌, ◌≤◌, ◌+◌, ◌⊎◌, length, None, Some, IfSome, IfOk};
 ghost use Rattle.shortest_paths.specs.Limits.{entry_limit, potential_floor};
 ghost use Rattle.shortest_paths.specs.Residual.{ArePotentials, IsCertified, number_at};
 ghost use Rattle.shortest_paths.specs.Search.{IsSearch, AllRelaxed, IsFromAll, NoneOpen, mark_at, root_visit, settled_visit};
-ghost use Rattle.shortest_paths.specs.Labels.{AreInOrder, IsLabelsFor, IsForest, IsHop, IsThrough, Stands, Opens, IsNoDearer, IsShortest, IsEndNoDearer, NothingOpen, IsEntered};
+ghost use Rattle.shortest_paths.specs.Labels.{AreInOrder, IsLabelsFor, IsForest, IsHop, IsThrough, Stands, Opens, IsShortest, NothingOpen, IsEntered};
 ghost use Rattle.shortest_paths.specs.Graph.{IsGraphFor};
 ghost use Rattle.shortest_paths.specs.Queue.{IsQueueOf, IsQueueFor};
-ghost use Rattle.shortest_paths.specs.Star.{AllNameOther, AllSpokes, NamesOther};
-ghost use Rattle.shortest_paths.specs.Walk.{AllAdded, AllEnds, AreRowsOf};
-ghost use Rattle.shortest_paths.specs.declared.residual.Way.{Way};
 ghost use Rattle.shortest_paths.specs.declared.visit.Mark.TheVariants.{Unreached, Open};
 
 use crate::graph::Graph;
 use crate::queue::Queue;
-use crate::residual::Way;
+use crate::residual::{ResidualArc, Way};
 use crate::search::{key_through, settle_node};
-use crate::star::Spoke;
 use crate::visit::{Mark, Visit};
+use crate::walk::Walk;
 use dimacs_text::ArcRow;
 use std::alloc::{AllocError, Global};
 
@@ -81,41 +78,41 @@ fn settled(visit: Visit) -> Visit
     }
 }
 
-/// How the node is reached along arc `k` in this way, where that is a residual arc from a settled node.
+/// How the node is reached along a residual arc, where it is there and comes from a settled node.
 fn visit_through(
     rows: &[ArcRow],
     flow: &[i64],
     potentials: &[i64],
     visits: &[Visit],
     v: usize,
-    k: usize,
-    way: Way,
+    arc: ResidualArc,
 ) -> Option<Visit>
     requires certified { IsCertified rows.now flow.now potentials.now }
     requires forest { IsForest rows.now flow.now potentials.now visits.now }
-    requires arc_in { k < length rows.now }
-    ensures none { result ≡ None → IsHop rows.now flow.now visits.now v k way → ⊥ }
+    requires arc_in { arc.arc < length rows.now }
+    ensures none { result ≡ None → IsHop rows.now flow.now visits.now v arc.arc arc.way → ⊥ }
     ensures through { IfSome result (IsThrough rows.now flow.now potentials.now visits.now v) }
     ensures is_open { IfSome result (λ e. e.mark ≡ Open) }
-    ensures along { IfSome result (λ e. (e.arc ≡ k) × (e.way ≡ way)) }
+    ensures along { IfSome result (λ e. (e.arc ≡ arc.arc) × (e.way ≡ arc.way)) }
 {
+    let k = arc.arc as usize;
     let row = rows[k];
-    let start = way.start(&row) as usize;
+    let start = arc.way.start(&row) as usize;
     if !visits[start].is_settled() {
         return None;
     }
-    if way.end(&row) as usize != v {
+    if arc.way.end(&row) as usize != v {
         return None;
     }
-    if way.room(&row, flow[k]) <= 0 {
+    if arc.way.room(&row, flow[k]) <= 0 {
         return None;
     }
     Some(Visit {
         mark: Mark::Open,
-        key: key_through(&row, way, potentials, visits),
+        key: key_through(&row, arc.way, potentials, visits),
         depth: visits[start].depth + 1,
-        arc: k as u32,
-        way,
+        arc: arc.arc,
+        way: arc.way,
     })
 }
 
@@ -137,11 +134,14 @@ fn standing(
         return Some(settled(root(potentials, v)));
     }
     let hint = visits[v];
-    let k = hint.arc as usize;
-    if k >= graph.rows.len() {
+    let arc = ResidualArc {
+        arc: hint.arc,
+        way: hint.way,
+    };
+    if arc.arc as usize >= graph.rows.len() {
         return None;
     }
-    match visit_through(&graph.rows, flow, potentials, visits, v, k, hint.way) {
+    match visit_through(&graph.rows, flow, potentials, visits, v, arc) {
         Some(visit) if visit.key == 0 => Some(settled(visit)),
         _ => None,
     }
@@ -203,207 +203,16 @@ fn keep(
     kept
 }
 
-/// The nearer of `best` and of the visit along arc `k` in this way, where that is a residual arc from a settled node.
-fn nearer(
-    graph: &Graph,
-    flow: &[i64],
-    potentials: &[i64],
-    visits: &[Visit],
-    v: usize,
-    k: usize,
-    way: Way,
-    best: Visit,
-) -> Visit
-    requires certified { IsCertified graph.now.rows.items flow.now potentials.now }
-    requires forest { IsForest graph.now.rows.items flow.now potentials.now visits.now }
-    requires arc_in { k < length graph.now.rows.items }
-    requires opens { Opens graph.now.rows.items flow.now potentials.now visits.now v best }
-    ensures opens { Opens graph.now.rows.items flow.now potentials.now visits.now v result }
+/// The nearer of the two.
+fn nearer(best: Visit, other: Option<Visit>) -> Visit
     ensures falls { result.key ≤ℤ best.key }
-    ensures no_dearer { IsNoDearer graph.now.rows.items flow.now potentials.now visits.now v result k way }
+    ensures no_dearer { IfSome other (λ e. result.key ≤ℤ e.key) }
+    ensures one { (result ≡ best) ⊎ (other ≡ Some result) }
 {
-    match visit_through(&graph.rows, flow, potentials, visits, v, k, way) {
+    match other {
         Some(visit) if visit.key < best.key => visit,
         _ => best,
     }
-}
-
-/// The nearest of `best` and of the visits along the return arc, which stands in the rows before the arcs of the network.
-fn by_return(
-    graph: &Graph,
-    flow: &[i64],
-    potentials: &[i64],
-    visits: &[Visit],
-    v: usize,
-    first_row: usize,
-    best: Visit,
-) -> Visit
-    requires certified { IsCertified graph.now.rows.items flow.now potentials.now }
-    requires forest { IsForest graph.now.rows.items flow.now potentials.now visits.now }
-    requires first_row { first_row ≤ length graph.now.rows.items }
-    requires opens { Opens graph.now.rows.items flow.now potentials.now visits.now v best }
-    ensures opens { Opens graph.now.rows.items flow.now potentials.now visits.now v result }
-    ensures no_dearer { 0 < first_row → (way : Way) → IsNoDearer graph.now.rows.items flow.now potentials.now visits.now v result 0 way }
-{
-    if first_row == 0 {
-        return best;
-    }
-    let forward = nearer(graph, flow, potentials, visits, v, 0, Way::Forward, best);
-    nearer(
-        graph,
-        flow,
-        potentials,
-        visits,
-        v,
-        0,
-        Way::Backward,
-        forward,
-    )
-}
-
-/// The nearest of `first` and of the visits along the arcs of the network which the star does not cover. The network
-/// lists these first. Its first arc has row `first_row`.
-fn by_added(
-    graph: &Graph,
-    flow: &[i64],
-    potentials: &[i64],
-    visits: &[Visit],
-    v: usize,
-    first_row: usize,
-    first: Visit,
-) -> Visit
-    requires net { AreRowsOf graph.now.net graph.now.rows.items }
-    requires split { first_row + length graph.now.net.arcs ≡ length graph.now.rows.items }
-    requires certified { IsCertified graph.now.rows.items flow.now potentials.now }
-    requires forest { IsForest graph.now.rows.items flow.now potentials.now visits.now }
-    requires v_in { v < length visits.now }
-    requires opens { Opens graph.now.rows.items flow.now potentials.now visits.now v first }
-    ensures opens { Opens graph.now.rows.items flow.now potentials.now visits.now v result }
-    ensures falls { result.key ≤ℤ first.key }
-    ensures no_dearer { AllAdded graph.now.net.arcs v graph.now.star.arcs (IsEndNoDearer graph.now.rows.items flow.now potentials.now visits.now v result first_row) }
-{
-    let mut best = first;
-    let mut current = graph.net.first_end(v as u32);
-    while let Some(end) = current {
-        if end / 2 < graph.star.arcs {
-            return best;
-        }
-        // Read before the arc is looked at, so that the walk does not wait for the tests there.
-        let next = graph.net.next_end(end);
-        let k = end as usize / 2 + first_row;
-        best = nearer(
-            graph,
-            flow,
-            potentials,
-            visits,
-            v,
-            k,
-            Way::to_end(end),
-            best,
-        );
-        current = next;
-    }
-    best
-}
-
-/// The nearer of `best` and of the visit along the residual arc to an end of an arc, where the star covers the arc.
-fn by_spoke(
-    graph: &Graph,
-    spoke: Spoke,
-    flow: &[i64],
-    potentials: &[i64],
-    visits: &[Visit],
-    v: usize,
-    first_row: usize,
-    best: Visit,
-) -> Visit
-    requires few { first_row + graph.now.star.arcs ≤ length graph.now.rows.items }
-    requires named { spoke.end / 2 < graph.now.star.arcs → NamesOther graph.now.rows.items first_row spoke }
-    requires certified { IsCertified graph.now.rows.items flow.now potentials.now }
-    requires forest { IsForest graph.now.rows.items flow.now potentials.now visits.now }
-    requires opens { Opens graph.now.rows.items flow.now potentials.now visits.now v best }
-    ensures opens { Opens graph.now.rows.items flow.now potentials.now visits.now v result }
-    ensures falls { result.key ≤ℤ best.key }
-    ensures no_dearer { spoke.end / 2 < graph.now.star.arcs → IsEndNoDearer graph.now.rows.items flow.now potentials.now visits.now v result first_row spoke.end }
-{
-    if spoke.end / 2 >= graph.star.arcs {
-        return best;
-    }
-    // No path goes on from a node that is not settled: neither the arc nor its flow is read.
-    if !visits[spoke.other as usize].is_settled() {
-        return best;
-    }
-    let k = spoke.end as usize / 2 + first_row;
-    nearer(
-        graph,
-        flow,
-        potentials,
-        visits,
-        v,
-        k,
-        Way::to_end(spoke.end),
-        best,
-    )
-}
-
-/// The nearest of `first` and of the visits along the residual arcs to these ends, of arcs which the star covers.
-fn by_spokes(
-    graph: &Graph,
-    spokes: &[Spoke],
-    flow: &[i64],
-    potentials: &[i64],
-    visits: &[Visit],
-    v: usize,
-    first_row: usize,
-    first: Visit,
-) -> Visit
-    requires few { first_row + graph.now.star.arcs ≤ length graph.now.rows.items }
-    requires named { AllNameOther graph.now.rows.items first_row graph.now.star.arcs spokes.now }
-    requires certified { IsCertified graph.now.rows.items flow.now potentials.now }
-    requires forest { IsForest graph.now.rows.items flow.now potentials.now visits.now }
-    requires opens { Opens graph.now.rows.items flow.now potentials.now visits.now v first }
-    ensures opens { Opens graph.now.rows.items flow.now potentials.now visits.now v result }
-    ensures falls { result.key ≤ℤ first.key }
-    ensures no_dearer { AllSpokes graph.now.star.arcs spokes.now (length spokes.now) (IsEndNoDearer graph.now.rows.items flow.now potentials.now visits.now v result first_row) }
-{
-    let mut best = first;
-    for spoke in spokes {
-        best = by_spoke(graph, *spoke, flow, potentials, visits, v, first_row, best);
-    }
-    best
-}
-
-/// The nearest of `first` and of the visits along the arcs of the network, the first of which has row `first_row`.
-fn by_ends(
-    graph: &Graph,
-    flow: &[i64],
-    potentials: &[i64],
-    visits: &[Visit],
-    v: usize,
-    first_row: usize,
-    first: Visit,
-) -> Visit
-    requires graph { IsGraphFor (length potentials.now) graph.now }
-    requires split { first_row + length graph.now.net.arcs ≡ length graph.now.rows.items }
-    requires certified { IsCertified graph.now.rows.items flow.now potentials.now }
-    requires forest { IsForest graph.now.rows.items flow.now potentials.now visits.now }
-    requires v_in { v < length visits.now }
-    requires opens { Opens graph.now.rows.items flow.now potentials.now visits.now v first }
-    ensures opens { Opens graph.now.rows.items flow.now potentials.now visits.now v result }
-    ensures falls { result.key ≤ℤ first.key }
-    ensures no_dearer { AllEnds graph.now.net.arcs v (IsEndNoDearer graph.now.rows.items flow.now potentials.now visits.now v result first_row) }
-{
-    let added = by_added(graph, flow, potentials, visits, v, first_row, first);
-    by_spokes(
-        graph,
-        graph.star.spokes_of(v),
-        flow,
-        potentials,
-        visits,
-        v,
-        first_row,
-        added,
-    )
 }
 
 /// The nearest visit to the node: as a root, or by a residual arc from a settled node.
@@ -415,17 +224,17 @@ fn nearest(graph: &Graph, flow: &[i64], potentials: &[i64], visits: &[Visit], v:
     ensures opens { Opens graph.now.rows.items flow.now potentials.now visits.now v result }
     ensures nearest { IsShortest graph.now.rows.items flow.now potentials.now visits.now v result }
 {
-    let first_row = graph.first_row();
-    let first = by_return(
-        graph,
-        flow,
-        potentials,
-        visits,
-        v,
-        first_row,
-        root(potentials, v),
-    );
-    by_ends(graph, flow, potentials, visits, v, first_row, first)
+    let mut best = root(potentials, v);
+    let mut walk = Walk::at(graph, v as u32);
+    while let Some(end) = walk.next(graph) {
+        // No path goes on from a node that is not settled: neither the arc nor its flow is read.
+        if visits[end.other as usize].is_settled() {
+            let arc = end.entering();
+            let visit = visit_through(&graph.rows, flow, potentials, visits, v, arc);
+            best = nearer(best, visit);
+        }
+    }
+    best
 }
 
 /// Opens the node, where it is not settled.

@@ -2,10 +2,29 @@
 
 ghost use Rattle.std.specs.Prelude.{◌≡◌, FitsSigned};
 ghost use Rattle.std.specs.Int.{w64};
-ghost use Rattle.shortest_paths.specs.Residual.{start_of, end_of, cost_of, room_of};
-ghost use Rattle.shortest_paths.specs.Walk.{end_way, way_to_end};
+ghost use Rattle.shortest_paths.specs.Residual.{start_of, end_of, cost_of, room_of, other_way, turned};
+ghost use Rattle.shortest_paths.specs.Walk.{end_way};
 
 use dimacs_text::ArcRow;
+
+/// A residual arc: the row of an arc, and the way in which the residual arc goes along it.
+#[derive(Clone, Copy)]
+pub struct ResidualArc {
+    pub arc: u32,
+    pub way: Way,
+}
+
+impl ResidualArc {
+    /// The residual arc that goes along the same arc in the other way.
+    pub fn turned(self) -> Self
+        ensures { result ≡ turned self }
+    {
+        ResidualArc {
+            arc: self.arc,
+            way: self.way.other(),
+        }
+    }
+}
 
 /// The way in which a residual arc goes along its arc.
 #[derive(Clone, Copy)]
@@ -29,14 +48,13 @@ impl Way {
         }
     }
 
-    /// The way in which the residual arc to an end of an arc goes along it.
-    pub fn to_end(end: u32) -> Self
-        ensures { result ≡ way_to_end end }
+    /// The other way.
+    pub fn other(self) -> Self
+        ensures { result ≡ other_way self }
     {
-        if end % 2 == 0 {
-            Way::Backward
-        } else {
-            Way::Forward
+        match self {
+            Way::Forward => Way::Backward,
+            Way::Backward => Way::Forward,
         }
     }
 

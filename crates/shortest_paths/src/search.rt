@@ -1,24 +1,22 @@
 //! Shortest paths over reduced costs, from the nodes in excess.
 
-ghost use Rattle.std.specs.Prelude.{◌≡◌, ℕ, pos, ◌≤ℤ◌, ◌+ℤ◌, ◌-ℤ◌, ◌<ℤ◌, ◌<◌, ◌≤◌, IsTrue, ◌↔◌, int_lt, length, None, MatchOption, ◌+◌, ◌/◌};
+ghost use Rattle.std.specs.Prelude.{◌≡◌, ℕ, pos, ◌≤ℤ◌, ◌+ℤ◌, ◌-ℤ◌, ◌<ℤ◌, ◌<◌, ◌≤◌, int_lt, length, MatchOption, ◌+◌, ◌/◌};
 ghost use Rattle.std.specs.List.{count_by};
 ghost use Rattle.shortest_paths.specs.Limits.{entry_limit, key_limit, potential_floor};
-ghost use Rattle.shortest_paths.specs.Residual.{IsRow, IsFlow, IsCertified, ArePotentials, IsResidual, IsResidualFrom, number_at, start_at, start_of, end_of, cost_of};
+ghost use Rattle.shortest_paths.specs.Residual.{IsRow, IsFlow, IsCertified, ArePotentials, IsResidual, number_at, start_at, start_of, end_of, cost_of};
 ghost use Rattle.shortest_paths.specs.Search.{IsSearch, IsLastSettled, Improves, IsRelaxed, IsRelaxedFrom, AllRelaxed, Settles, visit_at, mark_at, key_at, source_visit, IsFromExcess, IsExhausted, HasFound};
 ghost use Rattle.shortest_paths.specs.Graph.{IsGraphFor};
 ghost use Rattle.shortest_paths.specs.Queue.{IsQueueOf, IsQueueFor, size, first_of};
-ghost use Rattle.shortest_paths.specs.Star.{AllNameOther, AreSpokesRelaxed, IsSpokeRelaxed, NamesOther};
-ghost use Rattle.shortest_paths.specs.Walk.{AreAddedRelaxed, ArePassedRelaxed, AreRowsOf, end_way};
-ghost use Rattle.shortest_paths.specs.declared.residual.Way.{Way};
+ghost use Rattle.shortest_paths.specs.Ends.{IsEnd};
 ghost use Rattle.shortest_paths.specs.Trail.{IsFresh, IsTrailFor, IsTrailOf};
 ghost use Rattle.shortest_paths.specs.declared.visit.Mark.TheVariants.{Unreached};
 
 use crate::graph::Graph;
 use crate::queue::Queue;
-use crate::residual::Way;
-use crate::star::Spoke;
+use crate::residual::{ResidualArc, Way};
 use crate::trail::Trail;
 use crate::visit::{Mark, Visit};
+use crate::walk::{End, Walk};
 use dimacs_text::ArcRow;
 
 /// The length of the path to the end of a residual arc by way of its start.
@@ -35,43 +33,31 @@ pub fn key_through(row: &ArcRow, way: Way, potentials: &[i64], visits: &[Visit])
     visits[start].key + (way.unit_cost(row) + potentials[start] - potentials[end])
 }
 
-/// Whether there is a residual arc from node `u` along arc `k`.
-fn is_residual_from(graph: &Graph, flow: &[i64], u: usize, k: usize, way: Way) -> bool
-    requires flow { (nodes : ℕ) × IsFlow nodes graph.now.rows.items flow.now }
-    requires arc_in { k < length graph.now.rows.items }
-    ensures { IsTrue result ↔ IsResidualFrom graph.now.rows.items flow.now u k way }
-{
-    let row = graph.rows[k];
-    way.start(&row) as usize == u && way.room(&row, flow[k]) > 0
-}
-
-/// Takes a residual arc from the node `u` that was settled last into account at its end.
+/// Takes a residual arc from the node that was settled last into account at its end.
 fn relax_residual(
     rows: &[ArcRow],
     flow: &[i64],
     potentials: &[i64],
     visits: &mut [Visit],
     queue: &mut Queue,
-    u: usize,
-    k: usize,
-    way: Way,
+    arc: ResidualArc,
 )
     requires certified { IsCertified rows.now flow.now potentials.now }
     requires search { IsSearch rows.now flow.now potentials.now visits.old }
     requires queue { IsQueueOf visits.old queue.old }
-    requires last { IsLastSettled visits.old u }
-    requires residual { IsResidual rows.now flow.now k way }
-    requires starts { start_at rows.now k way ≡ u }
+    requires last { IsLastSettled visits.old (start_at rows.now arc.arc arc.way) }
+    requires residual { IsResidual rows.now flow.now arc.arc arc.way }
     ensures search { IsSearch rows.now flow.now potentials.now visits.new }
     ensures queue { IsQueueOf visits.new queue.new }
     ensures improves { Improves visits.old visits.new }
-    ensures relaxed { IsRelaxed rows.now potentials.now visits.new k way }
+    ensures relaxed { IsRelaxed rows.now potentials.now visits.new arc.arc arc.way }
 {
-    let row = rows[k];
-    let end = way.end(&row) as usize;
-    let key = key_through(&row, way, potentials, visits);
+    let row = rows[arc.arc as usize];
+    let start = arc.way.start(&row) as usize;
+    let end = arc.way.end(&row) as usize;
+    let key = key_through(&row, arc.way, potentials, visits);
     if visits[end].takes(key) {
-        let depth = visits[u].depth + 1;
+        let depth = visits[start].depth + 1;
         queue.improve(
             visits,
             end,
@@ -79,236 +65,39 @@ fn relax_residual(
                 mark: Mark::Open,
                 key,
                 depth,
-                arc: k as u32,
-                way,
+                arc: arc.arc,
+                way: arc.way,
             },
         );
     }
 }
 
-/// Takes arc `k` into account in this way, where it is a residual arc from the node settled last.
+/// Takes the residual arc that leaves the node settled last at this end into account, where it is there.
 fn relax(
     graph: &Graph,
     flow: &[i64],
     potentials: &[i64],
     visits: &mut [Visit],
     queue: &mut Queue,
-    u: usize,
-    k: usize,
-    way: Way,
+    end: End,
 )
     requires certified { IsCertified graph.now.rows.items flow.now potentials.now }
     requires search { IsSearch graph.now.rows.items flow.now potentials.now visits.old }
     requires queue { IsQueueOf visits.old queue.old }
-    requires last { IsLastSettled visits.old u }
-    requires arc_in { k < length graph.now.rows.items }
+    requires end { IsEnd graph.now.rows.items end }
+    requires last { IsLastSettled visits.old (start_at graph.now.rows.items end.leaving.arc end.leaving.way) }
     ensures search { IsSearch graph.now.rows.items flow.now potentials.now visits.new }
     ensures queue { IsQueueOf visits.new queue.new }
     ensures improves { Improves visits.old visits.new }
-    ensures relaxed { IsResidualFrom graph.now.rows.items flow.now u k way → IsRelaxed graph.now.rows.items potentials.now visits.new k way }
+    ensures relaxed { IsResidual graph.now.rows.items flow.now end.leaving.arc end.leaving.way → IsRelaxed graph.now.rows.items potentials.now visits.new end.leaving.arc end.leaving.way }
 {
-    if is_residual_from(graph, flow, u, k, way) {
-        relax_residual(&graph.rows, flow, potentials, visits, queue, u, k, way);
-    }
-}
-
-/// Takes arc `k` into account in both ways.
-fn relax_both(
-    graph: &Graph,
-    flow: &[i64],
-    potentials: &[i64],
-    visits: &mut [Visit],
-    queue: &mut Queue,
-    u: usize,
-    k: usize,
-)
-    requires certified { IsCertified graph.now.rows.items flow.now potentials.now }
-    requires search { IsSearch graph.now.rows.items flow.now potentials.now visits.old }
-    requires queue { IsQueueOf visits.old queue.old }
-    requires last { IsLastSettled visits.old u }
-    requires arc_in { k < length graph.now.rows.items }
-    ensures search { IsSearch graph.now.rows.items flow.now potentials.now visits.new }
-    ensures queue { IsQueueOf visits.new queue.new }
-    ensures improves { Improves visits.old visits.new }
-    ensures relaxed { (way : Way) → IsResidualFrom graph.now.rows.items flow.now u k way → IsRelaxed graph.now.rows.items potentials.now visits.new k way }
-{
-    relax(graph, flow, potentials, visits, queue, u, k, Way::Forward);
-    relax(graph, flow, potentials, visits, queue, u, k, Way::Backward);
-}
-
-/// Takes the return arc, which stands in the rows before the arcs of the network, into account in both ways.
-fn relax_return(
-    graph: &Graph,
-    flow: &[i64],
-    potentials: &[i64],
-    visits: &mut [Visit],
-    queue: &mut Queue,
-    u: usize,
-    first_row: usize,
-)
-    requires certified { IsCertified graph.now.rows.items flow.now potentials.now }
-    requires search { IsSearch graph.now.rows.items flow.now potentials.now visits.old }
-    requires queue { IsQueueOf visits.old queue.old }
-    requires last { IsLastSettled visits.old u }
-    requires first_row { first_row ≤ length graph.now.rows.items }
-    ensures search { IsSearch graph.now.rows.items flow.now potentials.now visits.new }
-    ensures queue { IsQueueOf visits.new queue.new }
-    ensures improves { Improves visits.old visits.new }
-    ensures relaxed { 0 < first_row → (way : Way) → IsResidualFrom graph.now.rows.items flow.now u 0 way → IsRelaxed graph.now.rows.items potentials.now visits.new 0 way }
-{
-    if first_row > 0 {
-        relax_both(graph, flow, potentials, visits, queue, u, 0);
-    }
-}
-
-/// Takes each residual arc from the node settled last into account that goes along an arc of the network which the star
-/// does not cover. The network lists these first. Its first arc has row `first_row`.
-fn relax_added(
-    graph: &Graph,
-    flow: &[i64],
-    potentials: &[i64],
-    visits: &mut [Visit],
-    queue: &mut Queue,
-    u: usize,
-    first_row: usize,
-)
-    requires net { AreRowsOf graph.now.net graph.now.rows.items }
-    requires split { first_row + length graph.now.net.arcs ≡ length graph.now.rows.items }
-    requires certified { IsCertified graph.now.rows.items flow.now potentials.now }
-    requires search { IsSearch graph.now.rows.items flow.now potentials.now visits.old }
-    requires queue { IsQueueOf visits.old queue.old }
-    requires last { IsLastSettled visits.old u }
-    ensures search { IsSearch graph.now.rows.items flow.now potentials.now visits.new }
-    ensures queue { IsQueueOf visits.new queue.new }
-    ensures improves { Improves visits.old visits.new }
-    ensures relaxed { AreAddedRelaxed graph.now.rows.items flow.now potentials.now visits.new u graph.now.net.arcs first_row graph.now.star.arcs }
-{
-    let mut current = graph.net.first_end(u as u32);
-    while let Some(end) = current {
-        if end / 2 < graph.star.arcs {
-            return;
-        }
-        // Read before the arc is looked at, so that the walk does not wait for the tests there.
-        let next = graph.net.next_end(end);
-        let k = end as usize / 2 + first_row;
-        relax(
-            graph,
-            flow,
-            potentials,
-            visits,
-            queue,
-            u,
-            k,
-            Way::of_end(end),
-        );
-        current = next;
-    }
-}
-
-/// Takes the residual arc from an end of an arc into account, where the star covers the arc and this is a residual arc from
-/// the node settled last. The first arc of the network has row `first_row`.
-fn relax_spoke(
-    graph: &Graph,
-    spoke: Spoke,
-    flow: &[i64],
-    potentials: &[i64],
-    visits: &mut [Visit],
-    queue: &mut Queue,
-    u: usize,
-    first_row: usize,
-)
-    requires few { first_row + graph.now.star.arcs ≤ length graph.now.rows.items }
-    requires named { spoke.end / 2 < graph.now.star.arcs → NamesOther graph.now.rows.items first_row spoke }
-    requires certified { IsCertified graph.now.rows.items flow.now potentials.now }
-    requires search { IsSearch graph.now.rows.items flow.now potentials.now visits.old }
-    requires queue { IsQueueOf visits.old queue.old }
-    requires last { IsLastSettled visits.old u }
-    ensures search { IsSearch graph.now.rows.items flow.now potentials.now visits.new }
-    ensures queue { IsQueueOf visits.new queue.new }
-    ensures improves { Improves visits.old visits.new }
-    ensures relaxed { spoke.end / 2 < graph.now.star.arcs → IsSpokeRelaxed graph.now.rows.items flow.now potentials.now visits.new u first_row spoke }
-{
-    if spoke.end / 2 >= graph.star.arcs {
-        return;
-    }
     // No path to a settled node gets better: neither the arc nor its flow is read.
-    if visits[spoke.other as usize].is_settled() {
+    if visits[end.other as usize].is_settled() {
         return;
     }
-    let k = spoke.end as usize / 2 + first_row;
-    relax(
-        graph,
-        flow,
-        potentials,
-        visits,
-        queue,
-        u,
-        k,
-        Way::of_end(spoke.end),
-    );
-}
-
-/// Takes each residual arc from the node settled last into account that goes along an arc which the star covers, and from
-/// one of these ends.
-fn relax_spokes(
-    graph: &Graph,
-    spokes: &[Spoke],
-    flow: &[i64],
-    potentials: &[i64],
-    visits: &mut [Visit],
-    queue: &mut Queue,
-    u: usize,
-    first_row: usize,
-)
-    requires few { first_row + graph.now.star.arcs ≤ length graph.now.rows.items }
-    requires named { AllNameOther graph.now.rows.items first_row graph.now.star.arcs spokes.now }
-    requires certified { IsCertified graph.now.rows.items flow.now potentials.now }
-    requires search { IsSearch graph.now.rows.items flow.now potentials.now visits.old }
-    requires queue { IsQueueOf visits.old queue.old }
-    requires last { IsLastSettled visits.old u }
-    ensures search { IsSearch graph.now.rows.items flow.now potentials.now visits.new }
-    ensures queue { IsQueueOf visits.new queue.new }
-    ensures improves { Improves visits.old visits.new }
-    ensures relaxed { AreSpokesRelaxed graph.now.rows.items flow.now potentials.now visits.new u first_row graph.now.star.arcs spokes.now (length spokes.now) }
-{
-    for spoke in spokes {
-        relax_spoke(graph, *spoke, flow, potentials, visits, queue, u, first_row);
+    if graph.has_room(flow, end.leaving) {
+        relax_residual(&graph.rows, flow, potentials, visits, queue, end.leaving);
     }
-}
-
-/// Takes each residual arc from the node settled last into account that goes along an arc of the network. The first
-/// of these has row `first_row`.
-fn relax_ends(
-    graph: &Graph,
-    flow: &[i64],
-    potentials: &[i64],
-    visits: &mut [Visit],
-    queue: &mut Queue,
-    u: usize,
-    first_row: usize,
-)
-    requires graph { IsGraphFor (length potentials.now) graph.now }
-    requires split { first_row + length graph.now.net.arcs ≡ length graph.now.rows.items }
-    requires certified { IsCertified graph.now.rows.items flow.now potentials.now }
-    requires search { IsSearch graph.now.rows.items flow.now potentials.now visits.old }
-    requires queue { IsQueueOf visits.old queue.old }
-    requires last { IsLastSettled visits.old u }
-    ensures search { IsSearch graph.now.rows.items flow.now potentials.now visits.new }
-    ensures queue { IsQueueOf visits.new queue.new }
-    ensures improves { Improves visits.old visits.new }
-    ensures relaxed { ArePassedRelaxed graph.now.rows.items flow.now potentials.now visits.new u graph.now.net.arcs first_row None }
-{
-    relax_added(graph, flow, potentials, visits, queue, u, first_row);
-    relax_spokes(
-        graph,
-        graph.star.spokes_of(u),
-        flow,
-        potentials,
-        visits,
-        queue,
-        u,
-        first_row,
-    );
 }
 
 /// Takes each residual arc from the node settled last into account.
@@ -330,9 +119,10 @@ fn relax_all(
     ensures improves { Improves visits.old visits.new }
     ensures relaxed { IsRelaxedFrom graph.now.rows.items flow.now potentials.now visits.new u (length graph.now.rows.items) }
 {
-    let first_row = graph.first_row();
-    relax_return(graph, flow, potentials, visits, queue, u, first_row);
-    relax_ends(graph, flow, potentials, visits, queue, u, first_row);
+    let mut walk = Walk::at(graph, u as u32);
+    while let Some(end) = walk.next(graph) {
+        relax(graph, flow, potentials, visits, queue, end);
+    }
 }
 
 /// Settles the open node of the least key.

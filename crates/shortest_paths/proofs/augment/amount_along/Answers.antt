@@ -1,5 +1,5 @@
-use Rattle.std.proofs.Common.{◌≡◌, pos, arith, rules, w64, to_z, of_z, SFits}
-use Rattle.std.proofs.lemmas.Int.{ints, clamps, to_z-of_z}
+use Rattle.std.proofs.Common.{pos, arith}
+use Rattle.std.proofs.lemmas.Int.{ints, clamps}
 use Rattle.shortest_paths.proofs.BlockingLemmas.{along}
 use Rattle.shortest_paths.proofs.augment.amount_along.Goals as goal
 

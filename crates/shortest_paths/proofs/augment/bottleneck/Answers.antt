@@ -1,7 +1,7 @@
-use Rattle.std.proofs.Common.{◌≡◌, ◌∙◌, ℕ, zero, ◌-◌, ◌≤ℤ◌, sym, ap, subst, arith, rules, w64, to_z, of_z, SFits}
+use Rattle.std.proofs.Common.{◌≡◌, ◌∙◌, ℕ, ◌-◌, ◌≤ℤ◌, sym, ap, subst, arith, rules, w64, to_z, of_z, SFits}
 use Rattle.std.proofs.lemmas.Int.{ints, to_z-of_z}
-use Rattle.shortest_paths.specs.declared.blocking.ResidualArc.{ResidualArc}
-use Rattle.shortest_paths.specs.Blocking.{IsWay, back_at, head_at, hops_from, hops_of}
+use Rattle.shortest_paths.specs.declared.residual.ResidualArc.{ResidualArc}
+use Rattle.shortest_paths.specs.Blocking.{IsWay, head_at, hops_from, hops_of}
 use Rattle.shortest_paths.specs.Push.{HasRoom}
 use Rattle.shortest_paths.specs.Residual.{arc_at, end_at, number_at, room_of}
 use Rattle.shortest_paths.specs.Search.{depth_at}

@@ -1,5 +1,5 @@
 use Rattle.shortest_paths.specs.Limits.{left_limit}
-use Rattle.std.proofs.Common.{◌≡◌, ◌+◌, ◌≤◌, ◌<◌, ◌^◌, ◌∙◌, List, ℤ, Bool, inl, inr, length, refl, sym, ap, subst, arith, rules}
+use Rattle.std.proofs.Common.{◌+◌, ◌≤◌, ◌<◌, ◌^◌, List, ℤ, inl, inr, length, refl, sym, subst, arith, rules}
 use Rattle.std.specs.Prelude.{◌<ℤ◌, pos}
 use Rattle.std.proofs.lemmas.Bool.{cases_eq}
 use Rattle.std.proofs.lemmas.Int.{ints}

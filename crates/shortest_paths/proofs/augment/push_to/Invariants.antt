@@ -1,4 +1,4 @@
-use Rattle.std.proofs.Common.{◌≡◌, ◌⊎◌, ◌<◌, length, pos}
+use Rattle.std.proofs.Common.{◌≡◌, ◌⊎◌, length, pos}
 use Rattle.std.specs.Prelude.{◌<ℤ◌}
 use Rattle.shortest_paths.specs.Blocking.{IsWalksFor}
 use Rattle.shortest_paths.specs.Push.{IsUnderWay, ArePushes, left}

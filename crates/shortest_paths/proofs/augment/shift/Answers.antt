@@ -1,6 +1,6 @@
 use Rattle.std.proofs.Common.{◌≡◌, ◌∙◌, ℕ, ℤ, List, length, pos, ◌-◌, ◌≤ℤ◌, sym, ap, subst, arith, rules, w64, to_z, of_z, slice_set}
 use Rattle.std.proofs.lemmas.Int.{ints}
-use Rattle.shortest_paths.specs.declared.blocking.ResidualArc.{ResidualArc}
+use Rattle.shortest_paths.specs.declared.residual.ResidualArc.{ResidualArc}
 use Rattle.shortest_paths.specs.Blocking.{IsWay, back_at, head_at, hops_from, hops_of}
 use Rattle.shortest_paths.specs.Residual.{IsFlow, arc_at, end_at, number_at, room_of}
 use Rattle.shortest_paths.specs.Search.{depth_at}

@@ -1,9 +1,9 @@
-use Rattle.std.proofs.Common.{arith, rules, refl, ◌≡◌, ℕ, not, List, Bool, true, false, length, None, Some, ap, sym, subst, ◌∙◌, pos}
+use Rattle.std.proofs.Common.{arith, rules, refl, ◌≡◌, ℕ, not, List, Bool, true, false, None, Some, ap, sym, subst, ◌∙◌, pos}
 use Rattle.std.specs.Prelude.{slice_set}
 use Rattle.std.specs.List.{count_by}
 use Rattle.std.proofs.lemmas.Int.{ints}
 use Rattle.std.proofs.lemmas.List.{length-set}
-use Rattle.shortest_paths.specs.declared.blocking.ResidualArc.{ResidualArc}
+use Rattle.shortest_paths.specs.declared.residual.ResidualArc.{ResidualArc}
 use Rattle.shortest_paths.specs.Cut.{in_set}
 use Rattle.shortest_paths.specs.Residual.{end_at}
 use Rattle.shortest_paths.specs.Search.{depth_at}

@@ -10,14 +10,14 @@ use Rattle.shortest_paths.proofs.labels.visit_through.Goals.{After-room}
 
 pub bounds-visits-start : goal.bounds-visits-start
 bounds-visits-start c =
-    rw c.start-start.ensures (rw c.requires.forest.known.sized (start_of-in _ _ c.args.way (c.requires.certified.flow.rows c.args.k c.requires.arc_in)))
+    rw c.start-start.ensures (rw c.requires.forest.known.sized (start_of-in _ _ c.args.arc.way (c.requires.certified.flow.rows c.args.arc.arc c.requires.arc_in)))
 
 pub room-requires : goal.room-requires
 room-requires c =
-    rw (flow_fits c.args.k c.requires.certified c.requires.arc_in) (room_fits _ _ _ c.args.way (c.requires.certified.flow.rows c.args.k c.requires.arc_in) (c.requires.certified.flow.within c.args.k c.requires.arc_in))
+    rw (flow_fits c.args.arc.arc c.requires.certified c.requires.arc_in) (room_fits _ _ _ c.args.arc.way (c.requires.certified.flow.rows c.args.arc.arc c.requires.arc_in) (c.requires.certified.flow.within c.args.arc.arc c.requires.arc_in))
 
-room_is : (c : After-room) → c.room.result ≡ room_of (arc_at c.args.rows.now c.args.k) (number_at c.args.flow.now c.args.k) c.args.way
-room_is c = c.room.ensures ∙ ap (λ (x : ℤ). room_of (arc_at c.args.rows.now c.args.k) x c.args.way) (flow_fits c.args.k c.requires.certified c.requires.arc_in)
+room_is : (c : After-room) → c.room.result ≡ room_of (arc_at c.args.rows.now c.args.arc.arc) (number_at c.args.flow.now c.args.arc.arc) c.args.arc.way
+room_is c = c.room.ensures ∙ ap (λ (x : ℤ). room_of (arc_at c.args.rows.now c.args.arc.arc) x c.args.arc.way) (flow_fits c.args.arc.arc c.requires.certified c.requires.arc_in)
 
 pub returns-then-room-le0-clause-none : goal.returns-then-room-le0-clause-none
 returns-then-room-le0-clause-none c = λ none hop.
@@ -25,11 +25,11 @@ returns-then-room-le0-clause-none c = λ none hop.
     absurd (omega (arith, ints, room, hop.residual.has_room, c.room.type_inv, c.if-room-le0.true)))
 
 -- the arc starts at a settled node
-start_settled : (c : After-room) → mark_at c.args.visits.now (start_at c.args.rows.now c.args.k c.args.way) ≡ Settled
+start_settled : (c : After-room) → mark_at c.args.visits.now (start_at c.args.rows.now c.args.arc.arc c.args.arc.way) ≡ Settled
 start_settled c = subst (λ (u : ℕ). mark_at c.args.visits.now u ≡ Settled) c.start-start.ensures (c.is_settled.ensures.0 c.if-not-is_settled.false)
 
-start_key : (c : After-room) → key_at c.args.visits.now (start_at c.args.rows.now c.args.k c.args.way) ≡ pos 0
-start_key c = c.requires.forest.kept (start_at c.args.rows.now c.args.k c.args.way) (start_settled c)
+start_key : (c : After-room) → key_at c.args.visits.now (start_at c.args.rows.now c.args.arc.arc c.args.arc.way) ≡ pos 0
+start_key c = c.requires.forest.kept (start_at c.args.rows.now c.args.arc.arc c.args.arc.way) (start_settled c)
 
 pub key_through-requires-clause-key_low : goal.key_through-requires-clause-key_low
 key_through-requires-clause-key_low c = omega (arith, ints, start_key (goal.at.key_through-requires-clause-key_low c).After-room)

@@ -1,18 +1,54 @@
-use Rattle.std.proofs.Common.{◌∙◌, ap}
-use Rattle.shortest_paths.specs.Search.{mark_at}
-use Rattle.shortest_paths.proofs.SearchLemmas.{Improves-trans, IsLastSettled-improves, IsRelaxed-improves}
-use Rattle.shortest_paths.proofs.WalkLemmas.{all_relaxed}
+use Rattle.std.proofs.Common.{◌≡◌, ◌∙◌, ℕ, ap, arith, inr, length, subst, sym}
+use Rattle.shortest_paths.specs.declared.residual.Way.{Way}
+use Rattle.shortest_paths.specs.Residual.{IsResidual, start_at}
+use Rattle.shortest_paths.specs.Search.{IsLastSettled, IsRelaxed, mark_at}
+use Rattle.shortest_paths.proofs.EndLemmas.{all_ends_met, is_end, one_end_more}
+use Rattle.shortest_paths.proofs.SearchLemmas.{Improves-refl, Improves-trans, IsLastSettled-improves, IsRelaxed-improves, in_range, settled_is_reached}
 use Rattle.shortest_paths.proofs.search.relax_all.Goals as goal
 
-pub relax_ends-requires-clause-last : goal.relax_ends-requires-clause-last
-relax_ends-requires-clause-last c = IsLastSettled-improves c.requires.last c.relax_return.ensures.improves
+pub at-walk-requires : goal.at-walk-requires
+at-walk-requires c =
+    let below = in_range c.args.visits.now c.args.u (settled_is_reached c.args.visits.now c.args.u c.requires.last.settled) in
+    record { node = record { entries = length c.args.potentials.now; graph = c.requires.graph; node = omega (arith, below, c.requires.search.sized) } }
 
-pub returns-clause-improves : goal.returns-clause-improves
-returns-clause-improves c = Improves-trans c.relax_return.ensures.improves c.relax_ends.ensures.improves
+pub loop-end-init : goal.loop-end-init
+loop-end-init c = record {
+  search = c.requires.search;
+  queue = c.requires.queue;
+  improves = Improves-refl c.args.visits.now;
+  walk = c.at-walk.ensures.walk;
+  node = c.at-walk.ensures.node;
+  done = λ k way lt starts. inr (c.at-walk.ensures.all k way lt (starts ∙ sym c.at-walk.ensures.node));
+}
+
+pub relax-requires-clause-end : goal.relax-requires-clause-end
+relax-requires-clause-end c = is_end c.args.graph.now.rows.items c.loop-end.walk.node c.in-Some.end c.in-Some.ensures.end
+
+pub relax-requires-clause-last : goal.relax-requires-clause-last
+relax-requires-clause-last c =
+    subst (IsLastSettled c.loop-end.visits) (sym (c.in-Some.ensures.end.starts ∙ c.loop-end.invariant.node)) (IsLastSettled-improves c.requires.last c.loop-end.invariant.improves)
+
+pub loop-end-preserved : goal.loop-end-preserved
+loop-end-preserved c =
+    let rows = c.args.graph.now.rows.items in
+    let flow = c.args.flow.now in
+    let p = c.args.potentials.now in
+    let u = c.args.u in
+    let last = IsLastSettled-improves c.requires.last c.loop-end.invariant.improves in
+    let P : ℕ → Way → Type 0 = λ k way. start_at rows k way ≡ u → IsResidual rows flow k way → IsRelaxed rows p c.loop-end.visits k way in
+    let Q : ℕ → Way → Type 0 = λ k way. start_at rows k way ≡ u → IsResidual rows flow k way → IsRelaxed rows p c.relax.new.visits k way in
+    record {
+      search = c.relax.ensures.search;
+      queue = c.relax.ensures.queue;
+      improves = Improves-trans c.loop-end.invariant.improves c.relax.ensures.improves;
+      walk = c.next.ensures.walk;
+      node = c.next.ensures.node ∙ c.loop-end.invariant.node;
+      done = one_end_more c.args.graph.now c.loop-end.walk c.next.new.self u c.in-Some.end P Q c.loop-end.invariant.done c.in-Some.ensures.rest
+          (λ k way done starts residual. IsRelaxed-improves (ap (mark_at c.loop-end.visits) starts ∙ last.settled) c.relax.ensures.improves (done starts residual)) (λ starts residual. c.relax.ensures.relaxed residual);
+    }
 
 pub returns-clause-relaxed : goal.returns-clause-relaxed
-returns-clause-relaxed c =
-    all_relaxed c.args.graph.now.net c.args.graph.now.rows.items c.args.flow.now c.args.potentials.now c.relax_ends.new.visits c.args.u c.first_row-first_row.result c.requires.graph.rows
-    c.first_row-first_row.ensures
-    (λ some way from. IsRelaxed-improves (ap (mark_at c.relax_return.new.visits) from.starts ∙ (IsLastSettled-improves c.requires.last c.relax_return.ensures.improves).settled) c.relax_ends.ensures.improves (c.relax_return.ensures.relaxed some way from))
-    c.relax_ends.ensures.relaxed
+returns-clause-relaxed c = λ k way lt residual starts.
+    (let rows = c.args.graph.now.rows.items in
+    let P : ℕ → Way → Type 0 = λ k way. start_at rows k way ≡ c.args.u → IsResidual rows c.args.flow.now k way → IsRelaxed rows c.args.potentials.now c.loop-end.visits k way in
+    all_ends_met c.args.graph.now c.loop-end.walk c.args.u P c.loop-end.invariant.done c.in_default.ensures.rest k way lt starts starts residual)

@@ -1,0 +1,12 @@
+use Rattle.std.proofs.Common.{◌≡◌}
+use Rattle.shortest_paths.specs.Ends.{IsWalk, left_of}
+use Rattle.shortest_paths.proofs.blocking.next_place.Given as goal
+
+abbrev pub invariant-loop-end : goal.invariant-loop-end
+invariant-loop-end l = record {
+  walk : IsWalk l.graph l.walk;
+  node : l.walk.node ≡ l.node;
+}
+
+abbrev pub decreases-loop-end : goal.decreases-loop-end
+decreases-loop-end l = left_of l.graph l.walk

@@ -1,0 +1,18 @@
+use Rattle.std.proofs.Common.{◌≡◌}
+use Rattle.shortest_paths.specs.Cut.{IsFarIn, IsGrown, IsLineOf}
+use Rattle.shortest_paths.specs.Ends.{IsWalk, left_of}
+use Rattle.shortest_paths.proofs.CutLemmas.{way_on}
+use Rattle.shortest_paths.proofs.EndLemmas.{AllHaveOrCome}
+use Rattle.shortest_paths.proofs.cut.mark_from.Given as goal
+
+abbrev pub invariant-loop-end : goal.invariant-loop-end
+invariant-loop-end l = record {
+  line : IsLineOf l.cut l.line l.longer;
+  grown : IsGrown l.side l.graph.rows.items l.flow l.initial.cut l.initial.line l.len l.cut l.line l.longer;
+  walk : IsWalk l.graph l.walk;
+  node : l.walk.node ≡ l.node;
+  done : AllHaveOrCome l.graph l.walk l.node (λ k way. IsFarIn l.side l.graph.rows.items l.flow l.cut k (way_on l.side way));
+}
+
+abbrev pub decreases-loop-end : goal.decreases-loop-end
+decreases-loop-end l = left_of l.graph l.walk
