@@ -14,7 +14,6 @@ use Rattle.shortest_paths.specs.Nodes.{held}
 use Rattle.shortest_paths.specs.Push.{at_node}
 use Rattle.shortest_paths.specs.Residual.{IsRow, arc_at, number_at}
 use Rattle.flow_solver.specs.Desk.{flow_index}
-use Rattle.flow_solver.specs.Edit.{place_of}
 use Rattle.flow_solver.specs.Ledger.{IsLedger, kept_in}
 use Rattle.flow_solver.proofs.BalanceLemmas.{cost_first, cost_last, cost_row, excess_first, excess_last, excess_row, excess_set, excess_supplied}
 use Rattle.flow_solver.proofs.ChangeLemmas.{place_in, row_is, rows_changed, rows_more, supplied, supply_at, with_last, with_row}
@@ -148,23 +147,21 @@ pub record IsPlace (I : Instance) (rows : List ArcRow) (k place : ℕ) : Type 0 
   pub in_rows : place < length rows
   pub row_is : (d : ArcRow) → arc_at rows place ≡ slice_index_or I.arcs (k - 1) d
   pub index_is : place ≡ flow_index I.demand k
-  pub place_at : place ≡ place_of I k
 
 pub place_is : (I : Instance) (rows : List ArcRow) (k place : ℕ) → rows ≡ (reduced I).arcs → (1 ≤ k) × (k ≤ length I.arcs) → place ≡ (length rows - length I.arcs) + (k - 1) → IsPlace I rows k place
 place_is I rows k place same at is =
-    let there : place ≡ place_of I k = is ∙ ap (λ (r : List ArcRow). (length r - length I.arcs) + (k - 1)) same in
+    let there : place ≡ flow_index I.demand k = is ∙ ap (λ (r : List ArcRow). (length r - length I.arcs) + (k - 1)) same ∙ flow_place I.demand I.arcs k at in
     record {
       in_rows = omega (arith, there, place_in I k at, ap (λ (r : List ArcRow). length r) same);
       row_is = λ d. ap (λ (r : List ArcRow). arc_at r place) same ∙ ap (arc_at (reduced I).arcs) there ∙ row_is I k d at;
-      index_is = there ∙ flow_place I.demand I.arcs k at;
-      place_at = there;
+      index_is = there;
     }
 
 -- the row of a numbered arc becomes another with the same ends
-pub balance_swapped : (I J : Instance) (rows rows' : List ArcRow) (flow : Ledger ℤ) (b b' : Balance) (k place : ℕ) (row : ArcRow) → IsPlace I rows k place → rows ≡ (reduced I).arcs → rows' ≡ (reduced J).arcs → J ≡ with_row I (k - 1) row → row.tail ≡ (slice_index_or I.arcs (k - 1) row).tail → row.head ≡ (slice_index_or I.arcs (k - 1) row).head → length flow.entries.items ≡ length rows → length flow.kept.items ≡ length rows → b'.excess ≡ b.excess → b'.cost ≡ int_wrap w128 (b.cost +ℤ (row.cost -ℤ (arc_at rows place).cost) *ℤ number_at flow.kept.items place) → IsBalanceOf I rows flow b → IsBalanceOf J rows' flow b'
-balance_swapped I J rows rows' flow b b' k place row there before after other tail head many as_many same_excess cost is =
-    let set : slice_set (reduced I).arcs (place_of I k) row ≡ slice_set rows place row = ap (λ (n : ℕ). slice_set (reduced I).arcs n row) (sym there.place_at) ∙ ap (λ (r : List ArcRow). slice_set r place row) (sym before) in
-    let rows_are : rows' ≡ slice_set rows place row = after ∙ ap (λ (K : Instance). (reduced K).arcs) other ∙ sym (rows_changed I k row) ∙ set in
+pub balance_swapped : (I J : Instance) (rows rows' : List ArcRow) (flow : Ledger ℤ) (b b' : Balance) (k place : ℕ) (row : ArcRow) → 1 ≤ k → IsPlace I rows k place → rows ≡ (reduced I).arcs → rows' ≡ (reduced J).arcs → J ≡ with_row I (k - 1) row → row.tail ≡ (slice_index_or I.arcs (k - 1) row).tail → row.head ≡ (slice_index_or I.arcs (k - 1) row).head → length flow.entries.items ≡ length rows → length flow.kept.items ≡ length rows → b'.excess ≡ b.excess → b'.cost ≡ int_wrap w128 (b.cost +ℤ (row.cost -ℤ (arc_at rows place).cost) *ℤ number_at flow.kept.items place) → IsBalanceOf I rows flow b → IsBalanceOf J rows' flow b'
+balance_swapped I J rows rows' flow b b' k place row one there before after other tail head many as_many same_excess cost is =
+    let set : slice_set (reduced I).arcs (flow_index I.demand k) row ≡ slice_set rows place row = ap (λ (n : ℕ). slice_set (reduced I).arcs n row) (sym there.index_is) ∙ ap (λ (r : List ArcRow). slice_set r place row) (sym before) in
+    let rows_are : rows' ≡ slice_set rows place row = after ∙ ap (λ (K : Instance). (reduced K).arcs) other ∙ sym (rows_changed I k row one) ∙ set in
     balance_row I J rows rows' flow b b' place row there.in_rows many as_many (tail ∙ ap (λ (a : ArcRow). a.tail) (sym (there.row_is row))) (head ∙ ap (λ (a : ArcRow). a.head) (sym (there.row_is row))) rows_are
     (ap (λ (K : Instance). K.nodes) other) (ap (λ (K : Instance). K.demand) other) same_excess cost is
 

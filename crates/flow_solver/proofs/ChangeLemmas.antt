@@ -1,5 +1,6 @@
 -- What a change of the instance leaves of its tables, its flow and its excesses.
-use Rattle.std.proofs.Common.{◌≡◌, ℕ, suc, ◌+◌, ◌-◌, ◌<◌, ◌≤◌, ℤ, pos, ◌-ℤ◌, ◌+ℤ◌, ◌≤ℤ◌, List, [], ◌∷◌, length, drop, refl, sym, ap, subst, ◌∙◌, inl, inr, arith, slice_set, slice_index_or, unsigned_abs, All, ◌++◌, take}
+use Rattle.std.proofs.Common.{◌≡◌, ℕ, zero, suc, ◌+◌, ◌-◌, ◌<◌, ◌≤◌, ℤ, pos, negsuc, neg_ℤ, ◌-ℤ◌, ◌+ℤ◌, ◌≤ℤ◌, List, [], ◌∷◌, length, drop, refl, sym, ap, subst, ◌∙◌, inl, inr, arith, Bool, true, false, cond, eqb, slice_set, slice_index_or, unsigned_abs, All, ◌++◌, take}
+use Rattle.std.specs.List.{AllZip}
 use Rattle.std.proofs.lemmas.Int.{ints}
 use Rattle.std.proofs.lemmas.Bool.{cases_lt, cases_eq}
 use Rattle.std.proofs.lemmas.List.{length-set, get_or_default, get_or_past, length-append, get_or_append_left, get_or-set_same, get_or-set_other}
@@ -9,24 +10,20 @@ use Rattle.dimacs_text.specs.declared.problem.ArcRow.{ArcRow}
 use Rattle.dimacs_text.specs.Lawful.{IsLawfulRow, IsWithin}
 use Rattle.dimacs_text.specs.declared.problem.TheConstants.{SUPPLY_LIMIT}
 use Rattle.dimacs_text.specs.declared.problem.Kind.TheVariants.{Min}
-use Rattle.network.specs.Flow.{MinCost, AllEndsAreNodes, net, total_excess, IsCertifiedFlow, IsPotential}
-use Rattle.network.specs.Flow as flow
-use Rattle.network.specs.Instance.{Demand, Supplies, Terminals, Sides, Instance, IsLawful, ArcFits, DemandFits, at_node, kind_of, reduced, reduced_arcs, reduced_supply, with_supply}
+use Rattle.network.specs.Flow.{MinCost, AllEndsAreNodes, AllWithinBounds, FollowsSign, IsCertifiedFlow, IsWithinBounds, net, reduced_cost, total_excess}
+use Rattle.network.specs.Instance.{Demand, Supplies, Terminals, Sides, Instance, IsLawful, ArcFits, DemandFits, at_node, kind_of, numbered_flow, reduced, reduced_arcs, reduced_supply, with_supply}
 use Rattle.network.proofs.Reduction.{reduced_ends}
-use Rattle.shortest_paths.specs.Residual.{IsCertified, IsRow, number_at, arc_at}
-use Rattle.shortest_paths.specs.Push.{IsExcess, IsTransfer, at_node as at_one}
-use Rattle.shortest_paths.specs.Nodes.{table, held, IsIdleEntry}
-use Rattle.flow_solver.specs.Edit.{reduced_cost, IsNearest, place_of}
-use Rattle.flow_solver.specs.Desk.{supplies_in}
+use Rattle.shortest_paths.specs.Residual.{number_at, arc_at}
+use Rattle.shortest_paths.specs.Push.{IsExcess, IsTransfer, at_node as at_one, left}
+use Rattle.shortest_paths.specs.Nodes.{table, held}
+use Rattle.flow_solver.specs.Edit.{IsNearest}
+use Rattle.flow_solver.specs.Desk.{flow_index, supplies_in}
 use Rattle.shortest_paths.proofs.NodeLemmas.{IsNodeOf, length-table, table_at, is_node_or_not, held_node, held_other, net-none}
 use Rattle.shortest_paths.proofs.PushLemmas.{at_same, at_other}
 use Rattle.flow_solver.proofs.ExcessLemmas.{left-gain, at_node_bounds}
-use Rattle.flow_solver.proofs.FlowLaws.{certified_flow}
+use Rattle.flow_solver.proofs.BalanceLemmas.{net-push, net-set, net-set_row}
 use Rattle.flow_solver.proofs.PushLaws.{left_is}
-use Rattle.flow_solver.proofs.EditLemmas.{net_replaced, left-carried}
-use Rattle.flow_solver.proofs.InstanceLemmas.{row_in_tables, certified_of}
 use Rattle.shortest_paths.proofs.WalkLemmas.{rows_push}
-use Rattle.flow_solver.proofs.AnswerLemmas.{agrees_at, certified_at}
 
 -- ---- the instance and its rows
 
@@ -43,83 +40,77 @@ lawful_row I i row lawful limits fits = record {
   room = lawful.room;
 }
 
-rows_set : (D : Demand) (arcs : List ArcRow) (i : ℕ) (row : ArcRow) → slice_set (reduced_arcs D arcs) ((length (reduced_arcs D arcs) - length arcs) + i) row ≡ reduced_arcs D (slice_set arcs i row)
-rows_set (Supplies s) arcs i row = (let e : (length arcs - length arcs) + i ≡ i = omega arith in ap (λ (j : ℕ). slice_set arcs j row) e)
-rows_set (Terminals source sink) arcs i row = (let e : (suc (length arcs) - length arcs) + i ≡ suc i = omega arith in ap (λ (j : ℕ). slice_set (reduced_arcs (Terminals source sink) arcs) j row) e)
-rows_set (Sides marks) arcs i row = (let e : (length arcs - length arcs) + i ≡ i = omega arith in ap (λ (j : ℕ). slice_set arcs j row) e)
+rows_set : (D : Demand) (arcs : List ArcRow) (k : ℕ) (row : ArcRow) → 1 ≤ k → slice_set (reduced_arcs D arcs) (flow_index D k) row ≡ reduced_arcs D (slice_set arcs (k - 1) row)
+rows_set (Supplies s) arcs k row one = refl
+rows_set (Terminals source sink) arcs zero row one = absurd (omega (arith, one))
+rows_set (Terminals source sink) arcs (suc i) row one = (let e : i ≡ suc i - 1 = omega arith in ap (λ (j : ℕ). reduced_arcs (Terminals source sink) (slice_set arcs j row)) e)
+rows_set (Sides marks) arcs k row one = refl
 
-pub rows_changed : (I : Instance) (k : ℕ) (row : ArcRow) → slice_set (reduced I).arcs (place_of I k) row ≡ (reduced (with_row I (k - 1) row)).arcs
-rows_changed I k row = rows_set I.demand I.arcs (k - 1) row
+-- the rows of the reduced instance once arc k has changed
+pub rows_changed : (I : Instance) (k : ℕ) (row : ArcRow) → 1 ≤ k → slice_set (reduced I).arcs (flow_index I.demand k) row ≡ (reduced (with_row I (k - 1) row)).arcs
+rows_changed I k row one = rows_set I.demand I.arcs k row one
 
-row_at : (D : Demand) (arcs : List ArcRow) (i : ℕ) → i < length arcs → ((length (reduced_arcs D arcs) - length arcs) + i < length (reduced_arcs D arcs)) × (arc_at (reduced_arcs D arcs) ((length (reduced_arcs D arcs) - length arcs) + i) ≡ arc_at arcs i)
-row_at (Supplies s) arcs i lt = (let e : (length arcs - length arcs) + i ≡ i = omega arith in (omega arith, ap (arc_at arcs) e))
-row_at (Terminals source sink) arcs i lt = (let e : (suc (length arcs) - length arcs) + i ≡ suc i = omega arith in (omega arith, ap (arc_at (reduced_arcs (Terminals source sink) arcs)) e))
-row_at (Sides marks) arcs i lt = (let e : (length arcs - length arcs) + i ≡ i = omega arith in (omega arith, ap (arc_at arcs) e))
+row_at : (D : Demand) (arcs : List ArcRow) (k : ℕ) → (1 ≤ k) × (k ≤ length arcs) → (flow_index D k < length (reduced_arcs D arcs)) × (arc_at (reduced_arcs D arcs) (flow_index D k) ≡ arc_at arcs (k - 1))
+row_at (Supplies s) arcs k at = (omega (arith, at.0, at.1), refl)
+row_at (Terminals source sink) arcs zero at = absurd (omega (arith, at.0))
+row_at (Terminals source sink) arcs (suc i) at = (let e : i ≡ suc i - 1 = omega arith in (omega (arith, at.1), ap (arc_at arcs) e))
+row_at (Sides marks) arcs k at = (omega (arith, at.0, at.1), refl)
 
-pub place_in : (I : Instance) (k : ℕ) → (1 ≤ k) × (k ≤ length I.arcs) → place_of I k < length (reduced I).arcs
-place_in I k at = (row_at I.demand I.arcs (k - 1) (omega (arith, at.0, at.1))).0
+pub place_in : (I : Instance) (k : ℕ) → (1 ≤ k) × (k ≤ length I.arcs) → flow_index I.demand k < length (reduced I).arcs
+place_in I k at = (row_at I.demand I.arcs k at).0
 
 -- the row at the place of arc k is that arc
-pub row_is : (I : Instance) (k : ℕ) (d : ArcRow) → (1 ≤ k) × (k ≤ length I.arcs) → arc_at (reduced I).arcs (place_of I k) ≡ slice_index_or I.arcs (k - 1) d
+pub row_is : (I : Instance) (k : ℕ) (d : ArcRow) → (1 ≤ k) × (k ≤ length I.arcs) → arc_at (reduced I).arcs (flow_index I.demand k) ≡ slice_index_or I.arcs (k - 1) d
 row_is I k d at =
     let lt : k - 1 < length I.arcs = omega (arith, at.0, at.1) in
-    (row_at I.demand I.arcs (k - 1) lt).1 ∙ get_or_default I.arcs (k - 1) _ d lt
+    (row_at I.demand I.arcs k at).1 ∙ get_or_default I.arcs (k - 1) _ d lt
 
--- ---- the flow and its potentials
+-- the flow of arc k, among those of the numbered arcs
+pub flow_at : (D : Demand) (x : List ℤ) (k : ℕ) (d : ℤ) → 1 ≤ k → slice_index_or (numbered_flow D x) (k - 1) d ≡ slice_index_or x (flow_index D k) d
+flow_at (Supplies s) x k d one = refl
+flow_at (Terminals source sink) x zero d one = absurd (omega (arith, one))
+flow_at (Terminals source sink) x (suc i) d one = (let e : suc i - 1 ≡ i = omega arith in ap (λ (j : ℕ). slice_index_or (drop 1 x) j d) e ∙ after_first x i)
+  where
+    after_first : (xs : List ℤ) (j : ℕ) → slice_index_or (drop 1 xs) j d ≡ slice_index_or xs (suc j) d
+    after_first [] j = refl
+    after_first (y ∷ xs) j = refl
+flow_at (Sides marks) x k d one = refl
 
--- under the potentials of the nodes the reduced cost of an arc between nodes is that of the table
-pub reduced_is : (n : ℕ) (p : List ℤ) (row : ArcRow) → IsLawfulRow n row → flow.reduced_cost (at_node (drop 1 p)) row ≡ reduced_cost p row
-reduced_is n p row lawful = omega (arith, ints, agrees_at n p row.tail lawful.tail, agrees_at n p row.head lawful.head)
+-- ---- one arc more or less at the end
 
-pub certified_after : (I J : Instance) (x y p : List ℤ) → IsLawful J → J.nodes ≡ I.nodes → IsCertifiedFlow (reduced I) x (at_node (drop 1 p)) → IsCertified (reduced J).arcs y p → IsCertifiedFlow (reduced J) y (at_node (drop 1 p))
-certified_after I J x y p lawful same before certified =
-    certified_flow (reduced J) y p (at_node (drop 1 p)) (reduced_ends J lawful) certified (agrees_at J.nodes p)
-    (λ v node. subst IsPotential (agrees_at J.nodes p v node) (before.range v (node.0, subst (λ (n : ℕ). v ≤ n) same node.1)))
+-- the instance with an arc more
+abbrev pub with_last : Instance → ArcRow → Instance
+with_last I row = record { nodes = I.nodes; demand = I.demand; arcs = I.arcs ++ row ∷ []; room = I.room }
 
--- ---- what is left
+pub lawful_more : (I : Instance) (row : ArcRow) → IsLawful I → length I.arcs < I.room → IsLawfulRow I.nodes row → ArcFits I.demand row → IsLawful (with_last I row)
+lawful_more I row lawful free limits fits = record {
+  nodes = lawful.nodes;
+  demand = lawful.demand;
+  arcs = All-push (λ arc. IsLawfulRow I.nodes arc × ArcFits I.demand arc) I.arcs row lawful.arcs (limits, fits);
+  count = omega (arith, length-append I.arcs (row ∷ []));
+  room = lawful.room;
+}
 
--- the excesses of a flow as a table
-abbrev excess_table : (I : MinCost) (x : List ℤ) → List ℤ
-excess_table I x = table (suc I.nodes) (λ v. held I.nodes I.supply v -ℤ net I.arcs x v)
+pub lawful_less : (I : Instance) (row : ArcRow) → IsLawful (with_last I row) → IsLawful I
+lawful_less I row lawful =
+    let more = length-append I.arcs (row ∷ []) in
+    record {
+      nodes = lawful.nodes;
+      demand = lawful.demand;
+      arcs = λ k d h. rw (get_or_append_left I.arcs (row ∷ []) d k h) at (lawful.arcs k d (omega arith));
+      count = omega (arith, lawful.count);
+      room = lawful.room;
+    }
 
-length-excess : (I : MinCost) (x : List ℤ) → length (excess_table I x) ≡ suc I.nodes
-length-excess I x = length-table (suc I.nodes) (λ v. held I.nodes I.supply v -ℤ net I.arcs x v)
+pub rows_more : (I : Instance) (row : ArcRow) → (reduced I).arcs ++ row ∷ [] ≡ (reduced (with_last I row)).arcs
+rows_more I row = rows_push I.demand I.arcs row
 
-excess_table_is : (I : MinCost) (x : List ℤ) → AllEndsAreNodes I → IsExcess I.arcs (held I.nodes I.supply) x (excess_table I x)
-excess_table_is I x ends v = elim (cases_lt v (suc I.nodes)) [
-  | inl lt ↦ table_at (suc I.nodes) (λ w. held I.nodes I.supply w -ℤ net I.arcs x w) v (pos 0) lt
-  | inr past ↦ (let none : IsNodeOf I.nodes v → ⊥ = λ h. omega (arith, h.1) in
-      let entry : number_at (excess_table I x) v ≡ pos 0 = get_or_past (excess_table I x) v (pos 0) (omega (arith, length-excess I x)) in
-      omega (arith, ints, entry, held_other I.nodes I.supply v none, net-none I.nodes I.arcs x v ends none))
-]
-
--- a change of what is left, by what is carried from one node to another
-pub excess_carried : (I J : MinCost) (x y : List ℤ) (u w : ℕ) (d : ℤ) → AllEndsAreNodes I → AllEndsAreNodes J → J.nodes ≡ I.nodes → ((v : ℕ) → held J.nodes J.supply v ≡ held I.nodes I.supply v)
-    → ((v : ℕ) → net J.arcs y v ≡ (net I.arcs x v +ℤ at_one u d v) -ℤ at_one w d v) → total_excess J y ≤ℤ (total_excess I x +ℤ pos (unsigned_abs d))
-excess_carried I J x y u w d ends ends_after nodes supplies nets =
-    let e = excess_table I x in
-    let f = excess_table J y in
-    let e_is = excess_table_is I x ends in
-    let f_is = excess_table_is J y ends_after in
-    let moved : IsTransfer u w d e f = record {
-      same_length = length-excess J y ∙ ap suc nodes ∙ sym (length-excess I x);
-      by_node = λ v. omega (arith, ints, e_is v, f_is v, supplies v, nets v);
-    } in
-    omega (arith, ints, left_is I x e ends e_is (length-excess I x), left_is J y f ends_after f_is (length-excess J y), left-carried u w d e f moved)
-
-pub excess_changed : (I : Instance) (x p : List ℤ) (k : ℕ) (row : ArcRow) (z : ℤ) → IsLawful I → IsLawfulRow I.nodes row → ArcFits I.demand row → (1 ≤ k) × (k ≤ length I.arcs)
-    → row.tail ≡ (slice_index_or I.arcs (k - 1) row).tail → row.head ≡ (slice_index_or I.arcs (k - 1) row).head
-    → length p ≡ I.nodes + 1 → IsIdleEntry p → IsCertifiedFlow (reduced I) x (at_node (drop 1 p)) → IsNearest row (reduced_cost p row) (number_at x (place_of I k)) z
-    → total_excess (reduced (with_row I (k - 1) row)) (slice_set x (place_of I k) z) ≤ℤ (total_excess (reduced I) x +ℤ pos (unsigned_abs (z -ℤ number_at x (place_of I k))))
-excess_changed I x p k row z lawful limits fits at tail head sized idle certified nearest =
-    let J = with_row I (k - 1) row in
-    let lawful_after = lawful_row I (k - 1) row lawful limits fits in
-    let arc = row_is I k row at in
-    let certified_rows = certified_of I x p lawful sized idle (certified_at I x p lawful certified) in
-    let row_in : IsRow (length p) row = subst (λ (n : ℕ). IsRow n row) (sym sized) (row_in_tables I.nodes row limits) in
-    let nets = net_replaced (reduced I).arcs x p (place_of I k) row z certified_rows (place_in I k at) row_in (tail ∙ ap (λ (a : ArcRow). a.tail) (sym arc)) (head ∙ ap (λ (a : ArcRow). a.head) (sym arc)) nearest in
-    excess_carried (reduced I) (reduced J) x (slice_set x (place_of I k) z) row.tail row.head (z -ℤ number_at x (place_of I k)) (reduced_ends I lawful) (reduced_ends J lawful_after) refl (λ v. refl)
-    (λ v. subst (λ (arcs : List ArcRow). net arcs (slice_set x (place_of I k) z) v ≡ (net (reduced I).arcs x v +ℤ at_one row.tail (z -ℤ number_at x (place_of I k)) v) -ℤ at_one row.head (z -ℤ number_at x (place_of I k)) v) (rows_changed I k row) (nets v))
+pub rows_less : (I : Instance) (row : ArcRow) → take (length (reduced (with_last I row)).arcs - 1) (reduced (with_last I row)).arcs ≡ (reduced I).arcs
+rows_less I row =
+    let more = length-append (reduced I).arcs (row ∷ []) in
+    let same = rows_more I row in
+    let count : length (reduced (with_last I row)).arcs - 1 ≡ length (reduced I).arcs = omega (arith, ap (λ (r : List ArcRow). length r) same) in
+    ap (λ (n : ℕ). take n (reduced (with_last I row)).arcs) count ∙ ap (λ (r : List ArcRow). take (length (reduced I).arcs) r) (sym same) ∙ take-append_seam (reduced I).arcs (row ∷ [])
 
 -- ---- another supply
 
@@ -153,6 +144,116 @@ arcs_supplied (Sides marks) arcs v x = refl
 pub rows_kept : (I : Instance) (v : ℕ) (x : ℤ) → (reduced (supplied I v x)).arcs ≡ (reduced I).arcs
 rows_kept I v x = arcs_supplied I.demand I.arcs v x
 
+-- ---- the flow and its potentials
+
+zip_set : {A B : Type 0} (R : A → B → Type 0) (xs : List A) (ys : List B) (k : ℕ) (a : A) (b : B) → AllZip R xs ys → R a b → AllZip R (slice_set xs k a) (slice_set ys k b)
+zip_set R [] [] k a b h r = tt
+zip_set R [] (y ∷ ys) k a b h r = absurd h
+zip_set R (x ∷ xs) [] k a b h r = absurd h
+zip_set R (x ∷ xs) (y ∷ ys) zero a b h r = (r, h.1)
+zip_set R (x ∷ xs) (y ∷ ys) (suc k) a b h r = (h.0, zip_set R xs ys k a b h.1 r)
+
+zip_push : {A B : Type 0} (R : A → B → Type 0) (xs : List A) (ys : List B) (a : A) (b : B) → AllZip R xs ys → R a b → AllZip R (xs ++ a ∷ []) (ys ++ b ∷ [])
+zip_push R [] [] a b h r = (r, tt)
+zip_push R [] (y ∷ ys) a b h r = absurd h
+zip_push R (x ∷ xs) [] a b h r = absurd h
+zip_push R (x ∷ xs) (y ∷ ys) a b h r = (h.0, zip_push R xs ys a b h.1 r)
+
+-- a flow is certified still where that of a changed arc went to the nearest value
+pub certified_changed : (I : Instance) (k : ℕ) (row : ArcRow) (q : ℕ → ℤ) (x : List ℤ) (z : ℤ) → 1 ≤ k → IsCertifiedFlow (reduced I) x q → IsNearest row (reduced_cost q row) (number_at x (flow_index I.demand k)) z
+    → IsCertifiedFlow (reduced (with_row I (k - 1) row)) (slice_set x (flow_index I.demand k) z) q
+certified_changed I k row q x z one certified near =
+    let place = flow_index I.demand k in
+    record {
+      bounds = subst (λ (arcs : List ArcRow). AllWithinBounds arcs (slice_set x place z)) (rows_changed I k row one) (zip_set IsWithinBounds (reduced I).arcs x place row z certified.bounds (near.within.low_kept, near.within.cap_kept));
+      signs = subst (λ (arcs : List ArcRow). AllZip (FollowsSign q) arcs (slice_set x place z)) (rows_changed I k row one) (zip_set (FollowsSign q) (reduced I).arcs x place row z certified.signs (record { dear = near.dear; cheap = near.cheap }));
+      range = certified.range;
+    }
+
+-- so it is where an arc was added with the nearest flow
+pub certified_more : (I : Instance) (row : ArcRow) (q : ℕ → ℤ) (x : List ℤ) (z : ℤ) → IsCertifiedFlow (reduced I) x q → IsNearest row (reduced_cost q row) (pos 0) z → IsCertifiedFlow (reduced (with_last I row)) (x ++ z ∷ []) q
+certified_more I row q x z certified near = record {
+  bounds = subst (λ (arcs : List ArcRow). AllWithinBounds arcs (x ++ z ∷ [])) (rows_more I row) (zip_push IsWithinBounds (reduced I).arcs x row z certified.bounds (near.within.low_kept, near.within.cap_kept));
+  signs = subst (λ (arcs : List ArcRow). AllZip (FollowsSign q) arcs (x ++ z ∷ [])) (rows_more I row) (zip_push (FollowsSign q) (reduced I).arcs x row z certified.signs (record { dear = near.dear; cheap = near.cheap }));
+  range = certified.range;
+}
+
+-- ---- what is left
+
+-- the excesses of a flow as a table
+abbrev excess_table : (I : MinCost) (x : List ℤ) → List ℤ
+excess_table I x = table (suc I.nodes) (λ v. held I.nodes I.supply v -ℤ net I.arcs x v)
+
+length-excess : (I : MinCost) (x : List ℤ) → length (excess_table I x) ≡ suc I.nodes
+length-excess I x = length-table (suc I.nodes) (λ v. held I.nodes I.supply v -ℤ net I.arcs x v)
+
+excess_table_is : (I : MinCost) (x : List ℤ) → AllEndsAreNodes I → IsExcess I.arcs (held I.nodes I.supply) x (excess_table I x)
+excess_table_is I x ends v = elim (cases_lt v (suc I.nodes)) [
+  | inl lt ↦ table_at (suc I.nodes) (λ w. held I.nodes I.supply w -ℤ net I.arcs x w) v (pos 0) lt
+  | inr past ↦ (let none : IsNodeOf I.nodes v → ⊥ = λ h. omega (arith, h.1) in
+      let entry : number_at (excess_table I x) v ≡ pos 0 = get_or_past (excess_table I x) v (pos 0) (omega (arith, length-excess I x)) in
+      omega (arith, ints, entry, held_other I.nodes I.supply v none, net-none I.nodes I.arcs x v ends none))
+]
+
+at_one-neg : (u v : ℕ) (a : ℤ) → at_one u (neg_ℤ a) v ≡ neg_ℤ (at_one u a v)
+at_one-neg u v a = by_test (eqb u v)
+  where
+    by_test : (t : Bool) → cond t (neg_ℤ a) (pos 0) ≡ neg_ℤ (cond t a (pos 0))
+    by_test true = refl
+    by_test false = refl
+
+-- what is carried from one node to another is all that can come to lie in excess
+pub left-carried : (u w : ℕ) (d : ℤ) (e f : List ℤ) → IsTransfer u w d e f → left f ≤ left e + unsigned_abs d
+left-carried u w (pos n) e f moved =
+    left-gain e f w n moved.same_length (λ v. omega (arith, ints, moved.by_node v, (at_node_bounds u (pos n) v (omega (arith, ints))).0))
+left-carried u w (negsuc n) e f moved =
+    left-gain e f u (suc n) moved.same_length (λ v. omega (arith, ints, moved.by_node v, at_one-neg u v (pos (suc n)), at_one-neg w v (pos (suc n)), (at_node_bounds w (pos (suc n)) v (omega (arith, ints))).0))
+
+-- a change of what is left, by what is carried from one node to another
+pub excess_carried : (I J : MinCost) (x y : List ℤ) (u w : ℕ) (d : ℤ) → AllEndsAreNodes I → AllEndsAreNodes J → J.nodes ≡ I.nodes → ((v : ℕ) → held J.nodes J.supply v ≡ held I.nodes I.supply v)
+    → ((v : ℕ) → net J.arcs y v ≡ (net I.arcs x v +ℤ at_one u d v) -ℤ at_one w d v) → total_excess J y ≤ℤ (total_excess I x +ℤ pos (unsigned_abs d))
+excess_carried I J x y u w d ends ends_after nodes supplies nets =
+    let e = excess_table I x in
+    let f = excess_table J y in
+    let e_is = excess_table_is I x ends in
+    let f_is = excess_table_is J y ends_after in
+    let moved : IsTransfer u w d e f = record {
+      same_length = length-excess J y ∙ ap suc nodes ∙ sym (length-excess I x);
+      by_node = λ v. omega (arith, ints, e_is v, f_is v, supplies v, nets v);
+    } in
+    omega (arith, ints, left_is I x e ends e_is (length-excess I x), left_is J y f ends_after f_is (length-excess J y), left-carried u w d e f moved)
+
+-- the flow of a changed arc went to another value
+pub excess_changed : (I : Instance) (x : List ℤ) (k : ℕ) (row : ArcRow) (z : ℤ) → IsLawful I → IsLawfulRow I.nodes row → ArcFits I.demand row → (1 ≤ k) × (k ≤ length I.arcs)
+    → row.tail ≡ (slice_index_or I.arcs (k - 1) row).tail → row.head ≡ (slice_index_or I.arcs (k - 1) row).head → length x ≡ length (reduced I).arcs
+    → total_excess (reduced (with_row I (k - 1) row)) (slice_set x (flow_index I.demand k) z) ≤ℤ (total_excess (reduced I) x +ℤ pos (unsigned_abs (z -ℤ number_at x (flow_index I.demand k))))
+excess_changed I x k row z lawful limits fits at tail head sized =
+    let J = with_row I (k - 1) row in
+    let arcs = (reduced I).arcs in
+    let place = flow_index I.demand k in
+    let more = z -ℤ number_at x place in
+    let lt = place_in I k at in
+    let arc = row_is I k row at in
+    let same_tail : row.tail ≡ (arc_at arcs place).tail = tail ∙ ap (λ (a : ArcRow). a.tail) (sym arc) in
+    let same_head : row.head ≡ (arc_at arcs place).head = head ∙ ap (λ (a : ArcRow). a.head) (sym arc) in
+    excess_carried (reduced I) (reduced J) x (slice_set x place z) row.tail row.head more (reduced_ends I lawful) (reduced_ends J (lawful_row I (k - 1) row lawful limits fits)) refl (λ v. refl)
+    (λ v. (let kept = net-set_row arcs (slice_set x place z) place v row lt (length-set x place z ∙ sized) same_tail same_head in
+    let moved = net-set arcs x place v z lt sized in
+    let out = ap (λ (u : ℕ). at_one u more v) same_tail in
+    let into = ap (λ (u : ℕ). at_one u more v) same_head in
+    let nets : net (slice_set arcs place row) (slice_set x place z) v ≡ (net arcs x v +ℤ at_one row.tail more v) -ℤ at_one row.head more v = omega (arith, ints, kept, moved, out, into) in
+    subst (λ (r : List ArcRow). net r (slice_set x place z) v ≡ (net arcs x v +ℤ at_one row.tail more v) -ℤ at_one row.head more v) (rows_changed I k row at.0) nets))
+
+-- an arc was added with some flow
+pub excess_more : (I : Instance) (x : List ℤ) (row : ArcRow) (z : ℤ) → IsLawful I → IsLawful (with_last I row) → length x ≡ length (reduced I).arcs
+    → total_excess (reduced (with_last I row)) (x ++ z ∷ []) ≤ℤ (total_excess (reduced I) x +ℤ pos (unsigned_abs z))
+excess_more I x row z lawful lawful_after sized =
+    excess_carried (reduced I) (reduced (with_last I row)) x (x ++ z ∷ []) row.tail row.head z (reduced_ends I lawful) (reduced_ends (with_last I row) lawful_after) refl (λ v. refl)
+    (λ v. (let nets = net-push (reduced I).arcs x row v z sized in
+    subst (λ (r : List ArcRow). net r (x ++ z ∷ []) v ≡ (net (reduced I).arcs x v +ℤ at_one row.tail z v) -ℤ at_one row.head z v) (rows_more I row) (omega (arith, ints, nets))))
+
+-- ---- what is left once a supply has changed
+
 -- the supply of the node alone changes
 pub supply_at : (n : ℕ) (D : Demand) (v : ℕ) (x : ℤ) → kind_of D ≡ Min → DemandFits n D → IsNodeOf n v → (w : ℕ) → IsNodeOf n w → reduced_supply (with_supply D v x) w ≡ reduced_supply D w +ℤ at_one v (x -ℤ reduced_supply D v) w
 supply_at n (Supplies s) v x kind fits node w at = elim (cases_eq w v) [
@@ -166,17 +267,6 @@ supply_at n (Supplies s) v x kind fits node w at = elim (cases_eq w v) [
 ]
 supply_at n (Terminals source sink) v x kind fits node w at = cc
 supply_at n (Sides marks) v x kind fits node w at = cc
-
--- so does the table's entry alone
-pub held_supplied : (I : Instance) (u : ℕ) (z : ℤ) → IsLawful I → kind_of I.demand ≡ Min → IsNodeOf I.nodes u → (v : ℕ) → held I.nodes (reduced (supplied I u z)).supply v ≡ held I.nodes (reduced I).supply v +ℤ at_one u (z -ℤ held I.nodes (reduced I).supply u) v
-held_supplied I u z lawful kind node v =
-    let here : at_one u (z -ℤ held I.nodes (reduced I).supply u) v ≡ at_one u (z -ℤ (reduced I).supply u) v = ap (λ (s : ℤ). at_one u (z -ℤ s) v) (held_node I.nodes (reduced I).supply u node) in
-    elim (is_node_or_not I.nodes v) [
-      | inl at ↦ (let moved = supply_at I.nodes I.demand u z kind lawful.demand node v at in
-          omega (arith, ints, here, moved, held_node I.nodes (reduced I).supply v at, held_node I.nodes (reduced (supplied I u z)).supply v at))
-      | inr none ↦ (let other = at_other u (z -ℤ (reduced I).supply u) v (λ same. none (subst (IsNodeOf I.nodes) (sym same) node)) in
-          omega (arith, ints, here, other, held_other I.nodes (reduced I).supply v none, held_other I.nodes (reduced (supplied I u z)).supply v none))
-    ]
 
 pub excess_supplied : (I : Instance) (v : ℕ) (z : ℤ) (x : List ℤ) → IsLawful I → kind_of I.demand ≡ Min → IsNodeOf I.nodes v → IsWithin SUPPLY_LIMIT z
     → total_excess (reduced (supplied I v z)) x ≤ℤ (total_excess (reduced I) x +ℤ pos (unsigned_abs (z -ℤ (reduced I).supply v)))
@@ -218,39 +308,3 @@ pub supply_entry : (n : ℕ) (D : Demand) (v : ℕ) (d : ℤ) → kind_of D ≡ 
 supply_entry n (Supplies s) v d kind fits node = get_or_default s (v - 1) (pos 0) d (omega (arith, fits.0, node.0, node.1))
 supply_entry n (Terminals source sink) v d kind fits node = cc
 supply_entry n (Sides marks) v d kind fits node = cc
-
--- ---- one arc more or less at the end
-
--- the instance with an arc more
-abbrev pub with_last : Instance → ArcRow → Instance
-with_last I row = record { nodes = I.nodes; demand = I.demand; arcs = I.arcs ++ row ∷ []; room = I.room }
-
-pub lawful_more : (I : Instance) (row : ArcRow) → IsLawful I → length I.arcs < I.room → IsLawfulRow I.nodes row → ArcFits I.demand row → IsLawful (with_last I row)
-lawful_more I row lawful free limits fits = record {
-  nodes = lawful.nodes;
-  demand = lawful.demand;
-  arcs = All-push (λ arc. IsLawfulRow I.nodes arc × ArcFits I.demand arc) I.arcs row lawful.arcs (limits, fits);
-  count = omega (arith, length-append I.arcs (row ∷ []));
-  room = lawful.room;
-}
-
-pub lawful_less : (I : Instance) (row : ArcRow) → IsLawful (with_last I row) → IsLawful I
-lawful_less I row lawful =
-    let more = length-append I.arcs (row ∷ []) in
-    record {
-      nodes = lawful.nodes;
-      demand = lawful.demand;
-      arcs = λ k d h. rw (get_or_append_left I.arcs (row ∷ []) d k h) at (lawful.arcs k d (omega arith));
-      count = omega (arith, lawful.count);
-      room = lawful.room;
-    }
-
-pub rows_more : (I : Instance) (row : ArcRow) → (reduced I).arcs ++ row ∷ [] ≡ (reduced (with_last I row)).arcs
-rows_more I row = rows_push I.demand I.arcs row
-
-pub rows_less : (I : Instance) (row : ArcRow) → take (length (reduced (with_last I row)).arcs - 1) (reduced (with_last I row)).arcs ≡ (reduced I).arcs
-rows_less I row =
-    let more = length-append (reduced I).arcs (row ∷ []) in
-    let same = rows_more I row in
-    let count : length (reduced (with_last I row)).arcs - 1 ≡ length (reduced I).arcs = omega (arith, ap (λ (r : List ArcRow). length r) same) in
-    ap (λ (n : ℕ). take n (reduced (with_last I row)).arcs) count ∙ ap (λ (r : List ArcRow). take (length (reduced I).arcs) r) (sym same) ∙ take-append_seam (reduced I).arcs (row ∷ [])

@@ -7,13 +7,15 @@ use Rattle.network.specs.Instance.{Demand, Supplies, Terminals, Sides, Instance,
 use Rattle.flow_solver.specs.declared.balance.Balance.{Balance}
 use Rattle.shortest_paths.specs.declared.graph.Graph.{Graph}
 use Rattle.flow_solver.specs.declared.ledger.Ledger.{Ledger}
+use Rattle.flow_solver.specs.declared.part.Before.{Before}
 use Rattle.flow_solver.specs.declared.part.Part.{Part}
 use Rattle.flow_solver.specs.declared.part.Part.TheVariants.{OtherRow, OtherSupply, NoArc}
 use Rattle.shortest_paths.specs.declared.scratch.Scratch.{Scratch}
 use Rattle.flow_solver.specs.declared.verdict.Verdict.{Verdict}
 use Rattle.flow_solver.specs.Balance.{IsBalanceOf}
 use Rattle.flow_solver.specs.Desk.{NameChanges}
-use Rattle.flow_solver.specs.Moment.{AreTables, IsOfNodes, IsSized, Kept, Moment, kept_of}
+use Rattle.flow_solver.specs.Moment.{IsSized, Kept, Moment, kept_of}
+use Rattle.flow_solver.specs.Tables.{AreTables, IsOfNodes}
 use Rattle.shortest_paths.specs.Graph.{IsGraphFor}
 use Rattle.shortest_paths.specs.Nodes.{IsIdleEntry}
 use Rattle.flow_solver.specs.Part.{before_of, before_part, return_count}
@@ -49,11 +51,11 @@ pub idle_kept : (l m : Ledger ℤ) → IsWritten l m → IsIdleEntry (kept_in l)
 idle_kept l m written idle = subst IsIdleEntry (sym (kept_written l m written)) idle
 
 -- the tables of an instance stay tables where they are written, and fit an instance of as many arcs and nodes
-pub tables_written : (g h : Graph) (flow flow' potentials potentials' : Ledger ℤ) (balance balance' : Balance) (cut cut' : Ledger Bool) (scratch scratch' : Scratch) →
-    AreTables g flow potentials balance cut scratch → h.net.nodes ≡ g.net.nodes → h.net.room ≡ g.net.room → IsGraphFor (h.net.nodes + 1) h → length h.rows.items ≡ length g.rows.items → vec_capacity g.rows ≤ vec_capacity h.rows →
+pub tables_written : (g h : Graph) (flow flow' potentials potentials' : Ledger ℤ) (balance balance' : Balance) (cut cut' : Ledger Bool) (scratch scratch' : Scratch) (before : Option Before) →
+    AreTables g flow potentials balance cut scratch before → h.net.nodes ≡ g.net.nodes → h.net.room ≡ g.net.room → IsGraphFor (h.net.nodes + 1) h → length h.rows.items ≡ length g.rows.items → vec_capacity g.rows ≤ vec_capacity h.rows →
     IsWritten flow flow' → IsWritten potentials potentials' → IsIdleEntry potentials'.entries.items → IsBalanceOf h.net h.rows.items flow' balance' → IsWritten cut cut' → IsScratchFor (h.net.nodes + 1) scratch' →
-    AreTables h flow' potentials' balance' cut' scratch'
-tables_written g h flow flow' potentials potentials' balance balance' cut cut' scratch scratch' t nodes room_is graph many more flow_written potentials_written idle balance_is cut_written scratch_in = record {
+    AreTables h flow' potentials' balance' cut' scratch' None
+tables_written g h flow flow' potentials potentials' balance balance' cut cut' scratch scratch' before t nodes room_is graph many more flow_written potentials_written idle balance_is cut_written scratch_in = record {
   graph = graph;
   flow_ledger = flow_written.ledger;
   flow_in = flow_written.same_length ∙ t.flow_in ∙ sym many;
@@ -65,14 +67,15 @@ tables_written g h flow flow' potentials potentials' balance balance' cut cut' s
   cut_in = subst (λ (n : ℕ). IsOfNodes n cut') (sym nodes) (nodes_written g.net.nodes cut cut' t.cut_in cut_written);
   scratch_in = scratch_in;
   rows_fit = omega (arith, t.rows_fit, room_is, more);
+  before_is = tt;
 }
 
 -- so their moment has its sizes
-pub sized_written : (g h : Graph) (flow flow' potentials potentials' : Ledger ℤ) (balance : Balance) (cut cut' : Ledger Bool) (scratch : Scratch) (verdict : Verdict) →
-    AreTables g flow potentials balance cut scratch → h.net.nodes ≡ g.net.nodes → AreRowsOf h.net h.rows.items → length h.rows.items ≡ length g.rows.items →
+pub sized_written : (g h : Graph) (flow flow' potentials potentials' : Ledger ℤ) (balance : Balance) (cut cut' : Ledger Bool) (scratch : Scratch) (before : Option Before) (verdict : Verdict) →
+    AreTables g flow potentials balance cut scratch before → h.net.nodes ≡ g.net.nodes → AreRowsOf h.net h.rows.items → length h.rows.items ≡ length g.rows.items →
     IsWritten flow flow' → IsWritten potentials potentials' → IsWritten cut cut' →
     IsSized (record { instance = h.net; flow = flow'.entries.items; potentials = drop 1 potentials'.entries.items; verdict = verdict; cut = drop 1 cut'.entries.items })
-sized_written g h flow flow' potentials potentials' balance cut cut' scratch verdict t nodes of many flow_written potentials_written cut_written = record {
+sized_written g h flow flow' potentials potentials' balance cut cut' scratch before verdict t nodes of many flow_written potentials_written cut_written = record {
   lawful = of.lawful;
   one_flow = flow_written.same_length ∙ t.flow_in ∙ sym many ∙ ap (λ (xs : List ArcRow). length xs) of.rows_are;
   one_potential = omega (arith, length-drop 1 potentials'.entries.items, potentials_written.same_length, t.potentials_in.entries_in, nodes);
@@ -80,11 +83,11 @@ sized_written g h flow flow' potentials potentials' balance cut cut' scratch ver
 }
 
 -- the tables stay tables where the arcs become others, with as many flows
-pub tables_with_arcs : (g h : Graph) (flow flow' potentials : Ledger ℤ) (balance balance' : Balance) (cut : Ledger Bool) (scratch : Scratch) →
-    AreTables g flow potentials balance cut scratch → h.net.nodes ≡ g.net.nodes → h.net.room ≡ g.net.room → IsGraphFor (h.net.nodes + 1) h → vec_capacity g.rows ≤ vec_capacity h.rows →
+pub tables_with_arcs : (g h : Graph) (flow flow' potentials : Ledger ℤ) (balance balance' : Balance) (cut : Ledger Bool) (scratch : Scratch) (before : Option Before) →
+    AreTables g flow potentials balance cut scratch before → h.net.nodes ≡ g.net.nodes → h.net.room ≡ g.net.room → IsGraphFor (h.net.nodes + 1) h → vec_capacity g.rows ≤ vec_capacity h.rows →
     IsLedger flow' → length flow'.entries.items ≡ length h.rows.items → length flow'.touched ≡ length flow.touched → IsBalanceOf h.net h.rows.items flow' balance' →
-    AreTables h flow' potentials balance' cut scratch
-tables_with_arcs g h flow flow' potentials balance balance' cut scratch t nodes room_is graph more ledger flow_in same_room balance_is = record {
+    AreTables h flow' potentials balance' cut scratch None
+tables_with_arcs g h flow flow' potentials balance balance' cut scratch before t nodes room_is graph more ledger flow_in same_room balance_is = record {
   graph = graph;
   flow_ledger = ledger;
   flow_in = flow_in;
@@ -96,6 +99,7 @@ tables_with_arcs g h flow flow' potentials balance balance' cut scratch t nodes 
   cut_in = subst (λ (n : ℕ). IsOfNodes n cut) (sym nodes) t.cut_in;
   scratch_in = subst (λ (n : ℕ). IsScratchFor (n + 1) scratch) (sym nodes) t.scratch_in;
   rows_fit = omega (arith, t.rows_fit, room_is, more);
+  before_is = tt;
 }
 
 -- places that name what is changed of a flow name what is changed of the numbered arcs
@@ -116,9 +120,9 @@ named_before (OtherSupply v value) I places xs ys named = of I.demand
 named_before NoArc I places xs ys named = named_numbered I.demand places xs ys named
 
 -- the places name what is changed since the moment before, where there is one
-pub named_since : (part : Option Part) (I : Instance) (kept : Kept) (verdict : Verdict) (places : List ℕ) (ys : List ℤ) → NameChanges 0 places kept.flow ys → IfSome (before_of part I kept verdict) (λ old. NameChanges (return_count old.instance.demand) places (numbered_flow old.instance.demand old.flow) (numbered_flow I.demand ys))
-named_since None I kept verdict places ys named = tt
-named_since (Some part) I kept verdict places ys named = named_before part I places kept.flow ys named
+pub named_since : (before : Option Before) (I : Instance) (kept : Kept) (places : List ℕ) (ys : List ℤ) → NameChanges 0 places kept.flow ys → IfSome (before_of before I kept) (λ old. NameChanges (return_count old.instance.demand) places (numbered_flow old.instance.demand old.flow) (numbered_flow I.demand ys))
+named_since None I kept places ys named = tt
+named_since (Some before) I kept places ys named = named_before before.part I places kept.flow ys named
 
 -- what is kept of a moment, with its instance and verdict, is that moment
 pub moment_kept : (I : Instance) (kept : Kept) (verdict : Verdict) (m : Moment) → I ≡ m.instance → kept ≡ kept_of m → verdict ≡ m.verdict → record { instance = I; flow = kept.flow; potentials = kept.potentials; verdict = verdict; cut = kept.cut } ≡ m
@@ -127,10 +131,10 @@ moment_kept I kept verdict m one two three =
     ∙ ap (λ (k : Kept). record { instance = m.instance; flow = k.flow; potentials = k.potentials; verdict = verdict; cut = k.cut }) two
     ∙ ap (λ (v : Verdict). record { instance = m.instance; flow = m.flow; potentials = m.potentials; verdict = v; cut = m.cut }) three
 
-pub potentials_since : (part : Option Part) (I : Instance) (kept : Kept) (verdict : Verdict) (places : List ℕ) (ys : List ℤ) → NameChanges 1 places kept.potentials ys → IfSome (before_of part I kept verdict) (λ old. NameChanges 1 places old.potentials ys)
-potentials_since None I kept verdict places ys named = tt
-potentials_since (Some part) I kept verdict places ys named = named
+pub potentials_since : (before : Option Before) (I : Instance) (kept : Kept) (places : List ℕ) (ys : List ℤ) → NameChanges 1 places kept.potentials ys → IfSome (before_of before I kept) (λ old. NameChanges 1 places old.potentials ys)
+potentials_since None I kept places ys named = tt
+potentials_since (Some before) I kept places ys named = named
 
-pub cut_since : (part : Option Part) (I : Instance) (kept : Kept) (verdict : Verdict) (places : List ℕ) (ys : List Bool) → NameChanges 1 places kept.cut ys → IfSome (before_of part I kept verdict) (λ old. NameChanges 1 places old.cut ys)
-cut_since None I kept verdict places ys named = tt
-cut_since (Some part) I kept verdict places ys named = named
+pub cut_since : (before : Option Before) (I : Instance) (kept : Kept) (places : List ℕ) (ys : List Bool) → NameChanges 1 places kept.cut ys → IfSome (before_of before I kept) (λ old. NameChanges 1 places old.cut ys)
+cut_since None I kept places ys named = tt
+cut_since (Some before) I kept places ys named = named

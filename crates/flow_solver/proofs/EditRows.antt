@@ -1,28 +1,23 @@
 -- Edits that change one arc.
-use Rattle.std.proofs.Common.{◌≡◌, ℕ, zero, suc, ◌+◌, ◌-◌, ◌≤◌, ℤ, pos, ◌-ℤ◌, ◌+ℤ◌, ◌≤ℤ◌, Bool, true, false, ◌⊎◌, inl, inr, [], ◌∷◌, ◌++◌, List, length, refl, sym, ap, subst, ◌∙◌, arith, slice_set, slice_index_or, unsigned_abs, Some, Ok, Err, IsOk}
-use Rattle.std.specs.Prelude.{Option, Result, int_le, ◌&&◌}
+use Rattle.std.proofs.Common.{◌≡◌, ℕ, zero, suc, ◌-◌, ◌≤◌, ℤ, pos, ◌-ℤ◌, ◌≤ℤ◌, Bool, true, false, ◌⊎◌, inl, inr, [], ◌∷◌, ◌++◌, List, length, refl, sym, ap, subst, ◌∙◌, arith, slice_set, slice_index_or, unsigned_abs, Some, Ok, Err, IsOk}
+use Rattle.std.specs.Prelude.{Option, Result, int_le, slice_get, ◌&&◌}
 use Rattle.std.proofs.lemmas.Int.{ints, by_lt_z}
-use Rattle.std.proofs.lemmas.Option.{slice_get_within, get_or_from_slice_get}
+use Rattle.std.proofs.lemmas.Option.{slice_get_within, slice_get-get_or, get_or_from_slice_get}
 use Rattle.std.proofs.lemmas.List.{get_or-set_same, length-set, length-append, get_or_push}
-use Rattle.std.specs.List.{AllZip}
-use Rattle.shortest_paths.specs.Push.{Pushes, at_node as at_one}
-use Rattle.network.proofs.Reduction.{reduced_ends}
 use Rattle.dimacs_text.specs.declared.command.Edit.{Edit}
 use Rattle.dimacs_text.specs.declared.command.Edit.TheVariants.{Cap, Low, Cost, Add, Close}
 use Rattle.dimacs_text.specs.declared.problem.ArcRow.{ArcRow}
 use Rattle.dimacs_text.specs.Lawful.{IsLawfulRow}
-use Rattle.network.specs.Flow as flow
 use Rattle.network.specs.Edited.{with_arc, edited, has_edit, is_bound, is_within, is_node, is_new_row, is_across, has_room, units, units_of_row}
 use Rattle.dimacs_text.specs.declared.problem.TheConstants.{COST_LIMIT}
-use Rattle.network.specs.Instance.{Instance, IsLawful, ArcFits, arc_at, kind_of}
+use Rattle.network.specs.Instance.{Instance, IsLawful, ArcFits, arc_at, kind_of, reduced}
 use Rattle.network.proofs.EditedLemmas.{edited_lawful}
 use Rattle.shortest_paths.specs.Residual.{IsWithin, number_at}
-use Rattle.network.specs.Flow.{IsCertifiedFlow, FollowsSign, AllWithinBounds, IsWithinBounds, net, outflow, inflow, total_excess}
-use Rattle.network.specs.Instance.{reduced, Demand, Supplies, Terminals, Sides}
+use Rattle.network.specs.Flow.{IsCertifiedFlow, FollowsSign, reduced_cost}
 use Rattle.flow_solver.proofs.FlowLaws.{bounds_at, bounds_length, signs_at}
-use Rattle.shortest_paths.proofs.WalkLemmas.{rows_at_least}
-use Rattle.flow_solver.proofs.ChangeLemmas.{place_in, row_is, with_last, rows_more, excess_carried}
-use Rattle.flow_solver.specs.Edit.{IsNearest, IsRowEdit, IsAltered, AltersAt, IsRowChanged, IsChange, IsAddEdit, IsAdded, place_of}
+use Rattle.flow_solver.proofs.ChangeLemmas.{place_in, row_is, with_last, with_row, supplied, lawful_more, excess_changed, excess_more, excess_supplied}
+use Rattle.flow_solver.specs.Desk.{flow_index}
+use Rattle.flow_solver.specs.Edit.{IsNearest, IsRowEdit, IsSupplyEdit, IsAltered, GoesToNearest, IsAddEdit, IsMade}
 
 -- ---- checks that were met
 
@@ -75,23 +70,23 @@ close_after I k row J is e = elim (met_or_not (has_edit (kind_of I.demand) (Clos
 
 -- ---- how far the flow of the arc moves
 
-module _ (a : ArcRow) (q : ℕ → ℤ) (x z : ℤ) (bounds : IsWithin a x) (sign : flow.FollowsSign q a x) where
-  cap_moved : (c : ℤ) → IsNearest (record a { cap = c }) (flow.reduced_cost q a) x z → unsigned_abs (z -ℤ x) ≤ unsigned_abs (c -ℤ a.cap)
-  cap_moved c near = by_lt_z (pos 0) (flow.reduced_cost q a)
+module _ (a : ArcRow) (q : ℕ → ℤ) (x z : ℤ) (bounds : IsWithin a x) (sign : FollowsSign q a x) where
+  cap_moved : (c : ℤ) → IsNearest (record a { cap = c }) (reduced_cost q a) x z → unsigned_abs (z -ℤ x) ≤ unsigned_abs (c -ℤ a.cap)
+  cap_moved c near = by_lt_z (pos 0) (reduced_cost q a)
       (λ dear. omega (arith, ints, sign.dear dear, near.dear dear))
-      (λ le. by_lt_z (flow.reduced_cost q a) (pos 0)
+      (λ le. by_lt_z (reduced_cost q a) (pos 0)
       (λ cheap. omega (arith, ints, sign.cheap cheap, near.cheap cheap))
-      (λ ge. (let even : flow.reduced_cost q a ≡ pos 0 = omega (arith, ints, le, ge) in
+      (λ ge. (let even : reduced_cost q a ≡ pos 0 = omega (arith, ints, le, ge) in
       by_lt_z c x
       (λ above. omega (arith, ints, near.cut_off even above, above, bounds.cap_kept))
       (λ within. omega (arith, ints, near.kept even (record { low_kept = bounds.low_kept; cap_kept = within }))))))
 
-  low_moved : (l : ℤ) → IsNearest (record a { low = l }) (flow.reduced_cost q a) x z → unsigned_abs (z -ℤ x) ≤ unsigned_abs (l -ℤ a.low)
-  low_moved l near = by_lt_z (pos 0) (flow.reduced_cost q a)
+  low_moved : (l : ℤ) → IsNearest (record a { low = l }) (reduced_cost q a) x z → unsigned_abs (z -ℤ x) ≤ unsigned_abs (l -ℤ a.low)
+  low_moved l near = by_lt_z (pos 0) (reduced_cost q a)
       (λ dear. omega (arith, ints, sign.dear dear, near.dear dear))
-      (λ le. by_lt_z (flow.reduced_cost q a) (pos 0)
+      (λ le. by_lt_z (reduced_cost q a) (pos 0)
       (λ cheap. omega (arith, ints, sign.cheap cheap, near.cheap cheap))
-      (λ ge. (let even : flow.reduced_cost q a ≡ pos 0 = omega (arith, ints, le, ge) in
+      (λ ge. (let even : reduced_cost q a ≡ pos 0 = omega (arith, ints, le, ge) in
       by_lt_z x l
       (λ below. omega (arith, ints, near.raised even below, below, bounds.low_kept))
       (λ within. omega (arith, ints, near.kept even (record { low_kept = within; cap_kept = bounds.cap_kept }))))))
@@ -104,6 +99,14 @@ close_moved a r x z low bounds near = omega (arith, ints, low, bounds.low_kept, 
 
 -- ---- the edits
 
+set_there : (arcs : List ArcRow) (k : ℕ) (row : ArcRow) → (1 ≤ k) × (k ≤ length arcs) → arc_at (slice_set arcs (k - 1) row) k ≡ Some row
+set_there arcs zero row at = absurd (omega (arith, at.0))
+set_there arcs (suc i) row at =
+    let e : suc i - 1 ≡ i = omega arith in
+    ap (λ (j : ℕ). slice_get (slice_set arcs j row) i) e
+    ∙ slice_get-get_or (slice_set arcs i row) i row (omega (arith, at.1, length-set arcs i row))
+    ∙ ap Some (get_or-set_same arcs i row row (omega (arith, at.1)))
+
 pub number_in : (arcs : List ArcRow) (k : ℕ) (row : ArcRow) → arc_at arcs k ≡ Some row → (1 ≤ k) × (k ≤ length arcs)
 number_in arcs zero row is = cc
 number_in arcs (suc k) row is = (omega arith, omega (arith, slice_get_within arcs k row is))
@@ -113,9 +116,9 @@ row_there arcs zero row d is = cc
 row_there arcs (suc k) row d is = (let e : suc k - 1 ≡ k = omega arith in ap (λ (j : ℕ). slice_index_or arcs j d) e ∙ get_or_from_slice_get arcs k row d is)
 
 pub row_edit : (I : Instance) (edit : Edit) (k : ℕ) (old row : ArcRow) → IsLawful I → arc_at I.arcs k ≡ Some old → row.tail ≡ old.tail → row.head ≡ old.head → edited I edit ≡ Ok (with_arc I k row)
-    → ((x start : List ℤ) → AltersAt (place_of I k) x start → IsAltered I edit x start)
-    → ((q : ℕ → ℤ) (x z : ℤ) → IsWithin old x → flow.FollowsSign q old x → IsNearest row (flow.reduced_cost q row) x z → unsigned_abs (z -ℤ x) ≤ units I edit) → IsRowEdit I edit k row
-row_edit I edit k old row lawful is tail head after alters moved =
+    → ((J : Instance) (q : ℕ → ℤ) (x start : List ℤ) → GoesToNearest J k q x start → IsAltered J edit q x start)
+    → ((q : ℕ → ℤ) (x z : ℤ) → IsWithin old x → FollowsSign q old x → IsNearest row (reduced_cost q row) x z → unsigned_abs (z -ℤ x) ≤ units I edit) → IsRowEdit I edit k row
+row_edit I edit k old row lawful is tail head after altered moved =
     let there = row_there I.arcs k old row is in
     let at = number_in I.arcs k old is in
     let lawful_after = edited_lawful I edit (with_arc I k row) lawful after in
@@ -128,30 +131,30 @@ row_edit I edit k old row lawful is tail head after alters moved =
       limits = both.0;
       fits = both.1;
       after = after;
-      alters = alters;
-      moved = λ q x z bounds sign near. moved q x z (subst (λ (a : ArcRow). IsWithin a x) there bounds) (subst (λ (a : ArcRow). flow.FollowsSign q a x) there sign) near;
+      altered = altered;
+      moved = λ q x z bounds sign near. moved q x z (subst (λ (a : ArcRow). IsWithin a x) there bounds) (subst (λ (a : ArcRow). FollowsSign q a x) there sign) near;
     }
 
 pub cap_edit : (I : Instance) (k : ℕ) (cap : ℤ) (old : ArcRow) → IsLawful I → IsOk (edited I (Cap k cap)) → arc_at I.arcs k ≡ Some old → IsRowEdit I (Cap k cap) k (record old { cap = cap })
 cap_edit I k cap old lawful ok is =
     let J = accepted (edited I (Cap k cap)) ok in
     let units_are : units I (Cap k cap) ≡ unsigned_abs (cap -ℤ old.cap) = ap (λ (o : Option ArcRow). units_of_row o (λ row. cap -ℤ row.cap)) is in
-    row_edit I (Cap k cap) k old (record old { cap = cap }) lawful is refl refl (cap_after I k cap old J.0 is J.1) (λ x start h. h)
+    row_edit I (Cap k cap) k old (record old { cap = cap }) lawful is refl refl (cap_after I k cap old J.0 is J.1) (λ J q x start h. h)
     (λ q x z bounds sign near. omega (arith, units_are, cap_moved old q x z bounds sign cap near))
 
 pub low_edit : (I : Instance) (k : ℕ) (low : ℤ) (old : ArcRow) → IsLawful I → IsOk (edited I (Low k low)) → arc_at I.arcs k ≡ Some old → IsRowEdit I (Low k low) k (record old { low = low })
 low_edit I k low old lawful ok is =
     let J = accepted (edited I (Low k low)) ok in
     let units_are : units I (Low k low) ≡ unsigned_abs (low -ℤ old.low) = ap (λ (o : Option ArcRow). units_of_row o (λ row. low -ℤ row.low)) is in
-    row_edit I (Low k low) k old (record old { low = low }) lawful is refl refl (low_after I k low old J.0 is J.1) (λ x start h. h)
+    row_edit I (Low k low) k old (record old { low = low }) lawful is refl refl (low_after I k low old J.0 is J.1) (λ J q x start h. h)
     (λ q x z bounds sign near. omega (arith, units_are, low_moved old q x z bounds sign low near))
 
 pub cost_edit : (I : Instance) (k : ℕ) (cost : ℤ) (old : ArcRow) → IsLawful I → IsOk (edited I (Cost k cost)) → arc_at I.arcs k ≡ Some old → IsRowEdit I (Cost k cost) k (record old { cost = cost })
 cost_edit I k cost old lawful ok is =
     let J = accepted (edited I (Cost k cost)) ok in
     let units_are : units I (Cost k cost) ≡ unsigned_abs (old.cap -ℤ old.low) = ap (λ (o : Option ArcRow). units_of_row o (λ row. row.cap -ℤ row.low)) is in
-    row_edit I (Cost k cost) k old (record old { cost = cost }) lawful is refl refl (cost_after I k cost old J.0 is J.1) (λ x start h. h)
-    (λ q x z bounds sign near. omega (arith, units_are, cost_moved old cost (flow.reduced_cost q (record old { cost = cost })) x z bounds near))
+    row_edit I (Cost k cost) k old (record old { cost = cost }) lawful is refl refl (cost_after I k cost old J.0 is J.1) (λ J q x start h. h)
+    (λ q x z bounds sign near. omega (arith, units_are, cost_moved old cost (reduced_cost q (record old { cost = cost })) x z bounds near))
 
 pub close_edit : (I : Instance) (k : ℕ) (old : ArcRow) → IsLawful I → IsOk (edited I (Close k)) → arc_at I.arcs k ≡ Some old → IsRowEdit I (Close k) k (record old { low = pos 0; cap = pos 0 })
 close_edit I k old lawful ok is =
@@ -160,24 +163,8 @@ close_edit I k old lawful ok is =
     let there = row_there I.arcs k old old is in
     let low : pos 0 ≤ℤ old.low = subst (λ (a : ArcRow). pos 0 ≤ℤ a.low) there ((lawful.arcs (k - 1) old (omega (arith, at.0, at.1))).0.low) in
     let units_are : units I (Close k) ≡ unsigned_abs old.cap = ap (λ (o : Option ArcRow). units_of_row o (λ row. row.cap)) is in
-    row_edit I (Close k) k old (record old { low = pos 0; cap = pos 0 }) lawful is refl refl (close_after I k old J.0 is J.1) (λ x start h. h)
-    (λ q x z bounds sign near. omega (arith, units_are, close_moved old (flow.reduced_cost q old) x z low bounds near))
-
--- ---- the change
-
-pub arc_change : (I J : Instance) (edit : Edit) (k : ℕ) (row : ArcRow) (q : ℕ → ℤ) (x y : List ℤ) (n : ℕ) → IsCertifiedFlow (reduced I) x q → IsRowEdit I edit k row → IsRowChanged I J k row q x y n → IsChange I J edit x y n
-arc_change I J edit k row q x y n certified change changed =
-    let lt = place_in I k change.arc in
-    let there = row_is I k row change.arc in
-    let bounds = subst (λ (a : ArcRow). IsWithin a (number_at x (place_of I k))) there (bounds_at (reduced I).arcs x certified.bounds (place_of I k) lt) in
-    let sign = subst (λ (a : ArcRow). FollowsSign q a (number_at x (place_of I k))) there (signs_at q (reduced I).arcs x certified.signs (place_of I k) lt) in
-    let less = change.moved q (number_at x (place_of I k)) changed.after bounds sign changed.nearest in
-    record {
-      start = slice_set x (place_of I k) changed.after;
-      altered = change.alters x (slice_set x (place_of I k) changed.after) (changed.after, refl);
-      pushes = changed.pushes;
-      count = omega (arith, ints, changed.count, less);
-    }
+    row_edit I (Close k) k old (record old { low = pos 0; cap = pos 0 }) lawful is refl refl (close_after I k old J.0 is J.1) (λ J q x start h. h)
+    (λ q x z bounds sign near. omega (arith, units_are, close_moved old (reduced_cost q old) x z low bounds near))
 
 -- ---- an accepted arc
 
@@ -216,83 +203,40 @@ add_edit I t h l c k lawful ok =
     let both = subst (λ (a : ArcRow). IsLawfulRow I.nodes a × ArcFits I.demand a) last (lawful_after.arcs (length I.arcs) row (omega (arith, more))) in
     record { is = refl; room = omega (arith, more, lawful_after.count); limits = both.0; fits = both.1; after = after }
 
--- ---- an arc without flow at the end, which is then opened
+-- ---- edits that were made
 
-abbrev pub shut : ArcRow → ArcRow
-shut row = record row { low = pos 0; cap = pos 0 }
-
-pub shut_limits : (n : ℕ) (row : ArcRow) → IsLawfulRow n row → IsLawfulRow n (shut row)
-shut_limits n row limits = record {
-  tail = limits.tail;
-  head = limits.head;
-  low = omega (arith, ints);
-  cap = omega (arith, ints);
-  limit = omega (arith, ints);
-  cost = limits.cost;
-}
-
-pub shut_fits : (D : Demand) (row : ArcRow) → ArcFits D row → ArcFits D (shut row)
-shut_fits (Supplies s) row fits = fits
-shut_fits (Terminals source sink) row fits = (refl, fits.1)
-shut_fits (Sides marks) row fits = (refl, inl refl, fits.2, fits.3)
-
-zip_push : {A B : Type 0} (R : A → B → Type 0) (xs : List A) (ys : List B) (a : A) (b : B) → AllZip R xs ys → R a b → AllZip R (xs ++ a ∷ []) (ys ++ b ∷ [])
-zip_push R [] [] a b h r = (r, tt)
-zip_push R [] (y ∷ ys) a b h r = absurd h
-zip_push R (x ∷ xs) [] a b h r = absurd h
-zip_push R (x ∷ xs) (y ∷ ys) a b h r = (h.0, zip_push R xs ys a b h.1 r)
-
-pub shut_certified : (I : Instance) (row : ArcRow) (x : List ℤ) (q : ℕ → ℤ) → IsCertifiedFlow (reduced I) x q → IsCertifiedFlow (reduced (with_last I (shut row))) (x ++ pos 0 ∷ []) q
-shut_certified I row x q certified = record {
-  bounds = subst (λ (arcs : List ArcRow). AllWithinBounds arcs (x ++ pos 0 ∷ [])) (rows_more I (shut row)) (zip_push IsWithinBounds (reduced I).arcs x (shut row) (pos 0) certified.bounds (omega (arith, ints), omega (arith, ints)));
-  signs = subst (λ (arcs : List ArcRow). AllZip (FollowsSign q) arcs (x ++ pos 0 ∷ [])) (rows_more I (shut row)) (zip_push (FollowsSign q) (reduced I).arcs x (shut row) (pos 0) certified.signs (record { dear = λ h. refl; cheap = λ h. refl }));
-  range = certified.range;
-}
-
-out_push : (arcs : List ArcRow) (x : List ℤ) (a : ArcRow) (z : ℤ) (v : ℕ) → length x ≡ length arcs → (outflow (arcs ++ a ∷ []) (x ++ z ∷ []) v ≡ outflow arcs x v +ℤ at_one a.tail z v) × (inflow (arcs ++ a ∷ []) (x ++ z ∷ []) v ≡ inflow arcs x v +ℤ at_one a.head z v)
-out_push [] [] a z v sized = (omega (arith, ints), omega (arith, ints))
-out_push [] (y ∷ x) a z v sized = absurd (omega arith)
-out_push (b ∷ arcs) [] a z v sized = absurd (omega arith)
-out_push (b ∷ arcs) (y ∷ x) a z v sized =
-    let rest = out_push arcs x a z v (omega arith) in
-    (omega (arith, ints, rest.0), omega (arith, ints, rest.1))
-
-net_push : (arcs : List ArcRow) (x : List ℤ) (a : ArcRow) (z : ℤ) (v : ℕ) → length x ≡ length arcs → net (arcs ++ a ∷ []) (x ++ z ∷ []) v ≡ (net arcs x v +ℤ at_one a.tail z v) -ℤ at_one a.head z v
-net_push arcs x a z v sized = (let both = out_push arcs x a z v sized in omega (arith, ints, both.0, both.1))
-
-shut_excess : (I : Instance) (row : ArcRow) (x : List ℤ) → IsLawful I → IsLawful (with_last I (shut row)) → length x ≡ length (reduced I).arcs → total_excess (reduced (with_last I (shut row))) (x ++ pos 0 ∷ []) ≤ℤ total_excess (reduced I) x
-shut_excess I row x lawful lawful_after sized =
-    let J = with_last I (shut row) in
-    let most = excess_carried (reduced I) (reduced J) x (x ++ pos 0 ∷ []) row.tail row.head (pos 0) (reduced_ends I lawful) (reduced_ends J lawful_after) refl (λ v. refl)
-    (λ v. subst (λ (arcs : List ArcRow). net arcs (x ++ pos 0 ∷ []) v ≡ (net (reduced I).arcs x v +ℤ at_one row.tail (pos 0) v) -ℤ at_one row.head (pos 0) v) (rows_more I (shut row)) (net_push (reduced I).arcs x (shut row) (pos 0) v sized)) in
-    omega (arith, ints, most)
-
-set_last : {A : Type 0} (xs : List A) (i : ℕ) (a b : A) → i ≡ length xs → slice_set (xs ++ a ∷ []) i b ≡ xs ++ b ∷ []
-set_last [] zero a b e = refl
-set_last [] (suc i) a b e = absurd (omega (arith, e))
-set_last (x ∷ xs) zero a b e = absurd (omega (arith, e))
-set_last (x ∷ xs) (suc i) a b e = ap (λ (ys : List _). x ∷ ys) (set_last xs i a b (omega (arith, e)))
-
-pub opened_is : (I : Instance) (row : ArcRow) (k : ℕ) → k ≡ length (I.arcs ++ shut row ∷ []) → slice_set (I.arcs ++ shut row ∷ []) (k - 1) row ≡ I.arcs ++ row ∷ []
-opened_is I row k e = set_last I.arcs (k - 1) (shut row) row (omega (arith, e, length-append I.arcs (shut row ∷ [])))
-
--- the place of the new arc is behind all others
-place_last : (I : Instance) (row : ArcRow) (k : ℕ) → k ≡ length (I.arcs ++ shut row ∷ []) → place_of (with_last I (shut row)) k ≡ length (reduced I).arcs
-place_last I row k e =
-    let rows : length (reduced (with_last I (shut row))).arcs ≡ length (reduced I).arcs + 1 = sym (ap (λ (r : List ArcRow). length r) (rows_more I (shut row))) ∙ length-append (reduced I).arcs (shut row ∷ []) in
-    omega (arith, rows, e, length-append I.arcs (shut row ∷ []), rows_at_least I.demand I.arcs)
-
-pub added : (I J : Instance) (row : ArcRow) (k : ℕ) (q : ℕ → ℤ) (x y : List ℤ) (n : ℕ) → IsLawful I → IsLawful (with_last I (shut row)) → IsLawfulRow I.nodes row → IsCertifiedFlow (reduced I) x q → k ≡ length (I.arcs ++ shut row ∷ [])
-    → IsRowChanged (with_last I (shut row)) J k row q (x ++ pos 0 ∷ []) y n → IsAdded I J row x y n
-added I J row k q x y n lawful lawful_after limits certified e changed =
-    let sized = bounds_length (reduced I).arcs x certified.bounds in
-    let place : place_of (with_last I (shut row)) k ≡ length x = place_last I row k e ∙ sym sized in
-    let start : slice_set (x ++ pos 0 ∷ []) (place_of (with_last I (shut row)) k) changed.after ≡ x ++ changed.after ∷ [] = set_last x (place_of (with_last I (shut row)) k) (pos 0) changed.after place in
-    let before : number_at (x ++ pos 0 ∷ []) (place_of (with_last I (shut row)) k) ≡ pos 0 = get_or_push x (pos 0) (pos 0) (place_of (with_last I (shut row)) k) (sym place) in
-    let less = shut_excess I row x lawful lawful_after sized in
+pub row_made : (I : Instance) (edit : Edit) (k : ℕ) (row : ArcRow) (q : ℕ → ℤ) (x : List ℤ) (z : ℤ) → IsLawful I → IsCertifiedFlow (reduced I) x q → IsRowEdit I edit k row
+    → IsNearest row (reduced_cost q row) (number_at x (flow_index I.demand k)) z → IsMade I (with_row I (k - 1) row) edit q x (slice_set x (flow_index I.demand k) z)
+row_made I edit k row q x z lawful certified change near =
+    let place = flow_index I.demand k in
+    let at = change.arc in
+    let there = row_is I k row at in
+    let bounds = subst (λ (a : ArcRow). IsWithin a (number_at x place)) there (bounds_at (reduced I).arcs x certified.bounds place (place_in I k at)) in
+    let sign = subst (λ (a : ArcRow). FollowsSign q a (number_at x place)) there (signs_at q (reduced I).arcs x certified.signs place (place_in I k at)) in
+    let moved = change.moved q (number_at x place) z bounds sign near in
+    let more = excess_changed I x k row z lawful change.limits change.fits at change.tail change.head (bounds_length (reduced I).arcs x certified.bounds) in
     record {
-      flow = changed.after;
-      within = changed.nearest.within;
-      pushes = subst (λ (z : List ℤ). Pushes (reduced J).arcs (reduced J).supply n z y) start changed.pushes;
-      count = omega (arith, ints, changed.count, less, before, changed.nearest.within.low_kept, changed.nearest.within.cap_kept, limits.low);
+      after = change.after;
+      altered = change.altered (with_row I (k - 1) row) q x (slice_set x place z) (record { row = row; there = set_there I.arcs k row at; flow = z; nearest = near; start_is = refl });
+      grown = omega (arith, ints, more, moved);
     }
+
+pub add_made : (I : Instance) (edit : Edit) (row : ArcRow) (q : ℕ → ℤ) (x : List ℤ) (z : ℤ) → IsLawful I → IsCertifiedFlow (reduced I) x q → IsAddEdit I edit row → IsNearest row (reduced_cost q row) (pos 0) z → IsMade I (with_last I row) edit q x (x ++ z ∷ [])
+add_made I edit row q x z lawful certified change near =
+    let more = excess_more I x row z lawful (lawful_more I row lawful change.room change.limits change.fits) (bounds_length (reduced I).arcs x certified.bounds) in
+    subst (λ (e : Edit). IsMade I (with_last I row) e q x (x ++ z ∷ [])) (sym change.is)
+    (record {
+      after = subst (λ (e : Edit). edited I e ≡ Ok (with_last I row)) change.is change.after;
+      altered = record { flow = z; nearest = near; start_is = refl };
+      grown = omega (arith, ints, more, near.within.low_kept, near.within.cap_kept, change.limits.low);
+    })
+
+pub supply_made : (I : Instance) (edit : Edit) (v : ℕ) (s : ℤ) (q : ℕ → ℤ) (x : List ℤ) → IsLawful I → IsSupplyEdit I edit v s → IsMade I (supplied I v s) edit q x x
+supply_made I edit v s q x lawful change =
+    let more = excess_supplied I v s x lawful change.kind change.node change.limit in
+    subst (λ (e : Edit). IsMade I (supplied I v s) e q x x) (sym change.is)
+    (record {
+      after = subst (λ (e : Edit). edited I e ≡ Ok (supplied I v s)) change.is change.after;
+      altered = refl;
+      grown = more;
+    })

@@ -45,9 +45,6 @@ cheap_row n a keeps = record {
     by_way Forward = omega (arith, ints, keeps.cost.0, keeps.cost.1)
     by_way Backward = omega (arith, ints, keeps.cost.0, keeps.cost.1)
 
-pub row_in_tables : (n : ℕ) (a : ArcRow) → IsLawfulRow n a → IsRow (n + 1) a
-row_in_tables n a keeps = (cheap_row n a keeps).row
-
 return_row : (n source sink : ℕ) → DemandFits n (Terminals source sink) → IsCheapRow n (return_arc source sink)
 return_row n source sink fits = record {
   row = record {

@@ -1,5 +1,5 @@
 -- Tables beside what was kept of them: what was written in turn, and what the noted places name.
-use Rattle.std.proofs.Common.{◌≡◌, ◌≢◌, ℕ, ◌+◌, ◌<◌, ◌≤◌, List, length, drop, refl, sym, ap, subst, ◌∙◌, inl, inr, arith, true, false}
+use Rattle.std.proofs.Common.{◌≡◌, ◌≢◌, ℕ, ◌+◌, ◌<◌, ◌≤◌, List, length, drop, refl, sym, ap, subst, ◌∙◌, inl, inr, arith, true}
 use Rattle.std.specs.Prelude.{◌⊎◌, Any, slice_set, slice_index_or, vec_capacity}
 use Rattle.std.proofs.lemmas.Bool.{cases_eq, false≢true, false_from_ne_true}
 use Rattle.std.proofs.lemmas.Grind.{get_or_after_one}
@@ -34,15 +34,6 @@ IsListedFrom-later places j k at other = elim (cases_eq at.place j) [
 module _ {T : Type 0} where
   pub IsWritten-same : (l : Ledger T) → IsLedger l → IsWritten l l
   IsWritten-same l ledger = record { ledger = ledger; kept = refl; size = refl; same_length = refl; same_room = refl }
-
-  pub IsWritten-trans : {l m n : Ledger T} → IsWritten l m → IsWritten m n → IsWritten l n
-  IsWritten-trans one two = record {
-    ledger = two.ledger;
-    kept = two.kept ∙ one.kept;
-    size = two.size ∙ one.size;
-    same_length = two.same_length ∙ one.same_length;
-    same_room = two.same_room ∙ one.same_room;
-  }
 
   -- a ledger whose entries were written at noted places alone
   pub IsWritten-noted : (l m : Ledger T) → IsLedger l → m.kept ≡ l.kept → m.size ≡ l.size → vec_capacity l.entries ≤ vec_capacity m.entries → AreNoted l.touched l.entries.items m.touched m.entries.items → IsWritten l m

@@ -1,5 +1,4 @@
 pub mod ExcessLemmas
-pub mod EditLemmas
 pub mod SignLemmas
 pub mod FlowLaws
 pub mod CutLaws

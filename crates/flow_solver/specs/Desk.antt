@@ -5,12 +5,14 @@ use Rattle.dimacs_text.specs.declared.problem.TheConstants.{CAP_LIMIT}
 use Rattle.dimacs_text.specs.Lawful.{IsLawfulRow}
 use Rattle.network.specs.Flow.{IsCertifiedFlow}
 use Rattle.network.specs.Instance.{Demand, Supplies, Terminals, Sides, Instance, ArcFits, at_node, is_marked, reduced}
-use Rattle.flow_solver.specs.Moment.{IsSized, Moment}
+use Rattle.flow_solver.specs.Moment.{IsSized, Kept, Moment}
 use Rattle.shortest_paths.specs.Touched.{AgreeAt}
 use Rattle.flow_solver.specs.Answer.{AreGreatestPotentials, IsChosenCut, IsVerdict}
 
 pub record Desk : Type 0 where
   pub moment : Moment
+  -- what the last snapshot kept
+  pub kept : Kept
   pub before : Option Moment
 
 -- an answer to the instance, by the chosen certificates

@@ -1,9 +1,8 @@
 -- What an edit leaves: a change of one arc or of one supply, or an arc added.
-use Rattle.std.specs.Prelude.{◌≡◌, ℕ, ◌+◌, ◌-◌, ◌<◌, ◌≤◌, Ok, slice_index_or, ℤ, pos, ◌-ℤ◌, ◌+ℤ◌, ◌<ℤ◌, ◌≤ℤ◌, unsigned_abs, List, [], ◌∷◌, ◌++◌, length, slice_set}
+use Rattle.std.specs.Prelude.{◌≡◌, ℕ, ◌-◌, ◌<◌, ◌≤◌, Ok, Some, slice_index_or, ℤ, pos, ◌-ℤ◌, ◌+ℤ◌, ◌<ℤ◌, ◌≤ℤ◌, unsigned_abs, List, [], ◌∷◌, ◌++◌, length, slice_set}
 use Rattle.dimacs_text.specs.declared.problem.ArcRow.{ArcRow}
-use Rattle.network.specs.Flow.{total_excess}
-use Rattle.network.specs.Flow as flow
-use Rattle.network.specs.Instance.{Instance, ArcFits, kind_of, reduced, with_supply}
+use Rattle.network.specs.Flow.{FollowsSign, reduced_cost, total_excess}
+use Rattle.network.specs.Instance.{Instance, ArcFits, arc_at, kind_of, reduced, with_supply}
 use Rattle.network.specs.Edited.{edited, units}
 use Rattle.dimacs_text.specs.Lawful.{IsLawfulRow, IsNode, IsWithin as IsWithinLimit}
 use Rattle.dimacs_text.specs.declared.problem.TheConstants.{SUPPLY_LIMIT}
@@ -12,10 +11,7 @@ use Rattle.dimacs_text.specs.declared.command.Edit.{Edit}
 use Rattle.dimacs_text.specs.declared.command.Edit.TheVariants.{Cap, Low, Cost, Supply, Add, Close}
 use Rattle.shortest_paths.specs.Residual.{number_at, IsWithin}
 use Rattle.shortest_paths.specs.Push.{Pushes}
-
--- the reduced cost of an arc
-abbrev pub reduced_cost : List ℤ → ArcRow → ℤ
-reduced_cost p a = (a.cost +ℤ number_at p a.tail) -ℤ number_at p a.head
+use Rattle.flow_solver.specs.Desk.{flow_index}
 
 -- z is the flow nearest to x that the bounds of the arc and the sign of its reduced cost allow
 pub record IsNearest (a : ArcRow) (reduced x z : ℤ) : Type 0 where
@@ -26,22 +22,45 @@ pub record IsNearest (a : ArcRow) (reduced x z : ℤ) : Type 0 where
   pub raised : reduced ≡ pos 0 → x <ℤ a.low → z ≡ a.low
   pub cut_off : reduced ≡ pos 0 → a.cap <ℤ x → z ≡ a.cap
 
--- the place of arc k among the arcs of the reduced instance
-abbrev pub place_of : Instance → ℕ → ℕ
-place_of I k = (length (reduced I).arcs - length I.arcs) + (k - 1)
+-- in the instance J the flow of arc k goes to the nearest value that its row and the potentials allow, and no other flow is altered
+pub record GoesToNearest (J : Instance) (k : ℕ) (potential : ℕ → ℤ) (x start : List ℤ) : Type 0 where
+  pub row : ArcRow
+  pub there : arc_at J.arcs k ≡ Some row
+  pub flow : ℤ
+  pub nearest : IsNearest row (reduced_cost potential row) (number_at x (flow_index J.demand k)) flow
+  pub start_is : start ≡ slice_set x (flow_index J.demand k) flow
 
--- arc k of the instance I was changed into `row`, which gave the instance J. The flow x of the reduced instance became y: first that of the
--- arc went to the nearest value that the potentials before the change allow, then came n pushes
-pub record IsRowChanged (I J : Instance) (k : ℕ) (row : ArcRow) (potential : ℕ → ℤ) (x y : List ℤ) (n : ℕ) : Type 0 where
-  pub after : ℤ
-  pub nearest : IsNearest row (flow.reduced_cost potential row) (number_at x (place_of I k)) after
-  pub pushes : Pushes (reduced J).arcs (reduced J).supply n (slice_set x (place_of I k) after) y
-  pub count : pos n ≤ℤ (total_excess (reduced I) x +ℤ pos (unsigned_abs (after -ℤ number_at x (place_of I k))))
+-- a new arc gets the flow nearest to 0 that its row and the potentials allow, and no other flow is altered
+pub record BeginsNearest (row : ArcRow) (potential : ℕ → ℤ) (x start : List ℤ) : Type 0 where
+  pub flow : ℤ
+  pub nearest : IsNearest row (reduced_cost potential row) (pos 0) flow
+  pub start_is : start ≡ x ++ flow ∷ []
 
--- node v of the instance I got the supply `value`, which gave the instance J, and n pushes made the flow y of the flow x
-pub record IsSupplyChanged (I J : Instance) (v : ℕ) (value : ℤ) (x y : List ℤ) (n : ℕ) : Type 0 where
-  pub pushes : Pushes (reduced J).arcs (reduced J).supply n x y
-  pub count : pos n ≤ℤ (total_excess (reduced I) x +ℤ pos (unsigned_abs (value -ℤ (reduced I).supply v)))
+-- what an edit that gave the instance J alters in a flow x: that of its arc, which goes to the nearest value
+abbrev pub IsAltered : Instance → Edit → (ℕ → ℤ) → List ℤ → List ℤ → Type 0
+IsAltered J (Cap k cap) potential x start = GoesToNearest J k potential x start
+IsAltered J (Low k low) potential x start = GoesToNearest J k potential x start
+IsAltered J (Cost k cost) potential x start = GoesToNearest J k potential x start
+IsAltered J (Supply v value) potential x start = start ≡ x
+IsAltered J (Add tail head low cap cost) potential x start =
+    BeginsNearest (record { tail = tail; head = head; low = low; cap = cap; cost = cost }) potential x start
+IsAltered J (Close k) potential x start = GoesToNearest J k potential x start
+
+-- an edit of the instance I gave the instance J, and `start` of the flow x: what is left to send out grows by no more than the edit's units
+pub record IsMade (I J : Instance) (edit : Edit) (potential : ℕ → ℤ) (x start : List ℤ) : Type 0 where
+  pub after : edited I edit ≡ Ok J
+  pub altered : IsAltered J edit potential x start
+  pub grown : total_excess (reduced J) start ≤ℤ (total_excess (reduced I) x +ℤ pos (units I edit))
+
+-- an edit of the instance I gave the instance J: with the potentials of before it made a flow of the flow x, of which n pushes made the flow y.
+-- The pushes are no more than what was left to send out and the edit's units
+pub record IsChange (I J : Instance) (edit : Edit) (potential : ℕ → ℤ) (x y : List ℤ) (n : ℕ) : Type 0 where
+  pub start : List ℤ
+  pub made : IsMade I J edit potential x start
+  pub pushes : Pushes (reduced J).arcs (reduced J).supply n start y
+  pub count : pos n ≤ℤ (total_excess (reduced I) x +ℤ pos (units I edit))
+
+-- ---- what an accepted edit asks for
 
 -- an edit that changes an arc
 abbrev pub IsOfArc : Edit → Type 0
@@ -52,27 +71,6 @@ IsOfArc (Supply v value) = ⊥
 IsOfArc (Add tail head low cap cost) = ⊥
 IsOfArc (Close k) = Unit {0}
 
--- at most one place is altered
-abbrev pub AltersAt : ℕ → List ℤ → List ℤ → Type 0
-AltersAt place x start = (z : ℤ) × (start ≡ slice_set x place z)
-
--- at most the flow of the edited arc is altered, and a new arc has any within its bounds
-abbrev pub IsAltered : Instance → Edit → List ℤ → List ℤ → Type 0
-IsAltered I (Cap k cap) x start = AltersAt (place_of I k) x start
-IsAltered I (Low k low) x start = AltersAt (place_of I k) x start
-IsAltered I (Cost k cost) x start = AltersAt (place_of I k) x start
-IsAltered I (Supply v value) x start = start ≡ x
-IsAltered I (Add tail head low cap cost) x start = (z : ℤ) × (low ≤ℤ z) × (z ≤ℤ cap) × (start ≡ x ++ z ∷ [])
-IsAltered I (Close k) x start = AltersAt (place_of I k) x start
-
--- an edit of the instance I gave the instance J, and n pushes made the flow y of the flow x with the edited arc altered: no more than what was left
--- to send out and the edit's units
-pub record IsChange (I J : Instance) (edit : Edit) (x y : List ℤ) (n : ℕ) : Type 0 where
-  pub start : List ℤ
-  pub altered : IsAltered I edit x start
-  pub pushes : Pushes (reduced J).arcs (reduced J).supply n start y
-  pub count : pos n ≤ℤ (total_excess (reduced I) x +ℤ pos (units I edit))
-
 -- the edit changes arc k of the instance into `row`, by which a flow that keeps the sign rule moves by no more than the edit's units
 pub record IsRowEdit (I : Instance) (edit : Edit) (k : ℕ) (row : ArcRow) : Type 0 where
   pub arc : (1 ≤ k) × (k ≤ length I.arcs)
@@ -81,15 +79,8 @@ pub record IsRowEdit (I : Instance) (edit : Edit) (k : ℕ) (row : ArcRow) : Typ
   pub limits : IsLawfulRow I.nodes row
   pub fits : ArcFits I.demand row
   pub after : edited I edit ≡ Ok (record I { arcs = slice_set I.arcs (k - 1) row })
-  pub alters : (x start : List ℤ) → AltersAt (place_of I k) x start → IsAltered I edit x start
-  pub moved : (q : ℕ → ℤ) (x z : ℤ) → IsWithin (slice_index_or I.arcs (k - 1) row) x → flow.FollowsSign q (slice_index_or I.arcs (k - 1) row) x → IsNearest row (flow.reduced_cost q row) x z → unsigned_abs (z -ℤ x) ≤ units I edit
-
--- `row` was added to the instance I, which gave the instance J: the flow x with some flow of the new arc within its bounds became y by n pushes
-pub record IsAdded (I J : Instance) (row : ArcRow) (x y : List ℤ) (n : ℕ) : Type 0 where
-  pub flow : ℤ
-  pub within : IsWithin row flow
-  pub pushes : Pushes (reduced J).arcs (reduced J).supply n (x ++ flow ∷ []) y
-  pub count : pos n ≤ℤ (total_excess (reduced I) x +ℤ pos (unsigned_abs row.cap))
+  pub altered : (J : Instance) (potential : ℕ → ℤ) (x start : List ℤ) → GoesToNearest J k potential x start → IsAltered J edit potential x start
+  pub moved : (potential : ℕ → ℤ) (x z : ℤ) → IsWithin (slice_index_or I.arcs (k - 1) row) x → FollowsSign potential (slice_index_or I.arcs (k - 1) row) x → IsNearest row (reduced_cost potential row) x z → unsigned_abs (z -ℤ x) ≤ units I edit
 
 -- the edit changes a supply
 pub record IsSupplyEdit (I : Instance) (edit : Edit) (v : ℕ) (value : ℤ) : Type 0 where

@@ -3,6 +3,7 @@ pub mod Answer
 pub mod Moment
 pub mod Desk
 pub mod Part
+pub mod Tables
 pub mod Balance
 pub mod Ledger
 pub use Rattle.shortest_paths.specs.Push

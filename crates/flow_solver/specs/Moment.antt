@@ -1,20 +1,11 @@
 -- What the tables of a solver hold of an instance.
-use Rattle.std.specs.Prelude.{◌≡◌, ℕ, ◌+◌, ◌≤◌, ℤ, pos, ◌≤ℤ◌, int_lt, ⊤, Bool, List, [], ◌∷◌, ◌++◌, length, map, replicate, vec_capacity, if◌then◌else◌}
+use Rattle.std.specs.Prelude.{◌≡◌, ℤ, pos, ◌≤ℤ◌, int_lt, ⊤, Bool, List, [], ◌∷◌, ◌++◌, length, map, replicate, if◌then◌else◌}
 use Rattle.dimacs_text.specs.declared.problem.ArcRow.{ArcRow}
 use Rattle.network.specs.Instance.{Demand, Supplies, Terminals, Sides, Instance, IsLawful, numbered_flow, reduced}
 use Rattle.network.specs.declared.TheConstants.{RETURN_CAP}
 use Rattle.flow_solver.specs.declared.verdict.Verdict.{Verdict}
 use Rattle.flow_solver.specs.declared.verdict.Verdict.TheVariants.{Best, Infeasible}
-use Rattle.flow_solver.specs.declared.balance.Balance.{Balance}
-use Rattle.shortest_paths.specs.declared.graph.Graph.{Graph}
-use Rattle.flow_solver.specs.declared.ledger.Ledger.{Ledger}
-use Rattle.shortest_paths.specs.declared.scratch.Scratch.{Scratch}
-use Rattle.flow_solver.specs.Balance.{IsBalanceOf}
-use Rattle.shortest_paths.specs.Graph.{IsGraphFor}
-use Rattle.shortest_paths.specs.Nodes.{IsIdleEntry}
 use Rattle.shortest_paths.specs.Residual.{number_at}
-use Rattle.shortest_paths.specs.Scratch.{IsScratchFor}
-use Rattle.flow_solver.specs.Ledger.{IsLedger, kept_in}
 
 -- an instance, a flow of its reduction, a potential for each node, what is told of the instance, and a mark for each node
 pub record Moment : Type 0 where
@@ -31,7 +22,7 @@ pub record IsSized (m : Moment) : Type 0 where
   pub one_potential : length m.potentials ≡ m.instance.nodes
   pub one_mark : length m.cut ≡ m.instance.nodes
 
--- what was kept of another moment of the tables: its flow, potentials and marks
+-- what the tables keep of another moment: its flow, potentials and marks
 pub record Kept : Type 0 where
   pub flow : List ℤ
   pub potentials : List ℤ
@@ -39,31 +30,6 @@ pub record Kept : Type 0 where
 
 abbrev pub kept_of : Moment → Kept
 kept_of m = record { flow = m.flow; potentials = m.potentials; cut = m.cut }
-
--- what contracts see of a solver: the moment that it holds, and what it kept
-pub record Bench : Type 0 where
-  pub moment : Moment
-  pub kept : Kept
-
--- a ledger of nodes: one entry for each node and one for no node, now and when it was kept
-pub record IsOfNodes {T : Type 0} (nodes : ℕ) (l : Ledger T) : Type 0 where
-  pub ledger : IsLedger l
-  pub entries_in : length l.entries.items ≡ nodes + 1
-  pub size_is : l.size ≡ nodes + 1
-
--- one entry for each row of the graph, one for each node and one for no node, and room for all arcs that may be added
-pub record AreTables (g : Graph) (flow potentials : Ledger ℤ) (balance : Balance) (cut : Ledger Bool) (scratch : Scratch) : Type 0 where
-  pub graph : IsGraphFor (g.net.nodes + 1) g
-  pub flow_ledger : IsLedger flow
-  pub flow_in : length flow.entries.items ≡ length g.rows.items
-  pub flow_fits : g.net.room + 1 ≤ length flow.touched
-  pub potentials_in : IsOfNodes g.net.nodes potentials
-  pub idle : IsIdleEntry potentials.entries.items
-  pub kept_idle : IsIdleEntry (kept_in potentials)
-  pub balance_is : IsBalanceOf g.net g.rows.items flow balance
-  pub cut_in : IsOfNodes g.net.nodes cut
-  pub scratch_in : IsScratchFor (g.net.nodes + 1) scratch
-  pub rows_fit : g.net.room + 1 ≤ vec_capacity g.rows
 
 -- the flow of an arc at the start: its cap where its cost is below 0, else its low
 abbrev pub start : ArcRow → ℤ

@@ -6,9 +6,9 @@ use Rattle.dimacs_text.specs.declared.problem.TheConstants.{SUPPLY_LIMIT}
 use Rattle.dimacs_text.specs.declared.problem.Kind.TheVariants.{Min}
 use Rattle.network.specs.Edited.{edited}
 use Rattle.network.specs.Instance.{Demand, Supplies, Terminals, Sides, Instance, kind_of, reduced, with_supply}
+use Rattle.flow_solver.specs.declared.part.Before.{Before}
 use Rattle.flow_solver.specs.declared.part.Part.{Part}
 use Rattle.flow_solver.specs.declared.part.Part.TheVariants.{OtherRow, OtherSupply, NoArc}
-use Rattle.flow_solver.specs.declared.verdict.Verdict.{Verdict}
 use Rattle.flow_solver.specs.Moment.{Kept, Moment}
 use Rattle.flow_solver.specs.Desk.{HasEnds, IsRowOf}
 
@@ -29,15 +29,16 @@ pub record TakesBack (I : Instance) (edit : Edit) (part : Part) : Type 0 where
   pub can : (J : Instance) → edited I edit ≡ Ok J → CanTakeBack part J
   pub back : (J : Instance) → edited I edit ≡ Ok J → before_part part J ≡ I
 
-abbrev pub before_of : Option Part → Instance → Kept → Verdict → Option Moment
-before_of None I kept verdict = None
-before_of (Some part) I kept verdict =
-    Some (record { instance = before_part part I; flow = kept.flow; potentials = kept.potentials; verdict = verdict; cut = kept.cut })
+-- the moment before, where there is one: the instance without the change, and what was kept
+abbrev pub before_of : Option Before → Instance → Kept → Option Moment
+before_of None I kept = None
+before_of (Some before) I kept =
+    Some (record { instance = before_part before.part I; flow = kept.flow; potentials = kept.potentials; verdict = before.verdict; cut = kept.cut })
 
--- where there is a part, what was kept is that of a moment before
-abbrev pub IsKept : Option Part → Instance → Kept → Type 0
+-- where there is a moment before, what was kept is of it
+abbrev pub IsKept : Option Before → Instance → Kept → Type 0
 IsKept None I kept = Unit {0}
-IsKept (Some part) I kept = CanTakeBack part I × (length kept.flow ≡ length (reduced (before_part part I)).arcs)
+IsKept (Some before) I kept = CanTakeBack before.part I × (length kept.flow ≡ length (reduced (before_part before.part I)).arcs)
 
 -- how many rows stand before those of the numbered arcs
 abbrev pub return_count : Demand → ℕ

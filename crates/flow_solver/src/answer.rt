@@ -1,26 +1,21 @@
-//! The answer to an instance: its verdict, with the flow, the potentials and the cut that prove it.
+//! The verdict on an instance whose flow is settled.
 
-ghost use Rattle.std.specs.Prelude.{◌≡◌, ℕ, ◌+◌, ◌^◌, ◌<◌, ◌≤◌, pos, ◌≤ℤ◌, drop, length};
-ghost use Rattle.network.specs.Flow.{AllWithinBounds, IsCertifiedFlow, total_excess};
-ghost use Rattle.network.specs.Instance.{at_node, is_marked, reduced, IsLawful};
-ghost use Rattle.shortest_paths.specs.Graph.{IsGraphFor};
+ghost use Rattle.std.specs.Prelude.{◌≡◌, ◌^◌, ◌<◌, ◌≤◌, length};
+ghost use Rattle.network.specs.Flow.{AllWithinBounds};
+ghost use Rattle.network.specs.Instance.{reduced, IsLawful};
 ghost use Rattle.shortest_paths.specs.Limits.{entry_limit};
-ghost use Rattle.shortest_paths.specs.Residual.{number_at};
-ghost use Rattle.shortest_paths.specs.Push.{AreSmall, IsExcess, Pushes, left, positive_part};
+ghost use Rattle.shortest_paths.specs.Push.{AreSmall, left, positive_part};
 ghost use Rattle.shortest_paths.specs.Cut.{lack};
-ghost use Rattle.shortest_paths.specs.Nodes.{held, IsIdleEntry};
-ghost use Rattle.shortest_paths.specs.Scratch.{IsScratchFor};
-ghost use Rattle.flow_solver.specs.Ledger.{IsLedger, IsWritten};
-ghost use Rattle.flow_solver.specs.Balance.{IsBalanceOf, IsWrappedCost};
-ghost use Rattle.flow_solver.specs.Answer.{AreGreatestPotentials, IsChosenCut, IsJudged, IsVerdict, worth_by};
+ghost use Rattle.shortest_paths.specs.Nodes.{held};
+ghost use Rattle.flow_solver.specs.Ledger.{IsLedger};
+ghost use Rattle.flow_solver.specs.Balance.{IsWrappedCost};
+ghost use Rattle.flow_solver.specs.Answer.{IsJudged, worth_by};
 
 use crate::balance::{Balance, cost_now};
 use crate::ledger::Ledger;
-use crate::settle::settle;
 use crate::verdict::Verdict;
 use dimacs_text::ArcRow;
 use network::Network;
-use shortest_paths::{Graph, Scratch};
 
 /// What a node has to send out in the reduced instance; 0 where there is no such node.
 pub fn supply_at(net: &Network, id: u32) -> i64
@@ -81,7 +76,7 @@ fn worth(net: &Network, rows: &[ArcRow], flow: &Ledger<i64>, balance: &Balance) 
 }
 
 /// The verdict by what is left in excess or in deficit.
-fn judge(net: &Network, rows: &[ArcRow], flow: &Ledger<i64>, balance: &Balance) -> Verdict
+pub fn judge(net: &Network, rows: &[ArcRow], flow: &Ledger<i64>, balance: &Balance) -> Verdict
     requires lawful { IsLawful net.now }
     requires rows { rows.now ≡ (reduced net.now).arcs }
     requires ledger { IsLedger flow.now }
@@ -102,41 +97,4 @@ fn judge(net: &Network, rows: &[ArcRow], flow: &Ledger<i64>, balance: &Balance) 
         return Verdict::Infeasible(lack as i64);
     }
     Verdict::Best(worth(net, rows, flow, balance))
-}
-
-/// Settles the flow from any certified one, with the greatest potentials and the least cut; gives the number of
-/// pushes and the verdict.
-pub fn solve(
-    graph: &Graph,
-    flow: &mut Ledger<i64>,
-    potentials: &mut Ledger<i64>,
-    balance: &mut Balance,
-    scratch: &mut Scratch,
-    cut: &mut Ledger<bool>,
-) -> (u64, Verdict)
-    requires graph { IsGraphFor (graph.now.net.nodes + 1) graph.now }
-    requires flow_ledger { IsLedger flow.old }
-    requires potentials_ledger { IsLedger potentials.old }
-    requires cut_ledger { IsLedger cut.old }
-    requires certified { IsCertifiedFlow (reduced graph.now.net) flow.old.entries.items (at_node (drop 1 potentials.old.entries.items)) }
-    requires idle { IsIdleEntry potentials.old.entries.items }
-    requires potentials_in { length potentials.old.entries.items ≡ graph.now.net.nodes + 1 }
-    requires balance { IsBalanceOf graph.now.net graph.now.rows.items flow.old balance.old }
-    requires cut_in { length cut.old.entries.items ≡ graph.now.net.nodes + 1 }
-    requires scratch { IsScratchFor (graph.now.net.nodes + 1) scratch.old }
-    ensures flow_written { IsWritten flow.old flow.new }
-    ensures potentials_written { IsWritten potentials.old potentials.new }
-    ensures cut_written { IsWritten cut.old cut.new }
-    ensures balance { IsBalanceOf graph.now.net graph.now.rows.items flow.new balance.new }
-    ensures idle { IsIdleEntry potentials.new.entries.items }
-    ensures scratch { IsScratchFor (graph.now.net.nodes + 1) scratch.new }
-    ensures certified { IsCertifiedFlow (reduced graph.now.net) flow.new.entries.items (at_node (drop 1 potentials.new.entries.items)) }
-    ensures verdict { IsVerdict result.1 graph.now.net flow.new.entries.items (is_marked (drop 1 cut.new.entries.items)) }
-    ensures pushes { Pushes (reduced graph.now.net).arcs (reduced graph.now.net).supply result.0 flow.old.entries.items flow.new.entries.items }
-    ensures count { pos result.0 ≤ℤ total_excess (reduced graph.now.net) flow.old.entries.items }
-    ensures greatest { AreGreatestPotentials (reduced graph.now.net) flow.new.entries.items (at_node (drop 1 potentials.new.entries.items)) }
-    ensures chosen { IsChosenCut result.1 (reduced graph.now.net) (is_marked (drop 1 cut.new.entries.items)) }
-{
-    let pushes = settle(graph, flow, potentials, &mut balance.excess, scratch, cut);
-    (pushes, judge(&graph.net, &graph.rows, flow, balance))
 }

@@ -8,8 +8,8 @@ ghost use Rattle.shortest_paths.specs.Limits.{row_limit};
 use shortest_paths::Touched;
 use std::alloc::{AllocError, Global};
 
-/// A table, what stood in it when it was last kept, and the places at which it was written since. To keep it, to compare
-/// it and to bring back what was kept cost no more than these places.
+/// A table, what stood in it at the last snapshot, and the places at which it was written since. To take a snapshot, to
+/// compare with it and to bring it back cost no more than these places.
 #[derive(Drop)]
 pub struct Ledger<T> {
     pub entries: Vec<T>,
@@ -73,7 +73,7 @@ impl<T: Copy> Ledger<T> {
     }
 
     /// Keeps what stands in the table.
-    pub fn keep(&mut self)
+    pub fn snapshot(&mut self)
         requires ledger { IsLedger self.old }
         ensures ledger { IsLedger self.new }
         ensures entries { self.new.entries.items ≡ self.old.entries.items }

@@ -9,7 +9,6 @@ mod ledger;
 mod part;
 mod potentials;
 mod settle;
-mod solver;
 mod start;
 mod swaps;
 mod tables;

@@ -7,6 +7,7 @@ ghost use Rattle.network.specs.Instance.{IsLawful, arc_at, reduced_supply};
 
 use crate::answer::supply_at;
 use crate::edit::{arc_of, edited_row, edited_supply};
+use crate::verdict::Verdict;
 use dimacs_text::{ArcRow, Edit};
 use network::Network;
 
@@ -19,6 +20,13 @@ pub enum Part {
     OtherSupply { node: u32, value: i64 },
     /// The last arc was not there.
     NoArc,
+}
+
+/// What stood before a change, beside what the ledgers kept.
+#[derive(Clone, Copy)]
+pub struct Before {
+    pub part: Part,
+    pub verdict: Verdict,
 }
 
 ghost use Rattle.flow_solver.specs.Part.{before_part, return_count, CanTakeBack, TakesBack};

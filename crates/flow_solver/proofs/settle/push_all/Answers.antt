@@ -1,5 +1,5 @@
 use Rattle.shortest_paths.specs.Limits.{potential_floor}
-use Rattle.std.proofs.Common.{◌≡◌, ◌+◌, ◌<◌, ◌^◌, ◌∙◌, ℕ, ℤ, List, length, sym, ap, subst, arith, rules, w64, to_z, of_z, SFits}
+use Rattle.std.proofs.Common.{◌≡◌, ◌+◌, ◌<◌, ◌^◌, ◌∙◌, ℕ, ℤ, List, length, sym, subst, arith, rules, w64, to_z, of_z, SFits}
 use Rattle.std.proofs.lemmas.Int.{ints, to_z-of_z}
 use Rattle.shortest_paths.specs.Blocking.{IsWalksFor}
 use Rattle.shortest_paths.specs.Residual.{IsFlow, ArePotentials}

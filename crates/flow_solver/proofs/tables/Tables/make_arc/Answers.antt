@@ -1,0 +1,47 @@
+use Rattle.std.proofs.Common.{◌≡◌, ◌∙◌, ◌++◌, ◌∷◌, [], ℤ, List, pos, ap, subst, sym, rules, w64, SFits, to_z, of_z}
+use Rattle.std.proofs.lemmas.Int.{to_z-of_z}
+use Rattle.network.specs.Flow.{IsCertifiedFlow, reduced_cost}
+use Rattle.network.specs.Instance.{IsLawful, at_node, reduced}
+use Rattle.flow_solver.specs.Edit.{IsAddEdit, IsMade, IsNearest}
+use Rattle.flow_solver.specs.Moment.{Moment}
+use Rattle.flow_solver.specs.Desk.{Desk}
+use Rattle.flow_solver.proofs.ChangeLemmas.{certified_more, with_last}
+use Rattle.flow_solver.proofs.EditRows.{add_made}
+use Rattle.flow_solver.proofs.tables.Tables.make_arc.Goals as goal
+use Rattle.flow_solver.proofs.tables.Tables.make_arc.Goals.{After-put_last}
+
+-- the flow that the new arc gets
+abbrev after : After-put_last → ℤ
+after c = c.nearest-flow.result
+
+near : (c : After-put_last) → IsNearest c.added_row-row.result (reduced_cost (at_node c.args.self.now.moment.potentials) c.added_row-row.result) (pos 0) (after c)
+near c =
+    let m = c.args.self.now.moment in
+    let row = c.added_row-row.result in
+    let cost_fits : SFits w64 c.reduced_cost.result = search rules in
+    let potentials = c.potentials.ensures.value in
+    let cost : to_z w64 (of_z w64 c.reduced_cost.result) ≡ reduced_cost (at_node m.potentials) row = to_z-of_z w64 c.reduced_cost.result cost_fits ∙ c.reduced_cost.ensures ∙ ap (λ (p : List ℤ). reduced_cost (at_node p) row) potentials in
+    subst (λ (r : ℤ). IsNearest row r (pos 0) (after c)) cost c.nearest-flow.ensures
+
+moment_is : (c : After-put_last) → c.put_last.new.self.moment ≡ record c.args.self.now.moment { instance = with_last c.args.self.now.moment.instance c.added_row-row.result; flow = c.args.self.now.moment.flow ++ after c ∷ [] }
+moment_is c =
+    let m = c.args.self.now.moment in
+    let fits : SFits w64 (after c) = search rules in
+    let flow = to_z-of_z w64 (after c) fits in
+    c.put_last.ensures.moment ∙ ap (λ (z : ℤ). record m { instance = with_last m.instance c.added_row-row.result; flow = m.flow ++ z ∷ [] }) flow
+
+pub returns-clause-made : goal.returns-clause-made
+returns-clause-made c =
+    let m = c.args.self.now.moment in
+    let s = (goal.at.returns-clause-made c).After-put_last in
+    let lawful = subst (λ (b : Desk). IsLawful b.moment.instance) c.self.view_is c.self.invariant.graph.rows.lawful in
+    let edit = subst (λ (b : Desk). IsAddEdit b.moment.instance c.args.edit.now c.added_row-row.result) c.self.view_is c.added_row-row.ensures in
+    subst (λ (n : Moment). IsMade m.instance n.instance c.args.edit.now (at_node m.potentials) m.flow n.flow) (sym (moment_is s))
+    (add_made m.instance c.args.edit.now c.added_row-row.result (at_node m.potentials) m.flow (after s) lawful c.requires.certified edit (near s))
+
+pub returns-clause-certified : goal.returns-clause-certified
+returns-clause-certified c =
+    let m = c.args.self.now.moment in
+    let s = (goal.at.returns-clause-certified c).After-put_last in
+    subst (λ (n : Moment). IsCertifiedFlow (reduced n.instance) n.flow (at_node n.potentials)) (sym (moment_is s))
+    (certified_more m.instance c.added_row-row.result (at_node m.potentials) m.flow (after s) c.requires.certified (near s))

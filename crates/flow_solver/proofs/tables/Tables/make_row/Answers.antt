@@ -1,0 +1,60 @@
+use Rattle.std.proofs.Common.{◌≡◌, ◌∙◌, ◌-◌, ℤ, List, pos, ap, subst, sym, rules, slice_set, slice_index_or, w64, SFits, to_z, of_z}
+use Rattle.std.proofs.lemmas.Int.{to_z-of_z}
+use Rattle.network.specs.Flow.{IsCertifiedFlow, reduced_cost}
+use Rattle.network.specs.Instance.{IsLawful, at_node, reduced}
+use Rattle.shortest_paths.specs.Residual.{number_at}
+use Rattle.flow_solver.specs.Desk.{Desk, flow_index}
+use Rattle.flow_solver.specs.Edit.{IsMade, IsNearest, IsRowEdit}
+use Rattle.flow_solver.specs.Moment.{Moment}
+use Rattle.flow_solver.proofs.ChangeLemmas.{certified_changed, flow_at, with_row}
+use Rattle.flow_solver.proofs.EditRows.{row_made}
+use Rattle.flow_solver.proofs.tables.Tables.make_row.Goals as goal
+use Rattle.flow_solver.proofs.tables.Tables.make_row.Goals.{After-swap_flow}
+
+edit_is : (c : After-swap_flow) → IsRowEdit c.args.self.now.moment.instance c.args.edit.now c.edited_row-k.result.0 c.edited_row-k.result.1
+edit_is c = subst (λ (b : Desk). IsRowEdit b.moment.instance c.args.edit.now c.edited_row-k.result.0 c.edited_row-k.result.1) c.self.view_is c.edited_row-k.ensures
+
+-- the flow that the arc gets
+abbrev after : After-swap_flow → ℤ
+after c = c.nearest-flow.result
+
+near : (c : After-swap_flow) → IsNearest c.edited_row-k.result.1 (reduced_cost (at_node c.args.self.now.moment.potentials) c.edited_row-k.result.1) (number_at c.args.self.now.moment.flow (flow_index c.args.self.now.moment.instance.demand c.edited_row-k.result.0)) (after c)
+near c =
+    let m = c.args.self.now.moment in
+    let k = c.edited_row-k.result.0 in
+    let row = c.edited_row-k.result.1 in
+    let cost_fits : SFits w64 c.reduced_cost.result = search rules in
+    let potentials = c.potentials.ensures.value in
+    let cost : to_z w64 (of_z w64 c.reduced_cost.result) ≡ reduced_cost (at_node m.potentials) row = to_z-of_z w64 c.reduced_cost.result cost_fits ∙ c.reduced_cost.ensures ∙ ap (λ (p : List ℤ). reduced_cost (at_node p) row) potentials in
+    let flows = c.flow.ensures.value in
+    let entry = slice_index_or c.flow.result.now (k - 1) (pos 0) in
+    let entry_fits : SFits w64 entry = search rules in
+    let before : to_z w64 (of_z w64 entry) ≡ number_at m.flow (flow_index m.instance.demand k) = to_z-of_z w64 entry entry_fits ∙ ap (λ (x : List ℤ). slice_index_or x (k - 1) (pos 0)) flows ∙ flow_at m.instance.demand m.flow k (pos 0) c.edited_row-k.ensures.arc.0 in
+    subst (λ (r : ℤ). IsNearest row r (number_at m.flow (flow_index m.instance.demand k)) (after c)) cost
+    (subst (λ (x : ℤ). IsNearest row (to_z w64 (of_z w64 c.reduced_cost.result)) x (after c)) before c.nearest-flow.ensures)
+
+moment_is : (c : After-swap_flow) → c.swap_flow.new.self.moment ≡ record c.args.self.now.moment { instance = with_row c.args.self.now.moment.instance (c.edited_row-k.result.0 - 1) c.edited_row-k.result.1; flow = slice_set c.args.self.now.moment.flow (flow_index c.args.self.now.moment.instance.demand c.edited_row-k.result.0) (after c) }
+moment_is c =
+    let m = c.args.self.now.moment in
+    let k = c.edited_row-k.result.0 in
+    let J = with_row m.instance (k - 1) c.edited_row-k.result.1 in
+    let fits : SFits w64 (after c) = search rules in
+    let flow = to_z-of_z w64 (after c) fits in
+    c.swap_flow.ensures.moment
+    ∙ ap (λ (n : Moment). record n { flow = slice_set n.flow (flow_index n.instance.demand k) (to_z w64 (of_z w64 (after c))) }) c.swap_row.ensures.moment
+    ∙ ap (λ (z : ℤ). record m { instance = J; flow = slice_set m.flow (flow_index m.instance.demand k) z }) flow
+
+pub returns-clause-made : goal.returns-clause-made
+returns-clause-made c =
+    let m = c.args.self.now.moment in
+    let s = (goal.at.returns-clause-made c).After-swap_flow in
+    let lawful = subst (λ (b : Desk). IsLawful b.moment.instance) c.self.view_is c.self.invariant.graph.rows.lawful in
+    subst (λ (n : Moment). IsMade m.instance n.instance c.args.edit.now (at_node m.potentials) m.flow n.flow) (sym (moment_is s))
+    (row_made m.instance c.args.edit.now c.edited_row-k.result.0 c.edited_row-k.result.1 (at_node m.potentials) m.flow (after s) lawful c.requires.certified (edit_is s) (near s))
+
+pub returns-clause-certified : goal.returns-clause-certified
+returns-clause-certified c =
+    let m = c.args.self.now.moment in
+    let s = (goal.at.returns-clause-certified c).After-swap_flow in
+    subst (λ (n : Moment). IsCertifiedFlow (reduced n.instance) n.flow (at_node n.potentials)) (sym (moment_is s))
+    (certified_changed m.instance c.edited_row-k.result.0 c.edited_row-k.result.1 (at_node m.potentials) m.flow (after s) (edit_is s).arc.0 c.requires.certified (near s))

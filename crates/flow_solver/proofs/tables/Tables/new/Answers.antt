@@ -1,0 +1,75 @@
+use Rattle.std.proofs.Common.{add-one, ◌≡◌, ◌∙◌, ◌+◌, ℕ, suc, ℤ, arith, pos, false, List, map, drop, length, replicate, rules, ap, sym, subst}
+use Rattle.std.proofs.lemmas.Int.{ints}
+use Rattle.std.proofs.lemmas.List.{length-map}
+use Rattle.network.specs.Flow.{IsCertifiedFlow}
+use Rattle.network.specs.Instance.{Instance, at_node, reduced}
+use Rattle.dimacs_text.specs.declared.problem.ArcRow.{ArcRow}
+use Rattle.flow_solver.specs.Balance.{IsWrappedCost, IsWrappedExcess}
+use Rattle.flow_solver.specs.Moment.{start}
+use Rattle.flow_solver.specs.Ledger.{kept_in}
+use Rattle.shortest_paths.specs.Nodes.{IsIdleEntry}
+use Rattle.shortest_paths.specs.Residual.{number_at}
+use Rattle.flow_solver.proofs.CarryLemmas.{ends_of_rows, sends}
+use Rattle.flow_solver.proofs.DeskLemmas.{nodes_alike}
+use Rattle.flow_solver.proofs.InstanceLemmas.{start_certified, zero_entries}
+use Rattle.flow_solver.proofs.tables.Tables.new.Goals as goal
+
+pub new-requires-4-clause-ends : goal.new-requires-4-clause-ends
+new-requires-4-clause-ends c = ends_of_rows c.in_ok-graph.graph.net c.deref-2.result.now c.in_ok-graph.ensures.graph.rows.lawful (c.deref-2.ensures.value ∙ c.in_ok-graph.ensures.graph.rows.rows_are)
+
+-- a potential of 0 is within its limits
+idle_zeros : (n : ℕ) → IsIdleEntry (replicate (n + 1) (pos 0))
+idle_zeros n =
+    let first : number_at (replicate (n + 1) (pos 0)) 0 ≡ pos 0 = ap (λ (k : ℕ). number_at (replicate k (pos 0)) 0) (add-one n) in
+    (omega (arith, ints, first), omega (arith, ints, first))
+
+pub invariant_of-result : goal.invariant_of-result
+invariant_of-result c =
+    let flow = c.in_ok-flow.flow in
+    let balance = c.in_ok-balance.balance in
+    let potentials = c.in_ok-potentials.potentials in
+    let cut = c.in_ok-cut.cut in
+    let zeros : potentials.entries.items ≡ replicate (c.nodes.result + 1) (pos 0) = search rules in
+    let kept_zeros : kept_in potentials ≡ replicate (c.nodes.result + 1) (pos 0) = search rules in
+    let unmarked : cut.entries.items ≡ replicate (c.nodes.result + 1) false = search rules in
+    let kept_unmarked : kept_in cut ≡ replicate (c.nodes.result + 1) false = search rules in
+    record {
+      graph = search rules;
+      flow_ledger = search rules;
+      flow_in = ap (λ (xs : List ℤ). length xs) (c.in_ok-flow.ensures.entries ∙ c.in_ok-start_flow.ensures.flow ∙ ap (map start) c.deref.ensures.value) ∙ length-map c.in_ok-graph.graph.rows.items start;
+      flow_fits = search rules;
+      potentials_in = nodes_alike c.in_ok-graph.graph.net.nodes potentials (replicate (c.nodes.result + 1) (pos 0)) (replicate (c.nodes.result + 1) (pos 0)) c.in_ok-potentials.ensures.ledger zeros kept_zeros (search rules) (search rules);
+      idle = subst IsIdleEntry (sym zeros) (idle_zeros c.nodes.result);
+      kept_idle = subst IsIdleEntry (sym kept_zeros) (idle_zeros c.nodes.result);
+      balance_is = record {
+        sized = c.in_ok-balance.ensures.sized;
+        excess = subst (λ (r : List ArcRow). IsWrappedExcess r (sends c.in_ok-graph.graph.net) flow.entries.items balance.excess.items) c.deref-2.ensures.value
+            (subst (λ (x : List ℤ). IsWrappedExcess c.deref-2.result.now (sends c.in_ok-graph.graph.net) x balance.excess.items) c.deref-3.ensures.value c.in_ok-balance.ensures.excess);
+        cost = subst (λ (r : List ArcRow). IsWrappedCost r flow.kept.items balance.cost) c.deref-2.ensures.value
+            (subst (λ (x : List ℤ). IsWrappedCost c.deref-2.result.now x balance.cost) (c.deref-3.ensures.value ∙ c.in_ok-flow.ensures.entries ∙ sym c.in_ok-flow.ensures.whole) c.in_ok-balance.ensures.cost);
+      };
+      cut_in = nodes_alike c.in_ok-graph.graph.net.nodes cut (replicate (c.nodes.result + 1) false) (replicate (c.nodes.result + 1) false) c.in_ok-cut.ensures.ledger unmarked kept_unmarked (search rules) (search rules);
+      scratch_in = search rules;
+      rows_fit = search rules;
+      before_is = tt;
+    }
+
+pub returns-clause-start : goal.returns-clause-start
+returns-clause-start c =
+    let zeros : c.in_ok-potentials.potentials.entries.items ≡ replicate (c.nodes.result + 1) (pos 0) = search rules in
+    let net = c.in_ok-graph.graph.net in
+    let one_more : net.nodes + 1 ≡ suc net.nodes = omega arith in
+    record {
+      instance = search rules;
+      flow = c.in_ok-flow.ensures.entries ∙ c.in_ok-start_flow.ensures.flow ∙ ap (map start) (c.deref.ensures.value ∙ c.in_ok-graph.ensures.graph.rows.rows_are ∙ ap (λ (J : Instance). (reduced J).arcs) c.in_ok-graph.ensures.net);
+      potentials = ap (drop 1) zeros ∙ (ap (λ (n : ℕ). drop 1 (replicate (n + 1) (pos 0))) c.nodes.ensures.value ∙ ap (λ (n : ℕ). drop 1 (replicate n (pos 0))) one_more ∙ ap (λ (J : Instance). replicate J.nodes (pos 0)) c.in_ok-graph.ensures.net);
+    }
+
+pub returns-clause-certified : goal.returns-clause-certified
+returns-clause-certified c =
+    let I = c.in_ok-graph.graph.net in
+    let potentials = c.in_ok-potentials.potentials.entries.items in
+    let zeros : potentials ≡ replicate (c.nodes.result + 1) (pos 0) = search rules in
+    let flow : c.in_ok-flow.flow.entries.items ≡ map start (reduced I).arcs = c.in_ok-flow.ensures.entries ∙ c.in_ok-start_flow.ensures.flow ∙ ap (map start) (c.deref.ensures.value ∙ c.in_ok-graph.ensures.graph.rows.rows_are) in
+    subst (λ (x : List ℤ). IsCertifiedFlow (reduced I) x (at_node (drop 1 potentials))) (sym flow)
+    (start_certified I (at_node (drop 1 potentials)) c.in_ok-graph.ensures.graph.rows.lawful (λ v. ap (λ (p : List ℤ). at_node (drop 1 p) v) zeros ∙ zero_entries (c.nodes.result + 1) v))

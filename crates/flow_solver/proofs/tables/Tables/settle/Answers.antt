@@ -1,0 +1,166 @@
+use Rattle.std.proofs.Common.{◌≡◌, ◌∙◌, ◌+◌, ◌≤◌, ◌<◌, ◌≤ℤ◌, ℕ, ℤ, pos, List, drop, length, arith, refl, sym, ap, subst}
+use Rattle.std.specs.Vec.{with_items}
+use Rattle.std.proofs.lemmas.List.{with_items_is}
+use Rattle.std.proofs.lemmas.Int.{ints}
+use Rattle.dimacs_text.specs.declared.problem.ArcRow.{ArcRow}
+use Rattle.network.specs.Flow.{AllWithinBounds, IsCertifiedFlow, total_excess}
+use Rattle.network.specs.Instance.{at_node, reduced}
+use Rattle.network.proofs.Reduction.{reduced_ends}
+use Rattle.shortest_paths.specs.Limits.{cap_sum_limit, entry_limit}
+use Rattle.shortest_paths.specs.Residual.{IsCertified}
+use Rattle.shortest_paths.specs.Push.{AreSmall, IsExcess, Pushes, cap_total, left}
+use Rattle.shortest_paths.specs.Cut.{lack}
+use Rattle.flow_solver.specs.Balance.{IsBalanceOf, IsWrappedCost, IsWrappedExcess}
+use Rattle.flow_solver.specs.Answer.{IsJudged, worth_by}
+use Rattle.shortest_paths.specs.Nodes.{held}
+use Rattle.shortest_paths.specs.Scratch.{IsScratchFor}
+use Rattle.flow_solver.specs.Desk.{Desk}
+use Rattle.flow_solver.proofs.DeskLemmas.{sized_written, tables_written}
+use Rattle.flow_solver.proofs.FlowLaws.{bounds_from}
+use Rattle.flow_solver.proofs.PushLaws.{pushes_of, left_is}
+use Rattle.flow_solver.proofs.InstanceLemmas.{few_entries, potentials_of, certified_of, supplies_of_instance, caps_of_instance}
+use Rattle.flow_solver.proofs.AnswerLemmas.{AreRows, IsEnd, exact_of_certified, wrapped_small, end_of, certified_at, end_certified, end_greatest, end_verdict, end_chosen, left_fits, lack_fits}
+use Rattle.flow_solver.proofs.tables.Tables.settle.Goals as goal
+use Rattle.flow_solver.proofs.tables.Tables.settle.Goals.{After-settle-pushes, After-judge-self-inside}
+
+pub settle-pushes-requires-clause-certified : goal.settle-pushes-requires-clause-certified
+settle-pushes-requires-clause-certified c =
+    subst (λ (r : List ArcRow). IsCertified r c.self.inside.flow.entries.items c.self.inside.potentials.entries.items) (sym c.self.invariant.graph.rows.rows_are)
+    (certified_of c.self.inside.graph.net c.self.inside.flow.entries.items c.self.inside.potentials.entries.items c.self.invariant.graph.rows.lawful c.self.invariant.potentials_in.entries_in c.self.invariant.idle (certified_at c.self.inside.graph.net c.self.inside.flow.entries.items c.self.inside.potentials.entries.items c.self.invariant.graph.rows.lawful (subst (λ (b : Desk). IsCertifiedFlow (reduced b.moment.instance) b.moment.flow (at_node b.moment.potentials)) (sym c.self.view_is) c.requires)))
+
+pub settle-pushes-requires-clause-potentials_in : goal.settle-pushes-requires-clause-potentials_in
+settle-pushes-requires-clause-potentials_in c =
+    potentials_of c.self.inside.graph.net.nodes c.self.inside.potentials.entries.items c.self.invariant.potentials_in.entries_in c.self.invariant.idle (certified_at c.self.inside.graph.net c.self.inside.flow.entries.items c.self.inside.potentials.entries.items c.self.invariant.graph.rows.lawful (subst (λ (b : Desk). IsCertifiedFlow (reduced b.moment.instance) b.moment.flow (at_node b.moment.potentials)) (sym c.self.view_is) c.requires)).range
+
+pub settle-pushes-requires-clause-small : goal.settle-pushes-requires-clause-small
+settle-pushes-requires-clause-small c =
+    subst AreSmall (sym c.deref_mut.ensures.value)
+    (exact_of_certified c.self.inside.graph.net c.self.inside.graph.rows.items c.self.inside.flow.entries.items c.self.inside.balance.excess.items (at_node (drop 1 c.self.inside.potentials.entries.items)) c.self.invariant.graph.rows.lawful c.self.invariant.graph.rows.rows_are (subst (λ (b : Desk). IsCertifiedFlow (reduced b.moment.instance) b.moment.flow (at_node b.moment.potentials)) (sym c.self.view_is) c.requires) c.self.invariant.balance_is.excess).small
+
+-- the flow is certified before
+certified_in : (c : After-settle-pushes) → IsCertifiedFlow (reduced c.self.inside.graph.net) c.self.inside.flow.entries.items (at_node (drop 1 c.self.inside.potentials.entries.items))
+certified_in c = subst (λ (b : Desk). IsCertifiedFlow (reduced b.moment.instance) b.moment.flow (at_node b.moment.potentials)) (sym c.self.view_is) c.requires
+
+-- what lay in excess before
+excess_before : (c : After-settle-pushes) → IsExcess c.self.inside.graph.rows.items (held c.self.inside.graph.net.nodes (reduced c.self.inside.graph.net).supply) c.self.inside.flow.entries.items c.deref_mut.result.now
+excess_before c =
+    let supply = held c.self.inside.graph.net.nodes (reduced c.self.inside.graph.net).supply in
+    subst (λ (e : List ℤ). IsExcess c.self.inside.graph.rows.items supply c.self.inside.flow.entries.items e) (sym c.deref_mut.ensures.value)
+    (exact_of_certified c.self.inside.graph.net c.self.inside.graph.rows.items c.self.inside.flow.entries.items c.self.inside.balance.excess.items (at_node (drop 1 c.self.inside.potentials.entries.items)) c.self.invariant.graph.rows.lawful c.self.invariant.graph.rows.rows_are (certified_in c) c.self.invariant.balance_is.excess).excess
+
+-- what lies in excess after the searches
+excess_is : (c : After-settle-pushes) → (with_items c.self.inside.balance.excess c.settle-pushes.new.excess).items ≡ c.settle-pushes.new.excess
+excess_is c = with_items_is c.self.inside.balance.excess c.settle-pushes.new.excess (c.settle-pushes.auto.excess ∙ c.deref_mut.ensures.len)
+
+excess_in : (c : After-settle-pushes) → length c.settle-pushes.new.excess ≡ c.self.inside.graph.net.nodes + 1
+excess_in c = c.settle-pushes.auto.excess ∙ ap length c.deref_mut.ensures.value ∙ c.self.invariant.balance_is.sized
+
+-- what stands in the tables after the searches
+end : (c : After-settle-pushes) → IsEnd c.self.inside.graph.net c.settle-pushes.new.flow.entries.items c.settle-pushes.new.potentials.entries.items c.settle-pushes.new.excess c.settle-pushes.new.cut.entries.items
+end c =
+    let supply = held c.self.inside.graph.net.nodes (reduced c.self.inside.graph.net).supply in
+    end_of c.self.inside.graph.net c.self.inside.graph.rows.items c.settle-pushes.new.flow.entries.items c.settle-pushes.new.potentials.entries.items c.settle-pushes.new.excess c.settle-pushes.new.cut.entries.items c.self.invariant.graph.rows.lawful c.self.invariant.graph.rows.rows_are
+    (c.settle-pushes.ensures.potentials_written.same_length ∙ c.self.invariant.potentials_in.entries_in) (excess_in c) (c.settle-pushes.ensures.cut_written.same_length ∙ c.self.invariant.cut_in.entries_in)
+    c.settle-pushes.ensures.certified c.settle-pushes.ensures.greatest c.settle-pushes.ensures.above
+    (c.settle-pushes.ensures.excess supply (excess_before c)) (c.settle-pushes.ensures.cut supply (excess_before c))
+
+few : (c : After-settle-pushes) → c.self.inside.graph.net.nodes + 1 ≤ entry_limit
+few c = few_entries c.self.inside.graph.net c.self.invariant.graph.rows.lawful
+
+rows_in : (c : After-settle-pushes) → AreRows c.self.inside.graph.rows.items
+rows_in c k lt = (let row = c.settle-pushes.ensures.certified.flow.rows k lt in (row.low_at_least_0, row.low_at_most_cap))
+
+caps : (c : After-settle-pushes) → cap_total c.self.inside.graph.rows.items ≤ cap_sum_limit
+caps c = subst (λ (r : List ArcRow). cap_total r ≤ cap_sum_limit) (sym c.self.invariant.graph.rows.rows_are) (caps_of_instance c.self.inside.graph.net c.self.invariant.graph.rows.lawful)
+
+pub judge-self-inside-requires-clause-bounds : goal.judge-self-inside-requires-clause-bounds
+judge-self-inside-requires-clause-bounds c =
+    subst (λ (r : List ArcRow). AllWithinBounds r c.settle-pushes.new.flow.entries.items) (sym c.deref.ensures.value)
+    (bounds_from c.self.inside.graph.rows.items c.settle-pushes.new.flow.entries.items c.settle-pushes.ensures.certified.flow.same_length c.settle-pushes.ensures.certified.flow.within)
+
+pub judge-self-inside-requires-clause-small : goal.judge-self-inside-requires-clause-small
+judge-self-inside-requires-clause-small c =
+    subst AreSmall (sym (excess_is (goal.at.judge-self-inside-requires-clause-small c).After-settle-pushes)) c.settle-pushes.ensures.small
+
+pub judge-self-inside-requires-clause-left_fits : goal.judge-self-inside-requires-clause-left_fits
+judge-self-inside-requires-clause-left_fits c =
+    let s = (goal.at.judge-self-inside-requires-clause-left_fits c).After-settle-pushes in
+    let supply = held c.self.inside.graph.net.nodes (reduced c.self.inside.graph.net).supply in
+    subst (λ (e : List ℤ). left e < 9223372036854775808) (sym (excess_is s))
+    (left_fits c.self.inside.graph.rows.items supply c.settle-pushes.new.excess c.settle-pushes.new.cut.entries.items (supplies_of_instance c.self.inside.graph.net c.self.invariant.graph.rows.lawful) (rows_in s) (caps s) (omega (arith, few s, (end s).cut_in)) (c.settle-pushes.ensures.cut supply (excess_before s)))
+
+pub judge-self-inside-requires-clause-lack_fits : goal.judge-self-inside-requires-clause-lack_fits
+judge-self-inside-requires-clause-lack_fits c =
+    let s = (goal.at.judge-self-inside-requires-clause-lack_fits c).After-settle-pushes in
+    let supply = held c.self.inside.graph.net.nodes (reduced c.self.inside.graph.net).supply in
+    subst (λ (e : List ℤ). left e ≡ 0 → lack e < 9223372036854775808) (sym (excess_is s))
+    (lack_fits c.self.inside.graph.rows.items supply c.settle-pushes.new.excess c.settle-pushes.new.cut.entries.items (supplies_of_instance c.self.inside.graph.net c.self.invariant.graph.rows.lawful) (rows_in s) (caps s) (omega (arith, few s, (end s).cut_in)) (c.settle-pushes.ensures.cut supply (excess_before s)))
+
+judged : (c : After-judge-self-inside) → IsJudged (worth_by c.self.inside.graph.net.demand (reduced c.self.inside.graph.net).arcs c.settle-pushes.new.flow.entries.items) c.settle-pushes.new.excess c.judge-self-inside.result
+judged c =
+    let excess_is = with_items_is c.self.inside.balance.excess c.settle-pushes.new.excess (c.settle-pushes.auto.excess ∙ c.deref_mut.ensures.len) in
+    subst (λ (r : List ArcRow). IsJudged (worth_by c.self.inside.graph.net.demand r c.settle-pushes.new.flow.entries.items) c.settle-pushes.new.excess c.judge-self-inside.result) c.self.invariant.graph.rows.rows_are
+    (subst (λ (e : List ℤ). IsJudged (worth_by c.self.inside.graph.net.demand c.self.inside.graph.rows.items c.settle-pushes.new.flow.entries.items) e c.judge-self-inside.result) excess_is
+    (subst (λ (r : List ArcRow). IsJudged (worth_by c.self.inside.graph.net.demand r c.settle-pushes.new.flow.entries.items) (with_items c.self.inside.balance.excess c.settle-pushes.new.excess).items c.judge-self-inside.result) c.deref.ensures.value c.judge-self-inside.ensures))
+
+pub invariant_of-self : goal.invariant_of-self
+invariant_of-self c =
+    let t = c.self.inside in
+    let inv = c.self.invariant in
+    let call = c.settle-pushes in
+    let s = (goal.at.invariant_of-self c).After-settle-pushes in
+    let supply = held t.graph.net.nodes (reduced t.graph.net).supply in
+    let now = record t.balance { excess = with_items t.balance.excess call.new.excess } in
+    let balance : IsBalanceOf t.graph.net t.graph.rows.items call.new.flow now = record {
+      sized = ap length (excess_is s) ∙ excess_in s;
+      excess = subst (λ (e : List ℤ). IsWrappedExcess t.graph.rows.items supply call.new.flow.entries.items e) (sym (excess_is s))
+          (wrapped_small t.graph.rows.items supply call.new.flow.entries.items call.new.excess (call.ensures.excess supply (excess_before s)) call.ensures.small);
+      cost = subst (λ (k : List ℤ). IsWrappedCost t.graph.rows.items k t.balance.cost) (ap (λ v. v.items) (sym call.ensures.flow_written.kept)) inv.balance_is.cost;
+    } in
+    let many = call.ensures.potentials_written.same_length ∙ inv.potentials_in.entries_in in
+    tables_written t.graph t.graph t.flow call.new.flow t.potentials call.new.potentials t.balance now t.cut call.new.cut t.scratch call.new.scratch t.before
+    inv refl refl inv.graph refl (omega arith) call.ensures.flow_written call.ensures.potentials_written (call.ensures.potentials_in.at_least 0, call.ensures.potentials_in.at_most_0 0) balance call.ensures.cut_written
+    (subst (λ (n : ℕ). IsScratchFor n call.new.scratch) many call.ensures.scratch)
+
+pub returns-clause-answered : goal.returns-clause-answered
+returns-clause-answered c =
+    let t = c.self.inside in
+    let I = t.graph.net in
+    let call = c.settle-pushes in
+    let y = call.new.flow.entries.items in
+    let p = call.new.potentials.entries.items in
+    let e = call.new.excess in
+    let set = call.new.cut.entries.items in
+    let ended = end (goal.at.returns-clause-answered c).After-settle-pushes in
+    let told = judged (goal.at.returns-clause-answered c).After-judge-self-inside in
+    record {
+      sized = sized_written t.graph t.graph t.flow call.new.flow t.potentials call.new.potentials t.balance t.cut call.new.cut t.scratch t.before c.judge-self-inside.result
+          c.self.invariant refl c.self.invariant.graph.rows refl call.ensures.flow_written call.ensures.potentials_written call.ensures.cut_written;
+      certified = end_certified I y p e set ended;
+      verdict = end_verdict I y p e set ended c.judge-self-inside.result told;
+      greatest = record { none_above = end_greatest I y p e set ended };
+      chosen = end_chosen I y p e set ended c.judge-self-inside.result told;
+    }
+
+pub returns-clause-pushes : goal.returns-clause-pushes
+returns-clause-pushes c =
+    let s = (goal.at.returns-clause-pushes c).After-settle-pushes in
+    let t = c.self.inside in
+    let I = t.graph.net in
+    let supply = held I.nodes (reduced I).supply in
+    let y = c.settle-pushes.new.flow.entries.items in
+    let made = subst (λ (r : List ArcRow). Pushes r supply c.settle-pushes.result t.flow.entries.items y) c.self.invariant.graph.rows.rows_are (c.settle-pushes.ensures.pushes supply (excess_before s)) in
+    subst (λ (b : Desk). Pushes (reduced b.moment.instance).arcs (reduced b.moment.instance).supply c.settle-pushes.result b.moment.flow y) c.self.view_is
+    (pushes_of I.nodes (reduced I).arcs (reduced I).supply (reduced_ends I c.self.invariant.graph.rows.lawful) c.settle-pushes.result t.flow.entries.items y made)
+
+pub returns-clause-count : goal.returns-clause-count
+returns-clause-count c =
+    let s = (goal.at.returns-clause-count c).After-settle-pushes in
+    let t = c.self.inside in
+    let I = t.graph.net in
+    let supply = held I.nodes (reduced I).supply in
+    let e = c.deref_mut.result.now in
+    let before = subst (λ (r : List ArcRow). IsExcess r supply t.flow.entries.items e) c.self.invariant.graph.rows.rows_are (excess_before s) in
+    let all = left_is (reduced I) t.flow.entries.items e (reduced_ends I c.self.invariant.graph.rows.lawful) before (omega (arith, ap length c.deref_mut.ensures.value, c.self.invariant.balance_is.sized)) in
+    let most : pos c.settle-pushes.result ≤ℤ total_excess (reduced I) t.flow.entries.items = omega (arith, ints, all, c.settle-pushes.ensures.count) in
+    subst (λ (b : Desk). pos c.settle-pushes.result ≤ℤ total_excess (reduced b.moment.instance) b.moment.flow) c.self.view_is most

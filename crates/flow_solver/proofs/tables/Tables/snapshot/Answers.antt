@@ -1,0 +1,31 @@
+use Rattle.std.proofs.Common.{◌∙◌, List, ap, arith, length, refl, subst, sym}
+use Rattle.std.specs.Int.{w128}
+use Rattle.std.proofs.lemmas.Int.{to_z-of_z}
+use Rattle.dimacs_text.specs.declared.problem.ArcRow.{ArcRow}
+use Rattle.flow_solver.specs.Balance.{IsWrappedCost}
+use Rattle.shortest_paths.specs.Nodes.{IsIdleEntry}
+use Rattle.flow_solver.proofs.CarryLemmas.{balance_kept}
+use Rattle.flow_solver.proofs.DeskLemmas.{nodes_alike}
+use Rattle.flow_solver.proofs.tables.Tables.snapshot.Goals as goal
+
+pub invariant_of-self : goal.invariant_of-self
+invariant_of-self c =
+    let t = c.self.inside in
+    let inv = c.self.invariant in
+    let result = c.cost_now-self-inside.result in
+    let cost = to_z-of_z w128 result (record { sfits = c.cost_now-self-inside.type_inv })
+    ∙ subst (λ (r : List ArcRow). IsWrappedCost r t.flow.entries.items result) c.deref.ensures.value c.cost_now-self-inside.ensures in
+    record {
+      graph = inv.graph;
+      flow_ledger = c.snapshot.ensures.ledger;
+      flow_in = ap length c.snapshot.ensures.entries ∙ inv.flow_in;
+      flow_fits = omega (arith, inv.flow_fits, c.snapshot.ensures.room);
+      potentials_in = nodes_alike t.graph.net.nodes c.snapshot-2.new.self t.potentials.entries.items t.potentials.entries.items c.snapshot-2.ensures.ledger c.snapshot-2.ensures.entries c.snapshot-2.ensures.kept inv.potentials_in.entries_in inv.potentials_in.entries_in;
+      idle = subst IsIdleEntry (sym c.snapshot-2.ensures.entries) inv.idle;
+      kept_idle = subst IsIdleEntry (sym c.snapshot-2.ensures.kept) inv.idle;
+      balance_is = balance_kept t.graph.net t.graph.rows.items t.flow c.snapshot.new.self t.balance _ c.snapshot.ensures.entries c.snapshot.ensures.whole refl cost inv.balance_is;
+      cut_in = nodes_alike t.graph.net.nodes c.snapshot-3.new.self t.cut.entries.items t.cut.entries.items c.snapshot-3.ensures.ledger c.snapshot-3.ensures.entries c.snapshot-3.ensures.kept inv.cut_in.entries_in inv.cut_in.entries_in;
+      scratch_in = inv.scratch_in;
+      rows_fit = inv.rows_fit;
+      before_is = tt;
+    }

@@ -1,0 +1,162 @@
+//! Exchanges: what stands at one place goes, and something else comes. Each forgets what stood before the last change.
+
+ghost use Rattle.std.specs.Prelude.{◌≡◌, ◌-◌, ◌<◌, ◌≤◌, ◌++◌, ◌∷◌, [], None, length, slice_index_or, slice_set};
+ghost use Rattle.dimacs_text.specs.Lawful.{IsNode, IsWithin};
+ghost use Rattle.dimacs_text.specs.declared.problem.TheConstants.{SUPPLY_LIMIT};
+ghost use Rattle.dimacs_text.specs.declared.problem.Kind.TheVariants.{Min};
+ghost use Rattle.network.specs.Flow.{IsPotential};
+ghost use Rattle.network.specs.Instance.{kind_of, reduced, with_supply};
+ghost use Rattle.flow_solver.specs.Desk.{IsFlow, IsRowOf, HasEnds, flow_index, supplies_in};
+ghost use Rattle.flow_solver.specs.Moment.{TellsReturn, VerdictFits, with_verdict};
+
+use super::Tables;
+use crate::answer::supply_at;
+use crate::balance::{add_difference, carry_over, reprice};
+use crate::edit::{drop_row, put_row, swap_row, swap_supply};
+use crate::swaps::{carry_worth, exchange_node};
+use crate::verdict::Verdict;
+use dimacs_text::ArcRow;
+
+impl Tables {
+    /// Exchanges the flow of an arc.
+    pub fn swap_flow(&mut self, k: u32, value: &mut i64)
+        requires there { (1 ≤ k) × (k ≤ length self.old.moment.instance.arcs) }
+        requires flow { IsFlow value.old }
+        ensures moment { self.new.moment ≡ record self.old.moment { flow = slice_set self.old.moment.flow (flow_index self.old.moment.instance.demand k) value.old } }
+        ensures value { value.new ≡ slice_index_or self.old.moment.flow (flow_index self.old.moment.instance.demand k) value.old }
+        ensures kept { self.new.kept ≡ self.old.kept }
+        ensures before { self.new.before ≡ None }
+    {
+        self.before = None;
+        let place = self.graph.first_row() + (k as usize - 1);
+        carry_over(
+            &mut self.balance.excess,
+            &self.graph.rows[place],
+            self.flow.entries[place],
+            *value,
+        );
+        self.flow.exchange(place, value);
+    }
+
+    /// Exchanges the potential of a node.
+    pub fn swap_potential(&mut self, id: u32, value: &mut i64)
+        requires node { IsNode self.old.moment.instance.nodes id }
+        requires potential { IsPotential value.old }
+        ensures moment { self.new.moment ≡ record self.old.moment { potentials = slice_set self.old.moment.potentials (id - 1) value.old } }
+        ensures value { value.new ≡ slice_index_or self.old.moment.potentials (id - 1) value.old }
+        ensures kept { self.new.kept ≡ self.old.kept }
+        ensures before { self.new.before ≡ None }
+    {
+        self.before = None;
+        exchange_node(&mut self.potentials, id, value);
+    }
+
+    /// Exchanges the mark of a node.
+    pub fn swap_mark(&mut self, id: u32, value: &mut bool)
+        requires { IsNode self.old.moment.instance.nodes id }
+        ensures moment { self.new.moment ≡ record self.old.moment { cut = slice_set self.old.moment.cut (id - 1) value.old } }
+        ensures value { value.new ≡ slice_index_or self.old.moment.cut (id - 1) value.old }
+        ensures kept { self.new.kept ≡ self.old.kept }
+        ensures before { self.new.before ≡ None }
+    {
+        self.before = None;
+        exchange_node(&mut self.cut, id, value);
+    }
+
+    /// Exchanges what is told of the instance. Where there is a return arc, its flow goes with the worth that is told.
+    pub fn swap_verdict(&mut self, verdict: &mut Verdict)
+        requires fits { VerdictFits self.old.moment.instance.demand verdict.old }
+        requires worth { TellsReturn self.old.moment }
+        ensures moment { self.new.moment ≡ with_verdict self.old.moment verdict.old }
+        ensures value { verdict.new ≡ self.old.moment.verdict }
+        ensures kept { self.new.kept ≡ self.old.kept }
+        ensures before { self.new.before ≡ None }
+    {
+        self.before = None;
+        carry_worth(
+            &self.graph.net,
+            &self.graph.rows,
+            &mut self.flow,
+            &mut self.balance,
+            *verdict,
+        );
+        let before = self.verdict;
+        self.verdict = *verdict;
+        *verdict = before;
+    }
+
+    /// Exchanges the bounds and the cost of an arc.
+    pub fn swap_row(&mut self, k: u32, row: &mut ArcRow)
+        requires ends { HasEnds self.old.moment.instance.arcs k row.old }
+        requires row { IsRowOf self.old.moment.instance row.old }
+        ensures moment { self.new.moment ≡ record self.old.moment { instance = record self.old.moment.instance { arcs = slice_set self.old.moment.instance.arcs (k - 1) row.old } } }
+        ensures row { row.new ≡ slice_index_or self.old.moment.instance.arcs (k - 1) row.old }
+        ensures kept { self.new.kept ≡ self.old.kept }
+        ensures before { self.new.before ≡ None }
+    {
+        self.before = None;
+        let place = self.graph.first_row() + (k as usize - 1);
+        let cost = self.graph.rows[place].cost;
+        self.balance.cost = reprice(self.balance.cost, cost, row.cost, self.flow.kept[place]);
+        swap_row(&mut self.graph.net, &mut self.graph.rows, k, row);
+    }
+
+    /// Exchanges what a node of a least-cost problem has to send out.
+    pub fn swap_supply(&mut self, id: u32, value: &mut i64)
+        requires kind { kind_of self.old.moment.instance.demand ≡ Min }
+        requires node { IsNode self.old.moment.instance.nodes id }
+        requires limit { IsWithin SUPPLY_LIMIT value.old }
+        ensures moment { self.new.moment ≡ record self.old.moment { instance = record self.old.moment.instance { demand = with_supply self.old.moment.instance.demand id value.old } } }
+        ensures value { value.new ≡ slice_index_or (supplies_in self.old.moment.instance.demand) (id - 1) value.old }
+        ensures kept { self.new.kept ≡ self.old.kept }
+        ensures before { self.new.before ≡ None }
+    {
+        self.before = None;
+        add_difference(
+            &mut self.balance.excess,
+            id as usize,
+            supply_at(&self.graph.net, id),
+            *value,
+        );
+        swap_supply(&mut self.graph.net, &self.graph.rows, id, value);
+    }
+
+    /// Takes the last arc off, and gives its row and its flow.
+    pub fn drop_last(&mut self) -> (ArcRow, i64)
+        requires { 0 < length self.old.moment.instance.arcs }
+        ensures instance { self.old.moment.instance ≡ record self.new.moment.instance { arcs = self.new.moment.instance.arcs ++ result.0 ∷ [] } }
+        ensures flow { self.old.moment.flow ≡ self.new.moment.flow ++ result.1 ∷ [] }
+        ensures rest { self.new.moment ≡ record self.old.moment { instance = self.new.moment.instance; flow = self.new.moment.flow } }
+        ensures kept { length self.old.kept.flow ≡ length (reduced self.new.moment.instance).arcs → self.new.kept ≡ self.old.kept }
+        ensures before { self.new.before ≡ None }
+    {
+        self.before = None;
+        let last = self.graph.rows.len() - 1;
+        let row = self.graph.rows[last];
+        carry_over(&mut self.balance.excess, &row, self.flow.entries[last], 0);
+        self.balance.cost = reprice(self.balance.cost, self.flow.kept[last], 0, row.cost);
+        let row = drop_row(&mut self.graph.net, &mut self.graph.rows);
+        self.graph.star.keep(self.graph.net.arcs());
+        let flow = self.flow.pop();
+        (row, flow)
+    }
+
+    /// Adds an arc with its flow at the end.
+    pub fn put_last(&mut self, row: ArcRow, flow: i64)
+        requires room { length self.old.moment.instance.arcs < self.old.moment.instance.room }
+        requires row { IsRowOf self.old.moment.instance row }
+        requires flow { IsFlow flow }
+        ensures moment { self.new.moment ≡ record self.old.moment {
+          instance = record self.old.moment.instance { arcs = self.old.moment.instance.arcs ++ row ∷ [] };
+          flow = self.old.moment.flow ++ flow ∷ [];
+        } }
+        ensures kept { self.new.kept ≡ self.old.kept }
+        ensures before { self.new.before ≡ None }
+    {
+        self.before = None;
+        carry_over(&mut self.balance.excess, &row, 0, flow);
+        self.balance.cost = reprice(self.balance.cost, 0, flow, row.cost);
+        put_row(&mut self.graph.net, &mut self.graph.rows, row);
+        self.flow.push(flow);
+    }
+}
