@@ -5,6 +5,8 @@ mod differences;
 mod part;
 mod record;
 mod refusal;
+#[cfg(test)]
+mod refused_growths;
 mod session;
 mod swaps;
 #[cfg(test)]

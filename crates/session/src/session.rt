@@ -5,7 +5,7 @@ ghost use Rattle.std.specs.Bool.{OnTrue, OnFalse};
 ghost use Rattle.std.specs.Option.{option_copied};
 ghost use Rattle.history.specs.Boards.{Advances, StepsBack, StepsForward};
 ghost use Rattle.network.specs.Edited.{edited};
-ghost use Rattle.network.specs.Instance.{first};
+ghost use Rattle.network.specs.Instance.{at_node, first};
 ghost use Rattle.flow_solver.specs.Desk.{IsAnswered};
 ghost use Rattle.flow_solver.specs.Edit.{IsChange};
 ghost use Rattle.session.specs.Record.{flow_of};
@@ -92,7 +92,7 @@ impl<A: Allocator + Copy> Session<A> {
         ensures advances { OnOk result (Advances self.old.moments self.new.moments) }
         ensures records { OnOk result ((r : Record A) × (self.new.records ≡ take (length self.old.moments.past) self.old.records ++ r ∷ []) × (place_of r ≡ place_of_edit edit.now)) }
         ensures cause { (number : ℕ) → (result ≡ Err (Refusal.Cause number)) ↔ (edited self.old.moments.present.instance edit.now ≡ Err number) }
-        ensures pushes { IfOk result (λ n. IsChange self.old.moments.present.instance self.new.moments.present.instance edit.now self.old.moments.present.flow self.new.moments.present.flow n) }
+        ensures pushes { IfOk result (λ n. IsChange self.old.moments.present.instance self.new.moments.present.instance edit.now (at_node self.old.moments.present.potentials) self.old.moments.present.flow self.new.moments.present.flow n) }
         ensures refused { OnErr result (self.new ≡ self.old) }
     {
         self.tables.network().edited(edit).map_err(Refusal::Cause)?;
