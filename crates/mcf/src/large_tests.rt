@@ -1,8 +1,5 @@
-use crate::check::check;
-use crate::end::End;
-use crate::interaction::run_session;
-use crate::solve::solve;
-use crate::tests::DIAMOND;
+use crate::tests::{DIAMOND, RIGHT_ANSWER, SINGLE_ARC};
+use crate::{End, check, run_session, solve};
 use dimacs_io::{ReadSource, WriteSink};
 use std::alloc::{AllocError, Global};
 use std::io::Write;
@@ -58,6 +55,11 @@ fn session(rt: &HostRuntime, problem: &[u8], commands: &[u8], extra: u32) -> (En
         extra,
     );
     (end, out)
+}
+
+#[test]
+fn std_streams_serve(rt: HostRuntime) {
+    assert_eq!(rt; checked(&rt, SINGLE_ARC, RIGHT_ANSWER), End::Valid);
 }
 
 #[test]

@@ -3,37 +3,32 @@
 
 ghost use Rattle.std.specs.Prelude.{◌≡◌, ◌<◌, ◌-◌, ◌^◌, ◌⊎◌, ◌<ℤ◌, IfOk, IsTrue, pos};
 ghost use Rattle.std.specs.Fd.{file_raw_fd};
-ghost use Rattle.mcf.specs.declared.end.End.TheVariants as end;
-ghost use Rattle.mcf.specs.End.{status_of};
+ghost use Rattle.checker.specs.declared.end.End.TheVariants as end;
+ghost use Rattle.checker.specs.End.{status_of};
 
-mod check;
 mod command_line;
 mod commands;
 #[cfg(test)]
 mod device_tests;
-mod end;
 mod help;
-mod interaction;
 #[cfg(test)]
 mod large_tests;
 mod parse;
-mod read;
-mod reply;
+#[cfg(test)]
+mod refused_growths;
+#[cfg(test)]
+mod runs;
 #[cfg(test)]
 mod session_tests;
-mod solution;
-mod solve;
 #[cfg(test)]
 mod tests;
 
-use check::check;
+pub use checker::{End, Text, check};
 use clap::error::ErrorKind;
-use command_line::{Task, Usage};
+pub use command_line::{Task, Usage};
 use dimacs_io::{ReadSource, Sink, WriteSink};
-use end::{End, Text};
-use interaction::run_session;
-use parse::task;
-use solve::solve;
+pub use engines::{run_session, solve};
+pub use parse::task;
 use std::fs::File;
 use std::io::BufWriter;
 use std::os::fd::AsRawFd;

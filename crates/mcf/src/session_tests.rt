@@ -1,10 +1,9 @@
-use crate::end::{End, Text};
-use crate::interaction::run_session;
+use crate::runs::{BYTES, Devices, SESSION, run, session};
 use crate::tests::{
     CLOSED_PAIR, DIAMOND, EQUAL_ARCS_SAME_BLOCK, MAX_DIAMOND, MAX_WITHOUT_ARCS, PAIRS,
     PARALLEL_ARCS, PIECES, SINGLE_ARC, SURPLUS,
 };
-use dimacs_io::{Pad, Script};
+use crate::{End, Text};
 use std::test::Fail;
 
 pub const DIAMOND_NARROWED: &[u8] = b"cap 5 3\nundo\nredo\nshow\n";
@@ -12,120 +11,101 @@ pub const DIAMOND_NARROWED: &[u8] = b"cap 5 3\nundo\nredo\nshow\n";
 pub const DIAMOND_NARROWED_REPLIES: &[u8] =
     b"s 14\ns 15\ns 14\ns 15\ns 15\nf 1 2 2\nf 1 3 2\nf 2 3 1\nf 2 4 1\nf 3 4 3\n";
 
-/// Runs a session whose devices pass at most `most` bytes a call.
-fn session(
-    rt: &HostRuntime,
-    problem: &[u8],
-    extra: u32,
-    commands: &[u8],
-    most: usize,
-) -> (End, Pad) {
-    let most = most.max(1);
-    let mut out = Pad::new(most, None);
-    let end = run_session(
-        rt.alloc(),
-        &mut Script::new(problem, most, None),
-        &mut Script::new(commands, most, None),
-        &mut out,
-        extra,
-    );
-    (end, out)
-}
+/// A problem, how many arcs there is room for beside its own, commands, and what is written.
+const SESSIONS: [(&[u8], u32, &[u8], &[u8]); 18] = [
+    (DIAMOND, 1000, DIAMOND_NARROWED, DIAMOND_NARROWED_REPLIES),
+    (
+        DIAMOND,
+        1000,
+        b"cap 5 3\nproof\n",
+        b"s 14\ns 15\ns 15\nf 1 2 2\nf 1 3 2\nf 2 3 1\nf 2 4 1\nf 3 4 3\nv 1 -5\nv 2 -3\nv 3 -2\nv 4 0\n",
+    ),
+    (
+        DIAMOND,
+        1000,
+        b"cap 1 1\nshow\nundo\n",
+        b"s 14\ni 1\ni 1\nk 1\ns 14\n",
+    ),
+    (DIAMOND, 1000, b"cap 5", b"s 14\nr 3\n"),
+    (DIAMOND, 1000, b"cap 5 3", b"s 14\ns 15\n"),
+    (
+        DIAMOND,
+        1000,
+        b"\n \t\r\ncap  5 3 \r\n\n\tundo",
+        b"s 14\ns 15\ns 14\n",
+    ),
+    (
+        SINGLE_ARC,
+        1000,
+        b"supply 1 4\nsupply 2 -4\nundo\nshow\nsupply 3 1\nredo\n",
+        b"s 12\ni 1\ns 16\ni 1\ni 1\nk 1\nk 2\nr 21\ns 16\n",
+    ),
+    (
+        SINGLE_ARC,
+        1000,
+        b"undo\ncap 9 1\nlow 1 6\ncap 1 1000000001\nfly\nshow\n",
+        b"s 12\nr 25\nr 20\nr 22\nr 5\nr 2\ns 12\nf 1 2 3\n",
+    ),
+    (
+        SINGLE_ARC,
+        1000,
+        b"add 1 2 0 5 1\nundo\ncap 2 1\nredo\nundo\ncost 1 3\nredo\n",
+        b"s 12\ns 3\ns 12\nr 20\ns 3\ns 12\ns 9\nr 26\n",
+    ),
+    (
+        SINGLE_ARC,
+        0,
+        b"add 1 2 0 5 1\nadd 1 3 0 5 1\ncap 1 5\nundo\nundo\n",
+        b"s 12\nr 24\nr 21\ns 12\ns 12\nr 25\n",
+    ),
+    (
+        PARALLEL_ARCS,
+        1000,
+        b"low 2 2\nlow 2 3\nclose 2\nundo\n",
+        b"s 6\ns 10\nr 22\ns 2\ns 10\n",
+    ),
+    (
+        SINGLE_ARC,
+        1000,
+        b"add 1 1 0 3 -2\nshow\n",
+        b"s 12\ns 6\ns 6\nf 1 2 3\nf 1 1 3\n",
+    ),
+    (
+        SINGLE_ARC,
+        1000,
+        b"close 1\ncap 1 3\nclose 2\n",
+        b"s 12\ni 3\ns 12\nr 20\n",
+    ),
+    (
+        SURPLUS,
+        1000,
+        b"proof\nsupply 2 -1\n",
+        b"i 1\ni 1\nk 1\nk 2\ns 1\n",
+    ),
+    (
+        MAX_DIAMOND,
+        1000,
+        b"cost 1 2\nclose 5\nshow\nundo\ncap 4 3\nadd 1 4 2\n",
+        b"s 5\nr 23\ns 2\ns 2\nf 1 2 2\nf 1 3 0\nf 2 3 0\nf 2 4 2\nf 3 4 0\ns 5\ns 5\ns 7\n",
+    ),
+    (MAX_WITHOUT_ARCS, 1000, b"", b"s 0\n"),
+    (
+        PAIRS,
+        1000,
+        b"close 2\nadd 3 1 7\ncap 1 1\nundo\nadd 1 4 1\n",
+        b"s 3\ns 9\nr 27\nr 23\ns 3\ns 2\n",
+    ),
+    (
+        CLOSED_PAIR,
+        1000,
+        b"close 1\ncost 1 3\nshow\nundo\nundo\n",
+        b"s -5\ni 1\ni 1\ni 1\nk 1\ni 1\ns -5\n",
+    ),
+];
 
 #[test]
 fn sessions_answer_so_in_any_pieces(rt: HostRuntime) {
-    // A problem, how many arcs there is room for beside its own, commands, and what is written.
-    let cases = [
-        (DIAMOND, 1000, DIAMOND_NARROWED, DIAMOND_NARROWED_REPLIES),
-        (
-            DIAMOND,
-            1000,
-            b"cap 5 3\nproof\n",
-            b"s 14\ns 15\ns 15\nf 1 2 2\nf 1 3 2\nf 2 3 1\nf 2 4 1\nf 3 4 3\nv 1 -5\nv 2 -3\nv 3 -2\nv 4 0\n",
-        ),
-        (
-            DIAMOND,
-            1000,
-            b"cap 1 1\nshow\nundo\n",
-            b"s 14\ni 1\ni 1\nk 1\ns 14\n",
-        ),
-        (DIAMOND, 1000, b"cap 5", b"s 14\nr 3\n"),
-        (DIAMOND, 1000, b"cap 5 3", b"s 14\ns 15\n"),
-        (
-            DIAMOND,
-            1000,
-            b"\n \t\r\ncap  5 3 \r\n\n\tundo",
-            b"s 14\ns 15\ns 14\n",
-        ),
-        (
-            SINGLE_ARC,
-            1000,
-            b"supply 1 4\nsupply 2 -4\nundo\nshow\nsupply 3 1\nredo\n",
-            b"s 12\ni 1\ns 16\ni 1\ni 1\nk 1\nk 2\nr 21\ns 16\n",
-        ),
-        (
-            SINGLE_ARC,
-            1000,
-            b"undo\ncap 9 1\nlow 1 6\ncap 1 1000000001\nfly\nshow\n",
-            b"s 12\nr 25\nr 20\nr 22\nr 5\nr 2\ns 12\nf 1 2 3\n",
-        ),
-        (
-            SINGLE_ARC,
-            1000,
-            b"add 1 2 0 5 1\nundo\ncap 2 1\nredo\nundo\ncost 1 3\nredo\n",
-            b"s 12\ns 3\ns 12\nr 20\ns 3\ns 12\ns 9\nr 26\n",
-        ),
-        (
-            SINGLE_ARC,
-            0,
-            b"add 1 2 0 5 1\nadd 1 3 0 5 1\ncap 1 5\nundo\nundo\n",
-            b"s 12\nr 24\nr 21\ns 12\ns 12\nr 25\n",
-        ),
-        (
-            PARALLEL_ARCS,
-            1000,
-            b"low 2 2\nlow 2 3\nclose 2\nundo\n",
-            b"s 6\ns 10\nr 22\ns 2\ns 10\n",
-        ),
-        (
-            SINGLE_ARC,
-            1000,
-            b"add 1 1 0 3 -2\nshow\n",
-            b"s 12\ns 6\ns 6\nf 1 2 3\nf 1 1 3\n",
-        ),
-        (
-            SINGLE_ARC,
-            1000,
-            b"close 1\ncap 1 3\nclose 2\n",
-            b"s 12\ni 3\ns 12\nr 20\n",
-        ),
-        (
-            SURPLUS,
-            1000,
-            b"proof\nsupply 2 -1\n",
-            b"i 1\ni 1\nk 1\nk 2\ns 1\n",
-        ),
-        (
-            MAX_DIAMOND,
-            1000,
-            b"cost 1 2\nclose 5\nshow\nundo\ncap 4 3\nadd 1 4 2\n",
-            b"s 5\nr 23\ns 2\ns 2\nf 1 2 2\nf 1 3 0\nf 2 3 0\nf 2 4 2\nf 3 4 0\ns 5\ns 5\ns 7\n",
-        ),
-        (MAX_WITHOUT_ARCS, 1000, b"", b"s 0\n"),
-        (
-            PAIRS,
-            1000,
-            b"close 2\nadd 3 1 7\ncap 1 1\nundo\nadd 1 4 1\n",
-            b"s 3\ns 9\nr 27\nr 23\ns 3\ns 2\n",
-        ),
-        (
-            CLOSED_PAIR,
-            1000,
-            b"close 1\ncost 1 3\nshow\nundo\nundo\n",
-            b"s -5\ni 1\ni 1\ni 1\nk 1\ni 1\ns -5\n",
-        ),
-    ];
-    for (problem, extra, commands, replies) in cases {
+    for (problem, extra, commands, replies) in SESSIONS {
         for most in PIECES {
             let (end, out) = session(&rt, problem, extra, commands, most);
             assert_eq!(rt; end, End::Ended);
@@ -170,58 +150,56 @@ fn a_command_of_1025_bytes_is_refused(rt: HostRuntime) -> Result<(), Fail> {
 
 #[test]
 fn a_reply_comes_before_the_next_read(rt: HostRuntime) {
-    // The first command is the first eight bytes; its reply is the third call of the output.
-    let mut commands = Script::new(DIAMOND_NARROWED, 1, Some(9));
-    let mut out = Pad::new(100, Some(3));
-    let end = run_session(
-        rt.alloc(),
-        &mut Script::new(DIAMOND, 100, None),
-        &mut commands,
-        &mut out,
-        1000,
-    );
+    // The first command is the first eight bytes. Five bytes and a flush come before its reply.
+    let devices = Devices {
+        other_fails: Some(9),
+        out_fails: Some(7),
+        ..BYTES
+    };
+    let (end, out) = run(&rt, SESSION, DIAMOND, DIAMOND_NARROWED, devices);
     assert_eq!(rt; end, End::WriteFailed);
     assert_eq!(rt; out.held(), b"s 14\n".as_slice());
 }
 
+/// A problem, from which call on its reading fails, commands of which 100 bytes are read, how the session ends, and what is written.
+const FAILED_READS: [(&[u8], Option<u64>, &[u8], End, &[u8]); 3] = [
+    (
+        DIAMOND,
+        None,
+        b"cap 5 3\nund",
+        End::ReadFailed(Text::Commands),
+        b"s 14\ns 15\n",
+    ),
+    (
+        DIAMOND,
+        Some(2),
+        DIAMOND_NARROWED,
+        End::ReadFailed(Text::Problem),
+        b"",
+    ),
+    (
+        b"x 1\n",
+        Some(2),
+        DIAMOND_NARROWED,
+        End::Refused {
+            input: Text::Problem,
+            number: 2,
+            line: 1,
+        },
+        b"",
+    ),
+];
+
 #[test]
 fn a_failed_read_ends_a_session(rt: HostRuntime) {
-    let cases = [
-        (
-            DIAMOND,
-            None,
-            b"cap 5 3\nund".as_slice(),
-            End::ReadFailed(Text::Commands),
-            b"s 14\ns 15\n".as_slice(),
-        ),
-        (
-            DIAMOND,
-            Some(2),
-            DIAMOND_NARROWED,
-            End::ReadFailed(Text::Problem),
-            b"",
-        ),
-        (
-            b"x 1\n",
-            Some(2),
-            DIAMOND_NARROWED,
-            End::Refused {
-                input: Text::Problem,
-                number: 2,
-                line: 1,
-            },
-            b"",
-        ),
-    ];
-    for (problem, fails, commands, want, replies) in cases {
-        let mut out = Pad::new(100, None);
-        let end = run_session(
-            rt.alloc(),
-            &mut Script::new(problem, 100, fails),
-            &mut Script::new(commands, 100, Some(2)),
-            &mut out,
-            1000,
-        );
+    for (problem, fails, commands, want, replies) in FAILED_READS {
+        let devices = Devices {
+            most: 100,
+            problem_fails: fails,
+            other_fails: Some(2),
+            out_fails: None,
+        };
+        let (end, out) = run(&rt, SESSION, problem, commands, devices);
         assert_eq!(rt; end, want);
         assert_eq!(rt; out.held(), replies);
     }
@@ -232,14 +210,11 @@ fn nothing_follows_a_failed_write_in_a_session(rt: HostRuntime) {
     // A call for each byte, and a flush after the opening line and after each of four replies.
     let calls = DIAMOND_NARROWED_REPLIES.len() as u64 + 5;
     for fails in 1..=calls + 1 {
-        let mut out = Pad::new(1, Some(fails));
-        let end = run_session(
-            rt.alloc(),
-            &mut Script::new(DIAMOND, 100, None),
-            &mut Script::new(DIAMOND_NARROWED, 100, None),
-            &mut out,
-            1000,
-        );
+        let devices = Devices {
+            out_fails: Some(fails),
+            ..BYTES
+        };
+        let (end, out) = run(&rt, SESSION, DIAMOND, DIAMOND_NARROWED, devices);
         assert!(rt; DIAMOND_NARROWED_REPLIES.starts_with(out.held()));
         assert_eq!(rt;
             end,
@@ -251,14 +226,12 @@ fn nothing_follows_a_failed_write_in_a_session(rt: HostRuntime) {
         );
     }
     // The first flush fails.
-    let mut out = Pad::new(100, Some(2));
-    let end = run_session(
-        rt.alloc(),
-        &mut Script::new(DIAMOND, 100, None),
-        &mut Script::new(DIAMOND_NARROWED, 100, None),
-        &mut out,
-        1000,
-    );
+    let devices = Devices {
+        most: 100,
+        out_fails: Some(2),
+        ..BYTES
+    };
+    let (end, out) = run(&rt, SESSION, DIAMOND, DIAMOND_NARROWED, devices);
     assert_eq!(rt; end, End::WriteFailed);
     assert_eq!(rt; out.held(), b"s 14\n".as_slice());
 }

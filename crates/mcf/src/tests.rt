@@ -1,10 +1,9 @@
-use crate::check::check;
 use crate::command_line::{Task, Usage};
-use crate::end::{End, Text};
 use crate::parse::task;
-use crate::solve::solve;
+use crate::runs::{BYTES, Devices, Engine, checked, run, solved};
+use crate::{End, Text};
 use clap::error::ErrorKind;
-use dimacs_io::{Pad, ReadSource, Script, WriteSink};
+use dimacs_io::Pad;
 use std::alloc::AllocError;
 use std::test::Fail;
 
@@ -92,32 +91,6 @@ fn refused(input: Text, number: u8, line: u64) -> End {
     }
 }
 
-/// Checks texts that come in pieces of at most `most` bytes, and says how that ends and what is written.
-fn checked(rt: &HostRuntime, problem: &[u8], answer: &[u8], most: usize) -> (End, Pad) {
-    let most = most.max(1);
-    let mut out = Pad::new(most, None);
-    let end = check(
-        rt.alloc(),
-        &mut Script::new(problem, most, None),
-        &mut Script::new(answer, most, None),
-        &mut out,
-    );
-    (end, out)
-}
-
-/// Solves a text that comes in pieces of at most `most` bytes, and says how that ends and what is written.
-fn solved(rt: &HostRuntime, problem: &[u8], proof: bool, most: usize) -> (End, Pad) {
-    let most = most.max(1);
-    let mut out = Pad::new(most, None);
-    let end = solve(
-        rt.alloc(),
-        &mut Script::new(problem, most, None),
-        &mut out,
-        proof,
-    );
-    (end, out)
-}
-
 /// Whether each engine refuses a problem text for this fault, in any pieces, and writes nothing.
 fn is_refused(rt: &HostRuntime, problem: &[u8], number: u8, line: u64) -> bool {
     let want = refused(Text::Problem, number, line);
@@ -157,48 +130,70 @@ fn faulty_problems_are_refused_by_each_engine(rt: HostRuntime) -> Result<(), Fai
     Ok(())
 }
 
+/// A problem, an answer to it, and how the check of the two ends.
+const CHECKED: [(&[u8], &[u8], End); 21] = [
+    (SINGLE_ARC, RIGHT_ANSWER, End::Valid),
+    (SINGLE_ARC, b"s 12\nf 1 2 3\nv 1 -5\nv 2 -1", End::Valid),
+    (SINGLE_ARC, b"s 13\nf 1 2 3\nv 1 -4\nv 2 0\n", End::NotValid),
+    (SINGLE_ARC, b"s 12\nf 2 1 3\nv 1 -4\nv 2 0\n", End::NotValid),
+    (SINGLE_ARC, b"s 12\nf 1 2 3\nv 1 0\nv 2 0\n", End::NotValid),
+    (
+        SINGLE_ARC,
+        b"s 12\nf 1 2 3\nv 1 -10000000000001\nv 2 -9999999999997\n",
+        End::NotValid,
+    ),
+    (LONE_NODE, b"s 0\nv 1 0\n", End::Valid),
+    (LONE_NODE, b"s 0\nv 1 1\n", End::NotValid),
+    (
+        SINGLE_ARC,
+        b"s 12\nf 1 2 3\nv 1 -4\n",
+        End::Refused {
+            input: Text::Answer,
+            number: 40,
+            line: 3,
+        },
+    ),
+    (
+        SINGLE_ARC,
+        b"s 12\nf 1 2 3\n",
+        End::Refused {
+            input: Text::Answer,
+            number: 40,
+            line: 2,
+        },
+    ),
+    (SURPLUS, b"i 1\nk 1\nk 2\n", End::Valid),
+    (SURPLUS, b"i 2\nk 1\nk 2\n", End::NotValid),
+    (SURPLUS, b"i 1\nk 1\n", End::NotValid),
+    (SURPLUS, b"i 1\n", End::NotValid),
+    (
+        SURPLUS,
+        b"i 1\nk 2\nk 1\n",
+        End::Refused {
+            input: Text::Answer,
+            number: 40,
+            line: 3,
+        },
+    ),
+    (FIRST_FORM_COMES_FIRST, b"i 1\nk 1\n", End::Valid),
+    (FIRST_FORM_COMES_FIRST, b"i 2\nk 2\n", End::Valid),
+    (FIRST_FORM_COMES_FIRST, b"i 2\nk 1\nk 2\nk 3\n", End::Valid),
+    (FIRST_FORM_COMES_FIRST, b"i 3\nk 2\n", End::NotValid),
+    (
+        MAX_TWO_BEST_FLOWS,
+        b"s 1\nf 1 2 2\nf 2 1 1\nf 2 3 1\nv 1 -1\nv 2 -1\nv 3 0\n",
+        End::Valid,
+    ),
+    (
+        MAX_TWO_BEST_FLOWS,
+        b"s 2\nf 1 2 2\nf 2 1 1\nf 2 3 1\nv 1 -1\nv 2 -1\nv 3 0\n",
+        End::NotValid,
+    ),
+];
+
 #[test]
 fn worked_examples_end_so_in_any_pieces(rt: HostRuntime) {
-    let cases = [
-        (SINGLE_ARC, RIGHT_ANSWER, End::Valid),
-        (SINGLE_ARC, b"s 12\nf 1 2 3\nv 1 -5\nv 2 -1", End::Valid),
-        (SINGLE_ARC, b"s 13\nf 1 2 3\nv 1 -4\nv 2 0\n", End::NotValid),
-        (SINGLE_ARC, b"s 12\nf 2 1 3\nv 1 -4\nv 2 0\n", End::NotValid),
-        (SINGLE_ARC, b"s 12\nf 1 2 3\nv 1 0\nv 2 0\n", End::NotValid),
-        (
-            SINGLE_ARC,
-            b"s 12\nf 1 2 3\nv 1 -10000000000001\nv 2 -9999999999997\n",
-            End::NotValid,
-        ),
-        (LONE_NODE, b"s 0\nv 1 0\n", End::Valid),
-        (LONE_NODE, b"s 0\nv 1 1\n", End::NotValid),
-        (
-            SINGLE_ARC,
-            b"s 12\nf 1 2 3\nv 1 -4\n",
-            refused(Text::Answer, 40, 3),
-        ),
-        (SINGLE_ARC, b"s 12\nf 1 2 3\n", refused(Text::Answer, 40, 2)),
-        (SURPLUS, b"i 1\nk 1\nk 2\n", End::Valid),
-        (SURPLUS, b"i 2\nk 1\nk 2\n", End::NotValid),
-        (SURPLUS, b"i 1\nk 1\n", End::NotValid),
-        (SURPLUS, b"i 1\n", End::NotValid),
-        (SURPLUS, b"i 1\nk 2\nk 1\n", refused(Text::Answer, 40, 3)),
-        (FIRST_FORM_COMES_FIRST, b"i 1\nk 1\n", End::Valid),
-        (FIRST_FORM_COMES_FIRST, b"i 2\nk 2\n", End::Valid),
-        (FIRST_FORM_COMES_FIRST, b"i 2\nk 1\nk 2\nk 3\n", End::Valid),
-        (FIRST_FORM_COMES_FIRST, b"i 3\nk 2\n", End::NotValid),
-        (
-            MAX_TWO_BEST_FLOWS,
-            b"s 1\nf 1 2 2\nf 2 1 1\nf 2 3 1\nv 1 -1\nv 2 -1\nv 3 0\n",
-            End::Valid,
-        ),
-        (
-            MAX_TWO_BEST_FLOWS,
-            b"s 2\nf 1 2 2\nf 2 1 1\nf 2 3 1\nv 1 -1\nv 2 -1\nv 3 0\n",
-            End::NotValid,
-        ),
-    ];
-    for (problem, answer, want) in cases {
+    for (problem, answer, want) in CHECKED {
         for most in PIECES {
             let (end, out) = checked(&rt, problem, answer, most);
             assert_eq!(rt; end, want);
@@ -212,73 +207,70 @@ fn worked_examples_end_so_in_any_pieces(rt: HostRuntime) {
     }
 }
 
+/// A problem, whether a proof is asked for, how its solution ends, and what is written.
+const SOLVED: [(&[u8], bool, End, &[u8]); 17] = [
+    (SINGLE_ARC, false, End::Solved, b"s 12\nf 1 2 3\n"),
+    (
+        SINGLE_ARC,
+        true,
+        End::Solved,
+        b"s 12\nf 1 2 3\nv 1 -4\nv 2 0\n",
+    ),
+    (DIAMOND, true, End::Solved, DIAMOND_SOLVED),
+    (LONE_NODE, false, End::Solved, b"s 0\n"),
+    (LONE_NODE, true, End::Solved, b"s 0\nv 1 0\n"),
+    (
+        GAINFUL_CYCLE,
+        false,
+        End::Solved,
+        b"s -3\nf 1 2 3\nf 2 1 3\n",
+    ),
+    (SURPLUS, true, End::Infeasible, b"i 1\nk 1\nk 2\n"),
+    (DEFICIT, false, End::Infeasible, b"i 1\nk 1\nk 2\n"),
+    (
+        PARALLEL_ARCS,
+        false,
+        End::Solved,
+        b"s 6\nf 1 2 1\nf 1 2 1\n",
+    ),
+    (
+        GREATEST_PRODUCT,
+        false,
+        End::Solved,
+        b"s 1000000000000000000\nf 1 2 1000000000\n",
+    ),
+    (UNFED_LOWER_BOUND, false, End::Infeasible, b"i 2\nk 2\n"),
+    (
+        FIRST_FORM_COMES_FIRST,
+        false,
+        End::Infeasible,
+        b"i 1\nk 1\n",
+    ),
+    (
+        MAX_DIAMOND,
+        true,
+        End::Solved,
+        b"s 5\nf 1 2 3\nf 1 3 2\nf 2 3 1\nf 2 4 2\nf 3 4 3\nv 1 -1\nv 2 0\nv 3 0\nv 4 0\n",
+    ),
+    (MAX_WITHOUT_ARCS, false, End::Solved, b"s 0\n"),
+    (
+        PAIRS,
+        true,
+        End::Solved,
+        b"s 3\nf 1 3 0\nf 1 4 1\nf 2 3 1\nf 2 4 0\nv 1 -2\nv 2 -1\nv 3 0\nv 4 0\n",
+    ),
+    (
+        ONE_AGAINST_TWO,
+        false,
+        End::Infeasible,
+        b"i 1\nk 1\nk 2\nk 3\n",
+    ),
+    (LONE_SINK_SIDE_NODE, false, End::Infeasible, b"i 1\nk 1\n"),
+];
+
 #[test]
 fn problems_are_solved_in_any_pieces(rt: HostRuntime) {
-    let cases = [
-        (
-            SINGLE_ARC,
-            false,
-            End::Solved,
-            b"s 12\nf 1 2 3\n".as_slice(),
-        ),
-        (
-            SINGLE_ARC,
-            true,
-            End::Solved,
-            b"s 12\nf 1 2 3\nv 1 -4\nv 2 0\n",
-        ),
-        (DIAMOND, true, End::Solved, DIAMOND_SOLVED),
-        (LONE_NODE, false, End::Solved, b"s 0\n"),
-        (LONE_NODE, true, End::Solved, b"s 0\nv 1 0\n"),
-        (
-            GAINFUL_CYCLE,
-            false,
-            End::Solved,
-            b"s -3\nf 1 2 3\nf 2 1 3\n",
-        ),
-        (SURPLUS, true, End::Infeasible, b"i 1\nk 1\nk 2\n"),
-        (DEFICIT, false, End::Infeasible, b"i 1\nk 1\nk 2\n"),
-        (
-            PARALLEL_ARCS,
-            false,
-            End::Solved,
-            b"s 6\nf 1 2 1\nf 1 2 1\n",
-        ),
-        (
-            GREATEST_PRODUCT,
-            false,
-            End::Solved,
-            b"s 1000000000000000000\nf 1 2 1000000000\n",
-        ),
-        (UNFED_LOWER_BOUND, false, End::Infeasible, b"i 2\nk 2\n"),
-        (
-            FIRST_FORM_COMES_FIRST,
-            false,
-            End::Infeasible,
-            b"i 1\nk 1\n",
-        ),
-        (
-            MAX_DIAMOND,
-            true,
-            End::Solved,
-            b"s 5\nf 1 2 3\nf 1 3 2\nf 2 3 1\nf 2 4 2\nf 3 4 3\nv 1 -1\nv 2 0\nv 3 0\nv 4 0\n",
-        ),
-        (MAX_WITHOUT_ARCS, false, End::Solved, b"s 0\n"),
-        (
-            PAIRS,
-            true,
-            End::Solved,
-            b"s 3\nf 1 3 0\nf 1 4 1\nf 2 3 1\nf 2 4 0\nv 1 -2\nv 2 -1\nv 3 0\nv 4 0\n",
-        ),
-        (
-            ONE_AGAINST_TWO,
-            false,
-            End::Infeasible,
-            b"i 1\nk 1\nk 2\nk 3\n",
-        ),
-        (LONE_SINK_SIDE_NODE, false, End::Infeasible, b"i 1\nk 1\n"),
-    ];
-    for (problem, proof, want, text) in cases {
+    for (problem, proof, want, text) in SOLVED {
         // The last line may lack its LF.
         for input in [problem, problem.strip_suffix(b"\n").unwrap_or(problem)] {
             for most in PIECES {
@@ -329,29 +321,31 @@ fn a_comment_of_1024_bytes_is_skipped(rt: HostRuntime) -> Result<(), Fail> {
     Ok(())
 }
 
+/// Problems whose solutions are checked.
+const PROBLEMS: [&[u8]; 18] = [
+    SINGLE_ARC,
+    DIAMOND,
+    LONE_NODE,
+    GAINFUL_CYCLE,
+    SURPLUS,
+    DEFICIT,
+    PARALLEL_ARCS,
+    GREATEST_PRODUCT,
+    UNFED_LOWER_BOUND,
+    FIRST_FORM_COMES_FIRST,
+    EQUAL_ARCS_SAME_BLOCK,
+    MAX_DIAMOND,
+    MAX_WITHOUT_ARCS,
+    MAX_TWO_BEST_FLOWS,
+    PAIRS,
+    ONE_AGAINST_TWO,
+    CLOSED_PAIR,
+    LONE_SINK_SIDE_NODE,
+];
+
 #[test]
 fn what_is_solved_is_valid(rt: HostRuntime) {
-    let problems = [
-        SINGLE_ARC,
-        DIAMOND,
-        LONE_NODE,
-        GAINFUL_CYCLE,
-        SURPLUS,
-        DEFICIT,
-        PARALLEL_ARCS,
-        GREATEST_PRODUCT,
-        UNFED_LOWER_BOUND,
-        FIRST_FORM_COMES_FIRST,
-        EQUAL_ARCS_SAME_BLOCK,
-        MAX_DIAMOND,
-        MAX_WITHOUT_ARCS,
-        MAX_TWO_BEST_FLOWS,
-        PAIRS,
-        ONE_AGAINST_TWO,
-        CLOSED_PAIR,
-        LONE_SINK_SIDE_NODE,
-    ];
-    for problem in problems {
+    for problem in PROBLEMS {
         let (_, solution) = solved(&rt, problem, true, 100);
         let (end, _) = checked(&rt, problem, solution.held(), 7);
         assert_eq!(rt; end, End::Valid);
@@ -366,66 +360,64 @@ fn a_failed_read_is_told_unless_a_fault_came_first(rt: HostRuntime) {
         (SINGLE_ARC, End::ReadFailed(Text::Problem)),
     ];
     for (problem, want) in cases {
-        let mut out = Pad::new(1, None);
-        let end = check(
-            rt.alloc(),
-            &mut Script::new(problem, 100, Some(2)),
-            &mut Script::new(RIGHT_ANSWER, 100, None),
-            &mut out,
-        );
+        let devices = Devices {
+            most: 100,
+            problem_fails: Some(2),
+            ..BYTES
+        };
+        let (end, out) = run(&rt, Engine::Check, problem, RIGHT_ANSWER, devices);
         assert_eq!(rt; end, want);
         assert!(rt; out.held().is_empty());
     }
 }
 
-#[test]
-fn std_streams_serve(rt: HostRuntime) {
-    let end = check(
-        rt.alloc(),
-        &mut ReadSource::new(SINGLE_ARC),
-        &mut ReadSource::new(RIGHT_ANSWER),
-        &mut WriteSink::new(Vec::new(rt.alloc())),
-    );
-    assert_eq!(rt; end, End::Valid);
-}
+/// An end, its status, and the line that is told of it.
+const ENDS: [(End, u8, &[u8]); 12] = [
+    (End::Solved, 0, b""),
+    (End::Ended, 0, b""),
+    (End::Valid, 0, b""),
+    (End::Infeasible, 1, b""),
+    (End::NotValid, 1, b""),
+    (
+        End::Refused {
+            input: Text::Problem,
+            number: 14,
+            line: 0,
+        },
+        3,
+        b"mcf: problem line 0: fault 14\n",
+    ),
+    (
+        End::Refused {
+            input: Text::Answer,
+            number: 40,
+            line: 18_446_744_073_709_551_615,
+        },
+        3,
+        b"mcf: answer line 18446744073709551615: fault 40\n",
+    ),
+    (
+        End::ReadFailed(Text::Problem),
+        4,
+        b"mcf: problem: read failed\n",
+    ),
+    (
+        End::ReadFailed(Text::Answer),
+        4,
+        b"mcf: answer: read failed\n",
+    ),
+    (
+        End::ReadFailed(Text::Commands),
+        4,
+        b"mcf: commands: read failed\n",
+    ),
+    (End::WriteFailed, 4, b"mcf: output: write failed\n"),
+    (End::Memory, 5, b"mcf: want of memory\n"),
+];
 
 #[test]
 fn an_end_has_a_status_and_a_line(rt: HostRuntime) {
-    let cases = [
-        (End::Solved, 0, b"".as_slice()),
-        (End::Ended, 0, b""),
-        (End::Valid, 0, b""),
-        (End::Infeasible, 1, b""),
-        (End::NotValid, 1, b""),
-        (
-            refused(Text::Problem, 14, 0),
-            3,
-            b"mcf: problem line 0: fault 14\n",
-        ),
-        (
-            refused(Text::Answer, 40, 18_446_744_073_709_551_615),
-            3,
-            b"mcf: answer line 18446744073709551615: fault 40\n",
-        ),
-        (
-            End::ReadFailed(Text::Problem),
-            4,
-            b"mcf: problem: read failed\n",
-        ),
-        (
-            End::ReadFailed(Text::Answer),
-            4,
-            b"mcf: answer: read failed\n",
-        ),
-        (
-            End::ReadFailed(Text::Commands),
-            4,
-            b"mcf: commands: read failed\n",
-        ),
-        (End::WriteFailed, 4, b"mcf: output: write failed\n"),
-        (End::Memory, 5, b"mcf: want of memory\n"),
-    ];
-    for (end, status, line) in cases {
+    for (end, status, line) in ENDS {
         let mut err = Pad::new(3, None);
         assert!(rt; end.tell(&mut err).is_ok());
         assert_eq!(rt; err.held(), line);
@@ -441,96 +433,100 @@ fn words(rt: &HostRuntime, line: &str) -> Result<Vec<String>, AllocError> {
     Ok(words)
 }
 
+/// A command line, and the task that it names.
+const TASKS: [(&str, Task); 7] = [
+    (
+        "mcf solve --proof net.min",
+        Task::Solve {
+            proof: true,
+            file: Some("net.min"),
+        },
+    ),
+    (
+        "mcf solve",
+        Task::Solve {
+            proof: false,
+            file: None,
+        },
+    ),
+    (
+        "mcf check net.min net.sol",
+        Task::Check {
+            problem: "net.min",
+            answer: "net.sol",
+        },
+    ),
+    (
+        "mcf check -- --proof -",
+        Task::Check {
+            problem: "--proof",
+            answer: "-",
+        },
+    ),
+    (
+        "mcf session net.min",
+        Task::Session {
+            problem: "net.min",
+            extra: 1000,
+        },
+    ),
+    (
+        "mcf session --extra 0 net.min",
+        Task::Session {
+            problem: "net.min",
+            extra: 0,
+        },
+    ),
+    (
+        "mcf session net.min --extra=100000",
+        Task::Session {
+            problem: "net.min",
+            extra: 100_000,
+        },
+    ),
+];
+
 #[test]
 fn words_name_a_task(rt: HostRuntime) -> Result<(), Fail> {
-    let cases = [
-        (
-            "mcf solve --proof net.min",
-            Task::Solve {
-                proof: true,
-                file: Some("net.min"),
-            },
-        ),
-        (
-            "mcf solve",
-            Task::Solve {
-                proof: false,
-                file: None,
-            },
-        ),
-        (
-            "mcf check net.min net.sol",
-            Task::Check {
-                problem: "net.min",
-                answer: "net.sol",
-            },
-        ),
-        (
-            "mcf check -- --proof -",
-            Task::Check {
-                problem: "--proof",
-                answer: "-",
-            },
-        ),
-        (
-            "mcf session net.min",
-            Task::Session {
-                problem: "net.min",
-                extra: 1000,
-            },
-        ),
-        (
-            "mcf session --extra 0 net.min",
-            Task::Session {
-                problem: "net.min",
-                extra: 0,
-            },
-        ),
-        (
-            "mcf session net.min --extra=100000",
-            Task::Session {
-                problem: "net.min",
-                extra: 100_000,
-            },
-        ),
-    ];
-    for (line, want) in cases {
+    for (line, want) in TASKS {
         let line = words(&rt, line)?;
         assert!(rt; matches!(task(rt.alloc(), &line), Ok(found) if found == want));
     }
     Ok(())
 }
 
+/// A command line that names no task, and why.
+const REFUSED_WORDS: [(&str, ErrorKind); 16] = [
+    ("mcf", ErrorKind::MissingSubcommand),
+    ("mcf check", ErrorKind::MissingRequiredArgument),
+    ("mcf check net.min", ErrorKind::MissingRequiredArgument),
+    ("mcf check net.min net.sol more", ErrorKind::UnknownArgument),
+    (
+        "mcf check --proof net.min net.sol",
+        ErrorKind::UnknownArgument,
+    ),
+    ("mcf session", ErrorKind::MissingRequiredArgument),
+    ("mcf session net.min more", ErrorKind::UnknownArgument),
+    ("mcf session --proof net.min", ErrorKind::UnknownArgument),
+    (
+        "mcf session --extra 100001 net.min",
+        ErrorKind::ValueValidation,
+    ),
+    (
+        "mcf session --extra many net.min",
+        ErrorKind::ValueValidation,
+    ),
+    ("mcf session net.min --extra", ErrorKind::InvalidValue),
+    ("mcf chek net.min net.sol", ErrorKind::InvalidSubcommand),
+    ("mcf --help", ErrorKind::DisplayHelp),
+    ("mcf session --help", ErrorKind::DisplayHelp),
+    ("mcf help", ErrorKind::DisplayHelp),
+    ("mcf --version", ErrorKind::DisplayVersion),
+];
+
 #[test]
 fn other_words_are_refused(rt: HostRuntime) -> Result<(), Fail> {
-    let cases = [
-        ("mcf", ErrorKind::MissingSubcommand),
-        ("mcf check", ErrorKind::MissingRequiredArgument),
-        ("mcf check net.min", ErrorKind::MissingRequiredArgument),
-        ("mcf check net.min net.sol more", ErrorKind::UnknownArgument),
-        (
-            "mcf check --proof net.min net.sol",
-            ErrorKind::UnknownArgument,
-        ),
-        ("mcf session", ErrorKind::MissingRequiredArgument),
-        ("mcf session net.min more", ErrorKind::UnknownArgument),
-        ("mcf session --proof net.min", ErrorKind::UnknownArgument),
-        (
-            "mcf session --extra 100001 net.min",
-            ErrorKind::ValueValidation,
-        ),
-        (
-            "mcf session --extra many net.min",
-            ErrorKind::ValueValidation,
-        ),
-        ("mcf session net.min --extra", ErrorKind::InvalidValue),
-        ("mcf chek net.min net.sol", ErrorKind::InvalidSubcommand),
-        ("mcf --help", ErrorKind::DisplayHelp),
-        ("mcf session --help", ErrorKind::DisplayHelp),
-        ("mcf help", ErrorKind::DisplayHelp),
-        ("mcf --version", ErrorKind::DisplayVersion),
-    ];
-    for (line, want) in cases {
+    for (line, want) in REFUSED_WORDS {
         let line = words(&rt, line)?;
         match task(rt.alloc(), &line) {
             Err(Usage::Words(error)) => assert_eq!(rt; error.kind(), want),

@@ -1,0 +1,3 @@
+pub mod SourceLemmas
+pub mod ReadLemmas
+pub mod CheckLemmas

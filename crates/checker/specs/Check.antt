@@ -1,0 +1,133 @@
+-- When an answer is right, and what `check` writes of it.
+use Rattle.std.specs.Prelude.{◌≡◌, ℕ, ℤ, ◌-◌, ◌↔◌, IsTrue, Bool, true, false, List, [], ◌∷◌, ◌++◌, length, take, map, replicate, set, Option, None, Some, Ok, Err, IfSome, codes}
+use Rattle.std.specs.List.{AllZip}
+use Rattle.dimacs_io.specs.Device.{IsBeginning}
+use Rattle.dimacs_text.specs.declared.problem.ArcRow.{ArcRow}
+use Rattle.dimacs_text.specs.declared.answer.FlowLine.{FlowLine}
+use Rattle.dimacs_text.specs.declared.answer.Answer.{Answer}
+use Rattle.dimacs_text.specs.declared.answer.Answer.TheVariants.{Flow, Cut}
+use Rattle.dimacs_text.specs.declared.fault.TextFault.TheVariants.{Fault}
+use Rattle.dimacs_text.specs.Stream.{decided}
+use Rattle.dimacs_text.specs.Reading.{ProblemValue, problem_rule, reads}
+use Rattle.dimacs_text.specs.Answer.{answer_rule, answers}
+use Rattle.network.specs.Instance.{IsBest, IsBestAnswer, IsCutAnswer, IsLegal, first}
+use Rattle.checker.specs.declared.end.Text.TheVariants as the
+use Rattle.checker.specs.declared.end.End.{End}
+use Rattle.checker.specs.declared.end.End.TheVariants.{Solved, Infeasible, Ended, Valid, NotValid, Refused, ReadFailed, WriteFailed, Memory}
+
+-- ---- a right answer
+
+-- an `f` line names the ends of its arc
+pub record NamesEnds (arc : ArcRow) (line : FlowLine) : Type 0 where
+  pub tail : line.tail ≡ arc.tail
+  pub head : line.head ≡ arc.head
+
+-- there is one `f` line an arc, in the order of the arcs, and each names its ends
+abbrev pub NameEnds : List ArcRow → List FlowLine → Type 0
+NameEnds arcs lines = AllZip NamesEnds arcs lines
+
+-- the flows that the `f` lines say
+abbrev pub flow_of_lines : List FlowLine → List ℤ
+flow_of_lines lines = map (λ line. line.flow) lines
+
+-- more nodes are marked
+abbrev pub mark_all : List Bool → List ℕ → List Bool
+mark_all marks [] = marks
+mark_all marks (id ∷ ids) = mark_all (set marks (id - 1) true) ids
+
+-- one mark a node, which says whether the node is listed
+abbrev pub marks_of : ℕ → List ℕ → List Bool
+marks_of nodes ids = mark_all (replicate nodes false) ids
+
+-- a flow with the ends of the arcs, its worth and potentials that certify it; or a breach by so much
+abbrev pub IsRight : ProblemValue → Answer → Type 0
+IsRight problem (Flow value lines potentials) = NameEnds problem.arcs lines × IsBestAnswer (first problem 0) (flow_of_lines lines) potentials value
+IsRight problem (Cut shortage ids) = IsCutAnswer (first problem 0) (marks_of problem.nodes ids) shortage
+
+-- what a right answer shows: no legal flow is better, or there is none
+abbrev pub Settles : Answer → ProblemValue → Type 0
+Settles (Flow value lines potentials) problem = IsBest (first problem 0) (flow_of_lines lines)
+Settles (Cut shortage ids) problem = (flow : List ℤ) → IsLegal (first problem 0) flow → ⊥
+
+abbrev pub verdict_line : Bool → List ℕ
+verdict_line true = codes "valid\n"
+verdict_line false = codes "not valid\n"
+
+-- ---- what is written, over the texts of the sources and the first bytes of them that were given
+
+-- the whole text was given, and it is a problem
+pub record IsProblemText (text given : List ℕ) (problem : ProblemValue) : Type 0 where
+  pub whole : given ≡ text
+  pub problem_is : reads text ≡ Ok problem
+
+-- the whole text was given, and it is an answer to the problem
+pub record IsAnswerText (problem : ProblemValue) (text given : List ℕ) (answer : Answer) : Type 0 where
+  pub whole : given ≡ text
+  pub answer_is : answers problem.nodes (length problem.arcs) text ≡ Ok answer
+
+-- the answer that the two texts give is right exactly where the test is true
+pub record Judges (problem_text problem_given answer_text answer_given : List ℕ) (right : Bool) : Type 0 where
+  pub problem : ProblemValue
+  pub problem_read : IsProblemText problem_text problem_given problem
+  pub answer : Answer
+  pub answer_read : IsAnswerText problem answer_text answer_given answer
+  pub exact : IsTrue right ↔ IsRight problem answer
+
+-- what was written, by how the run ends
+abbrev pub CheckWrites : End → List ℕ → List ℕ → List ℕ → List ℕ → List ℕ → Type 0
+CheckWrites Valid problem_text problem_given answer_text answer_given written =
+    Judges problem_text problem_given answer_text answer_given true × (written ≡ verdict_line true)
+CheckWrites NotValid problem_text problem_given answer_text answer_given written =
+    Judges problem_text problem_given answer_text answer_given false × (written ≡ verdict_line false)
+CheckWrites (Refused the.Problem number line) problem_text problem_given answer_text answer_given written =
+    (reads problem_text ≡ Err (Fault number line)) × (written ≡ [])
+CheckWrites (Refused the.Answer number line) problem_text problem_given answer_text answer_given written =
+    (problem : ProblemValue) × IsProblemText problem_text problem_given problem
+    × (answers problem.nodes (length problem.arcs) answer_text ≡ Err (Fault number line)) × (written ≡ [])
+CheckWrites (ReadFailed the.Problem) problem_text problem_given answer_text answer_given written =
+    (decided problem_rule problem_given ≡ None) × (written ≡ [])
+CheckWrites (ReadFailed the.Answer) problem_text problem_given answer_text answer_given written =
+    (problem : ProblemValue) × IsProblemText problem_text problem_given problem
+    × (decided (answer_rule problem.nodes (length problem.arcs)) answer_given ≡ None) × (written ≡ [])
+CheckWrites WriteFailed problem_text problem_given answer_text answer_given written =
+    (right : Bool) × Judges problem_text problem_given answer_text answer_given right × IsBeginning written (verdict_line right)
+CheckWrites Memory problem_text problem_given answer_text answer_given written = written ≡ []
+CheckWrites Solved problem_text problem_given answer_text answer_given written = ⊥
+CheckWrites Infeasible problem_text problem_given answer_text answer_given written = ⊥
+CheckWrites Ended problem_text problem_given answer_text answer_given written = ⊥
+CheckWrites (Refused the.Commands number line) problem_text problem_given answer_text answer_given written = ⊥
+CheckWrites (ReadFailed the.Commands) problem_text problem_given answer_text answer_given written = ⊥
+
+-- the same of devices that tell their bytes: how many were read, and what the sink holds before and after
+abbrev pub CheckTells : End → Option (List ℕ) → ℕ → Option (List ℕ) → ℕ → Option (List ℕ) → Option (List ℕ) → Type 0
+CheckTells end problem_known problem_count answer_known answer_count before after =
+    IfSome problem_known (λ problem_text. IfSome answer_known (λ answer_text. IfSome before (λ held.
+    (written : List ℕ) × (after ≡ Some (held ++ written))
+    × CheckWrites end problem_text (take problem_count problem_text) answer_text (take answer_count answer_text) written)))
+
+-- two texts of which the answer settles the problem
+pub record AreSettled (problem_text answer_text : List ℕ) : Type 0 where
+  pub problem : ProblemValue
+  pub problem_is : reads problem_text ≡ Ok problem
+  pub answer : Answer
+  pub answer_is : answers problem.nodes (length problem.arcs) answer_text ≡ Ok answer
+  pub settled : Settles answer problem
+
+-- where the end is Valid, the answer of known texts settles the problem
+abbrev pub ValidSettles : End → Option (List ℕ) → Option (List ℕ) → Type 0
+ValidSettles end problem_known answer_known =
+    IfSome problem_known (λ problem_text. IfSome answer_known (λ answer_text. end ≡ Valid → AreSettled problem_text answer_text))
+
+-- ---- how many calls failed on each device
+
+abbrev pub problem_failures : End → ℕ
+problem_failures (ReadFailed the.Problem) = 1
+problem_failures _ = 0
+
+abbrev pub answer_failures : End → ℕ
+answer_failures (ReadFailed the.Answer) = 1
+answer_failures _ = 0
+
+abbrev pub write_failures : End → ℕ
+write_failures WriteFailed = 1
+write_failures _ = 0

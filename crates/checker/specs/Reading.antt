@@ -1,0 +1,35 @@
+-- Reading a whole text from a source.
+use Rattle.std.specs.Prelude.{◌≡◌, ℕ, ◌+◌, List, length, ◌⊎◌, Option, None, Some, Result, Ok, Err}
+use Rattle.std.specs.Io.KnownBytes.{Consumes, IsAtEnd}
+use Rattle.dimacs_text.specs.declared.fault.TextFault.{TextFault}
+use Rattle.dimacs_text.specs.declared.fault.TextFault.TheVariants as text_fault
+use Rattle.checker.specs.declared.read.ReadError.{ReadError}
+use Rattle.checker.specs.declared.read.ReadError.TheVariants as read_error
+use Rattle.checker.specs.declared.end.Text.{Text}
+use Rattle.checker.specs.declared.end.End.{End}
+use Rattle.checker.specs.declared.end.End.TheVariants.{Refused, ReadFailed, Memory}
+
+-- how a run ends that meets the error in a text
+abbrev pub end_of : Text → ReadError → End
+end_of input (read_error.Text (text_fault.Fault number line)) = Refused input number line
+end_of input (read_error.Text text_fault.Memory) = Memory
+end_of input read_error.Source = ReadFailed input
+
+-- so many bytes came from a source
+pub record Gives (old new : Option (List ℕ)) (given : List ℕ) (left_old left_new : ℕ) : Type 0 where
+  pub bytes : Consumes old new given
+  pub count : left_new + length given ≡ left_old
+
+-- of the text `given` has come, and `rest` is known to be left: the whole text reads as this, its fault is decided by now, or a read failed before that
+abbrev pub ReadsText : {X : Type 0} → (List ℕ → Option TextFault) → (List ℕ → Result X TextFault) → Result X ReadError → List ℕ → Option (List ℕ) → Type 0
+ReadsText decided reads (Ok x) given rest = IsAtEnd rest × (reads given ≡ Ok x)
+ReadsText decided reads (Err (read_error.Text text_fault.Memory)) given rest = Unit {0}
+ReadsText decided reads (Err (read_error.Text (text_fault.Fault number line))) given rest =
+    (decided given ≡ Some (text_fault.Fault number line)) ⊎ (IsAtEnd rest × (reads given ≡ Err (text_fault.Fault number line)))
+ReadsText decided reads (Err read_error.Source) given rest = decided given ≡ None
+
+-- the count of a source's failed calls rises exactly where a failed read ended the reading
+abbrev pub CountsRead : {X : Type 0} → Result X ReadError → ℕ → ℕ → Type 0
+CountsRead (Ok x) old new = new ≡ old
+CountsRead (Err (read_error.Text fault)) old new = new ≡ old
+CountsRead (Err read_error.Source) old new = new ≡ old + 1

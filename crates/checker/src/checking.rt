@@ -1,0 +1,141 @@
+//! Checks an answer to a problem, and writes whether it is right.
+ghost use Rattle.std.specs.Prelude.{◌≡◌, ◌+◌, ◌-◌, ◌^◌, ◌<◌, ◌↔◌, IfOk, IsTrue, length};
+ghost use Rattle.dimacs_io.specs.Device.{CountsFailure, WritesUpTo};
+ghost use Rattle.checker.specs.Check.{CheckTells, NamesEnds, NameEnds, IsRight, Settles, ValidSettles, answer_failures, flow_of_lines, marks_of, problem_failures, verdict_line, write_failures};
+
+use crate::end::{End, Text};
+use crate::read::{read_answer, read_problem};
+use dimacs_io::{Broken, Sink, Source, write_all};
+use dimacs_text::{Answer, ArcRow, FlowLine, Problem};
+use network::{build, check_best, check_cut};
+use std::alloc::{AllocError, Global};
+
+/// Checks an answer text to a flow problem of any kind: writes `valid` or `not valid`, and a line feed.
+///
+/// The problem text is read to its end, and then the answer text. Nothing is written before that, and nothing after a failed write.
+pub fn check<P: Source, A: Source, O: Sink>(
+    alloc: Global,
+    problem: &mut P,
+    answer: &mut A,
+    out: &mut O,
+) -> End
+    requires problem { P.failures problem.old < 2 ^ 64 - 1 }
+    requires answer { A.failures answer.old < 2 ^ 64 - 1 }
+    requires out { O.failures out.old < 2 ^ 64 - 1 }
+
+    // `valid` is written exactly where the answer is right, and no end comes without its cause.
+    ensures check { CheckTells result
+        (P.remaining problem.old) (P.most_left problem.old - P.most_left problem.new)
+        (A.remaining answer.old) (A.most_left answer.old - A.most_left answer.new)
+        (O.contents out.old) (O.contents out.new) }
+    ensures best { ValidSettles result (P.remaining problem.old) (A.remaining answer.old) }
+
+    // The end tells of each call that failed.
+    ensures problem_failed { P.failures problem.new ≡ P.failures problem.old + problem_failures result }
+    ensures answer_failed { A.failures answer.new ≡ A.failures answer.old + answer_failures result }
+    ensures out_failed { O.failures out.new ≡ O.failures out.old + write_failures result }
+{
+    let problem = match read_problem(alloc, problem) {
+        Ok(problem) => problem,
+        Err(error) => return error.end(Text::Problem),
+    };
+    let answer = match read_answer(alloc, problem.nodes(), problem.arcs().len() as u32, answer) {
+        Ok(answer) => answer,
+        Err(error) => return error.end(Text::Answer),
+    };
+    let right = match is_right(alloc, &problem, &answer) {
+        Ok(right) => right,
+        Err(_) => return End::Memory,
+    };
+    if write_verdict(right, out).is_err() {
+        return End::WriteFailed;
+    }
+    if right { End::Valid } else { End::NotValid }
+}
+
+/// Writes the verdict, and passes it on.
+fn write_verdict<O: Sink>(right: bool, out: &mut O) -> Result<(), Broken>
+    requires { O.failures out.old < 2 ^ 64 - 1 }
+    ensures bytes { WritesUpTo result (O.contents out.old) (O.contents out.new) (verdict_line right) }
+    ensures failed { CountsFailure result (O.failures out.old) (O.failures out.new) }
+{
+    let line = if right {
+        b"valid\n".as_slice()
+    } else {
+        b"not valid\n".as_slice()
+    };
+    write_all(out, line)?;
+    out.flush()
+}
+
+/// Whether an answer is right.
+fn is_right(alloc: Global, problem: &Problem, answer: &Answer) -> Result<bool, AllocError>
+    ensures exact { IfOk result (λ right. IsTrue right ↔ IsRight problem.now answer.now) }
+    ensures settles { IfOk result (λ right. IsTrue right → Settles answer.now problem.now) }
+{
+    let net = build(alloc, problem, 0)?;
+    match answer {
+        Answer::Flow {
+            value,
+            flows,
+            potentials,
+        } => {
+            let flow = flow_of_lines(alloc, flows.as_slice())?;
+            if !name_ends(problem.arcs(), flows.as_slice()) {
+                return Ok(false);
+            }
+            Ok(check_best(&net, flow.as_slice(), potentials.as_slice(), *value))
+        }
+        Answer::Cut { shortage, nodes } => {
+            let marks = marks_of(alloc, problem.nodes(), nodes.as_slice())?;
+            Ok(check_cut(&net, marks.as_slice(), *shortage))
+        }
+    }
+}
+
+/// Whether there is one line an arc, in order, each with the ends of its arc.
+fn name_ends(arcs: &[ArcRow], lines: &[FlowLine]) -> bool
+    ensures { IsTrue result ↔ NameEnds arcs.now lines.now }
+{
+    if arcs.len() != lines.len() {
+        return false;
+    }
+    for (arc, line) in arcs.iter().zip(lines) {
+        if !names_ends(arc, line) {
+            return false;
+        }
+    }
+    true
+}
+
+/// Whether a line has the ends of an arc.
+fn names_ends(arc: &ArcRow, line: &FlowLine) -> bool
+    ensures { IsTrue result ↔ NamesEnds arc.now line.now }
+{
+    line.tail == arc.tail && line.head == arc.head
+}
+
+/// The flows that lines say.
+fn flow_of_lines(alloc: Global, lines: &[FlowLine]) -> Result<Vec<i64>, AllocError>
+    ensures { IfOk result (λ flow. flow.items ≡ flow_of_lines lines.now) }
+{
+    let mut flow = Vec::with_capacity(alloc, lines.len())?;
+    for line in lines {
+        flow.push(line.flow)?;
+    }
+    Ok(flow)
+}
+
+/// One mark a node, set where the node is listed.
+fn marks_of(alloc: Global, nodes: u32, ids: &[u32]) -> Result<Vec<bool>, AllocError>
+    ensures { IfOk result (λ marks. marks.items ≡ marks_of nodes ids.now) }
+{
+    let mut marks = vec![in alloc; false; nodes as usize]?;
+    for id in ids {
+        let place = (*id as usize).saturating_sub(1);
+        if place < marks.len() {
+            marks[place] = true;
+        }
+    }
+    Ok(marks)
+}

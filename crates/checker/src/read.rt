@@ -1,0 +1,109 @@
+//! Reads the texts of a problem and of an answer from their sources.
+ghost use Rattle.std.specs.Prelude.{◌≡◌, ℕ, ◌-◌, ◌^◌, ◌<◌, List};
+ghost use Rattle.dimacs_text.specs.Stream.{decided};
+ghost use Rattle.dimacs_text.specs.Reading.{problem_rule, reads};
+ghost use Rattle.dimacs_text.specs.Answer.{answer_rule, answers};
+ghost use Rattle.checker.specs.Reading.{CountsRead, Gives, ReadsText};
+
+use crate::end::{End, Text};
+use dimacs_io::{Broken, Source};
+use dimacs_text::{Answer, AnswerReader, Problem, ProblemReader, TextFault};
+use std::alloc::Global;
+
+/// How many bytes one read takes at most.
+const PIECE: usize = 32_768;
+
+/// Why a text was not read.
+#[derive(Clone, Copy, Debug, PartialEq, Eq)]
+pub enum ReadError {
+    /// The text has a fault, or memory for it was refused.
+    Text(TextFault),
+    /// A read failed.
+    Source,
+}
+
+impl ReadError {
+    ghost use Rattle.checker.specs.Reading.{end_of};
+
+    /// How a run ends that meets the error in a text.
+    pub fn end(self, input: Text) -> End
+        ensures { result ≡ end_of input self }
+    {
+        match self {
+            ReadError::Text(TextFault::Fault { number, line }) => End::Refused {
+                input,
+                number,
+                line,
+            },
+            ReadError::Text(TextFault::Memory) => End::Memory,
+            ReadError::Source => End::ReadFailed(input),
+        }
+    }
+}
+
+impl From<TextFault> for ReadError {
+    ghost use Rattle.std.specs.Prelude.{◌≡◌};
+    ghost use Rattle.checker.specs.declared.read.ReadError.TheVariants as read_error;
+
+    ghost from_gives = { λ fault e. e ≡ read_error.Text fault };
+
+    fn from(fault: TextFault) -> ReadError {
+        ReadError::Text(fault)
+    }
+}
+
+impl From<Broken> for ReadError {
+    ghost use Rattle.std.specs.Prelude.{◌≡◌};
+    ghost use Rattle.checker.specs.declared.read.ReadError.TheVariants as read_error;
+
+    ghost from_gives = { λ _ e. e ≡ read_error.Source };
+
+    fn from(_broken: Broken) -> ReadError {
+        ReadError::Source
+    }
+}
+
+/// Reads a problem text to its end, to its first fault or to a failed read.
+pub fn read_problem<P: Source>(alloc: Global, problem: &mut P) -> Result<Problem, ReadError>
+    requires { P.failures problem.old < 2 ^ 64 - 1 }
+    ensures read { (given : List ℕ)
+        × Gives (P.remaining problem.old) (P.remaining problem.new) given (P.most_left problem.old) (P.most_left problem.new)
+        × ReadsText (decided problem_rule) reads result given (P.remaining problem.new) }
+    ensures failed { CountsRead result (P.failures problem.old) (P.failures problem.new) }
+{
+    let mut reader = ProblemReader::new(alloc);
+    let mut piece = [0u8; PIECE];
+    'pieces: loop {
+        let count = problem.read(&mut piece)?;
+        if count == 0 {
+            break;
+        }
+        reader.feed(&piece[..count])?;
+    }
+    Ok(reader.finish()?)
+}
+
+/// Reads an answer to a problem of so many nodes and arcs in the same way.
+pub fn read_answer<A: Source>(
+    alloc: Global,
+    nodes: u32,
+    arcs: u32,
+    answer: &mut A,
+) -> Result<Answer, ReadError>
+    requires { A.failures answer.old < 2 ^ 64 - 1 }
+    ensures read { (given : List ℕ)
+        × Gives (A.remaining answer.old) (A.remaining answer.new) given (A.most_left answer.old) (A.most_left answer.new)
+        × ReadsText (decided (answer_rule nodes arcs)) (answers nodes arcs) result given (A.remaining answer.new) }
+    ensures failed { CountsRead result (A.failures answer.old) (A.failures answer.new) }
+{
+    let mut reader = AnswerReader::new(alloc, nodes, arcs);
+    let mut piece = [0u8; PIECE];
+    'pieces: loop {
+        let count = answer.read(&mut piece)?;
+        if count == 0 {
+            break;
+        }
+        reader.feed(&piece[..count])?;
+    }
+    Ok(reader.finish()?)
+}

@@ -1,0 +1,6 @@
+pub mod PrintingLemmas
+pub mod SolveLemmas
+pub mod LineLemmas
+pub mod RunLemmas
+pub mod SessionLemmas
+pub mod ReplyLemmas

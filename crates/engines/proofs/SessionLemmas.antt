@@ -1,0 +1,197 @@
+-- What a whole session has written, by where it ends.
+use Rattle.std.proofs.Common.{◌≡◌, ℕ, ◌+◌, ◌-◌, arith, List, [], ◌++◌, take, Option, None, Some, Ok, Err, inl, inr, refl, sym, ap, ◌∙◌, append-nil}
+use Rattle.std.specs.Io.KnownBytes.{Appends, IsAtEnd}
+use Rattle.std.proofs.KnownBytes.{Appends-trans}
+use Rattle.dimacs_io.specs.Device.{AppendsBeginning}
+use Rattle.dimacs_io.proofs.DeviceLemmas.{AppendsBeginning-after}
+use Rattle.dimacs_text.specs.declared.fault.TextFault.TheVariants as text_fault
+use Rattle.dimacs_text.specs.Lines.{Line, lines_of, parts_of}
+use Rattle.dimacs_text.specs.Stream.{decided}
+use Rattle.dimacs_text.specs.Reading.{ProblemValue, problem_rule, reads}
+use Rattle.history.specs.Boards.{Timeline}
+use Rattle.flow_solver.specs.Moment.{Moment}
+use Rattle.checker.specs.declared.end.Text.TheVariants as the
+use Rattle.checker.specs.declared.end.End.{End}
+use Rattle.checker.specs.declared.end.End.TheVariants.{Solved, Infeasible, Ended, Valid, NotValid, Refused, ReadFailed, WriteFailed, Memory}
+use Rattle.checker.specs.declared.read.ReadError.{ReadError}
+use Rattle.checker.specs.declared.read.ReadError.TheVariants as read_error
+use Rattle.checker.specs.Check.{IsProblemText, write_failures, problem_failures}
+use Rattle.engines.specs.Printing.{outcome_line}
+use Rattle.checker.specs.Reading.{Gives, ReadsText, end_of}
+use Rattle.engines.specs.Run.{Answers}
+use Rattle.engines.specs.Serving.{CommandsEnd, CommandsFail, Stopped}
+use Rattle.engines.specs.Session.{Opens, PrintsBeginning, PrintsRun, SessionTells, SessionWrites, command_failures}
+use Rattle.checker.proofs.SourceLemmas.{all_given, text_at_end, text_given, problem_text, reads_decided, appended}
+
+-- ---- the problem was not read
+
+problem_end : (e : ReadError) (extra : ℕ) (text given commands commands_given : List ℕ) (rest : Option (List ℕ)) (left_old left_new : ℕ) → Gives (Some text) rest given left_old left_new
+    → ReadsText (decided problem_rule) reads (Err e) given rest → SessionWrites (end_of the.Problem e) extra text (take (left_old - left_new) text) commands commands_given []
+problem_end (read_error.Text text_fault.Memory) extra text given commands commands_given rest left_old left_new gives is = refl
+problem_end (read_error.Text (text_fault.Fault number line)) extra text given commands commands_given rest left_old left_new gives (inl is) = (reads_decided text given rest _ gives.bytes is, refl)
+problem_end (read_error.Text (text_fault.Fault number line)) extra text given commands commands_given rest left_old left_new gives (inr is) =
+    (ap reads (text_at_end text given rest gives.bytes is.0) ∙ is.1, refl)
+problem_end read_error.Source extra text given commands commands_given rest left_old left_new gives is = (ap (decided problem_rule) (text_given text given rest left_old left_new gives) ∙ is, refl)
+
+pub SessionTells-problem : (e : ReadError) (extra : ℕ) (known rest : Option (List ℕ)) (given : List ℕ) (left_old left_new : ℕ) (commands : Option (List ℕ)) (count : ℕ) (before : Option (List ℕ))
+    → Gives known rest given left_old left_new → ReadsText (decided problem_rule) reads (Err e) given rest
+    → SessionTells (end_of the.Problem e) extra known (left_old - left_new) commands count before before
+SessionTells-problem e extra None rest given left_old left_new commands count before gives is = tt
+SessionTells-problem e extra (Some text) rest given left_old left_new None count before gives is = tt
+SessionTells-problem e extra (Some text) rest given left_old left_new (Some commands) count None gives is = tt
+SessionTells-problem e extra (Some text) rest given left_old left_new (Some commands) count (Some held) gives is =
+    ([], ap (λ l. Some l) (sym (append-nil held)), problem_end e extra text given commands (take count commands) rest left_old left_new gives is)
+
+-- ---- the opening line was written up to a failed call
+
+prints_opening : (problem : ProblemValue) (extra : ℕ) (opening : Timeline Moment) → Opens problem extra opening
+    → PrintsRun problem extra [] (outcome_line opening.present.verdict ++ [])
+prints_opening problem extra opening opens = record {
+  opening = opening;
+  opens = opens;
+  last = opening;
+  replies = [];
+  answers = record { texts = []; run = refl; written_is = refl };
+  written_is = refl;
+}
+
+pub SessionTells-opening : (problem : ProblemValue) (extra : ℕ) (opening : Timeline Moment) (known rest : Option (List ℕ)) (given : List ℕ) (left_old left_new : ℕ)
+    (commands : Option (List ℕ)) (count : ℕ) (before after : Option (List ℕ))
+    → Gives known rest given left_old left_new → IsAtEnd rest → reads given ≡ Ok problem → Opens problem extra opening
+    → AppendsBeginning before after (outcome_line opening.present.verdict)
+    → SessionTells WriteFailed extra known (left_old - left_new) commands count before after
+SessionTells-opening problem extra opening None rest given left_old left_new commands count before after gives end is opens part = tt
+SessionTells-opening problem extra opening (Some text) rest given left_old left_new None count before after gives end is opens part = tt
+SessionTells-opening problem extra opening (Some text) rest given left_old left_new (Some commands) count None after gives end is opens part = tt
+SessionTells-opening problem extra opening (Some text) rest given left_old left_new (Some commands) count (Some held) after gives end is opens part =
+    let line = outcome_line opening.present.verdict in
+    let begins : PrintsBeginning problem extra (parts_of (take count commands)).ended part.0 =
+    record {
+      front = [];
+      begins = ((parts_of (take count commands)).ended, refl);
+      whole = line ++ [];
+      prints = prints_opening problem extra opening opens;
+      part = (part.1.0, append-nil line ∙ part.1.1);
+    } in
+    (part.0, appended held part.0 after part.2, (problem, problem_text text given rest left_old left_new problem gives end is, inl begins))
+
+-- ---- the commands came to their end, or to a failed call
+
+prints_run : (problem : ProblemValue) (extra : ℕ) (opening last : Timeline Moment) (lines : List Line) (replies : List ℕ) → Opens problem extra opening
+    → Answers opening lines replies last → PrintsRun problem extra lines (outcome_line opening.present.verdict ++ replies)
+prints_run problem extra opening last lines replies opens answers = record {
+  opening = opening;
+  opens = opens;
+  last = last;
+  replies = replies;
+  answers = answers;
+  written_is = refl;
+}
+
+-- replies were written up to a failed call
+prints_stopped : (extra : ℕ) (problem : ProblemValue) (opening : Timeline Moment) (lines : List Line) (held : List ℕ) (mid after : Option (List ℕ)) → Opens problem extra opening
+    → Appends (Some held) mid (outcome_line opening.present.verdict) → Stopped opening lines mid after
+    → (written : List ℕ) × (after ≡ Some (held ++ written)) × PrintsBeginning problem extra lines written
+prints_stopped extra problem opening lines held mid after opens line stop =
+    let part = AppendsBeginning-after (Some held) mid after (outcome_line opening.present.verdict) stop.whole line stop.appends in
+    let begins : PrintsBeginning problem extra lines part.0 =
+    record {
+      front = stop.front;
+      begins = stop.begins;
+      whole = outcome_line opening.present.verdict ++ stop.whole;
+      prints = prints_run problem extra opening stop.last stop.front stop.whole opens stop.answers;
+      part = part.1;
+    } in
+    (part.0, appended held part.0 after part.2, begins)
+
+-- at known devices
+commands_end : (end : End) (extra : ℕ) (problem : ProblemValue) (opening : Timeline Moment) (text problem_given commands given held : List ℕ) (rest : Option (List ℕ)) (left_old left_new : ℕ) (mid after : Option (List ℕ))
+    → IsProblemText text problem_given problem → Opens problem extra opening → Gives (Some commands) rest given left_old left_new
+    → Appends (Some held) mid (outcome_line opening.present.verdict) → CommandsEnd end opening given rest mid after
+    → (written : List ℕ) × (after ≡ Some (held ++ written)) × SessionWrites end extra text problem_given commands (take (left_old - left_new) commands) written
+commands_end Solved extra problem opening text problem_given commands given held rest left_old left_new mid after is opens gives line ends = absurd ends
+commands_end Infeasible extra problem opening text problem_given commands given held rest left_old left_new mid after is opens gives line ends = absurd ends
+commands_end Valid extra problem opening text problem_given commands given held rest left_old left_new mid after is opens gives line ends = absurd ends
+commands_end NotValid extra problem opening text problem_given commands given held rest left_old left_new mid after is opens gives line ends = absurd ends
+commands_end (Refused input number at) extra problem opening text problem_given commands given held rest left_old left_new mid after is opens gives line ends = absurd ends
+commands_end (ReadFailed the.Problem) extra problem opening text problem_given commands given held rest left_old left_new mid after is opens gives line ends = absurd ends
+commands_end (ReadFailed the.Answer) extra problem opening text problem_given commands given held rest left_old left_new mid after is opens gives line ends = absurd ends
+commands_end Memory extra problem opening text problem_given commands given held rest left_old left_new mid after is opens gives line ends = absurd ends
+commands_end Ended extra problem opening text problem_given commands given held rest left_old left_new mid after is opens gives line ends =
+    let answered = ends.2 in
+    let whole = text_at_end commands given rest gives.bytes ends.0 in
+    let all = Appends-trans (Some held) mid after (outcome_line opening.present.verdict) answered.written line answered.appends in (
+      outcome_line opening.present.verdict ++ answered.written,
+      appended held _ after all,
+      (problem, is, rw whole (prints_run problem extra opening ends.1 (lines_of given) answered.written opens answered.answers)),
+    )
+commands_end (ReadFailed the.Commands) extra problem opening text problem_given commands given held rest left_old left_new mid after is opens gives line ends =
+    let answered = ends.1 in
+    let came = text_given commands given rest left_old left_new gives in
+    let all = Appends-trans (Some held) mid after (outcome_line opening.present.verdict) answered.written line answered.appends in (
+      outcome_line opening.present.verdict ++ answered.written,
+      appended held _ after all,
+      (problem, is, rw came (prints_run problem extra opening ends.0 (parts_of given).ended answered.written opens answered.answers)),
+    )
+commands_end WriteFailed extra problem opening text problem_given commands given held rest left_old left_new mid after is opens gives line (inl stop) =
+    let begins = prints_stopped extra problem opening (parts_of given).ended held mid after opens line stop in
+    let came = text_given commands given rest left_old left_new gives in
+    (begins.0, begins.1, (problem, is, inl (rw came begins.2)))
+commands_end WriteFailed extra problem opening text problem_given commands given held rest left_old left_new mid after is opens gives line (inr ends) =
+    let begins = prints_stopped extra problem opening (lines_of given) held mid after opens line ends.1 in
+    let whole = text_at_end commands given rest gives.bytes ends.0 in
+    (begins.0, begins.1, (problem, is, inr (all_given commands given rest left_old left_new gives ends.0, rw whole begins.2)))
+
+pub SessionTells-commands : (end : End) (extra : ℕ) (problem : ProblemValue) (opening : Timeline Moment) (known problem_rest : Option (List ℕ)) (problem_given : List ℕ) (problem_old problem_new : ℕ)
+    (commands rest : Option (List ℕ)) (given : List ℕ) (left_old left_new : ℕ) (before mid after : Option (List ℕ))
+    → Gives known problem_rest problem_given problem_old problem_new → IsAtEnd problem_rest → reads problem_given ≡ Ok problem → Opens problem extra opening
+    → Appends before mid (outcome_line opening.present.verdict) → Gives commands rest given left_old left_new → CommandsEnd end opening given rest mid after
+    → SessionTells end extra known (problem_old - problem_new) commands (left_old - left_new) before after
+SessionTells-commands end extra problem opening None problem_rest problem_given problem_old problem_new commands rest given left_old left_new before mid after has at_end is opens line gives ends = tt
+SessionTells-commands end extra problem opening (Some text) problem_rest problem_given problem_old problem_new None rest given left_old left_new before mid after has at_end is opens line gives ends = tt
+SessionTells-commands end extra problem opening (Some text) problem_rest problem_given problem_old problem_new (Some commands) rest given left_old left_new None mid after has at_end is opens line gives ends = tt
+SessionTells-commands end extra problem opening (Some text) problem_rest problem_given problem_old problem_new (Some commands) rest given left_old left_new (Some held) mid after has at_end is opens line gives ends =
+    commands_end end extra problem opening text (take (problem_old - problem_new) text) commands given held rest left_old left_new mid after
+    (problem_text text problem_given problem_rest problem_old problem_new problem has at_end is) opens gives line ends
+
+-- ---- the counts of failed calls
+
+pub write_counted : (end : End) (script_old script_new out_old out_new : ℕ) → CommandsFail end script_old script_new out_old out_new → out_new ≡ out_old + write_failures end
+write_counted Ended script_old script_new out_old out_new fail = omega (arith, fail.1)
+write_counted (ReadFailed the.Commands) script_old script_new out_old out_new fail = omega (arith, fail.1)
+write_counted WriteFailed script_old script_new out_old out_new fail = fail.1
+write_counted Solved script_old script_new out_old out_new fail = absurd fail
+write_counted Infeasible script_old script_new out_old out_new fail = absurd fail
+write_counted Valid script_old script_new out_old out_new fail = absurd fail
+write_counted NotValid script_old script_new out_old out_new fail = absurd fail
+write_counted (Refused input number line) script_old script_new out_old out_new fail = absurd fail
+write_counted (ReadFailed the.Problem) script_old script_new out_old out_new fail = absurd fail
+write_counted (ReadFailed the.Answer) script_old script_new out_old out_new fail = absurd fail
+write_counted Memory script_old script_new out_old out_new fail = absurd fail
+
+pub reads_counted : (end : End) (script_old script_new out_old out_new : ℕ) → CommandsFail end script_old script_new out_old out_new → script_new ≡ script_old + command_failures end
+reads_counted Ended script_old script_new out_old out_new fail = omega (arith, fail.0)
+reads_counted (ReadFailed the.Commands) script_old script_new out_old out_new fail = fail.0
+reads_counted WriteFailed script_old script_new out_old out_new fail = omega (arith, fail.0)
+reads_counted Solved script_old script_new out_old out_new fail = absurd fail
+reads_counted Infeasible script_old script_new out_old out_new fail = absurd fail
+reads_counted Valid script_old script_new out_old out_new fail = absurd fail
+reads_counted NotValid script_old script_new out_old out_new fail = absurd fail
+reads_counted (Refused input number line) script_old script_new out_old out_new fail = absurd fail
+reads_counted (ReadFailed the.Problem) script_old script_new out_old out_new fail = absurd fail
+reads_counted (ReadFailed the.Answer) script_old script_new out_old out_new fail = absurd fail
+reads_counted Memory script_old script_new out_old out_new fail = absurd fail
+
+-- the problem text was read to its end before the commands
+pub no_problem_counted : (end : End) (script_old script_new out_old out_new : ℕ) → CommandsFail end script_old script_new out_old out_new → (before after : ℕ) → after ≡ before → after ≡ before + problem_failures end
+no_problem_counted Ended script_old script_new out_old out_new fail before after same = omega (arith, same)
+no_problem_counted (ReadFailed the.Commands) script_old script_new out_old out_new fail before after same = omega (arith, same)
+no_problem_counted WriteFailed script_old script_new out_old out_new fail before after same = omega (arith, same)
+no_problem_counted Solved script_old script_new out_old out_new fail before after same = absurd fail
+no_problem_counted Infeasible script_old script_new out_old out_new fail before after same = absurd fail
+no_problem_counted Valid script_old script_new out_old out_new fail before after same = absurd fail
+no_problem_counted NotValid script_old script_new out_old out_new fail before after same = absurd fail
+no_problem_counted (Refused input number line) script_old script_new out_old out_new fail before after same = absurd fail
+no_problem_counted (ReadFailed the.Problem) script_old script_new out_old out_new fail before after same = absurd fail
+no_problem_counted (ReadFailed the.Answer) script_old script_new out_old out_new fail before after same = absurd fail
+no_problem_counted Memory script_old script_new out_old out_new fail before after same = absurd fail

@@ -1,0 +1,17 @@
+use Rattle.std.proofs.Common.{◌≡◌, ℕ, List}
+use Rattle.checker.specs.Reading.{Gives}
+use Rattle.engines.specs.Serving.{Stands}
+use Rattle.engines.proofs.interaction.serve_commands.Given as goal
+
+-- each line that was ended is answered
+abbrev pub invariant-pieces : goal.invariant-pieces
+invariant-pieces g l = record {
+  so_far : (given : List ℕ)
+      × Gives (g.C.Source.remaining l.fn.script) (g.C.Source.remaining l.script) given (g.C.Source.most_left l.fn.script) (g.C.Source.most_left l.script)
+      × Stands l.fn.session.moments given l.session.moments l.cutter (g.O.Sink.contents l.fn.out) (g.O.Sink.contents l.out);
+  script_failures : g.C.Source.failures l.script ≡ g.C.Source.failures l.fn.script;
+  out_failures : g.O.Sink.failures l.out ≡ g.O.Sink.failures l.fn.out;
+}
+
+abbrev pub decreases-pieces : goal.decreases-pieces
+decreases-pieces g l = g.C.Source.most_left l.script

@@ -1,0 +1,5 @@
+pub mod Printing
+pub mod Solve
+pub mod Run
+pub mod Session
+pub mod Serving

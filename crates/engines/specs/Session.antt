@@ -1,0 +1,76 @@
+-- What a session writes.
+use Rattle.std.specs.Prelude.{◌≡◌, ℕ, List, [], ◌++◌, take, ◌⊎◌, Option, None, Some, Err, IfSome}
+use Rattle.dimacs_io.specs.Device.{IsBeginning}
+use Rattle.dimacs_text.specs.declared.fault.TextFault.TheVariants.{Fault}
+use Rattle.dimacs_text.specs.Lines.{Line, parts_of, lines_of}
+use Rattle.dimacs_text.specs.Stream.{decided}
+use Rattle.dimacs_text.specs.Reading.{ProblemValue, problem_rule, reads}
+use Rattle.history.specs.Boards.{Timeline}
+use Rattle.network.specs.Instance.{first}
+use Rattle.flow_solver.specs.Moment.{Moment}
+use Rattle.checker.specs.declared.end.Text.TheVariants as the
+use Rattle.checker.specs.declared.end.End.{End}
+use Rattle.checker.specs.declared.end.End.TheVariants.{Solved, Infeasible, Ended, Valid, NotValid, Refused, ReadFailed, WriteFailed, Memory}
+use Rattle.checker.specs.Check.{IsProblemText}
+use Rattle.engines.specs.Printing.{outcome_line}
+use Rattle.engines.specs.Run.{Answers}
+use Rattle.engines.specs.Solve.{IsSettled}
+
+-- a session on a problem, with room for so many arcs more, begins with an answer to it, and with nothing to undo or redo
+pub record Opens (problem : ProblemValue) (extra : ℕ) (opening : Timeline Moment) : Type 0 where
+  pub past : opening.past ≡ []
+  pub settled : IsSettled (first problem extra) opening.present
+  pub future : opening.future ≡ []
+
+-- the printing of a run over these lines: what is told of the opening, and the replies
+pub record PrintsRun (problem : ProblemValue) (extra : ℕ) (lines : List Line) (written : List ℕ) : Type 0 where
+  pub opening : Timeline Moment
+  pub opens : Opens problem extra opening
+  pub last : Timeline Moment
+  pub replies : List ℕ
+  pub answers : Answers opening lines replies last
+  pub written_is : written ≡ outcome_line opening.present.verdict ++ replies
+
+-- a beginning of the printing of a run over the first of these lines
+pub record PrintsBeginning (problem : ProblemValue) (extra : ℕ) (lines : List Line) (written : List ℕ) : Type 0 where
+  pub front : List Line
+  pub begins : IsBeginning front lines
+  pub whole : List ℕ
+  pub prints : PrintsRun problem extra front whole
+  pub part : IsBeginning written whole
+
+-- a beginning of the printing of a run over the lines that were ended, or over all lines where the whole command text was given
+abbrev pub PrintsPart : ProblemValue → ℕ → List ℕ → List ℕ → List ℕ → Type 0
+PrintsPart problem extra commands given written =
+    PrintsBeginning problem extra (parts_of given).ended written ⊎ ((given ≡ commands) × PrintsBeginning problem extra (lines_of commands) written)
+
+-- what was written, by how the session ends, over a problem text, a command text, and the first bytes of each that were given
+abbrev pub SessionWrites : End → ℕ → List ℕ → List ℕ → List ℕ → List ℕ → List ℕ → Type 0
+SessionWrites Ended extra problem_text problem_given commands given written =
+    (problem : ProblemValue) × IsProblemText problem_text problem_given problem × PrintsRun problem extra (lines_of commands) written
+SessionWrites (ReadFailed the.Commands) extra problem_text problem_given commands given written =
+    (problem : ProblemValue) × IsProblemText problem_text problem_given problem × PrintsRun problem extra (parts_of given).ended written
+SessionWrites WriteFailed extra problem_text problem_given commands given written =
+    (problem : ProblemValue) × IsProblemText problem_text problem_given problem × PrintsPart problem extra commands given written
+SessionWrites (Refused the.Problem number line) extra problem_text problem_given commands given written = (reads problem_text ≡ Err (Fault number line)) × (written ≡ [])
+SessionWrites (ReadFailed the.Problem) extra problem_text problem_given commands given written = (decided problem_rule problem_given ≡ None) × (written ≡ [])
+SessionWrites Memory extra problem_text problem_given commands given written = written ≡ []
+SessionWrites Solved extra problem_text problem_given commands given written = ⊥
+SessionWrites Infeasible extra problem_text problem_given commands given written = ⊥
+SessionWrites Valid extra problem_text problem_given commands given written = ⊥
+SessionWrites NotValid extra problem_text problem_given commands given written = ⊥
+SessionWrites (Refused the.Answer number line) extra problem_text problem_given commands given written = ⊥
+SessionWrites (Refused the.Commands number line) extra problem_text problem_given commands given written = ⊥
+SessionWrites (ReadFailed the.Answer) extra problem_text problem_given commands given written = ⊥
+
+-- the same of devices that tell their bytes: how many were read, and what the sink holds before and after
+abbrev pub SessionTells : End → ℕ → Option (List ℕ) → ℕ → Option (List ℕ) → ℕ → Option (List ℕ) → Option (List ℕ) → Type 0
+SessionTells end extra problem_known problem_count commands_known commands_count before after =
+    IfSome problem_known (λ problem_text. IfSome commands_known (λ commands. IfSome before (λ held.
+    (written : List ℕ) × (after ≡ Some (held ++ written))
+    × SessionWrites end extra problem_text (take problem_count problem_text) commands (take commands_count commands) written)))
+
+-- how many reads of the commands failed
+abbrev pub command_failures : End → ℕ
+command_failures (ReadFailed the.Commands) = 1
+command_failures _ = 0

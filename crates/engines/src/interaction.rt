@@ -1,0 +1,177 @@
+//! Runs a session: reads its problem, and then its commands, each of which is answered before the next.
+ghost use Rattle.std.specs.Prelude.{◌≡◌, ℕ, ◌+◌, ◌-◌, ◌^◌, ◌<◌, List, ◌++◌, Option};
+ghost use Rattle.dimacs_io.specs.Device.{CountsFailure, WritesUpTo};
+ghost use Rattle.history.specs.Boards.{Timeline};
+ghost use Rattle.flow_solver.specs.Moment.{Moment};
+ghost use Rattle.checker.specs.Check.{problem_failures, write_failures};
+ghost use Rattle.engines.specs.Printing.{outcome_line};
+ghost use Rattle.checker.specs.Reading.{Gives};
+ghost use Rattle.engines.specs.Serving.{CommandsEnd, CommandsFail, Finishes, GoesOn, Stands};
+ghost use Rattle.engines.specs.Session.{SessionTells, command_failures};
+
+use crate::reply::serve_line;
+use crate::solution::write_outcome;
+use checker::{End, Text, read_problem};
+use dimacs_io::{Broken, Sink, Source};
+use dimacs_text::LineCutter;
+use session::Session;
+use std::alloc::{Allocator, Global};
+
+/// How many bytes of the commands one read takes at most.
+const PIECE: usize = 4_096;
+
+/// Runs a session on a problem text, with room for `extra` arcs more: writes what is told of the problem, and then the
+/// reply to each line of the command text.
+///
+/// Nothing is written before the problem text is read to its end, and nothing after a failed write. Each line is
+/// answered before more of the commands is read, and each reply is passed on at once. Reading commands takes no memory.
+pub fn run_session<P: Source, C: Source, O: Sink>(
+    alloc: Global,
+    problem: &mut P,
+    script: &mut C,
+    out: &mut O,
+    extra: u32,
+) -> End
+    requires problem { P.failures problem.old < 2 ^ 64 - 1 }
+    requires script { C.failures script.old < 2 ^ 64 - 1 }
+    requires out { O.failures out.old < 2 ^ 64 - 1 }
+
+    // What is written is the printing of a run, or what is left of it at a failed call, and no end comes without its cause.
+    ensures session { SessionTells result extra
+        (P.remaining problem.old) (P.most_left problem.old - P.most_left problem.new)
+        (C.remaining script.old) (C.most_left script.old - C.most_left script.new)
+        (O.contents out.old) (O.contents out.new) }
+
+    // The end tells of each call that failed.
+    ensures problem_failed { P.failures problem.new ≡ P.failures problem.old + problem_failures result }
+    ensures script_failed { C.failures script.new ≡ C.failures script.old + command_failures result }
+    ensures out_failed { O.failures out.new ≡ O.failures out.old + write_failures result }
+{
+    run_session_in(alloc, alloc, problem, script, out, extra)
+}
+
+/// Runs a session as `run_session` does, whose steps take their memory from an allocator of their own.
+pub fn run_session_in<A: Allocator + Copy, P: Source, C: Source, O: Sink>(
+    alloc: Global,
+    steps: A,
+    problem: &mut P,
+    script: &mut C,
+    out: &mut O,
+    extra: u32,
+) -> End
+    requires problem { P.failures problem.old < 2 ^ 64 - 1 }
+    requires script { C.failures script.old < 2 ^ 64 - 1 }
+    requires out { O.failures out.old < 2 ^ 64 - 1 }
+
+    // What is written is the printing of a run, or what is left of it at a failed call, and no end comes without its cause.
+    ensures session { SessionTells result extra
+        (P.remaining problem.old) (P.most_left problem.old - P.most_left problem.new)
+        (C.remaining script.old) (C.most_left script.old - C.most_left script.new)
+        (O.contents out.old) (O.contents out.new) }
+
+    // The end tells of each call that failed.
+    ensures problem_failed { P.failures problem.new ≡ P.failures problem.old + problem_failures result }
+    ensures script_failed { C.failures script.new ≡ C.failures script.old + command_failures result }
+    ensures out_failed { O.failures out.new ≡ O.failures out.old + write_failures result }
+{
+    let problem = match read_problem(alloc, problem) {
+        Ok(problem) => problem,
+        Err(error) => return error.end(Text::Problem),
+    };
+    let mut session = match Session::open_in(alloc, steps, &problem, extra) {
+        Ok(session) => session,
+        Err(_) => return End::Memory,
+    };
+    if tell_opening(&session, out).is_err() {
+        return End::WriteFailed;
+    }
+    serve_commands(&mut session, script, out)
+}
+
+/// Writes what is told of the moment that the session begins with, and passes it on.
+fn tell_opening<A: Allocator + Copy, O: Sink>(
+    session: &Session<A>,
+    out: &mut O,
+) -> Result<(), Broken>
+    requires { O.failures out.old < 2 ^ 64 - 1 }
+    ensures bytes { WritesUpTo result (O.contents out.old) (O.contents out.new) (outcome_line session.now.moments.present.verdict) }
+    ensures failed { CountsFailure result (O.failures out.old) (O.failures out.new) }
+{
+    write_outcome(session, out)?;
+    out.flush()
+}
+
+/// Reads commands to their end, and answers each line before it reads on.
+fn serve_commands<A: Allocator + Copy, C: Source, O: Sink>(
+    session: &mut Session<A>,
+    script: &mut C,
+    out: &mut O,
+) -> End
+    requires script { C.failures script.old < 2 ^ 64 - 1 }
+    requires out { O.failures out.old < 2 ^ 64 - 1 }
+    ensures served { (given : List ℕ)
+        × Gives (C.remaining script.old) (C.remaining script.new) given (C.most_left script.old) (C.most_left script.new)
+        × CommandsEnd result session.old.moments given (C.remaining script.new) (O.contents out.old) (O.contents out.new) }
+    ensures failed { CommandsFail result (C.failures script.old) (C.failures script.new) (O.failures out.old) (O.failures out.new) }
+{
+    let mut cutter = LineCutter::new();
+    let mut piece = [0u8; PIECE];
+    'pieces: loop {
+        let count = match script.read(&mut piece) {
+            Ok(0) => break,
+            Ok(count) => count,
+            Err(_) => return End::ReadFailed(Text::Commands),
+        };
+        if serve_piece(session, &mut cutter, &piece[..count], out).is_err() {
+            return End::WriteFailed;
+        }
+    }
+    match serve_rest(session, &cutter, out) {
+        Ok(()) => End::Ended,
+        Err(_) => End::WriteFailed,
+    }
+}
+
+/// Takes a piece of the commands, and answers each line that ends in it.
+fn serve_piece<A: Allocator + Copy, O: Sink>(
+    session: &mut Session<A>,
+    cutter: &mut LineCutter,
+    piece: &[u8],
+    out: &mut O,
+) -> Result<(), Broken>
+    requires { O.failures out.old < 2 ^ 64 - 1 }
+    ensures goes_on { (opening : Timeline Moment) (given : List ℕ) (before : Option (List ℕ))
+        → Stands opening given session.old.moments cutter.old before (O.contents out.old)
+        → GoesOn result opening (given ++ piece.now) session.new.moments cutter.new before (O.contents out.new) }
+    ensures failed { CountsFailure result (O.failures out.old) (O.failures out.new) }
+{
+    let mut at = 0;
+    while at < piece.len() {
+        let (used, complete) = cutter.take(&piece[at..]);
+        at += used;
+        if !complete {
+            continue;
+        }
+        serve_line(session, cutter.line(), out)?;
+    }
+    Ok(())
+}
+
+/// Answers what stands after the last line feed, where there is a byte.
+fn serve_rest<A: Allocator + Copy, O: Sink>(
+    session: &mut Session<A>,
+    cutter: &LineCutter,
+    out: &mut O,
+) -> Result<(), Broken>
+    requires { O.failures out.old < 2 ^ 64 - 1 }
+    ensures rest { (opening : Timeline Moment) (given : List ℕ) (before : Option (List ℕ))
+        → Stands opening given session.old.moments cutter.now before (O.contents out.old)
+        → Finishes result opening given session.new.moments before (O.contents out.new) }
+    ensures failed { CountsFailure result (O.failures out.old) (O.failures out.new) }
+{
+    if cutter.begun() {
+        serve_line(session, cutter.line(), out)
+    } else {
+        Ok(())
+    }
+}

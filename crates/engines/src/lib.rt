@@ -1,0 +1,10 @@
+//! The engines that solve: `solve` prints a best flow or a cut, `run_session` answers edits, undo and redo.
+#![tactic(auto)]
+
+mod interaction;
+mod reply;
+mod solution;
+mod solving;
+
+pub use interaction::{run_session, run_session_in};
+pub use solving::solve;

@@ -1,0 +1,161 @@
+//! Writes what is told of the present moment of a session.
+ghost use Rattle.std.specs.Prelude.{◌≡◌, ◌-◌, ◌^◌, ◌<◌, ◌≤◌, [], length, if◌then◌else◌};
+ghost use Rattle.dimacs_io.specs.Line.{cut_line, flow_line, potential_line};
+ghost use Rattle.dimacs_io.specs.Device.{CountsFailure, WritesUpTo};
+ghost use Rattle.engines.specs.Printing.{best_text, cut_lines, flow_lines, outcome_line, potential_lines, solution, breach_text};
+ghost use Rattle.network.specs.Instance.{numbered_flow};
+
+use dimacs_io::{Broken, Sink, write_f, write_i, write_k, write_s, write_v};
+use dimacs_text::ArcRow;
+use flow_solver::Verdict;
+use network::Network;
+use session::Session;
+use std::alloc::Allocator;
+
+/// Writes the outcome of the present moment: the worth of a best flow, or the shortage of a breach.
+pub fn write_outcome<A: Allocator + Copy, O: Sink>(
+    session: &Session<A>,
+    out: &mut O,
+) -> Result<(), Broken>
+    requires { O.failures out.old < 2 ^ 64 - 1 }
+    ensures bytes { WritesUpTo result (O.contents out.old) (O.contents out.new) (outcome_line session.now.moments.present.verdict) }
+    ensures failed { CountsFailure result (O.failures out.old) (O.failures out.new) }
+{
+    match session.verdict() {
+        Verdict::Best(worth) => write_s(out, worth),
+        Verdict::Infeasible(shortage) => write_i(out, shortage),
+    }
+}
+
+/// Writes the solution of the present moment: a best flow, with its potentials where a proof is asked for, or a
+/// breach.
+pub fn write_solution<A: Allocator + Copy, O: Sink>(
+    session: &Session<A>,
+    proof: bool,
+    out: &mut O,
+) -> Result<(), Broken>
+    requires { O.failures out.old < 2 ^ 64 - 1 }
+    ensures bytes { WritesUpTo result (O.contents out.old) (O.contents out.new) (solution proof session.now.moments.present) }
+    ensures failed { CountsFailure result (O.failures out.old) (O.failures out.new) }
+{
+    match session.verdict() {
+        Verdict::Best(worth) => write_best(worth, session, proof, out),
+        Verdict::Infeasible(shortage) => write_breach(shortage, session, out),
+    }
+}
+
+/// Writes a best flow, with its potentials where a proof is asked for.
+fn write_best<A: Allocator + Copy, O: Sink>(
+    worth: i128,
+    session: &Session<A>,
+    proof: bool,
+    out: &mut O,
+) -> Result<(), Broken>
+    requires { O.failures out.old < 2 ^ 64 - 1 }
+    ensures bytes { WritesUpTo result (O.contents out.old) (O.contents out.new) (best_text worth proof session.now.moments.present) }
+    ensures failed { CountsFailure result (O.failures out.old) (O.failures out.new) }
+{
+    write_s(out, worth)?;
+    write_flows(session.network(), session.flow(), out)?;
+    write_proof(proof, session.potentials(), out)
+}
+
+/// Writes a breach.
+fn write_breach<A: Allocator + Copy, O: Sink>(
+    shortage: i64,
+    session: &Session<A>,
+    out: &mut O,
+) -> Result<(), Broken>
+    requires { O.failures out.old < 2 ^ 64 - 1 }
+    ensures bytes { WritesUpTo result (O.contents out.old) (O.contents out.new)
+        (breach_text shortage session.now.moments.present.cut) }
+    ensures failed { CountsFailure result (O.failures out.old) (O.failures out.new) }
+{
+    write_i(out, shortage)?;
+    write_cut(session.cut(), out)
+}
+
+/// Writes the flow of each arc.
+fn write_flows<O: Sink>(net: &Network, flow: &[i64], out: &mut O) -> Result<(), Broken>
+    requires out { O.failures out.old < 2 ^ 64 - 1 }
+    requires one_an_arc { length flow.now ≡ length net.now.arcs }
+    requires count { length flow.now < 2 ^ 32 - 1 }
+    ensures bytes { WritesUpTo result (O.contents out.old) (O.contents out.new) (flow_lines net.now.arcs flow.now) }
+    ensures failed { CountsFailure result (O.failures out.old) (O.failures out.new) }
+{
+    for (place, x) in flow.iter().enumerate() {
+        let Some(arc) = net.arc(place as u32 + 1) else {
+            unreachable!()
+        };
+        write_arc(&arc, x, out)?;
+    }
+    Ok(())
+}
+
+/// Writes the flow of an arc.
+fn write_arc<O: Sink>(arc: &ArcRow, x: &i64, out: &mut O) -> Result<(), Broken>
+    requires { O.failures out.old < 2 ^ 64 - 1 }
+    ensures bytes { WritesUpTo result (O.contents out.old) (O.contents out.new) (flow_line arc.now.tail arc.now.head x.now) }
+    ensures failed { CountsFailure result (O.failures out.old) (O.failures out.new) }
+{
+    write_f(out, arc.tail, arc.head, *x)
+}
+
+/// Writes the potential of each node, where a proof is asked for.
+fn write_proof<O: Sink>(proof: bool, potentials: &[i64], out: &mut O) -> Result<(), Broken>
+    requires out { O.failures out.old < 2 ^ 64 - 1 }
+    requires count { length potentials.now < 2 ^ 32 - 1 }
+    ensures bytes { WritesUpTo result (O.contents out.old) (O.contents out.new)
+        (if proof then potential_lines 1 potentials.now else []) }
+    ensures failed { CountsFailure result (O.failures out.old) (O.failures out.new) }
+{
+    if proof {
+        write_potentials(potentials, out)
+    } else {
+        Ok(())
+    }
+}
+
+/// Writes the potential of each node.
+fn write_potentials<O: Sink>(potentials: &[i64], out: &mut O) -> Result<(), Broken>
+    requires out { O.failures out.old < 2 ^ 64 - 1 }
+    requires count { length potentials.now < 2 ^ 32 - 1 }
+    ensures bytes { WritesUpTo result (O.contents out.old) (O.contents out.new) (potential_lines 1 potentials.now) }
+    ensures failed { CountsFailure result (O.failures out.old) (O.failures out.new) }
+{
+    for (place, potential) in potentials.iter().enumerate() {
+        write_node(place as u32 + 1, potential, out)?;
+    }
+    Ok(())
+}
+
+/// Writes the potential of a node.
+fn write_node<O: Sink>(id: u32, potential: &i64, out: &mut O) -> Result<(), Broken>
+    requires { O.failures out.old < 2 ^ 64 - 1 }
+    ensures bytes { WritesUpTo result (O.contents out.old) (O.contents out.new) (potential_line id potential.now) }
+    ensures failed { CountsFailure result (O.failures out.old) (O.failures out.new) }
+{
+    write_v(out, id, *potential)
+}
+
+/// Writes each marked node.
+fn write_cut<O: Sink>(marks: &[bool], out: &mut O) -> Result<(), Broken>
+    requires out { O.failures out.old < 2 ^ 64 - 1 }
+    requires count { length marks.now < 2 ^ 32 - 1 }
+    ensures bytes { WritesUpTo result (O.contents out.old) (O.contents out.new) (cut_lines 1 marks.now) }
+    ensures failed { CountsFailure result (O.failures out.old) (O.failures out.new) }
+{
+    for (place, mark) in marks.iter().enumerate() {
+        write_mark(place as u32 + 1, *mark, out)?;
+    }
+    Ok(())
+}
+
+/// Writes a node where it is marked.
+fn write_mark<O: Sink>(id: u32, mark: bool, out: &mut O) -> Result<(), Broken>
+    requires { O.failures out.old < 2 ^ 64 - 1 }
+    ensures bytes { WritesUpTo result (O.contents out.old) (O.contents out.new) (if mark then cut_line id else []) }
+    ensures failed { CountsFailure result (O.failures out.old) (O.failures out.new) }
+{
+    if mark { write_k(out, id) } else { Ok(()) }
+}

@@ -1,0 +1,64 @@
+//! Solves a problem, and writes the solution.
+ghost use Rattle.std.specs.Prelude.{◌≡◌, ◌+◌, ◌-◌, ◌^◌, ◌<◌};
+ghost use Rattle.dimacs_io.specs.Device.{CountsFailure, WritesUpTo};
+ghost use Rattle.checker.specs.Check.{problem_failures, write_failures};
+ghost use Rattle.engines.specs.Printing.{solution};
+ghost use Rattle.engines.specs.Solve.{SolveTells, end_by};
+
+use crate::solution::write_solution;
+use checker::{End, Text, read_problem};
+use dimacs_io::{Broken, Sink, Source};
+use flow_solver::Verdict;
+use session::Session;
+use std::alloc::Global;
+
+/// Solves a problem text: writes a best flow, with its potentials where a proof is asked for, or a cut that shows that
+/// no legal flow exists.
+///
+/// Nothing is written before the text is read to its end, and nothing after a failed write.
+pub fn solve<P: Source, O: Sink>(alloc: Global, input: &mut P, out: &mut O, proof: bool) -> End
+    requires input { P.failures input.old < 2 ^ 64 - 1 }
+    requires out { O.failures out.old < 2 ^ 64 - 1 }
+
+    // What is written is the printing of what is settled, and no end comes without its cause.
+    ensures solve { SolveTells result proof
+        (P.remaining input.old) (P.most_left input.old - P.most_left input.new)
+        (O.contents out.old) (O.contents out.new) }
+
+    // The end tells of each call that failed.
+    ensures input_failed { P.failures input.new ≡ P.failures input.old + problem_failures result }
+    ensures out_failed { O.failures out.new ≡ O.failures out.old + write_failures result }
+{
+    let problem = match read_problem(alloc, input) {
+        Ok(problem) => problem,
+        Err(error) => return error.end(Text::Problem),
+    };
+    let session = match Session::open(alloc, &problem, 0) {
+        Ok(session) => session,
+        Err(_) => return End::Memory,
+    };
+    if tell_solution(&session, proof, out).is_err() {
+        return End::WriteFailed;
+    }
+    end_by(session.verdict())
+}
+
+/// Writes the solution of the present moment, and passes it on.
+fn tell_solution<O: Sink>(session: &Session, proof: bool, out: &mut O) -> Result<(), Broken>
+    requires { O.failures out.old < 2 ^ 64 - 1 }
+    ensures bytes { WritesUpTo result (O.contents out.old) (O.contents out.new) (solution proof session.now.moments.present) }
+    ensures failed { CountsFailure result (O.failures out.old) (O.failures out.new) }
+{
+    write_solution(session, proof, out)?;
+    out.flush()
+}
+
+/// How a run ends that writes the solution.
+fn end_by(verdict: Verdict) -> End
+    ensures { result ≡ end_by verdict }
+{
+    match verdict {
+        Verdict::Best(_) => End::Solved,
+        Verdict::Infeasible(_) => End::Infeasible,
+    }
+}

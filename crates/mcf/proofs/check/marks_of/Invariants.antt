@@ -1,7 +1,0 @@
-use Rattle.std.proofs.Common.{◌≡◌, drop}
-use Rattle.mcf.specs.Check.{mark_all, marks_of}
-use Rattle.mcf.proofs.check.marks_of.Given as goal
-
--- with the nodes still to come marked too, all are marked
-abbrev pub invariant-loop-id : goal.invariant-loop-id
-invariant-loop-id l = mark_all l.marks.items (drop l.id-index l.ids) ≡ marks_of l.nodes l.ids

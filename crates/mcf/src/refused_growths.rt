@@ -1,0 +1,68 @@
+//! Each growth of an edit in a session refused in turn.
+
+use crate::End;
+use crate::tests::DIAMOND;
+use dimacs_io::{Pad, Script};
+use engines::run_session_in;
+use refusing::Refusing;
+
+/// More growths than any commands below take.
+const MOST: u64 = 99;
+
+/// What brings a session to the moment at which growths are refused.
+const BEFORE: &[u8] = b"cap 5 3\nundo\n";
+
+/// The same, and the edit.
+const EDITED: &[u8] = b"cap 5 3\nundo\ncap 1 1\n";
+
+/// The same, and what goes back to the future that the edit would have dropped.
+const COMMANDS: &[u8] = b"cap 5 3\nundo\ncap 1 1\nredo\nshow\n";
+
+/// The replies where the edit is refused.
+const REPLIES: &[u8] =
+    b"s 14\ns 15\ns 14\nr 30\ns 15\ns 15\nf 1 2 2\nf 1 3 2\nf 2 3 1\nf 2 4 1\nf 3 4 3\n";
+
+/// Runs a session on the diamond that serves so many growths of its steps, refuses so many after them, and serves the
+/// rest. Gives how it ends, what is written, and how many growths it could still take before one is refused.
+fn session(rt: &HostRuntime, commands: &[u8], served: u64, refused: u64) -> (End, Pad, u64) {
+    let steps = Refusing::new(rt.alloc());
+    steps.plan(served, refused);
+    let mut out = Pad::new(4096, None);
+    let end = run_session_in(
+        rt.alloc(),
+        &steps,
+        &mut Script::new(DIAMOND, 4096, None),
+        &mut Script::new(commands, 4096, None),
+        &mut out,
+        1000,
+    );
+    (end, out, steps.served_left())
+}
+
+/// How many growths the steps of these commands take.
+fn growths(rt: &HostRuntime, commands: &[u8]) -> u64 {
+    let (_, _, left) = session(rt, commands, MOST, 0);
+    MOST.saturating_sub(left)
+}
+
+/// Whether the future is kept at each growth of the edit that is refused, with the next ones so that there are so many.
+fn keeps_future(rt: &HostRuntime, refused: u64) -> bool {
+    let (first, end_of_edit) = (growths(rt, BEFORE), growths(rt, EDITED));
+    for served in first..end_of_edit {
+        let (end, out, _) = session(rt, COMMANDS, served, refused);
+        if end != End::Ended || out.held() != REPLIES {
+            return false;
+        }
+    }
+    first < end_of_edit && end_of_edit < MOST
+}
+
+#[test]
+fn a_refused_growth_keeps_the_future(rt: HostRuntime) {
+    assert!(rt; keeps_future(&rt, 1));
+}
+
+#[test]
+fn growths_refused_from_then_on_keep_the_future(rt: HostRuntime) {
+    assert!(rt; keeps_future(&rt, u64::MAX));
+}
