@@ -1,0 +1,5 @@
+mod LooseValues
+mod Pointers
+mod ReadLemmas
+mod StepLemmas
+mod ListLemmas

@@ -1,0 +1,206 @@
+//! What C calls: a session of a flow problem behind a handle, as `mcf.h` says.
+//!
+//! Each call takes the session out of its handle, does its work on it by a function of this crate, and puts it back.
+#![tactic(auto)]
+
+ghost use Rattle.std.specs.Prelude.{◌≡◌, ◌≢◌, ◌⊎◌, ℕ, ℤ, List, None, Some, Err, pos, length, IfSome};
+ghost use Rattle.dimacs_text.specs.Reading.{reads};
+ghost use Rattle.dimacs_text.specs.declared.command.Command.TheVariants as commands;
+ghost use Rattle.dimacs_text.specs.declared.fault.TextFault.TheVariants as faults;
+ghost use Rattle.flow_solver.specs.Desk.{IsAnswered};
+ghost use Rattle.flow_solver.specs.declared.verdict.Verdict.TheVariants.{Infeasible};
+ghost use Rattle.network.specs.Instance.{IsBest, IsBreach, IsCertified, IsLegal, at_node, is_marked};
+ghost use Rattle.session.specs.Record.{flow_of};
+ghost use Rattle.session.specs.Step.{Step, StepBy};
+ghost use Rattle.mcf_c.specs.Library.{Goes, IsOpening, IsViewOf, Steps, arc_count, given_of, has_cut, has_flow, moments_of, node_count};
+
+mod handle;
+mod library;
+mod lists;
+mod loose;
+mod plan;
+mod pointer;
+mod status;
+mod view;
+
+use dimacs_text::TextFault;
+use handle::Handle;
+use library::{read_problem, take_line};
+use lists::{give_cut, give_flow, give_potentials};
+use plan::Plan;
+use session::Session;
+use status::{CLOSED, FAULT, MEMORY, OPEN};
+use std::alloc::Global;
+use view::{View, look};
+
+/// The first fault of a text.
+#[repr(C)]
+#[derive(Clone, Copy)]
+pub struct Fault {
+    /// The line, counted from 1.
+    pub line: u64,
+    pub number: u8,
+}
+
+/// Opens a session on a problem text, with room for `extra` arcs more, up to the limit of arcs.
+///
+/// Answers 0, or `OPEN`, `FAULT` or `MEMORY`, after which the handle is as before.
+#[unsafe(no_mangle)]
+pub extern "C" fn mcf_open(
+    alloc: Global,
+    handle: &mut Handle,
+    text: &[u8],
+    extra: u32,
+    fault: &mut Fault,
+) -> i32
+    ensures opened { result ≡ pos 0 → (moments_of handle.old ≡ None) × IfSome (moments_of handle.new) (IsOpening text.now extra) }
+    ensures open { result ≡ pos 0 → moments_of handle.new ≢ None }
+    ensures fault { result ≡ FAULT → reads text.now ≡ Err (faults.Fault fault.new.number fault.new.line) }
+    ensures in_use { result ≡ OPEN → moments_of handle.old ≢ None }
+    ensures otherwise { result ≢ pos 0 → result ≢ FAULT → result ≢ OPEN → result ≡ MEMORY }
+    ensures refused { result ≢ pos 0 → moments_of handle.new ≡ moments_of handle.old }
+{
+    if handle.is_open() {
+        return OPEN;
+    }
+    let problem = match read_problem(alloc, text) {
+        Ok(problem) => problem,
+        Err(TextFault::Fault { number, line }) => {
+            *fault = Fault { line, number };
+            return FAULT;
+        }
+        Err(TextFault::Memory) => return MEMORY,
+    };
+    let session = match Session::open(alloc, &problem, extra) {
+        Ok(session) => session,
+        Err(_) => return MEMORY,
+    };
+    match Box::new(alloc, Plan { session }) {
+        Ok(plan) => {
+            handle.put(plan);
+            0
+        }
+        Err(_) => MEMORY,
+    }
+}
+
+/// Takes the step that a line of a command text asks for, as `mcf session` does.
+///
+/// Answers 0, or the number of the refusal, or `CLOSED`. A refused line changes nothing; `show` and `proof` neither.
+#[unsafe(no_mangle)]
+pub extern "C" fn mcf_command(alloc: Global, handle: &mut Handle, line: &[u8]) -> i32
+    ensures { Goes (moments_of handle.old) result (moments_of handle.new) (λ old. Steps (Step old line.now)) }
+{
+    let Some(mut plan) = handle.take(alloc) else {
+        return CLOSED;
+    };
+    let number = take_line(&mut plan.session, line);
+    handle.put(plan);
+    i32::from(number)
+}
+
+/// Goes back one moment. Answers 0, or 25 where there is none, or `CLOSED`.
+#[unsafe(no_mangle)]
+pub extern "C" fn mcf_undo(alloc: Global, handle: &mut Handle) -> i32
+    ensures { Goes (moments_of handle.old) result (moments_of handle.new) (λ old. Steps (StepBy commands.Undo old)) }
+{
+    let Some(mut plan) = handle.take(alloc) else {
+        return CLOSED;
+    };
+    let number = library::undo(&mut plan.session);
+    handle.put(plan);
+    i32::from(number)
+}
+
+/// Goes on one moment. Answers 0, or 26 where there is none, or `CLOSED`.
+#[unsafe(no_mangle)]
+pub extern "C" fn mcf_redo(alloc: Global, handle: &mut Handle) -> i32
+    ensures { Goes (moments_of handle.old) result (moments_of handle.new) (λ old. Steps (StepBy commands.Redo old)) }
+{
+    let Some(mut plan) = handle.take(alloc) else {
+        return CLOSED;
+    };
+    let number = library::redo(&mut plan.session);
+    handle.put(plan);
+    i32::from(number)
+}
+
+/// Tells the verdict of the present moment, its sizes, and how many moments are past and future. Answers 0 or `CLOSED`.
+#[unsafe(no_mangle)]
+pub extern "C" fn mcf_look(alloc: Global, handle: &mut Handle, view: &mut View) -> i32
+    ensures shown { IfSome (moments_of handle.old) (λ t. (result ≡ pos 0) × IsViewOf t view.new) }
+    ensures closed { moments_of handle.old ≡ None → (result ≡ CLOSED) × (view.new ≡ view.old) }
+    ensures unchanged { moments_of handle.new ≡ moments_of handle.old }
+{
+    let Some(plan) = handle.take(alloc) else {
+        return CLOSED;
+    };
+    *view = look(&plan.session);
+    handle.put(plan);
+    0
+}
+
+/// Copies a best flow of the present moment, one entry an arc in their order.
+///
+/// Answers 0, or `NOT_THERE` where no flow is legal, `OTHER_LENGTH` or `CLOSED`, after which the room is as before.
+#[unsafe(no_mangle)]
+pub extern "C" fn mcf_flow(alloc: Global, handle: &mut Handle, flow: &mut [i64]) -> i32
+    ensures status { result ≡ given_of (moments_of handle.old) has_flow arc_count (length flow.old) }
+    ensures copied { result ≡ pos 0 → IfSome (moments_of handle.old) (λ t. flow.new ≡ flow_of t.present) }
+    ensures best { result ≡ pos 0 → IfSome (moments_of handle.old) (λ t. IsBest t.present.instance flow.new) }
+    ensures room { result ≢ pos 0 → flow.new ≡ flow.old }
+    ensures unchanged { moments_of handle.new ≡ moments_of handle.old }
+{
+    let Some(plan) = handle.take(alloc) else {
+        return CLOSED;
+    };
+    let status = give_flow(&plan.session, flow);
+    handle.put(plan);
+    status
+}
+
+/// Copies the potentials that certify the best flow, one entry a node in their order.
+///
+/// Answers 0, or `NOT_THERE` where no flow is legal, `OTHER_LENGTH` or `CLOSED`, after which the room is as before.
+#[unsafe(no_mangle)]
+pub extern "C" fn mcf_potentials(alloc: Global, handle: &mut Handle, potentials: &mut [i64]) -> i32
+    ensures status { result ≡ given_of (moments_of handle.old) has_flow node_count (length potentials.old) }
+    ensures certified { result ≡ pos 0 → IfSome (moments_of handle.old) (λ t. IsCertified t.present.instance (flow_of t.present) (at_node potentials.new)) }
+    ensures room { result ≢ pos 0 → potentials.new ≡ potentials.old }
+    ensures unchanged { moments_of handle.new ≡ moments_of handle.old }
+{
+    let Some(plan) = handle.take(alloc) else {
+        return CLOSED;
+    };
+    let status = give_potentials(&plan.session, potentials);
+    handle.put(plan);
+    status
+}
+
+/// Copies the cut that shows why no flow is legal, one mark a node in their order.
+///
+/// Answers 0, or `NOT_THERE` where a flow is legal, `OTHER_LENGTH` or `CLOSED`, after which the room is as before.
+#[unsafe(no_mangle)]
+pub extern "C" fn mcf_cut(alloc: Global, handle: &mut Handle, cut: &mut [bool]) -> i32
+    ensures status { result ≡ given_of (moments_of handle.old) has_cut node_count (length cut.old) }
+    ensures none_legal { result ≡ pos 0 → IfSome (moments_of handle.old) (λ t. (flow : List ℤ) → IsLegal t.present.instance flow → ⊥) }
+    ensures breach { (shortage : ℤ) → result ≡ pos 0 → IfSome (moments_of handle.old)
+        (λ t. t.present.verdict ≡ Infeasible shortage → IsBreach t.present.instance (is_marked cut.new) shortage) }
+    ensures room { result ≢ pos 0 → cut.new ≡ cut.old }
+    ensures unchanged { moments_of handle.new ≡ moments_of handle.old }
+{
+    let Some(plan) = handle.take(alloc) else {
+        return CLOSED;
+    };
+    let status = give_cut(&plan.session, cut);
+    handle.put(plan);
+    status
+}
+
+/// Ends a session, and gives its memory back. A closed handle stays closed.
+#[unsafe(no_mangle)]
+pub extern "C" fn mcf_close(alloc: Global, handle: &mut Handle)
+    ensures { moments_of handle.new ≡ None }
+{
+    let _session = handle.take(alloc);
+}

@@ -1,0 +1,98 @@
+//! The calls, over a session that is there.
+
+ghost use Rattle.std.specs.Prelude.{◌≡◌};
+ghost use Rattle.dimacs_text.specs.declared.command.Command.TheVariants as commands;
+ghost use Rattle.session.specs.Step.{Step, StepBy, StepOfEdit};
+ghost use Rattle.mcf_c.specs.Library.{ReadsAs, Steps, number_of};
+
+use dimacs_text::{
+    Command, Edit, LINE_LIMIT, Problem, ProblemReader, TextFault, is_blank, read_command,
+};
+use session::{Refusal, Session};
+use std::alloc::Global;
+
+/// A line has too many bytes.
+const LINE_TOO_LONG: u8 = 1;
+/// A line is blank, and so no command.
+const NO_COMMAND: u8 = 2;
+/// There is no past moment.
+const NOTHING_TO_UNDO: u8 = 25;
+/// There is no future moment.
+const NOTHING_TO_REDO: u8 = 26;
+/// Memory was refused in an edit.
+const WANT_OF_MEMORY: u8 = 30;
+
+/// Reads the problem of a text.
+pub fn read_problem(alloc: Global, text: &[u8]) -> Result<Problem, TextFault>
+    ensures { ReadsAs result text.now }
+{
+    let mut reader = ProblemReader::new(alloc);
+    match reader.feed(text) {
+        Ok(()) => reader.finish(),
+        Err(fault) => Err(fault),
+    }
+}
+
+/// Takes the step that a line of a command text asks for, and answers 0 or the number of the refusal.
+pub fn take_line(session: &mut Session, line: &[u8]) -> u8
+    ensures { Steps (Step session.old.moments line.now) result session.new.moments }
+{
+    if is_blank(line) {
+        return if line.len() > LINE_LIMIT {
+            LINE_TOO_LONG
+        } else {
+            NO_COMMAND
+        };
+    }
+    match read_command(session.network().kind(), line) {
+        Ok(command) => take(session, command),
+        Err(number) => number,
+    }
+}
+
+/// Takes the step of a command.
+fn take(session: &mut Session, command: Command) -> u8
+    ensures { Steps (StepBy command session.old.moments) result session.new.moments }
+{
+    match command {
+        Command::Edit(edit) => apply(session, &edit),
+        Command::Undo => undo(session),
+        Command::Redo => redo(session),
+        Command::Show => 0,
+        Command::Proof => 0,
+    }
+}
+
+/// Applies an edit.
+fn apply(session: &mut Session, edit: &Edit) -> u8
+    ensures { Steps (StepOfEdit edit.now session.old.moments) result session.new.moments }
+{
+    match session.apply(edit) {
+        Ok(_) => 0,
+        Err(refusal) => number_of(refusal),
+    }
+}
+
+/// The number of a refused edit.
+fn number_of(refusal: Refusal) -> u8
+    ensures { result ≡ number_of refusal }
+{
+    match refusal {
+        Refusal::Cause(number) => number,
+        Refusal::Memory => WANT_OF_MEMORY,
+    }
+}
+
+/// Goes back one moment.
+pub fn undo(session: &mut Session) -> u8
+    ensures { Steps (StepBy commands.Undo session.old.moments) result session.new.moments }
+{
+    if session.undo() { 0 } else { NOTHING_TO_UNDO }
+}
+
+/// Goes on one moment.
+pub fn redo(session: &mut Session) -> u8
+    ensures { Steps (StepBy commands.Redo session.old.moments) result session.new.moments }
+{
+    if session.redo() { 0 } else { NOTHING_TO_REDO }
+}
