@@ -11,7 +11,7 @@ ghost use Rattle.shortest_paths.specs.Queue.{IsQueueFor};
 ghost use Rattle.shortest_paths.specs.Touched.{AreNoted};
 ghost use Rattle.shortest_paths.specs.Trail.{IsTrailOf};
 
-use shortest_paths::{Graph, Labels, Queue, Touched, Trail, Visit, search_labels};
+use shortest_paths::{Graph, Labels, Queue, Residual, Touched, Trail, Visit, search_labels};
 
 /// Makes each label a potential.
 fn take_labels(potentials: &mut [i64], touched: &mut Touched, visits: &[Visit])
@@ -53,9 +53,11 @@ pub fn raise(
     ensures sized { IsQueueFor (length potentials.old) queue.new }
 {
     search_labels(
-        graph,
-        flow,
-        potentials,
+        Residual {
+            graph,
+            flow,
+            potentials,
+        },
         &mut labels.visits,
         &mut labels.order,
         queue,

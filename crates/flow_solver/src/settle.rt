@@ -19,8 +19,8 @@ ghost use Rattle.shortest_paths.specs.declared.cut.Side.TheVariants.{Ahead, Behi
 use crate::ledger::Ledger;
 use crate::potentials::{lower, raise};
 use shortest_paths::{
-    Graph, Labels, Queue, Scratch, Side, Touched, Trail, Visit, Walks, find_deficits, forget,
-    mark_side, push_found, take_marks,
+    Graph, Labels, Levels, Queue, Residual, Scratch, Side, Touched, Trail, Visit, Walks,
+    find_deficits, forget, mark_side, push_found, take_marks,
 };
 
 /// How far potentials may fall before labels are taken again.
@@ -70,18 +70,24 @@ pub fn push_all(
 {
     let mut pushes = 0;
     let mut fallen = 0;
-    while let Some(reach) = search_on(graph, flow, potentials, excess, visits, queue, trail) {
-        lower(potentials, touched_potentials, visits, trail, reach);
-        pushes += push_found(
+    while let Some(reach) = search_on(
+        Residual {
             graph,
             flow,
-            touched_flow,
             potentials,
-            excess,
+        },
+        excess,
+        visits,
+        queue,
+        trail,
+    ) {
+        lower(potentials, touched_potentials, visits, trail, reach);
+        let levels = Levels {
+            graph,
+            potentials,
             visits,
-            trail,
-            walks,
-        );
+        };
+        pushes += push_found(levels, flow, touched_flow, excess, trail, walks);
         forget(visits, queue, trail);
         fallen = keep_near(
             graph,
@@ -99,32 +105,29 @@ pub fn push_all(
 /// Searches from the nodes in excess for nodes in deficit, where there are both, and gives how far the search has come;
 /// nothing where no node in excess reaches a node in deficit, and then the search is forgotten.
 fn search_on(
-    graph: &Graph,
-    flow: &[i64],
-    potentials: &[i64],
+    residual: Residual<'_>,
     excess: &[i64],
     visits: &mut [Visit],
     queue: &mut Queue,
     trail: &mut Trail,
 ) -> Option<i64>
-    requires graph { IsGraphFor (length potentials.now) graph.now }
-    requires certified { IsCertified graph.now.rows.items flow.now potentials.now }
-    requires excess_in { length excess.now ≡ length potentials.now }
-    requires visits_in { length visits.old ≡ length potentials.now }
+    requires graph { IsGraphFor (length residual.potentials.now) residual.graph.now }
+    requires excess_in { length excess.now ≡ length residual.potentials.now }
+    requires visits_in { length visits.old ≡ length residual.potentials.now }
     requires fresh { IsFresh visits.old }
-    requires sized { IsQueueFor (length potentials.now) queue.old }
-    requires trail_in { IsTrailFor (length potentials.now) trail.old }
-    ensures found { MatchOption result (IsParted graph.now.rows.items flow.now excess.now) (HasSearched graph.now.rows.items flow.now potentials.now excess.now visits.new) }
+    requires sized { IsQueueFor (length residual.potentials.now) queue.old }
+    requires trail_in { IsTrailFor (length residual.potentials.now) trail.old }
+    ensures found { MatchOption result (IsParted residual.entry.graph.now.rows.items residual.entry.flow.now excess.now) (HasSearched residual.entry.graph.now.rows.items residual.entry.flow.now residual.entry.potentials.now excess.now visits.new) }
     ensures forgotten { IfNone result (IsFresh visits.new) }
     ensures queue { IfSome result (λ reach. IsQueueOf visits.new queue.new) }
     ensures trail { IfSome result (λ reach. IsTrailOf visits.new trail.new) }
-    ensures sized { IsQueueFor (length potentials.now) queue.new }
-    ensures trail_in { IsTrailFor (length potentials.now) trail.new }
+    ensures sized { IsQueueFor (length residual.entry.potentials.now) queue.new }
+    ensures trail_in { IsTrailFor (length residual.entry.potentials.now) trail.new }
 {
     if !has_root(Side::Ahead, excess) || !has_root(Side::Behind, excess) {
         return None;
     }
-    let reach = find_deficits(graph, flow, potentials, excess, visits, queue, trail);
+    let reach = find_deficits(residual, excess, visits, queue, trail);
     if reach.is_none() {
         forget(visits, queue, trail);
     }

@@ -14,7 +14,7 @@ use Rattle.network.specs.Flow.{net, outflow, inflow}
 use Rattle.shortest_paths.specs.declared.graph.Graph.{Graph}
 use Rattle.shortest_paths.specs.declared.walk.End.{End}
 use Rattle.shortest_paths.specs.declared.walk.Walk.{Walk}
-use Rattle.shortest_paths.specs.Ends.{NothingToCome}
+use Rattle.shortest_paths.specs.Ends.{NothingToCome, leaving}
 use Rattle.shortest_paths.proofs.EndLemmas.{AllHaveOrCome, all_ends_met, all_entering}
 use Rattle.shortest_paths.specs.declared.cut.Side.{Side}
 use Rattle.shortest_paths.specs.declared.cut.Side.TheVariants.{Ahead, Behind}
@@ -513,7 +513,7 @@ abbrev pub way_on : Side → Way → Way
 way_on Ahead way = way
 way_on Behind way = other_way way
 
-pub leading_is : (side : Side) (end : End) → leading side end ≡ record { arc = end.leaving.arc; way = way_on side end.leaving.way }
+pub leading_is : (side : Side) (end : End) → leading side end ≡ record { arc = (leaving end).arc; way = way_on side (leaving end).way }
 leading_is Ahead end = refl
 leading_is Behind end = refl
 

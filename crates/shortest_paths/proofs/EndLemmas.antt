@@ -14,7 +14,7 @@ use Rattle.shortest_paths.specs.declared.walk.End.{End}
 use Rattle.shortest_paths.specs.declared.walk.Stage.{Stage}
 use Rattle.shortest_paths.specs.declared.walk.Stage.TheVariants.{Added, Return, Spokes}
 use Rattle.shortest_paths.specs.declared.walk.Walk.{Walk}
-use Rattle.shortest_paths.specs.Ends.{AllToCome, IsAddedUpTo, IsBeforeSpokes, IsEnd, IsEndAt, IsFirstStage, IsFromEnd, IsNextToCome, IsToCome, IsWalk, NothingToCome, StandsIn, left_in, left_of, stage_of}
+use Rattle.shortest_paths.specs.Ends.{AllToCome, IsAddedUpTo, IsBeforeSpokes, IsEnd, IsEndAt, IsFirstStage, IsFromEnd, IsNextToCome, IsToCome, IsWalk, NothingToCome, StandsIn, entered, last_in, leaving, left_in, left_of, stage_of}
 use Rattle.shortest_paths.specs.Limits.{row_limit}
 use Rattle.shortest_paths.specs.Residual.{arc_at, end_at, end_of, other_way, start_at, start_of}
 use Rattle.shortest_paths.specs.Star.{Covers, IsPlaced, spoke_at}
@@ -68,6 +68,16 @@ end_of_row I rows v row k Backward of split le lt starts =
       here = end_node-head I.arcs j j_in ∙ ap (λ (a : ArcRow). a.head) there ∙ starts;
       from = record { same_arc = ap (λ (q : ℕ). q + row) half ∙ same; same_way = ap (λ (r : ℕ). cond (eqb r 0) Forward Backward) odd };
     }
+
+-- the number of an end among those of the rows, where the first arc has this row
+pub number_row : (end row : ℕ) → (end + 2 * row) / 2 ≡ end / 2 + row
+number_row end row = omega arith
+
+pub number_way : (end row : ℕ) → end_way (end + 2 * row) ≡ end_way end
+number_way end row = ap (λ (r : ℕ). cond (eqb r 0) Forward Backward) same
+  where
+    same : (end + 2 * row) % 2 ≡ end % 2
+    same = omega arith
 
 half_is : (end row k : ℕ) (way : Way) → IsFromEnd end row k way → end / 2 ≡ k - row
 half_is end row k way from = omega (arith, from.same_arc)
@@ -173,8 +183,8 @@ module _ (g : Graph) (v row : ℕ) (of : AreRowsOf g.net g.rows.items) (split : 
 
 -- a walk that begins in its first stage is to come to each end
 pub all_to_come : (g : Graph) (w : Walk) (entries : ℕ) → AreRowsOf g.net g.rows.items → w.first_row + length g.net.arcs ≡ length g.rows.items → Covers entries g.net.arcs g.star
-    → IsFirstStage g w.node w.first_row w.stage → w.next ≡ slice_index g.star.begin.items w.node → w.last ≡ slice_index g.star.begin.items (w.node + 1) → AllToCome g w
-all_to_come g w entries of split covers first next last k way lt starts = elim (first.all k way lt starts) [
+    → IsFirstStage g w.node w.first_row w.stage → w.next ≡ slice_index g.star.begin.items w.node → AllToCome g w
+all_to_come g w entries of split covers first next k way lt starts = elim (first.all k way lt starts) [
   | inl covered ↦ (let end = end_of_row g.net g.rows.items w.node w.first_row k way of split covered.0 lt starts in
       let cover : end.end / 2 < g.star.arcs = omega (arith, covered.1, half_is end.end w.first_row k way end.from) in
       let begins : start_at g.net.arcs (end.end / 2) (end_way end.end) ≡ w.node = sym (start_is g.net.arcs end.end end.is_end) ∙ end.here in
@@ -182,7 +192,7 @@ all_to_come g w entries of split covers first next last k way lt starts = elim (
       inr (record {
         place = placed.place;
         after = omega (arith, placed.after, next);
-        before = omega (arith, placed.before, last);
+        before = placed.before;
         covered = subst (λ (e : ℕ). e / 2 < g.star.arcs) (sym placed.is) cover;
         from = subst (λ (e : ℕ). IsFromEnd e w.first_row k way) (sym placed.is) end.from;
       }))
@@ -201,17 +211,20 @@ module _ (g : Graph) (w : Walk) (place : ℕ) (spoke : Spoke)
     abbrev way : Way
     way = end_way spoke.end
 
+    abbrev at_spoke : End
+    at_spoke = record { number = spoke.end + 2 * w.first_row; other = spoke.other }
+
     abbrev after : Walk
-    after = record { node = w.node; first_row = w.first_row; stage = w.stage; next = place + 1; last = w.last }
+    after = record { node = w.node; first_row = w.first_row; covered = w.covered; stage = w.stage; next = place + 1; last = w.last }
 
     pub spoke_row : row < length g.rows.items
     spoke_row = omega (arith, covered, walk.at.graph.star.few, walk.split)
 
     pub spoke_walk : IsWalk g after
-    spoke_walk = record { at = walk.at; split = walk.split; few = walk.few; stands = walk.stands; after = omega (arith, walk.after, from); until = walk.until }
+    spoke_walk = record { at = walk.at; split = walk.split; few = walk.few; covered = walk.covered; stands = walk.stands; after = omega (arith, walk.after, from); until = walk.until }
 
     before_next : place < slice_index g.star.begin.items (w.node + 1)
-    before_next = omega (arith, lt, walk.until)
+    before_next = omega (arith, lt, walk.until, ap (last_in g w.node) stage)
 
     row_there : arc_at g.rows.items row ≡ arc_at g.net.arcs (spoke.end / 2)
     row_there = row_is g.net g.rows.items w.first_row (spoke.end / 2) walk.at.graph.rows walk.split
@@ -226,21 +239,23 @@ module _ (g : Graph) (w : Walk) (place : ℕ) (spoke : Spoke)
         subst (λ (q : Spoke). q.end / 2 < g.star.arcs → q.other ≡ end_at g.net.arcs (q.end / 2 + 0) (end_way q.end)) (sym is)
         (λ low. walk.at.graph.star.named place (omega (arith, before_next, walk.at.graph.star.within (w.node + 1))) low) covered
 
-    pub spoke_end : IsEndAt g.rows.items w.node (record { leaving = record { arc = row; way = way }; other = spoke.other })
+    pub spoke_end : IsEndAt g.rows.items w.node at_spoke
     spoke_end = record {
-      is_arc = spoke_row;
-      starts = ap (λ (a : ArcRow). start_of a way) row_there ∙ starts_at_node;
-      ends = ap (λ (a : ArcRow). end_of a way) row_there ∙ ap (λ (k : ℕ). end_at g.net.arcs k way) none ∙ sym names_other;
+      is_arc = omega (arith, spoke_row);
+      starts = ap (λ (k : ℕ). start_at g.rows.items k (end_way at_spoke.number)) (number_row spoke.end w.first_row) ∙ ap (start_at g.rows.items row) (number_way spoke.end w.first_row)
+          ∙ ap (λ (a : ArcRow). start_of a way) row_there ∙ starts_at_node;
+      ends = ap (λ (k : ℕ). end_at g.rows.items k (end_way at_spoke.number)) (number_row spoke.end w.first_row) ∙ ap (end_at g.rows.items row) (number_way spoke.end w.first_row)
+          ∙ ap (λ (a : ArcRow). end_of a way) row_there ∙ ap (λ (k : ℕ). end_at g.net.arcs k way) none ∙ sym names_other;
     }
       where
         none : spoke.end / 2 ≡ spoke.end / 2 + 0
         none = omega arith
 
-    pub spoke_rest : ((i : ℕ) → w.next ≤ i → i < place → g.star.arcs ≤ (spoke_at g.star.spokes.items i).end / 2) → (k : ℕ) (other : Way) → IsToCome g w k other → ((k ≡ row) × (other ≡ way)) ⊎ IsToCome g after k other
+    pub spoke_rest : ((i : ℕ) → w.next ≤ i → i < place → g.star.arcs ≤ (spoke_at g.star.spokes.items i).end / 2) → (k : ℕ) (other : Way) → IsToCome g w k other → ((k ≡ (leaving at_spoke).arc) × (other ≡ (leaving at_spoke).way)) ⊎ IsToCome g after k other
     spoke_rest skipped k other (inl before) = absurd (subst (λ (s : Stage). IsBeforeSpokes g w.node w.first_row s k other) stage before)
     spoke_rest skipped k other (inr at) = elim (cases_eq at.place place) [
       | inl same ↦ (let end_is : (spoke_at g.star.spokes.items at.place).end ≡ spoke.end = ap (λ (i : ℕ). (spoke_at g.star.spokes.items i).end) same ∙ ap (λ (q : Spoke). q.end) (sym is) in
-          inl (sym at.from.same_arc ∙ ap (λ (e : ℕ). e / 2 + w.first_row) end_is, sym at.from.same_way ∙ ap end_way end_is))
+          inl (sym at.from.same_arc ∙ ap (λ (e : ℕ). e / 2 + w.first_row) end_is ∙ sym (number_row spoke.end w.first_row), sym at.from.same_way ∙ ap end_way end_is ∙ sym (number_way spoke.end w.first_row)))
       | inr ne ↦ elim (cases_lt at.place place) [
         | inl earlier ↦ absurd (omega (arith, skipped at.place at.after earlier, at.covered))
         | inr later ↦ inr (inr (record { place = at.place; after = omega (arith, later, ne); before = at.before; covered = at.covered; from = at.from }))
@@ -248,21 +263,38 @@ module _ (g : Graph) (w : Walk) (place : ℕ) (spoke : Spoke)
     ]
 
     pub spoke_shorter : left_of g after < left_of g w
-    spoke_shorter = omega (arith, from, lt)
+    spoke_shorter = omega (arith, from, before_next)
 
-pub no_spoke : (g : Graph) (w : Walk) → w.stage ≡ Spokes → ((i : ℕ) → w.next ≤ i → i < w.last → g.star.arcs ≤ (spoke_at g.star.spokes.items i).end / 2) → NothingToCome g w
-no_spoke g w stage skipped k way (inl before) = subst (λ (s : Stage). IsBeforeSpokes g w.node w.first_row s k way) stage before
-no_spoke g w stage skipped k way (inr at) = omega (arith, skipped at.place at.after at.before, at.covered)
+-- the star covers an end where it is one of the first
+pub is_covered : (g : Graph) (w : Walk) (end : ℕ) → IsWalk g w → end < w.covered → end / 2 < g.star.arcs
+is_covered g w end walk lt = omega (arith, walk.covered, lt)
+
+-- the last spoke of the node is at hand
+pub last_place : (g : Graph) (w : Walk) → IsWalk g w → w.stage ≡ Spokes → w.last ≤ length g.star.spokes.items
+last_place g w walk stage = omega (arith, walk.until ∙ ap (last_in g w.node) stage, walk.at.graph.star.within (w.node + 1))
+
+-- spokes are at hand only once the walk has come to them
+pub among_spokes : (g : Graph) (w : Walk) → IsWalk g w → w.next < w.last → w.stage ≡ Spokes
+among_spokes g w walk lt = by_stage w.stage refl
+  where
+    by_stage : (stage : Stage) → w.stage ≡ stage → w.stage ≡ Spokes
+    by_stage (Return first) is = absurd (omega (arith, lt, walk.until, ap (last_in g w.node) is))
+    by_stage (Added end) is = absurd (omega (arith, lt, walk.until, ap (last_in g w.node) is))
+    by_stage Spokes is = is
+
+pub no_spoke : (g : Graph) (w : Walk) → IsWalk g w → w.stage ≡ Spokes → ((i : ℕ) → w.next ≤ i → i < w.last → g.star.arcs ≤ (spoke_at g.star.spokes.items i).end / 2) → NothingToCome g w
+no_spoke g w walk stage skipped k way (inl before) = subst (λ (s : Stage). IsBeforeSpokes g w.node w.first_row s k way) stage before
+no_spoke g w walk stage skipped k way (inr at) = omega (arith, skipped at.place at.after (omega (arith, at.before, walk.until, ap (last_in g w.node) stage)), at.covered)
 
 -- ---- the next end before the spokes
 
 -- a walk that goes on by an end of an arc which the star does not cover
 pub added_rest : (g : Graph) (w : Walk) (current : ℕ) (next : Option ℕ) (k : ℕ) (way : Way) → w.stage ≡ Added current → IsNextEnd g.net.arcs w.node current next → IsToCome g w k way
-    → ((k ≡ current / 2 + w.first_row) × (way ≡ end_way current)) ⊎ IsToCome g (record w { stage = stage_of g.star.arcs next }) k way
+    → ((k ≡ current / 2 + w.first_row) × (way ≡ end_way current)) ⊎ IsToCome g (entered g w (stage_of g.star.arcs next)) k way
 added_rest g w current next k way stage is (inr at) = inr (inr (record { place = at.place; after = at.after; before = at.before; covered = at.covered; from = at.from }))
 added_rest g w current next k way stage is (inl before) = go (subst (λ (s : Stage). IsBeforeSpokes g w.node w.first_row s k way) stage before)
   where
-    go : IsAddedUpTo g w.node w.first_row current k way → ((k ≡ current / 2 + w.first_row) × (way ≡ end_way current)) ⊎ IsToCome g (record w { stage = stage_of g.star.arcs next }) k way
+    go : IsAddedUpTo g w.node w.first_row current k way → ((k ≡ current / 2 + w.first_row) × (way ≡ end_way current)) ⊎ IsToCome g (entered g w (stage_of g.star.arcs next)) k way
     go added = elim (cases_eq added.end current) [
       | inl same ↦ inl (sym added.from.same_arc ∙ ap (λ (e : ℕ). e / 2 + w.first_row) same, sym added.from.same_way ∙ ap end_way same)
       | inr ne ↦ inr (inl (stage_more g w.node w.first_row current next k way is added (omega (arith, ne, added.at_most))))
@@ -270,24 +302,25 @@ added_rest g w current next k way stage is (inl before) = go (subst (λ (s : Sta
 
 -- a walk that goes on by the return arc
 pub return_rest : (g : Graph) (w : Walk) (first : Way) (next : Option ℕ) (k : ℕ) (way : Way) → w.stage ≡ Return first → IsNextEnd g.net.arcs w.node (2 * length g.net.arcs) next → IsToCome g w k way
-    → ((k ≡ 0) × (way ≡ first)) ⊎ IsToCome g (record w { stage = stage_of g.star.arcs next }) k way
+    → ((k ≡ 0) × (way ≡ first)) ⊎ IsToCome g (entered g w (stage_of g.star.arcs next)) k way
 return_rest g w first next k way stage is (inr at) = inr (inr (record { place = at.place; after = at.after; before = at.before; covered = at.covered; from = at.from }))
 return_rest g w first next k way stage is (inl before) = elim (subst (λ (s : Stage). IsBeforeSpokes g w.node w.first_row s k way) stage before) [
   | inl here ↦ inl here
   | inr added ↦ inr (inl (stage_more g w.node w.first_row (2 * length g.net.arcs) next k way is added added.is_end))
 ]
 
-pub walk_on : (g : Graph) (w : Walk) (n : ℕ) (next : Option ℕ) → IsWalk g w → n ≤ 2 * length g.net.arcs → IsNextEnd g.net.arcs w.node n next → IsWalk g (record w { stage = stage_of g.star.arcs next })
+pub walk_on : (g : Graph) (w : Walk) (n : ℕ) (next : Option ℕ) → IsWalk g w → n ≤ 2 * length g.net.arcs → IsNextEnd g.net.arcs w.node n next → IsWalk g (entered g w (stage_of g.star.arcs next))
 walk_on g w n next walk le is = record {
   at = walk.at;
   split = walk.split;
   few = walk.few;
+  covered = walk.covered;
   stands = stage_stands g w.node w.first_row n next le is;
   after = walk.after;
-  until = walk.until;
+  until = refl;
 }
 
-pub walk_shorter : (g : Graph) (w : Walk) (n : ℕ) (next : Option ℕ) → IsNextEnd g.net.arcs w.node n next → left_in g w.stage ≡ n + 1 → left_of g (record w { stage = stage_of g.star.arcs next }) < left_of g w
+pub walk_shorter : (g : Graph) (w : Walk) (n : ℕ) (next : Option ℕ) → IsNextEnd g.net.arcs w.node n next → left_in g w.stage ≡ n + 1 → left_of g (entered g w (stage_of g.star.arcs next)) < left_of g w
 walk_shorter g w n next is was = omega (arith, stage_left g w.node n next is, was)
 
 -- ---- one loop over the ends
@@ -297,11 +330,11 @@ abbrev pub AllHaveOrCome : Graph → Walk → ℕ → (ℕ → Way → Type 0) �
 AllHaveOrCome g w v P = (k : ℕ) (way : Way) → k < length g.rows.items → start_at g.rows.items k way ≡ v → P k way ⊎ IsToCome g w k way
 
 pub one_end_more : (g : Graph) (w w' : Walk) (v : ℕ) (end : End) (P Q : ℕ → Way → Type 0) → AllHaveOrCome g w v P → IsNextToCome g w w' end → ((k : ℕ) (way : Way) → P k way → Q k way)
-    → Q end.leaving.arc end.leaving.way → AllHaveOrCome g w' v Q
+    → Q (leaving end).arc (leaving end).way → AllHaveOrCome g w' v Q
 one_end_more g w w' v end P Q done rest kept here k way lt starts = elim (done k way lt starts) [
   | inl has ↦ inl (kept k way has)
   | inr come ↦ elim (rest k way come) [
-    | inl this ↦ inl (subst (λ (q : ℕ). Q q way) (sym this.0) (subst (Q end.leaving.arc) (sym this.1) here))
+    | inl this ↦ inl (subst (λ (q : ℕ). Q q way) (sym this.0) (subst (Q (leaving end).arc) (sym this.1) here))
     | inr later ↦ inr later
   ]
 ]

@@ -9,6 +9,7 @@ use Rattle.shortest_paths.specs.declared.residual.Way.{Way}
 use Rattle.shortest_paths.specs.declared.walk.End.{End}
 use Rattle.shortest_paths.specs.declared.cut.Side.{Side}
 use Rattle.shortest_paths.specs.declared.cut.Side.TheVariants.{Ahead, Behind}
+use Rattle.shortest_paths.specs.Ends.{leaving}
 use Rattle.shortest_paths.specs.Push.{positive_part, left}
 use Rattle.shortest_paths.specs.Residual.{number_at, arc_at, start_of, end_of, turned, IsResidual}
 
@@ -79,8 +80,8 @@ far_at side arcs k way = far_of side (arc_at arcs k) way
 
 -- the residual arc that leads on from an end of an arc
 abbrev pub leading : Side → End → ResidualArc
-leading Ahead end = end.leaving
-leading Behind end = turned end.leaving
+leading Ahead end = leaving end
+leading Behind end = turned (leaving end)
 
 -- no residual arc leads on out of the set: ahead none leaves it, and behind none enters it
 abbrev pub IsClosed : Side → List ArcRow → List ℤ → List Bool → Type 0

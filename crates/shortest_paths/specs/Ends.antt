@@ -3,6 +3,7 @@ use Rattle.std.specs.Prelude.{◌≡◌, ℕ, ◌⊎◌, ◌+◌, ◌-◌, ◌*�
 use Rattle.dimacs_text.specs.declared.problem.ArcRow.{ArcRow}
 use Rattle.network.specs.Ends.{end_node}
 use Rattle.shortest_paths.specs.declared.graph.Graph.{Graph}
+use Rattle.shortest_paths.specs.declared.residual.ResidualArc.{ResidualArc}
 use Rattle.shortest_paths.specs.declared.residual.Way.{Way}
 use Rattle.shortest_paths.specs.declared.walk.End.{End}
 use Rattle.shortest_paths.specs.declared.walk.Stage.{Stage}
@@ -14,15 +15,19 @@ use Rattle.shortest_paths.specs.Residual.{end_at, start_at}
 use Rattle.shortest_paths.specs.Star.{spoke_at}
 use Rattle.shortest_paths.specs.Walk.{end_way}
 
+-- the residual arc that leaves the node at an end
+abbrev pub leaving : End → ResidualArc
+leaving end = record { arc = end.number / 2; way = end_way end.number }
+
 -- the residual arc that leaves node v there, and the node to which it leads
 pub record IsEndAt (arcs : List ArcRow) (v : ℕ) (end : End) : Type 0 where
-  pub is_arc : end.leaving.arc < length arcs
-  pub starts : start_at arcs end.leaving.arc end.leaving.way ≡ v
-  pub ends : end_at arcs end.leaving.arc end.leaving.way ≡ end.other
+  pub is_arc : (leaving end).arc < length arcs
+  pub starts : start_at arcs (leaving end).arc (leaving end).way ≡ v
+  pub ends : end_at arcs (leaving end).arc (leaving end).way ≡ end.other
 
 -- the end of an arc that is there, at the node which the residual arc leaves
 abbrev pub IsEnd : List ArcRow → End → Type 0
-IsEnd arcs end = IsEndAt arcs (start_at arcs end.leaving.arc end.leaving.way) end
+IsEnd arcs end = IsEndAt arcs (start_at arcs (leaving end).arc (leaving end).way) end
 
 -- the tables of the graph have an entry for node v
 pub record HasNode (g : Graph) (v : ℕ) : Type 0 where
@@ -43,14 +48,25 @@ StandsIn g v row (Return way) = (0 < row) × (start_at g.rows.items 0 way ≡ v)
 StandsIn g v row (Added end) = (g.star.arcs ≤ end / 2) × (end < 2 * length g.net.arcs) × (end_node g.net.arcs end ≡ v)
 StandsIn g v row Spokes = Unit {0}
 
+-- the place behind the last spoke at hand: none is before its stage
+abbrev pub last_in : Graph → ℕ → Stage → ℕ
+last_in g v (Return way) = 0
+last_in g v (Added end) = 0
+last_in g v Spokes = slice_index g.star.begin.items (v + 1)
+
+-- the walk that has come to a stage
+abbrev pub entered : Graph → Walk → Stage → Walk
+entered g w stage = record w { stage = stage; last = last_in g w.node stage }
+
 -- a walk over the ends at one of the graph's nodes
 pub record IsWalk (g : Graph) (w : Walk) : Type 0 where
   pub at : HasNode g w.node
   pub split : w.first_row + length g.net.arcs ≡ length g.rows.items
   pub few : length g.rows.items ≤ row_limit
+  pub covered : w.covered ≡ 2 * g.star.arcs
   pub stands : StandsIn g w.node w.first_row w.stage
   pub after : slice_index g.star.begin.items w.node ≤ w.next
-  pub until : w.last ≡ slice_index g.star.begin.items (w.node + 1)
+  pub until : w.last ≡ last_in g w.node w.stage
 
 -- ---- what is to come of it
 
@@ -72,7 +88,7 @@ pub record IsAddedUpTo (g : Graph) (v row current k : ℕ) (way : Way) : Type 0 
 pub record IsAtSpoke (g : Graph) (w : Walk) (k : ℕ) (way : Way) : Type 0 where
   pub place : ℕ
   pub after : w.next ≤ place
-  pub before : place < w.last
+  pub before : place < slice_index g.star.begin.items (w.node + 1)
   pub covered : (spoke_at g.star.spokes.items place).end / 2 < g.star.arcs
   pub from : IsFromEnd (spoke_at g.star.spokes.items place).end w.first_row k way
 
@@ -100,7 +116,7 @@ NothingToCome g w = (k : ℕ) (way : Way) → IsToCome g w k way → ⊥
 
 -- the walk goes on by this end: what was to come is this end, or is to come still
 abbrev pub IsNextToCome : Graph → Walk → Walk → End → Type 0
-IsNextToCome g w w' end = (k : ℕ) (way : Way) → IsToCome g w k way → ((k ≡ end.leaving.arc) × (way ≡ end.leaving.way)) ⊎ IsToCome g w' k way
+IsNextToCome g w w' end = (k : ℕ) (way : Way) → IsToCome g w k way → ((k ≡ (leaving end).arc) × (way ≡ (leaving end).way)) ⊎ IsToCome g w' k way
 
 -- what is left of a walk before the spokes
 abbrev pub left_in : Graph → Stage → ℕ
@@ -110,4 +126,4 @@ left_in g Spokes = 0
 
 -- what is left of a walk
 abbrev pub left_of : Graph → Walk → ℕ
-left_of g w = left_in g w.stage + (w.last - w.next)
+left_of g w = left_in g w.stage + (slice_index g.star.begin.items (w.node + 1) - w.next)

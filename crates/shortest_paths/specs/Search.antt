@@ -44,6 +44,10 @@ abbrev pub reduced_at : List ArcRow → List ℤ → ℕ → Way → ℤ
 reduced_at arcs p k way =
     (cost_at arcs k way +ℤ number_at p (start_at arcs k way)) -ℤ number_at p (end_at arcs k way)
 
+-- the length of the path to node u, with the node's potential
+abbrev pub priced_key : List ℤ → List Visit → ℕ → ℤ
+priced_key p s u = key_at s u +ℤ number_at p u
+
 -- the best path to v that the search knows comes along arc k from a settled node
 pub record IsTracedBy (arcs : List ArcRow) (x p : List ℤ) (s : List Visit) (v k : ℕ) (way : Way) : Type 0 where
   pub residual : IsResidual arcs x k way

@@ -12,11 +12,18 @@ ghost use Rattle.shortest_paths.specs.Trail.{IsTrailOf};
 
 use crate::blocking::{Walks, find_path};
 use crate::graph::Graph;
+use crate::levels::Levels;
 use crate::residual::{ResidualArc, Way};
 use crate::touched::Touched;
 use crate::trail::Trail;
-use crate::visit::Visit;
 use dimacs_text::ArcRow;
+
+/// The path on which a walk came from `target`, a node in deficit, to `root`, one in excess.
+#[derive(Clone, Copy)]
+struct FoundPath {
+    root: usize,
+    target: usize,
+}
 
 /// How much fits along a residual arc, at most `limit`.
 fn room_on(graph: &Graph, flow: &[i64], hop: ResidualArc, limit: i64) -> i64
@@ -32,96 +39,76 @@ fn room_on(graph: &Graph, flow: &[i64], hop: ResidualArc, limit: i64) -> i64
 }
 
 /// How much fits along the path on which the walk came from `target` to `root`, at most `limit`.
-fn bottleneck(
-    graph: &Graph,
-    flow: &[i64],
-    visits: &[Visit],
-    walks: &Walks,
-    root: usize,
-    target: usize,
-    limit: i64,
-) -> i64
-    requires flow { IsFlow (length visits.now) graph.now.rows.items flow.now }
-    requires walks { IsWalksFor (length visits.now) walks.now }
-    requires target_in { target < length visits.now }
-    requires way { IsWay graph.now.rows.items flow.now visits.now walks.now target root }
+fn bottleneck(levels: Levels<'_>, flow: &[i64], walks: &Walks, path: FoundPath, limit: i64) -> i64
+    requires flow { IsFlow (length levels.visits.now) levels.graph.now.rows.items flow.now }
+    requires walks { IsWalksFor (length levels.visits.now) walks.now }
+    requires target_in { path.target < length levels.visits.now }
+    requires way { IsWay levels.graph.now.rows.items flow.now levels.visits.now walks.now path.target path.root }
     ensures at_most { result ≤ℤ limit }
-    ensures room { HasRoom graph.now.rows.items flow.now result (hops_from graph.now.rows.items visits.now walks.now.back.items target root) }
-    ensures most { (m : ℤ) → m ≤ℤ limit → HasRoom graph.now.rows.items flow.now m (hops_from graph.now.rows.items visits.now walks.now.back.items target root) → m ≤ℤ result }
+    ensures room { HasRoom levels.entry.graph.now.rows.items flow.now result (hops_from levels.entry.graph.now.rows.items levels.entry.visits.now walks.now.back.items path.target path.root) }
+    ensures most { (m : ℤ) → m ≤ℤ limit → HasRoom levels.entry.graph.now.rows.items flow.now m (hops_from levels.entry.graph.now.rows.items levels.entry.visits.now walks.now.back.items path.target path.root) → m ≤ℤ result }
 {
     let mut room = limit;
-    let mut node = root;
-    while visits[node].depth < visits[target].depth {
+    let mut node = path.root;
+    while levels.visits[node].depth < levels.visits[path.target].depth {
         let hop = walks.way_on(node);
-        room = room_on(graph, flow, hop, room);
-        node = graph.end(hop.arc as usize, hop.way);
+        room = room_on(levels.graph, flow, hop, room);
+        node = levels.graph.end(hop.arc as usize, hop.way);
     }
     room
 }
 
 /// How much can be pushed along the path on which the walk came from `target` to `root`.
 fn amount_along(
-    graph: &Graph,
+    levels: Levels<'_>,
     flow: &[i64],
     excess: &[i64],
-    visits: &[Visit],
     walks: &Walks,
-    root: usize,
-    target: usize,
+    path: FoundPath,
 ) -> i64
-    requires flow { IsFlow (length visits.now) graph.now.rows.items flow.now }
-    requires excess_in { length excess.now ≡ length visits.now }
+    requires flow { IsFlow (length levels.visits.now) levels.graph.now.rows.items flow.now }
+    requires excess_in { length excess.now ≡ length levels.visits.now }
     requires small { AreSmall excess.now }
-    requires walks { IsWalksFor (length visits.now) walks.now }
-    requires target_in { target < length visits.now }
-    requires way { IsWay graph.now.rows.items flow.now visits.now walks.now target root }
-    requires some_excess { pos 0 <ℤ number_at excess.now root }
-    requires some_deficit { number_at excess.now target <ℤ pos 0 }
+    requires walks { IsWalksFor (length levels.visits.now) walks.now }
+    requires target_in { path.target < length levels.visits.now }
+    requires way { IsWay levels.graph.now.rows.items flow.now levels.visits.now walks.now path.target path.root }
+    requires some_excess { pos 0 <ℤ number_at excess.now path.root }
+    requires some_deficit { number_at excess.now path.target <ℤ pos 0 }
     ensures at_least_1 { pos 1 ≤ℤ result }
-    ensures in_excess { result ≤ℤ number_at excess.now root }
-    ensures in_deficit { number_at excess.now target ≤ℤ neg_ℤ result }
-    ensures room { HasRoom graph.now.rows.items flow.now result (hops_from graph.now.rows.items visits.now walks.now.back.items target root) }
-    ensures most { (m : ℤ) → m ≤ℤ number_at excess.now root → number_at excess.now target ≤ℤ neg_ℤ m → HasRoom graph.now.rows.items flow.now m (hops_from graph.now.rows.items visits.now walks.now.back.items target root) → m ≤ℤ result }
+    ensures in_excess { result ≤ℤ number_at excess.now path.root }
+    ensures in_deficit { number_at excess.now path.target ≤ℤ neg_ℤ result }
+    ensures room { HasRoom levels.entry.graph.now.rows.items flow.now result (hops_from levels.entry.graph.now.rows.items levels.entry.visits.now walks.now.back.items path.target path.root) }
+    ensures most { (m : ℤ) → m ≤ℤ number_at excess.now path.root → number_at excess.now path.target ≤ℤ neg_ℤ m → HasRoom levels.entry.graph.now.rows.items flow.now m (hops_from levels.entry.graph.now.rows.items levels.entry.visits.now walks.now.back.items path.target path.root) → m ≤ℤ result }
 {
-    let surplus = excess[root];
-    let lacking = -excess[target];
-    bottleneck(
-        graph,
-        flow,
-        visits,
-        walks,
-        root,
-        target,
-        surplus.min(lacking),
-    )
+    let surplus = excess[path.root];
+    let lacking = -excess[path.target];
+    bottleneck(levels, flow, walks, path, surplus.min(lacking))
 }
 
 /// Moves `amount` along the path on which the walk came from `target` to `root`.
 fn shift(
-    graph: &Graph,
+    levels: Levels<'_>,
     flow: &mut [i64],
     touched: &mut Touched,
-    visits: &[Visit],
     walks: &Walks,
-    root: usize,
-    target: usize,
+    path: FoundPath,
     amount: i64,
 )
     requires touched_in { length flow.old ≤ length touched.old }
-    requires flow { IsFlow (length visits.now) graph.now.rows.items flow.old }
-    requires walks { IsWalksFor (length visits.now) walks.now }
-    requires target_in { target < length visits.now }
-    requires way { IsWay graph.now.rows.items flow.old visits.now walks.now target root }
+    requires flow { IsFlow (length levels.visits.now) levels.graph.now.rows.items flow.old }
+    requires walks { IsWalksFor (length levels.visits.now) walks.now }
+    requires target_in { path.target < length levels.visits.now }
+    requires way { IsWay levels.graph.now.rows.items flow.old levels.visits.now walks.now path.target path.root }
     requires amount { pos 1 ≤ℤ amount }
-    requires room { HasRoom graph.now.rows.items flow.old amount (hops_from graph.now.rows.items visits.now walks.now.back.items target root) }
-    ensures flow { flow.new ≡ push_along (hops_from graph.now.rows.items visits.now walks.now.back.items target root) amount flow.old }
+    requires room { HasRoom levels.graph.now.rows.items flow.old amount (hops_from levels.graph.now.rows.items levels.visits.now walks.now.back.items path.target path.root) }
+    ensures flow { flow.new ≡ push_along (hops_from levels.entry.graph.now.rows.items levels.entry.visits.now walks.now.back.items path.target path.root) amount flow.old }
     ensures noted { AreNoted touched.old flow.old touched.new flow.new }
 {
-    let mut node = root;
-    while visits[node].depth < visits[target].depth {
+    let mut node = path.root;
+    while levels.visits[node].depth < levels.visits[path.target].depth {
         let hop = walks.way_on(node);
-        shift_on(graph, flow, touched, hop, amount);
-        node = graph.end(hop.arc as usize, hop.way);
+        shift_on(levels.graph, flow, touched, hop, amount);
+        node = levels.graph.end(hop.arc as usize, hop.way);
     }
 }
 
@@ -172,62 +159,61 @@ fn transfer(excess: &mut [i64], source: usize, target: usize, amount: i64)
 
 /// Pushes what fits along the path on which the walk came from `target` to `root`.
 fn push_on(
-    graph: &Graph,
+    levels: Levels<'_>,
     flow: &mut [i64],
     touched: &mut Touched,
-    potentials: &[i64],
     excess: &mut [i64],
-    visits: &[Visit],
     walks: &Walks,
-    root: usize,
-    target: usize,
+    path: FoundPath,
 )
     requires touched_in { length flow.old ≤ length touched.old }
-    requires state { IsUnderWay (length visits.now) graph.now.rows.items potentials.now flow.old excess.old }
-    requires walks { IsWalksFor (length visits.now) walks.now }
-    requires target_in { target < length visits.now }
-    requires some_deficit { number_at excess.old target <ℤ pos 0 }
-    requires found { IsFound graph.now.rows.items potentials.now flow.old excess.old visits.now walks.now target root }
+    requires state { IsUnderWay (length levels.visits.now) levels.graph.now.rows.items levels.potentials.now flow.old excess.old }
+    requires walks { IsWalksFor (length levels.visits.now) walks.now }
+    requires target_in { path.target < length levels.visits.now }
+    requires some_deficit { number_at excess.old path.target <ℤ pos 0 }
+    requires found { IsFound levels.graph.now.rows.items levels.potentials.now flow.old excess.old levels.visits.now walks.now path.target path.root }
     ensures noted { AreNoted touched.old flow.old touched.new flow.new }
-    ensures state { IsUnderWay (length visits.now) graph.now.rows.items potentials.now flow.new excess.new }
-    ensures push { ArePushes graph.now.rows.items 1 flow.old excess.old flow.new excess.new }
+    ensures state { IsUnderWay (length levels.entry.visits.now) levels.entry.graph.now.rows.items levels.entry.potentials.now flow.new excess.new }
+    ensures push { ArePushes levels.entry.graph.now.rows.items 1 flow.old excess.old flow.new excess.new }
 {
-    let amount = amount_along(graph, flow, excess, visits, walks, root, target);
-    shift(graph, flow, touched, visits, walks, root, target, amount);
-    transfer(excess, root, target, amount);
+    let amount = amount_along(levels, flow, excess, walks, path);
+    shift(levels, flow, touched, walks, path, amount);
+    transfer(excess, path.root, path.target, amount);
 }
 
 /// Pushes to a node until nothing is lacking there or no path leads to it, and counts the pushes.
 fn push_to(
-    graph: &Graph,
+    levels: Levels<'_>,
     flow: &mut [i64],
     touched: &mut Touched,
-    potentials: &[i64],
     excess: &mut [i64],
-    visits: &[Visit],
     walks: &mut Walks,
     target: usize,
 ) -> u64
-    requires graph { IsGraphFor (length potentials.now) graph.now }
+    requires graph { IsGraphFor (length levels.potentials.now) levels.graph.now }
     requires touched_in { length flow.old ≤ length touched.old }
-    requires state { IsUnderWay (length visits.now) graph.now.rows.items potentials.now flow.old excess.old }
-    requires potentials_in { ArePotentials (length visits.now) potential_floor potentials.now }
-    requires walks { IsWalksFor (length visits.now) walks.old }
-    requires target_in { target < length visits.now }
+    requires state { IsUnderWay (length levels.visits.now) levels.graph.now.rows.items levels.potentials.now flow.old excess.old }
+    requires walks { IsWalksFor (length levels.visits.now) walks.old }
+    requires target_in { target < length levels.visits.now }
     ensures noted { AreNoted touched.old flow.old touched.new flow.new }
-    ensures state { IsUnderWay (length visits.now) graph.now.rows.items potentials.now flow.new excess.new }
-    ensures walks { IsWalksFor (length visits.now) walks.new }
-    ensures pushes { ArePushes graph.now.rows.items result flow.old excess.old flow.new excess.new }
+    ensures state { IsUnderWay (length levels.entry.visits.now) levels.entry.graph.now.rows.items levels.entry.potentials.now flow.new excess.new }
+    ensures walks { IsWalksFor (length levels.entry.visits.now) walks.new }
+    ensures pushes { ArePushes levels.entry.graph.now.rows.items result flow.old excess.old flow.new excess.new }
     ensures done { IsDone excess.new walks.new target }
-    ensures some { ArePaths graph.now.rows.items potentials.now visits.now → CanPush graph.now.rows.items flow.old excess.old visits.now target → AreAlive visits.now walks.old.dead.items → 0 < result }
+    ensures some { ArePaths levels.entry.graph.now.rows.items levels.entry.potentials.now levels.entry.visits.now → CanPush levels.entry.graph.now.rows.items flow.old excess.old levels.entry.visits.now target → AreAlive levels.entry.visits.now walks.old.dead.items → 0 < result }
     ensures kept { (number_at excess.old target <ℤ pos 0) ⊎ (walks.new ≡ walks.old) }
 {
     let mut pushes = 0;
     while excess[target] < 0 {
-        match find_path(graph, flow, potentials, excess, visits, walks, target) {
+        match find_path(levels, flow, excess, walks, target) {
             Some(root) => {
                 push_on(
-                    graph, flow, touched, potentials, excess, visits, walks, root, target,
+                    levels,
+                    flow,
+                    touched,
+                    excess,
+                    walks,
+                    FoundPath { root, target },
                 );
                 pushes += 1;
             }
@@ -239,36 +225,31 @@ fn push_to(
 
 /// Pushes to the nodes in deficit that the search found, and counts the pushes.
 pub fn push_found(
-    graph: &Graph,
+    levels: Levels<'_>,
     flow: &mut [i64],
     touched: &mut Touched,
-    potentials: &[i64],
     excess: &mut [i64],
-    visits: &[Visit],
     trail: &Trail,
     walks: &mut Walks,
 ) -> u64
-    requires graph { IsGraphFor (length potentials.now) graph.now }
+    requires graph { IsGraphFor (length levels.potentials.now) levels.graph.now }
     requires touched_in { length flow.old ≤ length touched.old }
-    requires state { IsUnderWay (length visits.now) graph.now.rows.items potentials.now flow.old excess.old }
-    requires potentials_in { ArePotentials (length visits.now) potential_floor potentials.now }
-    requires paths { ArePaths graph.now.rows.items potentials.now visits.now }
-    requires trail { IsTrailOf visits.now trail.now }
-    requires walks { IsWalksFor (length visits.now) walks.old }
-    requires can_push { (t : ℕ) → IsFoundDeficit excess.old visits.now t → CanPush graph.now.rows.items flow.old excess.old visits.now t }
+    requires state { IsUnderWay (length levels.visits.now) levels.graph.now.rows.items levels.potentials.now flow.old excess.old }
+    requires paths { ArePaths levels.graph.now.rows.items levels.potentials.now levels.visits.now }
+    requires trail { IsTrailOf levels.visits.now trail.now }
+    requires walks { IsWalksFor (length levels.visits.now) walks.old }
+    requires can_push { (t : ℕ) → IsFoundDeficit excess.old levels.visits.now t → CanPush levels.graph.now.rows.items flow.old excess.old levels.visits.now t }
     ensures noted { AreNoted touched.old flow.old touched.new flow.new }
-    ensures state { IsUnderWay (length visits.now) graph.now.rows.items potentials.now flow.new excess.new }
-    ensures walks { IsWalksFor (length visits.now) walks.new }
-    ensures pushes { ArePushes graph.now.rows.items result flow.old excess.old flow.new excess.new }
-    ensures some { (t : ℕ) → IsFoundDeficit excess.old visits.now t → 0 < result }
+    ensures state { IsUnderWay (length levels.entry.visits.now) levels.entry.graph.now.rows.items levels.entry.potentials.now flow.new excess.new }
+    ensures walks { IsWalksFor (length levels.entry.visits.now) walks.new }
+    ensures pushes { ArePushes levels.entry.graph.now.rows.items result flow.old excess.old flow.new excess.new }
+    ensures some { (t : ℕ) → IsFoundDeficit excess.old levels.entry.visits.now t → 0 < result }
 {
     walks.refresh(trail);
     let mut pushes = 0;
     for j in 0..trail.len {
         let target = trail.nodes[j] as usize;
-        pushes += push_to(
-            graph, flow, touched, potentials, excess, visits, walks, target,
-        );
+        pushes += push_to(levels, flow, touched, excess, walks, target);
     }
     pushes
 }

@@ -9,10 +9,9 @@ ghost use Rattle.shortest_paths.specs.Search.{visit_at};
 ghost use Rattle.shortest_paths.specs.Push.{IsHopTo, ArePaths, CanPush};
 ghost use Rattle.shortest_paths.specs.Blocking.{AreAlive, IsAdmissible, IsDead, IsFound, IsSteppedTo, IsWalksFor, back_at, head_at};
 
-use crate::graph::Graph;
+use crate::levels::Levels;
 use crate::residual::{ResidualArc, Way};
 use crate::trail::Trail;
-use crate::visit::Visit;
 use crate::walk::{Place, Walk};
 use dimacs_text::ArcRow;
 use std::alloc::{AllocError, Global};
@@ -96,22 +95,14 @@ fn is_tight(row: &ArcRow, potentials: &[i64], way: Way) -> bool
 }
 
 /// Whether arc `k`, gone along in this way, is a hop that a path to the node can take.
-fn is_hop_to(
-    graph: &Graph,
-    flow: &[i64],
-    potentials: &[i64],
-    visits: &[Visit],
-    node: usize,
-    arc: ResidualArc,
-) -> bool
-    requires flow { IsFlow (length visits.now) graph.now.rows.items flow.now }
-    requires potentials_in { ArePotentials (length visits.now) potential_floor potentials.now }
-    requires node_in { node < length visits.now }
-    requires arc_in { arc.arc < length graph.now.rows.items }
-    ensures { IsTrue result ↔ IsHopTo graph.now.rows.items potentials.now flow.now visits.now node arc.arc arc.way }
+fn is_hop_to(levels: Levels<'_>, flow: &[i64], node: usize, arc: ResidualArc) -> bool
+    requires flow { IsFlow (length levels.visits.now) levels.graph.now.rows.items flow.now }
+    requires node_in { node < length levels.visits.now }
+    requires arc_in { arc.arc < length levels.graph.now.rows.items }
+    ensures { IsTrue result ↔ IsHopTo levels.entry.graph.now.rows.items levels.entry.potentials.now flow.now levels.entry.visits.now node arc.arc arc.way }
 {
     let k = arc.arc as usize;
-    let row = graph.rows[k];
+    let row = levels.graph.rows[k];
     let way = arc.way;
     if way.end(&row) as usize != node {
         return false;
@@ -120,106 +111,92 @@ fn is_hop_to(
         return false;
     }
     let start = way.start(&row) as usize;
-    if !visits[start].is_settled() {
+    if !levels.visits[start].is_settled() {
         return false;
     }
-    if u64::from(visits[start].depth) + 1 != u64::from(visits[node].depth) {
+    if u64::from(levels.visits[start].depth) + 1 != u64::from(levels.visits[node].depth) {
         return false;
     }
-    is_tight(&row, potentials, way)
+    is_tight(&row, levels.potentials, way)
 }
 
 /// Whether a walk can step back from the node along arc `k` in this way.
 fn is_admissible(
-    graph: &Graph,
+    levels: Levels<'_>,
     flow: &[i64],
-    potentials: &[i64],
-    visits: &[Visit],
     dead: &[bool],
     node: usize,
     arc: ResidualArc,
 ) -> bool
-    requires flow { IsFlow (length visits.now) graph.now.rows.items flow.now }
-    requires potentials_in { ArePotentials (length visits.now) potential_floor potentials.now }
-    requires node_in { node < length visits.now }
-    requires dead_in { length dead.now ≡ length visits.now }
-    requires arc_in { arc.arc < length graph.now.rows.items }
-    ensures { IsTrue result ↔ IsAdmissible graph.now.rows.items potentials.now flow.now visits.now dead.now node arc.arc arc.way }
+    requires flow { IsFlow (length levels.visits.now) levels.graph.now.rows.items flow.now }
+    requires node_in { node < length levels.visits.now }
+    requires dead_in { length dead.now ≡ length levels.visits.now }
+    requires arc_in { arc.arc < length levels.graph.now.rows.items }
+    ensures { IsTrue result ↔ IsAdmissible levels.entry.graph.now.rows.items levels.entry.potentials.now flow.now levels.entry.visits.now dead.now node arc.arc arc.way }
 {
-    let start = graph.start(arc.arc as usize, arc.way);
-    !dead[start] && is_hop_to(graph, flow, potentials, visits, node, arc)
+    let start = levels.graph.start(arc.arc as usize, arc.way);
+    !dead[start] && is_hop_to(levels, flow, node, arc)
 }
 
 /// The next place at which a walk can step back from the node, and the arc there.
 fn next_place(
-    graph: &Graph,
+    levels: Levels<'_>,
     flow: &[i64],
-    potentials: &[i64],
-    visits: &[Visit],
     walks: &Walks,
     node: usize,
 ) -> Option<(Place, ResidualArc)>
-    requires graph { IsGraphFor (length potentials.now) graph.now }
-    requires flow { IsFlow (length visits.now) graph.now.rows.items flow.now }
-    requires potentials_in { ArePotentials (length visits.now) potential_floor potentials.now }
-    requires node_in { node < length visits.now }
-    requires walks { IsWalksFor (length visits.now) walks.now }
-    ensures { IfSome result (λ next. IsAdmissible graph.now.rows.items potentials.now flow.now visits.now walks.now.dead.items node next.1.arc next.1.way) }
+    requires graph { IsGraphFor (length levels.potentials.now) levels.graph.now }
+    requires flow { IsFlow (length levels.visits.now) levels.graph.now.rows.items flow.now }
+    requires node_in { node < length levels.visits.now }
+    requires walks { IsWalksFor (length levels.visits.now) walks.now }
+    ensures { IfSome result (λ next. IsAdmissible levels.entry.graph.now.rows.items levels.entry.potentials.now flow.now levels.entry.visits.now walks.now.dead.items node next.1.arc next.1.way) }
 {
-    let mut walk = Walk::resume(graph, node as u32, walks.current[node]);
-    let mut place = walk.place();
-    while let Some(end) = walk.next(graph) {
-        let other = end.other as usize;
+    let mut walk = Walk::resume(levels.graph, node as u32, walks.current[node]);
+    let mut before = walk;
+    while let Some(end) = walk.next(levels.graph) {
+        let other = end.other;
         // No walk comes to such a node: neither the arc nor its flow is read.
-        if !walks.dead[other] && visits[other].is_settled() {
+        if !walks.dead[other] && levels.visits[other].is_settled() {
             let arc = end.entering();
-            if is_admissible(graph, flow, potentials, visits, &walks.dead, node, arc) {
-                return Some((place, arc));
+            if is_admissible(levels, flow, &walks.dead, node, arc) {
+                return Some((before.place(), arc));
             }
         }
-        place = walk.place();
+        before = walk;
     }
     None
 }
 
 /// Steps back from the node along the arc by which the search came to it, or else along the next one that it can, and
 /// gives the node that it comes to: nothing where there is no such arc.
-fn step_back(
-    graph: &Graph,
-    flow: &[i64],
-    potentials: &[i64],
-    visits: &[Visit],
-    walks: &mut Walks,
-    node: usize,
-) -> Option<usize>
-    requires graph { IsGraphFor (length potentials.now) graph.now }
-    requires flow { IsFlow (length visits.now) graph.now.rows.items flow.now }
-    requires potentials_in { ArePotentials (length visits.now) potential_floor potentials.now }
-    requires node_in { node < length visits.now }
-    requires walks { IsWalksFor (length visits.now) walks.old }
-    ensures walks { IsWalksFor (length visits.now) walks.new }
+fn step_back(levels: Levels<'_>, flow: &[i64], walks: &mut Walks, node: usize) -> Option<usize>
+    requires graph { IsGraphFor (length levels.potentials.now) levels.graph.now }
+    requires flow { IsFlow (length levels.visits.now) levels.graph.now.rows.items flow.now }
+    requires node_in { node < length levels.visits.now }
+    requires walks { IsWalksFor (length levels.visits.now) walks.old }
+    ensures walks { IsWalksFor (length levels.entry.visits.now) walks.new }
     ensures dead { walks.new.dead ≡ walks.old.dead }
-    ensures some { IfSome result (IsSteppedTo graph.now.rows.items potentials.now flow.now visits.now walks.old walks.new node) }
+    ensures some { IfSome result (IsSteppedTo levels.entry.graph.now.rows.items levels.entry.potentials.now flow.now levels.entry.visits.now walks.old walks.new node) }
     ensures none { IfNone result (walks.new ≡ walks.old) }
     // The arc by which the search came to the node is tried first.
-    ensures own { IsAdmissible graph.now.rows.items potentials.now flow.now visits.now walks.old.dead.items node (visit_at visits.now node).arc (visit_at visits.now node).way → result ≡ Some (start_at graph.now.rows.items (visit_at visits.now node).arc (visit_at visits.now node).way) }
+    ensures own { IsAdmissible levels.entry.graph.now.rows.items levels.entry.potentials.now flow.now levels.entry.visits.now walks.old.dead.items node (visit_at levels.entry.visits.now node).arc (visit_at levels.entry.visits.now node).way → result ≡ Some (start_at levels.entry.graph.now.rows.items (visit_at levels.entry.visits.now node).arc (visit_at levels.entry.visits.now node).way) }
 {
-    let visit = visits[node];
+    let visit = levels.visits[node];
     let own = ResidualArc {
         arc: visit.arc,
         way: visit.way,
     };
-    if (own.arc as usize) < graph.rows.len()
-        && is_admissible(graph, flow, potentials, visits, &walks.dead, node, own)
+    if (own.arc as usize) < levels.graph.rows.len()
+        && is_admissible(levels, flow, &walks.dead, node, own)
     {
-        let from = graph.start(own.arc as usize, own.way);
+        let from = levels.graph.start(own.arc as usize, own.way);
         walks.back[from] = own;
         return Some(from);
     }
-    match next_place(graph, flow, potentials, visits, walks, node) {
+    match next_place(levels, flow, walks, node) {
         Some((place, back)) => {
             walks.current[node] = place;
-            let from = graph.start(back.arc as usize, back.way);
+            let from = levels.graph.start(back.arc as usize, back.way);
             walks.back[from] = back;
             Some(from)
         }
@@ -229,32 +206,29 @@ fn step_back(
 
 /// Looks for a path to `target` from a node in excess, and gives that node. Where there is none, the target is dead.
 pub fn find_path(
-    graph: &Graph,
+    levels: Levels<'_>,
     flow: &[i64],
-    potentials: &[i64],
     excess: &[i64],
-    visits: &[Visit],
     walks: &mut Walks,
     target: usize,
 ) -> Option<usize>
-    requires graph { IsGraphFor (length potentials.now) graph.now }
-    requires flow { IsFlow (length visits.now) graph.now.rows.items flow.now }
-    requires potentials_in { ArePotentials (length visits.now) potential_floor potentials.now }
-    requires excess_in { length excess.now ≡ length visits.now }
-    requires target_in { target < length visits.now }
-    requires walks { IsWalksFor (length visits.now) walks.old }
-    ensures walks { IsWalksFor (length visits.now) walks.new }
-    ensures some { IfSome result (IsFound graph.now.rows.items potentials.now flow.now excess.now visits.now walks.new target) }
+    requires graph { IsGraphFor (length levels.potentials.now) levels.graph.now }
+    requires flow { IsFlow (length levels.visits.now) levels.graph.now.rows.items flow.now }
+    requires excess_in { length excess.now ≡ length levels.visits.now }
+    requires target_in { target < length levels.visits.now }
+    requires walks { IsWalksFor (length levels.visits.now) walks.old }
+    ensures walks { IsWalksFor (length levels.entry.visits.now) walks.new }
+    ensures some { IfSome result (IsFound levels.entry.graph.now.rows.items levels.entry.potentials.now flow.now excess.now levels.entry.visits.now walks.new target) }
     ensures none { IfNone result (IsDead walks.new target) }
     // At first the path by which the search came to the target is taken.
-    ensures first { IfNone result (ArePaths graph.now.rows.items potentials.now visits.now → CanPush graph.now.rows.items flow.now excess.now visits.now target → AreAlive visits.now walks.old.dead.items → ⊥) }
+    ensures first { IfNone result (ArePaths levels.entry.graph.now.rows.items levels.entry.potentials.now levels.entry.visits.now → CanPush levels.entry.graph.now.rows.items flow.now excess.now levels.entry.visits.now target → AreAlive levels.entry.visits.now walks.old.dead.items → ⊥) }
 {
     if walks.dead[target] {
         return None;
     }
     let mut node = target;
     while excess[node] <= 0 {
-        match step_back(graph, flow, potentials, visits, walks, node) {
+        match step_back(levels, flow, walks, node) {
             Some(from) => node = from,
             None => {
                 walks.dead[node] = true;
@@ -262,7 +236,7 @@ pub fn find_path(
                     return None;
                 }
                 let back = walks.way_on(node);
-                node = graph.end(back.arc as usize, back.way);
+                node = levels.graph.end(back.arc as usize, back.way);
             }
         }
     }

@@ -36,10 +36,18 @@ impl Side {
         ensures { result ≡ leading self end }
     {
         match self {
-            Side::Ahead => end.leaving,
+            Side::Ahead => end.leaving(),
             Side::Behind => end.entering(),
         }
     }
+}
+
+/// What leads on from the marked nodes of a side.
+#[derive(Clone, Copy)]
+struct OnSide<'a> {
+    side: Side,
+    graph: &'a Graph,
+    flow: &'a [i64],
 }
 
 /// Marks the nodes of a side. `line` is a table to list them in.
@@ -61,7 +69,7 @@ pub fn mark_side(
     let mut next = 0;
     while next < len {
         let node = line[next];
-        len = mark_from(side, graph, flow, cut, line, len, node);
+        len = mark_from(OnSide { side, graph, flow }, cut, line, len, node);
         next += 1;
     }
 }
@@ -101,32 +109,24 @@ fn mark(cut: &mut [bool], line: &mut [u32], len: usize, node: usize) -> usize
 }
 
 /// Marks the nodes to which residual arcs lead on from a marked node, and gives the length of the line.
-fn mark_from(
-    side: Side,
-    graph: &Graph,
-    flow: &[i64],
-    cut: &mut [bool],
-    line: &mut [u32],
-    len: usize,
-    node: u32,
-) -> usize
-    requires graph { IsGraphFor (length cut.old) graph.now }
-    requires flow { IsFlow (length cut.old) graph.now.rows.items flow.now }
+fn mark_from(on: OnSide<'_>, cut: &mut [bool], line: &mut [u32], len: usize, node: u32) -> usize
+    requires graph { IsGraphFor (length cut.old) on.graph.now }
+    requires flow { IsFlow (length cut.old) on.graph.now.rows.items on.flow.now }
     requires line { IsLineOf cut.old line.old len }
     requires marked { in_set cut.old node ≡ true }
     ensures line { IsLineOf cut.new line.new result }
-    ensures grown { IsGrown side graph.now.rows.items flow.now cut.old line.old len cut.new line.new result }
-    ensures far { AreFarIn side graph.now.rows.items flow.now cut.new node }
+    ensures grown { IsGrown on.entry.side on.entry.graph.now.rows.items on.entry.flow.now cut.old line.old len cut.new line.new result }
+    ensures far { AreFarIn on.entry.side on.entry.graph.now.rows.items on.entry.flow.now cut.new node }
 {
     let mut longer = len;
-    let mut walk = Walk::at(graph, node);
-    while let Some(end) = walk.next(graph) {
-        let far = end.other as usize;
+    let mut walk = Walk::at(on.graph, node);
+    while let Some(end) = walk.next(on.graph) {
+        let far = end.other;
         // Most nodes are marked already: neither the arc nor its flow is read.
         if cut[far] {
             continue;
         }
-        if graph.has_room(flow, side.leading(end)) {
+        if on.graph.has_room(on.flow, on.side.leading(end)) {
             longer = mark(cut, line, longer, far);
         }
     }

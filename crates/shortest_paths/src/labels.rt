@@ -9,9 +9,9 @@ ghost use Rattle.shortest_paths.specs.Graph.{IsGraphFor};
 ghost use Rattle.shortest_paths.specs.Queue.{IsQueueOf, IsQueueFor};
 ghost use Rattle.shortest_paths.specs.declared.visit.Mark.TheVariants.{Unreached, Open};
 
-use crate::graph::Graph;
 use crate::queue::Queue;
 use crate::residual::{ResidualArc, Way};
+use crate::residual_network::Residual;
 use crate::search::{key_through, settle_node};
 use crate::visit::{Mark, Visit};
 use crate::walk::Walk;
@@ -118,47 +118,40 @@ fn visit_through(
 
 /// How the node was reached, where it is still reached so: as a root whose potential is 0, or by a residual arc of
 /// reduced cost 0 from a node that is kept.
-fn standing(
-    graph: &Graph,
-    flow: &[i64],
-    potentials: &[i64],
-    visits: &[Visit],
-    v: usize,
-) -> Option<Visit>
-    requires certified { IsCertified graph.now.rows.items flow.now potentials.now }
-    requires forest { IsForest graph.now.rows.items flow.now potentials.now visits.now }
+fn standing(residual: Residual<'_>, visits: &[Visit], v: usize) -> Option<Visit>
+    requires forest { IsForest residual.graph.now.rows.items residual.flow.now residual.potentials.now visits.now }
     requires v_in { v < length visits.now }
-    ensures { IfSome result (Stands graph.now.rows.items flow.now potentials.now visits.now v) }
+    ensures { IfSome result (Stands residual.entry.graph.now.rows.items residual.entry.flow.now residual.entry.potentials.now visits.now v) }
 {
-    if potentials[v] == 0 {
-        return Some(settled(root(potentials, v)));
+    if residual.potentials[v] == 0 {
+        return Some(settled(root(residual.potentials, v)));
     }
     let hint = visits[v];
     let arc = ResidualArc {
         arc: hint.arc,
         way: hint.way,
     };
-    if arc.arc as usize >= graph.rows.len() {
+    if arc.arc as usize >= residual.graph.rows.len() {
         return None;
     }
-    match visit_through(&graph.rows, flow, potentials, visits, v, arc) {
+    match visit_through(
+        &residual.graph.rows,
+        residual.flow,
+        residual.potentials,
+        visits,
+        v,
+        arc,
+    ) {
         Some(visit) if visit.key == 0 => Some(settled(visit)),
         _ => None,
     }
 }
 
 /// Settles the node where it stands, and tells whether it does.
-fn keep_node(
-    graph: &Graph,
-    flow: &[i64],
-    potentials: &[i64],
-    visits: &mut [Visit],
-    v: usize,
-) -> bool
-    requires certified { IsCertified graph.now.rows.items flow.now potentials.now }
-    requires forest { IsForest graph.now.rows.items flow.now potentials.now visits.old }
+fn keep_node(residual: Residual<'_>, visits: &mut [Visit], v: usize) -> bool
+    requires forest { IsForest residual.graph.now.rows.items residual.flow.now residual.potentials.now visits.old }
     requires closed { NothingOpen visits.old }
-    ensures forest { IsForest graph.now.rows.items flow.now potentials.now visits.new }
+    ensures forest { IsForest residual.entry.graph.now.rows.items residual.entry.flow.now residual.entry.potentials.now visits.new }
     ensures closed { NothingOpen visits.new }
 {
     if v >= visits.len() {
@@ -167,7 +160,7 @@ fn keep_node(
     if visits[v].is_settled() {
         return false;
     }
-    match standing(graph, flow, potentials, visits, v) {
+    match standing(residual, visits, v) {
         Some(visit) => {
             visits[v] = visit;
             true
@@ -178,24 +171,17 @@ fn keep_node(
 
 /// Settles each node that stands, after the node before it on its path; moves these nodes to the front of `order`, and
 /// gives their number.
-fn keep(
-    graph: &Graph,
-    flow: &[i64],
-    potentials: &[i64],
-    visits: &mut [Visit],
-    order: &mut [u32],
-) -> usize
-    requires certified { IsCertified graph.now.rows.items flow.now potentials.now }
-    requires forest { IsForest graph.now.rows.items flow.now potentials.now visits.old }
+fn keep(residual: Residual<'_>, visits: &mut [Visit], order: &mut [u32]) -> usize
+    requires forest { IsForest residual.graph.now.rows.items residual.flow.now residual.potentials.now visits.old }
     requires closed { NothingOpen visits.old }
-    ensures forest { IsForest graph.now.rows.items flow.now potentials.now visits.new }
+    ensures forest { IsForest residual.entry.graph.now.rows.items residual.entry.flow.now residual.entry.potentials.now visits.new }
     ensures closed { NothingOpen visits.new }
     ensures count { result ≤ length order.new }
 {
     let mut kept = 0;
     for i in 0..order.len() {
         let v = order[i];
-        if keep_node(graph, flow, potentials, visits, v as usize) {
+        if keep_node(residual, visits, v as usize) {
             order[kept] = v;
             kept += 1;
         }
@@ -216,21 +202,27 @@ fn nearer(best: Visit, other: Option<Visit>) -> Visit
 }
 
 /// The nearest visit to the node: as a root, or by a residual arc from a settled node.
-fn nearest(graph: &Graph, flow: &[i64], potentials: &[i64], visits: &[Visit], v: usize) -> Visit
-    requires graph { IsGraphFor (length potentials.now) graph.now }
-    requires certified { IsCertified graph.now.rows.items flow.now potentials.now }
-    requires forest { IsForest graph.now.rows.items flow.now potentials.now visits.now }
+fn nearest(residual: Residual<'_>, visits: &[Visit], v: usize) -> Visit
+    requires graph { IsGraphFor (length residual.potentials.now) residual.graph.now }
+    requires forest { IsForest residual.graph.now.rows.items residual.flow.now residual.potentials.now visits.now }
     requires v_in { v < length visits.now }
-    ensures opens { Opens graph.now.rows.items flow.now potentials.now visits.now v result }
-    ensures nearest { IsShortest graph.now.rows.items flow.now potentials.now visits.now v result }
+    ensures opens { Opens residual.entry.graph.now.rows.items residual.entry.flow.now residual.entry.potentials.now visits.now v result }
+    ensures nearest { IsShortest residual.entry.graph.now.rows.items residual.entry.flow.now residual.entry.potentials.now visits.now v result }
 {
-    let mut best = root(potentials, v);
-    let mut walk = Walk::at(graph, v as u32);
-    while let Some(end) = walk.next(graph) {
+    let mut best = root(residual.potentials, v);
+    let mut walk = Walk::at(residual.graph, v as u32);
+    while let Some(end) = walk.next(residual.graph) {
         // No path goes on from a node that is not settled: neither the arc nor its flow is read.
-        if visits[end.other as usize].is_settled() {
+        if visits[end.other].is_settled() {
             let arc = end.entering();
-            let visit = visit_through(&graph.rows, flow, potentials, visits, v, arc);
+            let visit = visit_through(
+                &residual.graph.rows,
+                residual.flow,
+                residual.potentials,
+                visits,
+                v,
+                arc,
+            );
             best = nearer(best, visit);
         }
     }
@@ -238,41 +230,32 @@ fn nearest(graph: &Graph, flow: &[i64], potentials: &[i64], visits: &[Visit], v:
 }
 
 /// Opens the node, where it is not settled.
-fn enter_node(
-    graph: &Graph,
-    flow: &[i64],
-    potentials: &[i64],
-    visits: &mut [Visit],
-    queue: &mut Queue,
-    v: usize,
-)
-    requires graph { IsGraphFor (length potentials.now) graph.now }
-    requires certified { IsCertified graph.now.rows.items flow.now potentials.now }
-    requires entered { IsEntered graph.now.rows.items flow.now potentials.now visits.old v }
+fn enter_node(residual: Residual<'_>, visits: &mut [Visit], queue: &mut Queue, v: usize)
+    requires graph { IsGraphFor (length residual.potentials.now) residual.graph.now }
+    requires entered { IsEntered residual.graph.now.rows.items residual.flow.now residual.potentials.now visits.old v }
     requires v_in { v < length visits.old }
     requires queue { IsQueueOf visits.old queue.old }
-    ensures entered { IsEntered graph.now.rows.items flow.now potentials.now visits.new (v + 1) }
+    ensures entered { IsEntered residual.entry.graph.now.rows.items residual.entry.flow.now residual.entry.potentials.now visits.new (v + 1) }
     ensures queue { IsQueueOf visits.new queue.new }
 {
     if visits[v].is_settled() {
         return;
     }
-    let visit = nearest(graph, flow, potentials, visits, v);
+    let visit = nearest(residual, visits, v);
     queue.improve(visits, v, visit);
 }
 
 /// Opens each node that is not settled.
-fn enter(graph: &Graph, flow: &[i64], potentials: &[i64], visits: &mut [Visit], queue: &mut Queue)
-    requires graph { IsGraphFor (length potentials.now) graph.now }
-    requires certified { IsCertified graph.now.rows.items flow.now potentials.now }
-    requires forest { IsForest graph.now.rows.items flow.now potentials.now visits.old }
+fn enter(residual: Residual<'_>, visits: &mut [Visit], queue: &mut Queue)
+    requires graph { IsGraphFor (length residual.potentials.now) residual.graph.now }
+    requires forest { IsForest residual.graph.now.rows.items residual.flow.now residual.potentials.now visits.old }
     requires closed { NothingOpen visits.old }
     requires queue { IsQueueOf visits.old queue.old }
-    ensures entered { IsEntered graph.now.rows.items flow.now potentials.now visits.new (length visits.new) }
+    ensures entered { IsEntered residual.entry.graph.now.rows.items residual.entry.flow.now residual.entry.potentials.now visits.new (length visits.new) }
     ensures queue { IsQueueOf visits.new queue.new }
 {
     for v in 0..visits.len() {
-        enter_node(graph, flow, potentials, visits, queue, v);
+        enter_node(residual, visits, queue, v);
     }
 }
 
@@ -291,56 +274,50 @@ fn note(order: &mut [u32], place: usize, v: usize) -> usize
 
 /// Settles the open nodes, and notes them behind those that were kept.
 fn search_rest(
-    graph: &Graph,
-    flow: &[i64],
-    potentials: &[i64],
+    residual: Residual<'_>,
     visits: &mut [Visit],
     order: &mut [u32],
     queue: &mut Queue,
     kept: usize,
 )
-    requires graph { IsGraphFor (length potentials.now) graph.now }
-    requires certified { IsCertified graph.now.rows.items flow.now potentials.now }
-    requires search { IsSearch graph.now.rows.items flow.now potentials.now visits.old }
-    requires relaxed { AllRelaxed graph.now.rows.items flow.now potentials.now visits.old }
-    requires from_all { IsFromAll potentials.now visits.old }
+    requires graph { IsGraphFor (length residual.potentials.now) residual.graph.now }
+    requires search { IsSearch residual.graph.now.rows.items residual.flow.now residual.potentials.now visits.old }
+    requires relaxed { AllRelaxed residual.graph.now.rows.items residual.flow.now residual.potentials.now visits.old }
+    requires from_all { IsFromAll residual.potentials.now visits.old }
     requires queue { IsQueueOf visits.old queue.old }
     requires kept { kept ≤ length order.old }
-    ensures search { IsSearch graph.now.rows.items flow.now potentials.now visits.new }
-    ensures relaxed { AllRelaxed graph.now.rows.items flow.now potentials.now visits.new }
-    ensures from_all { IsFromAll potentials.now visits.new }
+    ensures search { IsSearch residual.entry.graph.now.rows.items residual.entry.flow.now residual.entry.potentials.now visits.new }
+    ensures relaxed { AllRelaxed residual.entry.graph.now.rows.items residual.entry.flow.now residual.entry.potentials.now visits.new }
+    ensures from_all { IsFromAll residual.entry.potentials.now visits.new }
     ensures done { NoneOpen visits.new (length visits.new) }
     ensures queue { IsQueueOf visits.new queue.new }
 {
     let mut place = kept;
     while let Some(u) = queue.first(visits) {
-        let _settled = settle_node(graph, flow, potentials, visits, queue);
+        let _settled = settle_node(residual, visits, queue);
         place = note(order, place, u);
     }
 }
 
 /// Takes the labels of all nodes: keeps those that stand, and searches the others.
 pub fn search_labels(
-    graph: &Graph,
-    flow: &[i64],
-    potentials: &[i64],
+    residual: Residual<'_>,
     visits: &mut [Visit],
     order: &mut [u32],
     queue: &mut Queue,
 )
-    requires graph { IsGraphFor (length potentials.now) graph.now }
-    requires certified { IsCertified graph.now.rows.items flow.now potentials.now }
-    requires visits_in { length visits.old ≡ length potentials.now }
-    requires sized { IsQueueFor (length potentials.now) queue.old }
-    ensures search { IsSearch graph.now.rows.items flow.now potentials.now visits.new }
-    ensures relaxed { AllRelaxed graph.now.rows.items flow.now potentials.now visits.new }
-    ensures from_all { IsFromAll potentials.now visits.new }
+    requires graph { IsGraphFor (length residual.potentials.now) residual.graph.now }
+    requires visits_in { length visits.old ≡ length residual.potentials.now }
+    requires sized { IsQueueFor (length residual.potentials.now) queue.old }
+    ensures search { IsSearch residual.entry.graph.now.rows.items residual.entry.flow.now residual.entry.potentials.now visits.new }
+    ensures relaxed { AllRelaxed residual.entry.graph.now.rows.items residual.entry.flow.now residual.entry.potentials.now visits.new }
+    ensures from_all { IsFromAll residual.entry.potentials.now visits.new }
     ensures done { NoneOpen visits.new (length visits.new) }
-    ensures sized { IsQueueFor (length potentials.now) queue.new }
+    ensures sized { IsQueueFor (length residual.entry.potentials.now) queue.new }
 {
     unmark(visits);
-    let kept = keep(graph, flow, potentials, visits, order);
+    let kept = keep(residual, visits, order);
     queue.clear(visits);
-    enter(graph, flow, potentials, visits, queue);
-    search_rest(graph, flow, potentials, visits, order, queue, kept);
+    enter(residual, visits, queue);
+    search_rest(residual, visits, order, queue, kept);
 }

@@ -1,19 +1,19 @@
 //! Shortest paths over reduced costs, from the nodes in excess.
 
-ghost use Rattle.std.specs.Prelude.{◌≡◌, ℕ, pos, ◌≤ℤ◌, ◌+ℤ◌, ◌-ℤ◌, ◌<ℤ◌, ◌<◌, ◌≤◌, int_lt, length, MatchOption, ◌+◌, ◌/◌};
+ghost use Rattle.std.specs.Prelude.{◌≡◌, ℕ, pos, ◌≤ℤ◌, ◌+ℤ◌, ◌-ℤ◌, ◌<ℤ◌, ◌<◌, ◌≤◌, int_lt, length, neg_ℤ, MatchOption, ◌+◌, ◌/◌};
 ghost use Rattle.std.specs.List.{count_by};
 ghost use Rattle.shortest_paths.specs.Limits.{entry_limit, key_limit, potential_floor};
-ghost use Rattle.shortest_paths.specs.Residual.{IsRow, IsFlow, IsCertified, ArePotentials, IsResidual, number_at, start_at, start_of, end_of, cost_of};
-ghost use Rattle.shortest_paths.specs.Search.{IsSearch, IsLastSettled, Improves, IsRelaxed, IsRelaxedFrom, AllRelaxed, Settles, visit_at, mark_at, key_at, source_visit, IsFromExcess, IsExhausted, HasFound};
+ghost use Rattle.shortest_paths.specs.Residual.{IsRow, IsFlow, IsCertified, ArePotentials, IsResidual, number_at, start_at, start_of, end_of, cost_at, cost_of};
+ghost use Rattle.shortest_paths.specs.Search.{IsSearch, IsLastSettled, Improves, IsRelaxed, IsRelaxedFrom, AllRelaxed, Settles, visit_at, mark_at, key_at, priced_key, source_visit, IsFromExcess, IsExhausted, HasFound};
 ghost use Rattle.shortest_paths.specs.Graph.{IsGraphFor};
 ghost use Rattle.shortest_paths.specs.Queue.{IsQueueOf, IsQueueFor, size, first_of};
-ghost use Rattle.shortest_paths.specs.Ends.{IsEnd};
+ghost use Rattle.shortest_paths.specs.Ends.{IsEnd, leaving};
 ghost use Rattle.shortest_paths.specs.Trail.{IsFresh, IsTrailFor, IsTrailOf};
 ghost use Rattle.shortest_paths.specs.declared.visit.Mark.TheVariants.{Unreached};
 
-use crate::graph::Graph;
 use crate::queue::Queue;
 use crate::residual::{ResidualArc, Way};
+use crate::residual_network::Residual;
 use crate::trail::Trail;
 use crate::visit::{Mark, Visit};
 use crate::walk::{End, Walk};
@@ -33,34 +33,47 @@ pub fn key_through(row: &ArcRow, way: Way, potentials: &[i64], visits: &[Visit])
     visits[start].key + (way.unit_cost(row) + potentials[start] - potentials[end])
 }
 
-/// Takes a residual arc from the node that was settled last into account at its end.
+/// The length of the path that goes on from a settled node at this end. `from` is the length of the path to the node
+/// with the node's potential.
+fn key_beyond(residual: Residual<'_>, from: i64, end: End) -> i64
+    requires end { IsEnd residual.graph.now.rows.items end }
+    requires low { neg_ℤ (pos potential_floor) ≤ℤ from }
+    requires high { from ≤ℤ pos key_limit }
+    ensures { result ≡ (from +ℤ cost_at residual.entry.graph.now.rows.items (leaving end).arc (leaving end).way) -ℤ number_at residual.entry.potentials.now end.other }
+{
+    let arc = end.leaving();
+    let row = residual.graph.rows[arc.arc as usize];
+    from + arc.way.unit_cost(&row) - residual.potentials[end.other]
+}
+
+/// Takes the residual arc that leaves the node settled last at this end into account. `from` is the length of the path
+/// to the node with the node's potential.
 fn relax_residual(
-    rows: &[ArcRow],
-    flow: &[i64],
-    potentials: &[i64],
+    residual: Residual<'_>,
     visits: &mut [Visit],
     queue: &mut Queue,
-    arc: ResidualArc,
+    from: i64,
+    end: End,
 )
-    requires certified { IsCertified rows.now flow.now potentials.now }
-    requires search { IsSearch rows.now flow.now potentials.now visits.old }
+    requires search { IsSearch residual.graph.now.rows.items residual.flow.now residual.potentials.now visits.old }
     requires queue { IsQueueOf visits.old queue.old }
-    requires last { IsLastSettled visits.old (start_at rows.now arc.arc arc.way) }
-    requires residual { IsResidual rows.now flow.now arc.arc arc.way }
-    ensures search { IsSearch rows.now flow.now potentials.now visits.new }
+    requires end { IsEnd residual.graph.now.rows.items end }
+    requires last { IsLastSettled visits.old (start_at residual.graph.now.rows.items (leaving end).arc (leaving end).way) }
+    requires from { from ≡ priced_key residual.potentials.now visits.old (start_at residual.graph.now.rows.items (leaving end).arc (leaving end).way) }
+    requires residual { IsResidual residual.graph.now.rows.items residual.flow.now (leaving end).arc (leaving end).way }
+    ensures search { IsSearch residual.entry.graph.now.rows.items residual.entry.flow.now residual.entry.potentials.now visits.new }
     ensures queue { IsQueueOf visits.new queue.new }
     ensures improves { Improves visits.old visits.new }
-    ensures relaxed { IsRelaxed rows.now potentials.now visits.new arc.arc arc.way }
+    ensures relaxed { IsRelaxed residual.entry.graph.now.rows.items residual.entry.potentials.now visits.new (leaving end).arc (leaving end).way }
 {
-    let row = rows[arc.arc as usize];
-    let start = arc.way.start(&row) as usize;
-    let end = arc.way.end(&row) as usize;
-    let key = key_through(&row, arc.way, potentials, visits);
-    if visits[end].takes(key) {
+    let key = key_beyond(residual, from, end);
+    if visits[end.other].takes(key) {
+        let arc = end.leaving();
+        let start = residual.graph.start(arc.arc as usize, arc.way);
         let depth = visits[start].depth + 1;
         queue.improve(
             visits,
-            end,
+            end.other,
             Visit {
                 mark: Mark::Open,
                 key,
@@ -73,80 +86,60 @@ fn relax_residual(
 }
 
 /// Takes the residual arc that leaves the node settled last at this end into account, where it is there.
-fn relax(
-    graph: &Graph,
-    flow: &[i64],
-    potentials: &[i64],
-    visits: &mut [Visit],
-    queue: &mut Queue,
-    end: End,
-)
-    requires certified { IsCertified graph.now.rows.items flow.now potentials.now }
-    requires search { IsSearch graph.now.rows.items flow.now potentials.now visits.old }
+fn relax(residual: Residual<'_>, visits: &mut [Visit], queue: &mut Queue, from: i64, end: End)
+    requires search { IsSearch residual.graph.now.rows.items residual.flow.now residual.potentials.now visits.old }
     requires queue { IsQueueOf visits.old queue.old }
-    requires end { IsEnd graph.now.rows.items end }
-    requires last { IsLastSettled visits.old (start_at graph.now.rows.items end.leaving.arc end.leaving.way) }
-    ensures search { IsSearch graph.now.rows.items flow.now potentials.now visits.new }
+    requires end { IsEnd residual.graph.now.rows.items end }
+    requires last { IsLastSettled visits.old (start_at residual.graph.now.rows.items (leaving end).arc (leaving end).way) }
+    requires from { from ≡ priced_key residual.potentials.now visits.old (start_at residual.graph.now.rows.items (leaving end).arc (leaving end).way) }
+    ensures search { IsSearch residual.entry.graph.now.rows.items residual.entry.flow.now residual.entry.potentials.now visits.new }
     ensures queue { IsQueueOf visits.new queue.new }
     ensures improves { Improves visits.old visits.new }
-    ensures relaxed { IsResidual graph.now.rows.items flow.now end.leaving.arc end.leaving.way → IsRelaxed graph.now.rows.items potentials.now visits.new end.leaving.arc end.leaving.way }
+    ensures relaxed { IsResidual residual.entry.graph.now.rows.items residual.entry.flow.now (leaving end).arc (leaving end).way → IsRelaxed residual.entry.graph.now.rows.items residual.entry.potentials.now visits.new (leaving end).arc (leaving end).way }
 {
     // No path to a settled node gets better: neither the arc nor its flow is read.
-    if visits[end.other as usize].is_settled() {
+    if visits[end.other].is_settled() {
         return;
     }
-    if graph.has_room(flow, end.leaving) {
-        relax_residual(&graph.rows, flow, potentials, visits, queue, end.leaving);
+    let arc = end.leaving();
+    if residual.graph.has_room(residual.flow, arc) {
+        relax_residual(residual, visits, queue, from, end);
     }
 }
 
 /// Takes each residual arc from the node settled last into account.
-fn relax_all(
-    graph: &Graph,
-    flow: &[i64],
-    potentials: &[i64],
-    visits: &mut [Visit],
-    queue: &mut Queue,
-    u: usize,
-)
-    requires graph { IsGraphFor (length potentials.now) graph.now }
-    requires certified { IsCertified graph.now.rows.items flow.now potentials.now }
-    requires search { IsSearch graph.now.rows.items flow.now potentials.now visits.old }
+fn relax_all(residual: Residual<'_>, visits: &mut [Visit], queue: &mut Queue, u: usize)
+    requires graph { IsGraphFor (length residual.potentials.now) residual.graph.now }
+    requires search { IsSearch residual.graph.now.rows.items residual.flow.now residual.potentials.now visits.old }
     requires queue { IsQueueOf visits.old queue.old }
     requires last { IsLastSettled visits.old u }
-    ensures search { IsSearch graph.now.rows.items flow.now potentials.now visits.new }
+    ensures search { IsSearch residual.entry.graph.now.rows.items residual.entry.flow.now residual.entry.potentials.now visits.new }
     ensures queue { IsQueueOf visits.new queue.new }
     ensures improves { Improves visits.old visits.new }
-    ensures relaxed { IsRelaxedFrom graph.now.rows.items flow.now potentials.now visits.new u (length graph.now.rows.items) }
+    ensures relaxed { IsRelaxedFrom residual.entry.graph.now.rows.items residual.entry.flow.now residual.entry.potentials.now visits.new u (length residual.entry.graph.now.rows.items) }
 {
-    let mut walk = Walk::at(graph, u as u32);
-    while let Some(end) = walk.next(graph) {
-        relax(graph, flow, potentials, visits, queue, end);
+    let from = visits[u].key + residual.potentials[u];
+    let mut walk = Walk::at(residual.graph, u as u32);
+    while let Some(end) = walk.next(residual.graph) {
+        relax(residual, visits, queue, from, end);
     }
 }
 
 /// Settles the open node of the least key.
-pub fn settle_node(
-    graph: &Graph,
-    flow: &[i64],
-    potentials: &[i64],
-    visits: &mut [Visit],
-    queue: &mut Queue,
-) -> usize
-    requires graph { IsGraphFor (length potentials.now) graph.now }
-    requires certified { IsCertified graph.now.rows.items flow.now potentials.now }
-    requires search { IsSearch graph.now.rows.items flow.now potentials.now visits.old }
+pub fn settle_node(residual: Residual<'_>, visits: &mut [Visit], queue: &mut Queue) -> usize
+    requires graph { IsGraphFor (length residual.potentials.now) residual.graph.now }
+    requires search { IsSearch residual.graph.now.rows.items residual.flow.now residual.potentials.now visits.old }
     requires queue { IsQueueOf visits.old queue.old }
-    requires relaxed { AllRelaxed graph.now.rows.items flow.now potentials.now visits.old }
+    requires relaxed { AllRelaxed residual.graph.now.rows.items residual.flow.now residual.potentials.now visits.old }
     requires some { 0 < size queue.old }
-    ensures search { IsSearch graph.now.rows.items flow.now potentials.now visits.new }
+    ensures search { IsSearch residual.entry.graph.now.rows.items residual.entry.flow.now residual.entry.potentials.now visits.new }
     ensures queue { IsQueueOf visits.new queue.new }
-    ensures relaxed { AllRelaxed graph.now.rows.items flow.now potentials.now visits.new }
+    ensures relaxed { AllRelaxed residual.entry.graph.now.rows.items residual.entry.flow.now residual.entry.potentials.now visits.new }
     ensures first { first_of queue.old ≡ result }
     ensures settles { Settles visits.old visits.new result }
 {
     let first = queue.settle_first(visits);
-    relax_all(graph, flow, potentials, visits, queue, first);
+    relax_all(residual, visits, queue, first);
     first
 }
 
@@ -188,23 +181,20 @@ fn wanted_deficits(excess: &[i64]) -> usize
 /// Searches from the nodes in excess until enough nodes in deficit are settled, or no node is open, and gives how far
 /// the search has come; nothing where no node in deficit can be reached. The trail lists the settled nodes.
 pub fn find_deficits(
-    graph: &Graph,
-    flow: &[i64],
-    potentials: &[i64],
+    residual: Residual<'_>,
     excess: &[i64],
     visits: &mut [Visit],
     queue: &mut Queue,
     trail: &mut Trail,
 ) -> Option<i64>
-    requires graph { IsGraphFor (length potentials.now) graph.now }
-    requires certified { IsCertified graph.now.rows.items flow.now potentials.now }
-    requires excess_in { length excess.now ≡ length potentials.now }
-    requires visits_in { length visits.old ≡ length potentials.now }
+    requires graph { IsGraphFor (length residual.potentials.now) residual.graph.now }
+    requires excess_in { length excess.now ≡ length residual.potentials.now }
+    requires visits_in { length visits.old ≡ length residual.potentials.now }
     requires fresh { IsFresh visits.old }
-    requires sized { IsQueueFor (length potentials.now) queue.old }
-    requires trail_in { IsTrailFor (length potentials.now) trail.old }
-    ensures search { IsSearch graph.now.rows.items flow.now potentials.now visits.new }
-    ensures relaxed { AllRelaxed graph.now.rows.items flow.now potentials.now visits.new }
+    requires sized { IsQueueFor (length residual.potentials.now) queue.old }
+    requires trail_in { IsTrailFor (length residual.potentials.now) trail.old }
+    ensures search { IsSearch residual.entry.graph.now.rows.items residual.entry.flow.now residual.entry.potentials.now visits.new }
+    ensures relaxed { AllRelaxed residual.entry.graph.now.rows.items residual.entry.flow.now residual.entry.potentials.now visits.new }
     ensures from_excess { IsFromExcess excess.now visits.new }
     ensures found { MatchOption result (IsExhausted excess.now visits.new) (HasFound excess.now visits.new) }
     ensures queue { IsQueueOf visits.new queue.new }
@@ -217,7 +207,7 @@ pub fn find_deficits(
     let mut found = 0;
     let mut reach = 0;
     while let Some(u) = queue.first(visits) {
-        let _settled = settle_node(graph, flow, potentials, visits, queue);
+        let _settled = settle_node(residual, visits, queue);
         trail.note(u);
         reach = visits[u].key;
         if excess[u] < 0 {

@@ -1,31 +1,42 @@
 //! The walk over the ends of arcs at a node. This file and that of the star alone know where the ends stand.
 
-ghost use Rattle.std.specs.Prelude.{◌≡◌, ◌≢◌, ◌+◌, ◌/◌, ◌<◌, ◌≤◌, length, None, IfSome, IsTrue, MatchOption};
-ghost use Rattle.shortest_paths.specs.Ends.{AllToCome, HasNode, IsEndAt, IsFirstStage, IsNextToCome, IsWalk, NothingToCome, StandsIn, left_of, stage_of};
+ghost use Rattle.std.specs.Prelude.{◌≡◌, ◌≢◌, ◌+◌, ◌*◌, ◌/◌, ◌<◌, ◌≤◌, ◌↔◌, length, None, IfSome, IsTrue, MatchOption};
+ghost use Rattle.shortest_paths.specs.Ends.{AllToCome, HasNode, IsEndAt, IsFirstStage, IsNextToCome, IsWalk, NothingToCome, StandsIn, entered, last_in, leaving, left_of, stage_of};
 ghost use Rattle.shortest_paths.specs.Limits.{row_limit};
-ghost use Rattle.shortest_paths.specs.Residual.{start_at, turned};
-ghost use Rattle.shortest_paths.specs.Walk.{AreRowsOf};
+ghost use Rattle.shortest_paths.specs.Residual.{end_at, start_at, turned};
+ghost use Rattle.shortest_paths.specs.Walk.{AreRowsOf, end_way};
 ghost use Rattle.shortest_paths.specs.declared.residual.Way.{Way};
 ghost use Rattle.shortest_paths.specs.declared.walk.Stage.TheVariants.{Added, Spokes};
 
 use crate::graph::Graph;
 use crate::residual::{ResidualArc, Way};
+use crate::star::Spoke;
 
 /// The end of an arc at a node.
 #[derive(Clone, Copy)]
 pub struct End {
-    /// The residual arc that leaves the node there.
-    pub leaving: ResidualArc,
+    /// End 2k is the tail of the arc in row k, and end 2k + 1 its head.
+    pub number: u32,
     /// The node at the arc's other end.
-    pub other: u32,
+    pub other: usize,
 }
 
 impl End {
+    /// The residual arc that leaves the node there.
+    pub fn leaving(self) -> ResidualArc
+        ensures { result ≡ leaving self }
+    {
+        ResidualArc {
+            arc: self.number / 2,
+            way: Way::of_end(self.number),
+        }
+    }
+
     /// The residual arc that enters the node there.
     pub fn entering(self) -> ResidualArc
-        ensures { result ≡ turned self.leaving }
+        ensures { result ≡ turned (leaving self) }
     {
-        self.leaving.turned()
+        self.leaving().turned()
     }
 }
 
@@ -47,9 +58,12 @@ pub struct Walk {
     node: u32,
     /// The row of the first arc of the network.
     first_row: usize,
+    /// How many ends the arcs have that the star covers.
+    covered: u32,
     stage: Stage,
-    /// The next spoke, and the place behind the last one.
+    /// The next spoke.
     next: usize,
+    /// The place behind the last spoke, once the walk has come to the spokes, and 0 before.
     last: usize,
 }
 
@@ -73,12 +87,14 @@ impl Walk {
         ensures all { AllToCome graph.now result }
     {
         let first_row = graph.first_row();
+        let stage = Stage::first(graph, node, first_row);
         Walk {
             node,
             first_row,
-            stage: Stage::first(graph, node, first_row),
+            covered: 2 * graph.star.arcs,
+            stage,
             next: graph.star.begin[node as usize],
-            last: graph.star.begin[node as usize + 1],
+            last: stage.last(graph, node),
         }
     }
 
@@ -93,15 +109,22 @@ impl Walk {
             Place::First => {}
             Place::Added(end) => {
                 if is_added_at(graph, end, node, walk.first_row) {
-                    walk.stage = Stage::Added(end);
+                    walk.enter(graph, Stage::Added(end));
                 }
             }
             Place::Spoke(i) => {
-                walk.stage = Stage::Spokes;
+                walk.enter(graph, Stage::Spokes);
                 walk.next = walk.next.max(i as usize);
             }
         }
         walk
+    }
+
+    /// Whether the star covers the arc of a spoke.
+    fn covers(&self, spoke: Spoke) -> bool
+        ensures { IsTrue result ↔ (spoke.end < self.now.covered) }
+    {
+        spoke.end < self.covered
     }
 
     /// Where the walk stands. A place too far to be written down is the first.
@@ -119,6 +142,16 @@ impl Walk {
         }
     }
 
+    /// Comes to a stage.
+    #[inline(always)]
+    fn enter(&mut self, graph: &Graph, stage: Stage)
+        requires { HasNode graph.now self.old.node }
+        ensures { self.new ≡ entered graph.now self.old stage }
+    {
+        self.stage = stage;
+        self.last = stage.last(graph, self.node);
+    }
+
     /// The next end, where there is one.
     #[inline(always)]
     pub fn next(&mut self, graph: &Graph) -> Option<End>
@@ -129,15 +162,37 @@ impl Walk {
         ensures rest { MatchOption result (NothingToCome graph.now self.old) (IsNextToCome graph.now self.old self.new) }
         ensures shorter { IfSome result (λ end. left_of graph.now self.new < left_of graph.now self.old) }
     {
+        // Most ends are spokes of arcs which the star covers: no other is looked for while such a one is at hand.
+        if self.next < self.last {
+            let spoke = graph.star.spokes[self.next];
+            if self.covers(spoke) {
+                self.next += 1;
+                return Some(spoke_end(spoke, self.first_row));
+            }
+        }
+        self.next_by_stage(graph)
+    }
+
+    /// The next end in any stage, where there is one.
+    #[inline(always)]
+    fn next_by_stage(&mut self, graph: &Graph) -> Option<End>
+        requires walk { IsWalk graph.now self.old }
+        ensures walk { IsWalk graph.now self.new }
+        ensures node { self.new.node ≡ self.old.node }
+        ensures end { IfSome result (IsEndAt graph.now.rows.items self.old.node) }
+        ensures rest { MatchOption result (NothingToCome graph.now self.old) (IsNextToCome graph.now self.old self.new) }
+        ensures shorter { IfSome result (λ end. left_of graph.now self.new < left_of graph.now self.old) }
+    {
         match self.stage {
             Stage::Spokes => self.next_spoke(graph),
             Stage::Added(end) => {
-                self.stage = Stage::of(graph, graph.net.next_end(end));
-                Some(end_in(graph, row_of(end, self.first_row), Way::of_end(end)))
+                let number = number_of(end, self.first_row);
+                self.enter(graph, Stage::of(graph, graph.net.next_end(end)));
+                Some(end_with(graph, number))
             }
             Stage::Return(way) => {
-                self.stage = Stage::of(graph, graph.net.first_end(self.node));
-                Some(end_in(graph, 0, way))
+                self.enter(graph, Stage::of(graph, graph.net.first_end(self.node)));
+                Some(end_with(graph, return_end(way)))
             }
         }
     }
@@ -155,15 +210,9 @@ impl Walk {
     {
         for place in self.next..self.last {
             let spoke = graph.star.spokes[place];
-            if spoke.end / 2 < graph.star.arcs {
+            if self.covers(spoke) {
                 self.next = place + 1;
-                return Some(End {
-                    leaving: ResidualArc {
-                        arc: row_of(spoke.end, self.first_row),
-                        way: Way::of_end(spoke.end),
-                    },
-                    other: spoke.other,
-                });
+                return Some(spoke_end(spoke, self.first_row));
             }
         }
         None
@@ -192,6 +241,18 @@ impl Stage {
             _ => Stage::Spokes,
         }
     }
+
+    /// The place behind the last spoke at hand in this stage.
+    #[inline(always)]
+    fn last(self, graph: &Graph, node: u32) -> usize
+        requires { HasNode graph.now node }
+        ensures { result ≡ last_in graph.now node self }
+    {
+        match self {
+            Stage::Spokes => graph.star.begin[node as usize + 1],
+            _ => 0,
+        }
+    }
 }
 
 /// The way in which the residual arc along the return arc goes that leaves the node, where there is one. The return arc
@@ -214,6 +275,17 @@ fn return_way(graph: &Graph, node: u32, first_row: usize) -> Option<Way>
     }
 }
 
+/// The end from which the residual arc in this way along the return arc leaves.
+fn return_end(way: Way) -> u32
+    ensures row { result / 2 ≡ 0 }
+    ensures way { end_way result ≡ way }
+{
+    match way {
+        Way::Forward => 0,
+        Way::Backward => 1,
+    }
+}
+
 /// Whether an end is one of the node's, of an arc which the star does not cover.
 fn is_added_at(graph: &Graph, end: u32, node: u32, first_row: usize) -> bool
     requires rows { AreRowsOf graph.now.net graph.now.rows.items }
@@ -226,22 +298,43 @@ fn is_added_at(graph: &Graph, end: u32, node: u32, first_row: usize) -> bool
     graph.start(end as usize / 2 + first_row, Way::of_end(end)) == node as usize
 }
 
-/// The row of the arc with this end.
-fn row_of(end: u32, first_row: usize) -> u32
+/// The number of an end of the network among those of the rows.
+fn number_of(end: u32, first_row: usize) -> u32
     requires { end / 2 + first_row ≤ row_limit }
-    ensures { result ≡ end / 2 + first_row }
+    ensures { result ≡ end + 2 * first_row }
 {
-    (end as usize / 2 + first_row) as u32
+    (end as usize + 2 * first_row) as u32
 }
 
-/// The end from which the residual arc along this arc leaves.
-fn end_in(graph: &Graph, arc: u32, way: Way) -> End
-    requires { arc < length graph.now.rows.items }
-    ensures end { IsEndAt graph.now.rows.items (start_at graph.now.rows.items arc way) result }
-    ensures leaving { result.leaving ≡ record { arc = arc; way = way } }
+/// The end that has this spoke.
+fn spoke_end(spoke: Spoke, first_row: usize) -> End
+    requires { spoke.end / 2 + first_row ≤ row_limit }
+    ensures { result ≡ record { number = spoke.end + 2 * first_row; other = spoke.other } }
 {
     End {
-        leaving: ResidualArc { arc, way },
-        other: way.end(&graph.rows[arc as usize]),
+        number: number_of(spoke.end, first_row),
+        other: spoke.other as usize,
     }
+}
+
+/// The end with this number.
+fn end_with(graph: &Graph, number: u32) -> End
+    requires { number / 2 < length graph.now.rows.items }
+    ensures end { IsEndAt graph.now.rows.items (start_at graph.now.rows.items (number / 2) (end_way number)) result }
+    ensures number { result.number ≡ number }
+{
+    End {
+        number,
+        other: far_node(graph, number),
+    }
+}
+
+/// The node at the other end of an arc. Few ends are not spokes, so this is kept out of the loops over them.
+#[cold]
+#[inline(never)]
+fn far_node(graph: &Graph, number: u32) -> usize
+    requires { number / 2 < length graph.now.rows.items }
+    ensures { result ≡ end_at graph.now.rows.items (number / 2) (end_way number) }
+{
+    Way::of_end(number).end(&graph.rows[number as usize / 2]) as usize
 }

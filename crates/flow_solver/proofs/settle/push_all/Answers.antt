@@ -51,12 +51,14 @@ push_found-pushes-requires-clause-state c =
       small = inv.small;
     }
 
-pub push_found-pushes-requires-clause-potentials_in : goal.push_found-pushes-requires-clause-potentials_in
-push_found-pushes-requires-clause-potentials_in c =
-    let at = (goal.at.push_found-pushes-requires-clause-potentials_in c).After-lower in
+pub invariant_of-levels : goal.invariant_of-levels
+invariant_of-levels c =
+    let at = (goal.at.invariant_of-levels c).After-lower in
     let same : length c.search_on.new.visits ≡ length c.lower.new.potentials = c.in-Some.ensures.found.search.sized ∙ sym c.lower.auto.potentials in
-    subst (λ (n : ℕ). ArePotentials n potential_floor c.lower.new.potentials) (sym same)
-    (potentials_after c.args.graph.now.rows.items c.loop-reach.flow c.loop-reach.potentials c.lower.new.potentials c.search_on.new.visits c.in-Some.reach (to_z w64 c.loop-reach.fallen-bits) c.loop-reach.invariant.certified c.in-Some.ensures.found.search c.in-Some.ensures.found.relaxed c.in-Some.ensures.found.found.front (is_lowered at) c.loop-reach.invariant.near)
+    record {
+      potentials_in = subst (λ (n : ℕ). ArePotentials n potential_floor c.lower.new.potentials) (sym same)
+          (potentials_after c.args.graph.now.rows.items c.loop-reach.flow c.loop-reach.potentials c.lower.new.potentials c.search_on.new.visits c.in-Some.reach (to_z w64 c.loop-reach.fallen-bits) c.loop-reach.invariant.certified c.in-Some.ensures.found.search c.in-Some.ensures.found.relaxed c.in-Some.ensures.found.found.front (is_lowered at) c.loop-reach.invariant.near);
+    }
 
 pub push_found-pushes-requires-clause-paths : goal.push_found-pushes-requires-clause-paths
 push_found-pushes-requires-clause-paths c =

@@ -10,11 +10,11 @@ use Rattle.shortest_paths.proofs.augment.bottleneck.Goals as goal
 
 pub loop-node-preserved : goal.loop-node-preserved
 loop-node-preserved c =
-    let rows = c.args.graph.now.rows.items in
+    let rows = c.args.levels.graph.now.rows.items in
     let x = c.args.flow.now in
-    let s = c.args.visits.now in
+    let s = c.args.levels.visits.now in
     let w = c.args.walks.now in
-    let t = c.args.target in
+    let t = c.args.path.target in
     let back = w.back.items in
     let known = c.loop-node.invariant in
     let on = hop_on rows x s w t c.loop-node.node c.requires.flow (omega arith) known.way in
@@ -38,19 +38,19 @@ loop-node-preserved c =
 
 pub loop-node-smaller : goal.loop-node-smaller
 loop-node-smaller c =
-    let rows = c.args.graph.now.rows.items in
-    let s = c.args.visits.now in
+    let rows = c.args.levels.graph.now.rows.items in
+    let s = c.args.levels.visits.now in
     let w = c.args.walks.now in
-    let on = hop_on rows c.args.flow.now s w c.args.target c.loop-node.node c.requires.flow (omega arith) c.loop-node.invariant.way in
+    let on = hop_on rows c.args.flow.now s w c.args.path.target c.loop-node.node c.requires.flow (omega arith) c.loop-node.invariant.way in
     let at_node : c.end-node.result ≡ head_at rows w.back.items c.loop-node.node = c.end-node.ensures ∙ ap (λ (h : ResidualArc). end_at rows h.arc h.way) c.way_on-hop.ensures in
     omega (arith, on.lower, on.no_higher, ap (depth_at s) at_node)
 
 pub returns-clause-room : goal.returns-clause-room
 returns-clause-room c =
-    let rows = c.args.graph.now.rows.items in
-    let s = c.args.visits.now in
+    let rows = c.args.levels.graph.now.rows.items in
+    let s = c.args.levels.visits.now in
     let back = c.args.walks.now.back.items in
-    let last : depth_at s c.args.target - depth_at s c.loop-node.node ≡ 0 = omega (arith, c.loop-node-test.false) in
+    let last : depth_at s c.args.path.target - depth_at s c.loop-node.node ≡ 0 = omega (arith, c.loop-node-test.false) in
     c.loop-node.invariant.room_so_far (to_z w64 c.loop-node.room-bits) (omega (arith, ints))
     (subst (λ (d : ℕ). HasRoom rows c.args.flow.now (to_z w64 c.loop-node.room-bits) (hops_of rows back d c.loop-node.node)) (sym last) tt)
 

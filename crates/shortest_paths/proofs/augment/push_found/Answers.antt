@@ -27,10 +27,10 @@ pub refresh-requires-clause-fits : goal.refresh-requires-clause-fits
 refresh-requires-clause-fits c = omega (arith, c.requires.trail.counted, c.requires.trail.sized.nodes_sized)
 
 pub refresh-requires-clause-in_dead : goal.refresh-requires-clause-in_dead
-refresh-requires-clause-in_dead c = λ j lt. (let inside = node_in c.args.visits.now c.args.trail.now c.requires.trail j lt in omega (arith, inside, c.requires.walks.dead_sized))
+refresh-requires-clause-in_dead c = λ j lt. (let inside = node_in c.args.levels.visits.now c.args.trail.now c.requires.trail j lt in omega (arith, inside, c.requires.walks.dead_sized))
 
 pub refresh-requires-clause-in_current : goal.refresh-requires-clause-in_current
-refresh-requires-clause-in_current c = λ j lt. (let inside = node_in c.args.visits.now c.args.trail.now c.requires.trail j lt in omega (arith, inside, c.requires.walks.current_sized))
+refresh-requires-clause-in_current c = λ j lt. (let inside = node_in c.args.levels.visits.now c.args.trail.now c.requires.trail j lt in omega (arith, inside, c.requires.walks.current_sized))
 
 pub loop-j-init : goal.loop-j-init
 loop-j-init c = record {
@@ -41,7 +41,7 @@ loop-j-init c = record {
     current_sized = c.refresh.ensures.current_sized ∙ c.requires.walks.current_sized;
     back_sized = ap (λ b. length b.items) c.refresh.ensures.back ∙ c.requires.walks.back_sized;
   };
-  done = ArePushes-none c.args.graph.now.rows.items c.args.flow.now c.args.excess.now;
+  done = ArePushes-none c.args.levels.graph.now.rows.items c.args.flow.now c.args.excess.now;
   alive = λ h v settled. (let at = c.requires.trail.listed v settled in subst (λ (u : ℕ). in_set c.refresh.new.self.dead.items u ≡ false) at.is_there (c.refresh.ensures.alive at.place at.in_line));
   some = λ i lt found. absurd (omega (arith, lt));
 }
@@ -57,31 +57,31 @@ target_is c =
 pub push_to-pushes-requires-clause-target_in : goal.push_to-pushes-requires-clause-target_in
 push_to-pushes-requires-clause-target_in c =
     let at = (goal.at.push_to-pushes-requires-clause-target_in c).After-index in
-    omega (arith, target_is at, node_in c.args.visits.now c.args.trail.now c.requires.trail c.loop-j.j c.loop-j-test.true)
+    omega (arith, target_is at, node_in c.args.levels.visits.now c.args.trail.now c.requires.trail c.loop-j.j c.loop-j-test.true)
 
 pub overflow_add-pushes : goal.overflow_add-pushes
 overflow_add-pushes c =
-    let small : left c.args.excess.now ≤ left_limit = left-small (length c.args.visits.now) c.args.excess.now c.requires.state.small c.requires.state.excess_sized c.requires.state.flow.few_nodes in
+    let small : left c.args.excess.now ≤ left_limit = left-small (length c.args.levels.visits.now) c.args.excess.now c.requires.state.small c.requires.state.excess_sized c.requires.state.flow.few_nodes in
     let count = (ArePushes-more c.loop-j.invariant.done c.push_to-pushes.ensures.pushes).count in
     let bound : c.loop-j.pushes + c.push_to-pushes.result < 2 ^ 64 = omega (arith, small, count) in
     search (rules, bound)
 
 -- as long as nothing was pushed, the first node in deficit is pushed to
-first_pushed : (c : After-push_to-pushes) → c.loop-j.pushes ≡ 0 → IsFoundDeficit c.args.excess.now c.args.visits.now c.index.result.now → 0 < c.push_to-pushes.result
+first_pushed : (c : After-push_to-pushes) → c.loop-j.pushes ≡ 0 → IsFoundDeficit c.args.excess.now c.args.levels.visits.now c.index.result.now → 0 < c.push_to-pushes.result
 first_pushed c none found =
     let same = c.loop-j.invariant.done.none none in
-    let rows = c.args.graph.now.rows.items in
+    let rows = c.args.levels.graph.now.rows.items in
     let t = c.index.result.now in
     let can = c.requires.can_push t found in
     c.push_to-pushes.ensures.some c.requires.paths
-    (subst (λ (x : List ℤ). CanPush rows x c.loop-j.excess c.args.visits.now t) same.0 (subst (λ (e : List ℤ). CanPush rows c.args.flow.now e c.args.visits.now t) same.1 can))
+    (subst (λ (x : List ℤ). CanPush rows x c.loop-j.excess c.args.levels.visits.now t) same.0 (subst (λ (e : List ℤ). CanPush rows c.args.flow.now e c.args.levels.visits.now t) same.1 can))
     (c.loop-j.invariant.alive none)
 
 pub loop-j-preserved : goal.loop-j-preserved
 loop-j-preserved c =
     let at = (goal.at.loop-j-preserved c).After-push_to-pushes in
     let at_index = (goal.at.loop-j-preserved c).After-index in
-    let settled = subst (λ (u : ℕ). mark_at c.args.visits.now u ≡ Settled) (sym (target_is at_index)) (c.requires.trail.settled c.loop-j.j c.loop-j-test.true) in
+    let settled = subst (λ (u : ℕ). mark_at c.args.levels.visits.now u ≡ Settled) (sym (target_is at_index)) (c.requires.trail.settled c.loop-j.j c.loop-j-test.true) in
     record {
       noted = AreNoted-trans c.loop-j.invariant.noted c.push_to-pushes.ensures.noted;
       state = c.push_to-pushes.ensures.state;
@@ -90,15 +90,15 @@ loop-j-preserved c =
       alive = λ none.
           (let before : c.loop-j.pushes ≡ 0 = omega (arith, none) in
           elim c.push_to-pushes.ensures.kept [
-            | inl lacks ↦ absurd (let found : IsFoundDeficit c.args.excess.now c.args.visits.now c.index.result.now = record { settled = settled; deficit = subst (λ (e : List ℤ). number_at e c.index.result.now <ℤ pos 0) (sym (c.loop-j.invariant.done.none before).1) lacks } in
+            | inl lacks ↦ absurd (let found : IsFoundDeficit c.args.excess.now c.args.levels.visits.now c.index.result.now = record { settled = settled; deficit = subst (λ (e : List ℤ). number_at e c.index.result.now <ℤ pos 0) (sym (c.loop-j.invariant.done.none before).1) lacks } in
                 let more = first_pushed at before found in omega (arith, none, more))
-            | inr same ↦ subst (λ (w : Walks). AreAlive c.args.visits.now w.dead.items) (sym same) (c.loop-j.invariant.alive before)
+            | inr same ↦ subst (λ (w : Walks). AreAlive c.args.levels.visits.now w.dead.items) (sym same) (c.loop-j.invariant.alive before)
           ]);
       some = λ i lt found. (elim (cases_lt 0 c.loop-j.pushes) [
         | inl some ↦ omega (arith, some)
         | inr none ↦ (elim (cases_eq i c.loop-j.j) [
           | inl here ↦ (let target = ap (node_at c.args.trail.now.nodes.items) here ∙ sym (target_is at_index) in
-              let more = first_pushed at (omega (arith, none)) (subst (IsFoundDeficit c.args.excess.now c.args.visits.now) target found) in
+              let more = first_pushed at (omega (arith, none)) (subst (IsFoundDeficit c.args.excess.now c.args.levels.visits.now) target found) in
               omega (arith, more))
           | inr other ↦ (let earlier = c.loop-j.invariant.some i (omega (arith, lt, other)) found in omega (arith, earlier))
         ])
@@ -108,4 +108,4 @@ loop-j-preserved c =
 pub returns-clause-some : goal.returns-clause-some
 returns-clause-some c = λ t found.
     (let listed = c.requires.trail.listed t found.settled in
-    c.loop-j.invariant.some listed.place (omega (arith, listed.in_line, c.loop-j-test.false)) (subst (IsFoundDeficit c.args.excess.now c.args.visits.now) (sym listed.is_there) found))
+    c.loop-j.invariant.some listed.place (omega (arith, listed.in_line, c.loop-j-test.false)) (subst (IsFoundDeficit c.args.excess.now c.args.levels.visits.now) (sym listed.is_there) found))

@@ -9,9 +9,9 @@ use Rattle.shortest_paths.proofs.augment.push_found.Given as goal
 abbrev pub invariant-loop-j : goal.invariant-loop-j
 invariant-loop-j l = record {
   noted : AreNoted l.initial.touched l.initial.flow l.touched l.flow;
-  state : IsUnderWay (length l.visits) l.graph.rows.items l.potentials l.flow l.excess;
-  walks : IsWalksFor (length l.visits) l.walks;
-  done : ArePushes l.graph.rows.items l.pushes l.initial.flow l.initial.excess l.flow l.excess;
-  alive : l.pushes ≡ 0 → AreAlive l.visits l.walks.dead.items;
-  some : (i : ℕ) → i < l.j → IsFoundDeficit l.initial.excess l.visits (node_at l.trail.nodes.items i) → 0 < l.pushes;
+  state : IsUnderWay (length l.levels.visits.now) l.levels.graph.now.rows.items l.levels.potentials.now l.flow l.excess;
+  walks : IsWalksFor (length l.levels.visits.now) l.walks;
+  done : ArePushes l.levels.graph.now.rows.items l.pushes l.initial.flow l.initial.excess l.flow l.excess;
+  alive : l.pushes ≡ 0 → AreAlive l.levels.visits.now l.walks.dead.items;
+  some : (i : ℕ) → i < l.j → IsFoundDeficit l.initial.excess l.levels.visits.now (node_at l.trail.nodes.items i) → 0 < l.pushes;
 }

@@ -10,19 +10,19 @@ use Rattle.shortest_paths.proofs.augment.push_on.Goals as goal
 use Rattle.shortest_paths.proofs.augment.push_on.Goals.{After-transfer}
 
 pub record IsPushed (c : After-transfer) : Type 0 where
-  pub state : IsUnderWay (length c.args.visits.now) c.args.graph.now.rows.items c.args.potentials.now c.shift.new.flow c.transfer.new.excess
-  pub pushes : ArePushes c.args.graph.now.rows.items 1 c.args.flow.now c.args.excess.now c.shift.new.flow c.transfer.new.excess
+  pub state : IsUnderWay (length c.args.levels.visits.now) c.args.levels.graph.now.rows.items c.args.levels.potentials.now c.shift.new.flow c.transfer.new.excess
+  pub pushes : ArePushes c.args.levels.graph.now.rows.items 1 c.args.flow.now c.args.excess.now c.shift.new.flow c.transfer.new.excess
 
 is_pushed : (c : After-transfer) → IsPushed c
 is_pushed c =
-    let rows = c.args.graph.now.rows.items in
-    let q = c.args.potentials.now in
+    let rows = c.args.levels.graph.now.rows.items in
+    let q = c.args.levels.potentials.now in
     let x = c.args.flow.now in
     let e = c.args.excess.now in
-    let s = c.args.visits.now in
+    let s = c.args.levels.visits.now in
     let w = c.args.walks.now in
-    let t = c.args.target in
-    let root = c.args.root in
+    let t = c.args.path.target in
+    let root = c.args.path.root in
     let f = c.transfer.new.excess in
     let m = to_z w64 (of_z w64 c.amount_along-amount.result) in
     let known = c.amount_along-amount.ensures in

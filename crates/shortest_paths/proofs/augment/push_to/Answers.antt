@@ -25,14 +25,14 @@ loop-excess-init c = record {
   noted = AreNoted-none c.args.touched.now c.args.flow.now;
   state = c.requires.state;
   walks = c.requires.walks;
-  pushed = ArePushes-none c.args.graph.now.rows.items c.args.flow.now c.args.excess.now;
+  pushed = ArePushes-none c.args.levels.graph.now.rows.items c.args.flow.now c.args.excess.now;
   first = λ h. refl;
   kept = inl refl;
 }
 
 pub overflow_add-pushes : goal.overflow_add-pushes
 overflow_add-pushes c =
-    let small : left c.args.excess.now ≤ left_limit = left-small (length c.args.visits.now) c.args.excess.now c.requires.state.small c.requires.state.excess_sized c.requires.state.flow.few_nodes in
+    let small : left c.args.excess.now ≤ left_limit = left-small (length c.args.levels.visits.now) c.args.excess.now c.requires.state.small c.requires.state.excess_sized c.requires.state.flow.few_nodes in
     let count = (ArePushes-more c.loop-excess.invariant.pushed c.push_on.ensures.push).count in
     let bound : c.loop-excess.pushes + 1 < 2 ^ 64 = omega (arith, small, count) in
     search (rules, bound)
@@ -61,8 +61,8 @@ returns-clause-kept c = elim c.loop-excess.invariant.kept [
 
 pub returns-in-None-clause-some : goal.returns-in-None-clause-some
 returns-in-None-clause-some c = λ paths can alive.
-    (let rows = c.args.graph.now.rows.items in
-    let s = c.args.visits.now in
+    (let rows = c.args.levels.graph.now.rows.items in
+    let s = c.args.levels.visits.now in
     let t = c.args.target in
     elim (cases_eq c.loop-excess.pushes 0) [
       | inr some ↦ omega (arith, some)

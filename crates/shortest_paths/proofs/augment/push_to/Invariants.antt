@@ -9,9 +9,9 @@ use Rattle.shortest_paths.proofs.augment.push_to.Given as goal
 abbrev pub invariant-loop-excess : goal.invariant-loop-excess
 invariant-loop-excess l = record {
   noted : AreNoted l.initial.touched l.initial.flow l.touched l.flow;
-  state : IsUnderWay (length l.visits) l.graph.rows.items l.potentials l.flow l.excess;
-  walks : IsWalksFor (length l.visits) l.walks;
-  pushed : ArePushes l.graph.rows.items l.pushes l.initial.flow l.initial.excess l.flow l.excess;
+  state : IsUnderWay (length l.levels.visits.now) l.levels.graph.now.rows.items l.levels.potentials.now l.flow l.excess;
+  walks : IsWalksFor (length l.levels.visits.now) l.walks;
+  pushed : ArePushes l.levels.graph.now.rows.items l.pushes l.initial.flow l.initial.excess l.flow l.excess;
   first : l.pushes ≡ 0 → l.walks ≡ l.initial.walks;
   kept : (l.pushes ≡ 0) ⊎ (number_at l.initial.excess l.target <ℤ pos 0);
 }

@@ -11,11 +11,11 @@ use Rattle.shortest_paths.proofs.augment.shift.Goals as goal
 
 pub shift_on-requires-clause-fits : goal.shift_on-requires-clause-fits
 shift_on-requires-clause-fits c =
-    let rows = c.args.graph.now.rows.items in
+    let rows = c.args.levels.graph.now.rows.items in
     let known = c.loop-node.invariant in
-    let on = hop_on rows c.loop-node.flow c.args.visits.now c.args.walks.now c.args.target c.loop-node.node known.flow (omega arith) known.way in
+    let on = hop_on rows c.loop-node.flow c.args.levels.visits.now c.args.walks.now c.args.path.target c.loop-node.node known.flow (omega arith) known.way in
     subst (λ (h : ResidualArc). to_z w64 (of_z w64 c.args.amount) ≤ℤ room_of (arc_at rows h.arc) (number_at c.loop-node.flow h.arc) h.way) (sym c.way_on-hop.ensures)
-    (here_fits rows c.loop-node.flow c.args.visits.now c.args.walks.now _ c.args.target c.loop-node.node on known.room).0
+    (here_fits rows c.loop-node.flow c.args.levels.visits.now c.args.walks.now _ c.args.path.target c.loop-node.node on known.room).0
 
 pub loop-node-init : goal.loop-node-init
 loop-node-init c = record {
@@ -28,20 +28,20 @@ loop-node-init c = record {
 
 pub loop-node-smaller : goal.loop-node-smaller
 loop-node-smaller c =
-    let rows = c.args.graph.now.rows.items in
-    let s = c.args.visits.now in
+    let rows = c.args.levels.graph.now.rows.items in
+    let s = c.args.levels.visits.now in
     let w = c.args.walks.now in
     let known = c.loop-node.invariant in
-    let on = hop_on rows c.loop-node.flow s w c.args.target c.loop-node.node known.flow (omega arith) known.way in
+    let on = hop_on rows c.loop-node.flow s w c.args.path.target c.loop-node.node known.flow (omega arith) known.way in
     let at_node : c.end-node.result ≡ head_at rows w.back.items c.loop-node.node = c.end-node.ensures ∙ ap (λ (h : ResidualArc). end_at rows h.arc h.way) c.way_on-hop.ensures in
     omega (arith, on.lower, on.no_higher, ap (depth_at s) at_node)
 
 pub loop-node-preserved : goal.loop-node-preserved
 loop-node-preserved c =
-    let rows = c.args.graph.now.rows.items in
-    let s = c.args.visits.now in
+    let rows = c.args.levels.graph.now.rows.items in
+    let s = c.args.levels.visits.now in
     let w = c.args.walks.now in
-    let t = c.args.target in
+    let t = c.args.path.target in
     let back = w.back.items in
     let v = c.loop-node.node in
     let amount = to_z w64 (of_z w64 c.args.amount) in
@@ -63,8 +63,8 @@ loop-node-preserved c =
 
 pub returns-clause-flow : goal.returns-clause-flow
 returns-clause-flow c =
-    let rows = c.args.graph.now.rows.items in
-    let s = c.args.visits.now in
+    let rows = c.args.levels.graph.now.rows.items in
+    let s = c.args.levels.visits.now in
     let back = c.args.walks.now.back.items in
-    let last : depth_at s c.args.target - depth_at s c.loop-node.node ≡ 0 = omega (arith, c.loop-node-test.false) in
+    let last : depth_at s c.args.path.target - depth_at s c.loop-node.node ≡ 0 = omega (arith, c.loop-node-test.false) in
     ap (λ (d : ℕ). push_along (hops_of rows back d c.loop-node.node) (to_z w64 (of_z w64 c.args.amount)) c.loop-node.flow) (sym last) ∙ c.loop-node.invariant.rest ∙ search rules

@@ -8,12 +8,12 @@ use Rattle.shortest_paths.proofs.augment.shift.Given as goal
 
 abbrev pub invariant-loop-node : goal.invariant-loop-node
 invariant-loop-node l = record {
-  way : IsWay l.graph.rows.items l.flow l.visits l.walks l.target l.node;
-  flow : IsFlow (length l.visits) l.graph.rows.items l.flow;
-  room : HasRoom l.graph.rows.items l.flow l.amount (hops_from l.graph.rows.items l.visits l.walks.back.items l.target l.node);
-  rest : push_along (hops_from l.graph.rows.items l.visits l.walks.back.items l.target l.node) l.amount l.flow ≡ push_along (hops_from l.graph.rows.items l.visits l.walks.back.items l.target l.root) l.amount l.initial.flow;
+  way : IsWay l.levels.graph.now.rows.items l.flow l.levels.visits.now l.walks l.path.target l.node;
+  flow : IsFlow (length l.levels.visits.now) l.levels.graph.now.rows.items l.flow;
+  room : HasRoom l.levels.graph.now.rows.items l.flow l.amount (hops_from l.levels.graph.now.rows.items l.levels.visits.now l.walks.back.items l.path.target l.node);
+  rest : push_along (hops_from l.levels.graph.now.rows.items l.levels.visits.now l.walks.back.items l.path.target l.node) l.amount l.flow ≡ push_along (hops_from l.levels.graph.now.rows.items l.levels.visits.now l.walks.back.items l.path.target l.path.root) l.amount l.initial.flow;
   noted : AreNoted l.initial.touched l.initial.flow l.touched l.flow;
 }
 
 abbrev pub decreases-loop-node : goal.decreases-loop-node
-decreases-loop-node l = depth_at l.visits l.target - depth_at l.visits l.node
+decreases-loop-node l = depth_at l.levels.visits.now l.path.target - depth_at l.levels.visits.now l.node

@@ -9,11 +9,11 @@ use Rattle.shortest_paths.proofs.blocking.find_path.Given as goal
 
 abbrev pub invariant-loop-node : goal.invariant-loop-node
 invariant-loop-node l = record {
-  walks : IsWalksFor (length l.visits) l.walks;
+  walks : IsWalksFor (length l.levels.visits.now) l.walks;
   alive : in_set l.walks.dead.items l.node ≡ false;
-  on_walk : IsOnWalk l.graph.rows.items l.potentials l.flow l.visits l.walks.dead.items l.walks.back.items (pos 1) l.target l.node;
-  first : ArePaths l.graph.rows.items l.potentials l.visits → CanPush l.graph.rows.items l.flow l.excess l.visits l.target → AreAlive l.visits l.initial.walks.dead.items → IsFirstWalk l.graph.rows.items l.flow l.excess l.visits l.walks.dead.items l.node;
+  on_walk : IsOnWalk l.levels.graph.now.rows.items l.levels.potentials.now l.flow l.levels.visits.now l.walks.dead.items l.walks.back.items (pos 1) l.target l.node;
+  first : ArePaths l.levels.graph.now.rows.items l.levels.potentials.now l.levels.visits.now → CanPush l.levels.graph.now.rows.items l.flow l.excess l.levels.visits.now l.target → AreAlive l.levels.visits.now l.initial.walks.dead.items → IsFirstWalk l.levels.graph.now.rows.items l.flow l.excess l.levels.visits.now l.walks.dead.items l.node;
 }
 
 abbrev pub decreases-loop-node : goal.decreases-loop-node
-decreases-loop-node l = 2 * count_by not l.walks.dead.items + depth_at l.visits l.node
+decreases-loop-node l = 2 * count_by not l.walks.dead.items + depth_at l.levels.visits.now l.node

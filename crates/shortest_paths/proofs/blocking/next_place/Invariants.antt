@@ -4,9 +4,9 @@ use Rattle.shortest_paths.proofs.blocking.next_place.Given as goal
 
 abbrev pub invariant-loop-end : goal.invariant-loop-end
 invariant-loop-end l = record {
-  walk : IsWalk l.graph l.walk;
+  walk : IsWalk l.levels.graph.now l.walk;
   node : l.walk.node ≡ l.node;
 }
 
 abbrev pub decreases-loop-end : goal.decreases-loop-end
-decreases-loop-end l = left_of l.graph l.walk
+decreases-loop-end l = left_of l.levels.graph.now l.walk

@@ -1,5 +1,6 @@
 use Rattle.std.proofs.Common.{◌≡◌, ◌∙◌, ◌+◌, ◌<◌, ℕ, Bool, List, ap, false, length, inr, slice_set, subst, sym, true}
 use Rattle.std.proofs.lemmas.List.{get_or-set_same}
+use Rattle.shortest_paths.specs.Ends.{leaving}
 use Rattle.shortest_paths.specs.declared.residual.ResidualArc.{ResidualArc}
 use Rattle.shortest_paths.specs.declared.residual.Way.{Way}
 use Rattle.shortest_paths.specs.Cut.{IsFarIn, IsGrown, far_at, in_set, near_at}
@@ -16,66 +17,66 @@ at-walk-requires c = record { node = record { entries = length c.args.cut.now; g
 pub loop-end-init : goal.loop-end-init
 loop-end-init c = record {
   line = c.requires.line;
-  grown = IsGrown-refl c.args.side c.args.graph.now.rows.items c.args.flow.now c.args.cut.now c.args.line.now c.args.len;
+  grown = IsGrown-refl c.args.on.side c.args.on.graph.now.rows.items c.args.on.flow.now c.args.cut.now c.args.line.now c.args.len;
   walk = c.at-walk.ensures.walk;
   node = c.at-walk.ensures.node;
   done = λ k way lt starts. inr (c.at-walk.ensures.all k way lt (starts ∙ sym c.at-walk.ensures.node));
 }
 
 -- the residual arc that leads on leads to the other node
-far_is : (c : In-Some) → far_at c.args.side c.args.graph.now.rows.items c.in-Some.end.leaving.arc (way_on c.args.side c.in-Some.end.leaving.way) ≡ c.in-Some.end.other
-far_is c = leads_to c.args.side c.args.graph.now.rows.items c.in-Some.end.leaving.arc c.in-Some.end.leaving.way ∙ c.in-Some.ensures.end.ends
+far_is : (c : In-Some) → far_at c.args.on.side c.args.on.graph.now.rows.items (leaving c.in-Some.end).arc (way_on c.args.on.side (leaving c.in-Some.end).way) ≡ c.in-Some.end.other
+far_is c = leads_to c.args.on.side c.args.on.graph.now.rows.items (leaving c.in-Some.end).arc (leaving c.in-Some.end).way ∙ c.in-Some.ensures.end.ends
 
 -- that node is marked already
 pub loop-end-preserved-then-cut-far : goal.loop-end-preserved-then-cut-far
 loop-end-preserved-then-cut-far c =
-    let P : ℕ → Way → Type 0 = λ k way. IsFarIn c.args.side c.args.graph.now.rows.items c.args.flow.now c.loop-end.cut k (way_on c.args.side way) in
+    let P : ℕ → Way → Type 0 = λ k way. IsFarIn c.args.on.side c.args.on.graph.now.rows.items c.args.on.flow.now c.loop-end.cut k (way_on c.args.on.side way) in
     record {
       line = c.loop-end.invariant.line;
       grown = c.loop-end.invariant.grown;
       walk = c.next.ensures.walk;
       node = c.next.ensures.node ∙ c.loop-end.invariant.node;
-      done = one_end_more c.args.graph.now c.loop-end.walk c.next.new.self c.args.node c.in-Some.end P P c.loop-end.invariant.done c.in-Some.ensures.rest (λ k way far. far)
+      done = one_end_more c.args.on.graph.now c.loop-end.walk c.next.new.self c.args.node c.in-Some.end P P c.loop-end.invariant.done c.in-Some.ensures.rest (λ k way far. far)
           (λ residual. ap (in_set c.loop-end.cut) (far_is (goal.at.loop-end-preserved-then-cut-far c).In-Some) ∙ c.if-cut-far.true);
     }
 
 -- the residual arc is not there
 pub loop-end-preserved : goal.loop-end-preserved
 loop-end-preserved c =
-    let P : ℕ → Way → Type 0 = λ k way. IsFarIn c.args.side c.args.graph.now.rows.items c.args.flow.now c.loop-end.cut k (way_on c.args.side way) in
-    let leads = c.leading.ensures ∙ leading_is c.args.side c.in-Some.end in
+    let P : ℕ → Way → Type 0 = λ k way. IsFarIn c.args.on.side c.args.on.graph.now.rows.items c.args.on.flow.now c.loop-end.cut k (way_on c.args.on.side way) in
+    let leads = c.leading.ensures ∙ leading_is c.args.on.side c.in-Some.end in
     record {
       line = c.loop-end.invariant.line;
       grown = c.loop-end.invariant.grown;
       walk = c.next.ensures.walk;
       node = c.next.ensures.node ∙ c.loop-end.invariant.node;
-      done = one_end_more c.args.graph.now c.loop-end.walk c.next.new.self c.args.node c.in-Some.end P P c.loop-end.invariant.done c.in-Some.ensures.rest (λ k way far. far)
-          (λ residual. cc (c.has_room.ensures.1 (subst (λ (a : ResidualArc). IsResidual c.args.graph.now.rows.items c.args.flow.now a.arc a.way) (sym leads) residual)));
+      done = one_end_more c.args.on.graph.now c.loop-end.walk c.next.new.self c.args.node c.in-Some.end P P c.loop-end.invariant.done c.in-Some.ensures.rest (λ k way far. far)
+          (λ residual. cc (c.has_room.ensures.1 (subst (λ (a : ResidualArc). IsResidual c.args.on.graph.now.rows.items c.args.on.flow.now a.arc a.way) (sym leads) residual)));
     }
 
 other_in : (c : Then-has_room) → c.in-Some.end.other < length c.loop-end.cut
 other_in c =
     subst (λ (v : ℕ). v < length c.loop-end.cut) c.in-Some.ensures.end.ends
-    (rw c.loop-end.auto.cut (end_of-in (length c.args.cut.now) (arc_at c.args.graph.now.rows.items c.in-Some.end.leaving.arc) c.in-Some.end.leaving.way (c.requires.flow.rows c.in-Some.end.leaving.arc c.in-Some.ensures.end.is_arc)))
+    (rw c.loop-end.auto.cut (end_of-in (length c.args.cut.now) (arc_at c.args.on.graph.now.rows.items (leaving c.in-Some.end).arc) (leaving c.in-Some.end).way (c.requires.flow.rows (leaving c.in-Some.end).arc c.in-Some.ensures.end.is_arc)))
 
 -- the node is marked
-marks : (c : Then-has_room) → IsGrown c.args.side c.args.graph.now.rows.items c.args.flow.now c.loop-end.cut c.loop-end.line c.loop-end.longer (slice_set c.loop-end.cut c.in-Some.end.other true) (slice_set c.loop-end.line c.loop-end.longer c.in-Some.end.other) (c.loop-end.longer + 1)
+marks : (c : Then-has_room) → IsGrown c.args.on.side c.args.on.graph.now.rows.items c.args.on.flow.now c.loop-end.cut c.loop-end.line c.loop-end.longer (slice_set c.loop-end.cut c.in-Some.end.other true) (slice_set c.loop-end.line c.loop-end.longer c.in-Some.end.other) (c.loop-end.longer + 1)
 marks c =
-    let rows = c.args.graph.now.rows.items in
-    let arc = c.in-Some.end.leaving.arc in
-    let way = way_on c.args.side c.in-Some.end.leaving.way in
-    let leads = c.leading.ensures ∙ leading_is c.args.side c.in-Some.end in
-    let residual : IsResidual rows c.args.flow.now arc way = subst (λ (a : ResidualArc). IsResidual rows c.args.flow.now a.arc a.way) leads (c.has_room.ensures.0 c.if-has_room.true) in
-    let near : near_at c.args.side rows arc way ≡ c.args.node = leads_from c.args.side rows arc c.in-Some.end.leaving.way ∙ c.in-Some.ensures.end.starts ∙ c.loop-end.invariant.node in
-    IsGrown-put c.args.side rows c.args.flow.now c.loop-end.cut c.loop-end.line c.loop-end.longer c.in-Some.end.other arc way c.loop-end.invariant.line residual
+    let rows = c.args.on.graph.now.rows.items in
+    let arc = (leaving c.in-Some.end).arc in
+    let way = way_on c.args.on.side (leaving c.in-Some.end).way in
+    let leads = c.leading.ensures ∙ leading_is c.args.on.side c.in-Some.end in
+    let residual : IsResidual rows c.args.on.flow.now arc way = subst (λ (a : ResidualArc). IsResidual rows c.args.on.flow.now a.arc a.way) leads (c.has_room.ensures.0 c.if-has_room.true) in
+    let near : near_at c.args.on.side rows arc way ≡ c.args.node = leads_from c.args.on.side rows arc (leaving c.in-Some.end).way ∙ c.in-Some.ensures.end.starts ∙ c.loop-end.invariant.node in
+    IsGrown-put c.args.on.side rows c.args.on.flow.now c.loop-end.cut c.loop-end.line c.loop-end.longer c.in-Some.end.other arc way c.loop-end.invariant.line residual
     (ap (in_set c.loop-end.cut) near ∙ c.loop-end.invariant.grown.kept c.args.node c.requires.marked)
-    (leads_to c.args.side rows arc c.in-Some.end.leaving.way ∙ c.in-Some.ensures.end.ends) (other_in c) c.if-cut-far.false
+    (leads_to c.args.on.side rows arc (leaving c.in-Some.end).way ∙ c.in-Some.ensures.end.ends) (other_in c) c.if-cut-far.false
 
 pub loop-end-preserved-then-has_room : goal.loop-end-preserved-then-has_room
 loop-end-preserved-then-has_room c =
-    let side = c.args.side in
-    let rows = c.args.graph.now.rows.items in
-    let flow = c.args.flow.now in
+    let side = c.args.on.side in
+    let rows = c.args.on.graph.now.rows.items in
+    let flow = c.args.on.flow.now in
     let at = (goal.at.loop-end-preserved-then-has_room c).Then-has_room in
     let v = c.in-Some.end.other in
     let P : ℕ → Way → Type 0 = λ k way. IsFarIn side rows flow c.loop-end.cut k (way_on side way) in
@@ -89,9 +90,9 @@ loop-end-preserved-then-has_room c =
       grown = IsGrown-trans c.loop-end.invariant.grown grown;
       walk = c.next.ensures.walk;
       node = c.next.ensures.node ∙ c.loop-end.invariant.node;
-      done = one_end_more c.args.graph.now c.loop-end.walk c.next.new.self c.args.node c.in-Some.end P Q c.loop-end.invariant.done c.in-Some.ensures.rest (λ k way far residual. grown.kept _ (far residual))
+      done = one_end_more c.args.on.graph.now c.loop-end.walk c.next.new.self c.args.node c.in-Some.end P Q c.loop-end.invariant.done c.in-Some.ensures.rest (λ k way far residual. grown.kept _ (far residual))
           (λ residual. ap (in_set c.mark-longer.new.cut) (far_is (goal.at.loop-end-preserved-then-has_room c).In-Some) ∙ ap (λ (set : List Bool). in_set set v) c.mark-longer.ensures.cut ∙ get_or-set_same c.loop-end.cut v true false (other_in at));
     }
 
 pub returns-clause-far : goal.returns-clause-far
-returns-clause-far c = far_in_met c.args.side c.args.graph.now c.loop-end.walk c.args.node c.args.flow.now c.loop-end.cut c.loop-end.invariant.done c.in_default.ensures.rest
+returns-clause-far c = far_in_met c.args.on.side c.args.on.graph.now c.loop-end.walk c.args.node c.args.on.flow.now c.loop-end.cut c.loop-end.invariant.done c.in_default.ensures.rest

@@ -8,11 +8,11 @@ use Rattle.shortest_paths.proofs.cut.mark_from.Given as goal
 abbrev pub invariant-loop-end : goal.invariant-loop-end
 invariant-loop-end l = record {
   line : IsLineOf l.cut l.line l.longer;
-  grown : IsGrown l.side l.graph.rows.items l.flow l.initial.cut l.initial.line l.len l.cut l.line l.longer;
-  walk : IsWalk l.graph l.walk;
+  grown : IsGrown l.on.side l.on.graph.now.rows.items l.on.flow.now l.initial.cut l.initial.line l.len l.cut l.line l.longer;
+  walk : IsWalk l.on.graph.now l.walk;
   node : l.walk.node ≡ l.node;
-  done : AllHaveOrCome l.graph l.walk l.node (λ k way. IsFarIn l.side l.graph.rows.items l.flow l.cut k (way_on l.side way));
+  done : AllHaveOrCome l.on.graph.now l.walk l.node (λ k way. IsFarIn l.on.side l.on.graph.now.rows.items l.on.flow.now l.cut k (way_on l.on.side way));
 }
 
 abbrev pub decreases-loop-end : goal.decreases-loop-end
-decreases-loop-end l = left_of l.graph l.walk
+decreases-loop-end l = left_of l.on.graph.now l.walk

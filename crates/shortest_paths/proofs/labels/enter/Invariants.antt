@@ -4,6 +4,6 @@ use Rattle.shortest_paths.proofs.labels.enter.Given as goal
 
 abbrev pub invariant-loop-v : goal.invariant-loop-v
 invariant-loop-v l = record {
-  entered : IsEntered l.graph.rows.items l.flow l.potentials l.visits l.v;
+  entered : IsEntered l.residual.graph.now.rows.items l.residual.flow.now l.residual.potentials.now l.visits l.v;
   queue : IsQueueOf l.visits l.queue;
 }

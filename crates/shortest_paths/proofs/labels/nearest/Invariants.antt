@@ -7,11 +7,11 @@ use Rattle.shortest_paths.proofs.labels.nearest.Given as goal
 
 abbrev pub invariant-loop-end : goal.invariant-loop-end
 invariant-loop-end l = record {
-  opens : Opens l.graph.rows.items l.flow l.potentials l.visits l.v l.best;
-  walk : IsWalk l.graph l.walk;
+  opens : Opens l.residual.graph.now.rows.items l.residual.flow.now l.residual.potentials.now l.visits l.v l.best;
+  walk : IsWalk l.residual.graph.now l.walk;
   node : l.walk.node ≡ l.v;
-  done : AllHaveOrCome l.graph l.walk l.v (λ k way. IsNoDearer l.graph.rows.items l.flow l.potentials l.visits l.v l.best k (other_way way));
+  done : AllHaveOrCome l.residual.graph.now l.walk l.v (λ k way. IsNoDearer l.residual.graph.now.rows.items l.residual.flow.now l.residual.potentials.now l.visits l.v l.best k (other_way way));
 }
 
 abbrev pub decreases-loop-end : goal.decreases-loop-end
-decreases-loop-end l = left_of l.graph l.walk
+decreases-loop-end l = left_of l.residual.graph.now l.walk

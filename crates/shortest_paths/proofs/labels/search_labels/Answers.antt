@@ -2,4 +2,4 @@ use Rattle.shortest_paths.proofs.LabelLemmas.{entered_relaxed}
 use Rattle.shortest_paths.proofs.labels.search_labels.Goals as goal
 
 pub search_rest-requires-clause-relaxed : goal.search_rest-requires-clause-relaxed
-search_rest-requires-clause-relaxed c = entered_relaxed c.args.graph.now.rows.items c.args.flow.now c.args.potentials.now c.enter.new.visits c.requires.certified c.enter.ensures.entered
+search_rest-requires-clause-relaxed c = entered_relaxed c.args.residual.graph.now.rows.items c.args.residual.flow.now c.args.residual.potentials.now c.enter.new.visits c.args.residual.certified c.enter.ensures.entered

@@ -6,9 +6,9 @@ use Rattle.shortest_paths.proofs.labels.search_rest.Given as goal
 abbrev pub invariant-loop-u : goal.invariant-loop-u
 invariant-loop-u l = record {
   queue : IsQueueOf l.visits l.queue;
-  known : IsSearch l.graph.rows.items l.flow l.potentials l.visits;
-  relaxed : AllRelaxed l.graph.rows.items l.flow l.potentials l.visits;
-  from_all : IsFromAll l.potentials l.visits;
+  known : IsSearch l.residual.graph.now.rows.items l.residual.flow.now l.residual.potentials.now l.visits;
+  relaxed : AllRelaxed l.residual.graph.now.rows.items l.residual.flow.now l.residual.potentials.now l.visits;
+  from_all : IsFromAll l.residual.potentials.now l.visits;
   place : l.place ≤ length l.order;
 }
 

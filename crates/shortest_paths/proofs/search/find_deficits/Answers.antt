@@ -18,7 +18,7 @@ reach_is c =
     let known = c.settle_node-settled.ensures.search in
     let reached = settled_is_reached c.settle_node-settled.new.visits c.in-Some.u (settles_u c).now_settled in
     let low = known.key_at_least_0 c.in-Some.u reached in
-    let high = key_high c.args.graph.now.rows.items c.args.flow.now c.args.potentials.now c.settle_node-settled.new.visits c.in-Some.u c.requires.certified known reached in
+    let high = key_high c.args.residual.graph.now.rows.items c.args.residual.flow.now c.args.residual.potentials.now c.settle_node-settled.new.visits c.in-Some.u c.args.residual.certified known reached in
     let fits : SFits w64 (key_at c.settle_node-settled.new.visits c.in-Some.u) = omega (arith, ints, low, high) in
     to_z-of_z w64 (key_at c.settle_node-settled.new.visits c.in-Some.u) fits
 
@@ -26,12 +26,12 @@ reach_is c =
 one_more : (c : After-settle_node-settled) → number_at c.args.excess.now c.in-Some.u <ℤ pos 0 → IsFinding c.args.excess.now c.settle_node-settled.new.visits (to_z w64 (of_z w64 (key_at c.settle_node-settled.new.visits c.in-Some.u))) (c.loop-u.found + 1)
 one_more c low =
     subst (λ (r : ℤ). IsFinding c.args.excess.now c.settle_node-settled.new.visits r (c.loop-u.found + 1)) (sym (reach_is c))
-    (IsFinding-deficit c.args.graph.now.rows.items c.args.flow.now c.args.potentials.now c.args.excess.now c.loop-u.visits c.settle_node-settled.new.visits c.in-Some.u _ c.loop-u.found c.requires.certified c.loop-u.invariant.known c.settle_node-settled.ensures.search c.in-Some.ensures.found.is_open (settles_u c) c.loop-u.invariant.finding low)
+    (IsFinding-deficit c.args.residual.graph.now.rows.items c.args.residual.flow.now c.args.residual.potentials.now c.args.excess.now c.loop-u.visits c.settle_node-settled.new.visits c.in-Some.u _ c.loop-u.found c.args.residual.certified c.loop-u.invariant.known c.settle_node-settled.ensures.search c.in-Some.ensures.found.is_open (settles_u c) c.loop-u.invariant.finding low)
 
 no_more : (c : After-settle_node-settled) → pos 0 ≤ℤ number_at c.args.excess.now c.in-Some.u → IsFinding c.args.excess.now c.settle_node-settled.new.visits (to_z w64 (of_z w64 (key_at c.settle_node-settled.new.visits c.in-Some.u))) c.loop-u.found
 no_more c high =
     subst (λ (r : ℤ). IsFinding c.args.excess.now c.settle_node-settled.new.visits r c.loop-u.found) (sym (reach_is c))
-    (IsFinding-other c.args.graph.now.rows.items c.args.flow.now c.args.potentials.now c.args.excess.now c.loop-u.visits c.settle_node-settled.new.visits c.in-Some.u _ c.loop-u.found c.requires.certified c.loop-u.invariant.known c.settle_node-settled.ensures.search c.in-Some.ensures.found.is_open (settles_u c) c.loop-u.invariant.finding high)
+    (IsFinding-other c.args.residual.graph.now.rows.items c.args.residual.flow.now c.args.residual.potentials.now c.args.excess.now c.loop-u.visits c.settle_node-settled.new.visits c.in-Some.u _ c.loop-u.found c.args.residual.certified c.loop-u.invariant.known c.settle_node-settled.ensures.search c.in-Some.ensures.found.is_open (settles_u c) c.loop-u.invariant.finding high)
 
 -- the node that was settled is in the trail
 noted : (c : After-note) → IsTrailOf c.settle_node-settled.new.visits c.note.new.self
@@ -74,19 +74,19 @@ loop-u-preserved c = record {
 
 pub loop-u-init : goal.loop-u-init
 loop-u-init c =
-    let arcs = c.args.graph.now.rows.items in
-    let x = c.args.flow.now in
-    let p = c.args.potentials.now in
+    let arcs = c.args.residual.graph.now.rows.items in
+    let x = c.args.residual.flow.now in
+    let p = c.args.residual.potentials.now in
     let excess = c.args.excess.now in
     let s = c.open_sources.new.visits in
     let opened = c.open_sources.ensures in
     let sized : length s ≡ length p = c.open_sources.auto.visits ∙ c.requires.visits_in in
     record {
       queue = opened.queue;
-      trail = trail_first s (record c.args.trail.now { len = 0 }) (record { nodes_sized = c.requires.trail_in.nodes_sized ∙ sym sized }) refl (none_settled arcs x p excess s c.requires.certified sized opened.sources opened.others);
-      known = known_first arcs x p excess s c.requires.certified sized opened.sources opened.others;
-      relaxed = relaxed_first arcs x p excess s c.requires.certified sized opened.sources opened.others;
-      from_excess = from_excess_first arcs x p excess s c.requires.certified sized opened.sources opened.others;
+      trail = trail_first s (record c.args.trail.now { len = 0 }) (record { nodes_sized = c.requires.trail_in.nodes_sized ∙ sym sized }) refl (none_settled arcs x p excess s c.args.residual.certified sized opened.sources opened.others);
+      known = known_first arcs x p excess s c.args.residual.certified sized opened.sources opened.others;
+      relaxed = relaxed_first arcs x p excess s c.args.residual.certified sized opened.sources opened.others;
+      from_excess = from_excess_first arcs x p excess s c.args.residual.certified sized opened.sources opened.others;
       few = omega (arith, c.wanted_deficits-wanted.ensures);
-      finding = finding_first arcs x p excess s c.requires.certified sized opened.sources opened.others;
+      finding = finding_first arcs x p excess s c.args.residual.certified sized opened.sources opened.others;
     }

@@ -8,8 +8,8 @@ abbrev pub invariant-loop-u : goal.invariant-loop-u
 invariant-loop-u l = record {
   queue : IsQueueOf l.visits l.queue;
   trail : IsTrailOf l.visits l.trail;
-  known : IsSearch l.graph.rows.items l.flow l.potentials l.visits;
-  relaxed : AllRelaxed l.graph.rows.items l.flow l.potentials l.visits;
+  known : IsSearch l.residual.graph.now.rows.items l.residual.flow.now l.residual.potentials.now l.visits;
+  relaxed : AllRelaxed l.residual.graph.now.rows.items l.residual.flow.now l.residual.potentials.now l.visits;
   from_excess : IsFromExcess l.excess l.visits;
   few : l.found < l.wanted;
   finding : IsFinding l.excess l.visits l.reach l.found;

@@ -1,15 +1,17 @@
 use Rattle.std.proofs.Common.{◌≡◌, ◌∙◌, ℕ, ap, arith, inr, length, subst, sym}
+use Rattle.std.proofs.lemmas.Int.{ints}
 use Rattle.shortest_paths.specs.declared.residual.Way.{Way}
-use Rattle.shortest_paths.specs.Residual.{IsResidual, start_at}
-use Rattle.shortest_paths.specs.Search.{IsLastSettled, IsRelaxed, mark_at}
+use Rattle.shortest_paths.specs.declared.visit.Visit.{Visit}
+use Rattle.shortest_paths.specs.Residual.{IsResidual, number_at, start_at}
+use Rattle.shortest_paths.specs.Search.{IsLastSettled, IsRelaxed, key_at, mark_at}
 use Rattle.shortest_paths.proofs.EndLemmas.{all_ends_met, is_end, one_end_more}
-use Rattle.shortest_paths.proofs.SearchLemmas.{Improves-refl, Improves-trans, IsLastSettled-improves, IsRelaxed-improves, in_range, settled_is_reached}
+use Rattle.shortest_paths.proofs.SearchLemmas.{Improves-refl, Improves-trans, IsLastSettled-improves, IsRelaxed-improves, in_range, last_bounds, settled_is_reached}
 use Rattle.shortest_paths.proofs.search.relax_all.Goals as goal
 
 pub at-walk-requires : goal.at-walk-requires
 at-walk-requires c =
     let below = in_range c.args.visits.now c.args.u (settled_is_reached c.args.visits.now c.args.u c.requires.last.settled) in
-    record { node = record { entries = length c.args.potentials.now; graph = c.requires.graph; node = omega (arith, below, c.requires.search.sized) } }
+    record { node = record { entries = length c.args.residual.potentials.now; graph = c.requires.graph; node = omega (arith, below, c.requires.search.sized) } }
 
 pub loop-end-init : goal.loop-end-init
 loop-end-init c = record {
@@ -22,17 +24,26 @@ loop-end-init c = record {
 }
 
 pub relax-requires-clause-end : goal.relax-requires-clause-end
-relax-requires-clause-end c = is_end c.args.graph.now.rows.items c.loop-end.walk.node c.in-Some.end c.in-Some.ensures.end
+relax-requires-clause-end c = is_end c.args.residual.graph.now.rows.items c.loop-end.walk.node c.in-Some.end c.in-Some.ensures.end
 
 pub relax-requires-clause-last : goal.relax-requires-clause-last
 relax-requires-clause-last c =
     subst (IsLastSettled c.loop-end.visits) (sym (c.in-Some.ensures.end.starts ∙ c.loop-end.invariant.node)) (IsLastSettled-improves c.requires.last c.loop-end.invariant.improves)
 
+pub relax-requires-clause-from : goal.relax-requires-clause-from
+relax-requires-clause-from c =
+    let p = c.args.residual.potentials.now in
+    let u = c.args.u in
+    let bounds = last_bounds c.args.residual.certified c.requires.search c.requires.last in
+    let starts = c.in-Some.ensures.end.starts ∙ c.loop-end.invariant.node in
+    let kept = ap (λ (e : Visit). e.key) (c.loop-end.invariant.improves.settled_kept u c.requires.last.settled) in
+    omega (arith, ints, ap (key_at c.loop-end.visits) starts, ap (number_at p) starts, kept, bounds.low, bounds.high, c.args.residual.certified.potentials.at_least u, c.args.residual.certified.potentials.at_most_0 u)
+
 pub loop-end-preserved : goal.loop-end-preserved
 loop-end-preserved c =
-    let rows = c.args.graph.now.rows.items in
-    let flow = c.args.flow.now in
-    let p = c.args.potentials.now in
+    let rows = c.args.residual.graph.now.rows.items in
+    let flow = c.args.residual.flow.now in
+    let p = c.args.residual.potentials.now in
     let u = c.args.u in
     let last = IsLastSettled-improves c.requires.last c.loop-end.invariant.improves in
     let P : ℕ → Way → Type 0 = λ k way. start_at rows k way ≡ u → IsResidual rows flow k way → IsRelaxed rows p c.loop-end.visits k way in
@@ -43,12 +54,12 @@ loop-end-preserved c =
       improves = Improves-trans c.loop-end.invariant.improves c.relax.ensures.improves;
       walk = c.next.ensures.walk;
       node = c.next.ensures.node ∙ c.loop-end.invariant.node;
-      done = one_end_more c.args.graph.now c.loop-end.walk c.next.new.self u c.in-Some.end P Q c.loop-end.invariant.done c.in-Some.ensures.rest
+      done = one_end_more c.args.residual.graph.now c.loop-end.walk c.next.new.self u c.in-Some.end P Q c.loop-end.invariant.done c.in-Some.ensures.rest
           (λ k way done starts residual. IsRelaxed-improves (ap (mark_at c.loop-end.visits) starts ∙ last.settled) c.relax.ensures.improves (done starts residual)) (λ starts residual. c.relax.ensures.relaxed residual);
     }
 
 pub returns-clause-relaxed : goal.returns-clause-relaxed
 returns-clause-relaxed c = λ k way lt residual starts.
-    (let rows = c.args.graph.now.rows.items in
-    let P : ℕ → Way → Type 0 = λ k way. start_at rows k way ≡ c.args.u → IsResidual rows c.args.flow.now k way → IsRelaxed rows c.args.potentials.now c.loop-end.visits k way in
-    all_ends_met c.args.graph.now c.loop-end.walk c.args.u P c.loop-end.invariant.done c.in_default.ensures.rest k way lt starts starts residual)
+    (let rows = c.args.residual.graph.now.rows.items in
+    let P : ℕ → Way → Type 0 = λ k way. start_at rows k way ≡ c.args.u → IsResidual rows c.args.residual.flow.now k way → IsRelaxed rows c.args.residual.potentials.now c.loop-end.visits k way in
+    all_ends_met c.args.residual.graph.now c.loop-end.walk c.args.u P c.loop-end.invariant.done c.in_default.ensures.rest k way lt starts starts residual)

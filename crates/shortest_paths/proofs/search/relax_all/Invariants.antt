@@ -8,13 +8,13 @@ use Rattle.shortest_paths.proofs.search.relax_all.Given as goal
 
 abbrev pub invariant-loop-end : goal.invariant-loop-end
 invariant-loop-end l = record {
-  search : IsSearch l.graph.rows.items l.flow l.potentials l.visits;
+  search : IsSearch l.residual.graph.now.rows.items l.residual.flow.now l.residual.potentials.now l.visits;
   queue : IsQueueOf l.visits l.queue;
   improves : Improves l.initial.visits l.visits;
-  walk : IsWalk l.graph l.walk;
+  walk : IsWalk l.residual.graph.now l.walk;
   node : l.walk.node ≡ l.u;
-  done : AllHaveOrCome l.graph l.walk l.u (λ k way. start_at l.graph.rows.items k way ≡ l.u → IsResidual l.graph.rows.items l.flow k way → IsRelaxed l.graph.rows.items l.potentials l.visits k way);
+  done : AllHaveOrCome l.residual.graph.now l.walk l.u (λ k way. start_at l.residual.graph.now.rows.items k way ≡ l.u → IsResidual l.residual.graph.now.rows.items l.residual.flow.now k way → IsRelaxed l.residual.graph.now.rows.items l.residual.potentials.now l.visits k way);
 }
 
 abbrev pub decreases-loop-end : goal.decreases-loop-end
-decreases-loop-end l = left_of l.graph l.walk
+decreases-loop-end l = left_of l.residual.graph.now l.walk

@@ -1,75 +1,31 @@
-use Rattle.std.proofs.Common.{◌≡◌, ◌+◌, ◌*◌, ◌/◌, ◌<◌, ◌∙◌, ℕ, ap, arith, inl, inr, length, subst, sym}
-use Rattle.network.specs.Ends.{last_end_below}
-use Rattle.shortest_paths.specs.declared.residual.ResidualArc.{ResidualArc}
-use Rattle.shortest_paths.specs.declared.residual.Way.{Way}
-use Rattle.shortest_paths.specs.declared.walk.Stage.{Stage}
-use Rattle.shortest_paths.specs.declared.walk.Stage.TheVariants.{Added}
-use Rattle.shortest_paths.specs.Ends.{IsEndAt, IsToCome, IsWalk, StandsIn, left_in, left_of}
-use Rattle.shortest_paths.specs.Residual.{start_at}
-use Rattle.shortest_paths.proofs.EndLemmas.{added_rest, return_rest, starts_here, walk_on, walk_shorter}
-use Rattle.shortest_paths.proofs.WalkLemmas.{IsNextEnd, first_end_is, next_end_is}
+use Rattle.std.proofs.Common.{◌≡◌, ◌∙◌, ap, arith, inl, inr, subst, sym}
+use Rattle.std.proofs.lemmas.List.{get_or_default}
+use Rattle.shortest_paths.specs.declared.walk.End.{End}
+use Rattle.shortest_paths.specs.declared.walk.Stage.TheVariants.{Spokes}
+use Rattle.shortest_paths.specs.Ends.{IsEndAt, leaving}
+use Rattle.shortest_paths.specs.Star.{spoke_at}
+use Rattle.shortest_paths.proofs.EndLemmas.{among_spokes, is_covered, last_place, spoke_end, spoke_rest}
 use Rattle.shortest_paths.proofs.walk.Walk.next.Goals as goal
-use Rattle.shortest_paths.proofs.walk.Walk.next.Goals.{After-first_end, After-next_end, In-Added}
+use Rattle.shortest_paths.proofs.walk.Walk.next.Goals.{After-index-spoke}
 
--- the walk stands at this end
-at_end : (c : In-Added) → StandsIn c.args.graph.now c.args.self.now.node c.args.self.now.first_row (Added c.in-Added.end)
-at_end c = subst (StandsIn c.args.graph.now c.args.self.now.node c.args.self.now.first_row) c.in-Added.is c.requires.walk.stands
+spokes : (c : After-index-spoke) → c.args.self.now.stage ≡ Spokes
+spokes c = among_spokes c.args.graph.now c.args.self.now c.requires.walk c.if-self.true
 
-next_is : (c : After-next_end) → IsNextEnd c.args.graph.now.net.arcs c.args.self.now.node c.in-Added.end c.next_end.result
-next_is c =
-    let arcs = c.args.graph.now.net.arcs in
-    let stands : StandsIn c.args.graph.now c.args.self.now.node c.args.self.now.first_row (Added c.in-Added.end) = subst (StandsIn c.args.graph.now c.args.self.now.node c.args.self.now.first_row) c.in-Added.is c.requires.walk.stands in
-    let next : c.next_end.result ≡ last_end_below arcs c.args.self.now.node c.in-Added.end = subst (λ (v : ℕ). c.next_end.result ≡ last_end_below arcs v c.in-Added.end) stands.2 (c.next_end.ensures.end stands.1) in
-    subst (IsNextEnd arcs c.args.self.now.node c.in-Added.end) (sym next) (next_end_is arcs c.args.self.now.node c.in-Added.end)
+read : (c : After-index-spoke) → c.index-spoke.result.now ≡ spoke_at c.args.graph.now.star.spokes.items c.args.self.now.next
+read c =
+    c.index-spoke.ensures
+    ∙ get_or_default c.args.graph.now.star.spokes.items c.args.self.now.next c.index-spoke.result.now _ (omega (arith, c.if-self.true, last_place c.args.graph.now c.args.self.now c.requires.walk (spokes c)))
 
-first_is : (c : After-first_end) → IsNextEnd c.args.graph.now.net.arcs c.args.self.now.node (2 * length c.args.graph.now.net.arcs) c.first_end.result
-first_is c = first_end_is c.args.graph.now.net c.args.self.now.node c.first_end.result c.requires.walk.at.graph.rows.lawful c.first_end.ensures.node c.first_end.ensures.no_node
+pub returns-then-covers-clause-end : goal.returns-then-covers-clause-end
+returns-then-covers-clause-end c =
+    let at = (goal.at.returns-then-covers-clause-end c).After-index-spoke in
+    subst (IsEndAt c.args.graph.now.rows.items c.args.self.now.node) (sym c.spoke_end.ensures)
+    (spoke_end c.args.graph.now c.args.self.now c.args.self.now.next c.index-spoke.result.now c.requires.walk (spokes at) (omega arith) c.if-self.true (read at) (is_covered c.args.graph.now c.args.self.now c.index-spoke.result.now.end c.requires.walk (c.covers.ensures.0 c.if-covers.true)))
 
-pub returns-in-Added-clause-walk : goal.returns-in-Added-clause-walk
-returns-in-Added-clause-walk c =
-    let stands = at_end (goal.at.returns-in-Added-clause-walk c).In-Added in
-    subst (λ (s : Stage). IsWalk c.args.graph.now (record c.args.self.now { stage = s })) (sym c.of-self.ensures)
-    (walk_on c.args.graph.now c.args.self.now c.in-Added.end c.next_end.result c.requires.walk (omega (arith, stands.1)) (next_is (goal.at.returns-in-Added-clause-walk c).After-next_end))
-
-pub returns-in-Added-clause-end : goal.returns-in-Added-clause-end
-returns-in-Added-clause-end c =
-    let rows = c.args.graph.now.rows.items in
-    let row = c.args.self.now.first_row in
-    let end = c.in-Added.end in
-    let walk = c.requires.walk in
-    let stands = at_end (goal.at.returns-in-Added-clause-end c).In-Added in
-    let starts : start_at rows c.row_of.result c.of_end.result ≡ c.args.self.now.node =
-    ap (λ (a : ℕ). start_at rows a c.of_end.result) c.row_of.ensures ∙ ap (λ (m : Way). start_at rows (end / 2 + row) m) c.of_end.ensures
-    ∙ starts_here c.args.graph.now.net rows c.args.self.now.node row end walk.at.graph.rows walk.split stands.1 stands.2 in
-    subst (λ (v : ℕ). IsEndAt rows v c.end_in.result) starts c.end_in.ensures.end
-
-pub returns-in-Added-clause-rest : goal.returns-in-Added-clause-rest
-returns-in-Added-clause-rest c = λ k way come.
-    (let lead = c.end_in.ensures.leaving in
-    elim (added_rest c.args.graph.now c.args.self.now c.in-Added.end c.next_end.result k way c.in-Added.is (next_is (goal.at.returns-in-Added-clause-rest c).After-next_end) come) [
-      | inl this ↦ inl (this.0 ∙ sym c.row_of.ensures ∙ sym (ap (λ (a : ResidualArc). a.arc) lead), this.1 ∙ sym c.of_end.ensures ∙ sym (ap (λ (a : ResidualArc). a.way) lead))
-      | inr later ↦ inr (subst (λ (s : Stage). IsToCome c.args.graph.now (record c.args.self.now { stage = s }) k way) (sym c.of-self.ensures) later)
+pub returns-then-covers-clause-rest : goal.returns-then-covers-clause-rest
+returns-then-covers-clause-rest c = λ k way come.
+    (let at = (goal.at.returns-then-covers-clause-rest c).After-index-spoke in
+    elim (spoke_rest c.args.graph.now c.args.self.now c.args.self.now.next c.index-spoke.result.now c.requires.walk (spokes at) (omega arith) c.if-self.true (read at) (is_covered c.args.graph.now c.args.self.now c.index-spoke.result.now.end c.requires.walk (c.covers.ensures.0 c.if-covers.true)) (λ i le lt. absurd (omega (arith, le, lt))) k way come) [
+      | inl this ↦ inl (this.0 ∙ sym (ap (λ (e : End). (leaving e).arc) c.spoke_end.ensures), this.1 ∙ sym (ap (λ (e : End). (leaving e).way) c.spoke_end.ensures))
+      | inr later ↦ inr later
     ])
-
-pub returns-in-Added-clause-shorter : goal.returns-in-Added-clause-shorter
-returns-in-Added-clause-shorter c =
-    subst (λ (s : Stage). left_of c.args.graph.now (record c.args.self.now { stage = s }) < left_of c.args.graph.now c.args.self.now) (sym c.of-self.ensures)
-    (walk_shorter c.args.graph.now c.args.self.now c.in-Added.end c.next_end.result (next_is (goal.at.returns-in-Added-clause-shorter c).After-next_end) (ap (left_in c.args.graph.now) c.in-Added.is))
-
-pub returns-in-Return-clause-walk : goal.returns-in-Return-clause-walk
-returns-in-Return-clause-walk c =
-    subst (λ (s : Stage). IsWalk c.args.graph.now (record c.args.self.now { stage = s })) (sym c.of-self-in-Return.ensures)
-    (walk_on c.args.graph.now c.args.self.now (2 * length c.args.graph.now.net.arcs) c.first_end.result c.requires.walk (omega arith) (first_is (goal.at.returns-in-Return-clause-walk c).After-first_end))
-
-pub returns-in-Return-clause-rest : goal.returns-in-Return-clause-rest
-returns-in-Return-clause-rest c = λ k way come.
-    (let lead = c.end_in-in-Return.ensures.leaving in
-    elim (return_rest c.args.graph.now c.args.self.now c.in-Return.way c.first_end.result k way c.in-Return.is (first_is (goal.at.returns-in-Return-clause-rest c).After-first_end) come) [
-      | inl this ↦ inl (this.0 ∙ sym (ap (λ (a : ResidualArc). a.arc) lead), this.1 ∙ sym (ap (λ (a : ResidualArc). a.way) lead))
-      | inr later ↦ inr (subst (λ (s : Stage). IsToCome c.args.graph.now (record c.args.self.now { stage = s }) k way) (sym c.of-self-in-Return.ensures) later)
-    ])
-
-pub returns-in-Return-clause-shorter : goal.returns-in-Return-clause-shorter
-returns-in-Return-clause-shorter c =
-    subst (λ (s : Stage). left_of c.args.graph.now (record c.args.self.now { stage = s }) < left_of c.args.graph.now c.args.self.now) (sym c.of-self-in-Return.ensures)
-    (walk_shorter c.args.graph.now c.args.self.now (2 * length c.args.graph.now.net.arcs) c.first_end.result (first_is (goal.at.returns-in-Return-clause-shorter c).After-first_end) (ap (left_in c.args.graph.now) c.in-Return.is))
