@@ -1,10 +1,11 @@
--- The lines of a group, with one line more.
+-- The lines round a group, and its lines with one line more.
 use Rattle.std.proofs.Common.{◌≡◌, ℕ, ◌+◌, Bool, true, false, cond, List, [], ◌∷◌, ◌++◌, length, Option, Some, None, Result, Ok, Err, refl, sym, ap, ◌∙◌, arith}
 use Rattle.dimacs_text.specs.declared.fault.Fault.{Fault}
 use Rattle.dimacs_text.specs.declared.problem.Kind.{Kind}
 use Rattle.dimacs_text.specs.declared.command.Edit.{Edit}
 use Rattle.dimacs_text.specs.Lines.{Line}
-use Rattle.dimacs_text.specs.Group.{Gathered, with_edit, gathered_by, gathered, gathered_after, stays_or, edit_in, is_end, and_line}
+use Rattle.dimacs_text.specs.Command.{asked}
+use Rattle.dimacs_text.specs.Group.{Gathered, with_edit, gathered_by, gathered, gathered_after, stays_or, edit_in, is_end_asked, and_line}
 
 first_line : (r : Result Edit Fault) → gathered_by r (record { edits = []; fault = None }) ≡ stays_or None [] r
 first_line (Ok edit) = refl
@@ -15,7 +16,7 @@ stays_with edit None edits (Ok next) = refl
 stays_with edit None edits (Err fault) = refl
 stays_with edit (Some fault) edits r = refl
 
-line_by : (r : Result Edit Fault) (kind : Kind) (before : ℕ) (later longer : Gathered) (line : Option Line)
+line_by : (r : Result Edit Fault) (kind : Kind) (before : ℕ) (later longer : Gathered) (line : Line)
     → longer ≡ stays_or later.fault later.edits (edit_in kind (before + 1 + length later.edits) line)
     → gathered_by r longer ≡ stays_or (gathered_by r later).fault (gathered_by r later).edits (edit_in kind (before + length (gathered_by r later).edits) line)
 line_by (Ok edit) kind before later longer line e =
@@ -23,7 +24,7 @@ line_by (Ok edit) kind before later longer line e =
     ap (with_edit edit) e ∙ stays_with edit later.fault later.edits _ ∙ ap (λ n. stays_or later.fault (edit ∷ later.edits) (edit_in kind n line)) place
 line_by (Err fault) kind before later longer line e = refl
 
-pub gathered-push : (kind : Kind) (before : ℕ) (lines : List (Option Line)) (line : Option Line)
+pub gathered-push : (kind : Kind) (before : ℕ) (lines : List Line) (line : Line)
     → gathered kind before (lines ++ line ∷ []) ≡ stays_or (gathered kind before lines).fault (gathered kind before lines).edits (edit_in kind (before + length (gathered kind before lines).edits) line)
 unfolding gathered
 gathered-push kind before [] line =
@@ -33,9 +34,9 @@ gathered-push kind before (first ∷ lines) line =
     line_by (edit_in kind before first) kind before (gathered kind (before + 1) lines) (gathered kind (before + 1) (lines ++ line ∷ [])) line (gathered-push kind (before + 1) lines line)
 
 -- what a group holds after one line more
-pub taken : (kind : Kind) (lines : List (Option Line)) (line : Option Line) (old : Gathered) → old ≡ gathered kind 0 lines
-    → gathered_after kind old line ≡ gathered kind 0 (and_line (is_end kind line) lines line)
-taken kind lines line old e = by (is_end kind line)
+pub taken : (kind : Kind) (lines : List Line) (line : Line) (old : Gathered) → old ≡ gathered kind 0 lines
+    → gathered_after old (asked kind line) ≡ gathered kind 0 (and_line (is_end_asked (asked kind line)) lines line)
+taken kind lines line old e = by (is_end_asked (asked kind line))
   where
     by : (ends : Bool) → cond ends old (stays_or old.fault old.edits (edit_in kind (length old.edits) line)) ≡ gathered kind 0 (and_line ends lines line)
     by true = e

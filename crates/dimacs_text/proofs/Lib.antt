@@ -21,4 +21,6 @@ pub mod AnswerLemmas
 pub mod AnswerLineLemmas
 pub mod AnswerTakeLemmas
 pub mod SaidLemmas
+pub mod BracketLemmas
 pub mod GroupLemmas
+pub mod TurnLemmas

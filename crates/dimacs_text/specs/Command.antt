@@ -1,5 +1,5 @@
 -- Command texts: what a line by itself asks for, or the number of its first check that fails.
-use Rattle.std.specs.Prelude.{ℕ, Bool, true, false, ◌&&◌, List, [], ◌∷◌, Option, Some, None, Result, Ok, Err, length, ◌==◌, if◌then◌else◌, pos}
+use Rattle.std.specs.Prelude.{ℕ, Bool, true, false, ◌&&◌, not, List, [], ◌∷◌, Option, Some, None, Result, Ok, Err, length, ◌==◌, if◌then◌else◌, pos}
 use Rattle.dimacs_text.specs.declared.fault.Fault.{Fault}
 use Rattle.dimacs_text.specs.declared.fault.Fault.TheVariants as fault
 use Rattle.dimacs_text.specs.declared.problem.Kind.{Kind}
@@ -16,12 +16,13 @@ use Rattle.dimacs_text.specs.Lines.{Line, is_too_long}
 use Rattle.dimacs_text.specs.Fields.{Word, words_of, natural}
 use Rattle.dimacs_text.specs.Problem.{◌>>=◌, demand, some_or, natural_in, integer_in, field}
 
--- the verb that a word is: `cap`, `low`, `add`, `cost`, `undo`, `redo`, `show`, `close`, `proof` or `supply`
+-- the verb that a word is: `cap`, `low`, `add`, `end`, `cost`, `undo`, `redo`, `show`, `close`, `proof`, `group` or `supply`
 abbrev pub verb_of : Word → Option Verb
 verb_of (a ∷ b ∷ c ∷ []) =
     if a == 99 && b == 97 && c == 112 then Some verbs.Cap else
     if a == 108 && b == 111 && c == 119 then Some verbs.Low else
-    if a == 97 && b == 100 && c == 100 then Some verbs.Add else None
+    if a == 97 && b == 100 && c == 100 then Some verbs.Add else
+    if a == 101 && b == 110 && c == 100 then Some verbs.End else None
 verb_of (a ∷ b ∷ c ∷ d ∷ []) =
     if a == 99 && b == 111 && c == 115 && d == 116 then Some verbs.Cost else
     if a == 117 && b == 110 && c == 100 && d == 111 then Some verbs.Undo else
@@ -29,7 +30,8 @@ verb_of (a ∷ b ∷ c ∷ d ∷ []) =
     if a == 115 && b == 104 && c == 111 && d == 119 then Some verbs.Show else None
 verb_of (a ∷ b ∷ c ∷ d ∷ e ∷ []) =
     if a == 99 && b == 108 && c == 111 && d == 115 && e == 101 then Some verbs.Close else
-    if a == 112 && b == 114 && c == 111 && d == 111 && e == 102 then Some verbs.Proof else None
+    if a == 112 && b == 114 && c == 111 && d == 111 && e == 102 then Some verbs.Proof else
+    if a == 103 && b == 114 && c == 111 && d == 117 && e == 112 then Some verbs.Group else None
 verb_of (a ∷ b ∷ c ∷ d ∷ e ∷ f ∷ []) = if a == 115 && b == 117 && c == 112 && d == 112 && e == 108 && f == 121 then Some verbs.Supply else None
 verb_of _ = None
 
@@ -140,6 +142,8 @@ read_by kind verbs.Undo fields = read_bare fields commands.Undo
 read_by kind verbs.Redo fields = read_bare fields commands.Redo
 read_by kind verbs.Show fields = read_bare fields commands.Show
 read_by kind verbs.Proof fields = read_bare fields commands.Proof
+read_by kind verbs.Group fields = read_bare fields commands.Group
+read_by kind verbs.End fields = read_bare fields commands.End
 
 -- the words of a line that is not blank
 unfoldable pub read_words : Kind → List Word → Result Command Fault
@@ -149,11 +153,37 @@ read_words kind (word ∷ fields) = do
   _ ← demand (is_for kind verb) fault.NotForKind
   read_by kind verb fields
 
+-- what a line asks for
+abbrev pub asked : Kind → Line → Result Command Fault
+asked kind line = if is_too_long line then Err fault.LineTooLong else read_words kind (words_of line)
+
 -- an error by its number
 abbrev pub numbered : Result Command Fault → Result Command ℕ
 numbered (Ok command) = Ok command
 numbered (Err fault) = Err (number_of fault)
 
--- what a line asks for
 abbrev pub command : Kind → Line → Result Command ℕ
-command kind line = numbered (if is_too_long line then Err fault.LineTooLong else read_words kind (words_of line))
+command kind line = numbered (asked kind line)
+
+-- ---- the lines round a group, which are the same for every kind
+
+abbrev pub is_group : Option Verb → Bool
+is_group (Some verbs.Group) = true
+is_group _ = false
+
+abbrev pub is_end : Option Verb → Bool
+is_end (Some verbs.End) = true
+is_end _ = false
+
+-- the one word of a line is such a verb
+abbrev pub has_one : (Option Verb → Bool) → List Word → Bool
+has_one is_such (word ∷ []) = is_such (verb_of word)
+has_one is_such _ = false
+
+-- the line opens a group: it is not too long, and its one word is `group`
+abbrev pub opens_group : Line → Bool
+opens_group line = not (is_too_long line) && has_one is_group (words_of line)
+
+-- the line ends a group: it is not too long, and its one word is `end`
+abbrev pub ends_group : Line → Bool
+ends_group line = not (is_too_long line) && has_one is_end (words_of line)

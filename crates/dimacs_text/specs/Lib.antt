@@ -12,3 +12,4 @@ pub mod Command
 pub mod Answer
 pub mod AnswerReader
 pub mod Group
+pub mod Turns

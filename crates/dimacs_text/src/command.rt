@@ -1,8 +1,11 @@
 //! One line of a command text.
 
-ghost use Rattle.std.specs.Prelude.{◌≡◌, ◌≢◌, [], ◌∷◌, ◌<◌, length, Ok};
+ghost use Rattle.std.specs.Prelude.{◌≡◌, ◌≢◌, ◌↔◌, IsTrue, [], ◌∷◌, ◌<◌, length, Ok};
+ghost use Rattle.dimacs_text.specs.declared.command.Command.TheVariants as commands;
+ghost use Rattle.dimacs_text.specs.declared.problem.Kind.{Kind};
 ghost use Rattle.dimacs_text.specs.Fields.{words_of};
-ghost use Rattle.dimacs_text.specs.Command.{command, verb_of, is_for, read_words, read_by, read_bare, read_cap, read_low, read_cost, read_supply, read_add, read_min_arc, read_max_arc, read_asn_arc, read_close, as_edit};
+ghost use Rattle.dimacs_text.specs.Lines.{Line};
+ghost use Rattle.dimacs_text.specs.Command.{asked, command, opens_group, ends_group, verb_of, is_for, read_words, read_by, read_bare, read_cap, read_low, read_cost, read_supply, read_add, read_min_arc, read_max_arc, read_asn_arc, read_close, as_edit};
 
 use crate::cutter::LINE_LIMIT;
 use crate::fault::Fault;
@@ -93,6 +96,10 @@ pub enum Command {
     Show,
     /// Prints the solution with its potentials.
     Proof,
+    /// Opens a group: the edits up to `end` are made together.
+    Group,
+    /// Ends a group.
+    End,
 }
 
 /// The first word of a command.
@@ -108,6 +115,8 @@ pub enum Verb {
     Redo,
     Show,
     Proof,
+    Group,
+    End,
 }
 
 impl Verb {
@@ -126,6 +135,8 @@ impl Verb {
             [b'r', b'e', b'd', b'o'] => Some(Verb::Redo),
             [b's', b'h', b'o', b'w'] => Some(Verb::Show),
             [b'p', b'r', b'o', b'o', b'f'] => Some(Verb::Proof),
+            [b'g', b'r', b'o', b'u', b'p'] => Some(Verb::Group),
+            [b'e', b'n', b'd'] => Some(Verb::End),
             _ => None,
         }
     }
@@ -154,36 +165,39 @@ pub fn read_command(kind: Kind, line: &[u8]) -> Result<Command, u8>
     requires { words_of line.now ≢ [] }
     ensures { result ≡ command kind line.now }
 {
-    if line.len() > LINE_LIMIT {
-        return Err(Fault::LineTooLong.number());
-    }
-    match read_words(kind, Words::new(line)) {
+    match read_line(kind, line) {
         Ok(command) => Ok(command),
         Err(fault) => Err(fault.number()),
     }
 }
+
+/// Reads a line of a command text.
+pub(crate) fn read_line(kind: Kind, line: &[u8]) -> Result<Command, Fault>
+    ensures { result ≡ asked kind line.now }
+{
+    if line.len() > LINE_LIMIT {
+        return Err(Fault::LineTooLong);
+    }
+    read_words(kind, Words::new(line))
+}
+
+/// A law, with nothing to run: the lines that open and end a group are the same for every kind.
+pub fn groups_are_bracketed()
+    ensures opens { (kind : Kind) (line : Line) → (asked kind line ≡ Ok commands.Group) ↔ IsTrue (opens_group line) }
+    ensures ends { (kind : Kind) (line : Line) → (asked kind line ≡ Ok commands.End) ↔ IsTrue (ends_group line) }
+{}
 
 /// Reads the words of a line.
 #[tactic(auto, unfolding(crate::specs::Command::read_words))]
 fn read_words(kind: Kind, mut words: Words) -> Result<Command, Fault>
     ensures { result ≡ read_words kind words.entry }
 {
-    match words.next() {
-        None => Err(Fault::UnknownDesignator),
-        Some(first) => read_after(kind, first, words),
-    }
-}
-
-/// Reads the words of a line, of which the first is given.
-#[tactic(auto, unfolding(crate::specs::Command::read_words))]
-pub(crate) fn read_after(kind: Kind, first: &[u8], fields: Words) -> Result<Command, Fault>
-    ensures { result ≡ read_words kind (first.now ∷ fields.entry) }
-{
+    let first = words.next().ok_or(Fault::UnknownDesignator)?;
     let verb = Verb::of(first).ok_or(Fault::UnknownDesignator)?;
     if !verb.is_for(kind) {
         return Err(Fault::NotForKind);
     }
-    read_by(kind, verb, fields)
+    read_by(kind, verb, words)
 }
 
 /// Reads the fields after the verb.
@@ -201,6 +215,8 @@ fn read_by(kind: Kind, verb: Verb, fields: Words) -> Result<Command, Fault>
         Verb::Redo => read_bare(fields, Command::Redo),
         Verb::Show => read_bare(fields, Command::Show),
         Verb::Proof => read_bare(fields, Command::Proof),
+        Verb::Group => read_bare(fields, Command::Group),
+        Verb::End => read_bare(fields, Command::End),
     }
 }
 

@@ -3,48 +3,19 @@
 ghost use Rattle.std.specs.Prelude.{◌≡◌, length};
 ghost use Rattle.std.specs.Option.{option_map};
 ghost use Rattle.dimacs_text.specs.Lines.{Line};
-ghost use Rattle.dimacs_text.specs.Group.{bracket_of, read_line, read_line_words, is_end, edit_of, gathered, gathered_after, and_line};
+ghost use Rattle.dimacs_text.specs.Command.{asked, ends_group};
+ghost use Rattle.dimacs_text.specs.Cut.{kept};
+ghost use Rattle.dimacs_text.specs.Group.{edit_of, is_end_asked, gathered, gathered_after, and_line};
 ghost use Rattle.dimacs_text.specs.Fault.{number_of};
 
-use crate::command::{Command, Edit, read_after};
-use crate::cutter::LINE_LIMIT;
+use crate::command::{Command, Edit, read_line};
 use crate::fault::Fault;
 use crate::problem::Kind;
-use crate::words::Words;
 use arrayvec::ArrayVec;
 use std::marker::Model;
 
 /// The most edits of a group.
 pub const GROUP_LIMIT: usize = 1000;
-
-/// The words that stand round a group.
-#[derive(Clone, Copy)]
-pub enum Bracket {
-    /// Opens a group.
-    Group,
-    /// Ends it.
-    End,
-}
-
-impl Bracket {
-    /// The bracket that a word is, if it is one.
-    fn of(word: &[u8]) -> Option<Self>
-        ensures { result ≡ bracket_of word.now }
-    {
-        match word {
-            [b'g', b'r', b'o', b'u', b'p'] => Some(Bracket::Group),
-            [b'e', b'n', b'd'] => Some(Bracket::End),
-            _ => None,
-        }
-    }
-}
-
-/// What a line of a group asks for.
-#[derive(Clone, Copy)]
-pub enum GroupLine {
-    Bracket(Bracket),
-    Command(Command),
-}
 
 /// The edits between a line `group` and its `end`. It takes no memory.
 ///
@@ -87,11 +58,11 @@ impl Group {
     /// Takes the next line, or `None` for one that is too long, and answers whether it ends the group. Blank lines are
     /// to be passed over by the caller.
     pub fn take(&mut self, kind: Kind, line: Option<&[u8]>) -> bool
-        ensures ends { result ≡ is_end kind (option_map (λ line. line.now) line.entry) }
-        ensures lines { (lines : List (Option Line)) → self.old ≡ gathered kind 0 lines
-            → self.new ≡ gathered kind 0 (and_line result lines (option_map (λ line. line.now) line.entry)) }
+        ensures ends { (whole : Line) → option_map (λ line. line.now) line.entry ≡ kept whole → result ≡ ends_group whole }
+        ensures lines { (whole : Line) → option_map (λ line. line.now) line.entry ≡ kept whole → (lines : List Line)
+            → self.old ≡ gathered kind 0 lines → self.new ≡ gathered kind 0 (and_line (ends_group whole) lines whole) }
     {
-        self.take_line(kind, line)
+        self.take_asked(asked(kind, line))
     }
 
     /// The edits before the first line that is refused by itself.
@@ -113,13 +84,12 @@ impl Group {
         }
     }
 
-    /// Takes the next line, and answers whether it ends the group.
-    fn take_line(&mut self, kind: Kind, line: Option<&[u8]>) -> bool
-        ensures ends { result ≡ is_end kind (option_map (λ line. line.now) line.entry) }
-        ensures after { self.new ≡ gathered_after kind self.old (option_map (λ line. line.now) line.entry) }
+    /// Takes what the next line asks for, and answers whether it ends the group.
+    fn take_asked(&mut self, asked: Result<Command, Fault>) -> bool
+        ensures ends { result ≡ is_end_asked asked }
+        ensures after { self.new ≡ gathered_after self.old asked }
     {
-        let asked = read_line(kind, line);
-        if let Ok(GroupLine::Bracket(Bracket::End)) = asked {
+        if let Ok(Command::End) = asked {
             return true;
         }
         if self.fault.is_none() {
@@ -134,40 +104,21 @@ impl Group {
 }
 
 /// The edit that a line of a group gives: nothing else stands in one.
-fn edit_of(asked: Result<GroupLine, Fault>) -> Result<Edit, Fault>
+fn edit_of(asked: Result<Command, Fault>) -> Result<Edit, Fault>
     ensures { result ≡ edit_of asked }
 {
     match asked? {
-        GroupLine::Bracket(_) => Err(Fault::NotInGroup),
-        GroupLine::Command(Command::Edit(edit)) => Ok(edit),
-        GroupLine::Command(_) => Err(Fault::NotInGroup),
+        Command::Edit(edit) => Ok(edit),
+        _ => Err(Fault::NotInGroup),
     }
 }
 
-/// Reads a line where a group may stand. `read_command` is to read so once groups are commands.
-fn read_line(kind: Kind, line: Option<&[u8]>) -> Result<GroupLine, Fault>
-    ensures { result ≡ read_line kind (option_map (λ line. line.now) line.entry) }
+/// What a line asks for; it is not known where it is too long.
+fn asked(kind: Kind, line: Option<&[u8]>) -> Result<Command, Fault>
+    ensures { (whole : Line) → option_map (λ line. line.now) line.entry ≡ kept whole → result ≡ asked kind whole }
 {
-    let line = line.ok_or(Fault::LineTooLong)?;
-    if line.len() > LINE_LIMIT {
-        return Err(Fault::LineTooLong);
-    }
-    read_line_words(kind, Words::new(line))
-}
-
-/// Reads the words of a line where a group may stand.
-fn read_line_words(kind: Kind, words: Words) -> Result<GroupLine, Fault>
-    ensures { result ≡ read_line_words kind words.entry }
-{
-    let mut words = words;
-    let Some(first) = words.next() else {
-        return Err(Fault::UnknownDesignator);
-    };
-    match Bracket::of(first) {
-        Some(bracket) => {
-            words.none()?;
-            Ok(GroupLine::Bracket(bracket))
-        }
-        None => Ok(GroupLine::Command(read_after(kind, first, words)?)),
+    match line {
+        None => Err(Fault::LineTooLong),
+        Some(line) => read_line(kind, line),
     }
 }

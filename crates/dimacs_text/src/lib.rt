@@ -19,11 +19,12 @@ mod sequence;
 mod terminals;
 #[cfg(test)]
 mod tests;
+mod turns;
 mod words;
 
 pub use answer::{Answer, FlowLine};
 pub use answer_reader::{AnswerReader, answer_decided_for_all};
-pub use command::{Command, Edit, read_command};
+pub use command::{Command, Edit, groups_are_bracketed, read_command};
 pub use cutter::{LINE_LIMIT, LineCutter};
 pub use fault::{Fault, TextFault};
 pub use group::{GROUP_LIMIT, Group};
@@ -33,4 +34,5 @@ pub use problem::{
 };
 pub use problem_reader::{ProblemReader, decided_for_all};
 pub use sequence::Sequence;
+pub use turns::turns_follow;
 pub use words::is_blank;

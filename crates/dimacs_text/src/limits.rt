@@ -8,10 +8,10 @@ ghost use Rattle.dimacs_text.specs.declared.problem.TheConstants.{NODE_LIMIT, AR
 
 /// A law, with nothing to run: the limits are these numbers.
 pub fn limits_are()
-    ensures nodes { NODE_LIMIT ≡ 10000 }
+    ensures nodes { NODE_LIMIT ≡ 50000 }
     ensures arcs { ARC_LIMIT ≡ 100000 }
     ensures cap { CAP_LIMIT ≡ 1000000000 }
-    ensures cost { COST_LIMIT ≡ pos 1000000000 }
+    ensures cost { COST_LIMIT ≡ pos 1000000000000 }
     ensures supply { SUPPLY_LIMIT ≡ pos 1000000000 }
     ensures digits { DIGIT_LIMIT ≡ 18 }
     ensures value_digits { VALUE_DIGIT_LIMIT ≡ 30 }

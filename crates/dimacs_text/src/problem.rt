@@ -64,13 +64,13 @@ pub struct Size {
 }
 
 /// The most nodes of a problem.
-pub const NODE_LIMIT: u32 = 10_000;
+pub const NODE_LIMIT: u32 = 50_000;
 /// The most arcs of a problem.
 pub const ARC_LIMIT: u32 = 100_000;
 /// The greatest capacity, and lower bound.
 pub const CAP_LIMIT: u64 = 1_000_000_000;
 /// The greatest cost, either way.
-pub const COST_LIMIT: i64 = 1_000_000_000;
+pub const COST_LIMIT: i64 = 1_000_000_000_000;
 /// The greatest supply, either way.
 pub const SUPPLY_LIMIT: i64 = 1_000_000_000;
 

@@ -50,7 +50,7 @@ fn faults(rt: HostRuntime) {
         (b"p min 2", 3, 1),
         (b"p min +2 1", 4, 1),
         (b"p min 2 1\na 1 2 -1 1 1", 4, 2),
-        (b"p min 10001 0", 5, 1),
+        (b"p min 50001 0", 5, 1),
         (b"p min 2 1\na 1 3 x 1 1", 5, 2),
         (b"a 1 2 0 1 1", 6, 1),
         (b"p min 1 0\np min 1 0", 7, 2),
@@ -160,7 +160,7 @@ fn a_line_is_cut(rt: HostRuntime) {
 
 #[test]
 fn commands(rt: HostRuntime) {
-    let cases: [(Kind, &[u8], Result<Command, u8>); 11] = [
+    let cases: [(Kind, &[u8], Result<Command, u8>); 15] = [
         (
             Kind::Min,
             b"cap 2 1",
@@ -188,12 +188,16 @@ fn commands(rt: HostRuntime) {
             Ok(Command::Edit(Edit::Close { arc: 1 })),
         ),
         (Kind::Min, b"undo", Ok(Command::Undo)),
+        (Kind::Max, b"group", Ok(Command::Group)),
+        (Kind::Asn, b"\tend ", Ok(Command::End)),
         (Kind::Min, b"undone", Err(2)),
+        (Kind::Min, b"group 1", Err(3)),
+        (Kind::Min, b"end x", Err(3)),
         (Kind::Asn, b"cap 1", Err(23)),
         (Kind::Min, b"cap 1", Err(3)),
         (Kind::Min, b"cap x 1000000001", Err(4)),
         (Kind::Min, b"low 1 -1", Err(4)),
-        (Kind::Min, b"cost 1 -1000000001", Err(5)),
+        (Kind::Min, b"cost 1 -1000000000001", Err(5)),
     ];
     for (kind, line, expected) in cases {
         if !is_blank(line) {
@@ -210,6 +214,7 @@ fn groups(rt: HostRuntime) {
         ("cap 5 3\nfly\ncap 5 3\nend", 1, Some(2)),
         ("end now\nend", 0, Some(3)),
         ("cap 5 3\ngroup\nfly\nend", 1, Some(29)),
+        ("group 1\nend", 0, Some(3)),
         ("undo\nend", 0, Some(29)),
         ("undo 1\nend", 0, Some(3)),
     ];

@@ -1,5 +1,5 @@
 -- Runs that go on by one line, and what was written of them.
-use Rattle.std.proofs.Common.{◌≡◌, ℕ, Bool, true, false, cond, List, [], ◌∷◌, ◌++◌, filter, Option, None, Some, Result, Ok, Err, is_err, MatchBool, refl, sym, ap, ◌∙◌, subst, append-nil}
+use Rattle.std.proofs.Common.{◌≡◌, ℕ, Bool, true, false, cond, List, [], ◌∷◌, ◌++◌, filter, Option, None, Some, Result, Ok, Err, is_err, refl, sym, ap, ◌∙◌, subst, append-nil}
 use Rattle.std.proofs.lemmas.Bool.{false≢true}
 use Rattle.std.specs.List.{concat}
 use Rattle.std.proofs.lemmas.List.Folds.{concat-append}
@@ -8,66 +8,92 @@ use Rattle.std.specs.Io.KnownBytes.{Appends}
 use Rattle.std.proofs.KnownBytes.{Appends-nil, Appends-trans}
 use Rattle.dimacs_io.specs.Device.{IsBeginning, AppendsBeginning, CountsFailure}
 use Rattle.dimacs_io.proofs.DeviceLemmas.{AppendsBeginning-after}
+use Rattle.dimacs_text.specs.Command.{opens_group, ends_group}
 use Rattle.dimacs_text.specs.Cut.{Cut, CutsLine, HoldsRest, has_bytes, is_begun, kept}
+use Rattle.dimacs_text.specs.Group.{Gathered}
 use Rattle.dimacs_text.specs.Lines.{Line, is_too_long, last_line, lines_of, parts_of}
 use Rattle.dimacs_text.specs.Fields.{words_of}
+use Rattle.dimacs_text.specs.Turns.{Turn, Turns, and_inside, and_outside, and_turn_by, turns_of}
 use Rattle.dimacs_text.proofs.BegunLemmas.{bytes_begun, cut_line_of}
-use Rattle.history.specs.Boards.{Timeline}
-use Rattle.flow_solver.specs.Moment.{Moment}
-use Rattle.session.specs.Step.{Reply, Step}
-use Rattle.engines.specs.Printing.{reply_text}
-use Rattle.engines.specs.Run.{Answers, Run, asks}
-use Rattle.engines.specs.Serving.{Answered, AnswersLine, Finishes, GoesOn, ServesLine, Stands, Stopped}
+use Rattle.dimacs_text.proofs.TurnLemmas.{one_line_more}
+use Rattle.session.specs.Step.{SessionState}
+use Rattle.engines.specs.Run.{Answers, AnswersTurns, Run, asks, turns_by, turns_in}
+use Rattle.engines.specs.Serving.{Answered, AnswersLine, Finishes, GoesOn, ServesLine, Stands, Stopped, gathered_in}
 use Rattle.engines.proofs.LineLemmas.{IsBeginning-same, IsBeginning-trans, ended-append}
 
-abbrev Moments : Type 0
-Moments = Timeline Moment
+-- ---- the turns of one line more
 
-Run-more : (lines : List Line) (texts : List (List ℕ)) (first mid last : Moments) (line : Line) (reply : Reply) → Run first lines texts mid → Step mid line reply last
-    → Run first (lines ++ line ∷ []) (texts ++ reply_text reply last.present ∷ []) last
-Run-more [] [] first mid last line reply run step = (last, reply, subst (λ s. Step s line reply last) run step, refl, refl)
-Run-more [] (text ∷ texts) first mid last line reply run step = absurd run
-Run-more (one ∷ lines) [] first mid last line reply run step = absurd run
-Run-more (one ∷ lines) (text ∷ texts) first mid last line reply run step =
-    (run.0, run.1, run.2, run.3, Run-more lines texts run.0 mid last line reply run.4 step)
+-- turns, and those that come after them
+abbrev followed : Turns → Turns → Turns
+followed turns next = record { whole = turns.whole ++ next.whole; opened = next.opened }
 
-more_by : (asked : Bool) (line : Line) → asks line ≡ asked → (lines : List Line) (written text : List ℕ) (first mid last : Moments)
-    → Answers first lines written mid
-    → MatchBool asked ((reply : Reply) × Step mid line reply last × (text ≡ reply_text reply last.present)) ((text ≡ []) × (last ≡ mid))
-    → Answers first (lines ++ line ∷ []) (written ++ text) last
-more_by true line e lines written text first mid last so_far step =
+outside : (opens : Bool) (whole : List Turn) (line : Line) → and_outside opens whole line ≡ followed (record { whole = whole; opened = None }) (and_outside opens [] line)
+outside true whole line = ap (λ (turns : List Turn). record { whole = turns; opened = Some [] }) (sym (append-nil whole))
+outside false whole line = refl
+
+inside : (ends : Bool) (whole : List Turn) (lines : List Line) (line : Line)
+    → and_inside ends whole lines line ≡ followed (record { whole = whole; opened = Some lines }) (and_inside ends [] lines line)
+inside true whole lines line = refl
+inside false whole lines line = ap (λ (turns : List Turn). record { whole = turns; opened = Some (lines ++ line ∷ []) }) (sym (append-nil whole))
+
+one_more : (opened : Option (List Line)) (whole : List Turn) (line : Line)
+    → and_turn_by opened whole line ≡ followed (record { whole = whole; opened = opened }) (and_turn_by opened [] line)
+one_more None whole line = outside (opens_group line) whole line
+one_more (Some lines) whole line = inside (ends_group line) whole lines line
+
+more_by : (asked : Bool) (lines : List Line) (line : Line) → asks line ≡ asked
+    → turns_in (lines ++ line ∷ []) ≡ followed (turns_in lines) (cond asked (and_turn_by (turns_in lines).opened [] line) (record { whole = []; opened = (turns_in lines).opened }))
+more_by true lines line e =
     let kept_lines : filter asks (lines ++ line ∷ []) ≡ filter asks lines ++ line ∷ [] =
     filter-append asks lines (line ∷ []) ∙ ap (λ b. filter asks lines ++ cond b (line ∷ []) []) e in
-    let reply_is = reply_text step.0 last.present in
-    record {
-      texts = so_far.texts ++ reply_is ∷ [];
-      run = rw kept_lines (Run-more (filter asks lines) so_far.texts first mid last line step.0 so_far.run step.1);
-      written_is = ap (λ l. l ++ text) so_far.written_is ∙ ap (λ l. concat so_far.texts ++ l) (step.2 ∙ sym (append-nil reply_is))
-          ∙ sym (concat-append so_far.texts (reply_is ∷ []));
-    }
-more_by false line e lines written text first mid last so_far step =
+    ap turns_of kept_lines ∙ one_line_more (filter asks lines) line ∙ one_more (turns_in lines).opened (turns_in lines).whole line
+more_by false lines line e =
     let kept_lines : filter asks (lines ++ line ∷ []) ≡ filter asks lines =
     filter-append asks lines (line ∷ []) ∙ ap (λ b. filter asks lines ++ cond b (line ∷ []) []) e ∙ append-nil (filter asks lines) in
-    record {
-      texts = so_far.texts;
-      run = rw kept_lines (subst (Run first (filter asks lines) so_far.texts) (sym step.1) so_far.run);
-      written_is = ap (λ l. written ++ l) step.0 ∙ append-nil written ∙ so_far.written_is;
-    }
+    ap turns_of kept_lines ∙ ap (λ (turns : List Turn). record { whole = turns; opened = (turns_in lines).opened }) (sym (append-nil (turns_in lines).whole))
 
-pub Answers-more : (lines : List Line) (line : Line) (written text : List ℕ) (first mid last : Moments) → Answers first lines written mid → AnswersLine mid line text last
-    → Answers first (lines ++ line ∷ []) (written ++ text) last
-Answers-more lines line written text first mid last so_far step = more_by (asks line) line refl lines written text first mid last so_far step
+turns_in-push : (lines : List Line) (line : Line) → turns_in (lines ++ line ∷ []) ≡ followed (turns_in lines) (turns_by (turns_in lines).opened line)
+turns_in-push lines line = more_by (asks line) lines line refl
 
-pub Answered-more : (first mid last : Moments) (lines : List Line) (line : Line) (text : List ℕ) (before now after : Option (List ℕ))
-    → Answered first lines mid before now → AnswersLine mid line text last → Appends now after text → Answered first (lines ++ line ∷ []) last before after
+-- ---- one run after another
+
+Run-join : (turns more : List Turn) (texts next : List (List ℕ)) (first mid last : SessionState) → Run first turns texts mid → Run mid more next last
+    → Run first (turns ++ more) (texts ++ next) last
+Run-join [] more [] next first mid last run then = subst (λ s. Run s more next last) run then
+Run-join [] more (text ∷ texts) next first mid last run then = absurd run
+Run-join (turn ∷ turns) more [] next first mid last run then = absurd run
+Run-join (turn ∷ turns) more (text ∷ texts) next first mid last run then =
+    (run.0, run.1, run.2, run.3, Run-join turns more texts next run.0 mid last run.4 then)
+
+AnswersTurns-join : (turns more : List Turn) (written text : List ℕ) (first mid last : SessionState) → AnswersTurns first turns written mid → AnswersTurns mid more text last
+    → AnswersTurns first (turns ++ more) (written ++ text) last
+AnswersTurns-join turns more written text first mid last so_far then = record {
+  texts = so_far.texts ++ then.texts;
+  run = Run-join turns more so_far.texts then.texts first mid last so_far.run then.run;
+  written_is = ap (λ l. l ++ text) so_far.written_is ∙ ap (λ l. concat so_far.texts ++ l) then.written_is ∙ sym (concat-append so_far.texts then.texts);
+}
+
+pub Answers-more : (lines : List Line) (line : Line) (written text : List ℕ) (first mid last : SessionState) → Answers first lines written mid
+    → AnswersLine mid (turns_in lines).opened line text last → Answers first (lines ++ line ∷ []) (written ++ text) last
+Answers-more lines line written text first mid last so_far then =
+    subst (λ (turns : Turns). AnswersTurns first turns.whole (written ++ text) last) (sym (turns_in-push lines line))
+    (AnswersTurns-join (turns_in lines).whole (turns_by (turns_in lines).opened line).whole written text first mid last so_far then)
+
+-- the group that stands open after one line more
+pub gathered_in-more : (lines : List Line) (line : Line) (last : SessionState) (group : Option Gathered)
+    → group ≡ gathered_in last (turns_by (turns_in lines).opened line).opened → group ≡ gathered_in last (turns_in (lines ++ line ∷ [])).opened
+gathered_in-more lines line last group e = e ∙ ap (λ (turns : Turns). gathered_in last turns.opened) (sym (turns_in-push lines line))
+
+pub Answered-more : (first mid last : SessionState) (lines : List Line) (line : Line) (text : List ℕ) (before now after : Option (List ℕ))
+    → Answered first lines mid before now → AnswersLine mid (turns_in lines).opened line text last → Appends now after text → Answered first (lines ++ line ∷ []) last before after
 Answered-more first mid last lines line text before now after done step more = record {
   written = done.written ++ text;
   answers = Answers-more lines line done.written text first mid last done.answers step;
   appends = Appends-trans before now after done.written text done.appends more;
 }
 
-pub Stopped-more : (first mid last : Moments) (lines : List Line) (line : Line) (text : List ℕ) (before now after : Option (List ℕ))
-    → Answered first lines mid before now → AnswersLine mid line text last → AppendsBeginning now after text → Stopped first (lines ++ line ∷ []) before after
+pub Stopped-more : (first mid last : SessionState) (lines : List Line) (line : Line) (text : List ℕ) (before now after : Option (List ℕ))
+    → Answered first lines mid before now → AnswersLine mid (turns_in lines).opened line text last → AppendsBeginning now after text → Stopped first (lines ++ line ∷ []) before after
 Stopped-more first mid last lines line text before now after done step part = record {
   front = lines ++ line ∷ [];
   begins = IsBeginning-same (lines ++ line ∷ []);
@@ -78,7 +104,7 @@ Stopped-more first mid last lines line text before now after done step part = re
 }
 
 -- what a failed call stopped is stopped too where more lines come
-pub Stopped-longer : (first : Moments) (short long : List Line) (before after : Option (List ℕ)) → IsBeginning short long → Stopped first short before after
+pub Stopped-longer : (first : SessionState) (short long : List Line) (before after : Option (List ℕ)) → IsBeginning short long → Stopped first short before after
     → Stopped first long before after
 Stopped-longer first short long before after more stop = record {
   front = stop.front;
@@ -89,38 +115,42 @@ Stopped-longer first short long before after more stop = record {
   appends = stop.appends;
 }
 
-pub Stopped-append : (first : Moments) (text more all : List ℕ) (before after : Option (List ℕ)) → text ++ more ≡ all → Stopped first (parts_of text).ended before after
+pub Stopped-append : (first : SessionState) (text more all : List ℕ) (before after : Option (List ℕ)) → text ++ more ≡ all → Stopped first (parts_of text).ended before after
     → Stopped first (parts_of all).ended before after
 Stopped-append first text more all before after e stop =
     rw (← e) (Stopped-longer first (parts_of text).ended (parts_of (text ++ more)).ended before after (ended-append text more) stop)
 
 -- ---- a session that begins, and goes on by a part of a piece
 
-pub Stands-begin : (first : Moments) (known : Option (List ℕ)) → Stands first [] first (record { line = Some []; complete = false }) known known
+pub Stands-begin : (first : SessionState) (known : Option (List ℕ)) → Stands first [] first None (record { line = Some []; complete = false }) known known
 unfolding parts_of
 Stands-begin first known = record {
   answered = record { written = []; answers = record { texts = []; run = refl; written_is = refl }; appends = Appends-nil known };
+  gathers = refl;
   holds = refl;
 }
 
 -- bytes came that end no line
-pub Stands-partial : (first present : Moments) (given longer : List ℕ) (old new : Cut) (before now : Option (List ℕ))
-    → Answered first (parts_of given).ended present before now → CutsLine old new false given longer → Stands first longer present new before now
-Stands-partial first present given longer old new before now done cuts = record {
-  answered = subst (λ (lines : List Line). Answered first lines present before now) (sym cuts.ended) done;
+pub Stands-partial : (first present : SessionState) (group : Option Gathered) (given longer : List ℕ) (old new : Cut) (before now : Option (List ℕ))
+    → Stands first given present group old before now → CutsLine old new false given longer → Stands first longer present group new before now
+Stands-partial first present group given longer old new before now done cuts = record {
+  answered = subst (λ (lines : List Line). Answered first lines present before now) (sym cuts.ended) done.answered;
+  gathers = subst (λ (lines : List Line). group ≡ gathered_in present (turns_in lines).opened) (sym cuts.ended) done.gathers;
   holds = cuts.rest;
 }
 
 -- a line was ended and served
-pub GoesOn-complete : {E : Type 0} (r : Result (Unit {0}) E) (first mid last : Moments) (given longer : List ℕ) (old new : Cut) (before now after : Option (List ℕ))
-    → Answered first (parts_of given).ended mid before now → (cuts : CutsLine old new true given longer) → ServesLine r mid cuts.line last now after
-    → GoesOn r first longer last new before after
-GoesOn-complete (Ok v) first mid last given longer old new before now after done cuts served = record {
+pub GoesOn-complete : {E : Type 0} (r : Result (Unit {0}) E) (first mid last : SessionState) (group : Option Gathered) (given longer : List ℕ) (old new : Cut) (before now after : Option (List ℕ))
+    → Answered first (parts_of given).ended mid before now → (cuts : CutsLine old new true given longer)
+    → ServesLine r mid (turns_in (parts_of given).ended).opened cuts.line last group now after → GoesOn r first longer last group new before after
+GoesOn-complete (Ok v) first mid last group given longer old new before now after done cuts served = record {
   answered = subst (λ (lines : List Line). Answered first lines last before after) (sym cuts.ended)
       (Answered-more first mid last (parts_of given).ended cuts.line served.text before now after done served.answers served.writes);
+  gathers = subst (λ (lines : List Line). group ≡ gathered_in last (turns_in lines).opened) (sym cuts.ended)
+      (gathered_in-more (parts_of given).ended cuts.line last group served.holds);
   holds = cuts.rest;
 }
-GoesOn-complete (Err e) first mid last given longer old new before now after done cuts served =
+GoesOn-complete (Err e) first mid last group given longer old new before now after done cuts served =
     subst (λ (lines : List Line). Stopped first lines before after) (sym cuts.ended)
     (Stopped-more first mid last (parts_of given).ended cuts.line served.text before now after done served.answers served.writes)
 
@@ -147,20 +177,21 @@ unfolding words_of
 asked_at_end ended [] = filter-append asks ended ([] ∷ []) ∙ sym (filter-append asks ended [])
 asked_at_end ended (byte ∷ rest) = refl
 
-Answers-end : (first last : Moments) (given written : List ℕ) → Answers first ((parts_of given).ended ++ (parts_of given).rest ∷ []) written last → Answers first (lines_of given) written last
+Answers-end : (first last : SessionState) (given written : List ℕ) → Answers first ((parts_of given).ended ++ (parts_of given).rest ∷ []) written last → Answers first (lines_of given) written last
 Answers-end first last given written all = record {
   texts = all.texts;
-  run = rw (← asked_at_end (parts_of given).ended (parts_of given).rest) all.run;
+  run = subst (λ (lines : List Line). Run first (turns_of lines).whole all.texts last) (asked_at_end (parts_of given).ended (parts_of given).rest) all.run;
   written_is = all.written_is;
 }
 
 -- the last line was served
-pub Finishes-served : {E : Type 0} (r : Result (Unit {0}) E) (first mid last : Moments) (given : List ℕ) (before now after : Option (List ℕ))
-    → Answered first (parts_of given).ended mid before now → ServesLine r mid (parts_of given).rest last now after → Finishes r first given last before after
-Finishes-served (Ok v) first mid last given before now after done served =
+pub Finishes-served : {E : Type 0} (r : Result (Unit {0}) E) (first mid last : SessionState) (group : Option Gathered) (given : List ℕ) (before now after : Option (List ℕ))
+    → Answered first (parts_of given).ended mid before now → ServesLine r mid (turns_in (parts_of given).ended).opened (parts_of given).rest last group now after
+    → Finishes r first given last before after
+Finishes-served (Ok v) first mid last group given before now after done served =
     let all = Answered-more first mid last (parts_of given).ended (parts_of given).rest served.text before now after done served.answers served.writes in
     record { written = all.written; answers = Answers-end first last given all.written all.answers; appends = all.appends }
-Finishes-served (Err e) first mid last given before now after done served =
+Finishes-served (Err e) first mid last group given before now after done served =
     let whole = Answers-more (parts_of given).ended (parts_of given).rest done.written served.text first mid last done.answers served.answers in
     record {
       front = lines_of given;
@@ -172,7 +203,7 @@ Finishes-served (Err e) first mid last given before now after done served =
     }
 
 -- there was none
-pub Answered-none : (first last : Moments) (given : List ℕ) (before now : Option (List ℕ)) → (parts_of given).rest ≡ []
+pub Answered-none : (first last : SessionState) (given : List ℕ) (before now : Option (List ℕ)) → (parts_of given).rest ≡ []
     → Answered first (parts_of given).ended last before now → Answered first (lines_of given) last before now
 Answered-none first last given before now none done =
     let all : lines_of given ≡ (parts_of given).ended = ap (λ (rest : Line). (parts_of given).ended ++ last_line rest) none ∙ append-nil (parts_of given).ended in
@@ -180,15 +211,15 @@ Answered-none first last given before now none done =
 
 -- ---- what a call leaves, by its result
 
-pub Stopped-from_err : {E : Type 0} (r : Result (Unit {0}) E) (first : Moments) (given : List ℕ) (present : Moments) (cut : Cut) (before now : Option (List ℕ)) → is_err r ≡ true
-    → GoesOn r first given present cut before now → Stopped first (parts_of given).ended before now
-Stopped-from_err (Ok v) first given present cut before now failed goes = absurd (false≢true failed)
-Stopped-from_err (Err e) first given present cut before now failed goes = goes
+pub Stopped-from_err : {E : Type 0} (r : Result (Unit {0}) E) (first : SessionState) (given : List ℕ) (present : SessionState) (group : Option Gathered) (cut : Cut) (before now : Option (List ℕ)) → is_err r ≡ true
+    → GoesOn r first given present group cut before now → Stopped first (parts_of given).ended before now
+Stopped-from_err (Ok v) first given present group cut before now failed goes = absurd (false≢true failed)
+Stopped-from_err (Err e) first given present group cut before now failed goes = goes
 
-pub Stands-from_ok : {E : Type 0} (r : Result (Unit {0}) E) (first : Moments) (given : List ℕ) (present : Moments) (cut : Cut) (before now : Option (List ℕ)) → is_err r ≡ false
-    → GoesOn r first given present cut before now → Stands first given present cut before now
-Stands-from_ok (Ok v) first given present cut before now fine goes = goes
-Stands-from_ok (Err e) first given present cut before now fine goes = absurd (false≢true (sym fine))
+pub Stands-from_ok : {E : Type 0} (r : Result (Unit {0}) E) (first : SessionState) (given : List ℕ) (present : SessionState) (group : Option Gathered) (cut : Cut) (before now : Option (List ℕ)) → is_err r ≡ false
+    → GoesOn r first given present group cut before now → Stands first given present group cut before now
+Stands-from_ok (Ok v) first given present group cut before now fine goes = goes
+Stands-from_ok (Err e) first given present group cut before now fine goes = absurd (false≢true (sym fine))
 
 pub same_from_ok : {T E : Type 0} (r : Result T E) (old new : ℕ) → is_err r ≡ false → CountsFailure r old new → new ≡ old
 same_from_ok (Ok v) old new fine counts = counts

@@ -5,9 +5,8 @@ use Rattle.dimacs_text.specs.declared.fault.TextFault.TheVariants.{Fault}
 use Rattle.dimacs_text.specs.Lines.{Line, parts_of, lines_of}
 use Rattle.dimacs_text.specs.Stream.{decided}
 use Rattle.dimacs_text.specs.Reading.{ProblemValue, problem_rule, reads}
-use Rattle.history.specs.Boards.{Timeline}
 use Rattle.network.specs.Instance.{first}
-use Rattle.flow_solver.specs.Moment.{Moment}
+use Rattle.session.specs.Step.{SessionState}
 use Rattle.checker.specs.declared.end.Text.TheVariants as the
 use Rattle.checker.specs.declared.end.End.{End}
 use Rattle.checker.specs.declared.end.End.TheVariants.{Solved, Infeasible, Ended, Valid, NotValid, Refused, ReadFailed, WriteFailed, Memory}
@@ -17,16 +16,16 @@ use Rattle.engines.specs.Run.{Answers}
 use Rattle.engines.specs.Solve.{IsSettled}
 
 -- a session on a problem, with room for so many arcs more, begins with an answer to it, and with nothing to undo or redo
-pub record Opens (problem : ProblemValue) (extra : ℕ) (opening : Timeline Moment) : Type 0 where
+pub record Opens (problem : ProblemValue) (extra : ℕ) (opening : SessionState) : Type 0 where
   pub past : opening.past ≡ []
   pub settled : IsSettled (first problem extra) opening.present
   pub future : opening.future ≡ []
 
 -- the printing of a run over these lines: what is told of the opening, and the replies
 pub record PrintsRun (problem : ProblemValue) (extra : ℕ) (lines : List Line) (written : List ℕ) : Type 0 where
-  pub opening : Timeline Moment
+  pub opening : SessionState
   pub opens : Opens problem extra opening
-  pub last : Timeline Moment
+  pub last : SessionState
   pub replies : List ℕ
   pub answers : Answers opening lines replies last
   pub written_is : written ≡ outcome_line opening.present.verdict ++ replies

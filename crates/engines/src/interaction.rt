@@ -1,8 +1,7 @@
-//! Runs a session: reads its problem, and then its commands, each of which is answered before the next.
+//! Runs a session: reads its problem, and then its commands, each turn of which is answered before the next.
 ghost use Rattle.std.specs.Prelude.{◌≡◌, ℕ, ◌+◌, ◌-◌, ◌^◌, ◌<◌, List, ◌++◌, Option};
 ghost use Rattle.dimacs_io.specs.Device.{CountsFailure, WritesUpTo};
-ghost use Rattle.history.specs.Boards.{Timeline};
-ghost use Rattle.flow_solver.specs.Moment.{Moment};
+ghost use Rattle.session.specs.Step.{SessionState};
 ghost use Rattle.checker.specs.Check.{problem_failures, write_failures};
 ghost use Rattle.engines.specs.Printing.{outcome_line};
 ghost use Rattle.checker.specs.Reading.{Gives};
@@ -13,7 +12,7 @@ use crate::reply::serve_line;
 use crate::solution::write_outcome;
 use checker::{End, Text, read_problem};
 use dimacs_io::{Broken, Sink, Source};
-use dimacs_text::LineCutter;
+use dimacs_text::{Group, LineCutter};
 use session::Session;
 use std::alloc::{Allocator, Global};
 
@@ -21,9 +20,10 @@ use std::alloc::{Allocator, Global};
 const PIECE: usize = 4_096;
 
 /// Runs a session on a problem text, with room for `extra` arcs more: writes what is told of the problem, and then the
-/// reply to each line of the command text.
+/// reply to each turn of the command text: to a line, or to all lines of a group at its `end`. A group that the text does
+/// not end has no reply.
 ///
-/// Nothing is written before the problem text is read to its end, and nothing after a failed write. Each line is
+/// Nothing is written before the problem text is read to its end, and nothing after a failed write. Each turn is
 /// answered before more of the commands is read, and each reply is passed on at once. Reading commands takes no memory.
 pub fn run_session<P: Source, C: Source, O: Sink>(
     alloc: Global,
@@ -101,7 +101,7 @@ fn tell_opening<A: Allocator + Copy, O: Sink>(
     out.flush()
 }
 
-/// Reads commands to their end, and answers each line before it reads on.
+/// Reads commands to their end, and answers each turn before it reads on.
 fn serve_commands<A: Allocator + Copy, C: Source, O: Sink>(
     session: &mut Session<A>,
     script: &mut C,
@@ -114,6 +114,7 @@ fn serve_commands<A: Allocator + Copy, C: Source, O: Sink>(
         × CommandsEnd result session.old.moments given (C.remaining script.new) (O.contents out.old) (O.contents out.new) }
     ensures failed { CommandsFail result (C.failures script.old) (C.failures script.new) (O.failures out.old) (O.failures out.new) }
 {
+    let mut group = None;
     let mut cutter = LineCutter::new();
     let mut piece = [0u8; PIECE];
     'pieces: loop {
@@ -122,27 +123,28 @@ fn serve_commands<A: Allocator + Copy, C: Source, O: Sink>(
             Ok(count) => count,
             Err(_) => return End::ReadFailed(Text::Commands),
         };
-        if serve_piece(session, &mut cutter, &piece[..count], out).is_err() {
+        if serve_piece(session, &mut group, &mut cutter, &piece[..count], out).is_err() {
             return End::WriteFailed;
         }
     }
-    match serve_rest(session, &cutter, out) {
+    match serve_rest(session, &mut group, &cutter, out) {
         Ok(()) => End::Ended,
         Err(_) => End::WriteFailed,
     }
 }
 
-/// Takes a piece of the commands, and answers each line that ends in it.
+/// Takes a piece of the commands, and answers each turn that ends in it.
 fn serve_piece<A: Allocator + Copy, O: Sink>(
     session: &mut Session<A>,
+    group: &mut Option<Group>,
     cutter: &mut LineCutter,
     piece: &[u8],
     out: &mut O,
 ) -> Result<(), Broken>
     requires { O.failures out.old < 2 ^ 64 - 1 }
-    ensures goes_on { (opening : Timeline Moment) (given : List ℕ) (before : Option (List ℕ))
-        → Stands opening given session.old.moments cutter.old before (O.contents out.old)
-        → GoesOn result opening (given ++ piece.now) session.new.moments cutter.new before (O.contents out.new) }
+    ensures goes_on { (opening : SessionState) (given : List ℕ) (before : Option (List ℕ))
+        → Stands opening given session.old.moments group.old cutter.old before (O.contents out.old)
+        → GoesOn result opening (given ++ piece.now) session.new.moments group.new cutter.new before (O.contents out.new) }
     ensures failed { CountsFailure result (O.failures out.old) (O.failures out.new) }
 {
     let mut at = 0;
@@ -152,25 +154,26 @@ fn serve_piece<A: Allocator + Copy, O: Sink>(
         if !complete {
             continue;
         }
-        serve_line(session, cutter.line(), out)?;
+        serve_line(session, group, cutter.line(), out)?;
     }
     Ok(())
 }
 
-/// Answers what stands after the last line feed, where there is a byte.
+/// Takes what stands after the last line feed, where there is a byte, and answers the turn that it ends.
 fn serve_rest<A: Allocator + Copy, O: Sink>(
     session: &mut Session<A>,
+    group: &mut Option<Group>,
     cutter: &LineCutter,
     out: &mut O,
 ) -> Result<(), Broken>
     requires { O.failures out.old < 2 ^ 64 - 1 }
-    ensures rest { (opening : Timeline Moment) (given : List ℕ) (before : Option (List ℕ))
-        → Stands opening given session.old.moments cutter.now before (O.contents out.old)
+    ensures rest { (opening : SessionState) (given : List ℕ) (before : Option (List ℕ))
+        → Stands opening given session.old.moments group.old cutter.now before (O.contents out.old)
         → Finishes result opening given session.new.moments before (O.contents out.new) }
     ensures failed { CountsFailure result (O.failures out.old) (O.failures out.new) }
 {
     if cutter.begun() {
-        serve_line(session, cutter.line(), out)
+        serve_line(session, group, cutter.line(), out)
     } else {
         Ok(())
     }

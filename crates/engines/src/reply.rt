@@ -1,15 +1,22 @@
-//! Answers the lines of a command text, each by one step of the session and its reply.
-ghost use Rattle.std.specs.Prelude.{◌≡◌, ◌-◌, ◌^◌, ◌<◌};
+//! Answers the turns of a command text, each by one step of the session and its reply.
+ghost use Rattle.std.specs.Prelude.{◌≡◌, ◌≢◌, ◌-◌, ◌^◌, ◌<◌, List, [], None, Some, Option, IfSome, MatchResult};
+ghost use Rattle.std.specs.Bool.{OnTrue};
 ghost use Rattle.std.specs.Option.{option_map};
 ghost use Rattle.dimacs_io.specs.Device.{CountsFailure};
+ghost use Rattle.dimacs_text.specs.declared.problem.Kind.{Kind};
 ghost use Rattle.dimacs_text.specs.Cut.{kept};
+ghost use Rattle.dimacs_text.specs.Fields.{words_of};
+ghost use Rattle.dimacs_text.specs.Group.{gathered};
 ghost use Rattle.dimacs_text.specs.Lines.{Line};
-ghost use Rattle.session.specs.Step.{StepBy, StepOfEdit};
-ghost use Rattle.engines.specs.Serving.{Replies, ServesLine, number_of};
+ghost use Rattle.network.specs.Edited.{edited_all};
+ghost use Rattle.session.specs.Step.{StepBy, StepOfEdit, StepOfGroup};
+ghost use Rattle.engines.specs.Run.{asks};
+ghost use Rattle.engines.specs.Serving.{Replies, ServesLine, gathered_in, number_of};
 
 use crate::solution::{write_outcome, write_solution};
 use dimacs_io::{Broken, Sink, write_r};
-use dimacs_text::{Command, Edit, is_blank, read_command};
+use dimacs_text::{Command, Edit, Group, is_blank, read_command};
+use network::Network;
 use session::{Refusal, Session};
 use std::alloc::Allocator;
 
@@ -19,30 +26,87 @@ const LINE_TOO_LONG: u8 = 1;
 const NOTHING_TO_UNDO: u8 = 25;
 /// There is no future moment.
 const NOTHING_TO_REDO: u8 = 26;
-/// Memory was refused in an edit.
+/// A line `group` or `end` stands where it opens no group, and ends none.
+const OUT_OF_PLACE: u8 = 29;
+/// Memory was refused in an edit or in a group of edits.
 const WANT_OF_MEMORY: u8 = 30;
 
-/// Answers a line, which is `None` where it is too long: takes its step, writes the reply and passes it on. A blank
-/// line has neither.
+/// Takes a line, which is `None` where it is too long, and answers the turn that it ends: takes its step, writes the
+/// reply and passes it on. A blank line, a line that opens a group and one that goes into a group end none.
 pub fn serve_line<A: Allocator + Copy, O: Sink>(
     session: &mut Session<A>,
+    group: &mut Option<Group>,
     line: Option<&[u8]>,
     out: &mut O,
 ) -> Result<(), Broken>
     requires { O.failures out.old < 2 ^ 64 - 1 }
     ensures served { (whole : Line) → option_map (λ l. l.now) line.entry ≡ kept whole
-        → ServesLine result session.old.moments whole session.new.moments (O.contents out.old) (O.contents out.new) }
+        → (opened : Option (List Line)) → group.old ≡ gathered_in session.old.moments opened
+        → ServesLine result session.old.moments opened whole session.new.moments group.new (O.contents out.old) (O.contents out.new) }
+    ensures failed { CountsFailure result (O.failures out.old) (O.failures out.new) }
+{
+    if !asks(line) {
+        return Ok(());
+    }
+    match group {
+        None => serve_alone(session, group, line, out),
+        Some(open) => {
+            if !open.take(session.network().kind(), line) {
+                return Ok(());
+            }
+            apply_group(session, open, out)?;
+            *group = None;
+            out.flush()
+        }
+    }
+}
+
+/// Whether a line asks for something: it is too long, or not blank.
+fn asks(line: Option<&[u8]>) -> bool
+    ensures asks { (whole : Line) → option_map (λ l. l.now) line.entry ≡ kept whole → result ≡ asks whole }
+    ensures words { OnTrue result (IfSome line.entry (λ l. words_of l.now ≢ [])) }
+{
+    match line {
+        None => true,
+        Some(line) => !is_blank(line),
+    }
+}
+
+/// Takes a line that asks for something while no group stands open: it opens one, or is answered by itself.
+fn serve_alone<A: Allocator + Copy, O: Sink>(
+    session: &mut Session<A>,
+    group: &mut Option<Group>,
+    line: Option<&[u8]>,
+    out: &mut O,
+) -> Result<(), Broken>
+    requires out { O.failures out.old < 2 ^ 64 - 1 }
+    requires asks { IfSome line (λ l. words_of l.now ≢ []) }
+    requires alone { group.old ≡ None }
+    ensures served { (whole : Line) → option_map (λ l. l.now) line.entry ≡ kept whole
+        → ServesLine result session.old.moments None whole session.new.moments group.new (O.contents out.old) (O.contents out.new) }
     ensures failed { CountsFailure result (O.failures out.old) (O.failures out.new) }
 {
     match line {
         None => write_r(out, LINE_TOO_LONG)?,
-        Some(line) if is_blank(line) => return Ok(()),
         Some(line) => match read_command(session.network().kind(), line) {
-            Ok(command) => serve(session, command, out)?,
+            Ok(command) => match command {
+                Command::Group => {
+                    open_group(group);
+                    return Ok(());
+                }
+                _ => serve(session, command, out)?,
+            },
             Err(number) => write_r(out, number)?,
         },
     }
     out.flush()
+}
+
+/// A group stands open, with no line in it yet.
+fn open_group(group: &mut Option<Group>)
+    ensures { (kind : Kind) → group.new ≡ Some (gathered kind 0 []) }
+{
+    *group = Some(Group::new());
 }
 
 /// Takes the step of a command, and writes the reply.
@@ -61,6 +125,41 @@ fn serve<A: Allocator + Copy, O: Sink>(
         Command::Redo => redo(session, out),
         Command::Show => write_solution(session, false, out),
         Command::Proof => write_solution(session, true, out),
+        Command::Group => write_r(out, OUT_OF_PLACE),
+        Command::End => write_r(out, OUT_OF_PLACE),
+    }
+}
+
+/// Applies the edits of a group as one step, and writes the outcome of the new moment, or the number of the first of its
+/// lines that is refused.
+fn apply_group<A: Allocator + Copy, O: Sink>(
+    session: &mut Session<A>,
+    group: &Group,
+    out: &mut O,
+) -> Result<(), Broken>
+    requires { O.failures out.old < 2 ^ 64 - 1 }
+    ensures replies { Replies result (StepOfGroup group.now session.old.moments) session.new.moments (O.contents out.old) (O.contents out.new) }
+    ensures failed { CountsFailure result (O.failures out.old) (O.failures out.new) }
+{
+    match group.fault() {
+        Some(number) => {
+            let first = first_refusal(session.network(), group.edits(), number);
+            write_r(out, first)
+        }
+        None => match session.apply_group(group.edits()) {
+            Ok(_) => write_outcome(session, out),
+            Err(refusal) => write_r(out, number_of(refusal)),
+        },
+    }
+}
+
+/// The number of the first refusal of a group, which is that of an edit, or this number of a line after its edits.
+fn first_refusal(network: &Network, edits: &[Edit], number: u8) -> u8
+    ensures { MatchResult (edited_all network.now edits.now) (λ _. result ≡ number) (λ earlier. result ≡ earlier) }
+{
+    match network.edited_all(edits) {
+        Ok(()) => number,
+        Err(earlier) => earlier,
     }
 }
 
@@ -106,7 +205,7 @@ fn redo<A: Allocator + Copy, O: Sink>(session: &mut Session<A>, out: &mut O) -> 
     }
 }
 
-/// The number of a refused edit.
+/// The number of a refused edit, and of a group of edits.
 fn number_of(refusal: Refusal) -> u8
     ensures { result ≡ number_of refusal }
 {

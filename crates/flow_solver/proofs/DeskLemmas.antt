@@ -1,5 +1,5 @@
 -- What the tables of a solver keep where entries are written, and what was kept of them.
-use Rattle.std.proofs.Common.{◌≡◌, ℕ, ◌+◌, ◌≤◌, ℤ, Bool, List, length, take, drop, sym, ap, subst, ◌∙◌, arith, Option, None, Some}
+use Rattle.std.proofs.Common.{◌≡◌, ℕ, ◌+◌, ◌≤◌, ℤ, Bool, List, [], ◌∷◌, length, take, drop, refl, sym, ap, subst, ◌∙◌, arith, Option, None, Some}
 use Rattle.std.specs.Prelude.{IfSome, vec_capacity}
 use Rattle.std.proofs.lemmas.List.{length-take-le, length-drop}
 use Rattle.dimacs_text.specs.declared.problem.ArcRow.{ArcRow}
@@ -18,7 +18,7 @@ use Rattle.flow_solver.specs.Moment.{IsSized, Kept, Moment, kept_of}
 use Rattle.flow_solver.specs.Tables.{AreTables, IsOfNodes}
 use Rattle.shortest_paths.specs.Graph.{IsGraphFor}
 use Rattle.shortest_paths.specs.Nodes.{IsIdleEntry}
-use Rattle.flow_solver.specs.Part.{before_of, before_part, return_count}
+use Rattle.flow_solver.specs.Part.{before_all, before_of, return_count}
 use Rattle.shortest_paths.specs.Scratch.{IsScratchFor}
 use Rattle.flow_solver.specs.Ledger.{IsLedger, IsWritten, kept_in}
 use Rattle.shortest_paths.specs.Walk.{AreRowsOf}
@@ -51,10 +51,10 @@ pub idle_kept : (l m : Ledger ℤ) → IsWritten l m → IsIdleEntry (kept_in l)
 idle_kept l m written idle = subst IsIdleEntry (sym (kept_written l m written)) idle
 
 -- the tables of an instance stay tables where they are written, and fit an instance of as many arcs and nodes
-pub tables_written : (g h : Graph) (flow flow' potentials potentials' : Ledger ℤ) (balance balance' : Balance) (cut cut' : Ledger Bool) (scratch scratch' : Scratch) (before : Option Before) →
+pub tables_written : (g h : Graph) (flow flow' potentials potentials' : Ledger ℤ) (balance balance' : Balance) (cut cut' : Ledger Bool) (scratch scratch' : Scratch) (before : Before) →
     AreTables g flow potentials balance cut scratch before → h.net.nodes ≡ g.net.nodes → h.net.room ≡ g.net.room → IsGraphFor (h.net.nodes + 1) h → length h.rows.items ≡ length g.rows.items → vec_capacity g.rows ≤ vec_capacity h.rows →
     IsWritten flow flow' → IsWritten potentials potentials' → IsIdleEntry potentials'.entries.items → IsBalanceOf h.net h.rows.items flow' balance' → IsWritten cut cut' → IsScratchFor (h.net.nodes + 1) scratch' →
-    AreTables h flow' potentials' balance' cut' scratch' None
+    AreTables h flow' potentials' balance' cut' scratch' (record before { verdict = None })
 tables_written g h flow flow' potentials potentials' balance balance' cut cut' scratch scratch' before t nodes room_is graph many more flow_written potentials_written idle balance_is cut_written scratch_in = record {
   graph = graph;
   flow_ledger = flow_written.ledger;
@@ -67,11 +67,12 @@ tables_written g h flow flow' potentials potentials' balance balance' cut cut' s
   cut_in = subst (λ (n : ℕ). IsOfNodes n cut') (sym nodes) (nodes_written g.net.nodes cut cut' t.cut_in cut_written);
   scratch_in = scratch_in;
   rows_fit = omega (arith, t.rows_fit, room_is, more);
+  log_fits = t.log_fits;
   before_is = tt;
 }
 
 -- so their moment has its sizes
-pub sized_written : (g h : Graph) (flow flow' potentials potentials' : Ledger ℤ) (balance : Balance) (cut cut' : Ledger Bool) (scratch : Scratch) (before : Option Before) (verdict : Verdict) →
+pub sized_written : (g h : Graph) (flow flow' potentials potentials' : Ledger ℤ) (balance : Balance) (cut cut' : Ledger Bool) (scratch : Scratch) (before : Before) (verdict : Verdict) →
     AreTables g flow potentials balance cut scratch before → h.net.nodes ≡ g.net.nodes → AreRowsOf h.net h.rows.items → length h.rows.items ≡ length g.rows.items →
     IsWritten flow flow' → IsWritten potentials potentials' → IsWritten cut cut' →
     IsSized (record { instance = h.net; flow = flow'.entries.items; potentials = drop 1 potentials'.entries.items; verdict = verdict; cut = drop 1 cut'.entries.items })
@@ -83,10 +84,10 @@ sized_written g h flow flow' potentials potentials' balance cut cut' scratch bef
 }
 
 -- the tables stay tables where the arcs become others, with as many flows
-pub tables_with_arcs : (g h : Graph) (flow flow' potentials : Ledger ℤ) (balance balance' : Balance) (cut : Ledger Bool) (scratch : Scratch) (before : Option Before) →
+pub tables_with_arcs : (g h : Graph) (flow flow' potentials : Ledger ℤ) (balance balance' : Balance) (cut : Ledger Bool) (scratch : Scratch) (before : Before) →
     AreTables g flow potentials balance cut scratch before → h.net.nodes ≡ g.net.nodes → h.net.room ≡ g.net.room → IsGraphFor (h.net.nodes + 1) h → vec_capacity g.rows ≤ vec_capacity h.rows →
     IsLedger flow' → length flow'.entries.items ≡ length h.rows.items → length flow'.touched ≡ length flow.touched → IsBalanceOf h.net h.rows.items flow' balance' →
-    AreTables h flow' potentials balance' cut scratch None
+    AreTables h flow' potentials balance' cut scratch (record before { verdict = None })
 tables_with_arcs g h flow flow' potentials balance balance' cut scratch before t nodes room_is graph more ledger flow_in same_room balance_is = record {
   graph = graph;
   flow_ledger = ledger;
@@ -99,6 +100,7 @@ tables_with_arcs g h flow flow' potentials balance balance' cut scratch before t
   cut_in = subst (λ (n : ℕ). IsOfNodes n cut) (sym nodes) t.cut_in;
   scratch_in = subst (λ (n : ℕ). IsScratchFor (n + 1) scratch) (sym nodes) t.scratch_in;
   rows_fit = omega (arith, t.rows_fit, room_is, more);
+  log_fits = t.log_fits;
   before_is = tt;
 }
 
@@ -108,33 +110,51 @@ named_numbered (Supplies supplies) places xs ys named = named
 named_numbered (Terminals source sink) places xs ys named = named_after_first places xs ys named
 named_numbered (Sides marks) places xs ys named = named
 
--- the same where the first flow is of the instance before a change
-pub named_before : (part : Part) (I : Instance) (places : List ℕ) (xs ys : List ℤ) → NameChanges 0 places xs ys → NameChanges (return_count (before_part part I).demand) places (numbered_flow (before_part part I).demand xs) (numbered_flow I.demand ys)
-named_before (OtherRow k row) I places xs ys named = named_numbered I.demand places xs ys named
-named_before (OtherSupply v value) I places xs ys named = of I.demand
+-- the numbered arcs of a flow, and how many come before them, are the same before a change
+pub numbered_before : (log : List Part) (I : Instance) (xs : List ℤ) → numbered_flow (before_all log I).demand xs ≡ numbered_flow I.demand xs
+numbered_before [] I xs = refl
+numbered_before (OtherRow k row ∷ log) I xs = numbered_before log I xs
+numbered_before (OtherSupply v value ∷ log) I xs = of (before_all log I).demand ∙ numbered_before log I xs
   where
-    of : (D : Demand) → NameChanges (return_count (with_supply D v value)) places (numbered_flow (with_supply D v value) xs) (numbered_flow D ys)
-    of (Supplies supplies) = named
-    of (Terminals source sink) = named_after_first places xs ys named
-    of (Sides marks) = named
-named_before NoArc I places xs ys named = named_numbered I.demand places xs ys named
+    of : (D : Demand) → numbered_flow (with_supply D v value) xs ≡ numbered_flow D xs
+    of (Supplies supplies) = refl
+    of (Terminals source sink) = refl
+    of (Sides marks) = refl
+numbered_before (NoArc ∷ log) I xs = numbered_before log I xs
+
+pub return_count_before : (log : List Part) (I : Instance) → return_count (before_all log I).demand ≡ return_count I.demand
+return_count_before [] I = refl
+return_count_before (OtherRow k row ∷ log) I = return_count_before log I
+return_count_before (OtherSupply v value ∷ log) I = of (before_all log I).demand ∙ return_count_before log I
+  where
+    of : (D : Demand) → return_count (with_supply D v value) ≡ return_count D
+    of (Supplies supplies) = refl
+    of (Terminals source sink) = refl
+    of (Sides marks) = refl
+return_count_before (NoArc ∷ log) I = return_count_before log I
+
+-- the same where the first flow is of the instance before a change
+pub named_before : (log : List Part) (I : Instance) (places : List ℕ) (xs ys : List ℤ) → NameChanges 0 places xs ys → NameChanges (return_count (before_all log I).demand) places (numbered_flow (before_all log I).demand xs) (numbered_flow I.demand ys)
+named_before log I places xs ys named =
+    subst (λ (n : ℕ). NameChanges n places (numbered_flow (before_all log I).demand xs) (numbered_flow I.demand ys)) (sym (return_count_before log I))
+    (subst (λ (zs : List ℤ). NameChanges (return_count I.demand) places zs (numbered_flow I.demand ys)) (sym (numbered_before log I xs)) (named_numbered I.demand places xs ys named))
 
 -- the places name what is changed since the moment before, where there is one
-pub named_since : (before : Option Before) (I : Instance) (kept : Kept) (places : List ℕ) (ys : List ℤ) → NameChanges 0 places kept.flow ys → IfSome (before_of before I kept) (λ old. NameChanges (return_count old.instance.demand) places (numbered_flow old.instance.demand old.flow) (numbered_flow I.demand ys))
+pub named_since : (before : Option Verdict) (I : Instance) (kept : Kept) (places : List ℕ) (ys : List ℤ) → NameChanges 0 places kept.flow ys → IfSome (before_of before I kept) (λ old. NameChanges (return_count old.instance.demand) places (numbered_flow old.instance.demand old.flow) (numbered_flow I.demand ys))
 named_since None I kept places ys named = tt
-named_since (Some before) I kept places ys named = named_before before.part I places kept.flow ys named
+named_since (Some told) I kept places ys named = named_before kept.log I places kept.flow ys named
 
 -- what is kept of a moment, with its instance and verdict, is that moment
-pub moment_kept : (I : Instance) (kept : Kept) (verdict : Verdict) (m : Moment) → I ≡ m.instance → kept ≡ kept_of m → verdict ≡ m.verdict → record { instance = I; flow = kept.flow; potentials = kept.potentials; verdict = verdict; cut = kept.cut } ≡ m
+pub moment_kept : (I : Instance) (kept : Kept) (verdict : Verdict) (m : Moment) → I ≡ m.instance → kept ≡ record (kept_of m) { log = kept.log } → verdict ≡ m.verdict → record { instance = I; flow = kept.flow; potentials = kept.potentials; verdict = verdict; cut = kept.cut } ≡ m
 moment_kept I kept verdict m one two three =
     ap (λ (J : Instance). record { instance = J; flow = kept.flow; potentials = kept.potentials; verdict = verdict; cut = kept.cut }) one
     ∙ ap (λ (k : Kept). record { instance = m.instance; flow = k.flow; potentials = k.potentials; verdict = verdict; cut = k.cut }) two
     ∙ ap (λ (v : Verdict). record { instance = m.instance; flow = m.flow; potentials = m.potentials; verdict = v; cut = m.cut }) three
 
-pub potentials_since : (before : Option Before) (I : Instance) (kept : Kept) (places : List ℕ) (ys : List ℤ) → NameChanges 1 places kept.potentials ys → IfSome (before_of before I kept) (λ old. NameChanges 1 places old.potentials ys)
+pub potentials_since : (before : Option Verdict) (I : Instance) (kept : Kept) (places : List ℕ) (ys : List ℤ) → NameChanges 1 places kept.potentials ys → IfSome (before_of before I kept) (λ old. NameChanges 1 places old.potentials ys)
 potentials_since None I kept places ys named = tt
-potentials_since (Some before) I kept places ys named = named
+potentials_since (Some told) I kept places ys named = named
 
-pub cut_since : (before : Option Before) (I : Instance) (kept : Kept) (places : List ℕ) (ys : List Bool) → NameChanges 1 places kept.cut ys → IfSome (before_of before I kept) (λ old. NameChanges 1 places old.cut ys)
+pub cut_since : (before : Option Verdict) (I : Instance) (kept : Kept) (places : List ℕ) (ys : List Bool) → NameChanges 1 places kept.cut ys → IfSome (before_of before I kept) (λ old. NameChanges 1 places old.cut ys)
 cut_since None I kept places ys named = tt
-cut_since (Some before) I kept places ys named = named
+cut_since (Some told) I kept places ys named = named

@@ -22,10 +22,10 @@ use Rattle.shortest_paths.specs.Nodes.{held, IsIdleEntry}
 use Rattle.shortest_paths.proofs.NodeLemmas.{IsNodeOf, is_node_or_not, held_node, held_other}
 use Rattle.flow_solver.proofs.FlowLaws.{bounds_length, bounds_at, none_below_of}
 
--- an arc of the instance is a row of the tables, and costs no more than 10^9 a unit either way
+-- an arc of the instance is a row of the tables, and costs no more than 10^12 a unit either way
 record IsCheapRow (n : ℕ) (a : ArcRow) : Type 0 where
   row : IsRow (n + 1) a
-  cheap : (way : Way) → neg_ℤ (pos 1000000000) ≤ℤ cost_of a way
+  cheap : (way : Way) → neg_ℤ (pos 1000000000000) ≤ℤ cost_of a way
 
 cheap_row : (n : ℕ) (a : ArcRow) → IsLawfulRow n a → IsCheapRow n a
 cheap_row n a keeps = record {
@@ -41,7 +41,7 @@ cheap_row n a keeps = record {
   cheap = by_way;
 }
   where
-    by_way : (way : Way) → neg_ℤ (pos 1000000000) ≤ℤ cost_of a way
+    by_way : (way : Way) → neg_ℤ (pos 1000000000000) ≤ℤ cost_of a way
     by_way Forward = omega (arith, ints, keeps.cost.0, keeps.cost.1)
     by_way Backward = omega (arith, ints, keeps.cost.0, keeps.cost.1)
 
@@ -59,7 +59,7 @@ return_row n source sink fits = record {
   cheap = by_way;
 }
   where
-    by_way : (way : Way) → neg_ℤ (pos 1000000000) ≤ℤ cost_of (return_arc source sink) way
+    by_way : (way : Way) → neg_ℤ (pos 1000000000000) ≤ℤ cost_of (return_arc source sink) way
     by_way Forward = omega (arith, ints)
     by_way Backward = omega (arith, ints)
 
@@ -77,7 +77,7 @@ reduced_rows n (Sides marks) arcs fits keeps k lt = rows_at n (Sides marks) arcs
 pub rows_of_instance : (I : Instance) → IsLawful I → (k : ℕ) → k < length (reduced I).arcs → IsRow (I.nodes + 1) (arc_at (reduced I).arcs k)
 rows_of_instance I lawful k lt = (reduced_rows I.nodes I.demand I.arcs lawful.demand (rows_of lawful) k lt).row
 
-pub cheap_instance : (I : Instance) → IsLawful I → IsCheap (reduced I).arcs 1000000000
+pub cheap_instance : (I : Instance) → IsLawful I → IsCheap (reduced I).arcs 1000000000000
 cheap_instance I lawful k way lt = (reduced_rows I.nodes I.demand I.arcs lawful.demand (rows_of lawful) k lt).cheap way
 
 rows_counted : (D : Demand) (arcs : List ArcRow) → length (reduced_arcs D arcs) ≤ length arcs + 1
@@ -164,7 +164,7 @@ certified_of I x p lawful sized idle certified =
 -- shortest labels keep the range of potentials
 pub range_of_labels : (I : Instance) (p : List ℤ) → IsLawful I → length p ≡ I.nodes + 1 → ArePathsAbove (reduced I).arcs p → ((v : ℕ) → number_at p v ≤ℤ pos 0) → (v : ℕ) → IsPotential (number_at p v)
 range_of_labels I p lawful sized above low v =
-    (omega (arith, ints, above 1000000000 I.nodes (cheap_instance I lawful) sized v, lawful.nodes.1), low v)
+    (omega (arith, ints, above 1000000000000 I.nodes (cheap_instance I lawful) sized v, lawful.nodes.1), low v)
 
 -- ---- the rows of the tables, and the start flow
 

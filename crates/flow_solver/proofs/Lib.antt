@@ -13,3 +13,5 @@ pub mod DeskLemmas
 pub mod BalanceLemmas
 pub mod CarryLemmas
 pub mod LedgerLemmas
+pub mod GroupLemmas
+pub mod LogLemmas

@@ -3,7 +3,7 @@ use Rattle.std.specs.Prelude.{◌≡◌, ℕ, ◌-◌, ◌<◌, ◌≤◌, Ok, S
 use Rattle.dimacs_text.specs.declared.problem.ArcRow.{ArcRow}
 use Rattle.network.specs.Flow.{FollowsSign, reduced_cost, total_excess}
 use Rattle.network.specs.Instance.{Instance, ArcFits, arc_at, kind_of, reduced, with_supply}
-use Rattle.network.specs.Edited.{edited, units}
+use Rattle.network.specs.Edited.{edited, units, units_all}
 use Rattle.dimacs_text.specs.Lawful.{IsLawfulRow, IsNode, IsWithin as IsWithinLimit}
 use Rattle.dimacs_text.specs.declared.problem.TheConstants.{SUPPLY_LIMIT}
 use Rattle.dimacs_text.specs.declared.problem.Kind.TheVariants.{Min}
@@ -59,6 +59,19 @@ pub record IsChange (I J : Instance) (edit : Edit) (potential : ℕ → ℤ) (x 
   pub made : IsMade I J edit potential x start
   pub pushes : Pushes (reduced J).arcs (reduced J).supply n start y
   pub count : pos n ≤ℤ (total_excess (reduced I) x +ℤ pos (units I edit))
+
+-- edits of the instance I gave the instance J, and `start` of the flow x: each is made of what those before it left, all under the same potentials
+abbrev pub AreMade : Instance → List Edit → (ℕ → ℤ) → List ℤ → Instance → List ℤ → Type 0
+AreMade I [] potential x J start = (J ≡ I) × (start ≡ x)
+AreMade I (edit ∷ edits) potential x J start = (K : Instance) × (mid : List ℤ) × IsMade I K edit potential x mid × AreMade K edits potential mid J start
+
+-- edits of the instance I gave the instance J together: with the potentials of before they made a flow of the flow x, of which n pushes made the flow y.
+-- The pushes are no more than what was left to send out and the units of all the edits
+pub record AreChanges (I J : Instance) (edits : List Edit) (potential : ℕ → ℤ) (x y : List ℤ) (n : ℕ) : Type 0 where
+  pub start : List ℤ
+  pub made : AreMade I edits potential x J start
+  pub pushes : Pushes (reduced J).arcs (reduced J).supply n start y
+  pub count : pos n ≤ℤ (total_excess (reduced I) x +ℤ pos (units_all I edits))
 
 -- ---- what an accepted edit asks for
 

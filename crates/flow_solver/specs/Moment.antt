@@ -3,6 +3,7 @@ use Rattle.std.specs.Prelude.{◌≡◌, ℤ, pos, ◌≤ℤ◌, int_lt, ⊤, Bo
 use Rattle.dimacs_text.specs.declared.problem.ArcRow.{ArcRow}
 use Rattle.network.specs.Instance.{Demand, Supplies, Terminals, Sides, Instance, IsLawful, numbered_flow, reduced}
 use Rattle.network.specs.declared.TheConstants.{RETURN_CAP}
+use Rattle.flow_solver.specs.declared.part.Part.{Part}
 use Rattle.flow_solver.specs.declared.verdict.Verdict.{Verdict}
 use Rattle.flow_solver.specs.declared.verdict.Verdict.TheVariants.{Best, Infeasible}
 use Rattle.shortest_paths.specs.Residual.{number_at}
@@ -22,14 +23,15 @@ pub record IsSized (m : Moment) : Type 0 where
   pub one_potential : length m.potentials ≡ m.instance.nodes
   pub one_mark : length m.cut ≡ m.instance.nodes
 
--- what the tables keep of another moment: its flow, potentials and marks
+-- what the tables keep of another moment: its flow, potentials and marks, and what the edits since then replaced in its instance
 pub record Kept : Type 0 where
   pub flow : List ℤ
   pub potentials : List ℤ
   pub cut : List Bool
+  pub log : List Part
 
 abbrev pub kept_of : Moment → Kept
-kept_of m = record { flow = m.flow; potentials = m.potentials; cut = m.cut }
+kept_of m = record { flow = m.flow; potentials = m.potentials; cut = m.cut; log = [] }
 
 -- the flow of an arc at the start: its cap where its cost is below 0, else its low
 abbrev pub start : ArcRow → ℤ

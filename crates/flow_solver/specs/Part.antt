@@ -1,14 +1,14 @@
--- How the last change of an instance is taken back.
-use Rattle.std.specs.Prelude.{◌≡◌, ℕ, ◌-◌, ◌<◌, length, take, Option, None, Some, Ok, slice_set}
+-- How the last change of an instance is taken back, part by part.
+use Rattle.std.specs.Prelude.{◌≡◌, ℕ, ◌-◌, ◌<◌, List, [], ◌∷◌, ◌++◌, length, take, Option, None, Some, Ok, slice_set}
 use Rattle.dimacs_text.specs.Lawful.{IsNode, IsWithin}
 use Rattle.dimacs_text.specs.declared.command.Edit.{Edit}
 use Rattle.dimacs_text.specs.declared.problem.TheConstants.{SUPPLY_LIMIT}
 use Rattle.dimacs_text.specs.declared.problem.Kind.TheVariants.{Min}
 use Rattle.network.specs.Edited.{edited}
 use Rattle.network.specs.Instance.{Demand, Supplies, Terminals, Sides, Instance, kind_of, reduced, with_supply}
-use Rattle.flow_solver.specs.declared.part.Before.{Before}
 use Rattle.flow_solver.specs.declared.part.Part.{Part}
 use Rattle.flow_solver.specs.declared.part.Part.TheVariants.{OtherRow, OtherSupply, NoArc}
+use Rattle.flow_solver.specs.declared.verdict.Verdict.{Verdict}
 use Rattle.flow_solver.specs.Moment.{Kept, Moment}
 use Rattle.flow_solver.specs.Desk.{HasEnds, IsRowOf}
 
@@ -29,16 +29,36 @@ pub record TakesBack (I : Instance) (edit : Edit) (part : Part) : Type 0 where
   pub can : (J : Instance) → edited I edit ≡ Ok J → CanTakeBack part J
   pub back : (J : Instance) → edited I edit ≡ Ok J → before_part part J ≡ I
 
--- the moment before, where there is one: the instance without the change, and what was kept
-abbrev pub before_of : Option Before → Instance → Kept → Option Moment
-before_of None I kept = None
-before_of (Some before) I kept =
-    Some (record { instance = before_part before.part I; flow = kept.flow; potentials = kept.potentials; verdict = before.verdict; cut = kept.cut })
+-- the instance before all that is logged: the last is taken back first
+abbrev pub before_all : List Part → Instance → Instance
+before_all [] I = I
+before_all (part ∷ log) I = before_part part (before_all log I)
 
--- where there is a moment before, what was kept is of it
-abbrev pub IsKept : Option Before → Instance → Kept → Type 0
+abbrev pub CanTakeBackAll : List Part → Instance → Type 0
+CanTakeBackAll [] I = Unit {0}
+CanTakeBackAll (part ∷ log) I = CanTakeBackAll log I × CanTakeBack part (before_all log I)
+
+-- what is logged leads from the instance J back to the instance I
+pub record LeadsBack (log : List Part) (I J : Instance) : Type 0 where
+  pub can : CanTakeBackAll log J
+  pub back : before_all log J ≡ I
+
+-- what the edit replaces was logged, and all else that was kept stays
+pub record IsLogged (I : Instance) (edit : Edit) (kept now : Kept) : Type 0 where
+  pub part : Part
+  pub takes_back : TakesBack I edit part
+  pub now_is : now ≡ record kept { log = kept.log ++ part ∷ [] }
+
+-- the moment before, where it can be given back: what was kept, with what was told of it then
+abbrev pub before_of : Option Verdict → Instance → Kept → Option Moment
+before_of None I kept = None
+before_of (Some told) I kept =
+    Some (record { instance = before_all kept.log I; flow = kept.flow; potentials = kept.potentials; verdict = told; cut = kept.cut })
+
+-- where the moment before can be given back, what was kept is of it
+abbrev pub IsKept : Option Verdict → Instance → Kept → Type 0
 IsKept None I kept = Unit {0}
-IsKept (Some before) I kept = CanTakeBack before.part I × (length kept.flow ≡ length (reduced (before_part before.part I)).arcs)
+IsKept (Some told) I kept = CanTakeBackAll kept.log I × (length kept.flow ≡ length (reduced (before_all kept.log I)).arcs)
 
 -- how many rows stand before those of the numbered arcs
 abbrev pub return_count : Demand → ℕ

@@ -1,5 +1,6 @@
 -- What the tables hold of an instance.
-use Rattle.std.specs.Prelude.{◌≡◌, ℕ, ◌+◌, ◌≤◌, ℤ, Bool, drop, length, Option, vec_capacity}
+use Rattle.std.specs.Prelude.{◌≡◌, ℕ, ◌+◌, ◌≤◌, ℤ, Bool, drop, List, length, vec_capacity}
+use Rattle.dimacs_text.specs.declared.group.TheConstants.{GROUP_LIMIT}
 use Rattle.shortest_paths.specs.declared.graph.Graph.{Graph}
 use Rattle.shortest_paths.specs.declared.scratch.Scratch.{Scratch}
 use Rattle.shortest_paths.specs.Graph.{IsGraphFor}
@@ -8,6 +9,7 @@ use Rattle.shortest_paths.specs.Scratch.{IsScratchFor}
 use Rattle.flow_solver.specs.declared.balance.Balance.{Balance}
 use Rattle.flow_solver.specs.declared.ledger.Ledger.{Ledger}
 use Rattle.flow_solver.specs.declared.part.Before.{Before}
+use Rattle.flow_solver.specs.declared.part.Part.{Part}
 use Rattle.flow_solver.specs.Balance.{IsBalanceOf}
 use Rattle.flow_solver.specs.Ledger.{IsLedger, kept_in}
 use Rattle.flow_solver.specs.Moment.{Kept}
@@ -19,12 +21,12 @@ pub record IsOfNodes {T : Type 0} (nodes : ℕ) (l : Ledger T) : Type 0 where
   pub entries_in : length l.entries.items ≡ nodes + 1
   pub size_is : l.size ≡ nodes + 1
 
--- what the ledgers keep of a moment
-abbrev pub kept_by : Ledger ℤ → Ledger ℤ → Ledger Bool → Kept
-kept_by flow potentials cut = record { flow = kept_in flow; potentials = drop 1 (kept_in potentials); cut = drop 1 (kept_in cut) }
+-- what the ledgers and the log keep of a moment
+abbrev pub kept_by : Ledger ℤ → Ledger ℤ → Ledger Bool → List Part → Kept
+kept_by flow potentials cut log = record { flow = kept_in flow; potentials = drop 1 (kept_in potentials); cut = drop 1 (kept_in cut); log = log }
 
--- one entry for each row of the graph, one for each node and one for no node, and room for all arcs that may be added
-pub record AreTables (g : Graph) (flow potentials : Ledger ℤ) (balance : Balance) (cut : Ledger Bool) (scratch : Scratch) (before : Option Before) : Type 0 where
+-- one entry for each row of the graph, one for each node and one for no node, room for all arcs that may be added, and room to log a group
+pub record AreTables (g : Graph) (flow potentials : Ledger ℤ) (balance : Balance) (cut : Ledger Bool) (scratch : Scratch) (before : Before) : Type 0 where
   pub graph : IsGraphFor (g.net.nodes + 1) g
   pub flow_ledger : IsLedger flow
   pub flow_in : length flow.entries.items ≡ length g.rows.items
@@ -36,4 +38,5 @@ pub record AreTables (g : Graph) (flow potentials : Ledger ℤ) (balance : Balan
   pub cut_in : IsOfNodes g.net.nodes cut
   pub scratch_in : IsScratchFor (g.net.nodes + 1) scratch
   pub rows_fit : g.net.room + 1 ≤ vec_capacity g.rows
-  pub before_is : IsKept before g.net (kept_by flow potentials cut)
+  pub log_fits : GROUP_LIMIT ≤ vec_capacity before.log
+  pub before_is : IsKept before.verdict g.net (kept_by flow potentials cut before.log.items)

@@ -23,13 +23,15 @@ pub enum Part {
 }
 
 /// What stood before a change, beside what the ledgers kept.
-#[derive(Clone, Copy)]
+#[derive(Drop)]
 pub struct Before {
-    pub part: Part,
-    pub verdict: Verdict,
+    /// What each edit since then replaced, one after the other.
+    pub log: Vec<Part>,
+    /// What was told of the instance, as long as the change can be taken back.
+    pub verdict: Option<Verdict>,
 }
 
-ghost use Rattle.flow_solver.specs.Part.{before_part, return_count, CanTakeBack, TakesBack};
+ghost use Rattle.flow_solver.specs.Part.{before_all, return_count, CanTakeBackAll, TakesBack};
 
 /// What an accepted edit will replace.
 pub fn part_of(net: &Network, edit: &Edit) -> Part
@@ -66,44 +68,52 @@ pub fn return_count(net: &Network) -> usize
     }
 }
 
-/// The arc with this number before the change, if it was there.
-pub fn row_before(net: &Network, part: Part, k: u32) -> Option<ArcRow>
-    requires { CanTakeBack part net.now }
-    ensures { result ≡ arc_at (before_part part net.now).arcs k }
+/// The arc with this number before all that is logged, if it was there.
+pub fn row_before(net: &Network, log: &[Part], k: u32) -> Option<ArcRow>
+    requires { CanTakeBackAll log.now net.now }
+    ensures { result ≡ arc_at (before_all log.now net.now).arcs k }
 {
-    match part {
-        Part::OtherRow { arc, row } => {
-            if arc == k {
-                return Some(row);
+    let mut row = net.arc(k);
+    let mut arcs = net.arcs();
+    let mut i = log.len();
+    while i > 0 {
+        i -= 1;
+        match log[i] {
+            Part::OtherRow { arc, row: other } => {
+                if arc == k {
+                    row = Some(other);
+                }
             }
-            net.arc(k)
-        }
-        Part::OtherSupply { .. } => net.arc(k),
-        Part::NoArc => {
-            if k == net.arcs() {
-                return None;
+            Part::OtherSupply { .. } => {}
+            Part::NoArc => {
+                if arcs == k {
+                    row = None;
+                }
+                arcs -= 1;
             }
-            net.arc(k)
         }
     }
+    row
 }
 
-/// What a node had to send out before the change, if it is a node.
-pub fn supply_before(net: &Network, part: Part, id: u32) -> Option<i64>
-    requires { CanTakeBack part net.now }
-    ensures node { IsNode net.now.nodes id → result ≡ Some (reduced_supply (before_part part net.now).demand id) }
+/// What a node had to send out before all that is logged, if it is a node.
+pub fn supply_before(net: &Network, log: &[Part], id: u32) -> Option<i64>
+    requires { CanTakeBackAll log.now net.now }
+    ensures node { IsNode net.now.nodes id → result ≡ Some (reduced_supply (before_all log.now net.now).demand id) }
     ensures no_node { ¬ IsNode net.now.nodes id → result ≡ None }
 {
     if id > net.nodes() {
         return None;
     }
-    match part {
-        Part::OtherSupply { node, value } => {
+    let mut supply = net.reduced_supply(id);
+    let mut i = log.len();
+    while i > 0 {
+        i -= 1;
+        if let Part::OtherSupply { node, value } = log[i] {
             if node == id {
-                return Some(value);
+                supply = Some(value);
             }
-            net.reduced_supply(id)
         }
-        _ => net.reduced_supply(id),
     }
+    supply
 }

@@ -16,7 +16,7 @@ use crate::ledger::Ledger;
 use crate::part::{Before, return_count, row_before, supply_before};
 use crate::start::start_flow;
 use crate::verdict::Verdict;
-use dimacs_text::{ArcRow, NODE_LIMIT};
+use dimacs_text::{ArcRow, GROUP_LIMIT, NODE_LIMIT};
 use network::Network;
 use shortest_paths::{Graph, Scratch};
 use std::alloc::{AllocError, Global};
@@ -35,7 +35,7 @@ pub struct Tables {
     cut: Ledger<bool>,
     scratch: Scratch,
     verdict: Verdict,
-    before: Option<Before>,
+    before: Before,
 }
 
 impl Model for Tables {
@@ -48,8 +48,8 @@ impl Model for Tables {
 
     ghost view = { λ t. record {
       moment = record { instance = t.graph.net; flow = t.flow.entries.items; potentials = drop 1 t.potentials.entries.items; verdict = t.verdict; cut = drop 1 t.cut.entries.items };
-      kept = kept_by t.flow t.potentials t.cut;
-      before = before_of t.before t.graph.net (kept_by t.flow t.potentials t.cut);
+      kept = kept_by t.flow t.potentials t.cut t.before.log.items;
+      before = before_of t.before.verdict t.graph.net (kept_by t.flow t.potentials t.cut t.before.log.items);
     } };
 
     ghost invariant = { λ t. AreTables t.graph t.flow t.potentials t.balance t.cut t.scratch t.before };
@@ -75,6 +75,7 @@ impl Tables {
         let balance = Balance::new(alloc, &graph.net, &graph.rows, &flow.entries)?;
         let cut = Ledger::new(alloc, vec![in alloc; false; entries]?, entries)?;
         let scratch = Scratch::new(alloc, graph.net.nodes() + 1)?;
+        let log = Vec::with_capacity(alloc, GROUP_LIMIT)?;
         Ok(Tables {
             graph,
             flow,
@@ -83,7 +84,7 @@ impl Tables {
             cut,
             scratch,
             verdict: Verdict::Best(0),
-            before: None,
+            before: Before { log, verdict: None },
         })
     }
 
@@ -157,8 +158,8 @@ impl Tables {
         requires { IsSome self.now.before }
         ensures { IfSome self.now.before (λ old. result ≡ old.verdict) }
     {
-        match self.before {
-            Some(before) => before.verdict,
+        match self.before.verdict {
+            Some(verdict) => verdict,
             None => unreachable!(),
         }
     }
@@ -198,10 +199,7 @@ impl Tables {
         requires { IsSome self.now.before }
         ensures { IfSome self.now.before (λ old. result ≡ arc_at old.instance.arcs k) }
     {
-        let Some(before) = self.before else {
-            return None;
-        };
-        row_before(&self.graph.net, before.part, k)
+        row_before(&self.graph.net, &self.before.log, k)
     }
 
     /// What a node had to send out before the last change, if it is a node.
@@ -210,9 +208,6 @@ impl Tables {
         ensures node { IfSome self.now.before (λ old. IsNode old.instance.nodes id → result ≡ Some (reduced_supply old.instance.demand id)) }
         ensures no_node { IfSome self.now.before (λ old. ¬ IsNode old.instance.nodes id → result ≡ None) }
     {
-        let Some(before) = self.before else {
-            return None;
-        };
-        supply_before(&self.graph.net, before.part, id)
+        supply_before(&self.graph.net, &self.before.log, id)
     }
 }

@@ -49,25 +49,29 @@ pub const SESSION: &str =
 /// After the arguments of `session`.
 pub const AFTER_SESSION: &str =
     "Commands, one a line on standard input (arc K is the K-th arc line, added arcs come next):
-  cap K V        the capacity of arc K (min, max)     undo   back by one edit
+  cap K V        the capacity of arc K (min, max)     undo   back by one step
   low K V        its lower bound (min)                redo   forward again
   cost K V       its cost (min, asn)                  show   print the flow or the cut
   supply ID V    the supply of node ID (min)          proof  print it with its potentials
-  add ..         an arc, by the fields of an a line
-  close K        both bounds of arc K become 0
+  add ..         an arc, by the fields of an a line   group  the edits up to 'end' are one step:
+  close K        both bounds of arc K become 0        end    solved, answered and undone at once
 
-Each answers 's VALUE' (best), 'i SHORTAGE' (no legal flow exists now) or 'r N' (refused, nothing changed):
-   1  a line of more than 1,024 bytes    22  the lower bound would be above the capacity
-   2  no such command                    23  not for this kind of problem
-   3  wrong number of fields             24  no room for another arc: start with a larger --extra
-   4  not a number                       25  nothing to undo
-   5  a value out of range               26  nothing to redo
-  20  no such arc                        27  asn: not from the source side to the sink side
-  21  no such node                       30  not enough memory for this edit
+Each answers 's VALUE' (best), 'i SHORTAGE' (no legal flow exists now) or 'r N' (refused, nothing changed); of a
+group only 'end' does, with the number of its first refused line:
+   1  a line of more than 1,024 bytes    23  not for this kind of problem
+   2  no such command                    24  no room for another arc: start with a larger --extra
+   3  wrong number of fields             25  nothing to undo
+   4  not a number                       26  nothing to redo
+   5  a value out of range               27  asn: not from the source side to the sink side
+  20  no such arc                        29  'end' without 'group', or no edit in a group
+  21  no such node                       30  not enough memory for this edit or group
+  22  the lower bound would be above     31  more than 1,000 edits in a group
+      the capacity
 
 Examples:
   mcf session plan.min
-  echo 'cap 5 3' | mcf session plan.min";
+  echo 'cap 5 3' | mcf session plan.min
+  printf 'group\\ncap 1 1\\ncap 2 3\\nend\\n' | mcf session plan.min";
 
 /// What `check` does, in a sentence.
 pub const CHECK: &str = "Say whether an answer to a problem is right, whoever made it";

@@ -118,24 +118,24 @@ fn an_answer_of_many_full_arcs_is_valid(rt: HostRuntime) -> Result<(), Fail> {
 }
 
 #[test]
-fn ten_thousand_nodes_are_solved(rt: HostRuntime) -> Result<(), Fail> {
+fn fifty_thousand_nodes_are_solved(rt: HostRuntime) -> Result<(), Fail> {
     // A chain from the one surplus to the one deficit.
-    let mut chain = text(rt.alloc(), &[(1, b"p min 10000 9999\nn 1 1\nn 10000 -1\n")])?;
-    let mut flow = text(rt.alloc(), &[(1, b"s 9999000000000\n")])?;
-    for k in 1..10_000_u32 {
-        writeln!(chain, "a {k} {} 0 1 1000000000", k + 1)?;
+    let mut chain = text(rt.alloc(), &[(1, b"p min 50000 49999\nn 1 1\nn 50000 -1\n")])?;
+    let mut flow = text(rt.alloc(), &[(1, b"s 49999000000000000\n")])?;
+    for k in 1..50_000_u32 {
+        writeln!(chain, "a {k} {} 0 1 1000000000000", k + 1)?;
         writeln!(flow, "f {k} {} 1", k + 1)?;
     }
-    flow.extend_from_slice(b"v 1 -9999000000000\n")?;
+    flow.extend_from_slice(b"v 1 -49999000000000000\n")?;
     let (end, out) = solved(&rt, &chain);
     assert_eq!(rt; end, End::Solved);
     assert!(rt; out.starts_with(&flow));
     assert_eq!(rt; checked(&rt, &chain, &out), End::Valid);
 
     // A surplus at each node, and no arc.
-    let mut lonely = text(rt.alloc(), &[(1, b"p min 10000 0\n")])?;
-    let mut cut = text(rt.alloc(), &[(1, b"i 10000\n")])?;
-    for k in 1..=10_000_u32 {
+    let mut lonely = text(rt.alloc(), &[(1, b"p min 50000 0\n")])?;
+    let mut cut = text(rt.alloc(), &[(1, b"i 50000\n")])?;
+    for k in 1..=50_000_u32 {
         writeln!(lonely, "n {k} 1")?;
         writeln!(cut, "k {k}")?;
     }

@@ -10,6 +10,8 @@ mod command_line;
 mod commands;
 #[cfg(test)]
 mod device_tests;
+#[cfg(test)]
+mod group_tests;
 mod help;
 #[cfg(test)]
 mod large_tests;

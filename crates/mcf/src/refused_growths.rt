@@ -12,13 +12,20 @@ const MOST: u64 = 99;
 /// What brings a session to the moment at which growths are refused.
 const BEFORE: &[u8] = b"cap 5 3\nundo\n";
 
-/// The same, and the edit.
-const EDITED: &[u8] = b"cap 5 3\nundo\ncap 1 1\n";
+/// The same and an edit, and these and what goes back to the future that the edit would have dropped. Then the same of
+/// a group of edits.
+const EDITS: [(&[u8], &[u8]); 2] = [
+    (
+        b"cap 5 3\nundo\ncap 1 1\n",
+        b"cap 5 3\nundo\ncap 1 1\nredo\nshow\n",
+    ),
+    (
+        b"cap 5 3\nundo\ngroup\ncap 1 1\ncap 2 3\nend\n",
+        b"cap 5 3\nundo\ngroup\ncap 1 1\ncap 2 3\nend\nredo\nshow\n",
+    ),
+];
 
-/// The same, and what goes back to the future that the edit would have dropped.
-const COMMANDS: &[u8] = b"cap 5 3\nundo\ncap 1 1\nredo\nshow\n";
-
-/// The replies where the edit is refused.
+/// The replies where the edit or the group is refused.
 const REPLIES: &[u8] =
     b"s 14\ns 15\ns 14\nr 30\ns 15\ns 15\nf 1 2 2\nf 1 3 2\nf 2 3 1\nf 2 4 1\nf 3 4 3\n";
 
@@ -45,16 +52,23 @@ fn growths(rt: &HostRuntime, commands: &[u8]) -> u64 {
     MOST.saturating_sub(left)
 }
 
-/// Whether the future is kept at each growth of the edit that is refused, with the next ones so that there are so many.
+/// Whether the future is kept at each growth of the edit, and of the group, that is refused, with the next ones so that
+/// there are so many.
 fn keeps_future(rt: &HostRuntime, refused: u64) -> bool {
-    let (first, end_of_edit) = (growths(rt, BEFORE), growths(rt, EDITED));
-    for served in first..end_of_edit {
-        let (end, out, _) = session(rt, COMMANDS, served, refused);
-        if end != End::Ended || out.held() != REPLIES {
+    let first = growths(rt, BEFORE);
+    for (edited, commands) in EDITS {
+        let end_of_edit = growths(rt, edited);
+        if first >= end_of_edit || end_of_edit >= MOST {
             return false;
         }
+        for served in first..end_of_edit {
+            let (end, out, _) = session(rt, commands, served, refused);
+            if end != End::Ended || out.held() != REPLIES {
+                return false;
+            }
+        }
     }
-    first < end_of_edit && end_of_edit < MOST
+    true
 }
 
 #[test]

@@ -43,8 +43,8 @@ const SESSIONS: [(&[u8], u32, &[u8], &[u8]); 18] = [
     (
         SINGLE_ARC,
         1000,
-        b"undo\ncap 9 1\nlow 1 6\ncap 1 1000000001\nfly\nshow\n",
-        b"s 12\nr 25\nr 20\nr 22\nr 5\nr 2\ns 12\nf 1 2 3\n",
+        b"undo\ncap 9 1\nlow 1 6\ncap 1 1000000001\ncost 1 1000000000001\nfly\nshow\n",
+        b"s 12\nr 25\nr 20\nr 22\nr 5\nr 5\nr 2\ns 12\nf 1 2 3\n",
     ),
     (
         SINGLE_ARC,

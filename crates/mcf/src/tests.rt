@@ -30,6 +30,12 @@ pub const PARALLEL_ARCS: &[u8] = b"p min 2 2\nn 1 2\nn 2 -2\na 1 2 0 2 1\na 1 2 
 const GREATEST_PRODUCT: &[u8] =
     b"p min 2 1\nn 1 1000000000\nn 2 -1000000000\na 1 2 0 1000000000 1000000000\n";
 
+const GREATEST_LARGER_PRODUCT: &[u8] =
+    b"p min 2 1\nn 1 1000000000\nn 2 -1000000000\na 1 2 0 1000000000 1000000000000\n";
+
+/// Nodes without arcs.
+const MORE_NODES: &[u8] = b"p min 10001 0\n";
+
 const UNFED_LOWER_BOUND: &[u8] = b"p min 2 1\na 1 2 2 5 1\n";
 
 const FIRST_FORM_COMES_FIRST: &[u8] = b"p min 3 1\nn 1 1\nn 2 -3\na 3 2 0 1 1\n";
@@ -54,12 +60,13 @@ const LONE_SINK_SIDE_NODE: &[u8] = b"p asn 1 0\n";
 const ONE_AGAINST_TWO: &[u8] = b"p asn 3 2\nn 1\na 1 2 1\na 1 3 1\n";
 
 /// Problem texts with a fault that a last LF does not change: a text, the number of its fault, and the faulty line.
-const FAULTY_PROBLEMS: [(&[u8], u8, u32); 23] = [
+const FAULTY_PROBLEMS: [(&[u8], u8, u32); 24] = [
     (&[b'c'; 1025], 1, 1),
     (b"x 1", 2, 1),
     (b"p min 2", 3, 1),
     (b"p min +2 1", 4, 1),
-    (b"p min 10001 0", 5, 1),
+    (b"p min 50001 0", 5, 1),
+    (b"p min 2 1\na 1 2 0 1 1000000000001", 5, 2),
     (b"a 1 2 0 1 1", 6, 1),
     (b"p min 1 0\np min 1 0", 7, 2),
     (b"p sp 2 1", 8, 1),
@@ -131,7 +138,7 @@ fn faulty_problems_are_refused_by_each_engine(rt: HostRuntime) -> Result<(), Fai
 }
 
 /// A problem, an answer to it, and how the check of the two ends.
-const CHECKED: [(&[u8], &[u8], End); 21] = [
+const CHECKED: [(&[u8], &[u8], End); 22] = [
     (SINGLE_ARC, RIGHT_ANSWER, End::Valid),
     (SINGLE_ARC, b"s 12\nf 1 2 3\nv 1 -5\nv 2 -1", End::Valid),
     (SINGLE_ARC, b"s 13\nf 1 2 3\nv 1 -4\nv 2 0\n", End::NotValid),
@@ -140,6 +147,11 @@ const CHECKED: [(&[u8], &[u8], End); 21] = [
     (
         SINGLE_ARC,
         b"s 12\nf 1 2 3\nv 1 -10000000000001\nv 2 -9999999999997\n",
+        End::Valid,
+    ),
+    (
+        SINGLE_ARC,
+        b"s 12\nf 1 2 3\nv 1 -50000000000000001\nv 2 -49999999999999997\n",
         End::NotValid,
     ),
     (LONE_NODE, b"s 0\nv 1 0\n", End::Valid),
@@ -208,7 +220,7 @@ fn worked_examples_end_so_in_any_pieces(rt: HostRuntime) {
 }
 
 /// A problem, whether a proof is asked for, how its solution ends, and what is written.
-const SOLVED: [(&[u8], bool, End, &[u8]); 17] = [
+const SOLVED: [(&[u8], bool, End, &[u8]); 19] = [
     (SINGLE_ARC, false, End::Solved, b"s 12\nf 1 2 3\n"),
     (
         SINGLE_ARC,
@@ -239,6 +251,13 @@ const SOLVED: [(&[u8], bool, End, &[u8]); 17] = [
         End::Solved,
         b"s 1000000000000000000\nf 1 2 1000000000\n",
     ),
+    (
+        GREATEST_LARGER_PRODUCT,
+        true,
+        End::Solved,
+        b"s 1000000000000000000000\nf 1 2 1000000000\nv 1 -1000000000000\nv 2 0\n",
+    ),
+    (MORE_NODES, false, End::Solved, b"s 0\n"),
     (UNFED_LOWER_BOUND, false, End::Infeasible, b"i 2\nk 2\n"),
     (
         FIRST_FORM_COMES_FIRST,

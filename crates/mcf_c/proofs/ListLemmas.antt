@@ -6,7 +6,7 @@ use Rattle.flow_solver.specs.Moment.{Moment}
 use Rattle.flow_solver.specs.declared.verdict.Verdict.{Verdict}
 use Rattle.flow_solver.specs.declared.verdict.Verdict.TheVariants.{Best, Infeasible}
 use Rattle.network.specs.Instance.{Instance, IsBest, IsBreach, IsCertified, IsLegal, at_node, is_marked, reduced_flow, numbered_flow}
-use Rattle.session.specs.Record.{flow_of}
+use Rattle.session.specs.Parts.{flow_of}
 use Rattle.mcf_c.specs.Library.{given, has_cut, has_flow, is_feasible}
 
 -- what is given is there

@@ -67,6 +67,13 @@ show_step c s e = subst (λ (k : Command). StepBy k s (Shows false) s) (sym e) (
 pub proof_step : (c : Command) (s : Timeline Moment) → c ≡ commands.Proof → StepBy c s (Shows true) s
 proof_step c s e = subst (λ (k : Command). StepBy k s (Shows true) s) (sym e) (record { reply_is = refl; unchanged = refl })
 
+-- neither of the lines round a group is a step by itself
+pub group_step : (c : Command) (s : Timeline Moment) → c ≡ commands.Group → StepBy c s (Refuses 29) s
+group_step c s e = subst (λ (k : Command). StepBy k s (Refuses 29) s) (sym e) (record { reply_is = refl; unchanged = refl })
+
+pub end_step : (c : Command) (s : Timeline Moment) → c ≡ commands.End → StepBy c s (Refuses 29) s
+end_step c s e = subst (λ (k : Command). StepBy k s (Refuses 29) s) (sym e) (record { reply_is = refl; unchanged = refl })
+
 -- ---- the step of a line
 
 pub step_by : (r : Result Command ℕ) (old new : Timeline Moment) (line : Line) (reply : Reply) → command (kind_of old.present.instance.demand) line ≡ r

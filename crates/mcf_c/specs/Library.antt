@@ -71,8 +71,8 @@ abbrev pub joined : ℤ → ℕ → ℤ
 joined high low = high *ℤ pos (2 ^ 64) +ℤ pos low
 
 abbrev pub ShowsVerdict : Verdict → View → Type 0
-ShowsVerdict (Best worth) view = (view.feasible ≡ true) × (worth ≡ joined view.worth_high view.worth_low)
-ShowsVerdict (Infeasible shortage) view = (view.feasible ≡ false) × (view.shortage ≡ shortage)
+ShowsVerdict (Best worth) view = (view.feasible ≡ true) × (worth ≡ joined view.worth_high view.worth_low) × (view.shortage ≡ pos 0)
+ShowsVerdict (Infeasible shortage) view = (view.feasible ≡ false) × (view.worth_high ≡ pos 0) × (view.worth_low ≡ 0) × (view.shortage ≡ shortage)
 
 -- the view shows the present moment, and how many moments are past and future
 pub record IsViewOf (t : Timeline Moment) (view : View) : Type 0 where

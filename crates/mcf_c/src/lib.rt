@@ -10,7 +10,7 @@ ghost use Rattle.dimacs_text.specs.declared.fault.TextFault.TheVariants as fault
 ghost use Rattle.flow_solver.specs.Desk.{IsAnswered};
 ghost use Rattle.flow_solver.specs.declared.verdict.Verdict.TheVariants.{Infeasible};
 ghost use Rattle.network.specs.Instance.{IsBest, IsBreach, IsCertified, IsLegal, at_node, is_marked};
-ghost use Rattle.session.specs.Record.{flow_of};
+ghost use Rattle.session.specs.Parts.{flow_of};
 ghost use Rattle.session.specs.Step.{Step, StepBy};
 ghost use Rattle.mcf_c.specs.Library.{Goes, IsOpening, IsViewOf, Steps, arc_count, given_of, has_cut, has_flow, moments_of, node_count};
 
@@ -84,9 +84,10 @@ pub extern "C" fn mcf_open(
     }
 }
 
-/// Takes the step that a line of a command text asks for, as `mcf session` does.
+/// Takes the step that a line of a command text asks for, as `mcf session` does of a line outside of a group.
 ///
 /// Answers 0, or the number of the refusal, or `CLOSED`. A refused line changes nothing; `show` and `proof` neither.
+/// `group` and `end` are refused (29): each call takes one line.
 #[unsafe(no_mangle)]
 pub extern "C" fn mcf_command(alloc: Global, handle: &mut Handle, line: &[u8]) -> i32
     ensures { Goes (moments_of handle.old) result (moments_of handle.new) (λ old. Steps (Step old line.now)) }

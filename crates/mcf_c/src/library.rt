@@ -19,6 +19,8 @@ const NO_COMMAND: u8 = 2;
 const NOTHING_TO_UNDO: u8 = 25;
 /// There is no future moment.
 const NOTHING_TO_REDO: u8 = 26;
+/// A line `group` or `end` is no step by itself.
+const OUT_OF_PLACE: u8 = 29;
 /// Memory was refused in an edit.
 const WANT_OF_MEMORY: u8 = 30;
 
@@ -60,6 +62,8 @@ fn take(session: &mut Session, command: Command) -> u8
         Command::Redo => redo(session),
         Command::Show => 0,
         Command::Proof => 0,
+        Command::Group => OUT_OF_PLACE,
+        Command::End => OUT_OF_PLACE,
     }
 }
 

@@ -4,7 +4,7 @@ ghost use Rattle.std.specs.Prelude.{◌≡◌, ◌≢◌, ℤ, List, pos, length
 ghost use Rattle.network.specs.Instance.{IsBest, IsBreach, IsCertified, IsLegal, at_node, is_marked};
 ghost use Rattle.flow_solver.specs.Desk.{IsAnswered};
 ghost use Rattle.flow_solver.specs.declared.verdict.Verdict.TheVariants.{Infeasible};
-ghost use Rattle.session.specs.Record.{flow_of};
+ghost use Rattle.session.specs.Parts.{flow_of};
 ghost use Rattle.mcf_c.specs.Library.{arc_count, given, has_cut, has_flow, is_feasible, node_count};
 
 use crate::status::{NOT_THERE, OTHER_LENGTH};

@@ -30,11 +30,10 @@ pub(crate) fn look(session: &Session) -> View
     ensures { IsViewOf session.now.moments result }
 {
     let (past, future) = session.steps();
-    let (feasible, worth, shortage) = match session.verdict() {
-        Verdict::Best(worth) => (true, worth, 0),
-        Verdict::Infeasible(shortage) => (false, 0, shortage),
+    let (feasible, (worth_high, worth_low), shortage) = match session.verdict() {
+        Verdict::Best(worth) => (true, halves(worth), 0),
+        Verdict::Infeasible(shortage) => (false, (0, 0), shortage),
     };
-    let (worth_high, worth_low) = halves(worth);
     View {
         worth_high,
         worth_low,

@@ -14,7 +14,7 @@ unfolding edited_all
 edited_one before edit = one_by (edited before edit)
 
 -- the first edit was made, or refused
-first_made : (r : Result Instance ℕ) (next : Instance → Result Instance ℕ) (after : Instance) → and_then r next ≡ Ok after
+pub first_made : (r : Result Instance ℕ) (next : Instance → Result Instance ℕ) (after : Instance) → and_then r next ≡ Ok after
     → (between : Instance) × (r ≡ Ok between) × (next between ≡ Ok after)
 first_made (Ok I) next after e = (I, refl, e)
 first_made (Err number) next after e = cc

@@ -37,7 +37,7 @@ le_from_test a b e = grind (arith, ints)
 between : (a b x : ℤ) → (int_le a x && int_le x b) ≡ true → (a ≤ℤ x) × (x ≤ℤ b)
 between a b x e = let p = and_parts _ _ e in (le_from_test a x p.0, le_from_test x b p.1)
 
-node_from_test : (n v : ℕ) → is_node n v ≡ true → (1 ≤ v) × (v ≤ n)
+pub node_from_test : (n v : ℕ) → is_node n v ≡ true → (1 ≤ v) × (v ≤ n)
 node_from_test n v e = let p = and_parts _ _ e in (leb-true 1 v p.0, leb-true v n p.1)
 
 -- ---- one arc changed

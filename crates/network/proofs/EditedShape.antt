@@ -15,7 +15,7 @@ use Rattle.network.specs.Instance.{Demand, Supplies, Terminals, Sides, Instance,
 use Rattle.network.proofs.EndLemmas.{no_arc}
 use Rattle.network.proofs.EditedLemmas.{demand_ok, by_number-ok, done_as}
 
-done_is : (I after : Instance) → done_as I ≡ Ok after → after ≡ I
+pub done_is : (I after : Instance) → done_as I ≡ Ok after → after ≡ I
 done_is I after e = cc
 
 row_there : (arcs : List ArcRow) (k : ℕ) (row : ArcRow) → arc_at arcs k ≡ Some row → (1 ≤ k) × (k ≤ length arcs) × (get_or arcs (k - 1) no_arc ≡ row)

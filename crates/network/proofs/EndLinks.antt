@@ -176,7 +176,7 @@ module _ (arcs arcs' : List ArcRow) (same : (end : ℕ) → end_node arcs' end �
     next_is = λ end h. lists.next_is end (omega arith) ∙ sym (last_same (end_node arcs end) end) ∙ ap (λ (u : ℕ). last_end_below arcs' u end) (sym (same end));
   }
 
-slice_get-set_other : {X : Type 0} (l : List X) (i j : ℕ) (a : X) → j ≢ i → slice_get (set l i a) j ≡ slice_get l j
+pub slice_get-set_other : {X : Type 0} (l : List X) (i j : ℕ) (a : X) → j ≢ i → slice_get (set l i a) j ≡ slice_get l j
 slice_get-set_other [] i j a ne = refl
 slice_get-set_other (x ∷ l) zero zero a ne = absurd (ne refl)
 slice_get-set_other (x ∷ l) zero (suc j) a ne = refl

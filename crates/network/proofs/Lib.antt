@@ -20,3 +20,4 @@ pub mod Opening
 pub mod EditedLemmas
 pub mod EditedShape
 pub mod EditedAll
+pub mod Following

@@ -1,5 +1,6 @@
 -- Edits of an instance: the first refusal that applies, else the instance with that one change.
-use Rattle.std.specs.Prelude.{ℕ, ◌-◌, ℤ, pos, neg_ℤ, ◌-ℤ◌, int_le, unsigned_abs, nat_le, nat_lt, Bool, true, not, ◌&&◌, if◌then◌else◌, List, [], ◌∷◌, ◌++◌, length, Option, Some, None, Result, Ok, Err, slice_set}
+use Rattle.std.specs.Prelude.{◌≡◌, ℕ, ◌+◌, ◌-◌, ◌<◌, ◌^◌, ◌==◌, ℤ, pos, neg_ℤ, ◌-ℤ◌, int_le, unsigned_abs, nat_le, nat_lt, Bool, true, not, ◌&&◌, if◌then◌else◌, List, [], ◌∷◌, ◌++◌, length, Option, Some, None, Result, Ok, Err, slice_set}
+use Rattle.std.specs.Option.{option_map}
 use Rattle.dimacs_text.specs.declared.command.Edit.{Edit}
 use Rattle.dimacs_text.specs.declared.command.Edit.TheVariants.{Cap, Low, Cost, Supply, Add, Close}
 use Rattle.dimacs_text.specs.declared.problem.ArcRow.{ArcRow}
@@ -119,3 +120,53 @@ units I (Cost k cost) = units_of_row (arc_at I.arcs k) (λ row. row.cap -ℤ row
 units I (Supply v value) = unsigned_abs (value -ℤ reduced_supply I.demand v)
 units I (Add tail head low cap cost) = unsigned_abs cap
 units I (Close k) = units_of_row (arc_at I.arcs k) (λ row. row.cap)
+
+-- ---- of edits made together
+
+abbrev pub and_units : Result Instance ℕ → (Instance → ℕ) → ℕ
+and_units (Ok J) rest = rest J
+and_units (Err number) rest = 0
+
+-- the units of edits made together, each on the instance that those before it left
+unfoldable pub units_all : Instance → List Edit → ℕ
+units_all I [] = 0
+units_all I (edit ∷ edits) = units I edit + and_units (edited I edit) (λ after. units_all after edits)
+
+-- ---- what of an instance says whether it takes an edit: what all edits leave, the arc that is named, and how many arcs there are
+
+pub record SharesFrame (I J : Instance) : Type 0 where
+  pub nodes : J.nodes ≡ I.nodes
+  pub room : J.room ≡ I.room
+  pub kind : kind_of J.demand ≡ kind_of I.demand
+  pub across : (tail head : ℕ) → is_across J.demand tail head ≡ is_across I.demand tail head
+
+-- the number of the arc that an edit names, or 0 where it names none
+abbrev pub arc_of : Edit → ℕ
+arc_of (Cap k cap) = k
+arc_of (Low k low) = k
+arc_of (Cost k cost) = k
+arc_of (Supply v value) = 0
+arc_of (Add tail head low cap cost) = 0
+arc_of (Close k) = k
+
+abbrev pub changed_if : Bool → (ArcRow → ArcRow) → Option ArcRow → Option ArcRow
+changed_if found change row = if found then option_map change row else row
+
+-- arc k once an edit is made, where so many arcs stand and arc k is this one
+abbrev pub row_after : ℕ → ℕ → Option ArcRow → Edit → Option ArcRow
+row_after k arcs row (Cap j cap) = changed_if (j == k) (λ row. record row { cap = cap }) row
+row_after k arcs row (Low j low) = changed_if (j == k) (λ row. record row { low = low }) row
+row_after k arcs row (Cost j cost) = changed_if (j == k) (λ row. record row { cost = cost }) row
+row_after k arcs row (Supply v value) = row
+row_after k arcs row (Add tail head low cap cost) = if arcs + 1 == k then Some (record { tail = tail; head = head; low = low; cap = cap; cost = cost }) else row
+row_after k arcs row (Close j) = changed_if (j == k) (λ row. record row { low = pos 0; cap = pos 0 }) row
+
+-- how many arcs there are then
+abbrev pub count_after : ℕ → Edit → ℕ
+count_after arcs (Add tail head low cap cost) = arcs + 1
+count_after arcs _ = arcs
+
+-- the nodes that a new arc would join are numbers of nodes
+abbrev pub EndsFit : Edit → Type 0
+EndsFit (Add tail head low cap cost) = (tail < 2 ^ 32) × (head < 2 ^ 32)
+EndsFit _ = Unit {0}

@@ -1,7 +1,9 @@
 //! Which edits an instance takes.
-ghost use Rattle.std.specs.Prelude.{◌≡◌, ◌≤◌, ◌&&◌, ℕ, ℤ, List, [], ◌∷◌, ◌++◌, Ok, Err};
+ghost use Rattle.std.specs.Prelude.{◌≡◌, ◌≤◌, ◌&&◌, ℕ, ℤ, List, [], ◌∷◌, ◌++◌, length, Ok, Err};
+ghost use Rattle.std.specs.Result.{IsOk};
 ghost use Rattle.dimacs_text.specs.declared.command.Edit.{Edit};
-ghost use Rattle.network.specs.Edited.{added, edited, edited_all, edited_by, has_room, is_across, is_bound, is_new_row, is_node, is_within, suits_kind, outcome, tried};
+ghost use Rattle.dimacs_text.specs.declared.problem.TheConstants.{ARC_LIMIT};
+ghost use Rattle.network.specs.Edited.{EndsFit, SharesFrame, added, arc_of, count_after, edited, edited_all, edited_by, row_after, is_across, is_bound, is_new_row, is_node, is_within, suits_kind, outcome, tried};
 ghost use Rattle.network.specs.Flow.{IsNode};
 ghost use Rattle.network.specs.Instance.{Instance, IsLawful, arc_at, kind_of, reduced};
 
@@ -47,6 +49,112 @@ fn is_new_row(kind: Kind, low: i64, cap: i64, cost: i64) -> bool
     (is_bound(low) && is_bound(cap)) && (is_cost(cost) && suits_kind(kind, low, cap, cost))
 }
 
+/// The number of the arc that an edit names, or 0 where it names none.
+fn arc_of(edit: &Edit) -> u64
+    ensures { result ≡ arc_of edit.now }
+{
+    match *edit {
+        Edit::Cap { arc, .. }
+        | Edit::Low { arc, .. }
+        | Edit::Cost { arc, .. }
+        | Edit::Close { arc } => arc,
+        Edit::Supply { .. } | Edit::Add { .. } => 0,
+    }
+}
+
+/// May an arc have the capacity?
+fn cap_edited(row: Option<ArcRow>, cap: i64) -> Result<(), Fault>
+    ensures { (before : Instance) (arc : ℕ) → row ≡ arc_at before.arcs arc → result ≡ outcome (edited_by before (Edit.Cap arc cap)) }
+{
+    if !is_bound(cap) {
+        return Err(Fault::OutOfRange);
+    }
+    let row = row.ok_or(Fault::NoSuchArc)?;
+    if row.low <= cap {
+        Ok(())
+    } else {
+        Err(Fault::EditLowAboveCap)
+    }
+}
+
+/// May an arc have the lower bound?
+fn low_edited(row: Option<ArcRow>, low: i64) -> Result<(), Fault>
+    ensures { (before : Instance) (arc : ℕ) → row ≡ arc_at before.arcs arc → result ≡ outcome (edited_by before (Edit.Low arc low)) }
+{
+    if !is_bound(low) {
+        return Err(Fault::OutOfRange);
+    }
+    let row = row.ok_or(Fault::NoSuchArc)?;
+    if low <= row.cap {
+        Ok(())
+    } else {
+        Err(Fault::EditLowAboveCap)
+    }
+}
+
+/// May an arc have the cost?
+fn cost_edited(row: Option<ArcRow>, cost: i64) -> Result<(), Fault>
+    ensures { (before : Instance) (arc : ℕ) → row ≡ arc_at before.arcs arc → result ≡ outcome (edited_by before (Edit.Cost arc cost)) }
+{
+    if !is_cost(cost) {
+        return Err(Fault::OutOfRange);
+    }
+    close_edited(row)
+}
+
+/// May an arc be closed?
+fn close_edited(row: Option<ArcRow>) -> Result<(), Fault>
+    ensures { (before : Instance) (arc : ℕ) → row ≡ arc_at before.arcs arc → result ≡ outcome (edited_by before (Edit.Close arc)) }
+{
+    match row {
+        Some(_) => Ok(()),
+        None => Err(Fault::NoSuchArc),
+    }
+}
+
+/// Arc `k`, if it is there, once an edit is made where so many arcs stand.
+fn row_after(k: u64, arcs: usize, row: Option<ArcRow>, edit: &Edit) -> Option<ArcRow>
+    requires few { arcs ≤ ARC_LIMIT }
+    requires ends { EndsFit edit.now }
+    ensures { result ≡ row_after k arcs row edit.now }
+{
+    match *edit {
+        Edit::Cap { arc, cap } if arc == k => Some(ArcRow { cap, ..row? }),
+        Edit::Low { arc, low } if arc == k => Some(ArcRow { low, ..row? }),
+        Edit::Cost { arc, cost } if arc == k => Some(ArcRow { cost, ..row? }),
+        Edit::Close { arc } if arc == k => Some(ArcRow {
+            low: 0,
+            cap: 0,
+            ..row?
+        }),
+        Edit::Add {
+            tail,
+            head,
+            low,
+            cap,
+            cost,
+        } if arcs as u64 + 1 == k => Some(ArcRow {
+            tail: tail as u32,
+            head: head as u32,
+            low,
+            cap,
+            cost,
+        }),
+        _ => row,
+    }
+}
+
+/// How many arcs stand once an edit is made.
+fn count_after(arcs: usize, edit: &Edit) -> usize
+    requires { arcs ≤ ARC_LIMIT }
+    ensures { result ≡ count_after arcs edit.now }
+{
+    match edit {
+        Edit::Add { .. } => arcs + 1,
+        _ => arcs,
+    }
+}
+
 impl Network {
     /// The arc with this number, if it is there.
     pub(crate) fn numbered_arc(&self, k: u64) -> Option<ArcRow>
@@ -78,56 +186,9 @@ impl Network {
         }
     }
 
-    /// May an arc have the capacity?
-    fn cap_edited(&self, arc: u64, cap: i64) -> Result<(), Fault>
-        ensures { result ≡ outcome (edited_by self.now (Edit.Cap arc cap)) }
-    {
-        if !is_bound(cap) {
-            return Err(Fault::OutOfRange);
-        }
-        let Some(row) = self.numbered_arc(arc) else {
-            return Err(Fault::NoSuchArc);
-        };
-        if row.low <= cap {
-            Ok(())
-        } else {
-            Err(Fault::EditLowAboveCap)
-        }
-    }
-
-    /// May an arc have the lower bound?
-    fn low_edited(&self, arc: u64, low: i64) -> Result<(), Fault>
-        ensures { result ≡ outcome (edited_by self.now (Edit.Low arc low)) }
-    {
-        if !is_bound(low) {
-            return Err(Fault::OutOfRange);
-        }
-        let Some(row) = self.numbered_arc(arc) else {
-            return Err(Fault::NoSuchArc);
-        };
-        if low <= row.cap {
-            Ok(())
-        } else {
-            Err(Fault::EditLowAboveCap)
-        }
-    }
-
-    /// May an arc have the cost?
-    fn cost_edited(&self, arc: u64, cost: i64) -> Result<(), Fault>
-        ensures { result ≡ outcome (edited_by self.now (Edit.Cost arc cost)) }
-    {
-        if !is_cost(cost) {
-            return Err(Fault::OutOfRange);
-        }
-        match self.numbered_arc(arc) {
-            Some(_) => Ok(()),
-            None => Err(Fault::NoSuchArc),
-        }
-    }
-
     /// May a node have the supply?
     fn supply_edited(&self, node: u64, value: i64) -> Result<(), Fault>
-        ensures { result ≡ outcome (edited_by self.now (Edit.Supply node value)) }
+        ensures { (before : Instance) → SharesFrame self.now before → result ≡ outcome (edited_by before (Edit.Supply node value)) }
     {
         if !is_supply(value) {
             return Err(Fault::OutOfRange);
@@ -139,17 +200,12 @@ impl Network {
         }
     }
 
-    /// Is there room for one arc more?
-    fn has_room(&self) -> bool
-        ensures { result ≡ has_room self.now }
+    /// May an arc of lawful numbers be put between two nodes, where so many arcs stand?
+    fn arc_added(&self, arcs: usize, ends: (u64, u64), low: i64, cap: i64) -> Result<(), Fault>
+        ensures { (before : Instance) (cost : ℤ) → SharesFrame self.now before → arcs ≡ length before.arcs
+            → result ≡ outcome (added before ends.0 ends.1 low cap cost) }
     {
-        self.arcs.len() < self.room
-    }
-
-    /// May an arc of lawful numbers be put between two nodes?
-    fn arc_added(&self, tail: u64, head: u64, low: i64, cap: i64) -> Result<(), Fault>
-        ensures { (cost : ℤ) → result ≡ outcome (added self.now tail head low cap cost) }
-    {
+        let (tail, head) = ends;
         if !self.is_node(tail) || !self.is_node(head) {
             return Err(Fault::NoSuchNode);
         }
@@ -159,34 +215,26 @@ impl Network {
         if !self.is_across(tail, head) {
             return Err(Fault::EditNotAcrossSides);
         }
-        if self.has_room() {
+        if arcs < self.room {
             Ok(())
         } else {
             Err(Fault::ArcTableFull)
         }
     }
 
-    /// May an arc be closed?
-    fn close_edited(&self, arc: u64) -> Result<(), Fault>
-        ensures { result ≡ outcome (edited_by self.now (Edit.Close arc)) }
-    {
-        match self.numbered_arc(arc) {
-            Some(_) => Ok(()),
-            None => Err(Fault::NoSuchArc),
-        }
-    }
-
-    /// The first refusal of an edit that applies, if one does.
-    fn tested(&self, edit: &Edit) -> Result<(), Fault>
-        ensures { result ≡ outcome (tried self.now edit.now) }
+    /// The first refusal of an edit that applies, if one does, where the arc that it names is this one, if it is there,
+    /// and so many arcs stand.
+    fn tested(&self, edit: &Edit, row: Option<ArcRow>, arcs: usize) -> Result<(), Fault>
+        ensures { (before : Instance) → SharesFrame self.now before → row ≡ arc_at before.arcs (arc_of edit.now)
+            → arcs ≡ length before.arcs → result ≡ outcome (tried before edit.now) }
     {
         if !edit.is_for(self.kind()) {
             return Err(Fault::NotForKind);
         }
         match *edit {
-            Edit::Cap { arc, cap } => self.cap_edited(arc, cap),
-            Edit::Low { arc, low } => self.low_edited(arc, low),
-            Edit::Cost { arc, cost } => self.cost_edited(arc, cost),
+            Edit::Cap { cap, .. } => cap_edited(row, cap),
+            Edit::Low { low, .. } => low_edited(row, low),
+            Edit::Cost { cost, .. } => cost_edited(row, cost),
             Edit::Supply { node, value } => self.supply_edited(node, value),
             Edit::Add {
                 tail,
@@ -198,10 +246,34 @@ impl Network {
                 if !is_new_row(self.kind(), low, cap, cost) {
                     return Err(Fault::OutOfRange);
                 }
-                self.arc_added(tail, head, low, cap)
+                self.arc_added(arcs, (tail, head), low, cap)
             }
-            Edit::Close { arc } => self.close_edited(arc),
+            Edit::Close { .. } => close_edited(row),
         }
+    }
+
+    /// The arc with this number, if it is there, and how many arcs there are, once the edits are made.
+    fn arc_after(&self, edits: &[Edit], k: u64) -> (Option<ArcRow>, usize)
+        requires { IsOk (edited_all self.now edits.now) }
+        ensures { (after : Instance) → edited_all self.now edits.now ≡ Ok after
+            → (result.0 ≡ arc_at after.arcs k) × (result.1 ≡ length after.arcs) }
+    {
+        let mut row = self.numbered_arc(k);
+        let mut arcs = self.arcs.len();
+        for edit in edits {
+            row = row_after(k, arcs, row, edit);
+            arcs = count_after(arcs, edit);
+        }
+        (row, arcs)
+    }
+
+    /// The first refusal of an edit that applies, if one does, once other edits are made.
+    fn tested_after(&self, edits: &[Edit], edit: &Edit) -> Result<(), Fault>
+        requires { IsOk (edited_all self.now edits.now) }
+        ensures { (before : Instance) → edited_all self.now edits.now ≡ Ok before → result ≡ outcome (tried before edit.now) }
+    {
+        let (row, arcs) = self.arc_after(edits, arc_of(edit));
+        self.tested(edit, row, arcs)
     }
 
     /// May the instance be edited so? Else the number of the first refusal that applies: 23 not for this kind, 5 a
@@ -210,10 +282,20 @@ impl Network {
     pub fn edited(&self, edit: &Edit) -> Result<(), u8>
         ensures { result ≡ outcome (edited self.now edit.now) }
     {
-        match self.tested(edit) {
-            Ok(()) => Ok(()),
-            Err(fault) => Err(fault.number()),
+        self.edited_all(&[*edit])
+    }
+
+    /// May the edits be made one after the other? Else the number of the first refusal, where each edit is tested on
+    /// what those before it leave. Nothing is changed, and no memory is taken.
+    pub fn edited_all(&self, edits: &[Edit]) -> Result<(), u8>
+        ensures { result ≡ outcome (edited_all self.now edits.now) }
+    {
+        for i in 0..edits.len() {
+            if let Err(fault) = self.tested_after(&edits[..i], &edits[i]) {
+                return Err(fault.number());
+            }
         }
+        Ok(())
     }
 }
 

@@ -28,7 +28,7 @@ pub use start::build;
 use std::marker::Model;
 
 /// The least potential, in cost a unit of flow; the greatest is 0.
-pub const LEAST_POTENTIAL: i64 = -10_000_000_000_000;
+pub const LEAST_POTENTIAL: i64 = -50_000_000_000_000_000;
 /// The capacity of the return arc, in units of flow. No flow exceeds it: it is what all arcs together can carry at
 /// most.
 pub const RETURN_CAP: i64 = 100_000_000_000_000;

@@ -4,6 +4,6 @@ ghost use Rattle.network.specs.declared.TheConstants.{LEAST_POTENTIAL, RETURN_CA
 
 /// A law, with nothing to run: the limits are these numbers.
 pub fn limits_are()
-    ensures potential { LEAST_POTENTIAL ≡ neg_ℤ (pos 10000000000000) }
+    ensures potential { LEAST_POTENTIAL ≡ neg_ℤ (pos 50000000000000000) }
     ensures return_cap { RETURN_CAP ≡ pos 100000000000000 }
 {}

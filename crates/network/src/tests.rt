@@ -25,7 +25,7 @@ const UNFED: &[u8] = b"p min 2 1\na 1 2 2 5 1\n";
 
 #[test]
 fn best_flows(rt: HostRuntime) -> Result<(), TextFault> {
-    let cases: [(&[u8], &[i64], &[i64], i128, bool); 11] = [
+    let cases: [(&[u8], &[i64], &[i64], i128, bool); 12] = [
         (SINGLE_ARC, &[3], &[-4, 0], 12, true),
         (SINGLE_ARC, &[3], &[-5, -1], 12, true),
         (SINGLE_ARC, &[3], &[-4, 0], 13, false),
@@ -34,7 +34,14 @@ fn best_flows(rt: HostRuntime) -> Result<(), TextFault> {
         (
             SINGLE_ARC,
             &[3],
-            &[-10_000_000_000_001, -9_999_999_999_997],
+            &[-50_000_000_000_000_000, -49_999_999_999_999_996],
+            12,
+            true,
+        ),
+        (
+            SINGLE_ARC,
+            &[3],
+            &[-50_000_000_000_000_001, -49_999_999_999_999_997],
             12,
             false,
         ),
@@ -110,6 +117,51 @@ fn edits(rt: HostRuntime) -> Result<(), TextFault> {
     for (edit, answer) in cases {
         assert_eq!(rt; net.edited(&edit), answer);
     }
+    Ok(())
+}
+
+/// The arc that there is room for.
+const ADD: Edit = Edit::Add {
+    tail: 2,
+    head: 1,
+    low: 0,
+    cap: 5,
+    cost: 1,
+};
+
+#[test]
+fn edits_made_together(rt: HostRuntime) -> Result<(), TextFault> {
+    let net = network(rt.alloc(), UNFED)?;
+    let cases: [(&[Edit], Result<(), u8>); 9] = [
+        (&[], Ok(())),
+        (
+            &[Edit::Cap { arc: 1, cap: 3 }, Edit::Low { arc: 1, low: 3 }],
+            Ok(()),
+        ),
+        (
+            &[Edit::Cap { arc: 1, cap: 3 }, Edit::Low { arc: 1, low: 4 }],
+            Err(22),
+        ),
+        (&[ADD, Edit::Cap { arc: 2, cap: 9 }], Ok(())),
+        (&[Edit::Cap { arc: 2, cap: 9 }, ADD], Err(20)),
+        (&[ADD, ADD], Err(24)),
+        (&[ADD, Edit::Close { arc: 2 }, ADD], Err(24)),
+        (
+            &[Edit::Close { arc: 1 }, Edit::Low { arc: 1, low: 1 }],
+            Err(22),
+        ),
+        (
+            &[
+                Edit::Supply { node: 3, value: 1 },
+                Edit::Cap { arc: 7, cap: 1 },
+            ],
+            Err(21),
+        ),
+    ];
+    for (edits, answer) in cases {
+        assert_eq!(rt; net.edited_all(edits), answer);
+    }
+    assert_eq!(rt; net.arcs(), 1);
     Ok(())
 }
 

@@ -1,16 +1,34 @@
--- What an accepted edit leaves in the tables.
-use Rattle.std.proofs.Common.{◌≡◌, Option, Some, Ok, ap}
+-- What accepted edits leave in the tables.
+use Rattle.std.proofs.Common.{◌≡◌, List, [], ◌∷◌, Option, Some, Result, Ok, Err, IfOk, OnOk, sym, ap, ◌∙◌}
 use Rattle.std.specs.Option.{unwrap_or}
 use Rattle.dimacs_text.specs.declared.command.Edit.{Edit}
-use Rattle.network.specs.Edited.{edited}
+use Rattle.network.specs.Edited.{edited_all}
+use Rattle.network.proofs.EditedAll.{edited_one}
 use Rattle.flow_solver.specs.Moment.{Moment}
 use Rattle.flow_solver.specs.Desk.{Desk, IsAnswered}
-use Rattle.session.specs.Session.{IsAcceptedEdit, old_moment}
+use Rattle.session.specs.Session.{AreAcceptedEdits, AreEdited, IsEdited, old_moment}
 
-pub change_is : (desk : Desk) (old : Moment) (edit : Edit) → desk.before ≡ Some old → IsAnswered old → edited old.instance edit ≡ Ok desk.moment.instance → IsAnswered desk.moment → IsAcceptedEdit edit (old_moment desk) desk.moment
-change_is desk old edit is was accepted answered =
-    let same : old_moment desk ≡ old = ap (λ (o : Option Moment). unwrap_or o desk.moment) is in
-    rw same record { before = was; accepted = accepted; after = answered }
+pub was_there : (desk : Desk) (old : Moment) → desk.before ≡ Some old → old_moment desk ≡ old
+was_there desk old is = ap (λ (o : Option Moment). unwrap_or o desk.moment) is
+
+pub changes_are : (desk : Desk) (old : Moment) (edits : List Edit) → desk.before ≡ Some old → IsAnswered old → edited_all old.instance edits ≡ Ok desk.moment.instance → IsAnswered desk.moment → AreAcceptedEdits edits (old_moment desk) desk.moment
+changes_are desk old edits is was accepted answered = rw (was_there desk old is) record { before = was; accepted = accepted; after = answered }
 
 pub led : (o : Option Moment) (a b : Moment) → o ≡ Some a → o ≡ Some b → a ≡ b
 led o a b is_a is_b = cc
+
+pub on_ok : {A E : Type 0} (result : Result A E) (P Q : Type 0) → (P → Q) → OnOk result P → OnOk result Q
+on_ok (Ok x) P Q so holds = so holds
+on_ok (Err e) P Q so holds = tt
+
+pub on_ok_both : {A E : Type 0} (result : Result A E) (P Q R : Type 0) → (P → Q → R) → OnOk result P → OnOk result Q → OnOk result R
+on_ok_both (Ok x) P Q R so first second = so first second
+on_ok_both (Err e) P Q R so first second = tt
+
+pub if_ok : {A E : Type 0} (result : Result A E) (P Q : A → Type 0) → ((x : A) → P x → Q x) → IfOk result P → IfOk result Q
+if_ok (Ok x) P Q so holds = so x holds
+if_ok (Err e) P Q so holds = tt
+
+-- an edit that is made alone
+pub one_edited : (edit : Edit) (old new : Moment) → AreEdited (edit ∷ []) old new → IsEdited edit old new
+one_edited edit old new is = record { instance = sym (edited_one old.instance edit) ∙ is.instance; answered = is.answered }

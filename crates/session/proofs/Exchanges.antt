@@ -5,7 +5,8 @@ use Rattle.flow_solver.specs.Moment.{Moment, VerdictFits}
 use Rattle.flow_solver.specs.Desk.{IsFlow, flow_index}
 use Rattle.session.specs.Places.{exchanged, taken, PlacesFit}
 use Rattle.session.specs.PlacesLaws.{exchange_step, here_is}
-use Rattle.session.specs.Record.{flow_of, with_flow, IsMark}
+use Rattle.session.specs.Parts.{flow_of}
+use Rattle.session.specs.Record.{with_flow, IsMark}
 use Rattle.session.specs.ReturnLaws.{get_or-behind, set-behind}
 
 pub flow_step : (m now next : Moment) (all ps : List (ℕ × ℤ)) (i : ℕ) (v : ℤ) → VerdictFits m.instance.demand m.verdict → PlacesFit IsFlow (length (flow_of m)) all → i < length all → ps ≡ taken (take i all) (flow_of m) ++ drop i all → now ≡ with_flow m (exchanged (take i all) (flow_of m)) → let p : ℕ × ℤ = get_or ps i (0, pos 0) in v ≡ get_or now.flow (flow_index now.instance.demand p.0) p.1 → next ≡ record now { flow = set now.flow (flow_index now.instance.demand p.0) p.1 } → record { places : set ps i (p.0, v) ≡ taken (take (i + 1) all) (flow_of m) ++ drop (i + 1) all; moment : next ≡ with_flow m (exchanged (take (i + 1) all) (flow_of m)) }

@@ -7,19 +7,21 @@ use Rattle.history.specs.Boards.{Changes, Timeline, all_boards, boards, StandsFo
 use Rattle.history.proofs.Timelines.{stands_push, stands_back, stands_forward, boards_same, all_boards_back, all_boards_forward, all_advance}
 use Rattle.flow_solver.specs.Moment.{Moment}
 use Rattle.flow_solver.specs.Desk.{Desk, IsAnswered}
-use Rattle.session.specs.Places.{Kept}
-use Rattle.session.specs.Record.{Recorded, flow_end, flow_of, RecordFits, Differs, swapped, turned}
-use Rattle.session.specs.RecordLaws.{board_again, flow_end_fits, flow_of-swapped}
+use Rattle.session.specs.Parts.{named, flow_of}
+use Rattle.session.specs.Record.{Recorded, RecordFits, Differs, swapped, turned}
+use Rattle.session.specs.RecordLaws.{board_again, flow_of-swapped, go_there}
 use Rattle.session.specs.Session.{IsKept}
-use Rattle.session.proofs.Exact.{differ_taken}
+use Rattle.session.proofs.Exact.{differ_taken, differ_exchanged}
 
 -- a turned record names only what differs too
 differs_turned : (r : Recorded) (m : Moment) → RecordFits r m → Differs r m → Differs (turned r m) (swapped r m)
-differs_turned r m fits differs = record {
-  flows = rw (flow_of-swapped r m fits.verdict) (differ_taken r.flows (flow_end r.part) (flow_of m) (flow_end_fits m fits.in_range r.part fits.part) fits.flows.rising fits.flows.within differs.flows);
-  potentials = differ_taken r.potentials Kept m.potentials tt fits.potentials.rising fits.potentials.within differs.potentials;
-  marks = differ_taken r.marks Kept m.cut tt fits.marks.rising fits.marks.within differs.marks;
-}
+differs_turned r m fits differs =
+    let N = named r.parts in
+    record {
+      flows = rw (flow_of-swapped r m fits.verdict) (differ_taken r.flows N.go N.come_flows (flow_of m) (go_there r m fits) fits.flows.rising fits.flows.within differs.flows);
+      potentials = differ_exchanged r.potentials m.potentials fits.potentials.rising fits.potentials.within differs.potentials;
+      marks = differ_exchanged r.marks m.cut fits.marks.rising fits.marks.within differs.marks;
+    }
 
 pub kept_same : (old new : Changes Recorded) (m : Moment) → new.past ≡ old.past → new.future ≡ old.future → IsKept old m → IsKept new m
 kept_same old new m past future kept = record {

@@ -1,3 +1,4 @@
+mod Running
 mod Found
 mod Numbers
 mod Exact
@@ -5,6 +6,8 @@ mod Exchanges
 mod Swapping
 mod Keeping
 mod Moving
+mod Names
 mod Leading
 mod Recording
 mod Applying
+mod Placing

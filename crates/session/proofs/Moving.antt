@@ -1,65 +1,50 @@
 -- A record that fits and names only what differs is the record between its moment and the one that it leads to.
-use Rattle.std.proofs.Common.{◌≡◌, ℕ, inl, inr, ◌+◌, ◌-◌, ◌<◌, ◌≤◌, ℤ, pos, Option, Some, None, IsNone, IfSome, List, [], ◌∷◌, ◌++◌, Bor, length, get_or, slice_get, refl, sym, ap, ◌∙◌, arith}
+use Rattle.std.proofs.Common.{◌≡◌, ℕ, inl, inr, ◌⊎◌, ◌+◌, ◌<◌, ◌≤◌, Option, Some, None, IsNone, IfSome, List, [], Bor, length, get_or, slice_get, refl, sym, ap, ◌∙◌, arith}
 use mathlib.Core.Bool.{false≢true}
 use Rattle.std.specs.Option.{option_copied}
 use Rattle.std.proofs.lemmas.Option.{slice_get_cases, get_or_from_slice_get, slice_get_within}
-use Rattle.std.proofs.lemmas.List.{get_or_at, take-append-drop}
-use Rattle.dimacs_text.specs.declared.problem.ArcRow.{ArcRow}
+use Rattle.std.proofs.lemmas.List.{nil_from_length}
 use Rattle.history.specs.Boards.{Changes, all_changes}
 use Rattle.history.proofs.Timelines.{holds_past, holds_future}
-use Rattle.network.specs.Instance.{Demand, Supplies, Terminals, Sides, Instance, with_supply}
-use Rattle.flow_solver.specs.Moment.{Moment, VerdictFits}
-use Rattle.session.specs.declared.part.Part.{Part}
-use Rattle.session.specs.declared.part.Part.TheVariants.{Arc, Supply, Last, Gone}
-use Rattle.session.specs.Places.{Kept, Cut, changed, exchanged, ended}
-use Rattle.session.specs.PlacesLaws.{length-exchanged}
-use Rattle.session.specs.Record.{Recorded, flow_end, flow_of, demand_swapped, instance_swapped, no_row, last_row, IsInRange, PartFits, RecordFits, Differs, swapped, turned}
-use Rattle.session.specs.RecordLaws.{flow_end_fits, flow_of-swapped, last_dropped}
-use Rattle.session.specs.Session.{stack_of, moment_at, IsKept, IsRecord, PartTells}
-use Rattle.session.proofs.Exact.{exact_difference}
+use Rattle.flow_solver.specs.Moment.{Moment}
+use Rattle.session.specs.Parts.{Named, named, flow_of, IsOneEnd}
+use Rattle.session.specs.PartsLaws.{has_supply}
+use Rattle.session.specs.Record.{Recorded, RecordFits, Differs, swapped, turned}
+use Rattle.session.specs.RecordLaws.{flow_of-swapped, flows_came, go_there}
+use Rattle.session.specs.Session.{stack_of, moment_at, IsKept, IsRecord, PartsTell}
+use Rattle.session.proofs.Exact.{exact_difference, exact_exchange}
 
-demand_kept : (demand : Demand) → demand_swapped [] demand ≡ demand
-demand_kept (Supplies supplies) = refl
-demand_kept (Terminals source sink) = refl
-demand_kept (Sides marks) = refl
+-- the parts name places of the moment, and tell of the one that the record leads to
+parts_tell : (r : Recorded) (m : Moment) → RecordFits r m → PartsTell r.parts m (swapped r m)
+parts_tell r m fits =
+    let fit = fits.parts.fit in
+    let D = m.instance.demand in
+    record {
+      normal = fits.parts.normal;
+      nodes = (fit.supplies.rising, λ k d below. let at = fit.supplies.within k d below in (has_supply m.instance.nodes D _ fits.in_range.lawful.demand at.0 at.1).1);
+      arcs = (fit.rows.rising, fit.rows.within);
+      go = fit.go;
+      one_end = fit.one_end;
+      one_flow = fit.one_flow;
+      flows = flows_came r m fits;
+      instance = refl;
+    }
 
-demand_put : (id : ℕ) (value : ℤ) (demand : Demand) → demand_swapped ((id, value) ∷ []) demand ≡ with_supply demand id value
-demand_put id value (Supplies supplies) = refl
-demand_put id value (Terminals source sink) = refl
-demand_put id value (Sides marks) = refl
-
--- the instance where only the arcs change
-pub arcs_alone : (I : Instance) (arcs : List ArcRow) → record I { demand = demand_swapped [] I.demand; arcs = arcs } ≡ record I { arcs = arcs }
-arcs_alone I arcs = ap (λ (d : Demand). record I { demand = d; arcs = arcs }) (demand_kept I.demand)
-
-split_last : (arcs : List ArcRow) → 0 < length arcs → arcs ≡ ended (Cut 1) arcs ++ last_row arcs ∷ []
-split_last arcs some = sym (take-append-drop (length arcs - 1) arcs) ∙ ap (λ (rest : List ArcRow). ended (Cut 1) arcs ++ rest) (last_dropped arcs no_row some)
-
-part_tells : (part : Part) (r : Recorded) (m : Moment) → r.part ≡ part → IsInRange m → PartFits part m → VerdictFits m.instance.demand r.verdict → PartTells part m (swapped r m)
-part_tells (Arc k row) r m is kept fits told = (fits.0.0, fits.0.1, ap (λ (p : Part). instance_swapped p m.instance) is ∙ arcs_alone m.instance _)
-part_tells (Supply id value) r m is kept fits told =
-    (fits.1, ap (λ (p : Part). instance_swapped p m.instance) is ∙ ap (λ (d : Demand). record m.instance { demand = d }) (demand_put id value m.instance.demand))
-part_tells Last r m is kept fits told =
-    let other : (swapped r m).instance ≡ record m.instance { arcs = ended (Cut 1) m.instance.arcs } = ap (λ (p : Part). instance_swapped p m.instance) is ∙ arcs_alone m.instance _ in
-    let last : ArcRow = last_row m.instance.arcs in
-    (last, ap (λ (arcs : List ArcRow). record m.instance { arcs = arcs }) (split_last m.instance.arcs fits) ∙ ap (λ (I : Instance). record I { arcs = I.arcs ++ last ∷ [] }) (sym other))
-part_tells (Gone row flow) r m is kept fits told =
-    let flow_is : flow_of (swapped r m) ≡ exchanged r.flows (flow_of m) ++ flow ∷ [] = flow_of-swapped r m told ∙ ap (λ (p : Part). changed r.flows (flow_end p) (flow_of m)) is in (
-      ap (λ (p : Part). instance_swapped p m.instance) is ∙ arcs_alone m.instance _,
-      ap (λ (xs : List ℤ). get_or xs (length m.instance.arcs) (pos 0)) flow_is
-          ∙ get_or_at (exchanged r.flows (flow_of m)) flow [] (pos 0) _ (length-exchanged r.flows (flow_of m) ∙ kept.one_an_arc),
-    )
+-- where no arcs come no flows come
+flows_end : (N : Named) → IsOneEnd N → length N.come_flows ≡ length N.come_rows → (N.go ≡ 0) ⊎ (N.come_flows ≡ [])
+flows_end N (inl none) same = inl none
+flows_end N (inr none) same = inr (nil_from_length N.come_flows (omega (arith, same, ap length none)))
 
 pub is_record : (r : Recorded) (m : Moment) → RecordFits r m → Differs r m → IsRecord r m (swapped r m)
 is_record r m fits differs =
-    let kept = fits.in_range in
+    let N : Named = named r.parts in
     record {
-      part = part_tells r.part r m refl kept fits.part fits.verdict;
+      parts = parts_tell r m fits;
       flows =
           rw (flow_of-swapped r m fits.verdict)
-          (exact_difference r.flows (flow_end r.part) (flow_of m) (flow_end_fits m kept r.part fits.part) fits.flows.rising fits.flows.within differs.flows);
-      potentials = exact_difference r.potentials Kept m.potentials tt fits.potentials.rising fits.potentials.within differs.potentials;
-      marks = exact_difference r.marks Kept m.cut tt fits.marks.rising fits.marks.within differs.marks;
+          (exact_difference r.flows N.go N.come_flows (flow_of m) (go_there r m fits) fits.flows.rising fits.flows.within differs.flows (flows_end N fits.parts.fit.one_end fits.parts.fit.one_flow));
+      potentials = exact_exchange r.potentials m.potentials fits.potentials.rising fits.potentials.within differs.potentials;
+      marks = exact_exchange r.marks m.cut fits.marks.rising fits.marks.within differs.marks;
       verdict = refl;
     }
 

@@ -1,118 +1,106 @@
 -- A list that takes values at its places and another end: that twice is nothing.
-use Rattle.std.proofs.Common.{◌≡◌, ℕ, suc, ◌+◌, ◌-◌, ◌≤◌, List, [], ◌∷◌, ◌++◌, length, take, drop, refl, sym, ap, ap₂, ◌∙◌, arith, append_assoc, length-append, length-take-le}
+use Rattle.std.proofs.Common.{◌≡◌, ℕ, suc, ◌+◌, ◌-◌, ◌≤◌, List, [], ◌∷◌, ◌++◌, length, take, drop, sym, ap, ap₂, ◌∙◌, arith, append_assoc, append-nil, length-append, ◌⊎◌, inl, inr, length-take-le, length-drop}
 use Rattle.std.specs.List.{All}
-use Rattle.std.proofs.lemmas.List.{take-append-drop, take_at}
-use Rattle.std.proofs.lemmas.List.Elements.{All-append, All-take}
-use Rattle.session.specs.Places.{IsRising, AreWithin, exchanged, taken, Ending, Kept, Cut, Grown, ended, ending_turned, shared, EndingFits, EndingKeeps, changed}
+use Rattle.std.proofs.lemmas.List.{take-append-drop, take_at, take_all, drop_at}
+use Rattle.std.proofs.lemmas.List.Elements.{All-append, All-take, All-drop}
+use Rattle.session.specs.Places.{IsRising, AreWithin, exchanged, taken, ended, end_of, changed}
 use Rattle.session.specs.PlacesLaws.{length-exchanged, exchanged_again, taken_again, exchanged-append_left, taken-append_left, within_taken, All-exchanged}
 
-module _ {X : Type 0} where
-  -- the last n values go, and none of the places is theirs
-  module _ (places : List (ℕ × X)) (n : ℕ) (xs : List X) (fits : n ≤ length xs) (within : AreWithin (length xs - n) places) where
-    abbrev front : List X
-    front = take (length xs - n) xs
+module _ {X : Type 0} (places : List (ℕ × X)) (n : ℕ) (come xs : List X) (fits : n ≤ length xs) (within : AreWithin (length xs - n) places) where
+  abbrev front : List X
+  front = take (length xs - n) xs
 
-    abbrev rest : List X
-    rest = drop (length xs - n) xs
+  split : front ++ end_of n xs ≡ xs
+  split = take-append-drop (length xs - n) xs
 
-    split : front ++ rest ≡ xs
-    split = take-append-drop (length xs - n) xs
+  length-front : length front ≡ length xs - n
+  length-front = length-take-le (length xs - n) xs (omega arith)
 
-    length-front : length front ≡ length xs - n
-    length-front = length-take-le (length xs - n) xs (omega arith)
+  within_front : AreWithin (length front) places
+  within_front = rw length-front within
 
-    within_front : AreWithin (length front) places
-    within_front = rw length-front within
+  length-exchanged_front : length (exchanged places front) ≡ length xs - n
+  length-exchanged_front = length-exchanged places front ∙ length-front
 
-    exchanged-front : exchanged places xs ≡ exchanged places front ++ rest
-    exchanged-front = ap (exchanged places) (sym split) ∙ exchanged-append_left places front rest within_front
+  exchanged-front : exchanged places xs ≡ exchanged places front ++ end_of n xs
+  exchanged-front = ap (exchanged places) (sym split) ∙ exchanged-append_left places front (end_of n xs) within_front
 
-    length-exchanged_front : length (exchanged places front) ≡ length xs - n
-    length-exchanged_front = length-exchanged places front ∙ length-front
+  -- the list is that of the front with the other end
+  changed-front : changed places n come xs ≡ exchanged places front ++ come
+  changed-front =
+      ap (λ zs. zs ++ come)
+      (ap (λ k. take (k - n) (exchanged places xs)) (length-exchanged places xs)
+      ∙ ap (take (length xs - n)) exchanged-front
+      ∙ take_at (exchanged places front) (end_of n xs) (length xs - n) length-exchanged_front)
 
-    cut-exchanged : ended (Cut n) (exchanged places xs) ≡ exchanged places front
-    cut-exchanged =
-        ap (λ (k : ℕ). take (k - n) (exchanged places xs)) (length-exchanged places xs)
-        ∙ ap (take (length xs - n)) exchanged-front
-        ∙ take_at (exchanged places front) rest (length xs - n) length-exchanged_front
+  taken-front : taken places xs ≡ taken places front
+  taken-front = ap (taken places) (sym split) ∙ taken-append_left places front (end_of n xs) within_front
 
-    taken-front : taken places xs ≡ taken places front
-    taken-front = ap (taken places) (sym split) ∙ taken-append_left places front rest within_front
+  -- none of the places is of the last n values
+  pub end_of-exchanged : end_of n (exchanged places xs) ≡ end_of n xs
+  end_of-exchanged =
+      ap (λ k. drop (k - n) (exchanged places xs)) (length-exchanged places xs)
+      ∙ ap (drop (length xs - n)) exchanged-front
+      ∙ drop_at (exchanged places front) (end_of n xs) (length xs - n) length-exchanged_front
 
-    changed_again-cut : IsRising places → exchanged (taken places xs) (ended (Cut n) (exchanged places xs)) ++ rest ≡ xs
-    changed_again-cut rising =
-        ap₂ (λ (ps : List (ℕ × X)) (zs : List X). exchanged ps zs ++ rest) taken-front cut-exchanged
-        ∙ ap (λ (zs : List X). zs ++ rest) (exchanged_again places front (length xs - n) rising within)
-        ∙ split
+  pub length-changed : length (changed places n come xs) ≡ length xs - n + length come
+  length-changed = ap length changed-front ∙ length-append (exchanged places front) come ∙ ap (λ k. k + length come) length-exchanged_front
 
-    taken_again-cut : IsRising places → taken (taken places xs) (ended (Cut n) (exchanged places xs)) ≡ places
-    taken_again-cut rising = ap₂ taken taken-front cut-exchanged ∙ taken_again places front rising within_front
+  -- what came is the new end
+  pub end_of-changed : end_of (length come) (changed places n come xs) ≡ come
+  end_of-changed =
+      ap (λ zs. drop (length zs - length come) zs) changed-front
+      ∙ drop_at (exchanged places front) come (length (exchanged places front ++ come) - length come) (omega (arith, length-append (exchanged places front) come))
 
-  -- values come to the end
-  module _ (places : List (ℕ × X)) (ys xs : List X) (within : AreWithin (length xs) places) where
-    within_exchanged : AreWithin (length (exchanged places xs)) (taken places xs)
-    within_exchanged = rw (length-exchanged places xs) (within_taken places xs (length xs) within)
+  within_taken_front : AreWithin (length (exchanged places front)) (taken places front)
+  within_taken_front = rw (length-exchanged places front) (within_taken places front (length front) within_front)
 
-    exchanged-grown : IsRising places → exchanged (taken places xs) (exchanged places xs ++ ys) ≡ xs ++ ys
-    exchanged-grown rising =
-        exchanged-append_left (taken places xs) (exchanged places xs) ys within_exchanged
-        ∙ ap (λ (zs : List X). zs ++ ys) (exchanged_again places xs (length xs) rising within)
-
-    changed_again-grown : IsRising places → ended (Cut (length ys)) (exchanged (taken places xs) (exchanged places xs ++ ys)) ≡ xs
-    changed_again-grown rising =
-        ap (ended (Cut (length ys))) (exchanged-grown rising)
-        ∙ take_at xs ys (length (xs ++ ys) - length ys) (omega (arith, length-append xs ys))
-
-    taken_again-grown : IsRising places → taken (taken places xs) (exchanged places xs ++ ys) ≡ places
-    taken_again-grown rising = taken-append_left (taken places xs) (exchanged places xs) ys within_exchanged ∙ taken_again places xs rising within
+  -- the places with what stood there
+  pub taken_changed : IsRising places → taken (taken places xs) (changed places n come xs) ≡ places
+  taken_changed rising =
+      ap₂ taken taken-front changed-front
+      ∙ taken-append_left (taken places front) (exchanged places front) come within_taken_front
+      ∙ taken_again places front rising within_front
 
   -- changing again gives back the list
-  pub changed_again : (places : List (ℕ × X)) (ending : Ending X) (xs : List X) → EndingFits ending xs → IsRising places → AreWithin (shared ending xs) places → changed (taken places xs) (ending_turned ending xs) (changed places ending xs) ≡ xs
-  changed_again places Kept xs fits rising within = exchanged_again places xs (length xs) rising within
-  changed_again places (Cut n) xs fits rising within = changed_again-cut places n xs fits within rising
-  changed_again places (Grown ys) xs fits rising within = changed_again-grown places ys xs within rising
+  pub changed_again : IsRising places → changed (taken places xs) (length come) (end_of n xs) (changed places n come xs) ≡ xs
+  changed_again rising =
+      let again =
+      ap₂ exchanged taken-front changed-front
+      ∙ exchanged-append_left (taken places front) (exchanged places front) come within_taken_front
+      ∙ ap (λ zs. zs ++ come) (exchanged_again places front (length front) rising within_front) in
+      ap (λ zs. take (length zs - length come) zs ++ end_of n xs) again
+      ∙ ap (λ zs. zs ++ end_of n xs) (take_at front come (length (front ++ come) - length come) (omega (arith, length-append front come)))
+      ∙ split
 
-  -- and the places with their values
-  pub taken_changed : (places : List (ℕ × X)) (ending : Ending X) (xs : List X) → EndingFits ending xs → IsRising places → AreWithin (shared ending xs) places → taken (taken places xs) (changed places ending xs) ≡ places
-  taken_changed places Kept xs fits rising within = taken_again places xs rising within
-  taken_changed places (Cut n) xs fits rising within = taken_again-cut places n xs fits within rising
-  taken_changed places (Grown ys) xs fits rising within = taken_again-grown places ys xs within rising
+module _ {X : Type 0} where
+  pub length-end_of : (n : ℕ) (xs : List X) → n ≤ length xs → length (end_of n xs) ≡ n
+  length-end_of n xs fits = length-drop (length xs - n) xs ∙ omega arith
 
-  length-cut : (places : List (ℕ × X)) (n : ℕ) (xs : List X) → length (ended (Cut n) (exchanged places xs)) ≡ length xs - n
-  length-cut places n xs = length-take-le (length (exchanged places xs) - n) (exchanged places xs) (omega arith) ∙ ap (λ (k : ℕ). k - n) (length-exchanged places xs)
+  pub All-changed : (P : X → Type 0) (places : List (ℕ × X)) (n : ℕ) (come xs : List X) → All (λ p. P p.1) places → All P come → All P xs → All P (changed places n come xs)
+  All-changed P places n come xs values comes all =
+      All-append P (take (length (exchanged places xs) - n) (exchanged places xs)) come (All-take P _ (exchanged places xs) (All-exchanged P places xs values all)) comes
 
-  length-grown : (places : List (ℕ × X)) (ys xs : List X) → length (exchanged places xs ++ ys) ≡ length xs + length ys
-  length-grown places ys xs = length-append (exchanged places xs) ys ∙ ap (λ (k : ℕ). k + length ys) (length-exchanged places xs)
+  pub All-end_of : (P : X → Type 0) (n : ℕ) (xs : List X) → All P xs → All P (end_of n xs)
+  All-end_of P n xs all = All-drop P _ xs all
 
-  -- with either end the list has the same places
-  pub shared_again : (places : List (ℕ × X)) (ending : Ending X) (xs : List X) → EndingFits ending xs → shared (ending_turned ending xs) (changed places ending xs) ≡ shared ending xs
-  shared_again places Kept xs fits = length-exchanged places xs
-  shared_again places (Cut n) xs fits = length-cut places n xs
-  shared_again places (Grown ys) xs fits = omega (arith, length-grown places ys xs)
+  -- where values only come, or only go, they may come before the others go
+  pub come_then_go : (n : ℕ) (come xs : List X) → (n ≡ 0) ⊎ (come ≡ []) → ended n [] (xs ++ come) ≡ ended n come xs
+  come_then_go n come xs (inl none) = rw none (ap (λ zs. zs ++ []) (take_all (length (xs ++ come) - 0) (xs ++ come) (omega arith)) ∙ append-nil (xs ++ come) ∙ ap (λ zs. zs ++ come) (sym (take_all (length xs - 0) xs (omega arith))))
+  come_then_go n come xs (inr none) = rw none (ap (λ zs. ended n [] zs) (append-nil xs))
 
-  pub fits_again : (places : List (ℕ × X)) (ending : Ending X) (xs : List X) → EndingFits ending xs → EndingFits (ending_turned ending xs) (changed places ending xs)
-  fits_again places Kept xs fits = tt
-  fits_again places (Cut n) xs fits = tt
-  fits_again places (Grown ys) xs fits = omega (arith, length-grown places ys xs)
+  -- with the end that the list has it is as it was
+  pub ended_none : (xs : List X) → ended 0 [] xs ≡ xs
+  ended_none xs = append-nil (take (length xs - 0) xs) ∙ take_all (length xs - 0) xs (omega arith)
 
-  pub shared_within : (ending : Ending X) (xs : List X) → shared ending xs ≤ length xs
-  shared_within Kept xs = omega arith
-  shared_within (Cut n) xs = omega arith
-  shared_within (Grown ys) xs = omega arith
+  take_behind : (before xs : List X) (n : ℕ) → take (length before + n) (before ++ xs) ≡ before ++ take n xs
+  take_behind [] xs n = ap (λ (k : ℕ). take k xs) {x = length {A = X} [] + n} {y = n} (omega arith)
+  take_behind (x ∷ before) xs n =
+      ap (λ (k : ℕ). take k (x ∷ before ++ xs)) {x = length (x ∷ before) + n} {y = suc (length before + n)} (omega arith) ∙ ap (λ (ys : List X). x ∷ ys) (take_behind before xs n)
 
   -- values in front stay in front
-  pub ended_behind : (before : List X) (ending : Ending X) (xs : List X) → EndingFits ending xs → ended ending (before ++ xs) ≡ before ++ ended ending xs
-  ended_behind before Kept xs fits = refl
-  ended_behind before (Cut n) xs fits =
-      ap (λ (k : ℕ). take k (before ++ xs)) {x = length (before ++ xs) - n} {y = length before + (length xs - n)} (omega (arith, length-append before xs, fits)) ∙ take_behind before xs (length xs - n)
-    where
-      take_behind : (before xs : List X) (n : ℕ) → take (length before + n) (before ++ xs) ≡ before ++ take n xs
-      take_behind [] xs n = ap (λ (k : ℕ). take k xs) {x = length {A = X} [] + n} {y = n} (omega arith)
-      take_behind (x ∷ before) xs n =
-          ap (λ (k : ℕ). take k (x ∷ before ++ xs)) {x = length (x ∷ before) + n} {y = suc (length before + n)} (omega arith) ∙ ap (λ (ys : List X). x ∷ ys) (take_behind before xs n)
-  ended_behind before (Grown ys) xs fits = append_assoc before xs ys
-
-  pub All-changed : (P : X → Type 0) (places : List (ℕ × X)) (ending : Ending X) (xs : List X) → All (λ p. P p.1) places → EndingKeeps P ending → All P xs → All P (changed places ending xs)
-  All-changed P places Kept xs values keeps all = All-exchanged P places xs values all
-  All-changed P places (Cut n) xs values keeps all = All-take P _ (exchanged places xs) (All-exchanged P places xs values all)
-  All-changed P places (Grown ys) xs values keeps all = All-append P (exchanged places xs) ys (All-exchanged P places xs values all) keeps
+  pub ended_behind : (before : List X) (n : ℕ) (come xs : List X) → n ≤ length xs → ended n come (before ++ xs) ≡ before ++ ended n come xs
+  ended_behind before n come xs fits =
+      ap (λ (k : ℕ). take k (before ++ xs) ++ come) {x = length (before ++ xs) - n} {y = length before + (length xs - n)} (omega (arith, length-append before xs, fits))
+      ∙ ap (λ zs. zs ++ come) (take_behind before xs (length xs - n))
+      ∙ append_assoc before (take (length xs - n) xs) come

@@ -1,8 +1,11 @@
 pub mod Places
 pub mod PlacesLaws
 pub mod EndingLaws
+pub mod Parts
+pub mod PartsLaws
 pub mod Record
 pub mod ReturnLaws
 pub mod RecordLaws
+pub mod Group
 pub mod Session
 pub mod Step

@@ -11,23 +11,23 @@ module _ {X : Type 0} where
   abbrev pub IsElsewhere : ℕ → List (ℕ × X) → Type 0
   IsElsewhere k places = All (λ p. k ≢ p.0 - 1) places
 
-  elsewhere_head : (k : ℕ) (p : ℕ × X) (places : List (ℕ × X)) → IsElsewhere k (p ∷ places) → k ≢ p.0 - 1
+  pub elsewhere_head : (k : ℕ) (p : ℕ × X) (places : List (ℕ × X)) → IsElsewhere k (p ∷ places) → k ≢ p.0 - 1
   elsewhere_head k p places elsewhere = elsewhere 0 p (omega arith)
 
-  elsewhere_tail : (k : ℕ) (p : ℕ × X) (places : List (ℕ × X)) → IsElsewhere k (p ∷ places) → IsElsewhere k places
+  pub elsewhere_tail : (k : ℕ) (p : ℕ × X) (places : List (ℕ × X)) → IsElsewhere k (p ∷ places) → IsElsewhere k places
   elsewhere_tail k p places elsewhere j d below = elsewhere (suc j) d (omega arith)
 
   -- the first of rising places is below all others
-  rising_head : (p : ℕ × X) (places : List (ℕ × X)) → IsRising (p ∷ places) → 1 ≤ p.0 → IsElsewhere (p.0 - 1) places
+  pub rising_head : (p : ℕ × X) (places : List (ℕ × X)) → IsRising (p ∷ places) → 1 ≤ p.0 → IsElsewhere (p.0 - 1) places
   rising_head p places rising some k d below same = omega (arith, rising 0 (suc k) d (omega arith) (omega arith))
 
-  rising_tail : (p : ℕ × X) (places : List (ℕ × X)) → IsRising (p ∷ places) → IsRising places
+  pub rising_tail : (p : ℕ × X) (places : List (ℕ × X)) → IsRising (p ∷ places) → IsRising places
   rising_tail p places rising i j d before below = rising (suc i) (suc j) d (omega arith) (omega arith)
 
-  within_head : (n : ℕ) (p : ℕ × X) (places : List (ℕ × X)) → AreWithin n (p ∷ places) → (1 ≤ p.0) × (p.0 ≤ n)
+  pub within_head : (n : ℕ) (p : ℕ × X) (places : List (ℕ × X)) → AreWithin n (p ∷ places) → (1 ≤ p.0) × (p.0 ≤ n)
   within_head n p places within = within 0 p (omega arith)
 
-  within_tail : (n : ℕ) (p : ℕ × X) (places : List (ℕ × X)) → AreWithin n (p ∷ places) → AreWithin n places
+  pub within_tail : (n : ℕ) (p : ℕ × X) (places : List (ℕ × X)) → AreWithin n (p ∷ places) → AreWithin n places
   within_tail n p places within k d below = within (suc k) d (omega arith)
 
   pub length-exchanged : (places : List (ℕ × X)) (xs : List X) → length (exchanged places xs) ≡ length xs

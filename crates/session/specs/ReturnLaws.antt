@@ -6,7 +6,7 @@ use Rattle.flow_solver.specs.declared.verdict.Verdict.{Verdict}
 use Rattle.flow_solver.specs.declared.verdict.Verdict.TheVariants.{Best, Infeasible}
 use Rattle.flow_solver.specs.Desk.{flow_index}
 use Rattle.flow_solver.specs.Moment.{returned, VerdictFits, TellsReturnBy}
-use Rattle.session.specs.Record.{demand_swapped}
+use Rattle.session.specs.Parts.{demand_swapped}
 
 -- the numbered arcs have the flows behind it
 pub numbered_behind : (demand : Demand) (verdict : Verdict) (xs : List ℤ) → VerdictFits demand verdict → numbered_flow demand (returned demand verdict ++ xs) ≡ xs

@@ -1,19 +1,17 @@
 -- A session as whole moments, and what lies between each moment and the next.
-use Rattle.std.specs.Prelude.{◌≡◌, ℕ, ◌≤◌, ◌++◌, ◌∷◌, [], ◌-◌, pos, List, length, All, Ok, slice_index_or}
+use Rattle.std.specs.Prelude.{◌≡◌, ℕ, ◌-◌, ◌≤◌, List, length, map, All, Ok, slice_index_or}
 use Rattle.std.specs.Option.{unwrap_or}
 use Rattle.dimacs_text.specs.declared.command.Edit.{Edit}
 use Rattle.dimacs_text.specs.declared.command.Edit.TheVariants as edits
-use Rattle.dimacs_text.specs.declared.problem.ArcRow.{ArcRow}
-use Rattle.dimacs_text.specs.Lawful.{IsNode}
-use Rattle.network.specs.Edited.{edited, with_arc}
-use Rattle.network.specs.Instance.{Instance, with_supply}
+use Rattle.network.specs.Edited.{edited, edited_all}
 use Rattle.flow_solver.specs.Moment.{Moment}
-use Rattle.flow_solver.specs.Desk.{Desk, IsAnswered, supplies_in}
+use Rattle.flow_solver.specs.Desk.{Desk, IsAnswered}
 use Rattle.history.specs.Boards.{Changes, all_changes, Timeline, all_boards, boards, StandsFor}
 use Rattle.session.specs.declared.part.Part.{Part}
 use Rattle.session.specs.declared.part.Part.TheVariants.{Arc, Supply, Last, Gone}
-use Rattle.session.specs.Places.{IsDifference}
-use Rattle.session.specs.Record.{Recorded, no_row, flow_of, RecordFits, Differs, swapped}
+use Rattle.session.specs.Places.{IsRising, AreWithin, IsDifference, end_of}
+use Rattle.session.specs.Parts.{named, listed, flow_of, instance_swapped, IsOneEnd}
+use Rattle.session.specs.Record.{Recorded, RecordFits, Differs, swapped}
 
 -- the moments in the order of time, and the record between each moment and the next
 pub record Stack : Type 0 where
@@ -29,27 +27,37 @@ pub record IsEdited (edit : Edit) (old new : Moment) : Type 0 where
   pub instance : edited old.instance edit ≡ Ok new.instance
   pub answered : IsAnswered new
 
--- an accepted edit leads from one answered moment to the other
-pub record IsAcceptedEdit (edit : Edit) (old new : Moment) : Type 0 where
+-- edits were applied together: the instance is the edited one, and the moment answers it
+pub record AreEdited (edits : List Edit) (old new : Moment) : Type 0 where
+  pub instance : edited_all old.instance edits ≡ Ok new.instance
+  pub answered : IsAnswered new
+
+-- accepted edits lead from one answered moment to the other
+pub record AreAcceptedEdits (edits : List Edit) (old new : Moment) : Type 0 where
   pub before : IsAnswered old
-  pub accepted : edited old.instance edit ≡ Ok new.instance
+  pub accepted : edited_all old.instance edits ≡ Ok new.instance
   pub after : IsAnswered new
 
 -- the moment before the last change of the tables, where there was one
 abbrev pub old_moment : Desk → Moment
 old_moment desk = unwrap_or desk.before desk.moment
 
--- the part names one place, with what the other moment has there; outside it the instances are equal
-abbrev pub PartTells : Part → Moment → Moment → Type 0
-PartTells (Arc k row) present other = (1 ≤ k) × (k ≤ length present.instance.arcs) × (other.instance ≡ with_arc present.instance k row)
-PartTells (Supply id value) present other = IsNode present.instance.nodes id × (other.instance ≡ record present.instance { demand = with_supply present.instance.demand id value })
-PartTells Last present other = (row : ArcRow) × (present.instance ≡ record other.instance { arcs = other.instance.arcs ++ row ∷ [] })
-PartTells (Gone row flow) present other =
-    (other.instance ≡ record present.instance { arcs = present.instance.arcs ++ row ∷ [] }) × (slice_index_or (flow_of other) (length present.instance.arcs) (pos 0) ≡ flow)
+-- the parts, in their normal form, name places with what the other moment has there: nodes and arcs once and rising, then
+-- arcs that only the other moment has, with their flows, or how many arcs only this one has. Outside these places the
+-- instances are equal
+pub record PartsTell (ps : List Part) (present other : Moment) : Type 0 where
+  pub normal : ps ≡ listed (named ps)
+  pub nodes : IsRising (named ps).supplies × AreWithin present.instance.nodes (named ps).supplies
+  pub arcs : IsRising (named ps).rows × AreWithin (length present.instance.arcs - (named ps).go) (named ps).rows
+  pub go : (named ps).go ≤ length present.instance.arcs
+  pub one_end : IsOneEnd (named ps)
+  pub one_flow : length (named ps).come_flows ≡ length (named ps).come_rows
+  pub flows : end_of (length (named ps).come_flows) (flow_of other) ≡ (named ps).come_flows
+  pub instance : other.instance ≡ instance_swapped (named ps) present.instance
 
 -- the record names what differs between two moments, with the values of the other one
 pub record IsRecord (r : Recorded) (present other : Moment) : Type 0 where
-  pub part : PartTells r.part present other
+  pub parts : PartsTell r.parts present other
   pub flows : IsDifference r.flows (flow_of other) (flow_of present)
   pub potentials : IsDifference r.potentials other.potentials present.potentials
   pub marks : IsDifference r.marks other.cut present.cut
@@ -65,7 +73,7 @@ pub record IsKept (h : Changes Recorded) (m : Moment) : Type 0 where
 abbrev pub stack_of : Changes Recorded → Moment → Stack
 stack_of h m = record { moments = boards swapped h m; records = all_changes h }
 
--- the one place of an instance that a step changes
+-- a place of an instance that a step changes
 pub data Place : Type 0 where
   OfArc : ℕ → Place
   OfNode : ℕ → Place
@@ -77,8 +85,9 @@ place_of_part (Supply id value) = OfNode id
 place_of_part Last = OfNewArc
 place_of_part (Gone row flow) = OfNewArc
 
-abbrev pub place_of : Recorded → Place
-place_of r = place_of_part r.part
+-- the places of a record's parts
+abbrev pub places_of : Recorded → List Place
+places_of r = map place_of_part r.parts
 
 abbrev pub place_of_edit : Edit → Place
 place_of_edit (edits.Cap arc cap) = OfArc arc
@@ -87,12 +96,3 @@ place_of_edit (edits.Cost arc cost) = OfArc arc
 place_of_edit (edits.Supply node value) = OfNode node
 place_of_edit (edits.Add tail head low cap cost) = OfNewArc
 place_of_edit (edits.Close arc) = OfArc arc
-
--- the part that gives back what stood before an edit
-abbrev pub part_before : Instance → Edit → Part
-part_before I (edits.Cap arc cap) = Arc arc (slice_index_or I.arcs (arc - 1) no_row)
-part_before I (edits.Low arc low) = Arc arc (slice_index_or I.arcs (arc - 1) no_row)
-part_before I (edits.Cost arc cost) = Arc arc (slice_index_or I.arcs (arc - 1) no_row)
-part_before I (edits.Supply node value) = Supply node (slice_index_or (supplies_in I.demand) (node - 1) (pos 0))
-part_before I (edits.Add tail head low cap cost) = Last
-part_before I (edits.Close arc) = Arc arc (slice_index_or I.arcs (arc - 1) no_row)

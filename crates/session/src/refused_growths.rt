@@ -1,9 +1,9 @@
-//! Each growth of an edit refused in turn.
+//! Each growth of an edit, and of a group of edits, refused in turn.
 
 use crate::Session;
 use crate::tests::{
-    ADD, ADD_PAIR, CLOSE_SECOND, COST, Command, DIAMOND, NARROW, PAIRS, Reply, SINGLE_ARC, STARVE,
-    differences_at, opened, replied,
+    ADD, ADD_PAIR, CAPACITIES, CLOSE_SECOND, COST, Command, DIAMOND, NARROW, PAIRS, Reply,
+    SINGLE_ARC, STARVE, differences_at, opened, replied,
 };
 use dimacs_text::Edit;
 use network::Network;
@@ -11,7 +11,7 @@ use refusing::Refusing;
 use std::alloc::{Allocator, Global};
 use std::process::Abort;
 
-/// More growths than any edit takes.
+/// More growths than any edit or group takes.
 const MOST: u64 = 32;
 
 /// An edit at a moment to which some steps lead.
@@ -67,6 +67,40 @@ const CASES: [Case; 7] = [
     },
 ];
 
+/// What is asked at a moment to which some steps lead.
+#[derive(Drop)]
+struct Trial {
+    shows: &'static str,
+    text: &'static [u8],
+    before: &'static [Command],
+    asked: Command,
+}
+
+const GROUPS: [Trial; 2] = [
+    Trial {
+        shows: "the rows of two arcs",
+        text: DIAMOND,
+        before: &[],
+        asked: Command::Group(CAPACITIES),
+    },
+    Trial {
+        shows: "the future of an undone group is kept",
+        text: DIAMOND,
+        before: &[Command::Group(CAPACITIES), Command::Undo],
+        asked: Command::Group(&[NARROW, STARVE]),
+    },
+];
+
+/// The trial of a case.
+fn trial_of(case: &Case) -> Trial {
+    Trial {
+        shows: case.shows,
+        text: case.text,
+        before: case.before,
+        asked: Command::Apply(case.edit),
+    }
+}
+
 /// Whether two networks have the same arcs and supplies.
 fn same_network(network: &Network, twin: &Network) -> bool {
     for k in 0..twin.arcs().saturating_add(2) {
@@ -103,53 +137,53 @@ fn same_views<A: Allocator + Copy>(session: &Session<A>, twin: &Session) -> bool
         && same_steps(session, twin)
 }
 
-/// Takes the steps before the edit.
-fn bring<A: Allocator + Copy>(session: &mut Session<A>, case: &Case) {
-    for command in case.before {
+/// Takes the steps before what is asked.
+fn bring<A: Allocator + Copy>(session: &mut Session<A>, trial: &Trial) {
+    for command in trial.before {
         replied(session, command);
     }
 }
 
-/// Whether the edit is refused for want of memory, where `memory` is planned to refuse growths. Then all is as before, as
-/// the twin shows, and else the twin takes the edit too. Another step has to lead to the same place.
+/// Whether what is asked is refused for want of memory, where growths are planned to be refused. Then all is as before, as
+/// the twin shows, and else the twin is asked it too. Another step has to lead to the same place.
 fn is_refused<A: Allocator + Copy>(
     rt: &impl Abort,
     session: &mut Session<A>,
     twin: &mut Session,
-    case: &Case,
+    trial: &Trial,
 ) -> bool {
-    let refused = replied(session, &Command::Apply(case.edit)) == Reply::NoMemory;
+    let refused = replied(session, &trial.asked) == Reply::NoMemory;
     if !refused {
-        replied(twin, &Command::Apply(case.edit));
+        replied(twin, &trial.asked);
     }
-    assert!(rt; same_views(session, twin), "{}", case.shows);
-    assert!(rt; session.redo() == twin.redo(), "{}", case.shows);
-    assert!(rt; same_views(session, twin), "{}", case.shows);
+    assert!(rt; same_views(session, twin), "{}", trial.shows);
+    assert!(rt; session.redo() == twin.redo(), "{}", trial.shows);
+    assert!(rt; same_views(session, twin), "{}", trial.shows);
     refused
 }
 
-/// Whether the edit is refused, where so many growths of it are served and so many refused after those. A fresh session
+/// Whether what is asked is refused, where so many growths of it are served and so many refused after those. A fresh session
 /// is brought to its moment, since a place in the history that was served stays reserved.
-fn refuses(rt: &impl Abort, alloc: Global, case: &Case, served: u64, refused: u64) -> bool {
+fn refuses(rt: &impl Abort, alloc: Global, trial: &Trial, served: u64, refused: u64) -> bool {
     let memory = Refusing::new(alloc);
-    let mut session = opened(rt, alloc, &memory, case.text, 1000);
-    let mut twin = opened(rt, alloc, alloc, case.text, 1000);
-    bring(&mut session, case);
-    bring(&mut twin, case);
+    let mut session = opened(rt, alloc, &memory, trial.text, 1000);
+    let mut twin = opened(rt, alloc, alloc, trial.text, 1000);
+    bring(&mut session, trial);
+    bring(&mut twin, trial);
     memory.plan(served, refused);
-    let answer = is_refused(rt, &mut session, &mut twin, case);
+    let answer = is_refused(rt, &mut session, &mut twin, trial);
     assert!(rt;
         answer == (memory.refused_left() < refused),
         "{}",
-        case.shows
+        trial.shows
     );
     answer
 }
 
-/// How many growths of the edit are refused in turn before none is.
-fn growths(rt: &impl Abort, alloc: Global, case: &Case, refused: u64) -> u64 {
+/// How many growths of what is asked are refused in turn before none is.
+fn growths(rt: &impl Abort, alloc: Global, trial: &Trial, refused: u64) -> u64 {
     for served in 0..MOST {
-        if !refuses(rt, alloc, case, served, refused) {
+        if !refuses(rt, alloc, trial, served, refused) {
             return served;
         }
     }
@@ -160,8 +194,18 @@ fn growths(rt: &impl Abort, alloc: Global, case: &Case, refused: u64) -> u64 {
 fn each_growth_of_an_edit_is_refused_in_turn(rt: HostRuntime) {
     for case in &CASES {
         for refused in [1, u64::MAX] {
-            let growths = growths(&rt, rt.alloc(), case, refused);
+            let growths = growths(&rt, rt.alloc(), &trial_of(case), refused);
             assert!(rt; 2 <= growths && growths < MOST, "{}", case.shows);
+        }
+    }
+}
+
+#[test]
+fn each_growth_of_a_group_is_refused_in_turn(rt: HostRuntime) {
+    for trial in &GROUPS {
+        for refused in [1, u64::MAX] {
+            let growths = growths(&rt, rt.alloc(), trial, refused);
+            assert!(rt; 2 <= growths && growths < MOST, "{}", trial.shows);
         }
     }
 }

@@ -4,12 +4,14 @@ ghost use Rattle.std.specs.Prelude.{◌≡◌, ℕ, ◌+◌, ◌-◌, ◌^◌, �
 ghost use Rattle.std.specs.Bool.{OnTrue, OnFalse};
 ghost use Rattle.std.specs.Option.{option_copied};
 ghost use Rattle.history.specs.Boards.{Advances, StepsBack, StepsForward};
-ghost use Rattle.network.specs.Edited.{edited};
+ghost use Rattle.dimacs_text.specs.declared.group.TheConstants.{GROUP_LIMIT};
+ghost use Rattle.network.specs.Edited.{edited, edited_all};
 ghost use Rattle.network.specs.Instance.{at_node, first};
 ghost use Rattle.flow_solver.specs.Desk.{IsAnswered};
-ghost use Rattle.flow_solver.specs.Edit.{IsChange};
-ghost use Rattle.session.specs.Record.{flow_of};
-ghost use Rattle.session.specs.Session.{IsEdited, IsRecord, moment_at, place_of, place_of_edit};
+ghost use Rattle.flow_solver.specs.Edit.{AreChanges, IsChange};
+ghost use Rattle.session.specs.Parts.{flow_of};
+ghost use Rattle.session.specs.Group.{ArePartsOf};
+ghost use Rattle.session.specs.Session.{AreEdited, IsEdited, IsRecord, moment_at, places_of, place_of_edit};
 
 use crate::record::Record;
 use crate::refusal::Refusal;
@@ -90,15 +92,33 @@ impl<A: Allocator + Copy> Session<A> {
     pub fn apply(&mut self, edit: &Edit) -> Result<u64, Refusal>
         ensures edited { OnOk result (IsEdited edit.now self.old.moments.present self.new.moments.present) }
         ensures advances { OnOk result (Advances self.old.moments self.new.moments) }
-        ensures records { OnOk result ((r : Record A) × (self.new.records ≡ take (length self.old.moments.past) self.old.records ++ r ∷ []) × (place_of r ≡ place_of_edit edit.now)) }
+        ensures records { OnOk result ((r : Record A) × (self.new.records ≡ take (length self.old.moments.past) self.old.records ++ r ∷ []) × (places_of r ≡ place_of_edit edit.now ∷ [])) }
         ensures cause { (number : ℕ) → (result ≡ Err (Refusal.Cause number)) ↔ (edited self.old.moments.present.instance edit.now ≡ Err number) }
         ensures pushes { IfOk result (λ n. IsChange self.old.moments.present.instance self.new.moments.present.instance edit.now (at_node self.old.moments.present.potentials) self.old.moments.present.flow self.new.moments.present.flow n) }
         ensures refused { OnErr result (self.new ≡ self.old) }
     {
-        self.tables.network().edited(edit).map_err(Refusal::Cause)?;
+        self.apply_group(&[*edit])
+    }
+
+    /// Applies edits together, as one step that is solved once: the present moment becomes past, and the future is
+    /// dropped. Gives the number of pushes. After a refusal the session is as before.
+    ///
+    /// # Errors
+    /// `Cause` with the number of the first refusal of `Network::edited_all`; `Memory` where a growth was refused.
+    pub fn apply_group(&mut self, edits: &[Edit]) -> Result<u64, Refusal>
+        requires few { length edits.now ≤ GROUP_LIMIT }
+        ensures edited { OnOk result (AreEdited edits.now self.old.moments.present self.new.moments.present) }
+        ensures advances { OnOk result (Advances self.old.moments self.new.moments) }
+        ensures records { OnOk result ((r : Record A) × (self.new.records ≡ take (length self.old.moments.past) self.old.records ++ r ∷ []) × ArePartsOf edits.now self.old.moments.present.instance r.parts) }
+        ensures cause { (number : ℕ) → (result ≡ Err (Refusal.Cause number)) ↔ (edited_all self.old.moments.present.instance edits.now ≡ Err number) }
+        ensures pushes { IfOk result (λ n. AreChanges self.old.moments.present.instance self.new.moments.present.instance edits.now (at_node self.old.moments.present.potentials) self.old.moments.present.flow self.new.moments.present.flow n) }
+        ensures refused { OnErr result (self.new ≡ self.old) }
+    {
+        let network = self.tables.network();
+        network.edited_all(edits).map_err(Refusal::Cause)?;
         self.history.reserve_one()?;
-        let pushes = self.tables.change(edit);
-        match Record::of_last_change(self.alloc, edit, &self.tables) {
+        let pushes = self.tables.change_all(edits);
+        match Record::of_last_change(self.alloc, edits, &self.tables) {
             Ok(record) => {
                 self.history.push(record);
                 Ok(pushes)
@@ -114,7 +134,7 @@ impl<A: Allocator + Copy> Session<A> {
     pub fn undo(&mut self) -> bool
         ensures answer { IsTrue result ↔ (0 < length self.old.moments.past) }
         ensures undone { OnTrue result (StepsBack self.old.moments self.new.moments) }
-        ensures places { map place_of self.new.records ≡ map place_of self.old.records }
+        ensures places { map places_of self.new.records ≡ map places_of self.old.records }
         ensures unchanged { OnFalse result (self.new ≡ self.old) }
     {
         self.history.undo(&mut self.tables)
@@ -124,7 +144,7 @@ impl<A: Allocator + Copy> Session<A> {
     pub fn redo(&mut self) -> bool
         ensures answer { IsTrue result ↔ (0 < length self.old.moments.future) }
         ensures redone { OnTrue result (StepsForward self.old.moments self.new.moments) }
-        ensures places { map place_of self.new.records ≡ map place_of self.old.records }
+        ensures places { map places_of self.new.records ≡ map places_of self.old.records }
         ensures unchanged { OnFalse result (self.new ≡ self.old) }
     {
         self.history.redo(&mut self.tables)

@@ -1,11 +1,13 @@
 //! Values that change places with those of the tables.
 
-ghost use Rattle.std.specs.Prelude.{◌≡◌, length};
+ghost use Rattle.std.specs.Prelude.{◌≡◌, ◌<◌, ◌≤◌, length};
+ghost use Rattle.dimacs_text.specs.declared.problem.TheConstants.{ARC_LIMIT};
 ghost use Rattle.network.specs.Flow.{IsPotential};
 ghost use Rattle.network.specs.Instance.{IsLawful};
 ghost use Rattle.flow_solver.specs.Desk.{IsFlow};
 ghost use Rattle.session.specs.Places.{exchanged, taken, PlacesFit};
-ghost use Rattle.session.specs.Record.{flow_of, with_flow, IsInRange, IsMark, PartFits, part_swapped, part_turned};
+ghost use Rattle.session.specs.Parts.{named, listed, flow_of, named_turned, parts_swapped, PartsFit, put_in, left_by, next_after, PartFits, cut_off};
+ghost use Rattle.session.specs.Record.{with_flow, IsInRange, IsMark};
 
 use crate::part::Part;
 use flow_solver::Tables;
@@ -46,13 +48,41 @@ pub(crate) fn swap_marks(places: &mut [(u32, bool)], tables: &mut Tables)
     }
 }
 
-/// Exchanges the part of the instance, and gives what was there.
-pub(crate) fn swap_part(part: Part, tables: &mut Tables) -> Part
+/// Exchanges the parts with the instance, and leaves those that lead back.
+pub(crate) fn swap_parts(parts: &mut [Part], tables: &mut Tables)
+    requires fit { PartsFit parts.old tables.old.moment.instance }
     requires lawful { IsLawful tables.old.moment.instance }
     requires one_an_arc { length (flow_of tables.old.moment) ≡ length tables.old.moment.instance.arcs }
-    requires part { PartFits part tables.old.moment }
-    ensures part { result ≡ part_turned part tables.old.moment }
-    ensures moment { tables.new.moment ≡ part_swapped part tables.old.moment }
+    ensures parts { parts.new ≡ listed (named_turned (named parts.old) tables.old.moment) }
+    ensures moment { tables.new.moment ≡ parts_swapped (named parts.old) tables.old.moment }
+{
+    let go = arcs_that_go(parts);
+    let mut next = tables.flow().len() - go;
+    for part in parts.iter_mut() {
+        *part = swap_part(*part, &mut next, tables);
+    }
+    drop_arcs(go, tables);
+}
+
+/// How many arcs the parts take off.
+fn arcs_that_go(parts: &[Part]) -> usize
+    ensures { result ≡ (named parts.now).go }
+{
+    let mut go = 0;
+    for part in parts {
+        if let Part::Last = part {
+            go += 1;
+        }
+    }
+    go
+}
+
+/// Exchanges one part, and gives what was there. An arc that goes is only read: `next` is the index of the next one.
+fn swap_part(part: Part, next: &mut usize, tables: &mut Tables) -> Part
+    requires { PartFits next.old part tables.old.moment }
+    ensures part { result ≡ left_by next.old part tables.old.moment }
+    ensures next { next.new ≡ next_after next.old part }
+    ensures moment { tables.new.moment ≡ put_in part tables.old.moment }
 {
     match part {
         Part::Arc { k, mut row } => {
@@ -64,12 +94,40 @@ pub(crate) fn swap_part(part: Part, tables: &mut Tables) -> Part
             Part::Supply { id, value }
         }
         Part::Last => {
-            let (row, flow) = tables.drop_last();
-            Part::Gone { row, flow }
+            let index = *next;
+            *next += 1;
+            arc_at_end(index, tables)
         }
         Part::Gone { row, flow } => {
             tables.put_last(row, flow);
             Part::Last
         }
+    }
+}
+
+/// The part that brings back the arc at an index with its flow.
+fn arc_at_end(index: usize, tables: &Tables) -> Part
+    requires row { index < length tables.now.moment.instance.arcs }
+    requires flow { index < length (flow_of tables.now.moment) }
+    requires few { index < ARC_LIMIT }
+    ensures { result ≡ left_by index Part.Last tables.now.moment }
+{
+    let Some(row) = tables.network().arc(index as u32 + 1) else {
+        unreachable!()
+    };
+    Part::Gone {
+        row,
+        flow: tables.flow()[index],
+    }
+}
+
+/// Takes off so many arcs.
+fn drop_arcs(count: usize, tables: &mut Tables)
+    requires rows { count ≤ length tables.old.moment.instance.arcs }
+    requires flow { count ≤ length tables.old.moment.flow }
+    ensures { tables.new.moment ≡ cut_off count tables.old.moment }
+{
+    for _ in 0..count {
+        let _ = tables.drop_last();
     }
 }

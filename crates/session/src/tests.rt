@@ -1,7 +1,7 @@
 //! What sessions answer, and what their records hold, in worked examples.
 
 use crate::{Part, Refusal, Session};
-use dimacs_text::{ArcRow, Edit, Problem, ProblemReader, TextFault};
+use dimacs_text::{ArcRow, Edit, GROUP_LIMIT, Problem, ProblemReader, TextFault};
 use flow_solver::Verdict;
 use std::alloc::{Allocator, Global};
 use std::process::Abort;
@@ -44,6 +44,18 @@ pub(crate) const ADD_PAIR: Edit = Edit::Add {
     cap: 1,
     cost: 1,
 };
+/// The supplies of the single arc's nodes, one unit more.
+const SUPPLIES: &[Edit] = &[
+    Edit::Supply { node: 1, value: 4 },
+    Edit::Supply { node: 2, value: -4 },
+];
+/// The diamond's first arc is narrowed, and its second one widened.
+pub(crate) const CAPACITIES: &[Edit] = &[
+    Edit::Cap { arc: 1, cap: 1 },
+    Edit::Cap { arc: 2, cap: 3 },
+];
+/// A group whose second edit names no arc.
+const NO_ARC: &[Edit] = &[NARROW, Edit::Cap { arc: 9, cap: 1 }, STARVE];
 /// The first arc is closed.
 const CLOSE: Edit = Edit::Close { arc: 1 };
 /// The first arc costs 3 a unit.
@@ -92,6 +104,7 @@ pub(crate) fn opened<A: Allocator + Copy>(
 #[derive(Clone, Copy)]
 pub(crate) enum Command {
     Apply(Edit),
+    Group(&'static [Edit]),
     Undo,
     Redo,
 }
@@ -105,14 +118,32 @@ pub(crate) enum Reply {
     NoStep,
 }
 
+/// The reply to edits that were applied, or refused.
+fn reply_to<A: Allocator + Copy>(session: &Session<A>, applied: Result<u64, Refusal>) -> Reply {
+    match applied {
+        Ok(_) => Reply::Tells(session.verdict()),
+        Err(Refusal::Cause(number)) => Reply::Refuses(number),
+        Err(Refusal::Memory) => Reply::NoMemory,
+    }
+}
+
+/// Asks for a group of edits.
+fn replied_to_group<A: Allocator + Copy>(session: &mut Session<A>, edits: &[Edit]) -> Reply {
+    if edits.len() > GROUP_LIMIT {
+        return Reply::Refuses(31);
+    }
+    let applied = session.apply_group(edits);
+    reply_to(session, applied)
+}
+
 /// Asks a command of the session.
 pub(crate) fn replied<A: Allocator + Copy>(session: &mut Session<A>, command: &Command) -> Reply {
     let moved = match command {
-        Command::Apply(edit) => match session.apply(edit) {
-            Ok(_) => true,
-            Err(Refusal::Cause(number)) => return Reply::Refuses(number),
-            Err(Refusal::Memory) => return Reply::NoMemory,
-        },
+        Command::Apply(edit) => {
+            let applied = session.apply(edit);
+            return reply_to(session, applied);
+        }
+        Command::Group(edits) => return replied_to_group(session, edits),
         Command::Undo => session.undo(),
         Command::Redo => session.redo(),
     };
@@ -131,7 +162,7 @@ struct Dialogue {
     turns: &'static [(Command, Reply)],
 }
 
-const DIALOGUES: [Dialogue; 4] = [
+const DIALOGUES: [Dialogue; 7] = [
     Dialogue {
         shows: "an undone arc is out of the numbering; a refusal keeps the future, a new edit drops it",
         text: SINGLE_ARC,
@@ -217,6 +248,44 @@ const DIALOGUES: [Dialogue; 4] = [
             (Command::Undo, Reply::Tells(Verdict::Best(-5))),
         ],
     },
+    Dialogue {
+        shows: "a group is one step",
+        text: SINGLE_ARC,
+        extra: 0,
+        turns: &[
+            (Command::Group(SUPPLIES), Reply::Tells(Verdict::Best(16))),
+            (Command::Undo, Reply::Tells(Verdict::Best(12))),
+            (Command::Redo, Reply::Tells(Verdict::Best(16))),
+            (Command::Undo, Reply::Tells(Verdict::Best(12))),
+            (Command::Undo, Reply::NoStep),
+        ],
+    },
+    Dialogue {
+        shows: "a refused group changes nothing, and the future is kept",
+        text: DIAMOND,
+        extra: 0,
+        turns: &[
+            (Command::Group(NO_ARC), Reply::Refuses(20)),
+            (Command::Undo, Reply::NoStep),
+            (Command::Apply(NARROW), Reply::Tells(Verdict::Best(15))),
+            (Command::Undo, Reply::Tells(Verdict::Best(14))),
+            (Command::Group(NO_ARC), Reply::Refuses(20)),
+            (Command::Redo, Reply::Tells(Verdict::Best(15))),
+        ],
+    },
+    Dialogue {
+        shows: "a group without edits is a step",
+        text: DIAMOND,
+        extra: 0,
+        turns: &[
+            (Command::Apply(NARROW), Reply::Tells(Verdict::Best(15))),
+            (Command::Undo, Reply::Tells(Verdict::Best(14))),
+            (Command::Group(&[]), Reply::Tells(Verdict::Best(14))),
+            (Command::Redo, Reply::NoStep),
+            (Command::Undo, Reply::Tells(Verdict::Best(14))),
+            (Command::Undo, Reply::NoStep),
+        ],
+    },
 ];
 
 /// Asks each command of the session in turn, and compares its reply.
@@ -294,10 +363,38 @@ fn pushes(rt: HostRuntime) {
     }
 }
 
+/// How many pushes the group of capacities takes.
+fn pushes_of_group(rt: &impl Abort, alloc: Global) -> u64 {
+    let mut session = opened(rt, alloc, alloc, DIAMOND, 0);
+    session
+        .apply_group(CAPACITIES)
+        .expect(rt, "the group is taken")
+}
+
+#[test]
+fn pushes_of_a_group(rt: HostRuntime) {
+    let pushes = pushes_of_group(&rt, rt.alloc());
+    assert!(&rt; 1 <= pushes && pushes <= 4);
+}
+
+/// Asks for a group of as many edits as one may have, all the same.
+fn apply_longest(rt: &impl Abort, alloc: Global, session: &mut Session) {
+    let edits = vec![in alloc; NARROW; GROUP_LIMIT].expect(rt, "there is memory for the edits");
+    let reply = replied_to_group(session, &edits);
+    assert!(rt; reply == Reply::Tells(Verdict::Best(15)));
+    assert!(rt; session.steps() == (1, 0));
+}
+
+#[test]
+fn longest_group(rt: HostRuntime) {
+    let mut session = opened(&rt, rt.alloc(), rt.alloc(), DIAMOND, 0);
+    apply_longest(&rt, rt.alloc(), &mut session);
+}
+
 /// What a record holds, to be compared whole.
 #[derive(Clone, Copy, PartialEq)]
 pub(crate) struct Differences<'a> {
-    part: Part,
+    parts: &'a [Part],
     flows: &'a [(u32, i64)],
     potentials: &'a [(u32, i64)],
     marks: &'a [(u32, bool)],
@@ -311,7 +408,7 @@ pub(crate) fn differences_at<A: Allocator + Copy>(
 ) -> Option<Differences<'_>> {
     let record = session.moved(i)?;
     Some(Differences {
-        part: record.part,
+        parts: &record.parts,
         flows: &record.flows,
         potentials: &record.potentials,
         marks: &record.marks,
@@ -334,7 +431,7 @@ const STEPS: [Step; 4] = [
         text: DIAMOND,
         edit: NARROW,
         done: Differences {
-            part: Part::Arc {
+            parts: &[Part::Arc {
                 k: 5,
                 row: ArcRow {
                     tail: 3,
@@ -343,14 +440,14 @@ const STEPS: [Step; 4] = [
                     cap: 5,
                     cost: 1,
                 },
-            },
+            }],
             flows: &[(3, 2), (4, 0), (5, 4)],
             potentials: &[(1, -4), (2, -2), (3, -1)],
             marks: &[],
             verdict: Verdict::Best(14),
         },
         undone: Differences {
-            part: Part::Arc {
+            parts: &[Part::Arc {
                 k: 5,
                 row: ArcRow {
                     tail: 3,
@@ -359,7 +456,7 @@ const STEPS: [Step; 4] = [
                     cap: 3,
                     cost: 1,
                 },
-            },
+            }],
             flows: &[(3, 1), (4, 1), (5, 3)],
             potentials: &[(1, -5), (2, -3), (3, -2)],
             marks: &[],
@@ -371,14 +468,14 @@ const STEPS: [Step; 4] = [
         text: SINGLE_ARC,
         edit: ADD,
         done: Differences {
-            part: Part::Last,
+            parts: &[Part::Last],
             flows: &[(1, 3)],
             potentials: &[(1, -4)],
             marks: &[],
             verdict: Verdict::Best(12),
         },
         undone: Differences {
-            part: Part::Gone {
+            parts: &[Part::Gone {
                 row: ArcRow {
                     tail: 1,
                     head: 2,
@@ -387,7 +484,7 @@ const STEPS: [Step; 4] = [
                     cost: 1,
                 },
                 flow: 3,
-            },
+            }],
             flows: &[(1, 0)],
             potentials: &[(1, -1)],
             marks: &[],
@@ -399,7 +496,7 @@ const STEPS: [Step; 4] = [
         text: MAX_DIAMOND,
         edit: Edit::Close { arc: 5 },
         done: Differences {
-            part: Part::Arc {
+            parts: &[Part::Arc {
                 k: 5,
                 row: ArcRow {
                     tail: 3,
@@ -408,14 +505,14 @@ const STEPS: [Step; 4] = [
                     cap: 3,
                     cost: 0,
                 },
-            },
+            }],
             flows: &[(1, 3), (2, 2), (3, 1), (5, 3)],
             potentials: &[(2, 0), (3, 0)],
             marks: &[],
             verdict: Verdict::Best(5),
         },
         undone: Differences {
-            part: Part::Arc {
+            parts: &[Part::Arc {
                 k: 5,
                 row: ArcRow {
                     tail: 3,
@@ -424,7 +521,7 @@ const STEPS: [Step; 4] = [
                     cap: 0,
                     cost: 0,
                 },
-            },
+            }],
             flows: &[(1, 2), (2, 0), (3, 0), (5, 0)],
             potentials: &[(2, -1), (3, -1)],
             marks: &[],
@@ -436,7 +533,7 @@ const STEPS: [Step; 4] = [
         text: PAIR,
         edit: CLOSE,
         done: Differences {
-            part: Part::Arc {
+            parts: &[Part::Arc {
                 k: 1,
                 row: ArcRow {
                     tail: 1,
@@ -445,14 +542,14 @@ const STEPS: [Step; 4] = [
                     cap: 1,
                     cost: -5,
                 },
-            },
+            }],
             flows: &[(1, 1)],
             potentials: &[],
             marks: &[(1, false)],
             verdict: Verdict::Best(-5),
         },
         undone: Differences {
-            part: Part::Arc {
+            parts: &[Part::Arc {
                 k: 1,
                 row: ArcRow {
                     tail: 1,
@@ -461,7 +558,7 @@ const STEPS: [Step; 4] = [
                     cap: 0,
                     cost: -5,
                 },
-            },
+            }],
             flows: &[(1, 0)],
             potentials: &[],
             marks: &[(1, true)],
@@ -476,28 +573,284 @@ fn compare_record(rt: &impl Abort, session: &Session, expected: Differences<'_>,
     assert!(rt; session.moved(1).is_none(), "{shows}");
 }
 
-/// Goes to and fro over the step, and compares its record each time.
-fn go_to_and_fro(rt: &impl Abort, session: &mut Session, step: &Step) {
-    replied(session, &Command::Apply(step.edit));
-    assert!(rt; session.steps() == (1, 0), "{}", step.shows);
-    compare_record(rt, session, step.done, step.shows);
-    assert!(rt; session.undo(), "{}", step.shows);
-    assert!(rt; session.steps() == (0, 1), "{}", step.shows);
-    compare_record(rt, session, step.undone, step.shows);
-    assert!(rt; session.redo(), "{}", step.shows);
-    compare_record(rt, session, step.done, step.shows);
+/// Goes to and fro over a step that was taken, and compares its record each time: with `done` and with `undone`.
+fn go_to_and_fro(
+    rt: &impl Abort,
+    session: &mut Session,
+    done: Differences<'_>,
+    undone: Differences<'_>,
+    shows: &str,
+) {
+    assert!(rt; session.steps() == (1, 0), "{shows}");
+    compare_record(rt, session, done, shows);
+    assert!(rt; session.undo(), "{shows}");
+    assert!(rt; session.steps() == (0, 1), "{shows}");
+    compare_record(rt, session, undone, shows);
+    assert!(rt; session.redo(), "{shows}");
+    compare_record(rt, session, done, shows);
 }
 
 /// Takes the step on a session on its problem.
 fn take(rt: &impl Abort, alloc: Global, step: &Step) {
     let mut session = opened(rt, alloc, alloc, step.text, 1000);
-    go_to_and_fro(rt, &mut session, step);
+    replied(&mut session, &Command::Apply(step.edit));
+    go_to_and_fro(rt, &mut session, step.done, step.undone, step.shows);
 }
 
 #[test]
 fn records(rt: HostRuntime) {
     for step in &STEPS {
         take(&rt, rt.alloc(), step);
+    }
+}
+
+/// A group of edits of a problem, and what its record holds once it is done and once it is undone.
+struct GroupStep {
+    shows: &'static str,
+    text: &'static [u8],
+    edits: &'static [Edit],
+    done: Differences<'static>,
+    undone: Differences<'static>,
+}
+
+const GROUP_STEPS: [GroupStep; 5] = [
+    GroupStep {
+        shows: "two arcs, each with its row",
+        text: DIAMOND,
+        edits: CAPACITIES,
+        done: Differences {
+            parts: &[
+                Part::Arc {
+                    k: 1,
+                    row: ArcRow {
+                        tail: 1,
+                        head: 2,
+                        low: 0,
+                        cap: 4,
+                        cost: 2,
+                    },
+                },
+                Part::Arc {
+                    k: 2,
+                    row: ArcRow {
+                        tail: 1,
+                        head: 3,
+                        low: 0,
+                        cap: 2,
+                        cost: 2,
+                    },
+                },
+            ],
+            flows: &[(1, 2), (2, 2), (3, 2)],
+            potentials: &[],
+            marks: &[],
+            verdict: Verdict::Best(14),
+        },
+        undone: Differences {
+            parts: &[
+                Part::Arc {
+                    k: 1,
+                    row: ArcRow {
+                        tail: 1,
+                        head: 2,
+                        low: 0,
+                        cap: 1,
+                        cost: 2,
+                    },
+                },
+                Part::Arc {
+                    k: 2,
+                    row: ArcRow {
+                        tail: 1,
+                        head: 3,
+                        low: 0,
+                        cap: 3,
+                        cost: 2,
+                    },
+                },
+            ],
+            flows: &[(1, 1), (2, 3), (3, 1)],
+            potentials: &[],
+            marks: &[],
+            verdict: Verdict::Best(13),
+        },
+    },
+    GroupStep {
+        shows: "an arc that is edited twice is named once, with the row before both",
+        text: DIAMOND,
+        edits: &[Edit::Cap { arc: 5, cap: 4 }, NARROW],
+        done: Differences {
+            parts: &[Part::Arc {
+                k: 5,
+                row: ArcRow {
+                    tail: 3,
+                    head: 4,
+                    low: 0,
+                    cap: 5,
+                    cost: 1,
+                },
+            }],
+            flows: &[(3, 2), (4, 0), (5, 4)],
+            potentials: &[(1, -4), (2, -2), (3, -1)],
+            marks: &[],
+            verdict: Verdict::Best(14),
+        },
+        undone: Differences {
+            parts: &[Part::Arc {
+                k: 5,
+                row: ArcRow {
+                    tail: 3,
+                    head: 4,
+                    low: 0,
+                    cap: 3,
+                    cost: 1,
+                },
+            }],
+            flows: &[(3, 1), (4, 1), (5, 3)],
+            potentials: &[(1, -5), (2, -3), (3, -2)],
+            marks: &[],
+            verdict: Verdict::Best(15),
+        },
+    },
+    GroupStep {
+        shows: "an arc that is added and edited is one place, and gone with the row that it had last",
+        text: SINGLE_ARC,
+        edits: &[ADD, Edit::Cost { arc: 2, cost: 2 }],
+        done: Differences {
+            parts: &[Part::Last],
+            flows: &[(1, 3)],
+            potentials: &[(1, -4)],
+            marks: &[],
+            verdict: Verdict::Best(12),
+        },
+        undone: Differences {
+            parts: &[Part::Gone {
+                row: ArcRow {
+                    tail: 1,
+                    head: 2,
+                    low: 0,
+                    cap: 5,
+                    cost: 2,
+                },
+                flow: 3,
+            }],
+            flows: &[(1, 0)],
+            potentials: &[(1, -2)],
+            marks: &[],
+            verdict: Verdict::Best(6),
+        },
+    },
+    GroupStep {
+        shows: "added arcs are gone in their order",
+        text: SINGLE_ARC,
+        edits: &[
+            ADD,
+            Edit::Add {
+                tail: 2,
+                head: 1,
+                low: 0,
+                cap: 7,
+                cost: 6,
+            },
+        ],
+        done: Differences {
+            parts: &[Part::Last, Part::Last],
+            flows: &[(1, 3)],
+            potentials: &[(1, -4)],
+            marks: &[],
+            verdict: Verdict::Best(12),
+        },
+        undone: Differences {
+            parts: &[
+                Part::Gone {
+                    row: ArcRow {
+                        tail: 1,
+                        head: 2,
+                        low: 0,
+                        cap: 5,
+                        cost: 1,
+                    },
+                    flow: 3,
+                },
+                Part::Gone {
+                    row: ArcRow {
+                        tail: 2,
+                        head: 1,
+                        low: 0,
+                        cap: 7,
+                        cost: 6,
+                    },
+                    flow: 0,
+                },
+            ],
+            flows: &[(1, 0)],
+            potentials: &[(1, -1)],
+            marks: &[],
+            verdict: Verdict::Best(3),
+        },
+    },
+    GroupStep {
+        shows: "nodes come before arcs, each in rising order",
+        text: SINGLE_ARC,
+        edits: &[
+            Edit::Supply { node: 2, value: -4 },
+            Edit::Cap { arc: 1, cap: 6 },
+            Edit::Supply { node: 1, value: 4 },
+        ],
+        done: Differences {
+            parts: &[
+                Part::Supply { id: 1, value: 3 },
+                Part::Supply { id: 2, value: -3 },
+                Part::Arc {
+                    k: 1,
+                    row: ArcRow {
+                        tail: 1,
+                        head: 2,
+                        low: 0,
+                        cap: 5,
+                        cost: 4,
+                    },
+                },
+            ],
+            flows: &[(1, 3)],
+            potentials: &[],
+            marks: &[],
+            verdict: Verdict::Best(12),
+        },
+        undone: Differences {
+            parts: &[
+                Part::Supply { id: 1, value: 4 },
+                Part::Supply { id: 2, value: -4 },
+                Part::Arc {
+                    k: 1,
+                    row: ArcRow {
+                        tail: 1,
+                        head: 2,
+                        low: 0,
+                        cap: 6,
+                        cost: 4,
+                    },
+                },
+            ],
+            flows: &[(1, 4)],
+            potentials: &[],
+            marks: &[],
+            verdict: Verdict::Best(16),
+        },
+    },
+];
+
+/// Takes the step on a session on its problem.
+fn take_group(rt: &impl Abort, alloc: Global, step: &GroupStep) {
+    let mut session = opened(rt, alloc, alloc, step.text, 1000);
+    replied(&mut session, &Command::Group(step.edits));
+    go_to_and_fro(rt, &mut session, step.done, step.undone, step.shows);
+}
+
+#[test]
+fn records_of_groups(rt: HostRuntime) {
+    for step in &GROUP_STEPS {
+        take_group(&rt, rt.alloc(), step);
     }
 }
 

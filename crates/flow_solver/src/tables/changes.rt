@@ -1,23 +1,24 @@
 //! Changes: an edit is made by exchanges, and then the flow is settled. What stood before can be restored.
 
-ghost use Rattle.std.specs.Prelude.{◌≡◌, pos, ◌≤ℤ◌, IsOk, IsSome, None, Ok, Some, length};
-ghost use Rattle.network.specs.Edited.{edited};
+ghost use Rattle.std.specs.Prelude.{◌≡◌, pos, ◌<◌, ◌≤◌, ◌≤ℤ◌, ◌++◌, ◌∷◌, [], IsOk, IsSome, None, Ok, Some, length};
+ghost use Rattle.network.specs.Edited.{edited, edited_all};
+ghost use Rattle.flow_solver.specs.declared.part.Part.{Part};
 ghost use Rattle.network.specs.Flow.{IsCertifiedFlow, total_excess};
 ghost use Rattle.network.specs.Instance.{at_node, reduced};
 ghost use Rattle.shortest_paths.specs.Push.{Pushes};
 ghost use Rattle.flow_solver.specs.Desk.{IsAnswered};
-ghost use Rattle.flow_solver.specs.Edit.{IsChange, IsMade, IsOfAdd, IsOfArc, IsOfSupply};
+ghost use Rattle.flow_solver.specs.Edit.{AreChanges, AreMade, IsChange, IsMade, IsOfAdd, IsOfArc, IsOfSupply};
 ghost use Rattle.flow_solver.specs.Moment.{IsSized, kept_of};
-ghost use Rattle.flow_solver.specs.Part.{before_part, CanTakeBack};
+ghost use Rattle.flow_solver.specs.Part.{before_all, before_part, CanTakeBack, CanTakeBackAll, IsLogged, LeadsBack};
 
 use super::Tables;
 use crate::answer::judge;
 use crate::balance::{carry_back, cost_now};
 use crate::edit::{added_row, edited_row, edited_supply, nearest, reduced_cost};
-use crate::part::{Before, Part, part_of};
+use crate::part::{Part, part_of};
 use crate::settle::settle;
 use crate::verdict::Verdict;
-use dimacs_text::Edit;
+use dimacs_text::{Edit, GROUP_LIMIT};
 
 impl Tables {
     /// Makes the flow a best one, or marks the cut that shows why no flow is legal, and gives the number of pushes.
@@ -30,7 +31,7 @@ impl Tables {
         ensures before { self.new.before ≡ None }
         ensures kept { self.new.kept ≡ self.old.kept }
     {
-        self.before = None;
+        self.before.verdict = None;
         let pushes = settle(
             &self.graph,
             &mut self.flow,
@@ -54,14 +55,26 @@ impl Tables {
         ensures changed { IsChange self.old.moment.instance self.new.moment.instance edit.now (at_node self.old.moment.potentials) self.old.moment.flow self.new.moment.flow result }
         ensures before { self.new.before ≡ Some self.old.moment }
     {
-        let before = Before {
-            part: part_of(&self.graph.net, edit),
-            verdict: self.verdict,
-        };
+        self.change_all(&[*edit])
+    }
+
+    /// Applies edits that the instance accepts one after the other, at most `GROUP_LIMIT`, and answers the instance that
+    /// they lead to once, as `change` does for one: the flow of each edited arc goes to the nearest value under the
+    /// potentials that stood before them all. What stood before is kept, also where there is no edit.
+    pub fn change_all(&mut self, edits: &[Edit]) -> u64
+        requires few { length edits.now ≤ GROUP_LIMIT }
+        requires certified { IsCertifiedFlow (reduced self.old.moment.instance) self.old.moment.flow (at_node self.old.moment.potentials) }
+        requires accepted { IsOk (edited_all self.old.moment.instance edits.now) }
+        ensures instance { edited_all self.old.moment.instance edits.now ≡ Ok self.new.moment.instance }
+        ensures answered { IsAnswered self.new.moment }
+        ensures changed { AreChanges self.old.moment.instance self.new.moment.instance edits.now (at_node self.old.moment.potentials) self.old.moment.flow self.new.moment.flow result }
+        ensures before { self.new.before ≡ Some self.old.moment }
+    {
+        let verdict = self.verdict;
         self.snapshot();
-        self.make(edit);
+        make_all(self, edits);
         let pushes = self.settle();
-        self.before = Some(before);
+        self.before.verdict = Some(verdict);
         pushes
     }
 
@@ -71,9 +84,9 @@ impl Tables {
         ensures moment { self.old.before ≡ Some self.new.moment }
         ensures before { self.new.before ≡ None }
     {
-        if let Some(before) = self.before {
-            self.take_back(before.part);
-            self.bring_back(before.verdict);
+        if let Some(verdict) = self.before.verdict {
+            take_back_all(self);
+            self.bring_back(verdict);
         }
     }
 
@@ -85,6 +98,7 @@ impl Tables {
         requires accepted { IsOk (edited self.old.moment.instance edit.now) }
         ensures made { IsMade self.old.moment.instance self.new.moment.instance edit.now (at_node self.old.moment.potentials) self.old.moment.flow self.new.moment.flow }
         ensures certified { IsCertifiedFlow (reduced self.new.moment.instance) self.new.moment.flow (at_node self.new.moment.potentials) }
+        ensures potentials { self.new.moment.potentials ≡ self.old.moment.potentials }
         ensures kept { self.new.kept ≡ self.old.kept }
     {
         match edit {
@@ -101,6 +115,7 @@ impl Tables {
         requires of_arc { IsOfArc edit.now }
         ensures made { IsMade self.old.moment.instance self.new.moment.instance edit.now (at_node self.old.moment.potentials) self.old.moment.flow self.new.moment.flow }
         ensures certified { IsCertifiedFlow (reduced self.new.moment.instance) self.new.moment.flow (at_node self.new.moment.potentials) }
+        ensures potentials { self.new.moment.potentials ≡ self.old.moment.potentials }
         ensures kept { self.new.kept ≡ self.old.kept }
     {
         let (k, mut row) = edited_row(&self.graph.net, edit);
@@ -117,6 +132,7 @@ impl Tables {
         requires of_supply { IsOfSupply edit.now }
         ensures made { IsMade self.old.moment.instance self.new.moment.instance edit.now (at_node self.old.moment.potentials) self.old.moment.flow self.new.moment.flow }
         ensures certified { IsCertifiedFlow (reduced self.new.moment.instance) self.new.moment.flow (at_node self.new.moment.potentials) }
+        ensures potentials { self.new.moment.potentials ≡ self.old.moment.potentials }
         ensures kept { self.new.kept ≡ self.old.kept }
     {
         let (id, mut value) = edited_supply(&self.graph.net, edit);
@@ -130,6 +146,7 @@ impl Tables {
         requires of_add { IsOfAdd edit.now }
         ensures made { IsMade self.old.moment.instance self.new.moment.instance edit.now (at_node self.old.moment.potentials) self.old.moment.flow self.new.moment.flow }
         ensures certified { IsCertifiedFlow (reduced self.new.moment.instance) self.new.moment.flow (at_node self.new.moment.potentials) }
+        ensures potentials { self.new.moment.potentials ≡ self.old.moment.potentials }
         ensures kept { self.new.kept ≡ self.old.kept }
     {
         let row = added_row(&self.graph.net, edit);
@@ -137,10 +154,34 @@ impl Tables {
         self.put_last(row, flow);
     }
 
+    /// Logs what an edit will replace that the instance accepts.
+    fn log_edit(&mut self, edit: &Edit)
+        requires room { length self.old.kept.log < GROUP_LIMIT }
+        requires accepted { IsOk (edited self.old.moment.instance edit.now) }
+        ensures moment { self.new.moment ≡ self.old.moment }
+        ensures logged { IsLogged self.old.moment.instance edit.now self.old.kept self.new.kept }
+    {
+        self.before.verdict = None;
+        let part = part_of(&self.graph.net, edit);
+        let Ok(()) = self.before.log.push(part) else {
+            unreachable!()
+        };
+    }
+
+    /// Takes the last part off the log, if one is there.
+    fn pop_part(&mut self) -> Option<Part>
+        ensures moment { self.new.moment ≡ self.old.moment }
+        ensures some { (part : Part) → result ≡ Some part → self.old.kept ≡ record self.new.kept { log = self.new.kept.log ++ part ∷ [] } }
+        ensures none { result ≡ None → (self.old.kept.log ≡ []) × (self.new.kept ≡ self.old.kept) }
+    {
+        self.before.verdict = None;
+        self.before.log.pop()
+    }
+
     /// Takes a change of the instance back.
     fn take_back(&mut self, part: Part)
         requires can { CanTakeBack part self.old.moment.instance }
-        requires kept { length self.old.kept.flow ≡ length (reduced (before_part part self.old.moment.instance)).arcs }
+        requires kept { length self.old.kept.flow ≤ length (reduced (before_part part self.old.moment.instance)).arcs }
         ensures instance { self.new.moment.instance ≡ before_part part self.old.moment.instance }
         ensures kept { self.new.kept ≡ self.old.kept }
     {
@@ -159,17 +200,18 @@ impl Tables {
         }
     }
 
-    /// Keeps the flow, the potentials and the marks.
+    /// Keeps the flow, the potentials and the marks, with an empty log.
     fn snapshot(&mut self)
         ensures moment { self.new.moment ≡ self.old.moment }
         ensures kept { self.new.kept ≡ kept_of self.old.moment }
         ensures sized { IsSized self.new.moment }
     {
-        self.before = None;
+        self.before.verdict = None;
         self.balance.cost = cost_now(&self.graph.rows, &self.flow, self.balance.cost);
         self.flow.snapshot();
         self.potentials.snapshot();
         self.cut.snapshot();
+        self.before.log.clear();
     }
 
     /// Brings back what was kept, with a verdict.
@@ -178,11 +220,40 @@ impl Tables {
         ensures before { self.new.before ≡ None }
         ensures moment { self.new.moment ≡ record self.old.moment { flow = self.old.kept.flow; potentials = self.old.kept.potentials; verdict = verdict; cut = self.old.kept.cut } }
     {
-        self.before = None;
+        self.before.verdict = None;
         carry_back(&self.graph.rows, &self.flow, &mut self.balance.excess);
         self.flow.bring_back();
         self.potentials.bring_back();
         self.cut.bring_back();
         self.verdict = verdict;
+    }
+}
+
+/// Makes edits that the instance accepts, one after the other, each once what it replaces is logged.
+fn make_all(tables: &mut Tables, edits: &[Edit])
+    requires few { length edits.now ≤ GROUP_LIMIT }
+    requires fresh { tables.old.kept.log ≡ [] }
+    requires certified { IsCertifiedFlow (reduced tables.old.moment.instance) tables.old.moment.flow (at_node tables.old.moment.potentials) }
+    requires accepted { IsOk (edited_all tables.old.moment.instance edits.now) }
+    ensures made { AreMade tables.old.moment.instance edits.now (at_node tables.old.moment.potentials) tables.old.moment.flow tables.new.moment.instance tables.new.moment.flow }
+    ensures certified { IsCertifiedFlow (reduced tables.new.moment.instance) tables.new.moment.flow (at_node tables.new.moment.potentials) }
+    ensures back { LeadsBack tables.new.kept.log tables.old.moment.instance tables.new.moment.instance }
+    ensures kept { tables.new.kept ≡ record tables.old.kept { log = tables.new.kept.log } }
+{
+    for edit in edits {
+        tables.log_edit(edit);
+        tables.make(edit);
+    }
+}
+
+/// Takes back all that is logged, the last first.
+fn take_back_all(tables: &mut Tables)
+    requires can { CanTakeBackAll tables.old.kept.log tables.old.moment.instance }
+    requires kept { length tables.old.kept.flow ≡ length (reduced (before_all tables.old.kept.log tables.old.moment.instance)).arcs }
+    ensures instance { tables.new.moment.instance ≡ before_all tables.old.kept.log tables.old.moment.instance }
+    ensures kept { tables.new.kept ≡ record tables.old.kept { log = [] } }
+{
+    while let Some(part) = tables.pop_part() {
+        tables.take_back(part);
     }
 }

@@ -27,7 +27,7 @@ impl Tables {
         ensures kept { self.new.kept ≡ self.old.kept }
         ensures before { self.new.before ≡ None }
     {
-        self.before = None;
+        self.before.verdict = None;
         let place = self.graph.first_row() + (k as usize - 1);
         carry_over(
             &mut self.balance.excess,
@@ -47,7 +47,7 @@ impl Tables {
         ensures kept { self.new.kept ≡ self.old.kept }
         ensures before { self.new.before ≡ None }
     {
-        self.before = None;
+        self.before.verdict = None;
         exchange_node(&mut self.potentials, id, value);
     }
 
@@ -59,7 +59,7 @@ impl Tables {
         ensures kept { self.new.kept ≡ self.old.kept }
         ensures before { self.new.before ≡ None }
     {
-        self.before = None;
+        self.before.verdict = None;
         exchange_node(&mut self.cut, id, value);
     }
 
@@ -72,7 +72,7 @@ impl Tables {
         ensures kept { self.new.kept ≡ self.old.kept }
         ensures before { self.new.before ≡ None }
     {
-        self.before = None;
+        self.before.verdict = None;
         carry_worth(
             &self.graph.net,
             &self.graph.rows,
@@ -94,7 +94,7 @@ impl Tables {
         ensures kept { self.new.kept ≡ self.old.kept }
         ensures before { self.new.before ≡ None }
     {
-        self.before = None;
+        self.before.verdict = None;
         let place = self.graph.first_row() + (k as usize - 1);
         let cost = self.graph.rows[place].cost;
         self.balance.cost = reprice(self.balance.cost, cost, row.cost, self.flow.kept[place]);
@@ -111,7 +111,7 @@ impl Tables {
         ensures kept { self.new.kept ≡ self.old.kept }
         ensures before { self.new.before ≡ None }
     {
-        self.before = None;
+        self.before.verdict = None;
         add_difference(
             &mut self.balance.excess,
             id as usize,
@@ -127,10 +127,10 @@ impl Tables {
         ensures instance { self.old.moment.instance ≡ record self.new.moment.instance { arcs = self.new.moment.instance.arcs ++ result.0 ∷ [] } }
         ensures flow { self.old.moment.flow ≡ self.new.moment.flow ++ result.1 ∷ [] }
         ensures rest { self.new.moment ≡ record self.old.moment { instance = self.new.moment.instance; flow = self.new.moment.flow } }
-        ensures kept { length self.old.kept.flow ≡ length (reduced self.new.moment.instance).arcs → self.new.kept ≡ self.old.kept }
+        ensures kept { length self.old.kept.flow ≤ length (reduced self.new.moment.instance).arcs → self.new.kept ≡ self.old.kept }
         ensures before { self.new.before ≡ None }
     {
-        self.before = None;
+        self.before.verdict = None;
         let last = self.graph.rows.len() - 1;
         let row = self.graph.rows[last];
         carry_over(&mut self.balance.excess, &row, self.flow.entries[last], 0);
@@ -153,7 +153,7 @@ impl Tables {
         ensures kept { self.new.kept ≡ self.old.kept }
         ensures before { self.new.before ≡ None }
     {
-        self.before = None;
+        self.before.verdict = None;
         carry_over(&mut self.balance.excess, &row, 0, flow);
         self.balance.cost = reprice(self.balance.cost, 0, flow, row.cost);
         put_row(&mut self.graph.net, &mut self.graph.rows, row);

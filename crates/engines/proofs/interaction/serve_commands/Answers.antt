@@ -16,7 +16,7 @@ returns-then-is_err-clause-served g c =
     let piece = take c.in-Ok.count c.read.new.piece in (
       so_far.0 ++ piece,
       Gives-more _ _ _ so_far.0 c.read.new.piece c.in-Ok.count _ _ _ so_far.1 c.in-Ok.ensures.bytes.0 (search rules) c.in-Ok.ensures.left,
-      inl (Stopped-from_err c.serve_piece.result _ _ _ _ _ _ (search rules) (c.serve_piece.ensures.goes_on _ _ _ so_far.2)),
+      inl (Stopped-from_err c.serve_piece.result _ _ _ _ _ _ _ (search rules) (c.serve_piece.ensures.goes_on _ _ _ so_far.2)),
     )
 
 pub pieces-preserved : goal.pieces-preserved
@@ -27,7 +27,7 @@ pieces-preserved g c =
       so_far = (
         so_far.0 ++ piece,
         Gives-more _ _ _ so_far.0 c.read.new.piece c.in-Ok.count _ _ _ so_far.1 c.in-Ok.ensures.bytes.0 (search rules) c.in-Ok.ensures.left,
-        Stands-from_ok c.serve_piece.result _ _ _ _ _ _ (search rules) (c.serve_piece.ensures.goes_on _ _ _ so_far.2),
+        Stands-from_ok c.serve_piece.result _ _ _ _ _ _ _ (search rules) (c.serve_piece.ensures.goes_on _ _ _ so_far.2),
       );
       script_failures = search rules;
       out_failures = same_from_ok c.serve_piece.result _ _ (search rules) c.serve_piece.ensures.failed ∙ c.pieces.invariant.out_failures;

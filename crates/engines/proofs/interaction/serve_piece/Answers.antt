@@ -16,7 +16,7 @@ loop-at-preserved-then-not-complete g c = record {
       let longer = text ++ take c.take-used.result.0 (drop c.loop-at.at piece) in
       let cuts : CutsLine c.loop-at.cutter c.take-used.new.self false text longer = rw (c.if-not-complete.true, take_rest) at (c.take-used.ensures.text text so_far.holds) in
       let grown = append_take_add given piece c.loop-at.at c.take-used.result.0 in
-      rw grown at (Stands-partial opening _ text longer c.loop-at.cutter c.take-used.new.self before _ so_far.answered cuts);
+      rw grown at (Stands-partial opening _ _ text longer c.loop-at.cutter c.take-used.new.self before _ so_far cuts);
   failures = search rules;
 }
 
@@ -29,9 +29,9 @@ loop-at-preserved g c = record {
       let text = given ++ take c.loop-at.at piece in
       let longer = text ++ take c.take-used.result.0 (drop c.loop-at.at piece) in
       let cuts : CutsLine c.loop-at.cutter c.take-used.new.self true text longer = rw (c.if-not-complete.false, take_rest) at (c.take-used.ensures.text text so_far.holds) in
-      let served = c.in_ok-serve_line.ensures.served cuts.line (c.line.ensures ∙ cuts.shown refl) in
+      let served = c.in_ok-serve_line.ensures.served cuts.line (c.line.ensures ∙ cuts.shown refl) _ so_far.gathers in
       let grown = append_take_add given piece c.loop-at.at c.take-used.result.0 in
-      rw grown at (GoesOn-complete (Ok c.in_ok-serve_line.field-0) opening _ _ text longer c.loop-at.cutter c.take-used.new.self before _ _ so_far.answered cuts served);
+      rw grown at (GoesOn-complete (Ok c.in_ok-serve_line.field-0) opening _ _ _ text longer c.loop-at.cutter c.take-used.new.self before _ _ so_far.answered cuts served);
   failures = search rules;
 }
 
@@ -43,9 +43,9 @@ returns-in_err-serve_line-clause-goes_on g c opening given before stands =
     let text = given ++ take c.loop-at.at piece in
     let longer = text ++ take c.take-used.result.0 (drop c.loop-at.at piece) in
     let cuts : CutsLine c.loop-at.cutter c.take-used.new.self true text longer = rw (c.if-not-complete.false, take_rest) at (c.take-used.ensures.text text so_far.holds) in
-    let served = c.in_err-serve_line.ensures.served cuts.line (c.line.ensures ∙ cuts.shown refl) in
+    let served = c.in_err-serve_line.ensures.served cuts.line (c.line.ensures ∙ cuts.shown refl) _ so_far.gathers in
     let grown = append_take_add given piece c.loop-at.at c.take-used.result.0 in
-    let stop = rw grown at (GoesOn-complete _ opening _ _ text longer c.loop-at.cutter c.take-used.new.self before _ _ so_far.answered cuts served) in
+    let stop = rw grown at (GoesOn-complete _ opening _ _ _ text longer c.loop-at.cutter c.take-used.new.self before _ _ so_far.answered cuts served) in
     rw (p.1)
     (Stopped-append opening (given ++ take (c.loop-at.at + c.take-used.result.0) piece) (drop (c.loop-at.at + c.take-used.result.0) piece) (given ++ piece) before _
     (append_take_rest given piece (c.loop-at.at + c.take-used.result.0)) stop)

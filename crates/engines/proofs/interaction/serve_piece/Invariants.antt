@@ -1,15 +1,14 @@
 use Rattle.std.proofs.Common.{◌≡◌, ◌≤◌, ◌-◌, ℕ, List, ◌++◌, length, take, Option}
-use Rattle.history.specs.Boards.{Timeline}
-use Rattle.flow_solver.specs.Moment.{Moment}
+use Rattle.session.specs.Step.{SessionState}
 use Rattle.engines.specs.Serving.{Stands}
 use Rattle.engines.proofs.interaction.serve_piece.Given as goal
 
 abbrev pub invariant-loop-at : goal.invariant-loop-at
 invariant-loop-at g l = record {
   within : l.at ≤ length l.piece;
-  stands : (opening : Timeline Moment) (given : List ℕ) (before : Option (List ℕ))
-      → Stands opening given l.initial.session.moments l.initial.cutter before (g.O.Sink.contents l.initial.out)
-      → Stands opening (given ++ take l.at l.piece) l.session.moments l.cutter before (g.O.Sink.contents l.out);
+  stands : (opening : SessionState) (given : List ℕ) (before : Option (List ℕ))
+      → Stands opening given l.initial.session.moments l.initial.group l.initial.cutter before (g.O.Sink.contents l.initial.out)
+      → Stands opening (given ++ take l.at l.piece) l.session.moments l.group l.cutter before (g.O.Sink.contents l.out);
   failures : g.O.Sink.failures l.out ≡ g.O.Sink.failures l.initial.out;
 }
 

@@ -1,6 +1,6 @@
 use Rattle.std.proofs.Common.{false, true}
-use Rattle.session.specs.Step.{Shows}
-use Rattle.engines.proofs.ReplyLemmas.{proof_step, show_step}
+use Rattle.session.specs.Step.{Refuses, Shows}
+use Rattle.engines.proofs.ReplyLemmas.{end_step, group_step, proof_step, show_step}
 use Rattle.engines.proofs.reply.serve.Goals as goal
 
 pub returns-in-Show-clause-replies : goal.returns-in-Show-clause-replies
@@ -15,4 +15,18 @@ returns-in-Proof-clause-replies g c = record {
   reply = Shows true;
   step = proof_step c.args.command c.args.session.now.moments c.in-Proof.is;
   writes = c.write_solution-in-Proof.ensures.bytes;
+}
+
+pub returns-in-Group-clause-replies : goal.returns-in-Group-clause-replies
+returns-in-Group-clause-replies g c = record {
+  reply = Refuses 29;
+  step = group_step c.args.command c.args.session.now.moments c.in-Group.is;
+  writes = c.write_r.ensures.bytes;
+}
+
+pub returns-in-End-clause-replies : goal.returns-in-End-clause-replies
+returns-in-End-clause-replies g c = record {
+  reply = Refuses 29;
+  step = end_step c.args.command c.args.session.now.moments c.in-End.is;
+  writes = c.write_r-in-End.ensures.bytes;
 }

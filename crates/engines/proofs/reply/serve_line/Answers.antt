@@ -1,50 +1,27 @@
-use Rattle.std.proofs.Common.{◌∙◌, sym, refl, Ok, Err}
-use Rattle.std.proofs.lemmas.Bool.{false≢true}
+use Rattle.std.proofs.Common.{◌∙◌, sym, refl}
 use Rattle.std.proofs.lemmas.Result.{err_from_is_err_and}
-use Rattle.dimacs_io.specs.Line.{refusal_line}
-use Rattle.session.specs.Step.{Refuses}
-use Rattle.engines.specs.Printing.{reply_text}
-use Rattle.engines.proofs.ReplyLemmas.{answers_command, answers_long, same_words, serves}
+use Rattle.dimacs_io.proofs.DeviceLemmas.{WritesUpTo-kept}
+use Rattle.engines.proofs.ReplyLemmas.{on_ok, serves_end, serves_inside}
 use Rattle.engines.proofs.reply.serve_line.Goals as goal
-use Rattle.engines.proofs.reply.serve_line.Goals.{in-None+in_ok-write_r-in-None, in-Some-2+in-Ok+in_ok-serve-in-Ok, in-Some-2+in-Err+in_ok-write_r-in-Err}
 
-pub returns-in_err-write_r-in-None-clause-served : goal.returns-in_err-write_r-in-None-clause-served
-returns-in_err-write_r-in-None-clause-served g c whole is =
+pub returns-then-not-take-clause-served : goal.returns-then-not-take-clause-served
+returns-then-not-take-clause-served g c whole is opened holds =
+    serves_inside c.args.session.now.moments opened whole c.in-Some.open c.take.new.self _ (sym (c.asks.ensures.asks whole is) ∙ c.if-not-asks.false) (rw c.in-Some.is at holds)
+    (rw (c.kind.ensures, c.network.ensures) at (c.take.ensures.lines whole is)) (sym (c.take.ensures.ends whole is) ∙ c.if-not-take.true)
+
+pub returns-in_err-apply_group-in-Some-clause-served : goal.returns-in_err-apply_group-in-Some-clause-served
+returns-in_err-apply_group-in-Some-clause-served g c whole is opened holds =
     let p = err_from_is_err_and c.from_residual.result c.from_residual.ensures.1 in
-    rw (p.1) (record {
-      text = refusal_line 1;
-      answers = answers_long c.args.session.now.moments whole (rw c.in-None.is at is);
-      writes = c.in_err-write_r-in-None.ensures.bytes;
-    })
+    let replies = c.in_err-apply_group-in-Some.ensures.replies in
+    rw (p.1)
+    (serves_end _ c.args.session.now.moments c.apply_group.new.session.moments opened whole c.in-Some.open c.take.new.self replies.reply _ _ _
+    (sym (c.asks.ensures.asks whole is) ∙ c.if-not-asks.false) (rw c.in-Some.is at holds) (rw (c.kind.ensures, c.network.ensures) at (c.take.ensures.lines whole is))
+    (sym (c.take.ensures.ends whole is) ∙ c.if-not-take.false) replies.step tt replies.writes)
 
-pub returns-in_err-write_r-in-Err-clause-served : goal.returns-in_err-write_r-in-Err-clause-served
-returns-in_err-write_r-in-Err-clause-served g c whole is =
-    let p = err_from_is_err_and c.from_residual-in_err-write_r-in-Err.result c.from_residual-in_err-write_r-in-Err.ensures.1 in
-    let old = c.args.session.now.moments in
-    rw (p.1) (record {
-      text = refusal_line c.in-Err.number;
-      answers = answers_command old old whole c.in-Some-2.line.now (Err c.in-Err.number) (Refuses c.in-Err.number) (rw c.in-Some-2.is at is)
-          (λ none. false≢true (sym c.if-is_blank.false ∙ c.is_blank.ensures.1 (same_words whole c.in-Some.line.now c.in-Some-2.line.now (rw c.in-Some.is at is) (rw c.in-Some-2.is at is) none))) (rw (c.kind.ensures, c.network.ensures) at c.in-Err.ensures) (record { reply_is = refl; unchanged = refl });
-      writes = c.in_err-write_r-in-Err.ensures.bytes;
-    })
-
-pub returns-clause-served : goal.returns-clause-served
-returns-clause-served g c whole is =
-    let old = c.args.session.now.moments in
-    elim c.match-line.branch [
-      | in-None+in_ok-write_r-in-None w ↦ rw (w.session-is)
-          (serves c.flush.result old old whole (refusal_line 1) _ _ _ (answers_long old whole (rw w.in-None.is at is)) w.in_ok-write_r-in-None.ensures.bytes
-          (rw w.out-is at c.flush.ensures.bytes))
-      | in-Some-2+in-Ok+in_ok-serve-in-Ok w ↦ let replies = w.in_ok-serve-in-Ok.ensures.replies in
-          let new = w.serve.new.session.moments in
-          rw (w.session-is)
-          (serves c.flush.result old new whole (reply_text replies.reply new.present) _ _ _
-          (answers_command old new whole w.in-Some-2.line.now (Ok w.in-Ok.command) replies.reply (rw w.in-Some-2.is at is)
-          (λ none. false≢true (sym w.if-is_blank.false ∙ w.is_blank.ensures.1 (same_words whole w.in-Some.line.now w.in-Some-2.line.now (rw w.in-Some.is at is) (rw w.in-Some-2.is at is) none))) (rw (w.kind.ensures, w.network.ensures) at w.in-Ok.ensures) replies.step)
-          replies.writes (rw w.out-is at c.flush.ensures.bytes))
-      | in-Some-2+in-Err+in_ok-write_r-in-Err w ↦ rw (w.session-is)
-          (serves c.flush.result old old whole (refusal_line w.in-Err.number) _ _ _
-          (answers_command old old whole w.in-Some-2.line.now (Err w.in-Err.number) (Refuses w.in-Err.number) (rw w.in-Some-2.is at is)
-          (λ none. false≢true (sym w.if-is_blank.false ∙ w.is_blank.ensures.1 (same_words whole w.in-Some.line.now w.in-Some-2.line.now (rw w.in-Some.is at is) (rw w.in-Some-2.is at is) none))) (rw (w.kind.ensures, w.network.ensures) at w.in-Err.ensures) (record { reply_is = refl; unchanged = refl }))
-          w.in_ok-write_r-in-Err.ensures.bytes (rw w.out-is at c.flush.ensures.bytes))
-    ]
+pub returns-in_ok-apply_group-in-Some-clause-served : goal.returns-in_ok-apply_group-in-Some-clause-served
+returns-in_ok-apply_group-in-Some-clause-served g c whole is opened holds =
+    let replies = c.in_ok-apply_group-in-Some.ensures.replies in
+    serves_end c.flush.result c.args.session.now.moments c.apply_group.new.session.moments opened whole c.in-Some.open c.take.new.self replies.reply _ _ _
+    (sym (c.asks.ensures.asks whole is) ∙ c.if-not-asks.false) (rw c.in-Some.is at holds) (rw (c.kind.ensures, c.network.ensures) at (c.take.ensures.lines whole is))
+    (sym (c.take.ensures.ends whole is) ∙ c.if-not-take.false) replies.step (on_ok c.flush.result refl)
+    (WritesUpTo-kept c.flush.result _ _ _ _ replies.writes c.flush.ensures.bytes)

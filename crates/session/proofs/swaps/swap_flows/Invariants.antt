@@ -1,6 +1,7 @@
 use Rattle.std.proofs.Common.{◌≡◌, ◌++◌, take, drop}
 use Rattle.session.specs.Places.{exchanged, taken}
-use Rattle.session.specs.Record.{flow_of, with_flow}
+use Rattle.session.specs.Parts.{flow_of}
+use Rattle.session.specs.Record.{with_flow}
 use Rattle.session.proofs.swaps.swap_flows.Given as goal
 
 -- the places up to the index are exchanged

@@ -38,5 +38,6 @@ invariant_of-self c =
       cut_in = nodes_alike I.nodes c.bring_back-3.new.self (kept_in t.cut) (kept_in t.cut) c.bring_back-3.ensures.ledger c.bring_back-3.ensures.entries c.bring_back-3.ensures.kept cut cut;
       scratch_in = inv.scratch_in;
       rows_fit = inv.rows_fit;
+      log_fits = omega (arith, inv.log_fits);
       before_is = tt;
     }

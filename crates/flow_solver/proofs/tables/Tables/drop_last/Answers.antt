@@ -80,5 +80,5 @@ returns-clause-kept c asked =
     let inv = c.self.invariant in
     let view = ap (λ (b : Desk). length b.kept.flow) c.self.view_is in
     let less : t.flow.size < length t.flow.entries.items = omega (arith, asked, view, length_kept t.flow inv.flow_ledger, ap (λ (r : List ArcRow). length r) c.drop_row-row.ensures.rows.rows_are, c.drop_row-row.ensures.one_less, inv.flow_in) in
-    ap (λ (x : List ℤ). record { flow = x; potentials = drop 1 (kept_in t.potentials); cut = drop 1 (kept_in t.cut) }) (c.pop-flow.ensures.kept less)
+    ap (λ (x : List ℤ). record { flow = x; potentials = drop 1 (kept_in t.potentials); cut = drop 1 (kept_in t.cut); log = t.before.log.items }) (c.pop-flow.ensures.kept less)
     ∙ ap (λ (b : Desk). b.kept) c.self.view_is

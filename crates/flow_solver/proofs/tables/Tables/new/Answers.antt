@@ -51,6 +51,7 @@ invariant_of-result c =
       cut_in = nodes_alike c.in_ok-graph.graph.net.nodes cut (replicate (c.nodes.result + 1) false) (replicate (c.nodes.result + 1) false) c.in_ok-cut.ensures.ledger unmarked kept_unmarked (search rules) (search rules);
       scratch_in = search rules;
       rows_fit = search rules;
+      log_fits = search rules;
       before_is = tt;
     }
 

@@ -27,5 +27,6 @@ invariant_of-self c =
       cut_in = nodes_alike t.graph.net.nodes c.snapshot-3.new.self t.cut.entries.items t.cut.entries.items c.snapshot-3.ensures.ledger c.snapshot-3.ensures.entries c.snapshot-3.ensures.kept inv.cut_in.entries_in inv.cut_in.entries_in;
       scratch_in = inv.scratch_in;
       rows_fit = inv.rows_fit;
+      log_fits = omega (arith, inv.log_fits);
       before_is = tt;
     }

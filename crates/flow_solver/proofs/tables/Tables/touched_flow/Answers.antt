@@ -13,5 +13,5 @@ returns-clause-named c =
     let t = c.self.inside in
     let places = c.places.result.now in
     subst (λ (d : Desk). IfSome d.before (λ old. NameChanges (return_count old.instance.demand) places (numbered_flow old.instance.demand old.flow) (numbered_flow d.moment.instance.demand d.moment.flow))) c.self.view_is
-    (named_since t.before t.graph.net (kept_by t.flow t.potentials t.cut) places t.flow.entries.items
+    (named_since t.before.verdict t.graph.net (kept_by t.flow t.potentials t.cut t.before.log.items) places t.flow.entries.items
     (kept_named t.flow places c.self.invariant.flow_ledger c.places.ensures.listed))

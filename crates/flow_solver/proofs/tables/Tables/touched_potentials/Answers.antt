@@ -11,5 +11,5 @@ returns-clause-named c =
     let t = c.self.inside in
     let places = c.places.result.now in
     subst (λ (d : Desk). IfSome d.before (λ old. NameChanges 1 places old.potentials d.moment.potentials)) c.self.view_is
-    (potentials_since t.before t.graph.net (kept_by t.flow t.potentials t.cut) places (drop 1 t.potentials.entries.items)
+    (potentials_since t.before.verdict t.graph.net (kept_by t.flow t.potentials t.cut t.before.log.items) places (drop 1 t.potentials.entries.items)
     (kept_named_after_first t.potentials places c.self.invariant.potentials_in.ledger c.places.ensures.listed))

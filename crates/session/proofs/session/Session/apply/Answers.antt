@@ -1,38 +1,29 @@
-use Rattle.std.proofs.Common.{List, [], ◌∷◌, ◌++◌, length, sym, ap, ap₂, ◌∙◌}
-use Rattle.std.proofs.lemmas.List.{append-nil, take_at}
-use Rattle.history.specs.Boards.{boards}
-use Rattle.history.proofs.Timelines.{length-past}
+use Rattle.std.proofs.Common.{sym, ◌∙◌}
+use Rattle.network.proofs.EditedAll.{edited_one}
+use Rattle.network.specs.Instance.{at_node}
 use Rattle.flow_solver.specs.Moment.{Moment}
-use Rattle.session.specs.Record.{Recorded, swapped}
-use Rattle.session.proofs.Applying.{change_is, led}
-use Rattle.session.proofs.Keeping.{kept_push, kept_same, present_answered}
+use Rattle.flow_solver.proofs.GroupLemmas.{one_change}
+use Rattle.session.proofs.Applying.{on_ok, on_ok_both, if_ok, one_edited}
+use Rattle.session.proofs.Placing.{one_place}
 use Rattle.session.proofs.session.Session.apply.Goals as goal
 
-pub change-pushes-requires-clause-certified : goal.change-pushes-requires-clause-certified
-change-pushes-requires-clause-certified g c = (present_answered c.self.inside.history c.self.inside.tables.moment c.self.invariant).certified
+pub returns-clause-edited : goal.returns-clause-edited
+returns-clause-edited g c = on_ok c.apply_group.result _ _ (one_edited c.args.edit.now c.args.self.now.moments.present c.apply_group.new.self.moments.present) c.apply_group.ensures.edited
 
-pub of_last_change-requires-clause-change : goal.of_last_change-requires-clause-change
-of_last_change-requires-clause-change g c =
-    let did = c.change-pushes.ensures in
-    change_is c.change-pushes.new.self c.self.inside.tables.moment c.args.edit.now did.before (present_answered c.self.inside.history c.self.inside.tables.moment c.self.invariant) did.instance did.answered
+-- the one part names the place of the edit
+pub returns-clause-records : goal.returns-clause-records
+returns-clause-records g c =
+    let I = c.args.self.now.moments.present.instance in
+    let J = c.apply_group.new.self.moments.present.instance in
+    on_ok_both c.apply_group.result _ _ _
+    (λ is (r, all, are). (r, all, one_place c.args.edit.now I J r.parts (sym (edited_one I c.args.edit.now) ∙ is.instance) are))
+    c.apply_group.ensures.edited c.apply_group.ensures.records
 
--- the new moment and its record are kept
-pub invariant_of-self-in-Ok : goal.invariant_of-self-in-Ok
-invariant_of-self-in-Ok g c =
-    let m : Moment = c.self.inside.tables.moment in
-    let d : Moment = c.change-pushes.new.self.moment in
-    let did = c.change-pushes.ensures in
-    let leads = led _ _ m c.in-Ok.ensures.leads did.before in
-    let fits = c.in-Ok.ensures.fits in
-    let kept = kept_same c.self.inside.history c.reserve_one.new.self m c.reserve_one.ensures.past c.reserve_one.ensures.future c.self.invariant in
-    kept_push c.reserve_one.new.self c.push.new.self c.in-Ok.record m d kept fits c.in-Ok.ensures.exact leads did.answered c.push.ensures.past c.push.ensures.future (rw leads at (c.push.ensures.boards d fits))
+pub returns-clause-cause : goal.returns-clause-cause
+returns-clause-cause g c = λ number. rw (← edited_one c.args.self.now.moments.present.instance c.args.edit.now) (c.apply_group.ensures.cause number)
 
--- the records of the past stay, and the new one is the last
-pub returns-in-Ok-clause-records : goal.returns-in-Ok-clause-records
-returns-in-Ok-clause-records g c =
-    let h = c.self.inside.history in
-    let r = c.in-Ok.record in
-    let past = c.push.ensures.past ∙ ap (λ (rs : List Recorded). rs ++ r ∷ []) c.reserve_one.ensures.past in
-    let all = ap₂ ◌++◌ past c.push.ensures.future ∙ append-nil (h.past ++ r ∷ []) in
-    let kept = take_at h.past h.future (length (boards swapped h c.self.inside.tables.moment).past) (sym (length-past swapped h c.self.inside.tables.moment)) in
-    rw (← c.self.view_is) (r, all ∙ sym (ap (λ (rs : List Recorded). rs ++ r ∷ []) kept), c.in-Ok.ensures.place)
+pub returns-clause-pushes : goal.returns-clause-pushes
+returns-clause-pushes g c =
+    let m : Moment = c.args.self.now.moments.present in
+    let d : Moment = c.apply_group.new.self.moments.present in
+    if_ok c.apply_group.result _ _ (λ n. one_change m.instance d.instance c.args.edit.now (at_node m.potentials) m.flow d.flow n) c.apply_group.ensures.pushes

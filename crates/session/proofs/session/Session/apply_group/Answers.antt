@@ -1,0 +1,38 @@
+use Rattle.std.proofs.Common.{List, [], ◌∷◌, ◌++◌, length, sym, ap, ap₂, ◌∙◌}
+use Rattle.std.proofs.lemmas.List.{append-nil, take_at}
+use Rattle.history.specs.Boards.{boards}
+use Rattle.history.proofs.Timelines.{length-past}
+use Rattle.flow_solver.specs.Moment.{Moment}
+use Rattle.session.specs.Record.{Recorded, swapped}
+use Rattle.session.proofs.Applying.{changes_are, was_there, led}
+use Rattle.session.proofs.Keeping.{kept_push, kept_same, present_answered}
+use Rattle.session.proofs.session.Session.apply_group.Goals as goal
+
+pub change_all-pushes-requires-clause-certified : goal.change_all-pushes-requires-clause-certified
+change_all-pushes-requires-clause-certified g c = (present_answered c.self.inside.history c.self.inside.tables.moment c.self.invariant).certified
+
+pub of_last_change-requires-clause-change : goal.of_last_change-requires-clause-change
+of_last_change-requires-clause-change g c =
+    let did = c.change_all-pushes.ensures in
+    changes_are c.change_all-pushes.new.self c.self.inside.tables.moment c.args.edits.now did.before (present_answered c.self.inside.history c.self.inside.tables.moment c.self.invariant) did.instance did.answered
+
+-- the new moment and its record are kept
+pub invariant_of-self-in-Ok : goal.invariant_of-self-in-Ok
+invariant_of-self-in-Ok g c =
+    let m : Moment = c.self.inside.tables.moment in
+    let d : Moment = c.change_all-pushes.new.self.moment in
+    let did = c.change_all-pushes.ensures in
+    let leads = led _ _ m c.in-Ok.ensures.leads did.before in
+    let fits = c.in-Ok.ensures.fits in
+    let kept = kept_same c.self.inside.history c.reserve_one.new.self m c.reserve_one.ensures.past c.reserve_one.ensures.future c.self.invariant in
+    kept_push c.reserve_one.new.self c.push.new.self c.in-Ok.record m d kept fits c.in-Ok.ensures.exact leads did.answered c.push.ensures.past c.push.ensures.future (rw leads at (c.push.ensures.boards d fits))
+
+-- the records of the past stay, and the new one is the last
+pub returns-in-Ok-clause-records : goal.returns-in-Ok-clause-records
+returns-in-Ok-clause-records g c =
+    let h = c.self.inside.history in
+    let r = c.in-Ok.record in
+    let past = c.push.ensures.past ∙ ap (λ (rs : List Recorded). rs ++ r ∷ []) c.reserve_one.ensures.past in
+    let all = ap₂ ◌++◌ past c.push.ensures.future ∙ append-nil (h.past ++ r ∷ []) in
+    let kept = take_at h.past h.future (length (boards swapped h c.self.inside.tables.moment).past) (sym (length-past swapped h c.self.inside.tables.moment)) in
+    rw (← c.self.view_is) (r, all ∙ sym (ap (λ (rs : List Recorded). rs ++ r ∷ []) kept), rw (was_there c.change_all-pushes.new.self c.self.inside.tables.moment c.change_all-pushes.ensures.before) at c.in-Ok.ensures.parts)

@@ -1,0 +1,71 @@
+-- The edits of a group: the places that they name, and the parts that lead back before them.
+use Rattle.std.specs.Prelude.{◌≡◌, ℕ, ◌+◌, ◌-◌, ◌<◌, ◌≤◌, ◌↔◌, pos, List, [], ◌∷◌, length, cond, nat_le, Option, Some, None, All, AllPairs, slice_index_or}
+use Rattle.std.specs.List.{Contains}
+use Rattle.dimacs_text.specs.declared.command.Edit.{Edit}
+use Rattle.dimacs_text.specs.declared.command.Edit.TheVariants as edits
+use Rattle.network.specs.Instance.{Instance}
+use Rattle.flow_solver.specs.Desk.{supplies_in}
+use Rattle.session.specs.declared.part.Part.{Part}
+use Rattle.session.specs.Parts.{listed, no_row}
+
+-- the nodes that the edits name, in their order
+abbrev pub nodes_of : List Edit → List ℕ
+nodes_of [] = []
+nodes_of (edits.Cap arc cap ∷ es) = nodes_of es
+nodes_of (edits.Low arc low ∷ es) = nodes_of es
+nodes_of (edits.Cost arc cost ∷ es) = nodes_of es
+nodes_of (edits.Supply node value ∷ es) = node ∷ nodes_of es
+nodes_of (edits.Add tail head low cap cost ∷ es) = nodes_of es
+nodes_of (edits.Close arc ∷ es) = nodes_of es
+
+-- the arc before the others, where it is one of the first n
+abbrev pub and_arc : ℕ → ℕ → List ℕ → List ℕ
+and_arc n arc arcs = cond (nat_le arc n) (arc ∷ arcs) arcs
+
+-- those of the first n arcs that they name
+abbrev pub arcs_of : ℕ → List Edit → List ℕ
+arcs_of n [] = []
+arcs_of n (edits.Cap arc cap ∷ es) = and_arc n arc (arcs_of n es)
+arcs_of n (edits.Low arc low ∷ es) = and_arc n arc (arcs_of n es)
+arcs_of n (edits.Cost arc cost ∷ es) = and_arc n arc (arcs_of n es)
+arcs_of n (edits.Supply node value ∷ es) = arcs_of n es
+arcs_of n (edits.Add tail head low cap cost ∷ es) = arcs_of n es
+arcs_of n (edits.Close arc ∷ es) = and_arc n arc (arcs_of n es)
+
+-- the number before the others, where there is one
+abbrev pub and_some : Option ℕ → List ℕ → List ℕ
+and_some None ks = ks
+and_some (Some k) ks = k ∷ ks
+
+-- how many arcs they add
+abbrev pub added : List Edit → ℕ
+added [] = 0
+added (edits.Cap arc cap ∷ es) = added es
+added (edits.Low arc low ∷ es) = added es
+added (edits.Cost arc cost ∷ es) = added es
+added (edits.Supply node value ∷ es) = added es
+added (edits.Add tail head low cap cost ∷ es) = added es + 1
+added (edits.Close arc ∷ es) = added es
+
+-- the same numbers, each once and rising
+pub record AreNames (names all : List ℕ) : Type 0 where
+  pub rising : AllPairs ◌<◌ names
+  pub same : (k : ℕ) → Contains names k ↔ Contains all k
+
+-- the places with what the list has there
+abbrev pub valued : {X : Type 0} → List ℕ → List X → X → List (ℕ × X)
+valued [] xs d = []
+valued (k ∷ ks) xs d = (k, slice_index_or xs (k - 1) d) ∷ valued ks xs d
+
+-- the parts name exactly the places of the edits, with the values of the older instance: each node and each of its arcs
+-- once and rising, and each arc that is added
+pub record ArePartsOf (edits : List Edit) (old : Instance) (ps : List Part) : Type 0 where
+  pub nodes : List ℕ
+  pub arcs : List ℕ
+  pub nodes_named : AreNames nodes (nodes_of edits)
+  pub arcs_named : AreNames arcs (arcs_of (length old.arcs) edits)
+  pub parts : ps ≡ listed (record { supplies = valued nodes (supplies_in old.demand) (pos 0); rows = valued arcs old.arcs no_row; come_rows = []; come_flows = []; go = added edits })
+
+-- the numbers are places of a list of n values
+abbrev pub ArePlaces : ℕ → List ℕ → Type 0
+ArePlaces n ks = All (λ k. (1 ≤ k) × (k ≤ n)) ks
