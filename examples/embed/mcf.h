@@ -62,8 +62,8 @@ typedef struct mcf_view {
 int32_t mcf_open(mcf_handle *handle, const uint8_t *text, size_t length, uint32_t extra, mcf_fault *fault);
 
 /* Takes a line of a session's commands, without its line feed, such as "cap 5 3", and answers the new question. A
- * refusal by its number, or MCF_CLOSED: nothing has changed. "show" and "proof" change nothing; "group" and "end" are
- * refused (29), since a call takes one line. */
+ * refusal by its number, or MCF_CLOSED: nothing has changed. "show" and "proof" change nothing; "mark NAME" names the
+ * present moment, and "back NAME" goes there again; "group" and "end" are refused (29), since a call takes one line. */
 int32_t mcf_command(mcf_handle *handle, const uint8_t *line, size_t length);
 
 /* Goes back one moment, or on one: to the very answer that stood there. 25 and 26: there is none. */

@@ -6,6 +6,7 @@ use Rattle.dimacs_text.specs.declared.fault.Fault.{Fault}
 use Rattle.dimacs_text.specs.declared.fault.Fault.TheVariants as fault
 use Rattle.dimacs_text.specs.declared.problem.Kind.{Kind}
 use Rattle.dimacs_text.specs.declared.problem.Kind.TheVariants.{Min, Max, Asn}
+use Rattle.dimacs_text.specs.declared.name.Name.{Name}
 use Rattle.dimacs_text.specs.declared.command.Edit.{Edit}
 use Rattle.dimacs_text.specs.declared.command.Edit.TheVariants as edits
 use Rattle.dimacs_text.specs.declared.command.Command.{Command}
@@ -15,7 +16,7 @@ use Rattle.dimacs_text.specs.declared.command.Verb.TheVariants as verbs
 use Rattle.dimacs_text.specs.Lines.{Line, is_too_long}
 use Rattle.dimacs_text.specs.Fields.{Word, words_of}
 use Rattle.dimacs_text.specs.Problem.{◌>>=◌, demand, some_or}
-use Rattle.dimacs_text.specs.Command.{asked, as_edit, ends_group, has_one, is_end, is_for, is_group, opens_group, read_add, read_bare, read_by, read_cap, read_close, read_cost, read_low, read_supply, read_words, verb_of}
+use Rattle.dimacs_text.specs.Command.{asked, as_back, as_edit, as_mark, ends_group, has_one, is_end, is_for, is_group, opens_group, read_add, read_bare, read_by, read_cap, read_close, read_cost, read_low, read_name, read_supply, read_words, verb_of}
 use Rattle.dimacs_text.specs.Group.{is_end_asked}
 
 -- a question of what a line asks for
@@ -31,10 +32,23 @@ abbrev is_ending : Command → Bool
 is_ending commands.End = true
 is_ending _ = false
 
--- an edit is none of the two
-not_edit : (such : Command → Bool) (r : Result Edit Fault) → ((edit : Edit) → such (commands.Edit edit) ≡ false) → asks such (as_edit r) ≡ false
-not_edit such (Ok edit) none = none edit
-not_edit such (Err fault) none = refl
+-- no command with fields is meant
+record IsBare (such : Command → Bool) : Type 0 where
+  edit : (edit : Edit) → such (commands.Edit edit) ≡ false
+  mark : (name : Name) → such (commands.Mark name) ≡ false
+  back : (name : Name) → such (commands.Back name) ≡ false
+
+not_edit : (such : Command → Bool) → IsBare such → (r : Result Edit Fault) → asks such (as_edit r) ≡ false
+not_edit such bare (Ok edit) = bare.edit edit
+not_edit such bare (Err fault) = refl
+
+not_mark : (such : Command → Bool) → IsBare such → (r : Result Name Fault) → asks such (as_mark r) ≡ false
+not_mark such bare (Ok name) = bare.mark name
+not_mark such bare (Err fault) = refl
+
+not_back : (such : Command → Bool) → IsBare such → (r : Result Name Fault) → asks such (as_back r) ≡ false
+not_back such bare (Ok name) = bare.back name
+not_back such bare (Err fault) = refl
 
 abbrev after_verb : Bool → Result Command Fault → Result Command Fault
 after_verb has read = demand has fault.NotForKind >>= λ _. read
@@ -51,13 +65,18 @@ never : (b : Bool) → (b && false) ≡ false
 never true = refl
 never false = refl
 
-edit_by : (such : Command → Bool) (has : Bool) (r : Result Edit Fault) (fields : List Word) → ((edit : Edit) → such (commands.Edit edit) ≡ false)
-    → asks such (after_verb has (as_edit r)) ≡ (has_none fields && such (commands.Edit (edits.Close 0)))
-edit_by such has r fields none = by has ∙ sym (ap (λ x. has_none fields && x) (none (edits.Close 0)) ∙ never (has_none fields))
+-- a command with fields
+other_by : (such : Command → Bool) (has : Bool) (read : Result Command Fault) (fields : List Word) (command : Command) → asks such read ≡ false → such command ≡ false
+    → asks such (after_verb has read) ≡ (has_none fields && such command)
+other_by such has read fields command none other = by has ∙ sym (ap (λ x. has_none fields && x) other ∙ never (has_none fields))
   where
-    by : (has : Bool) → asks such (after_verb has (as_edit r)) ≡ false
+    by : (has : Bool) → asks such (after_verb has read) ≡ false
     by false = refl
-    by true = not_edit such r none
+    by true = none
+
+edit_by : (such : Command → Bool) → IsBare such → (has : Bool) (r : Result Edit Fault) (fields : List Word)
+    → asks such (after_verb has (as_edit r)) ≡ (has_none fields && such (commands.Edit (edits.Close 0)))
+edit_by such bare has r fields = other_by such has (as_edit r) fields (commands.Edit (edits.Close 0)) (not_edit such bare r) (bare.edit (edits.Close 0))
 
 -- a command without fields
 bare_by : (such : Command → Bool) (has : Bool) (fields : List Word) (command : Command) → has ≡ true
@@ -81,22 +100,26 @@ bare_of verbs.Show = commands.Show
 bare_of verbs.Proof = commands.Proof
 bare_of verbs.Group = commands.Group
 bare_of verbs.End = commands.End
+bare_of verbs.Mark = commands.Mark []
+bare_of verbs.Back = commands.Back []
 bare_of _ = commands.Edit (edits.Close 0)
 
-verb_asks : (such : Command → Bool) → ((edit : Edit) → such (commands.Edit edit) ≡ false) → (kind : Kind) (verb : Verb) (fields : List Word)
+verb_asks : (such : Command → Bool) → IsBare such → (kind : Kind) (verb : Verb) (fields : List Word)
     → asks such (after_verb (is_for kind verb) (read_by kind verb fields)) ≡ (has_none fields && such (bare_of verb))
-verb_asks such none kind verbs.Cap fields = edit_by such (is_for kind verbs.Cap) (read_cap fields) fields none
-verb_asks such none kind verbs.Low fields = edit_by such (is_for kind verbs.Low) (read_low fields) fields none
-verb_asks such none kind verbs.Cost fields = edit_by such (is_for kind verbs.Cost) (read_cost fields) fields none
-verb_asks such none kind verbs.Supply fields = edit_by such (is_for kind verbs.Supply) (read_supply fields) fields none
-verb_asks such none kind verbs.Add fields = edit_by such (is_for kind verbs.Add) (read_add kind fields) fields none
-verb_asks such none kind verbs.Close fields = edit_by such (is_for kind verbs.Close) (read_close fields) fields none
-verb_asks such none kind verbs.Undo fields = bare_by such (is_for kind verbs.Undo) fields commands.Undo (for_every verbs.Undo refl refl refl kind)
-verb_asks such none kind verbs.Redo fields = bare_by such (is_for kind verbs.Redo) fields commands.Redo (for_every verbs.Redo refl refl refl kind)
-verb_asks such none kind verbs.Show fields = bare_by such (is_for kind verbs.Show) fields commands.Show (for_every verbs.Show refl refl refl kind)
-verb_asks such none kind verbs.Proof fields = bare_by such (is_for kind verbs.Proof) fields commands.Proof (for_every verbs.Proof refl refl refl kind)
-verb_asks such none kind verbs.Group fields = bare_by such (is_for kind verbs.Group) fields commands.Group (for_every verbs.Group refl refl refl kind)
-verb_asks such none kind verbs.End fields = bare_by such (is_for kind verbs.End) fields commands.End (for_every verbs.End refl refl refl kind)
+verb_asks such bare kind verbs.Cap fields = edit_by such bare (is_for kind verbs.Cap) (read_cap fields) fields
+verb_asks such bare kind verbs.Low fields = edit_by such bare (is_for kind verbs.Low) (read_low fields) fields
+verb_asks such bare kind verbs.Cost fields = edit_by such bare (is_for kind verbs.Cost) (read_cost fields) fields
+verb_asks such bare kind verbs.Supply fields = edit_by such bare (is_for kind verbs.Supply) (read_supply fields) fields
+verb_asks such bare kind verbs.Add fields = edit_by such bare (is_for kind verbs.Add) (read_add kind fields) fields
+verb_asks such bare kind verbs.Close fields = edit_by such bare (is_for kind verbs.Close) (read_close fields) fields
+verb_asks such bare kind verbs.Mark fields = other_by such (is_for kind verbs.Mark) (as_mark (read_name fields)) fields (commands.Mark []) (not_mark such bare (read_name fields)) (bare.mark [])
+verb_asks such bare kind verbs.Back fields = other_by such (is_for kind verbs.Back) (as_back (read_name fields)) fields (commands.Back []) (not_back such bare (read_name fields)) (bare.back [])
+verb_asks such bare kind verbs.Undo fields = bare_by such (is_for kind verbs.Undo) fields commands.Undo (for_every verbs.Undo refl refl refl kind)
+verb_asks such bare kind verbs.Redo fields = bare_by such (is_for kind verbs.Redo) fields commands.Redo (for_every verbs.Redo refl refl refl kind)
+verb_asks such bare kind verbs.Show fields = bare_by such (is_for kind verbs.Show) fields commands.Show (for_every verbs.Show refl refl refl kind)
+verb_asks such bare kind verbs.Proof fields = bare_by such (is_for kind verbs.Proof) fields commands.Proof (for_every verbs.Proof refl refl refl kind)
+verb_asks such bare kind verbs.Group fields = bare_by such (is_for kind verbs.Group) fields commands.Group (for_every verbs.Group refl refl refl kind)
+verb_asks such bare kind verbs.End fields = bare_by such (is_for kind verbs.End) fields commands.End (for_every verbs.End refl refl refl kind)
 
 opening_verb : (verb : Verb) → is_opening (bare_of verb) ≡ is_group (Some verb)
 opening_verb verbs.Cap = refl
@@ -111,6 +134,8 @@ opening_verb verbs.Show = refl
 opening_verb verbs.Proof = refl
 opening_verb verbs.Group = refl
 opening_verb verbs.End = refl
+opening_verb verbs.Mark = refl
+opening_verb verbs.Back = refl
 
 ending_verb : (verb : Verb) → is_ending (bare_of verb) ≡ is_end (Some verb)
 ending_verb verbs.Cap = refl
@@ -125,18 +150,20 @@ ending_verb verbs.Show = refl
 ending_verb verbs.Proof = refl
 ending_verb verbs.Group = refl
 ending_verb verbs.End = refl
+ending_verb verbs.Mark = refl
+ending_verb verbs.Back = refl
 
--- a question that no edit answers is answered by the one word of a line
+-- a question that no command with fields answers is answered by the one word of a line
 record Brackets (such : Command → Bool) (is_such : Option Verb → Bool) : Type 0 where
-  no_edit : (edit : Edit) → such (commands.Edit edit) ≡ false
+  bare : IsBare such
   no_verb : is_such None ≡ false
   verb : (verb : Verb) → such (bare_of verb) ≡ is_such (Some verb)
 
 opening : Brackets is_opening is_group
-opening = record { no_edit = λ edit. refl; no_verb = refl; verb = opening_verb }
+opening = record { bare = record { edit = λ edit. refl; mark = λ name. refl; back = λ name. refl }; no_verb = refl; verb = opening_verb }
 
 ending : Brackets is_ending is_end
-ending = record { no_edit = λ edit. refl; no_verb = refl; verb = ending_verb }
+ending = record { bare = record { edit = λ edit. refl; mark = λ name. refl; back = λ name. refl }; no_verb = refl; verb = ending_verb }
 
 one_by : (is_such : Option Verb → Bool) (verb : Option Verb) (fields : List Word) (word : Word) → verb_of word ≡ verb
     → (has_none fields && is_such verb) ≡ has_one is_such (word ∷ fields)
@@ -152,7 +179,7 @@ words_ask such is_such b kind (word ∷ fields) = by (verb_of word) refl
     by : (verb : Option Verb) → verb_of word ≡ verb
         → asks such (some_or verb fault.UnknownDesignator >>= λ v. after_verb (is_for kind v) (read_by kind v fields)) ≡ has_one is_such (word ∷ fields)
     by None e = sym (ap (λ x. has_none fields && x) b.no_verb ∙ never (has_none fields)) ∙ one_by is_such None fields word e
-    by (Some verb) e = verb_asks such b.no_edit kind verb fields ∙ ap (λ x. has_none fields && x) (b.verb verb) ∙ one_by is_such (Some verb) fields word e
+    by (Some verb) e = verb_asks such b.bare kind verb fields ∙ ap (λ x. has_none fields && x) (b.verb verb) ∙ one_by is_such (Some verb) fields word e
 
 line_asks : (such : Command → Bool) (is_such : Option Verb → Bool) → Brackets such is_such → (kind : Kind) (line : Line)
     → asks such (asked kind line) ≡ (not (is_too_long line) && has_one is_such (words_of line))
@@ -170,6 +197,8 @@ opening_only (Ok commands.Show) e = absurd (false≢true e)
 opening_only (Ok commands.Proof) e = absurd (false≢true e)
 opening_only (Ok commands.Group) e = refl
 opening_only (Ok commands.End) e = absurd (false≢true e)
+opening_only (Ok (commands.Mark name)) e = absurd (false≢true e)
+opening_only (Ok (commands.Back name)) e = absurd (false≢true e)
 opening_only (Err fault) e = absurd (false≢true e)
 
 ending_only : (r : Result Command Fault) → asks is_ending r ≡ true → r ≡ Ok commands.End
@@ -180,6 +209,8 @@ ending_only (Ok commands.Show) e = absurd (false≢true e)
 ending_only (Ok commands.Proof) e = absurd (false≢true e)
 ending_only (Ok commands.Group) e = absurd (false≢true e)
 ending_only (Ok commands.End) e = refl
+ending_only (Ok (commands.Mark name)) e = absurd (false≢true e)
+ending_only (Ok (commands.Back name)) e = absurd (false≢true e)
 ending_only (Err fault) e = absurd (false≢true e)
 
 pub opens : (kind : Kind) (line : Line) → (asked kind line ≡ Ok commands.Group) ↔ IsTrue (opens_group line)
@@ -200,6 +231,8 @@ end_asked (Ok commands.Show) = refl
 end_asked (Ok commands.Proof) = refl
 end_asked (Ok commands.Group) = refl
 end_asked (Ok commands.End) = refl
+end_asked (Ok (commands.Mark name)) = refl
+end_asked (Ok (commands.Back name)) = refl
 end_asked (Err fault) = refl
 
 pub is_end_asked-line : (kind : Kind) (line : Line) → is_end_asked (asked kind line) ≡ ends_group line

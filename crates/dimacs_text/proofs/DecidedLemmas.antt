@@ -43,6 +43,9 @@ too_long_by fault.EditNotAcrossSides e = absurd (omega arith)
 too_long_by fault.ArcTableFull e = absurd (omega arith)
 too_long_by fault.NotInGroup e = absurd (omega arith)
 too_long_by fault.GroupTooLong e = absurd (omega arith)
+too_long_by fault.NoSuchMark e = absurd (omega arith)
+too_long_by fault.NotAName e = absurd (omega arith)
+too_long_by fault.TooManyMarks e = absurd (omega arith)
 
 letters_too_long : (rest : Line) → is_too_long (rest ++ replicate 1025 120) ≡ true
 letters_too_long rest = le-leb 1025 _ (omega (arith, length-append rest (replicate 1025 120), length-replicate {A = ℕ} 1025 120))

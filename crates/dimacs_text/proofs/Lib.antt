@@ -21,6 +21,7 @@ pub mod AnswerLemmas
 pub mod AnswerLineLemmas
 pub mod AnswerTakeLemmas
 pub mod SaidLemmas
+pub mod NameLemmas
 pub mod BracketLemmas
 pub mod GroupLemmas
 pub mod TurnLemmas

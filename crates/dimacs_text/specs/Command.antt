@@ -5,6 +5,7 @@ use Rattle.dimacs_text.specs.declared.fault.Fault.TheVariants as fault
 use Rattle.dimacs_text.specs.declared.problem.Kind.{Kind}
 use Rattle.dimacs_text.specs.declared.problem.Kind.TheVariants.{Min, Max, Asn}
 use Rattle.dimacs_text.specs.declared.problem.TheConstants.{CAP_LIMIT, COST_LIMIT, SUPPLY_LIMIT}
+use Rattle.dimacs_text.specs.declared.name.Name.{Name}
 use Rattle.dimacs_text.specs.declared.command.Edit.{Edit}
 use Rattle.dimacs_text.specs.declared.command.Edit.TheVariants as edits
 use Rattle.dimacs_text.specs.declared.command.Command.{Command}
@@ -14,9 +15,11 @@ use Rattle.dimacs_text.specs.declared.command.Verb.TheVariants as verbs
 use Rattle.dimacs_text.specs.Fault.{number_of}
 use Rattle.dimacs_text.specs.Lines.{Line, is_too_long}
 use Rattle.dimacs_text.specs.Fields.{Word, words_of, natural}
+use Rattle.dimacs_text.specs.Name.{name_of}
 use Rattle.dimacs_text.specs.Problem.{◌>>=◌, demand, some_or, natural_in, integer_in, field}
 
--- the verb that a word is: `cap`, `low`, `add`, `end`, `cost`, `undo`, `redo`, `show`, `close`, `proof`, `group` or `supply`
+-- the verb that a word is: `cap`, `low`, `add`, `end`, `cost`, `undo`, `redo`, `show`, `mark`, `back`, `close`, `proof`, `group` or
+-- `supply`
 abbrev pub verb_of : Word → Option Verb
 verb_of (a ∷ b ∷ c ∷ []) =
     if a == 99 && b == 97 && c == 112 then Some verbs.Cap else
@@ -27,7 +30,9 @@ verb_of (a ∷ b ∷ c ∷ d ∷ []) =
     if a == 99 && b == 111 && c == 115 && d == 116 then Some verbs.Cost else
     if a == 117 && b == 110 && c == 100 && d == 111 then Some verbs.Undo else
     if a == 114 && b == 101 && c == 100 && d == 111 then Some verbs.Redo else
-    if a == 115 && b == 104 && c == 111 && d == 119 then Some verbs.Show else None
+    if a == 115 && b == 104 && c == 111 && d == 119 then Some verbs.Show else
+    if a == 109 && b == 97 && c == 114 && d == 107 then Some verbs.Mark else
+    if a == 98 && b == 97 && c == 99 && d == 107 then Some verbs.Back else None
 verb_of (a ∷ b ∷ c ∷ d ∷ e ∷ []) =
     if a == 99 && b == 108 && c == 111 && d == 115 && e == 101 then Some verbs.Close else
     if a == 112 && b == 114 && c == 111 && d == 111 && e == 102 then Some verbs.Proof else
@@ -129,6 +134,19 @@ as_edit (Err fault) = Err fault
 abbrev pub read_bare : List Word → Command → Result Command Fault
 read_bare fields command = if length fields == 0 then Ok command else Err fault.WrongFieldCount
 
+unfoldable pub read_name : List Word → Result Name Fault
+read_name fields = do
+  _ ← demand (length fields == 1) fault.WrongFieldCount
+  some_or (name_of (field 0 fields)) fault.NotAName
+
+abbrev pub as_mark : Result Name Fault → Result Command Fault
+as_mark (Ok name) = Ok (commands.Mark name)
+as_mark (Err fault) = Err fault
+
+abbrev pub as_back : Result Name Fault → Result Command Fault
+as_back (Ok name) = Ok (commands.Back name)
+as_back (Err fault) = Err fault
+
 -- ---- a line
 
 abbrev pub read_by : Kind → Verb → List Word → Result Command Fault
@@ -144,6 +162,8 @@ read_by kind verbs.Show fields = read_bare fields commands.Show
 read_by kind verbs.Proof fields = read_bare fields commands.Proof
 read_by kind verbs.Group fields = read_bare fields commands.Group
 read_by kind verbs.End fields = read_bare fields commands.End
+read_by kind verbs.Mark fields = as_mark (read_name fields)
+read_by kind verbs.Back fields = as_back (read_name fields)
 
 -- the words of a line that is not blank
 unfoldable pub read_words : Kind → List Word → Result Command Fault

@@ -34,6 +34,9 @@ number_of fault.ArcTableFull = 24
 number_of fault.EditNotAcrossSides = 27
 number_of fault.NotInGroup = 29
 number_of fault.GroupTooLong = 31
+number_of fault.NoSuchMark = 28
+number_of fault.NotAName = 32
+number_of fault.TooManyMarks = 33
 
 -- why a line was not taken, at its place in the text
 abbrev pub located : LineError → ℕ → TextFault

@@ -8,6 +8,7 @@ pub mod Stream
 pub mod Reader
 pub mod Reading
 pub mod ProblemReader
+pub mod Name
 pub mod Command
 pub mod Answer
 pub mod AnswerReader

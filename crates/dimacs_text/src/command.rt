@@ -5,10 +5,11 @@ ghost use Rattle.dimacs_text.specs.declared.command.Command.TheVariants as comma
 ghost use Rattle.dimacs_text.specs.declared.problem.Kind.{Kind};
 ghost use Rattle.dimacs_text.specs.Fields.{words_of};
 ghost use Rattle.dimacs_text.specs.Lines.{Line};
-ghost use Rattle.dimacs_text.specs.Command.{asked, command, opens_group, ends_group, verb_of, is_for, read_words, read_by, read_bare, read_cap, read_low, read_cost, read_supply, read_add, read_min_arc, read_max_arc, read_asn_arc, read_close, as_edit};
+ghost use Rattle.dimacs_text.specs.Command.{asked, command, opens_group, ends_group, verb_of, is_for, read_words, read_by, read_bare, read_name, read_cap, read_low, read_cost, read_supply, read_add, read_min_arc, read_max_arc, read_asn_arc, read_close, as_edit};
 
 use crate::cutter::LINE_LIMIT;
 use crate::fault::Fault;
+use crate::name::Name;
 use crate::numbers::{integer_in, natural, natural_in};
 use crate::problem::{CAP_LIMIT, COST_LIMIT, Kind, SUPPLY_LIMIT};
 use crate::words::Words;
@@ -100,6 +101,10 @@ pub enum Command {
     Group,
     /// Ends a group.
     End,
+    /// Puts a mark of this name on the present moment.
+    Mark(Name),
+    /// Moves to the moment that has the mark of this name.
+    Back(Name),
 }
 
 /// The first word of a command.
@@ -117,6 +122,8 @@ pub enum Verb {
     Proof,
     Group,
     End,
+    Mark,
+    Back,
 }
 
 impl Verb {
@@ -137,6 +144,8 @@ impl Verb {
             [b'p', b'r', b'o', b'o', b'f'] => Some(Verb::Proof),
             [b'g', b'r', b'o', b'u', b'p'] => Some(Verb::Group),
             [b'e', b'n', b'd'] => Some(Verb::End),
+            [b'm', b'a', b'r', b'k'] => Some(Verb::Mark),
+            [b'b', b'a', b'c', b'k'] => Some(Verb::Back),
             _ => None,
         }
     }
@@ -160,7 +169,7 @@ impl Verb {
 /// Reads a line of a command text that is not blank, for a problem of the kind.
 ///
 /// An error is the number of the first check that fails: the line is too long (1), no command (2), not for this kind
-/// (23), it has the wrong number of fields (3), a field is not a number (4) or out of range (5).
+/// (23), it has the wrong number of fields (3), a field is not a number (4) or out of range (5), or not a name (32).
 pub fn read_command(kind: Kind, line: &[u8]) -> Result<Command, u8>
     requires { words_of line.now ≢ [] }
     ensures { result ≡ command kind line.now }
@@ -217,6 +226,8 @@ fn read_by(kind: Kind, verb: Verb, fields: Words) -> Result<Command, Fault>
         Verb::Proof => read_bare(fields, Command::Proof),
         Verb::Group => read_bare(fields, Command::Group),
         Verb::End => read_bare(fields, Command::End),
+        Verb::Mark => Ok(Command::Mark(read_name(fields)?)),
+        Verb::Back => Ok(Command::Back(read_name(fields)?)),
     }
 }
 
@@ -236,6 +247,14 @@ fn read_bare(fields: Words, command: Command) -> Result<Command, Fault>
 {
     fields.none()?;
     Ok(command)
+}
+
+/// The field of `mark NAME` and `back NAME`.
+#[tactic(auto, unfolding(crate::specs::Command::read_name))]
+fn read_name(fields: Words) -> Result<Name, Fault>
+    ensures { result ≡ read_name fields.entry }
+{
+    Name::of(fields.one()?).ok_or(Fault::NotAName)
 }
 
 /// The fields of `cap K V`.

@@ -53,6 +53,12 @@ pub enum Fault {
     NotInGroup,
     /// A group has more edits than `GROUP_LIMIT`.
     GroupTooLong,
+    /// No moment has a mark of this name.
+    NoSuchMark,
+    /// A field is not 1 to `NAME_LIMIT` letters.
+    NotAName,
+    /// As many other names have marks as there may be.
+    TooManyMarks,
 }
 
 impl Fault {
@@ -87,6 +93,9 @@ impl Fault {
             Fault::EditNotAcrossSides => 27,
             Fault::NotInGroup => 29,
             Fault::GroupTooLong => 31,
+            Fault::NoSuchMark => 28,
+            Fault::NotAName => 32,
+            Fault::TooManyMarks => 33,
         }
     }
 }

@@ -73,8 +73,8 @@ impl Group {
         self.edits.as_slice()
     }
 
-    /// The number of the first line that is refused by itself, if one is: 1 to 5 and 23 as for any command, 29 where it
-    /// is no edit, 31 where it is an edit too many.
+    /// The number of the first line that is refused by itself, if one is: 1 to 5, 23 and 32 as for any command, 29 where
+    /// it is no edit, 31 where it is an edit too many.
     pub fn fault(&self) -> Option<u8>
         ensures { result ≡ option_map number_of self.now.fault }
     {

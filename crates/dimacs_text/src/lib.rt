@@ -11,6 +11,7 @@ mod draft;
 mod fault;
 mod group;
 mod limits;
+mod name;
 mod numbers;
 mod problem;
 mod problem_reader;
@@ -29,6 +30,7 @@ pub use cutter::{LINE_LIMIT, LineCutter};
 pub use fault::{Fault, TextFault};
 pub use group::{GROUP_LIMIT, Group};
 pub use limits::limits_are;
+pub use name::{NAME_LIMIT, Name, names_are_compared};
 pub use problem::{
     ARC_LIMIT, ArcRow, CAP_LIMIT, COST_LIMIT, Kind, NODE_LIMIT, NodeMark, Problem, SUPPLY_LIMIT,
 };

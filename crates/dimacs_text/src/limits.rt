@@ -3,6 +3,7 @@
 ghost use Rattle.std.specs.Prelude.{◌≡◌, pos};
 ghost use Rattle.dimacs_text.specs.declared.cutter.TheConstants.{LINE_LIMIT};
 ghost use Rattle.dimacs_text.specs.declared.group.TheConstants.{GROUP_LIMIT};
+ghost use Rattle.dimacs_text.specs.declared.name.TheConstants.{NAME_LIMIT};
 ghost use Rattle.dimacs_text.specs.declared.numbers.TheConstants.{DIGIT_LIMIT, VALUE_DIGIT_LIMIT};
 ghost use Rattle.dimacs_text.specs.declared.problem.TheConstants.{NODE_LIMIT, ARC_LIMIT, CAP_LIMIT, COST_LIMIT, SUPPLY_LIMIT};
 
@@ -17,4 +18,5 @@ pub fn limits_are()
     ensures value_digits { VALUE_DIGIT_LIMIT ≡ 30 }
     ensures line { LINE_LIMIT ≡ 1024 }
     ensures group { GROUP_LIMIT ≡ 1000 }
+    ensures name { NAME_LIMIT ≡ 32 }
 {}

@@ -1,7 +1,7 @@
 ghost use Rattle.std.specs.Prelude.{◌<◌};
 
 use crate::{
-    Command, Edit, GROUP_LIMIT, Group, Kind, LineCutter, NodeMark, Problem, ProblemReader,
+    Command, Edit, GROUP_LIMIT, Group, Kind, LineCutter, Name, NodeMark, Problem, ProblemReader,
     TextFault, is_blank, read_command,
 };
 use std::alloc::Global;
@@ -207,6 +207,52 @@ fn commands(rt: HostRuntime) {
 }
 
 #[test]
+fn names(rt: HostRuntime) {
+    let cases: [(&[u8], Result<&[u8], u8>); 10] = [
+        (b"mark a", Ok(b"a")),
+        (b"mark\tZa\r", Ok(b"Za")),
+        (
+            b"mark abcdefghijklmnopqrstuvwxyzABCDEF",
+            Ok(b"abcdefghijklmnopqrstuvwxyzABCDEF"),
+        ),
+        (b"mark abcdefghijklmnopqrstuvwxyzABCDEFG", Err(32)),
+        (b"mark 1x", Err(32)),
+        (b"mark x1", Err(32)),
+        (b"mark a[", Err(32)),
+        (b"mark", Err(3)),
+        (b"mark 1 2", Err(3)),
+        (b"marks a", Err(2)),
+    ];
+    for (line, expected) in cases {
+        if !is_blank(line) {
+            let expected = match expected {
+                Ok(letters) => match Name::of(letters) {
+                    Some(name) => Ok(Command::Mark(name)),
+                    None => panic!(rt; "the letters are a name"),
+                },
+                Err(number) => Err(number),
+            };
+            for kind in [Kind::Min, Kind::Max, Kind::Asn] {
+                assert_eq!(rt; read_command(kind, line), expected);
+            }
+        }
+    }
+}
+
+#[test]
+fn names_are_told_apart(rt: HostRuntime) {
+    let line = b"back Za";
+    match Name::of(b"Za") {
+        Some(name) => {
+            assert!(rt; name.letters() == b"Za".as_slice());
+            assert!(rt; Name::of(b"ZA") != Some(name) && Name::of(b"Z") != Some(name));
+            assert!(rt; is_blank(line) || read_command(Kind::Max, line) == Ok(Command::Back(name)));
+        }
+        None => panic!(rt; "the letters are a name"),
+    }
+}
+
+#[test]
 fn groups(rt: HostRuntime) {
     let cases = [
         ("end", 0, None),
@@ -217,6 +263,8 @@ fn groups(rt: HostRuntime) {
         ("group 1\nend", 0, Some(3)),
         ("undo\nend", 0, Some(29)),
         ("undo 1\nend", 0, Some(3)),
+        ("mark a\nend", 0, Some(29)),
+        ("back 1\nend", 0, Some(32)),
     ];
     for (text, edits, fault) in cases {
         let mut group = Group::new();

@@ -8,8 +8,7 @@ use Rattle.dimacs_text.specs.declared.fault.TextFault.TheVariants as text_fault
 use Rattle.dimacs_text.specs.Lines.{Line, lines_of, parts_of}
 use Rattle.dimacs_text.specs.Stream.{decided}
 use Rattle.dimacs_text.specs.Reading.{ProblemValue, problem_rule, reads}
-use Rattle.history.specs.Boards.{Timeline}
-use Rattle.flow_solver.specs.Moment.{Moment}
+use Rattle.session.specs.Step.{SessionState}
 use Rattle.checker.specs.declared.end.Text.TheVariants as the
 use Rattle.checker.specs.declared.end.End.{End}
 use Rattle.checker.specs.declared.end.End.TheVariants.{Solved, Infeasible, Ended, Valid, NotValid, Refused, ReadFailed, WriteFailed, Memory}
@@ -44,8 +43,8 @@ SessionTells-problem e extra (Some text) rest given left_old left_new (Some comm
 
 -- ---- the opening line was written up to a failed call
 
-prints_opening : (problem : ProblemValue) (extra : ℕ) (opening : Timeline Moment) → Opens problem extra opening
-    → PrintsRun problem extra [] (outcome_line opening.present.verdict ++ [])
+prints_opening : (problem : ProblemValue) (extra : ℕ) (opening : SessionState) → Opens problem extra opening
+    → PrintsRun problem extra [] (outcome_line opening.moments.present.verdict ++ [])
 prints_opening problem extra opening opens = record {
   opening = opening;
   opens = opens;
@@ -55,16 +54,16 @@ prints_opening problem extra opening opens = record {
   written_is = refl;
 }
 
-pub SessionTells-opening : (problem : ProblemValue) (extra : ℕ) (opening : Timeline Moment) (known rest : Option (List ℕ)) (given : List ℕ) (left_old left_new : ℕ)
+pub SessionTells-opening : (problem : ProblemValue) (extra : ℕ) (opening : SessionState) (known rest : Option (List ℕ)) (given : List ℕ) (left_old left_new : ℕ)
     (commands : Option (List ℕ)) (count : ℕ) (before after : Option (List ℕ))
     → Gives known rest given left_old left_new → IsAtEnd rest → reads given ≡ Ok problem → Opens problem extra opening
-    → AppendsBeginning before after (outcome_line opening.present.verdict)
+    → AppendsBeginning before after (outcome_line opening.moments.present.verdict)
     → SessionTells WriteFailed extra known (left_old - left_new) commands count before after
 SessionTells-opening problem extra opening None rest given left_old left_new commands count before after gives end is opens part = tt
 SessionTells-opening problem extra opening (Some text) rest given left_old left_new None count before after gives end is opens part = tt
 SessionTells-opening problem extra opening (Some text) rest given left_old left_new (Some commands) count None after gives end is opens part = tt
 SessionTells-opening problem extra opening (Some text) rest given left_old left_new (Some commands) count (Some held) after gives end is opens part =
-    let line = outcome_line opening.present.verdict in
+    let line = outcome_line opening.moments.present.verdict in
     let begins : PrintsBeginning problem extra (parts_of (take count commands)).ended part.0 =
     record {
       front = [];
@@ -77,8 +76,8 @@ SessionTells-opening problem extra opening (Some text) rest given left_old left_
 
 -- ---- the commands came to their end, or to a failed call
 
-prints_run : (problem : ProblemValue) (extra : ℕ) (opening last : Timeline Moment) (lines : List Line) (replies : List ℕ) → Opens problem extra opening
-    → Answers opening lines replies last → PrintsRun problem extra lines (outcome_line opening.present.verdict ++ replies)
+prints_run : (problem : ProblemValue) (extra : ℕ) (opening last : SessionState) (lines : List Line) (replies : List ℕ) → Opens problem extra opening
+    → Answers opening lines replies last → PrintsRun problem extra lines (outcome_line opening.moments.present.verdict ++ replies)
 prints_run problem extra opening last lines replies opens answers = record {
   opening = opening;
   opens = opens;
@@ -89,25 +88,25 @@ prints_run problem extra opening last lines replies opens answers = record {
 }
 
 -- replies were written up to a failed call
-prints_stopped : (extra : ℕ) (problem : ProblemValue) (opening : Timeline Moment) (lines : List Line) (held : List ℕ) (mid after : Option (List ℕ)) → Opens problem extra opening
-    → Appends (Some held) mid (outcome_line opening.present.verdict) → Stopped opening lines mid after
+prints_stopped : (extra : ℕ) (problem : ProblemValue) (opening : SessionState) (lines : List Line) (held : List ℕ) (mid after : Option (List ℕ)) → Opens problem extra opening
+    → Appends (Some held) mid (outcome_line opening.moments.present.verdict) → Stopped opening lines mid after
     → (written : List ℕ) × (after ≡ Some (held ++ written)) × PrintsBeginning problem extra lines written
 prints_stopped extra problem opening lines held mid after opens line stop =
-    let part = AppendsBeginning-after (Some held) mid after (outcome_line opening.present.verdict) stop.whole line stop.appends in
+    let part = AppendsBeginning-after (Some held) mid after (outcome_line opening.moments.present.verdict) stop.whole line stop.appends in
     let begins : PrintsBeginning problem extra lines part.0 =
     record {
       front = stop.front;
       begins = stop.begins;
-      whole = outcome_line opening.present.verdict ++ stop.whole;
+      whole = outcome_line opening.moments.present.verdict ++ stop.whole;
       prints = prints_run problem extra opening stop.last stop.front stop.whole opens stop.answers;
       part = part.1;
     } in
     (part.0, appended held part.0 after part.2, begins)
 
 -- at known devices
-commands_end : (end : End) (extra : ℕ) (problem : ProblemValue) (opening : Timeline Moment) (text problem_given commands given held : List ℕ) (rest : Option (List ℕ)) (left_old left_new : ℕ) (mid after : Option (List ℕ))
+commands_end : (end : End) (extra : ℕ) (problem : ProblemValue) (opening : SessionState) (text problem_given commands given held : List ℕ) (rest : Option (List ℕ)) (left_old left_new : ℕ) (mid after : Option (List ℕ))
     → IsProblemText text problem_given problem → Opens problem extra opening → Gives (Some commands) rest given left_old left_new
-    → Appends (Some held) mid (outcome_line opening.present.verdict) → CommandsEnd end opening given rest mid after
+    → Appends (Some held) mid (outcome_line opening.moments.present.verdict) → CommandsEnd end opening given rest mid after
     → (written : List ℕ) × (after ≡ Some (held ++ written)) × SessionWrites end extra text problem_given commands (take (left_old - left_new) commands) written
 commands_end Solved extra problem opening text problem_given commands given held rest left_old left_new mid after is opens gives line ends = absurd ends
 commands_end Infeasible extra problem opening text problem_given commands given held rest left_old left_new mid after is opens gives line ends = absurd ends
@@ -120,16 +119,16 @@ commands_end Memory extra problem opening text problem_given commands given held
 commands_end Ended extra problem opening text problem_given commands given held rest left_old left_new mid after is opens gives line ends =
     let answered = ends.2 in
     let whole = text_at_end commands given rest gives.bytes ends.0 in
-    let all = Appends-trans (Some held) mid after (outcome_line opening.present.verdict) answered.written line answered.appends in (
-      outcome_line opening.present.verdict ++ answered.written,
+    let all = Appends-trans (Some held) mid after (outcome_line opening.moments.present.verdict) answered.written line answered.appends in (
+      outcome_line opening.moments.present.verdict ++ answered.written,
       appended held _ after all,
       (problem, is, rw whole (prints_run problem extra opening ends.1 (lines_of given) answered.written opens answered.answers)),
     )
 commands_end (ReadFailed the.Commands) extra problem opening text problem_given commands given held rest left_old left_new mid after is opens gives line ends =
     let answered = ends.1 in
     let came = text_given commands given rest left_old left_new gives in
-    let all = Appends-trans (Some held) mid after (outcome_line opening.present.verdict) answered.written line answered.appends in (
-      outcome_line opening.present.verdict ++ answered.written,
+    let all = Appends-trans (Some held) mid after (outcome_line opening.moments.present.verdict) answered.written line answered.appends in (
+      outcome_line opening.moments.present.verdict ++ answered.written,
       appended held _ after all,
       (problem, is, rw came (prints_run problem extra opening ends.0 (parts_of given).ended answered.written opens answered.answers)),
     )
@@ -142,10 +141,10 @@ commands_end WriteFailed extra problem opening text problem_given commands given
     let whole = text_at_end commands given rest gives.bytes ends.0 in
     (begins.0, begins.1, (problem, is, inr (all_given commands given rest left_old left_new gives ends.0, rw whole begins.2)))
 
-pub SessionTells-commands : (end : End) (extra : ℕ) (problem : ProblemValue) (opening : Timeline Moment) (known problem_rest : Option (List ℕ)) (problem_given : List ℕ) (problem_old problem_new : ℕ)
+pub SessionTells-commands : (end : End) (extra : ℕ) (problem : ProblemValue) (opening : SessionState) (known problem_rest : Option (List ℕ)) (problem_given : List ℕ) (problem_old problem_new : ℕ)
     (commands rest : Option (List ℕ)) (given : List ℕ) (left_old left_new : ℕ) (before mid after : Option (List ℕ))
     → Gives known problem_rest problem_given problem_old problem_new → IsAtEnd problem_rest → reads problem_given ≡ Ok problem → Opens problem extra opening
-    → Appends before mid (outcome_line opening.present.verdict) → Gives commands rest given left_old left_new → CommandsEnd end opening given rest mid after
+    → Appends before mid (outcome_line opening.moments.present.verdict) → Gives commands rest given left_old left_new → CommandsEnd end opening given rest mid after
     → SessionTells end extra known (problem_old - problem_new) commands (left_old - left_new) before after
 SessionTells-commands end extra problem opening None problem_rest problem_given problem_old problem_new commands rest given left_old left_new before mid after has at_end is opens line gives ends = tt
 SessionTells-commands end extra problem opening (Some text) problem_rest problem_given problem_old problem_new None rest given left_old left_new before mid after has at_end is opens line gives ends = tt

@@ -25,7 +25,7 @@ Run old [] [] new = new ≡ old
 Run old [] (text ∷ texts) new = ⊥
 Run old (turn ∷ turns) [] new = ⊥
 Run old (turn ∷ turns) (text ∷ texts) new =
-    (mid : SessionState) × (reply : Reply) × TurnStep old turn reply mid × (text ≡ reply_text reply mid.present) × Run mid turns texts new
+    (mid : SessionState) × (reply : Reply) × TurnStep old turn reply mid × (text ≡ reply_text reply mid.moments.present) × Run mid turns texts new
 
 -- a run over these turns, whose texts joined are what is written
 pub record AnswersTurns (old : SessionState) (turns : List Turn) (written : List ℕ) (new : SessionState) : Type 0 where

@@ -25,11 +25,11 @@ number_of refusal.Memory = 30
 pub record Replies {E : Type 0} (result : Result (Unit {0}) E) (StepTo : Reply → SessionState → Type 0) (new : SessionState) (before after : Option (List ℕ)) : Type 0 where
   pub reply : Reply
   pub step : StepTo reply new
-  pub writes : WritesUpTo result before after (reply_text reply new.present)
+  pub writes : WritesUpTo result before after (reply_text reply new.moments.present)
 
 -- what the lines of the group that stands open have given, if one does
 abbrev pub gathered_in : SessionState → Option (List Line) → Option Gathered
-gathered_in s opened = option_map (gathered (kind_of s.present.instance.demand) 0) opened
+gathered_in s opened = option_map (gathered (kind_of s.moments.present.instance.demand) 0) opened
 
 -- after the lines of the group that stands open, the turn that a line makes whole is answered by one step
 abbrev pub AnswersLine : SessionState → Option (List Line) → Line → List ℕ → SessionState → Type 0

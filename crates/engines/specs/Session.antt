@@ -15,11 +15,12 @@ use Rattle.engines.specs.Printing.{outcome_line}
 use Rattle.engines.specs.Run.{Answers}
 use Rattle.engines.specs.Solve.{IsSettled}
 
--- a session on a problem, with room for so many arcs more, begins with an answer to it, and with nothing to undo or redo
+-- a session on a problem, with room for so many arcs more, begins with an answer to it, with nothing to undo or redo, and without marks
 pub record Opens (problem : ProblemValue) (extra : ℕ) (opening : SessionState) : Type 0 where
-  pub past : opening.past ≡ []
-  pub settled : IsSettled (first problem extra) opening.present
-  pub future : opening.future ≡ []
+  pub past : opening.moments.past ≡ []
+  pub settled : IsSettled (first problem extra) opening.moments.present
+  pub future : opening.moments.future ≡ []
+  pub marks : opening.marks ≡ []
 
 -- the printing of a run over these lines: what is told of the opening, and the replies
 pub record PrintsRun (problem : ProblemValue) (extra : ℕ) (lines : List Line) (written : List ℕ) : Type 0 where
@@ -28,7 +29,7 @@ pub record PrintsRun (problem : ProblemValue) (extra : ℕ) (lines : List Line) 
   pub last : SessionState
   pub replies : List ℕ
   pub answers : Answers opening lines replies last
-  pub written_is : written ≡ outcome_line opening.present.verdict ++ replies
+  pub written_is : written ≡ outcome_line opening.moments.present.verdict ++ replies
 
 -- a beginning of the printing of a run over the first of these lines
 pub record PrintsBeginning (problem : ProblemValue) (extra : ℕ) (lines : List Line) (written : List ℕ) : Type 0 where

@@ -1,7 +1,7 @@
 //! Runs a session: reads its problem, and then its commands, each turn of which is answered before the next.
 ghost use Rattle.std.specs.Prelude.{◌≡◌, ℕ, ◌+◌, ◌-◌, ◌^◌, ◌<◌, List, ◌++◌, Option};
 ghost use Rattle.dimacs_io.specs.Device.{CountsFailure, WritesUpTo};
-ghost use Rattle.session.specs.Step.{SessionState};
+ghost use Rattle.session.specs.Step.{SessionState, state_of};
 ghost use Rattle.checker.specs.Check.{problem_failures, write_failures};
 ghost use Rattle.engines.specs.Printing.{outcome_line};
 ghost use Rattle.checker.specs.Reading.{Gives};
@@ -111,7 +111,7 @@ fn serve_commands<A: Allocator + Copy, C: Source, O: Sink>(
     requires out { O.failures out.old < 2 ^ 64 - 1 }
     ensures served { (given : List ℕ)
         × Gives (C.remaining script.old) (C.remaining script.new) given (C.most_left script.old) (C.most_left script.new)
-        × CommandsEnd result session.old.moments given (C.remaining script.new) (O.contents out.old) (O.contents out.new) }
+        × CommandsEnd result (state_of session.old) given (C.remaining script.new) (O.contents out.old) (O.contents out.new) }
     ensures failed { CommandsFail result (C.failures script.old) (C.failures script.new) (O.failures out.old) (O.failures out.new) }
 {
     let mut group = None;
@@ -143,8 +143,8 @@ fn serve_piece<A: Allocator + Copy, O: Sink>(
 ) -> Result<(), Broken>
     requires { O.failures out.old < 2 ^ 64 - 1 }
     ensures goes_on { (opening : SessionState) (given : List ℕ) (before : Option (List ℕ))
-        → Stands opening given session.old.moments group.old cutter.old before (O.contents out.old)
-        → GoesOn result opening (given ++ piece.now) session.new.moments group.new cutter.new before (O.contents out.new) }
+        → Stands opening given (state_of session.old) group.old cutter.old before (O.contents out.old)
+        → GoesOn result opening (given ++ piece.now) (state_of session.new) group.new cutter.new before (O.contents out.new) }
     ensures failed { CountsFailure result (O.failures out.old) (O.failures out.new) }
 {
     let mut at = 0;
@@ -168,8 +168,8 @@ fn serve_rest<A: Allocator + Copy, O: Sink>(
 ) -> Result<(), Broken>
     requires { O.failures out.old < 2 ^ 64 - 1 }
     ensures rest { (opening : SessionState) (given : List ℕ) (before : Option (List ℕ))
-        → Stands opening given session.old.moments group.old cutter.now before (O.contents out.old)
-        → Finishes result opening given session.new.moments before (O.contents out.new) }
+        → Stands opening given (state_of session.old) group.old cutter.now before (O.contents out.old)
+        → Finishes result opening given (state_of session.new) before (O.contents out.new) }
     ensures failed { CountsFailure result (O.failures out.old) (O.failures out.new) }
 {
     if cutter.begun() {

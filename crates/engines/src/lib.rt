@@ -1,4 +1,4 @@
-//! The engines that solve: `solve` prints a best flow or a cut, `run_session` answers edits, undo and redo.
+//! The engines that solve: `solve` prints a best flow or a cut, `run_session` answers edits, undo, redo and marks.
 #![tactic(auto)]
 
 mod interaction;

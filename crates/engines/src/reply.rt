@@ -9,13 +9,13 @@ ghost use Rattle.dimacs_text.specs.Fields.{words_of};
 ghost use Rattle.dimacs_text.specs.Group.{gathered};
 ghost use Rattle.dimacs_text.specs.Lines.{Line};
 ghost use Rattle.network.specs.Edited.{edited_all};
-ghost use Rattle.session.specs.Step.{StepBy, StepOfEdit, StepOfGroup};
+ghost use Rattle.session.specs.Step.{StepBy, StepOfEdit, StepOfGroup, state_of};
 ghost use Rattle.engines.specs.Run.{asks};
 ghost use Rattle.engines.specs.Serving.{Replies, ServesLine, gathered_in, number_of};
 
 use crate::solution::{write_outcome, write_solution};
 use dimacs_io::{Broken, Sink, write_r};
-use dimacs_text::{Command, Edit, Group, is_blank, read_command};
+use dimacs_text::{Command, Edit, Group, Name, is_blank, read_command};
 use network::Network;
 use session::{Refusal, Session};
 use std::alloc::Allocator;
@@ -41,8 +41,8 @@ pub fn serve_line<A: Allocator + Copy, O: Sink>(
 ) -> Result<(), Broken>
     requires { O.failures out.old < 2 ^ 64 - 1 }
     ensures served { (whole : Line) → option_map (λ l. l.now) line.entry ≡ kept whole
-        → (opened : Option (List Line)) → group.old ≡ gathered_in session.old.moments opened
-        → ServesLine result session.old.moments opened whole session.new.moments group.new (O.contents out.old) (O.contents out.new) }
+        → (opened : Option (List Line)) → group.old ≡ gathered_in (state_of session.old) opened
+        → ServesLine result (state_of session.old) opened whole (state_of session.new) group.new (O.contents out.old) (O.contents out.new) }
     ensures failed { CountsFailure result (O.failures out.old) (O.failures out.new) }
 {
     if !asks(line) {
@@ -83,7 +83,7 @@ fn serve_alone<A: Allocator + Copy, O: Sink>(
     requires asks { IfSome line (λ l. words_of l.now ≢ []) }
     requires alone { group.old ≡ None }
     ensures served { (whole : Line) → option_map (λ l. l.now) line.entry ≡ kept whole
-        → ServesLine result session.old.moments None whole session.new.moments group.new (O.contents out.old) (O.contents out.new) }
+        → ServesLine result (state_of session.old) None whole (state_of session.new) group.new (O.contents out.old) (O.contents out.new) }
     ensures failed { CountsFailure result (O.failures out.old) (O.failures out.new) }
 {
     match line {
@@ -116,7 +116,7 @@ fn serve<A: Allocator + Copy, O: Sink>(
     out: &mut O,
 ) -> Result<(), Broken>
     requires { O.failures out.old < 2 ^ 64 - 1 }
-    ensures replies { Replies result (StepBy command session.old.moments) session.new.moments (O.contents out.old) (O.contents out.new) }
+    ensures replies { Replies result (StepBy command (state_of session.old)) (state_of session.new) (O.contents out.old) (O.contents out.new) }
     ensures failed { CountsFailure result (O.failures out.old) (O.failures out.new) }
 {
     match command {
@@ -127,6 +127,8 @@ fn serve<A: Allocator + Copy, O: Sink>(
         Command::Proof => write_solution(session, true, out),
         Command::Group => write_r(out, OUT_OF_PLACE),
         Command::End => write_r(out, OUT_OF_PLACE),
+        Command::Mark(name) => mark(session, &name, out),
+        Command::Back(name) => back(session, &name, out),
     }
 }
 
@@ -138,7 +140,7 @@ fn apply_group<A: Allocator + Copy, O: Sink>(
     out: &mut O,
 ) -> Result<(), Broken>
     requires { O.failures out.old < 2 ^ 64 - 1 }
-    ensures replies { Replies result (StepOfGroup group.now session.old.moments) session.new.moments (O.contents out.old) (O.contents out.new) }
+    ensures replies { Replies result (StepOfGroup group.now (state_of session.old)) (state_of session.new) (O.contents out.old) (O.contents out.new) }
     ensures failed { CountsFailure result (O.failures out.old) (O.failures out.new) }
 {
     match group.fault() {
@@ -170,7 +172,7 @@ fn apply<A: Allocator + Copy, O: Sink>(
     out: &mut O,
 ) -> Result<(), Broken>
     requires { O.failures out.old < 2 ^ 64 - 1 }
-    ensures replies { Replies result (StepOfEdit edit.now session.old.moments) session.new.moments (O.contents out.old) (O.contents out.new) }
+    ensures replies { Replies result (StepOfEdit edit.now (state_of session.old)) (state_of session.new) (O.contents out.old) (O.contents out.new) }
     ensures failed { CountsFailure result (O.failures out.old) (O.failures out.new) }
 {
     match session.apply(edit) {
@@ -182,7 +184,7 @@ fn apply<A: Allocator + Copy, O: Sink>(
 /// Goes back one moment, and writes its outcome, or that there is none.
 fn undo<A: Allocator + Copy, O: Sink>(session: &mut Session<A>, out: &mut O) -> Result<(), Broken>
     requires { O.failures out.old < 2 ^ 64 - 1 }
-    ensures replies { Replies result (StepBy Command.Undo session.old.moments) session.new.moments (O.contents out.old) (O.contents out.new) }
+    ensures replies { Replies result (StepBy Command.Undo (state_of session.old)) (state_of session.new) (O.contents out.old) (O.contents out.new) }
     ensures failed { CountsFailure result (O.failures out.old) (O.failures out.new) }
 {
     if session.undo() {
@@ -195,13 +197,45 @@ fn undo<A: Allocator + Copy, O: Sink>(session: &mut Session<A>, out: &mut O) -> 
 /// Goes on one moment, and writes its outcome, or that there is none.
 fn redo<A: Allocator + Copy, O: Sink>(session: &mut Session<A>, out: &mut O) -> Result<(), Broken>
     requires { O.failures out.old < 2 ^ 64 - 1 }
-    ensures replies { Replies result (StepBy Command.Redo session.old.moments) session.new.moments (O.contents out.old) (O.contents out.new) }
+    ensures replies { Replies result (StepBy Command.Redo (state_of session.old)) (state_of session.new) (O.contents out.old) (O.contents out.new) }
     ensures failed { CountsFailure result (O.failures out.old) (O.failures out.new) }
 {
     if session.redo() {
         write_outcome(session, out)
     } else {
         write_r(out, NOTHING_TO_REDO)
+    }
+}
+
+/// Puts the name's mark on the present moment, and writes its outcome, or the number of the refusal.
+fn mark<A: Allocator + Copy, O: Sink>(
+    session: &mut Session<A>,
+    name: &Name,
+    out: &mut O,
+) -> Result<(), Broken>
+    requires { O.failures out.old < 2 ^ 64 - 1 }
+    ensures replies { Replies result (StepBy (Command.Mark name.now) (state_of session.old)) (state_of session.new) (O.contents out.old) (O.contents out.new) }
+    ensures failed { CountsFailure result (O.failures out.old) (O.failures out.new) }
+{
+    match session.mark(name) {
+        Ok(()) => write_outcome(session, out),
+        Err(number) => write_r(out, number),
+    }
+}
+
+/// Moves to the moment that bears the name, and writes its outcome, or the number of the refusal.
+fn back<A: Allocator + Copy, O: Sink>(
+    session: &mut Session<A>,
+    name: &Name,
+    out: &mut O,
+) -> Result<(), Broken>
+    requires { O.failures out.old < 2 ^ 64 - 1 }
+    ensures replies { Replies result (StepBy (Command.Back name.now) (state_of session.old)) (state_of session.new) (O.contents out.old) (O.contents out.new) }
+    ensures failed { CountsFailure result (O.failures out.old) (O.failures out.new) }
+{
+    match session.back(name) {
+        Ok(()) => write_outcome(session, out),
+        Err(number) => write_r(out, number),
     }
 }
 

@@ -55,18 +55,21 @@ pub const AFTER_SESSION: &str =
   supply ID V    the supply of node ID (min)          proof  print it with its potentials
   add ..         an arc, by the fields of an a line   group  the edits up to 'end' are one step:
   close K        both bounds of arc K become 0        end    solved, answered and undone at once
+  mark NAME      marks where you are, by 1 to 32 letters; at most 16 names are marked at a time
+  back NAME      undoes or redoes up to there; an edit takes away the marks of steps that were undone
 
 Each answers 's VALUE' (best), 'i SHORTAGE' (no legal flow exists now) or 'r N' (refused, nothing changed); of a
 group only 'end' does, with the number of its first refused line:
-   1  a line of more than 1,024 bytes    23  not for this kind of problem
-   2  no such command                    24  no room for another arc: start with a larger --extra
-   3  wrong number of fields             25  nothing to undo
-   4  not a number                       26  nothing to redo
-   5  a value out of range               27  asn: not from the source side to the sink side
+   1  a line of more than 1,024 bytes    24  no room for another arc: start with a larger --extra
+   2  no such command                    25  nothing to undo
+   3  wrong number of fields             26  nothing to redo
+   4  not a number                       27  asn: not from the source side to the sink side
+   5  a value out of range               28  no mark of this name
   20  no such arc                        29  'end' without 'group', or no edit in a group
   21  no such node                       30  not enough memory for this edit or group
   22  the lower bound would be above     31  more than 1,000 edits in a group
-      the capacity
+      the capacity                       32  not a name
+  23  not for this kind of problem       33  16 other names have marks
 
 Examples:
   mcf session plan.min

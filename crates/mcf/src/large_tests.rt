@@ -120,7 +120,10 @@ fn an_answer_of_many_full_arcs_is_valid(rt: HostRuntime) -> Result<(), Fail> {
 #[test]
 fn fifty_thousand_nodes_are_solved(rt: HostRuntime) -> Result<(), Fail> {
     // A chain from the one surplus to the one deficit.
-    let mut chain = text(rt.alloc(), &[(1, b"p min 50000 49999\nn 1 1\nn 50000 -1\n")])?;
+    let mut chain = text(
+        rt.alloc(),
+        &[(1, b"p min 50000 49999\nn 1 1\nn 50000 -1\n")],
+    )?;
     let mut flow = text(rt.alloc(), &[(1, b"s 49999000000000000\n")])?;
     for k in 1..50_000_u32 {
         writeln!(chain, "a {k} {} 0 1 1000000000000", k + 1)?;

@@ -15,6 +15,8 @@ mod group_tests;
 mod help;
 #[cfg(test)]
 mod large_tests;
+#[cfg(test)]
+mod mark_tests;
 mod parse;
 #[cfg(test)]
 mod refused_growths;

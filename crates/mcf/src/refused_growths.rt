@@ -9,25 +9,44 @@ use refusing::Refusing;
 /// More growths than any commands below take.
 const MOST: u64 = 99;
 
-/// What brings a session to the moment at which growths are refused.
-const BEFORE: &[u8] = b"cap 5 3\nundo\n";
+/// A session of which the growths of an edit or of a group are refused: what brings it to the moment before, the same
+/// and the edit, and these and what goes back to the future that the edit would have dropped. Then what is written where
+/// the edit is refused.
+#[derive(Clone, Copy)]
+struct Case {
+    before: &'static [u8],
+    edited: &'static [u8],
+    commands: &'static [u8],
+    replies: &'static [u8],
+}
 
-/// The same and an edit, and these and what goes back to the future that the edit would have dropped. Then the same of
-/// a group of edits.
-const EDITS: [(&[u8], &[u8]); 2] = [
-    (
-        b"cap 5 3\nundo\ncap 1 1\n",
-        b"cap 5 3\nundo\ncap 1 1\nredo\nshow\n",
-    ),
-    (
-        b"cap 5 3\nundo\ngroup\ncap 1 1\ncap 2 3\nend\n",
-        b"cap 5 3\nundo\ngroup\ncap 1 1\ncap 2 3\nend\nredo\nshow\n",
-    ),
+const CASES: [Case; 4] = [
+    Case {
+        before: b"cap 5 3\nundo\n",
+        edited: b"cap 5 3\nundo\ncap 1 1\n",
+        commands: b"cap 5 3\nundo\ncap 1 1\nredo\nshow\n",
+        replies: b"s 14\ns 15\ns 14\nr 30\ns 15\ns 15\nf 1 2 2\nf 1 3 2\nf 2 3 1\nf 2 4 1\nf 3 4 3\n",
+    },
+    Case {
+        before: b"cap 5 3\nundo\n",
+        edited: b"cap 5 3\nundo\ngroup\ncap 1 1\ncap 2 3\nend\n",
+        commands: b"cap 5 3\nundo\ngroup\ncap 1 1\ncap 2 3\nend\nredo\nshow\n",
+        replies: b"s 14\ns 15\ns 14\nr 30\ns 15\ns 15\nf 1 2 2\nf 1 3 2\nf 2 3 1\nf 2 4 1\nf 3 4 3\n",
+    },
+    // With marks in place of undo and redo.
+    Case {
+        before: b"cap 5 3\nmark m\nundo\n",
+        edited: b"cap 5 3\nmark m\nundo\ncap 1 1\n",
+        commands: b"cap 5 3\nmark m\nundo\ncap 1 1\nback m\nshow\n",
+        replies: b"s 14\ns 15\ns 15\ns 14\nr 30\ns 15\ns 15\nf 1 2 2\nf 1 3 2\nf 2 3 1\nf 2 4 1\nf 3 4 3\n",
+    },
+    Case {
+        before: b"mark k\ncap 5 3\nmark m\nback k\n",
+        edited: b"mark k\ncap 5 3\nmark m\nback k\ngroup\ncap 1 1\ncap 2 3\nend\n",
+        commands: b"mark k\ncap 5 3\nmark m\nback k\ngroup\ncap 1 1\ncap 2 3\nend\nmark l\nback m\nback l\nredo\nshow\n",
+        replies: b"s 14\ns 14\ns 15\ns 15\ns 14\nr 30\ns 14\ns 15\ns 14\ns 15\ns 15\nf 1 2 2\nf 1 3 2\nf 2 3 1\nf 2 4 1\nf 3 4 3\n",
+    },
 ];
-
-/// The replies where the edit or the group is refused.
-const REPLIES: &[u8] =
-    b"s 14\ns 15\ns 14\nr 30\ns 15\ns 15\nf 1 2 2\nf 1 3 2\nf 2 3 1\nf 2 4 1\nf 3 4 3\n";
 
 /// Runs a session on the diamond that serves so many growths of its steps, refuses so many after them, and serves the
 /// rest. Gives how it ends, what is written, and how many growths it could still take before one is refused.
@@ -52,18 +71,18 @@ fn growths(rt: &HostRuntime, commands: &[u8]) -> u64 {
     MOST.saturating_sub(left)
 }
 
-/// Whether the future is kept at each growth of the edit, and of the group, that is refused, with the next ones so that
-/// there are so many.
+/// Whether the future and the marks are kept at each growth of the edit, and of the group, that is refused, with the next
+/// ones so that there are so many.
 fn keeps_future(rt: &HostRuntime, refused: u64) -> bool {
-    let first = growths(rt, BEFORE);
-    for (edited, commands) in EDITS {
-        let end_of_edit = growths(rt, edited);
+    for case in CASES {
+        let first = growths(rt, case.before);
+        let end_of_edit = growths(rt, case.edited);
         if first >= end_of_edit || end_of_edit >= MOST {
             return false;
         }
         for served in first..end_of_edit {
-            let (end, out, _) = session(rt, commands, served, refused);
-            if end != End::Ended || out.held() != REPLIES {
+            let (end, out, _) = session(rt, case.commands, served, refused);
+            if end != End::Ended || out.held() != case.replies {
                 return false;
             }
         }

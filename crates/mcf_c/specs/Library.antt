@@ -1,4 +1,4 @@
--- What the calls do, in terms of the moments behind a handle.
+-- What the calls do, in terms of the state behind a handle: its moments and its marks.
 use Rattle.std.specs.Prelude.{◌≡◌, ℕ, ◌^◌, ◌==◌, ℤ, pos, ◌+ℤ◌, ◌*ℤ◌, Bool, true, false, not, List, [], length, Option, None, Some, Result, Ok, Err, if◌then◌else◌}
 use Rattle.std.specs.Option.{MatchOption, option_map}
 use Rattle.dimacs_text.specs.declared.fault.TextFault.{TextFault}
@@ -12,14 +12,14 @@ use Rattle.history.specs.Boards.{Timeline}
 use Rattle.network.specs.Instance.{first}
 use Rattle.session.specs.declared.refusal.Refusal.{Refusal}
 use Rattle.session.specs.declared.refusal.Refusal.TheVariants as refusal
-use Rattle.session.specs.Step.{Reply, Tells, Shows, Refuses}
+use Rattle.session.specs.Step.{Reply, SessionState, Tells, Shows, Refuses, state_of}
 use Rattle.mcf_c.specs.declared.handle.Handle.{Handle}
 use Rattle.mcf_c.specs.declared.view.View.{View}
 use Rattle.mcf_c.specs.declared.status.TheConstants.{CLOSED, NOT_THERE, OTHER_LENGTH}
 
--- the moments behind a handle, where it is open
-abbrev pub moments_of : Handle → Option (Timeline Moment)
-moments_of handle = option_map (λ plan. plan.session.moments) handle.pointer.plan
+-- the state of the session behind a handle, where it is open
+abbrev pub state_behind : Handle → Option SessionState
+state_behind handle = option_map (λ plan. state_of plan.session) handle.pointer.plan
 
 -- ---- opening
 
@@ -29,14 +29,15 @@ ReadsAs (Ok problem) text = reads text ≡ Ok problem
 ReadsAs (Err (text_fault.Fault number line)) text = reads text ≡ Err (text_fault.Fault number line)
 ReadsAs (Err text_fault.Memory) text = Unit {0}
 
--- the moments begin with the problem of the text, answered, with room for so many arcs more
-pub record IsOpening (text : List ℕ) (extra : ℕ) (t : Timeline Moment) : Type 0 where
+-- a session begins with the problem of the text, answered, with room for so many arcs more, and without marks
+pub record IsOpening (text : List ℕ) (extra : ℕ) (s : SessionState) : Type 0 where
   pub problem : ProblemValue
   pub problem_read : reads text ≡ Ok problem
-  pub instance_is : t.present.instance ≡ first problem extra
-  pub answered : IsAnswered t.present
-  pub no_past : t.past ≡ []
-  pub no_future : t.future ≡ []
+  pub instance_is : s.moments.present.instance ≡ first problem extra
+  pub answered : IsAnswered s.moments.present
+  pub no_past : s.moments.past ≡ []
+  pub no_future : s.moments.future ≡ []
+  pub no_marks : s.marks ≡ []
 
 -- ---- steps
 
@@ -52,13 +53,13 @@ told (Shows proof) = 0
 told (Refuses number) = number
 
 -- a step is taken by which this relation holds, and its reply is told by this number
-abbrev pub Steps : (Reply → Timeline Moment → Type 0) → ℕ → Timeline Moment → Type 0
+abbrev pub Steps : (Reply → SessionState → Type 0) → ℕ → SessionState → Type 0
 Steps StepTo number new = (reply : Reply) × (number ≡ told reply) × StepTo reply new
 
--- a closed handle stays so, and this is told; an open one stays open, and goes from its moments to the new ones
-abbrev pub Goes : Option (Timeline Moment) → ℤ → Option (Timeline Moment) → (Timeline Moment → ℕ → Timeline Moment → Type 0) → Type 0
+-- a closed handle stays so, and this is told; an open one stays open, and goes from its state to the new one
+abbrev pub Goes : Option SessionState → ℤ → Option SessionState → (SessionState → ℕ → SessionState → Type 0) → Type 0
 Goes old status new Step =
-    MatchOption old ((status ≡ CLOSED) × (new ≡ None)) (λ before. (number : ℕ) × (status ≡ pos number) × (after : Timeline Moment) × (new ≡ Some after) × Step before number after)
+    MatchOption old ((status ≡ CLOSED) × (new ≡ None)) (λ before. (number : ℕ) × (status ≡ pos number) × (after : SessionState) × (new ≡ Some after) × Step before number after)
 
 -- ---- views
 
@@ -87,9 +88,9 @@ abbrev pub given : Bool → ℕ → ℕ → ℤ
 given there count room = if there then (if count == room then pos 0 else OTHER_LENGTH) else NOT_THERE
 
 -- the same of a list of the present moment, by the verdict and the instance's sizes, behind a handle that may be closed
-abbrev pub given_of : Option (Timeline Moment) → (Moment → Bool) → (Moment → ℕ) → ℕ → ℤ
+abbrev pub given_of : Option SessionState → (Moment → Bool) → (Moment → ℕ) → ℕ → ℤ
 given_of None there count room = CLOSED
-given_of (Some t) there count room = given (there t.present) (count t.present) room
+given_of (Some s) there count room = given (there s.moments.present) (count s.moments.present) room
 
 abbrev pub has_flow : Moment → Bool
 has_flow m = is_feasible m.verdict

@@ -12,7 +12,7 @@ ghost use Rattle.flow_solver.specs.declared.verdict.Verdict.TheVariants.{Infeasi
 ghost use Rattle.network.specs.Instance.{IsBest, IsBreach, IsCertified, IsLegal, at_node, is_marked};
 ghost use Rattle.session.specs.Parts.{flow_of};
 ghost use Rattle.session.specs.Step.{Step, StepBy};
-ghost use Rattle.mcf_c.specs.Library.{Goes, IsOpening, IsViewOf, Steps, arc_count, given_of, has_cut, has_flow, moments_of, node_count};
+ghost use Rattle.mcf_c.specs.Library.{Goes, IsOpening, IsViewOf, Steps, arc_count, given_of, has_cut, has_flow, node_count, state_behind};
 
 mod handle;
 mod library;
@@ -53,12 +53,12 @@ pub extern "C" fn mcf_open(
     extra: u32,
     fault: &mut Fault,
 ) -> i32
-    ensures opened { result ≡ pos 0 → (moments_of handle.old ≡ None) × IfSome (moments_of handle.new) (IsOpening text.now extra) }
-    ensures open { result ≡ pos 0 → moments_of handle.new ≢ None }
+    ensures opened { result ≡ pos 0 → (state_behind handle.old ≡ None) × IfSome (state_behind handle.new) (IsOpening text.now extra) }
+    ensures open { result ≡ pos 0 → state_behind handle.new ≢ None }
     ensures fault { result ≡ FAULT → reads text.now ≡ Err (faults.Fault fault.new.number fault.new.line) }
-    ensures in_use { result ≡ OPEN → moments_of handle.old ≢ None }
+    ensures in_use { result ≡ OPEN → state_behind handle.old ≢ None }
     ensures otherwise { result ≢ pos 0 → result ≢ FAULT → result ≢ OPEN → result ≡ MEMORY }
-    ensures refused { result ≢ pos 0 → moments_of handle.new ≡ moments_of handle.old }
+    ensures refused { result ≢ pos 0 → state_behind handle.new ≡ state_behind handle.old }
 {
     if handle.is_open() {
         return OPEN;
@@ -90,7 +90,7 @@ pub extern "C" fn mcf_open(
 /// `group` and `end` are refused (29): each call takes one line.
 #[unsafe(no_mangle)]
 pub extern "C" fn mcf_command(alloc: Global, handle: &mut Handle, line: &[u8]) -> i32
-    ensures { Goes (moments_of handle.old) result (moments_of handle.new) (λ old. Steps (Step old line.now)) }
+    ensures { Goes (state_behind handle.old) result (state_behind handle.new) (λ old. Steps (Step old line.now)) }
 {
     let Some(mut plan) = handle.take(alloc) else {
         return CLOSED;
@@ -103,7 +103,7 @@ pub extern "C" fn mcf_command(alloc: Global, handle: &mut Handle, line: &[u8]) -
 /// Goes back one moment. Answers 0, or 25 where there is none, or `CLOSED`.
 #[unsafe(no_mangle)]
 pub extern "C" fn mcf_undo(alloc: Global, handle: &mut Handle) -> i32
-    ensures { Goes (moments_of handle.old) result (moments_of handle.new) (λ old. Steps (StepBy commands.Undo old)) }
+    ensures { Goes (state_behind handle.old) result (state_behind handle.new) (λ old. Steps (StepBy commands.Undo old)) }
 {
     let Some(mut plan) = handle.take(alloc) else {
         return CLOSED;
@@ -116,7 +116,7 @@ pub extern "C" fn mcf_undo(alloc: Global, handle: &mut Handle) -> i32
 /// Goes on one moment. Answers 0, or 26 where there is none, or `CLOSED`.
 #[unsafe(no_mangle)]
 pub extern "C" fn mcf_redo(alloc: Global, handle: &mut Handle) -> i32
-    ensures { Goes (moments_of handle.old) result (moments_of handle.new) (λ old. Steps (StepBy commands.Redo old)) }
+    ensures { Goes (state_behind handle.old) result (state_behind handle.new) (λ old. Steps (StepBy commands.Redo old)) }
 {
     let Some(mut plan) = handle.take(alloc) else {
         return CLOSED;
@@ -129,9 +129,9 @@ pub extern "C" fn mcf_redo(alloc: Global, handle: &mut Handle) -> i32
 /// Tells the verdict of the present moment, its sizes, and how many moments are past and future. Answers 0 or `CLOSED`.
 #[unsafe(no_mangle)]
 pub extern "C" fn mcf_look(alloc: Global, handle: &mut Handle, view: &mut View) -> i32
-    ensures shown { IfSome (moments_of handle.old) (λ t. (result ≡ pos 0) × IsViewOf t view.new) }
-    ensures closed { moments_of handle.old ≡ None → (result ≡ CLOSED) × (view.new ≡ view.old) }
-    ensures unchanged { moments_of handle.new ≡ moments_of handle.old }
+    ensures shown { IfSome (state_behind handle.old) (λ s. (result ≡ pos 0) × IsViewOf s.moments view.new) }
+    ensures closed { state_behind handle.old ≡ None → (result ≡ CLOSED) × (view.new ≡ view.old) }
+    ensures unchanged { state_behind handle.new ≡ state_behind handle.old }
 {
     let Some(plan) = handle.take(alloc) else {
         return CLOSED;
@@ -146,11 +146,11 @@ pub extern "C" fn mcf_look(alloc: Global, handle: &mut Handle, view: &mut View) 
 /// Answers 0, or `NOT_THERE` where no flow is legal, `OTHER_LENGTH` or `CLOSED`, after which the room is as before.
 #[unsafe(no_mangle)]
 pub extern "C" fn mcf_flow(alloc: Global, handle: &mut Handle, flow: &mut [i64]) -> i32
-    ensures status { result ≡ given_of (moments_of handle.old) has_flow arc_count (length flow.old) }
-    ensures copied { result ≡ pos 0 → IfSome (moments_of handle.old) (λ t. flow.new ≡ flow_of t.present) }
-    ensures best { result ≡ pos 0 → IfSome (moments_of handle.old) (λ t. IsBest t.present.instance flow.new) }
+    ensures status { result ≡ given_of (state_behind handle.old) has_flow arc_count (length flow.old) }
+    ensures copied { result ≡ pos 0 → IfSome (state_behind handle.old) (λ s. flow.new ≡ flow_of s.moments.present) }
+    ensures best { result ≡ pos 0 → IfSome (state_behind handle.old) (λ s. IsBest s.moments.present.instance flow.new) }
     ensures room { result ≢ pos 0 → flow.new ≡ flow.old }
-    ensures unchanged { moments_of handle.new ≡ moments_of handle.old }
+    ensures unchanged { state_behind handle.new ≡ state_behind handle.old }
 {
     let Some(plan) = handle.take(alloc) else {
         return CLOSED;
@@ -165,10 +165,10 @@ pub extern "C" fn mcf_flow(alloc: Global, handle: &mut Handle, flow: &mut [i64])
 /// Answers 0, or `NOT_THERE` where no flow is legal, `OTHER_LENGTH` or `CLOSED`, after which the room is as before.
 #[unsafe(no_mangle)]
 pub extern "C" fn mcf_potentials(alloc: Global, handle: &mut Handle, potentials: &mut [i64]) -> i32
-    ensures status { result ≡ given_of (moments_of handle.old) has_flow node_count (length potentials.old) }
-    ensures certified { result ≡ pos 0 → IfSome (moments_of handle.old) (λ t. IsCertified t.present.instance (flow_of t.present) (at_node potentials.new)) }
+    ensures status { result ≡ given_of (state_behind handle.old) has_flow node_count (length potentials.old) }
+    ensures certified { result ≡ pos 0 → IfSome (state_behind handle.old) (λ s. IsCertified s.moments.present.instance (flow_of s.moments.present) (at_node potentials.new)) }
     ensures room { result ≢ pos 0 → potentials.new ≡ potentials.old }
-    ensures unchanged { moments_of handle.new ≡ moments_of handle.old }
+    ensures unchanged { state_behind handle.new ≡ state_behind handle.old }
 {
     let Some(plan) = handle.take(alloc) else {
         return CLOSED;
@@ -183,12 +183,12 @@ pub extern "C" fn mcf_potentials(alloc: Global, handle: &mut Handle, potentials:
 /// Answers 0, or `NOT_THERE` where a flow is legal, `OTHER_LENGTH` or `CLOSED`, after which the room is as before.
 #[unsafe(no_mangle)]
 pub extern "C" fn mcf_cut(alloc: Global, handle: &mut Handle, cut: &mut [bool]) -> i32
-    ensures status { result ≡ given_of (moments_of handle.old) has_cut node_count (length cut.old) }
-    ensures none_legal { result ≡ pos 0 → IfSome (moments_of handle.old) (λ t. (flow : List ℤ) → IsLegal t.present.instance flow → ⊥) }
-    ensures breach { (shortage : ℤ) → result ≡ pos 0 → IfSome (moments_of handle.old)
-        (λ t. t.present.verdict ≡ Infeasible shortage → IsBreach t.present.instance (is_marked cut.new) shortage) }
+    ensures status { result ≡ given_of (state_behind handle.old) has_cut node_count (length cut.old) }
+    ensures none_legal { result ≡ pos 0 → IfSome (state_behind handle.old) (λ s. (flow : List ℤ) → IsLegal s.moments.present.instance flow → ⊥) }
+    ensures breach { (shortage : ℤ) → result ≡ pos 0 → IfSome (state_behind handle.old)
+        (λ s. s.moments.present.verdict ≡ Infeasible shortage → IsBreach s.moments.present.instance (is_marked cut.new) shortage) }
     ensures room { result ≢ pos 0 → cut.new ≡ cut.old }
-    ensures unchanged { moments_of handle.new ≡ moments_of handle.old }
+    ensures unchanged { state_behind handle.new ≡ state_behind handle.old }
 {
     let Some(plan) = handle.take(alloc) else {
         return CLOSED;
@@ -201,7 +201,7 @@ pub extern "C" fn mcf_cut(alloc: Global, handle: &mut Handle, cut: &mut [bool]) 
 /// Ends a session, and gives its memory back. A closed handle stays closed.
 #[unsafe(no_mangle)]
 pub extern "C" fn mcf_close(alloc: Global, handle: &mut Handle)
-    ensures { moments_of handle.new ≡ None }
+    ensures { state_behind handle.new ≡ None }
 {
     let _session = handle.take(alloc);
 }

@@ -2,11 +2,11 @@
 
 ghost use Rattle.std.specs.Prelude.{◌≡◌};
 ghost use Rattle.dimacs_text.specs.declared.command.Command.TheVariants as commands;
-ghost use Rattle.session.specs.Step.{Step, StepBy, StepOfEdit};
+ghost use Rattle.session.specs.Step.{Step, StepBy, StepOfEdit, state_of};
 ghost use Rattle.mcf_c.specs.Library.{ReadsAs, Steps, number_of};
 
 use dimacs_text::{
-    Command, Edit, LINE_LIMIT, Problem, ProblemReader, TextFault, is_blank, read_command,
+    Command, Edit, LINE_LIMIT, Name, Problem, ProblemReader, TextFault, is_blank, read_command,
 };
 use session::{Refusal, Session};
 use std::alloc::Global;
@@ -37,7 +37,7 @@ pub fn read_problem(alloc: Global, text: &[u8]) -> Result<Problem, TextFault>
 
 /// Takes the step that a line of a command text asks for, and answers 0 or the number of the refusal.
 pub fn take_line(session: &mut Session, line: &[u8]) -> u8
-    ensures { Steps (Step session.old.moments line.now) result session.new.moments }
+    ensures { Steps (Step (state_of session.old) line.now) result (state_of session.new) }
 {
     if is_blank(line) {
         return if line.len() > LINE_LIMIT {
@@ -54,7 +54,7 @@ pub fn take_line(session: &mut Session, line: &[u8]) -> u8
 
 /// Takes the step of a command.
 fn take(session: &mut Session, command: Command) -> u8
-    ensures { Steps (StepBy command session.old.moments) result session.new.moments }
+    ensures { Steps (StepBy command (state_of session.old)) result (state_of session.new) }
 {
     match command {
         Command::Edit(edit) => apply(session, &edit),
@@ -64,12 +64,14 @@ fn take(session: &mut Session, command: Command) -> u8
         Command::Proof => 0,
         Command::Group => OUT_OF_PLACE,
         Command::End => OUT_OF_PLACE,
+        Command::Mark(name) => mark(session, &name),
+        Command::Back(name) => back(session, &name),
     }
 }
 
 /// Applies an edit.
 fn apply(session: &mut Session, edit: &Edit) -> u8
-    ensures { Steps (StepOfEdit edit.now session.old.moments) result session.new.moments }
+    ensures { Steps (StepOfEdit edit.now (state_of session.old)) result (state_of session.new) }
 {
     match session.apply(edit) {
         Ok(_) => 0,
@@ -89,14 +91,34 @@ fn number_of(refusal: Refusal) -> u8
 
 /// Goes back one moment.
 pub fn undo(session: &mut Session) -> u8
-    ensures { Steps (StepBy commands.Undo session.old.moments) result session.new.moments }
+    ensures { Steps (StepBy commands.Undo (state_of session.old)) result (state_of session.new) }
 {
     if session.undo() { 0 } else { NOTHING_TO_UNDO }
 }
 
 /// Goes on one moment.
 pub fn redo(session: &mut Session) -> u8
-    ensures { Steps (StepBy commands.Redo session.old.moments) result session.new.moments }
+    ensures { Steps (StepBy commands.Redo (state_of session.old)) result (state_of session.new) }
 {
     if session.redo() { 0 } else { NOTHING_TO_REDO }
+}
+
+/// Puts the name's mark on the present moment.
+fn mark(session: &mut Session, name: &Name) -> u8
+    ensures { Steps (StepBy (commands.Mark name.now) (state_of session.old)) result (state_of session.new) }
+{
+    match session.mark(name) {
+        Ok(()) => 0,
+        Err(refused) => refused,
+    }
+}
+
+/// Moves to the moment that bears the name.
+fn back(session: &mut Session, name: &Name) -> u8
+    ensures { Steps (StepBy (commands.Back name.now) (state_of session.old)) result (state_of session.new) }
+{
+    match session.back(name) {
+        Ok(()) => 0,
+        Err(refused) => refused,
+    }
 }

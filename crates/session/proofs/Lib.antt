@@ -11,3 +11,7 @@ mod Leading
 mod Recording
 mod Applying
 mod Placing
+mod Marking
+mod Marked
+mod Moves
+mod Apart

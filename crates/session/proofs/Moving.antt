@@ -7,6 +7,7 @@ use Rattle.std.proofs.lemmas.List.{nil_from_length}
 use Rattle.history.specs.Boards.{Changes, all_changes}
 use Rattle.history.proofs.Timelines.{holds_past, holds_future}
 use Rattle.flow_solver.specs.Moment.{Moment}
+use Rattle.session.specs.declared.marks.Mark.{Mark}
 use Rattle.session.specs.Parts.{Named, named, flow_of, IsOneEnd}
 use Rattle.session.specs.PartsLaws.{has_supply}
 use Rattle.session.specs.Record.{Recorded, RecordFits, Differs, swapped, turned}
@@ -63,8 +64,8 @@ moved_there rs i (Some r) is = elim (slice_get_cases rs i).1 [
       cc
 ]
 
-module _ (h : Changes Recorded) (m : Moment) (kept : IsKept h m) (i : ℕ) where
-  pub moved_past : (o : Option (Bor Recorded)) → option_copied o ≡ slice_get (all_changes h) i → i < length h.past → IfSome o (λ r. IsRecord r.now (moment_at (stack_of h m) (i + 1)) (moment_at (stack_of h m) i))
+module _ (h : Changes Recorded) (m : Moment) (marks : List Mark) (kept : IsKept h m) (i : ℕ) where
+  pub moved_past : (o : Option (Bor Recorded)) → option_copied o ≡ slice_get (all_changes h) i → i < length h.past → IfSome o (λ r. IsRecord r.now (moment_at (stack_of h m marks) (i + 1)) (moment_at (stack_of h m marks) i))
   moved_past None is below = tt
   moved_past (Some r) is below =
       let read = get_or_from_slice_get (all_changes h) i r.now r.now (sym is) in
@@ -72,7 +73,7 @@ module _ (h : Changes Recorded) (m : Moment) (kept : IsKept h m) (i : ℕ) where
       let exact = holds_past Differs turned swapped h m kept.exact i r.now m below in
       rw read at (rw fits.1 at (is_record (get_or (all_changes h) i r.now) _ fits.0 exact.0))
 
-  pub moved_future : (o : Option (Bor Recorded)) → option_copied o ≡ slice_get (all_changes h) i → length h.past ≤ i → IfSome o (λ r. IsRecord r.now (moment_at (stack_of h m) i) (moment_at (stack_of h m) (i + 1)))
+  pub moved_future : (o : Option (Bor Recorded)) → option_copied o ≡ slice_get (all_changes h) i → length h.past ≤ i → IfSome o (λ r. IsRecord r.now (moment_at (stack_of h m marks) i) (moment_at (stack_of h m marks) (i + 1)))
   moved_future None is above = tt
   moved_future (Some r) is above =
       let below = slice_get_within (all_changes h) i r.now (sym is) in

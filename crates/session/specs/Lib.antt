@@ -7,5 +7,6 @@ pub mod Record
 pub mod ReturnLaws
 pub mod RecordLaws
 pub mod Group
+pub mod Marks
 pub mod Session
 pub mod Step

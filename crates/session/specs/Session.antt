@@ -7,16 +7,19 @@ use Rattle.network.specs.Edited.{edited, edited_all}
 use Rattle.flow_solver.specs.Moment.{Moment}
 use Rattle.flow_solver.specs.Desk.{Desk, IsAnswered}
 use Rattle.history.specs.Boards.{Changes, all_changes, Timeline, all_boards, boards, StandsFor}
+use Rattle.session.specs.declared.marks.Mark.{Mark}
 use Rattle.session.specs.declared.part.Part.{Part}
 use Rattle.session.specs.declared.part.Part.TheVariants.{Arc, Supply, Last, Gone}
+use Rattle.session.specs.Marks.{AreOn}
 use Rattle.session.specs.Places.{IsRising, AreWithin, IsDifference, end_of}
 use Rattle.session.specs.Parts.{named, listed, flow_of, instance_swapped, IsOneEnd}
 use Rattle.session.specs.Record.{Recorded, RecordFits, Differs, swapped}
 
--- the moments in the order of time, and the record between each moment and the next
+-- the moments in the order of time, the record between each moment and the next, and the marks of moments
 pub record Stack : Type 0 where
   pub moments : Timeline Moment
   pub records : List Recorded
+  pub marks : List Mark
 
 -- moment i, counted from 0 at the opening
 abbrev pub moment_at : Stack → ℕ → Moment
@@ -69,9 +72,14 @@ pub record IsKept (h : Changes Recorded) (m : Moment) : Type 0 where
   pub exact : StandsFor Differs swapped h m
   pub answered : All IsAnswered (all_boards (boards swapped h m))
 
--- the moments and the records of such changes at a moment
-abbrev pub stack_of : Changes Recorded → Moment → Stack
-stack_of h m = record { moments = boards swapped h m; records = all_changes h }
+-- what it keeps of them and of its marks
+pub record IsHeld (h : Changes Recorded) (m : Moment) (marks : List Mark) : Type 0 where
+  pub kept : IsKept h m
+  pub marked : AreOn (boards swapped h m) marks
+
+-- the moments and the records of such changes at a moment, with the marks
+abbrev pub stack_of : Changes Recorded → Moment → List Mark → Stack
+stack_of h m marks = record { moments = boards swapped h m; records = all_changes h; marks = marks }
 
 -- a place of an instance that a step changes
 pub data Place : Type 0 where

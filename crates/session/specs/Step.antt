@@ -1,5 +1,5 @@
 -- The steps of a session: what a line or a group asks for, what it does to the moments, and what is replied.
-use Rattle.std.specs.Prelude.{◌≡◌, ℕ, Bool, true, false, List, [], ◌⊎◌, Option, None, Some, MatchResult}
+use Rattle.std.specs.Prelude.{◌≡◌, ℕ, Bool, true, false, List, [], length, ◌⊎◌, Option, None, Some, MatchResult}
 use Rattle.dimacs_text.specs.declared.fault.Fault.{Fault}
 use Rattle.dimacs_text.specs.declared.command.Edit.{Edit}
 use Rattle.dimacs_text.specs.declared.command.Command.{Command}
@@ -13,11 +13,17 @@ use Rattle.history.specs.Boards.{Timeline, Advances, StepsBack, StepsForward}
 use Rattle.network.specs.Edited.{edited, edited_all}
 use Rattle.network.specs.Instance.{kind_of}
 use Rattle.flow_solver.specs.Moment.{Moment}
-use Rattle.session.specs.Session.{IsEdited, AreEdited}
+use Rattle.session.specs.declared.marks.Mark.{Mark}
+use Rattle.session.specs.Marks.{marked, has_place, with_mark, up_to, IsMovedTo}
+use Rattle.session.specs.Session.{Stack, IsEdited, AreEdited}
 
--- what a session has come to
-abbrev pub SessionState : Type 0
-SessionState = Timeline Moment
+-- what a session has come to: its moments in the order of time, and the marks of moments
+pub record SessionState : Type 0 where
+  pub moments : Timeline Moment
+  pub marks : List Mark
+
+abbrev pub state_of : Stack → SessionState
+state_of s = record { moments = s.moments; marks = s.marks }
 
 -- a reply tells the verdict of the present moment, shows its solution, with its potentials or without, or refuses by a number
 pub data Reply : Type 0 where
@@ -35,46 +41,75 @@ pub record IsShown (proof : Bool) (old : SessionState) (reply : Reply) (new : Se
   pub reply_is : reply ≡ Shows proof
   pub unchanged : new ≡ old
 
--- the old present is the last of the past, the new present answers the edited instance, and the future is empty
+-- the old present is the last of the past, the new present answers the edited instance, the future is empty, and the
+-- marks of the moments that go are taken away
 pub record IsApplied (edit : Edit) (old : SessionState) (reply : Reply) (new : SessionState) : Type 0 where
   pub reply_is : reply ≡ Tells
-  pub edited_to : IsEdited edit old.present new.present
-  pub advances : Advances old new
+  pub edited_to : IsEdited edit old.moments.present new.moments.present
+  pub advances : Advances old.moments new.moments
+  pub marks : new.marks ≡ up_to (length old.moments.past) old.marks
 
 -- the same of edits that are made one after the other, as one step
 pub record AreApplied (edits : List Edit) (old : SessionState) (reply : Reply) (new : SessionState) : Type 0 where
   pub reply_is : reply ≡ Tells
-  pub edited_to : AreEdited edits old.present new.present
-  pub advances : Advances old new
+  pub edited_to : AreEdited edits old.moments.present new.moments.present
+  pub advances : Advances old.moments new.moments
+  pub marks : new.marks ≡ up_to (length old.moments.past) old.marks
 
 -- the last moment of the past is the present one
 pub record IsUndone (old : SessionState) (reply : Reply) (new : SessionState) : Type 0 where
   pub reply_is : reply ≡ Tells
-  pub back : StepsBack old new
+  pub back : StepsBack old.moments new.moments
+  pub marks : new.marks ≡ old.marks
 
 -- the first moment of the future is the present one
 pub record IsRedone (old : SessionState) (reply : Reply) (new : SessionState) : Type 0 where
   pub reply_is : reply ≡ Tells
-  pub forward : StepsForward old new
+  pub forward : StepsForward old.moments new.moments
+  pub marks : new.marks ≡ old.marks
+
+-- the name's mark stands on the present moment
+pub record IsPut (name : List ℕ) (old : SessionState) (reply : Reply) (new : SessionState) : Type 0 where
+  pub reply_is : reply ≡ Tells
+  pub moments : new.moments ≡ old.moments
+  pub marks : new.marks ≡ with_mark old.marks name (length old.moments.past)
+
+-- that moment is the present one
+pub record IsMoved (moment : ℕ) (old : SessionState) (reply : Reply) (new : SessionState) : Type 0 where
+  pub reply_is : reply ≡ Tells
+  pub moved : IsMovedTo moment old.moments new.moments
+  pub marks : new.marks ≡ old.marks
 
 -- an edit that the instance allows is applied, or refused by 30 for want of memory; any other by its number
 abbrev pub StepOfEdit : Edit → SessionState → Reply → SessionState → Type 0
-StepOfEdit edit old reply new = MatchResult (edited old.present.instance edit) (λ _. IsApplied edit old reply new ⊎ IsRefused 30 old reply new) (λ number. IsRefused number old reply new)
+StepOfEdit edit old reply new = MatchResult (edited old.moments.present.instance edit) (λ _. IsApplied edit old reply new ⊎ IsRefused 30 old reply new) (λ number. IsRefused number old reply new)
+
+-- a name is marked where it has a place, and refused by 33 elsewhere
+abbrev pub StepOfMark : Bool → List ℕ → SessionState → Reply → SessionState → Type 0
+StepOfMark true name old reply new = IsPut name old reply new
+StepOfMark false name old reply new = IsRefused 33 old reply new
+
+-- a step back or forward to the moment that bears a name, or the refusal by 28 where none does
+abbrev pub StepOfBack : Option ℕ → SessionState → Reply → SessionState → Type 0
+StepOfBack (Some moment) old reply new = IsMoved moment old reply new
+StepOfBack None old reply new = IsRefused 28 old reply new
 
 -- a step by a command; a group is no step by one line, and so neither of the lines round it is
 abbrev pub StepBy : Command → SessionState → Reply → SessionState → Type 0
 StepBy (commands.Edit edit) old reply new = StepOfEdit edit old reply new
-StepBy commands.Undo old reply new = IsUndone old reply new ⊎ (old.past ≡ []) × IsRefused 25 old reply new
-StepBy commands.Redo old reply new = IsRedone old reply new ⊎ (old.future ≡ []) × IsRefused 26 old reply new
+StepBy commands.Undo old reply new = IsUndone old reply new ⊎ (old.moments.past ≡ []) × IsRefused 25 old reply new
+StepBy commands.Redo old reply new = IsRedone old reply new ⊎ (old.moments.future ≡ []) × IsRefused 26 old reply new
 StepBy commands.Show old reply new = IsShown false old reply new
 StepBy commands.Proof old reply new = IsShown true old reply new
 StepBy commands.Group old reply new = IsRefused 29 old reply new
 StepBy commands.End old reply new = IsRefused 29 old reply new
+StepBy (commands.Mark name) old reply new = StepOfMark (has_place old.marks name) name old reply new
+StepBy (commands.Back name) old reply new = StepOfBack (marked old.marks name) old reply new
 
 -- a step by a line: that of its command, or its refusal by the number of its first check that fails
 abbrev pub Step : SessionState → Line → Reply → SessionState → Type 0
 Step old line reply new =
-    MatchResult (command (kind_of old.present.instance.demand) line) (λ c. StepBy c old reply new) (λ number. IsRefused number old reply new)
+    MatchResult (command (kind_of old.moments.present.instance.demand) line) (λ c. StepBy c old reply new) (λ number. IsRefused number old reply new)
 
 -- a group whose edits the instance allows is refused by its first line that is refused by itself; where there is none it is applied, or refused by 30 for want of memory
 abbrev pub StepOfEdits : Option Fault → List Edit → SessionState → Reply → SessionState → Type 0
@@ -84,9 +119,9 @@ StepOfEdits None edits old reply new = AreApplied edits old reply new ⊎ IsRefu
 -- a step by a group, of the edits before its first line that is refused by itself: the first of them that the instance refuses, as those before it left it, decides the number
 abbrev pub StepOfGroup : Gathered → SessionState → Reply → SessionState → Type 0
 StepOfGroup group old reply new =
-    MatchResult (edited_all old.present.instance group.edits) (λ _. StepOfEdits group.fault group.edits old reply new) (λ number. IsRefused number old reply new)
+    MatchResult (edited_all old.moments.present.instance group.edits) (λ _. StepOfEdits group.fault group.edits old reply new) (λ number. IsRefused number old reply new)
 
 -- a step by a turn: by its line, or by all lines of its group
 abbrev pub TurnStep : SessionState → Turn → Reply → SessionState → Type 0
 TurnStep old (OfLine line) reply new = Step old line reply new
-TurnStep old (OfGroup lines) reply new = StepOfGroup (gathered (kind_of old.present.instance.demand) 0 lines) old reply new
+TurnStep old (OfGroup lines) reply new = StepOfGroup (gathered (kind_of old.moments.present.instance.demand) 0 lines) old reply new

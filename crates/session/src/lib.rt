@@ -1,7 +1,11 @@
-//! A session of edits of a flow problem, with undo and redo of whole moments.
+//! A session of edits of a flow problem, with undo and redo of whole moments, and marks of moments.
 #![tactic(auto)]
 
 mod differences;
+mod laws;
+mod marks;
+#[cfg(test)]
+mod marks_tests;
 mod part;
 mod record;
 mod refusal;
@@ -12,6 +16,8 @@ mod swaps;
 #[cfg(test)]
 mod tests;
 
+pub use laws::{marks_are_few, moves_are_steps};
+pub use marks::{MARK_LIMIT, Mark};
 pub use part::Part;
 pub use record::Record;
 pub use refusal::Refusal;

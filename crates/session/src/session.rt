@@ -1,6 +1,6 @@
-//! A session: whole moments in the order of time, of which one is present.
+//! A session: whole moments in the order of time, of which one is present, and marks of moments.
 
-ghost use Rattle.std.specs.Prelude.{◌≡◌, ℕ, ◌+◌, ◌-◌, ◌^◌, ◌<◌, ◌≤◌, ◌↔◌, ◌++◌, ◌∷◌, [], length, map, take, Err, IsTrue, IsNone, IfOk, IfSome, OnOk, OnErr, slice_get};
+ghost use Rattle.std.specs.Prelude.{◌≡◌, ℕ, ◌+◌, ◌-◌, ◌^◌, ◌<◌, ◌≤◌, ◌↔◌, ◌++◌, ◌∷◌, [], length, map, take, Ok, Err, IsTrue, IsNone, IfOk, IfSome, OnOk, OnErr, slice_get, is_some, if◌then◌else◌};
 ghost use Rattle.std.specs.Bool.{OnTrue, OnFalse};
 ghost use Rattle.std.specs.Option.{option_copied};
 ghost use Rattle.history.specs.Boards.{Advances, StepsBack, StepsForward};
@@ -9,37 +9,41 @@ ghost use Rattle.network.specs.Edited.{edited, edited_all};
 ghost use Rattle.network.specs.Instance.{at_node, first};
 ghost use Rattle.flow_solver.specs.Desk.{IsAnswered};
 ghost use Rattle.flow_solver.specs.Edit.{AreChanges, IsChange};
+ghost use Rattle.session.specs.Marks.{has_place, marked, up_to, with_mark, IsMovedTo};
 ghost use Rattle.session.specs.Parts.{flow_of};
 ghost use Rattle.session.specs.Group.{ArePartsOf};
 ghost use Rattle.session.specs.Session.{AreEdited, IsEdited, IsRecord, moment_at, places_of, place_of_edit};
 
+use crate::marks::Marks;
 use crate::record::Record;
 use crate::refusal::Refusal;
-use dimacs_text::{Edit, Problem};
+use dimacs_text::{Edit, Fault, Name, Problem};
 use flow_solver::{Tables, Verdict};
 use history::History;
 use network::{Network, build};
 use std::alloc::{AllocError, Allocator, Global};
 use std::marker::Model;
 
-/// Past moments, the present one and future ones, each a network with an answer to it.
+/// Past moments, the present one and future ones, each a network with an answer to it; and marks: at most `MARK_LIMIT`
+/// names, each of a moment that bears it.
 ///
 /// Its tables take all their memory when it is opened. What a step keeps takes its memory from `A`.
 #[derive(Drop)]
 pub struct Session<A: Allocator + Copy = Global> {
     tables: Tables,
     history: History<Record<A>, A>,
+    marks: Marks,
     alloc: A,
 }
 
 impl<A: Allocator + Copy> Model for Session<A> {
-    ghost use Rattle.session.specs.Session.{Stack, stack_of, IsKept};
+    ghost use Rattle.session.specs.Session.{Stack, stack_of, IsHeld};
 
     ghost Value = { Stack };
 
-    ghost view = { λ s. stack_of s.history s.tables.moment };
+    ghost view = { λ s. stack_of s.history s.tables.moment s.marks };
 
-    ghost invariant = { λ s. IsKept s.history s.tables.moment };
+    ghost invariant = { λ s. IsHeld s.history s.tables.moment s.marks };
 }
 
 impl Session {
@@ -51,6 +55,7 @@ impl Session {
         ensures past { IfOk result (λ s. s.moments.past ≡ []) }
         ensures future { IfOk result (λ s. s.moments.future ≡ []) }
         ensures records { IfOk result (λ s. s.records ≡ []) }
+        ensures marks { IfOk result (λ s. s.marks ≡ []) }
         ensures instance { IfOk result (λ s. s.moments.present.instance ≡ first problem.now extra) }
         ensures answered { IfOk result (λ s. IsAnswered s.moments.present) }
     {
@@ -72,6 +77,7 @@ impl<A: Allocator + Copy> Session<A> {
         ensures past { IfOk result (λ s. s.moments.past ≡ []) }
         ensures future { IfOk result (λ s. s.moments.future ≡ []) }
         ensures records { IfOk result (λ s. s.records ≡ []) }
+        ensures marks { IfOk result (λ s. s.marks ≡ []) }
         ensures instance { IfOk result (λ s. s.moments.present.instance ≡ first problem.now extra) }
         ensures answered { IfOk result (λ s. IsAnswered s.moments.present) }
     {
@@ -80,12 +86,13 @@ impl<A: Allocator + Copy> Session<A> {
         Ok(Session {
             tables,
             history: History::new(steps),
+            marks: Marks::new(),
             alloc: steps,
         })
     }
 
-    /// Applies an edit: the present moment becomes past, and the future is dropped. Gives the number of pushes. After a
-    /// refusal the session is as before.
+    /// Applies an edit: the present moment becomes past, and the future is dropped with its marks. Gives the number of
+    /// pushes. After a refusal the session is as before.
     ///
     /// # Errors
     /// `Cause` with the number of the first refusal of `Network::edited`; `Memory` where a growth was refused.
@@ -93,6 +100,7 @@ impl<A: Allocator + Copy> Session<A> {
         ensures edited { OnOk result (IsEdited edit.now self.old.moments.present self.new.moments.present) }
         ensures advances { OnOk result (Advances self.old.moments self.new.moments) }
         ensures records { OnOk result ((r : Record A) × (self.new.records ≡ take (length self.old.moments.past) self.old.records ++ r ∷ []) × (places_of r ≡ place_of_edit edit.now ∷ [])) }
+        ensures marks { OnOk result (self.new.marks ≡ up_to (length self.old.moments.past) self.old.marks) }
         ensures cause { (number : ℕ) → (result ≡ Err (Refusal.Cause number)) ↔ (edited self.old.moments.present.instance edit.now ≡ Err number) }
         ensures pushes { IfOk result (λ n. IsChange self.old.moments.present.instance self.new.moments.present.instance edit.now (at_node self.old.moments.present.potentials) self.old.moments.present.flow self.new.moments.present.flow n) }
         ensures refused { OnErr result (self.new ≡ self.old) }
@@ -101,7 +109,7 @@ impl<A: Allocator + Copy> Session<A> {
     }
 
     /// Applies edits together, as one step that is solved once: the present moment becomes past, and the future is
-    /// dropped. Gives the number of pushes. After a refusal the session is as before.
+    /// dropped with its marks. Gives the number of pushes. After a refusal the session is as before.
     ///
     /// # Errors
     /// `Cause` with the number of the first refusal of `Network::edited_all`; `Memory` where a growth was refused.
@@ -110,16 +118,19 @@ impl<A: Allocator + Copy> Session<A> {
         ensures edited { OnOk result (AreEdited edits.now self.old.moments.present self.new.moments.present) }
         ensures advances { OnOk result (Advances self.old.moments self.new.moments) }
         ensures records { OnOk result ((r : Record A) × (self.new.records ≡ take (length self.old.moments.past) self.old.records ++ r ∷ []) × ArePartsOf edits.now self.old.moments.present.instance r.parts) }
+        ensures marks { OnOk result (self.new.marks ≡ up_to (length self.old.moments.past) self.old.marks) }
         ensures cause { (number : ℕ) → (result ≡ Err (Refusal.Cause number)) ↔ (edited_all self.old.moments.present.instance edits.now ≡ Err number) }
         ensures pushes { IfOk result (λ n. AreChanges self.old.moments.present.instance self.new.moments.present.instance edits.now (at_node self.old.moments.present.potentials) self.old.moments.present.flow self.new.moments.present.flow n) }
         ensures refused { OnErr result (self.new ≡ self.old) }
     {
+        let (past, _) = self.steps();
         let network = self.tables.network();
         network.edited_all(edits).map_err(Refusal::Cause)?;
         self.history.reserve_one()?;
         let pushes = self.tables.change_all(edits);
         match Record::of_last_change(self.alloc, edits, &self.tables) {
             Ok(record) => {
+                self.marks.keep_up_to(past);
                 self.history.push(record);
                 Ok(pushes)
             }
@@ -135,6 +146,7 @@ impl<A: Allocator + Copy> Session<A> {
         ensures answer { IsTrue result ↔ (0 < length self.old.moments.past) }
         ensures undone { OnTrue result (StepsBack self.old.moments self.new.moments) }
         ensures places { map places_of self.new.records ≡ map places_of self.old.records }
+        ensures marks { self.new.marks ≡ self.old.marks }
         ensures unchanged { OnFalse result (self.new ≡ self.old) }
     {
         self.history.undo(&mut self.tables)
@@ -145,9 +157,73 @@ impl<A: Allocator + Copy> Session<A> {
         ensures answer { IsTrue result ↔ (0 < length self.old.moments.future) }
         ensures redone { OnTrue result (StepsForward self.old.moments self.new.moments) }
         ensures places { map places_of self.new.records ≡ map places_of self.old.records }
+        ensures marks { self.new.marks ≡ self.old.marks }
         ensures unchanged { OnFalse result (self.new ≡ self.old) }
     {
         self.history.redo(&mut self.tables)
+    }
+
+    /// Puts the name's mark on the present moment, or moves it there. It is no step and not undone, and takes no memory.
+    ///
+    /// # Errors
+    /// The number of `TooManyMarks` where `MARK_LIMIT` other names have marks.
+    pub fn mark(&mut self, name: &Name) -> Result<(), u8>
+        ensures answer { result ≡ (if has_place self.old.marks name.now then Ok tt else Err 33) }
+        ensures marked { OnOk result (self.new ≡ record self.old { marks = with_mark self.old.marks name.now (length self.old.moments.past) }) }
+        ensures refused { OnErr result (self.new ≡ self.old) }
+    {
+        let (past, _) = self.steps();
+        if !self.marks.put(name, past) {
+            return Err(Fault::TooManyMarks.number());
+        }
+        Ok(())
+    }
+
+    /// Moves to the moment that bears the name, as so many undos or redos do. Nothing is solved, and it takes no memory.
+    ///
+    /// # Errors
+    /// The number of `NoSuchMark` where no moment bears the name.
+    pub fn back(&mut self, name: &Name) -> Result<(), u8>
+        ensures answer { result ≡ (if is_some (marked self.old.marks name.now) then Ok tt else Err 28) }
+        ensures moved { IfSome (marked self.old.marks name.now) (λ moment. IsMovedTo moment self.old.moments self.new.moments) }
+        ensures places { map places_of self.new.records ≡ map places_of self.old.records }
+        ensures marks { self.new.marks ≡ self.old.marks }
+        ensures refused { OnErr result (self.new ≡ self.old) }
+    {
+        let Some(moment) = self.marks.moment_of(name) else {
+            return Err(Fault::NoSuchMark.number());
+        };
+        let (past, _) = self.steps();
+        if moment < past {
+            self.undo_steps(past - moment);
+        } else {
+            self.redo_steps(moment - past);
+        }
+        Ok(())
+    }
+
+    /// Goes so many moments back.
+    fn undo_steps(&mut self, count: usize)
+        requires there { count ≤ length self.old.moments.past }
+        ensures moved { IsMovedTo (length self.old.moments.past - count) self.old.moments self.new.moments }
+        ensures places { map places_of self.new.records ≡ map places_of self.old.records }
+        ensures marks { self.new.marks ≡ self.old.marks }
+    {
+        for _ in 0..count {
+            let _ = self.undo();
+        }
+    }
+
+    /// Goes so many moments on.
+    fn redo_steps(&mut self, count: usize)
+        requires there { count ≤ length self.old.moments.future }
+        ensures moved { IsMovedTo (length self.old.moments.past + count) self.old.moments self.new.moments }
+        ensures places { map places_of self.new.records ≡ map places_of self.old.records }
+        ensures marks { self.new.marks ≡ self.old.marks }
+    {
+        for _ in 0..count {
+            let _ = self.redo();
+        }
     }
 
     /// The network of the present moment.

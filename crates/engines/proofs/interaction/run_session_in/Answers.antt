@@ -1,6 +1,7 @@
 use Rattle.std.proofs.Common.{◌∙◌, ◌+◌, ◌-◌, ℕ, ap, rules}
 use Rattle.dimacs_io.proofs.DeviceLemmas.{Appends-from_ok, AppendsBeginning-from_err, CountsFailure-from_err, CountsFailure-from_ok}
 use Rattle.checker.specs.Check.{write_failures}
+use Rattle.session.specs.Step.{state_of}
 use Rattle.engines.specs.Session.{Opens}
 use Rattle.engines.proofs.SessionLemmas.{SessionTells-problem, SessionTells-opening, SessionTells-commands, write_counted, reads_counted, no_problem_counted}
 use Rattle.engines.proofs.interaction.run_session_in.Goals as goal
@@ -14,9 +15,9 @@ pub returns-then-is_err-clause-session : goal.returns-then-is_err-clause-session
 returns-then-is_err-clause-session g c =
     let read = c.in-Ok.ensures.read in
     let begun = c.in-Ok-open_in.ensures in
-    let opening = c.in-Ok-open_in.session.moments in
+    let opening = state_of c.in-Ok-open_in.session in
     let opens : Opens c.in-Ok.problem c.args.extra opening =
-    record { past = begun.past; settled = record { instance_is = begun.instance; answered = begun.answered }; future = begun.future } in
+    record { past = begun.past; settled = record { instance_is = begun.instance; answered = begun.answered }; future = begun.future; marks = begun.marks } in
     SessionTells-opening c.in-Ok.problem c.args.extra opening _ _ read.0 _ _ (g.C.Source.remaining c.args.script.now) (g.C.Source.most_left c.args.script.now - g.C.Source.most_left c.args.script.now) _ _
     read.1 read.2.0 read.2.1 opens (AppendsBeginning-from_err c.tell_opening.result _ _ _ (search rules) c.tell_opening.ensures.bytes)
 
@@ -24,9 +25,9 @@ pub returns-clause-session : goal.returns-clause-session
 returns-clause-session g c =
     let read = c.in-Ok.ensures.read in
     let begun = c.in-Ok-open_in.ensures in
-    let opening = c.in-Ok-open_in.session.moments in
+    let opening = state_of c.in-Ok-open_in.session in
     let opens : Opens c.in-Ok.problem c.args.extra opening =
-    record { past = begun.past; settled = record { instance_is = begun.instance; answered = begun.answered }; future = begun.future } in
+    record { past = begun.past; settled = record { instance_is = begun.instance; answered = begun.answered }; future = begun.future; marks = begun.marks } in
     let served = c.serve_commands.ensures.served in
     SessionTells-commands c.serve_commands.result c.args.extra c.in-Ok.problem opening _ _ read.0 _ _ _ _ served.0 _ _ _ _ _ read.1 read.2.0 read.2.1 opens
     (Appends-from_ok c.tell_opening.result _ _ _ (search rules) c.tell_opening.ensures.bytes) served.1 served.2

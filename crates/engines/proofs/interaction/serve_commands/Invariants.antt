@@ -1,5 +1,6 @@
 use Rattle.std.proofs.Common.{◌≡◌, ℕ, List}
 use Rattle.checker.specs.Reading.{Gives}
+use Rattle.session.specs.Step.{state_of}
 use Rattle.engines.specs.Serving.{Stands}
 use Rattle.engines.proofs.interaction.serve_commands.Given as goal
 
@@ -8,7 +9,7 @@ abbrev pub invariant-pieces : goal.invariant-pieces
 invariant-pieces g l = record {
   so_far : (given : List ℕ)
       × Gives (g.C.Source.remaining l.fn.script) (g.C.Source.remaining l.script) given (g.C.Source.most_left l.fn.script) (g.C.Source.most_left l.script)
-      × Stands l.fn.session.moments given l.session.moments l.group l.cutter (g.O.Sink.contents l.fn.out) (g.O.Sink.contents l.out);
+      × Stands (state_of l.fn.session) given (state_of l.session) l.group l.cutter (g.O.Sink.contents l.fn.out) (g.O.Sink.contents l.out);
   script_failures : g.C.Source.failures l.script ≡ g.C.Source.failures l.fn.script;
   out_failures : g.O.Sink.failures l.out ≡ g.O.Sink.failures l.fn.out;
 }

@@ -1,5 +1,5 @@
 use Rattle.std.proofs.Common.{◌≡◌, ◌≤◌, ◌-◌, ℕ, List, ◌++◌, length, take, Option}
-use Rattle.session.specs.Step.{SessionState}
+use Rattle.session.specs.Step.{SessionState, state_of}
 use Rattle.engines.specs.Serving.{Stands}
 use Rattle.engines.proofs.interaction.serve_piece.Given as goal
 
@@ -7,8 +7,8 @@ abbrev pub invariant-loop-at : goal.invariant-loop-at
 invariant-loop-at g l = record {
   within : l.at ≤ length l.piece;
   stands : (opening : SessionState) (given : List ℕ) (before : Option (List ℕ))
-      → Stands opening given l.initial.session.moments l.initial.group l.initial.cutter before (g.O.Sink.contents l.initial.out)
-      → Stands opening (given ++ take l.at l.piece) l.session.moments l.group l.cutter before (g.O.Sink.contents l.out);
+      → Stands opening given (state_of l.initial.session) l.initial.group l.initial.cutter before (g.O.Sink.contents l.initial.out)
+      → Stands opening (given ++ take l.at l.piece) (state_of l.session) l.group l.cutter before (g.O.Sink.contents l.out);
   failures : g.O.Sink.failures l.out ≡ g.O.Sink.failures l.initial.out;
 }
 

@@ -1,13 +1,12 @@
 use Rattle.std.proofs.Common.{ap}
-use Rattle.session.specs.Session.{Stack}
-use Rattle.session.specs.Step.{Refuses, Tells}
+use Rattle.session.specs.Step.{Refuses, Tells, state_of}
 use Rattle.engines.proofs.ReplyLemmas.{none_there, redo_done, redo_refused}
 use Rattle.engines.proofs.reply.redo.Goals as goal
 
 pub returns-then-redo-clause-replies : goal.returns-then-redo-clause-replies
 returns-then-redo-clause-replies g c = record {
   reply = Tells;
-  step = redo_done c.args.session.now.moments c.redo.new.self.moments c.if-redo.ensures.redone;
+  step = redo_done (state_of c.args.session.now) (state_of c.redo.new.self) c.if-redo.ensures.redone c.redo.ensures.marks;
   writes = c.write_outcome.ensures.bytes;
 }
 
@@ -16,6 +15,6 @@ returns-else-redo-clause-replies g c =
     let none = none_there c.args.session.now.moments.future c.redo.result c.if-redo.false c.redo.ensures.answer in
     record {
       reply = Refuses 26;
-      step = redo_refused c.args.session.now.moments c.redo.new.self.moments none (ap (λ (s : Stack). s.moments) c.if-redo.ensures.unchanged);
+      step = redo_refused (state_of c.args.session.now) (state_of c.redo.new.self) none (ap state_of c.if-redo.ensures.unchanged);
       writes = c.write_r.ensures.bytes;
     }

@@ -1,32 +1,32 @@
 use Rattle.std.proofs.Common.{false, true}
-use Rattle.session.specs.Step.{Refuses, Shows}
+use Rattle.session.specs.Step.{Refuses, Shows, state_of}
 use Rattle.engines.proofs.ReplyLemmas.{end_step, group_step, proof_step, show_step}
 use Rattle.engines.proofs.reply.serve.Goals as goal
 
 pub returns-in-Show-clause-replies : goal.returns-in-Show-clause-replies
 returns-in-Show-clause-replies g c = record {
   reply = Shows false;
-  step = show_step c.args.command c.args.session.now.moments c.in-Show.is;
+  step = show_step c.args.command (state_of c.args.session.now) c.in-Show.is;
   writes = c.write_solution.ensures.bytes;
 }
 
 pub returns-in-Proof-clause-replies : goal.returns-in-Proof-clause-replies
 returns-in-Proof-clause-replies g c = record {
   reply = Shows true;
-  step = proof_step c.args.command c.args.session.now.moments c.in-Proof.is;
+  step = proof_step c.args.command (state_of c.args.session.now) c.in-Proof.is;
   writes = c.write_solution-in-Proof.ensures.bytes;
 }
 
 pub returns-in-Group-clause-replies : goal.returns-in-Group-clause-replies
 returns-in-Group-clause-replies g c = record {
   reply = Refuses 29;
-  step = group_step c.args.command c.args.session.now.moments c.in-Group.is;
+  step = group_step c.args.command (state_of c.args.session.now) c.in-Group.is;
   writes = c.write_r.ensures.bytes;
 }
 
 pub returns-in-End-clause-replies : goal.returns-in-End-clause-replies
 returns-in-End-clause-replies g c = record {
   reply = Refuses 29;
-  step = end_step c.args.command c.args.session.now.moments c.in-End.is;
+  step = end_step c.args.command (state_of c.args.session.now) c.in-End.is;
   writes = c.write_r-in-End.ensures.bytes;
 }

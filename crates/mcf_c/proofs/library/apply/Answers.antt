@@ -1,11 +1,10 @@
 use Rattle.std.proofs.Common.{ap}
-use Rattle.session.specs.Session.{Stack}
-use Rattle.session.specs.Step.{Refuses}
+use Rattle.session.specs.Step.{Refuses, state_of}
 use Rattle.mcf_c.specs.Library.{number_of}
 use Rattle.mcf_c.proofs.StepLemmas.{edit_refused}
 use Rattle.mcf_c.proofs.library.apply.Goals as goal
 
 pub returns-in-Err : goal.returns-in-Err
 returns-in-Err c =
-    let same = ap (λ (s : Stack). s.moments) c.in-Err.ensures.refused in
-    (Refuses (number_of c.in-Err.refusal), c.number_of.ensures, edit_refused c.args.edit.now c.args.session.now.moments c.apply.new.self.moments c.in-Err.refusal same c.in-Err.ensures.cause)
+    let same = ap state_of c.in-Err.ensures.refused in
+    (Refuses (number_of c.in-Err.refusal), c.number_of.ensures, edit_refused c.args.edit.now (state_of c.args.session.now) (state_of c.apply.new.self) c.in-Err.refusal same c.in-Err.ensures.cause)

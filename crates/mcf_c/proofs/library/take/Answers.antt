@@ -1,16 +1,16 @@
 use Rattle.std.proofs.Common.{false, true, refl}
-use Rattle.session.specs.Step.{Refuses, Shows}
+use Rattle.session.specs.Step.{Refuses, Shows, state_of}
 use Rattle.mcf_c.proofs.StepLemmas.{end_step, group_step, proof_step, show_step}
 use Rattle.mcf_c.proofs.library.take.Goals as goal
 
 pub returns-in-Show : goal.returns-in-Show
-returns-in-Show c = (Shows false, refl, show_step c.args.command c.args.session.now.moments c.in-Show.is)
+returns-in-Show c = (Shows false, refl, show_step c.args.command (state_of c.args.session.now) c.in-Show.is)
 
 pub returns-in-Proof : goal.returns-in-Proof
-returns-in-Proof c = (Shows true, refl, proof_step c.args.command c.args.session.now.moments c.in-Proof.is)
+returns-in-Proof c = (Shows true, refl, proof_step c.args.command (state_of c.args.session.now) c.in-Proof.is)
 
 pub returns-in-Group : goal.returns-in-Group
-returns-in-Group c = (Refuses 29, refl, group_step c.args.command c.args.session.now.moments c.in-Group.is)
+returns-in-Group c = (Refuses 29, refl, group_step c.args.command (state_of c.args.session.now) c.in-Group.is)
 
 pub returns-in-End : goal.returns-in-End
-returns-in-End c = (Refuses 29, refl, end_step c.args.command c.args.session.now.moments c.in-End.is)
+returns-in-End c = (Refuses 29, refl, end_step c.args.command (state_of c.args.session.now) c.in-End.is)

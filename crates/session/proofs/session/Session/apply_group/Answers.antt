@@ -1,20 +1,22 @@
 use Rattle.std.proofs.Common.{List, [], ◌∷◌, ◌++◌, length, sym, ap, ap₂, ◌∙◌}
 use Rattle.std.proofs.lemmas.List.{append-nil, take_at}
-use Rattle.history.specs.Boards.{boards}
-use Rattle.history.proofs.Timelines.{length-past}
+use Rattle.history.specs.Boards.{Timeline, boards}
+use Rattle.history.proofs.Timelines.{length-past, boards_same}
 use Rattle.flow_solver.specs.Moment.{Moment}
 use Rattle.session.specs.Record.{Recorded, swapped}
+use Rattle.session.specs.Session.{Stack}
 use Rattle.session.proofs.Applying.{changes_are, was_there, led}
 use Rattle.session.proofs.Keeping.{kept_push, kept_same, present_answered}
+use Rattle.session.proofs.Marking.{on_new}
 use Rattle.session.proofs.session.Session.apply_group.Goals as goal
 
 pub change_all-pushes-requires-clause-certified : goal.change_all-pushes-requires-clause-certified
-change_all-pushes-requires-clause-certified g c = (present_answered c.self.inside.history c.self.inside.tables.moment c.self.invariant).certified
+change_all-pushes-requires-clause-certified g c = (present_answered c.self.inside.history c.self.inside.tables.moment c.self.invariant.kept).certified
 
 pub of_last_change-requires-clause-change : goal.of_last_change-requires-clause-change
 of_last_change-requires-clause-change g c =
     let did = c.change_all-pushes.ensures in
-    changes_are c.change_all-pushes.new.self c.self.inside.tables.moment c.args.edits.now did.before (present_answered c.self.inside.history c.self.inside.tables.moment c.self.invariant) did.instance did.answered
+    changes_are c.change_all-pushes.new.self c.self.inside.tables.moment c.args.edits.now did.before (present_answered c.self.inside.history c.self.inside.tables.moment c.self.invariant.kept) did.instance did.answered
 
 -- the new moment and its record are kept
 pub invariant_of-self-in-Ok : goal.invariant_of-self-in-Ok
@@ -24,8 +26,14 @@ invariant_of-self-in-Ok g c =
     let did = c.change_all-pushes.ensures in
     let leads = led _ _ m c.in-Ok.ensures.leads did.before in
     let fits = c.in-Ok.ensures.fits in
-    let kept = kept_same c.self.inside.history c.reserve_one.new.self m c.reserve_one.ensures.past c.reserve_one.ensures.future c.self.invariant in
-    kept_push c.reserve_one.new.self c.push.new.self c.in-Ok.record m d kept fits c.in-Ok.ensures.exact leads did.answered c.push.ensures.past c.push.ensures.future (rw leads at (c.push.ensures.boards d fits))
+    let kept = kept_same c.self.inside.history c.reserve_one.new.self m c.reserve_one.ensures.past c.reserve_one.ensures.future c.self.invariant.kept in
+    let advances = rw leads at (c.push.ensures.boards d fits) in
+    let same = ap (λ (t : Timeline Moment). length t.past) (boards_same swapped c.self.inside.history c.reserve_one.new.self m c.reserve_one.ensures.past c.reserve_one.ensures.future) in
+    let here = c.steps-past.ensures.past ∙ ap (λ (s : Stack). length s.moments.past) (sym c.self.view_is) ∙ sym same in
+    record {
+      kept = kept_push c.reserve_one.new.self c.push.new.self c.in-Ok.record m d kept fits c.in-Ok.ensures.exact leads did.answered c.push.ensures.past c.push.ensures.future advances;
+      marked = rw c.keep_up_to.ensures (on_new (boards swapped c.reserve_one.new.self m) (boards swapped c.push.new.self d) c.self.inside.marks c.steps-past.result.0 advances here);
+    }
 
 -- the records of the past stay, and the new one is the last
 pub returns-in-Ok-clause-records : goal.returns-in-Ok-clause-records

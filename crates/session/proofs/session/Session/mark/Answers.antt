@@ -1,0 +1,15 @@
+use Rattle.std.proofs.Common.{sym, ap, ◌∙◌, length}
+use Rattle.history.specs.Boards.{boards}
+use Rattle.session.specs.Record.{swapped}
+use Rattle.session.specs.Session.{Stack}
+use Rattle.session.proofs.Marking.{on_present}
+use Rattle.session.proofs.session.Session.mark.Goals as goal
+
+-- the mark is that of the present moment
+pub invariant_of-self-2 : goal.invariant_of-self-2
+invariant_of-self-2 g c =
+    let here = c.steps-past.ensures.past ∙ ap (λ (s : Stack). length s.moments.past) (sym c.self.view_is) in
+    record {
+      kept = c.self.invariant.kept;
+      marked = on_present (boards swapped c.self.inside.history c.self.inside.tables.moment) c.self.inside.marks c.put.new.self c.args.name.now c.steps-past.result.0 here c.self.invariant.marked c.if-not-put.ensures.put;
+    }
