@@ -6,7 +6,7 @@ import random
 import sys
 
 # Name of a size: nodes, arcs.
-SIZES = {"small": (200, 2_000), "middle": (3_000, 25_000), "large": (10_000, 100_000)}
+SIZES = {"small": (200, 2_000), "middle": (3_000, 25_000), "large": (10_000, 100_000), "wide": (50_000, 100_000)}
 
 # What each unit of a plan may cost: few numbers, so that many paths cost the same.
 MAKE_COSTS, CARRY_COST, STORE_COST = (10, 20, 40), 5, 1

@@ -35,6 +35,15 @@ module _ {T : Type 0} where
   pub IsWritten-same : (l : Ledger T) → IsLedger l → IsWritten l l
   IsWritten-same l ledger = record { ledger = ledger; kept = refl; size = refl; same_length = refl; same_room = refl }
 
+  pub IsWritten-trans : (l m n : Ledger T) → IsWritten l m → IsWritten m n → IsWritten l n
+  IsWritten-trans l m n first then = record {
+    ledger = then.ledger;
+    kept = then.kept ∙ first.kept;
+    size = then.size ∙ first.size;
+    same_length = then.same_length ∙ first.same_length;
+    same_room = then.same_room ∙ first.same_room;
+  }
+
   -- a ledger whose entries were written at noted places alone
   pub IsWritten-noted : (l m : Ledger T) → IsLedger l → m.kept ≡ l.kept → m.size ≡ l.size → vec_capacity l.entries ≤ vec_capacity m.entries → AreNoted l.touched l.entries.items m.touched m.entries.items → IsWritten l m
   IsWritten-noted l m ledger kept size room noted = record {

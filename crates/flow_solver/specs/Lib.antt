@@ -6,5 +6,6 @@ pub mod Part
 pub mod Tables
 pub mod Balance
 pub mod Ledger
+pub mod Settle
 pub use Rattle.shortest_paths.specs.Push
 pub use Rattle.shortest_paths.specs.Touched

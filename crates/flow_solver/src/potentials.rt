@@ -1,17 +1,18 @@
 //! Potentials that are lowered after a search, and raised to the shortest labels at the end.
 
-ghost use Rattle.std.specs.Prelude.{◌≡◌, ℕ, length, pos, neg_ℤ, ◌≤◌, ◌≤ℤ◌, ◌+ℤ◌, FitsSigned};
+ghost use Rattle.std.specs.Prelude.{◌≡◌, ℕ, length, ◌≤◌, ◌+ℤ◌, FitsSigned};
 ghost use Rattle.std.specs.Int.{w64};
 ghost use Rattle.shortest_paths.specs.Graph.{IsGraphFor};
-ghost use Rattle.shortest_paths.specs.Limits.{key_limit, label_floor, potential_floor};
+ghost use Rattle.shortest_paths.specs.Limits.{label_floor, potential_floor};
 ghost use Rattle.shortest_paths.specs.Residual.{AreGreatest, ArePathsAbove, IsCertified, ArePotentials, number_at};
 ghost use Rattle.shortest_paths.specs.Search.{key_at, AreLabels, IsReach, lowered, IsLowered};
-ghost use Rattle.shortest_paths.specs.Labels.{IsLabelsFor};
-ghost use Rattle.shortest_paths.specs.Queue.{IsQueueFor};
+ghost use Rattle.shortest_paths.specs.Scratch.{IsScratchFor};
 ghost use Rattle.shortest_paths.specs.Touched.{AreNoted};
 ghost use Rattle.shortest_paths.specs.Trail.{IsTrailOf};
+ghost use Rattle.flow_solver.specs.Ledger.{IsLedger, IsWritten};
 
-use shortest_paths::{Graph, Labels, Queue, Residual, Touched, Trail, Visit, search_labels};
+use crate::ledger::Ledger;
+use shortest_paths::{Graph, Residual, Scratch, Touched, Trail, Visit, search_labels};
 
 /// Makes each label a potential.
 fn take_labels(potentials: &mut [i64], touched: &mut Touched, visits: &[Visit])
@@ -31,38 +32,33 @@ fn take_labels(potentials: &mut [i64], touched: &mut Touched, visits: &[Visit])
 }
 
 /// Raises the potentials to the shortest labels, the greatest that certify the flow.
-pub fn raise(
-    graph: &Graph,
-    flow: &[i64],
-    potentials: &mut [i64],
-    touched: &mut Touched,
-    labels: &mut Labels,
-    queue: &mut Queue,
-)
-    requires touched_in { length potentials.old ≤ length touched.old }
-    requires graph { IsGraphFor (length potentials.old) graph.now }
-    requires certified { IsCertified graph.now.rows.items flow.now potentials.old }
-    requires labels { IsLabelsFor (length potentials.old) labels.old }
-    requires sized { IsQueueFor (length potentials.old) queue.old }
-    ensures noted { AreNoted touched.old potentials.old touched.new potentials.new }
-    ensures certified { IsCertified graph.now.rows.items flow.now potentials.new }
-    ensures within { ArePotentials (length potentials.old) label_floor potentials.new }
-    ensures greatest { AreGreatest graph.now.rows.items flow.now potentials.new }
-    ensures above { ArePathsAbove graph.now.rows.items potentials.new }
-    ensures labels { IsLabelsFor (length potentials.old) labels.new }
-    ensures sized { IsQueueFor (length potentials.old) queue.new }
+pub fn raise(graph: &Graph, flow: &Ledger<i64>, potentials: &mut Ledger<i64>, scratch: &mut Scratch)
+    requires ledger { IsLedger potentials.old }
+    requires graph { IsGraphFor (length potentials.old.entries.items) graph.now }
+    requires certified { IsCertified graph.now.rows.items flow.now.entries.items potentials.old.entries.items }
+    requires scratch { IsScratchFor (length potentials.old.entries.items) scratch.old }
+    ensures written { IsWritten potentials.old potentials.new }
+    ensures certified { IsCertified graph.now.rows.items flow.now.entries.items potentials.new.entries.items }
+    ensures within { ArePotentials (length potentials.new.entries.items) label_floor potentials.new.entries.items }
+    ensures greatest { AreGreatest graph.now.rows.items flow.now.entries.items potentials.new.entries.items }
+    ensures above { ArePathsAbove graph.now.rows.items potentials.new.entries.items }
+    ensures scratch { IsScratchFor (length potentials.new.entries.items) scratch.new }
 {
     search_labels(
         Residual {
             graph,
-            flow,
-            potentials,
+            flow: &flow.entries,
+            potentials: &potentials.entries,
         },
-        &mut labels.visits,
-        &mut labels.order,
-        queue,
+        &mut scratch.labels.visits,
+        &mut scratch.labels.order,
+        &mut scratch.queue,
     );
-    take_labels(potentials, touched, &labels.visits);
+    take_labels(
+        &mut potentials.entries,
+        &mut potentials.touched,
+        &scratch.labels.visits,
+    );
 }
 
 /// Lowers the potential of each settled node by what it is nearer than `reach`.

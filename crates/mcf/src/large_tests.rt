@@ -152,16 +152,17 @@ fn fifty_thousand_nodes_are_solved(rt: HostRuntime) -> Result<(), Fail> {
 #[test]
 fn a_long_history_goes_back_and_forth(rt: HostRuntime) -> Result<(), Fail> {
     let commands = [
-        (1, b"show\n".as_slice()),
+        (1, b"show\nmark first\n".as_slice()),
         (5_000, b"cap 5 3\ncap 5 5\n"),
         (10_001, b"undo\n"),
         (1, b"show\n"),
         (10_001, b"redo\n"),
-        (1, b"show\n"),
+        (1, b"show\nmark last\nback first\nundo\nback last\nredo\n"),
     ];
     let replies = [
         (1, b"s 14\n".as_slice()),
         (1, DIAMOND_SHOWN),
+        (1, b"s 14\n"),
         // The edits, and their undos.
         (10_000, b"s 15\ns 14\n"),
         (1, b"r 25\n"),
@@ -169,6 +170,8 @@ fn a_long_history_goes_back_and_forth(rt: HostRuntime) -> Result<(), Fail> {
         (5_000, b"s 15\ns 14\n"),
         (1, b"r 26\n"),
         (1, DIAMOND_SHOWN),
+        // The marks, far apart.
+        (1, b"s 14\ns 14\nr 25\ns 14\nr 26\n"),
     ];
     let commands = text(rt.alloc(), commands.as_slice())?;
     let replies = text(rt.alloc(), replies.as_slice())?;

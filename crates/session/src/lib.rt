@@ -2,6 +2,8 @@
 #![tactic(auto)]
 
 mod differences;
+#[cfg(test)]
+mod group_tests;
 mod laws;
 mod marks;
 #[cfg(test)]
