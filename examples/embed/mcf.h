@@ -18,7 +18,7 @@
 #include <stddef.h>
 #include <stdint.h>
 
-/* What a call answers: MCF_DONE, the number of a refusal (1 to 30), or one of these. */
+/* What a call answers: MCF_DONE, the number of a refusal (1 to 33), or one of these. */
 enum {
     MCF_DONE = 0,
     MCF_CLOSED = -1,       /* the handle has no session */
