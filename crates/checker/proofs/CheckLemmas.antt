@@ -3,9 +3,9 @@ use Rattle.std.proofs.Common.{◌≡◌, ◌↔◌, IsTrue, ℕ, ◌-◌, Bool, 
 use Rattle.std.specs.Io.KnownBytes.{Appends, Consumes, IsAtEnd}
 use Rattle.dimacs_io.specs.Device.{AppendsBeginning}
 use Rattle.dimacs_text.specs.declared.answer.Answer.{Answer}
-use Rattle.dimacs_text.specs.declared.fault.TextFault.{TextFault}
-use Rattle.dimacs_text.specs.declared.fault.TextFault.TheVariants as text_fault
-use Rattle.dimacs_text.specs.Stream.{decided}
+use Rattle.dimacs_lines.specs.declared.fault.TextFault.{TextFault}
+use Rattle.dimacs_lines.specs.declared.fault.TextFault.TheVariants as text_fault
+use Rattle.dimacs_lines.specs.Stream.{decided}
 use Rattle.dimacs_text.specs.Reading.{ProblemValue, problem_rule, reads}
 use Rattle.dimacs_text.specs.Answer.{answer_rule, answers}
 use Rattle.dimacs_text.proofs.AnswerLemmas.{answer_always}

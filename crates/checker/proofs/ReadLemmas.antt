@@ -1,11 +1,11 @@
 -- What a reader's answer says of the text that has come.
 use Rattle.std.proofs.Common.{ℕ, List, Option, Err, inl, inr}
 use Rattle.std.specs.Io.KnownBytes.{IsAtEnd}
-use Rattle.dimacs_text.specs.declared.fault.TextFault.{TextFault}
-use Rattle.dimacs_text.specs.declared.fault.TextFault.TheVariants as text_fault
+use Rattle.dimacs_lines.specs.declared.fault.TextFault.{TextFault}
+use Rattle.dimacs_lines.specs.declared.fault.TextFault.TheVariants as text_fault
 use Rattle.dimacs_text.specs.declared.problem_reader.ProblemReader.{ProblemReader}
 use Rattle.dimacs_text.specs.declared.answer_reader.AnswerReader.{AnswerReader}
-use Rattle.dimacs_text.specs.Stream.{decided}
+use Rattle.dimacs_lines.specs.Stream.{decided}
 use Rattle.dimacs_text.specs.Reading.{problem_rule, reads}
 use Rattle.dimacs_text.specs.Answer.{answer_rule, answers}
 use Rattle.dimacs_text.specs.ProblemReader as problem

@@ -6,8 +6,8 @@ use Rattle.dimacs_text.specs.declared.problem.ArcRow.{ArcRow}
 use Rattle.dimacs_text.specs.declared.answer.FlowLine.{FlowLine}
 use Rattle.dimacs_text.specs.declared.answer.Answer.{Answer}
 use Rattle.dimacs_text.specs.declared.answer.Answer.TheVariants.{Flow, Cut}
-use Rattle.dimacs_text.specs.declared.fault.TextFault.TheVariants.{Fault}
-use Rattle.dimacs_text.specs.Stream.{decided}
+use Rattle.dimacs_lines.specs.declared.fault.TextFault.TheVariants.{Fault}
+use Rattle.dimacs_lines.specs.Stream.{decided}
 use Rattle.dimacs_text.specs.Reading.{ProblemValue, problem_rule, reads}
 use Rattle.dimacs_text.specs.Answer.{answer_rule, answers}
 use Rattle.network.specs.Instance.{IsBest, IsBestAnswer, IsCutAnswer, IsLegal, first}

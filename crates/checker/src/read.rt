@@ -1,6 +1,6 @@
 //! Reads the texts of a problem and of an answer from their sources.
 ghost use Rattle.std.specs.Prelude.{◌≡◌, ℕ, ◌-◌, ◌^◌, ◌<◌, List};
-ghost use Rattle.dimacs_text.specs.Stream.{decided};
+ghost use Rattle.dimacs_lines.specs.Stream.{decided};
 ghost use Rattle.dimacs_text.specs.Reading.{problem_rule, reads};
 ghost use Rattle.dimacs_text.specs.Answer.{answer_rule, answers};
 ghost use Rattle.checker.specs.Reading.{CountsRead, Gives, ReadsText};

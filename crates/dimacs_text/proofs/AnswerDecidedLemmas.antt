@@ -1,21 +1,22 @@
 -- No check of an answer text but that of its length says that a line is too long.
 use Rattle.std.proofs.Common.{◌≡◌, ◌≢◌, ℕ, ◌+◌, Bool, true, false, cond, ◌&&◌, List, ◌++◌, length, Option, Some, None, Result, Ok, Err, ℤ, pos, arith}
 use Rattle.std.specs.Prelude.{nat_lt, ◌==◌, is_some, is_none}
-use Rattle.dimacs_text.specs.declared.fault.Fault.{Fault}
-use Rattle.dimacs_text.specs.declared.fault.Fault.TheVariants as fault
-use Rattle.dimacs_text.specs.declared.fault.TextFault.{TextFault}
-use Rattle.dimacs_text.specs.declared.fault.TextFault.TheVariants as text_fault
+use Rattle.dimacs_lines.specs.declared.fault.Fault.{Fault}
+use Rattle.dimacs_lines.specs.declared.fault.Fault.TheVariants as fault
+use Rattle.dimacs_lines.specs.declared.fault.TextFault.{TextFault}
+use Rattle.dimacs_lines.specs.declared.fault.TextFault.TheVariants as text_fault
 use Rattle.dimacs_text.specs.declared.answer.Answer.{Answer}
 use Rattle.dimacs_text.specs.declared.answer_line.AnswerLine.{AnswerLine}
 use Rattle.dimacs_text.specs.declared.answer_line.AnswerLine.TheVariants as line
-use Rattle.dimacs_text.specs.Fault.{number_of}
-use Rattle.dimacs_text.specs.Lines.{Line, IsBytes}
-use Rattle.dimacs_text.specs.Fields.{Word, natural, integer, words_of, claimed_value}
-use Rattle.dimacs_text.specs.Problem.{◌>>=◌, demand, some_or, natural_in, field, fields_of}
-use Rattle.dimacs_text.specs.Stream.{at_line, or_at, decided}
+use Rattle.dimacs_lines.specs.Fault.{number_of}
+use Rattle.dimacs_lines.specs.Lines.{Line, IsBytes}
+use Rattle.dimacs_lines.specs.Fields.{Word, natural, integer, words_of, claimed_value}
+use Rattle.dimacs_lines.specs.Checks.{◌>>=◌, demand, some_or, natural_in}
+use Rattle.dimacs_text.specs.Problem.{field, fields_of}
+use Rattle.dimacs_lines.specs.Stream.{at_line, or_at, decided}
 use Rattle.dimacs_text.specs.Answer.{Said, said_of, first_of, last_node, read_value, read_flow, read_potential, read_shortage, read_cut_node, fault_by, flow_ending, ending_by, answer_rule, answer_end, answers}
 use Rattle.dimacs_text.proofs.OtherLemmas.{IsOther, bind_other, demand_other, some_or_other, natural_in_other, fault_other}
-use Rattle.dimacs_text.proofs.DecidedLemmas.{decided_only}
+use Rattle.dimacs_lines.proofs.DecidedLemmas.{decided_only}
 
 read_value_other : (said : Said) (fields : List Word) → IsOther (read_value said fields)
 unfolding read_value

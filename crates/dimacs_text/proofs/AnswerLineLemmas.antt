@@ -1,10 +1,11 @@
 -- What it means that a line of an answer text was read.
 use Rattle.std.proofs.Common.{◌≡◌, ℕ, ◌+◌, true, List, length, Option, Some, None, Ok, ℤ, pos, refl, ap, subst, ◌∙◌}
 use Rattle.std.specs.Prelude.{nat_lt, ◌==◌, is_none, is_some, unwrap_or}
-use Rattle.dimacs_text.specs.declared.fault.Fault.TheVariants as fault
-use Rattle.dimacs_text.specs.Fields.{Word, natural, integer, claimed_value}
+use Rattle.dimacs_lines.specs.declared.fault.Fault.TheVariants as fault
+use Rattle.dimacs_lines.specs.Fields.{Word, natural, integer, claimed_value}
 use Rattle.dimacs_text.specs.Lawful.{IsNode}
-use Rattle.dimacs_text.specs.Problem.{◌>>=◌, demand, some_or, natural_in, natural_value, field}
+use Rattle.dimacs_lines.specs.Checks.{◌>>=◌, demand, some_or, natural_in}
+use Rattle.dimacs_text.specs.Problem.{natural_value, field}
 use Rattle.dimacs_text.proofs.RowLemmas.{bind_ok, demand_ok, some_or_ok, ok_is, natural_in-ok}
 use Rattle.dimacs_text.specs.declared.answer.FlowLine.{FlowLine}
 use Rattle.dimacs_text.specs.Answer.{Said, value_said, flow_said, potential_said, shortage_said, cut_node_said, last_node, read_value, read_flow, read_potential, read_shortage, read_cut_node}

@@ -1,10 +1,10 @@
 -- A line of an answer text that is taken, by its designator.
 use Rattle.std.proofs.Common.{◌≡◌, List, [], ◌∷◌, ◌++◌, Option, Some, None, Result, Ok, Err, ℤ, refl, sym, ap, ◌∙◌}
 use Rattle.std.proofs.lemmas.List.{append-nil}
-use Rattle.dimacs_text.specs.declared.fault.Fault.{Fault}
-use Rattle.dimacs_text.specs.declared.fault.LineError.{LineError}
-use Rattle.dimacs_text.specs.Lines.{Line}
-use Rattle.dimacs_text.specs.Fields.{Word, words_of}
+use Rattle.dimacs_lines.specs.declared.fault.Fault.{Fault}
+use Rattle.dimacs_lines.specs.declared.fault.LineError.{LineError}
+use Rattle.dimacs_lines.specs.Lines.{Line}
+use Rattle.dimacs_lines.specs.Fields.{Word, words_of}
 use Rattle.dimacs_text.specs.Problem.{fields_of, fault_of}
 use Rattle.dimacs_text.specs.declared.answer_line.AnswerLine.{AnswerLine}
 use Rattle.dimacs_text.specs.declared.answer_line.AnswerLine.TheVariants as line_kind

@@ -2,20 +2,20 @@
 use Rattle.std.proofs.Common.{◌≡◌, ◌↔◌, Bool, true, false, not, ◌&&◌, IsTrue, cond, List, [], ◌∷◌, length, ◌==◌, Option, Some, None, Result, Ok, Err, refl, sym, ap, ◌∙◌, arith}
 use Rattle.std.proofs.lemmas.Bool.{false≢true}
 use Rattle.std.proofs.lemmas.Bool.Decides.{nat_tests}
-use Rattle.dimacs_text.specs.declared.fault.Fault.{Fault}
-use Rattle.dimacs_text.specs.declared.fault.Fault.TheVariants as fault
+use Rattle.dimacs_lines.specs.declared.fault.Fault.{Fault}
+use Rattle.dimacs_lines.specs.declared.fault.Fault.TheVariants as fault
 use Rattle.dimacs_text.specs.declared.problem.Kind.{Kind}
 use Rattle.dimacs_text.specs.declared.problem.Kind.TheVariants.{Min, Max, Asn}
-use Rattle.dimacs_text.specs.declared.name.Name.{Name}
+use Rattle.dimacs_lines.specs.declared.name.Name.{Name}
 use Rattle.dimacs_text.specs.declared.command.Edit.{Edit}
 use Rattle.dimacs_text.specs.declared.command.Edit.TheVariants as edits
 use Rattle.dimacs_text.specs.declared.command.Command.{Command}
 use Rattle.dimacs_text.specs.declared.command.Command.TheVariants as commands
 use Rattle.dimacs_text.specs.declared.command.Verb.{Verb}
 use Rattle.dimacs_text.specs.declared.command.Verb.TheVariants as verbs
-use Rattle.dimacs_text.specs.Lines.{Line, is_too_long}
-use Rattle.dimacs_text.specs.Fields.{Word, words_of}
-use Rattle.dimacs_text.specs.Problem.{◌>>=◌, demand, some_or}
+use Rattle.dimacs_lines.specs.Lines.{Line, is_too_long}
+use Rattle.dimacs_lines.specs.Fields.{Word, words_of}
+use Rattle.dimacs_lines.specs.Checks.{◌>>=◌, demand, some_or}
 use Rattle.dimacs_text.specs.Command.{asked, as_back, as_edit, as_mark, ends_group, has_one, is_end, is_for, is_group, opens_group, read_add, read_bare, read_by, read_cap, read_close, read_cost, read_low, read_name, read_supply, read_words, verb_of}
 use Rattle.dimacs_text.specs.Group.{is_end_asked}
 

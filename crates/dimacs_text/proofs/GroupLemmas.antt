@@ -1,9 +1,9 @@
 -- The lines round a group, and its lines with one line more.
 use Rattle.std.proofs.Common.{◌≡◌, ℕ, ◌+◌, Bool, true, false, cond, List, [], ◌∷◌, ◌++◌, length, Option, Some, None, Result, Ok, Err, refl, sym, ap, ◌∙◌, arith}
-use Rattle.dimacs_text.specs.declared.fault.Fault.{Fault}
+use Rattle.dimacs_lines.specs.declared.fault.Fault.{Fault}
 use Rattle.dimacs_text.specs.declared.problem.Kind.{Kind}
 use Rattle.dimacs_text.specs.declared.command.Edit.{Edit}
-use Rattle.dimacs_text.specs.Lines.{Line}
+use Rattle.dimacs_lines.specs.Lines.{Line}
 use Rattle.dimacs_text.specs.Command.{asked}
 use Rattle.dimacs_text.specs.Group.{Gathered, with_edit, gathered_by, gathered, gathered_after, stays_or, edit_in, is_end_asked, and_line}
 

@@ -1,15 +1,3 @@
-pub mod LineLemmas
-pub mod GoesOnLemmas
-pub mod PartLemmas
-pub mod BegunLemmas
-pub mod CutLemmas
-pub mod PlaceLemmas
-pub mod WordLemmas
-pub mod NumberLemmas
-pub mod StreamLemmas
-pub mod ReaderLemmas
-pub mod EndLemmas
-pub mod DecidedLemmas
 pub mod ProblemLemmas
 pub mod RowLemmas
 pub mod SoundLemmas
@@ -21,7 +9,6 @@ pub mod AnswerLemmas
 pub mod AnswerLineLemmas
 pub mod AnswerTakeLemmas
 pub mod SaidLemmas
-pub mod NameLemmas
 pub mod BracketLemmas
 pub mod GroupLemmas
 pub mod TurnLemmas

@@ -1,23 +1,24 @@
 -- No check of a problem text but that of its length says that a line is too long.
 use Rattle.std.proofs.Common.{◌≡◌, ◌≢◌, ℕ, Bool, true, false, cond, if◌then◌else◌, not, ◌&&◌, ◌||◌, List, length, Option, Some, None, Result, Ok, Err, ℤ, pos, neg_ℤ, arith}
 use Rattle.std.specs.Prelude.{int_le, nat_le, nat_lt, ◌==◌, is_none}
-use Rattle.dimacs_text.specs.declared.fault.Fault.{Fault}
-use Rattle.dimacs_text.specs.declared.fault.Fault.TheVariants as fault
-use Rattle.dimacs_text.specs.declared.fault.TextFault.{TextFault}
-use Rattle.dimacs_text.specs.declared.fault.TextFault.TheVariants as text_fault
+use Rattle.dimacs_lines.specs.declared.fault.Fault.{Fault}
+use Rattle.dimacs_lines.specs.declared.fault.Fault.TheVariants as fault
+use Rattle.dimacs_lines.specs.declared.fault.TextFault.{TextFault}
+use Rattle.dimacs_lines.specs.declared.fault.TextFault.TheVariants as text_fault
 use Rattle.dimacs_text.specs.declared.problem.Kind.{Kind}
 use Rattle.dimacs_text.specs.declared.problem.Kind.TheVariants.{Min, Max, Asn}
 use Rattle.dimacs_text.specs.declared.problem.NodeMark.{NodeMark}
 use Rattle.dimacs_text.specs.declared.problem.NodeMark.TheVariants.{Supply, Source, Sink, Side}
 use Rattle.dimacs_text.specs.declared.problem.Size.{Size}
 use Rattle.dimacs_text.specs.declared.problem.TheConstants.{NODE_LIMIT, ARC_LIMIT, CAP_LIMIT, COST_LIMIT, SUPPLY_LIMIT}
-use Rattle.dimacs_text.specs.declared.words.Designator.{Designator}
-use Rattle.dimacs_text.specs.declared.words.Designator.TheVariants as designator
-use Rattle.dimacs_text.specs.Fault.{number_of}
-use Rattle.dimacs_text.specs.Lines.{Line}
-use Rattle.dimacs_text.specs.Fields.{Word, natural, integer, words_of}
-use Rattle.dimacs_text.specs.Problem.{Told, told_of, ◌>>=◌, demand, some_or, natural_in, integer_in, kind_named, kind_in, is_source_word, is_sink_word, has_source, has_sink, has_terminals, terminal_by, read_size, read_mark, read_mark_of, read_supply, read_terminal, read_side, read_row, read_row_of, read_min_row, read_max_row, read_asn_row, field, is_named, fault_of, fault_by, first_of, fields_of}
-use Rattle.dimacs_text.specs.Stream.{at_line, or_at}
+use Rattle.dimacs_text.specs.declared.designator.Designator.{Designator}
+use Rattle.dimacs_text.specs.declared.designator.Designator.TheVariants as designator
+use Rattle.dimacs_lines.specs.Fault.{number_of}
+use Rattle.dimacs_lines.specs.Lines.{Line}
+use Rattle.dimacs_lines.specs.Fields.{Word, natural, integer, words_of}
+use Rattle.dimacs_lines.specs.Checks.{◌>>=◌, demand, some_or, natural_in, integer_in}
+use Rattle.dimacs_text.specs.Problem.{Told, told_of, kind_named, kind_in, is_source_word, is_sink_word, has_source, has_sink, has_terminals, terminal_by, read_size, read_mark, read_mark_of, read_supply, read_terminal, read_side, read_row, read_row_of, read_min_row, read_max_row, read_asn_row, field, is_named, fault_of, fault_by, first_of, fields_of}
+use Rattle.dimacs_lines.specs.Stream.{at_line, or_at}
 use Rattle.dimacs_text.specs.Reading.{ProblemValue, ending_by, problem_rule, problem_end}
 
 -- ---- no check of a line that fits says that it is too long

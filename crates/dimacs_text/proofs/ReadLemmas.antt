@@ -1,18 +1,18 @@
 -- A problem text is read as its taker and its end say.
 use Rattle.std.proofs.Common.{◌≡◌, ℕ, List, [], ◌++◌, Some, None, Result, Ok, Err, length, refl, ◌∙◌}
-use Rattle.dimacs_text.specs.declared.fault.Fault.{Fault}
-use Rattle.dimacs_text.specs.declared.fault.LineError.{LineError}
-use Rattle.dimacs_text.specs.declared.fault.TextFault.{TextFault}
-use Rattle.dimacs_text.specs.declared.fault.TextFault.TheVariants as text_fault
-use Rattle.dimacs_text.specs.Fault.{number_of}
-use Rattle.dimacs_text.specs.Lines.{Line, lines_of, IsBytes}
+use Rattle.dimacs_lines.specs.declared.fault.Fault.{Fault}
+use Rattle.dimacs_lines.specs.declared.fault.LineError.{LineError}
+use Rattle.dimacs_lines.specs.declared.fault.TextFault.{TextFault}
+use Rattle.dimacs_lines.specs.declared.fault.TextFault.TheVariants as text_fault
+use Rattle.dimacs_lines.specs.Fault.{number_of}
+use Rattle.dimacs_lines.specs.Lines.{Line, lines_of, IsBytes}
 use Rattle.dimacs_text.specs.Problem.{Told, told_of}
 use Rattle.dimacs_text.specs.Reading.{ProblemValue, ending, Takes, problem_rule, problem_end, reads}
 use Rattle.dimacs_text.proofs.ProblemLemmas.{told_of_push}
-use Rattle.dimacs_text.proofs.DecidedLemmas.{decided_always, decided_only}
+use Rattle.dimacs_lines.proofs.DecidedLemmas.{decided_always, decided_only}
 use Rattle.dimacs_text.proofs.OtherLemmas.{rule_other, end_other}
-use Rattle.dimacs_text.specs.Stream.{counted, decided, first_fault, TakesLine}
-use Rattle.dimacs_text.specs.Reader as generic
+use Rattle.dimacs_lines.specs.Stream.{counted, decided, first_fault, TakesLine}
+use Rattle.dimacs_lines.specs.Reader as generic
 use Rattle.dimacs_text.specs.ProblemReader.{holds, Finishes}
 
 pub line_taken : (result : Result (Unit {0}) LineError) (old new : Told) (before : List Line) (line : Line) → Takes result line old new → old ≡ told_of before → TakesLine problem_rule holds result before line new

@@ -6,8 +6,8 @@ use Rattle.std.proofs.lemmas.Float.{T_from_true}
 use Rattle.std.proofs.lemmas.Int.{ints}
 use Rattle.std.proofs.lemmas.List.{nil_from_length}
 use Rattle.std.proofs.lemmas.List.Elements.{All-push}
-use Rattle.dimacs_text.specs.declared.fault.Fault.{Fault}
-use Rattle.dimacs_text.specs.declared.fault.Fault.TheVariants as fault
+use Rattle.dimacs_lines.specs.declared.fault.Fault.{Fault}
+use Rattle.dimacs_lines.specs.declared.fault.Fault.TheVariants as fault
 use Rattle.dimacs_text.specs.declared.problem.Kind.{Kind}
 use Rattle.dimacs_text.specs.declared.problem.Kind.TheVariants.{Min, Max, Asn}
 use Rattle.dimacs_text.specs.declared.problem.NodeMark.{NodeMark}
@@ -15,8 +15,9 @@ use Rattle.dimacs_text.specs.declared.problem.NodeMark.TheVariants.{Supply, Sour
 use Rattle.dimacs_text.specs.declared.problem.ArcRow.{ArcRow}
 use Rattle.dimacs_text.specs.declared.problem.Size.{Size}
 use Rattle.dimacs_text.specs.declared.problem.TheConstants.{NODE_LIMIT, ARC_LIMIT, CAP_LIMIT, COST_LIMIT, SUPPLY_LIMIT}
-use Rattle.dimacs_text.specs.Fields.{Word, natural, integer}
-use Rattle.dimacs_text.specs.Problem.{Told, kind_named, kind_of, kind_in, ◌>>=◌, demand, some_or, natural_in, integer_in, natural_value, integer_value, is_source_word, is_sink_word, has_source, has_sink, has_terminals, terminal_by, read_size, read_mark, read_mark_of, read_supply, read_terminal, read_side, read_row, read_row_of, read_min_row, read_max_row, read_asn_row, field, node_of, is_named, mark_of, row_of, size_of, new_marks, new_rows}
+use Rattle.dimacs_lines.specs.Fields.{Word, natural, integer}
+use Rattle.dimacs_lines.specs.Checks.{◌>>=◌, demand, some_or, natural_in, integer_in}
+use Rattle.dimacs_text.specs.Problem.{Told, kind_named, kind_of, kind_in, natural_value, integer_value, is_source_word, is_sink_word, has_source, has_sink, has_terminals, terminal_by, read_size, read_mark, read_mark_of, read_supply, read_terminal, read_side, read_row, read_row_of, read_min_row, read_max_row, read_asn_row, field, node_of, is_named, mark_of, row_of, size_of, new_marks, new_rows}
 use Rattle.dimacs_text.specs.Lawful.{IsNode, IsWithin, IsLawfulSize, IsLawfulMark, IsLawfulRow, HasLawfulSupply, IsSupply, IsSide, AreOpposite, AreTerminals, MarksFit, RowFits}
 
 -- the value of a step that did not fail

@@ -2,7 +2,7 @@
 use Rattle.std.proofs.Common.{◌≡◌, List, [], ◌∷◌, ◌++◌, None, refl, ℤ}
 use Rattle.std.specs.List.{flat_map}
 use Rattle.dimacs_text.proofs.ProblemLemmas.{flat_map_push}
-use Rattle.dimacs_text.specs.Lines.{Line}
+use Rattle.dimacs_lines.specs.Lines.{Line}
 use Rattle.dimacs_text.specs.Answer.{said_of, and_said, values_in, flows_in, potentials_in, shortages_in, cut_in, first_value, or_value}
 
 first_value-append : (xs ys : List ℤ) → first_value (xs ++ ys) ≡ or_value (first_value xs) ys

@@ -2,15 +2,16 @@
 -- and then a `v ID POTENTIAL` line for each node; or an `i SHORTAGE` line, and then a `k ID` line for each node of a cut.
 use Rattle.std.specs.Prelude.{◌≡◌, ℕ, ◌+◌, ◌-◌, ◌&&◌, List, [], ◌∷◌, ◌++◌, Option, Some, None, Result, Ok, Err, length, unwrap_or, nat_lt, ◌==◌, is_some, is_none, if◌then◌else◌, ℤ, pos, slice_index_or}
 use Rattle.std.specs.List.{All, flat_map}
-use Rattle.dimacs_text.specs.declared.fault.Fault.{Fault}
-use Rattle.dimacs_text.specs.declared.fault.Fault.TheVariants as fault
-use Rattle.dimacs_text.specs.declared.fault.LineError.{LineError}
-use Rattle.dimacs_text.specs.declared.fault.TextFault.{TextFault}
-use Rattle.dimacs_text.specs.Lines.{Line, lines_of}
-use Rattle.dimacs_text.specs.Fields.{Word, words_of, natural, integer, claimed_value}
+use Rattle.dimacs_lines.specs.declared.fault.Fault.{Fault}
+use Rattle.dimacs_lines.specs.declared.fault.Fault.TheVariants as fault
+use Rattle.dimacs_lines.specs.declared.fault.LineError.{LineError}
+use Rattle.dimacs_lines.specs.declared.fault.TextFault.{TextFault}
+use Rattle.dimacs_lines.specs.Lines.{Line, lines_of}
+use Rattle.dimacs_lines.specs.Fields.{Word, words_of, natural, integer, claimed_value}
 use Rattle.dimacs_text.specs.Lawful.{IsNode}
-use Rattle.dimacs_text.specs.Problem.{◌>>=◌, demand, some_or, natural_in, natural_value, integer_value, field, fields_of, fault_of}
-use Rattle.dimacs_text.specs.Stream.{Rule, Reports, first_fault, fault_or, or_at}
+use Rattle.dimacs_lines.specs.Checks.{◌>>=◌, demand, some_or, natural_in}
+use Rattle.dimacs_text.specs.Problem.{natural_value, integer_value, field, fields_of, fault_of}
+use Rattle.dimacs_lines.specs.Stream.{Rule, Reports, first_fault, fault_or, or_at}
 use Rattle.dimacs_text.specs.declared.answer.Answer.{Answer}
 use Rattle.dimacs_text.specs.declared.answer.Answer.TheVariants.{Flow, Cut}
 use Rattle.dimacs_text.specs.declared.answer.FlowLine.{FlowLine}

@@ -1,10 +1,10 @@
 -- What a reader of answer texts stands for.
 use Rattle.std.specs.Prelude.{◌≡◌, ℕ, List, Result, Ok, Err}
-use Rattle.dimacs_text.specs.declared.fault.TextFault.{TextFault}
-use Rattle.dimacs_text.specs.declared.fault.TextFault.TheVariants as text_fault
-use Rattle.dimacs_text.specs.Lines.{Line}
-use Rattle.dimacs_text.specs.Reader as generic
-use Rattle.dimacs_text.specs.Stream.{StopsWell}
+use Rattle.dimacs_lines.specs.declared.fault.TextFault.{TextFault}
+use Rattle.dimacs_lines.specs.declared.fault.TextFault.TheVariants as text_fault
+use Rattle.dimacs_lines.specs.Lines.{Line}
+use Rattle.dimacs_lines.specs.Reader as generic
+use Rattle.dimacs_lines.specs.Stream.{StopsWell}
 use Rattle.dimacs_text.specs.declared.answer.Answer.{Answer}
 use Rattle.dimacs_text.specs.declared.answer_draft.AnswerDraft.{AnswerDraft}
 use Rattle.dimacs_text.specs.declared.answer_reader.AnswerReader.{AnswerReader}

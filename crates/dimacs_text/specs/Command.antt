@@ -1,22 +1,23 @@
 -- Command texts: what a line by itself asks for, or the number of its first check that fails.
 use Rattle.std.specs.Prelude.{ℕ, Bool, true, false, ◌&&◌, not, List, [], ◌∷◌, Option, Some, None, Result, Ok, Err, length, ◌==◌, if◌then◌else◌, pos}
-use Rattle.dimacs_text.specs.declared.fault.Fault.{Fault}
-use Rattle.dimacs_text.specs.declared.fault.Fault.TheVariants as fault
+use Rattle.dimacs_lines.specs.declared.fault.Fault.{Fault}
+use Rattle.dimacs_lines.specs.declared.fault.Fault.TheVariants as fault
 use Rattle.dimacs_text.specs.declared.problem.Kind.{Kind}
 use Rattle.dimacs_text.specs.declared.problem.Kind.TheVariants.{Min, Max, Asn}
 use Rattle.dimacs_text.specs.declared.problem.TheConstants.{CAP_LIMIT, COST_LIMIT, SUPPLY_LIMIT}
-use Rattle.dimacs_text.specs.declared.name.Name.{Name}
+use Rattle.dimacs_lines.specs.declared.name.Name.{Name}
 use Rattle.dimacs_text.specs.declared.command.Edit.{Edit}
 use Rattle.dimacs_text.specs.declared.command.Edit.TheVariants as edits
 use Rattle.dimacs_text.specs.declared.command.Command.{Command}
 use Rattle.dimacs_text.specs.declared.command.Command.TheVariants as commands
 use Rattle.dimacs_text.specs.declared.command.Verb.{Verb}
 use Rattle.dimacs_text.specs.declared.command.Verb.TheVariants as verbs
-use Rattle.dimacs_text.specs.Fault.{number_of}
-use Rattle.dimacs_text.specs.Lines.{Line, is_too_long}
-use Rattle.dimacs_text.specs.Fields.{Word, words_of, natural}
-use Rattle.dimacs_text.specs.Name.{name_of}
-use Rattle.dimacs_text.specs.Problem.{◌>>=◌, demand, some_or, natural_in, integer_in, field}
+use Rattle.dimacs_lines.specs.Fault.{number_of}
+use Rattle.dimacs_lines.specs.Lines.{Line, is_too_long}
+use Rattle.dimacs_lines.specs.Fields.{Word, words_of, natural}
+use Rattle.dimacs_lines.specs.Name.{name_of}
+use Rattle.dimacs_lines.specs.Checks.{◌>>=◌, demand, some_or, natural_in, integer_in}
+use Rattle.dimacs_text.specs.Problem.{field}
 
 -- the verb that a word is: `cap`, `low`, `add`, `end`, `cost`, `undo`, `redo`, `show`, `mark`, `back`, `close`, `proof`, `group` or
 -- `supply`

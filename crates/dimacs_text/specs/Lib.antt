@@ -1,14 +1,7 @@
-pub mod Lines
-pub mod Cut
-pub mod Fault
-pub mod Fields
 pub mod Problem
 pub mod Lawful
-pub mod Stream
-pub mod Reader
 pub mod Reading
 pub mod ProblemReader
-pub mod Name
 pub mod Command
 pub mod Answer
 pub mod AnswerReader

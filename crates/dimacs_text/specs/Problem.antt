@@ -1,10 +1,11 @@
 -- Problem texts: what each line says by itself, and its fault among the lines before it.
-use Rattle.std.specs.Prelude.{ℕ, Bool, true, false, not, ◌&&◌, ◌||◌, List, [], ◌∷◌, ◌++◌, Option, Some, None, Result, Ok, Err, length, drop, unwrap_or, nat_le, nat_lt, ◌==◌, is_none, if◌then◌else◌, ℤ, pos, neg_ℤ, int_le, slice_index_or}
+use Rattle.std.specs.Prelude.{ℕ, Bool, true, false, not, ◌&&◌, ◌||◌, List, [], ◌∷◌, ◌++◌, Option, Some, None, Result, Ok, Err, length, drop, unwrap_or, nat_le, nat_lt, ◌==◌, is_none, if◌then◌else◌, ℤ, pos, slice_index_or}
 use Rattle.std.specs.List.{flat_map, list_any}
-use Rattle.dimacs_text.specs.Lines.{Line}
-use Rattle.dimacs_text.specs.Fields.{Word, words_of, natural, integer}
-use Rattle.dimacs_text.specs.declared.fault.Fault.{Fault}
-use Rattle.dimacs_text.specs.declared.fault.Fault.TheVariants as fault
+use Rattle.dimacs_lines.specs.Lines.{Line}
+use Rattle.dimacs_lines.specs.Fields.{Word, words_of, natural, integer}
+use Rattle.dimacs_lines.specs.Checks.{◌>>=◌, demand, some_or, natural_in, integer_in}
+use Rattle.dimacs_lines.specs.declared.fault.Fault.{Fault}
+use Rattle.dimacs_lines.specs.declared.fault.Fault.TheVariants as fault
 use Rattle.dimacs_text.specs.declared.problem.Kind.{Kind}
 use Rattle.dimacs_text.specs.declared.problem.Kind.TheVariants.{Min, Max, Asn}
 use Rattle.dimacs_text.specs.declared.problem.NodeMark.{NodeMark}
@@ -12,8 +13,8 @@ use Rattle.dimacs_text.specs.declared.problem.NodeMark.TheVariants.{Supply, Sour
 use Rattle.dimacs_text.specs.declared.problem.ArcRow.{ArcRow}
 use Rattle.dimacs_text.specs.declared.problem.Size.{Size}
 use Rattle.dimacs_text.specs.declared.problem.TheConstants.{NODE_LIMIT, ARC_LIMIT, CAP_LIMIT, COST_LIMIT, SUPPLY_LIMIT}
-use Rattle.dimacs_text.specs.declared.words.Designator.{Designator}
-use Rattle.dimacs_text.specs.declared.words.Designator.TheVariants as designator
+use Rattle.dimacs_text.specs.declared.designator.Designator.{Designator}
+use Rattle.dimacs_text.specs.declared.designator.Designator.TheVariants as designator
 
 -- ---- a line by itself
 
@@ -157,26 +158,6 @@ unfoldable pub and_told : Told → Line → Told
 and_told told line = record { size = size_with told.size line; marks = told.marks ++ marks_with told.size line; rows = told.rows ++ rows_with told.size line }
 
 -- ---- a line among the lines before it
-
-infixl 10 ◌>>=◌
-abbrev pub ◌>>=◌ : {A B : Type 0} → Result A Fault → (A → Result B Fault) → Result B Fault
-(Ok x) >>= f = f x
-(Err e) >>= f = Err e
-
-abbrev pub demand : Bool → Fault → Result (Unit {0}) Fault
-demand met fault = if met then Ok tt else Err fault
-
-abbrev pub some_or : {A : Type 0} → Option A → Fault → Result A Fault
-some_or None fault = Err fault
-some_or (Some x) fault = Ok x
-
--- a field: first the shape, then the range
-abbrev pub natural_in : ℕ → ℕ → Word → Result ℕ Fault
-natural_in low high word = some_or (natural word) fault.NotANumber >>= λ n. if nat_le low n && nat_le n high then Ok n else Err fault.OutOfRange
-
--- a field with a sign, at most limit either way
-abbrev pub integer_in : ℤ → Word → Result ℤ Fault
-integer_in limit word = some_or (integer word) fault.NotANumber >>= λ z. if int_le (neg_ℤ limit) z && int_le z limit then Ok z else Err fault.OutOfRange
 
 abbrev pub kind_in : Word → Result Kind Fault
 kind_in word = some_or (kind_named word) fault.UnknownKind

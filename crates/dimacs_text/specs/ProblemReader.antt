@@ -1,11 +1,11 @@
 -- What a reader of problem texts stands for.
 use Rattle.std.specs.Prelude.{◌≡◌, ℕ, List, Result, Ok, Err}
-use Rattle.dimacs_text.specs.declared.fault.TextFault.{TextFault}
-use Rattle.dimacs_text.specs.declared.fault.TextFault.TheVariants as text_fault
-use Rattle.dimacs_text.specs.Lines.{Line}
+use Rattle.dimacs_lines.specs.declared.fault.TextFault.{TextFault}
+use Rattle.dimacs_lines.specs.declared.fault.TextFault.TheVariants as text_fault
+use Rattle.dimacs_lines.specs.Lines.{Line}
 use Rattle.dimacs_text.specs.Problem.{told_of}
-use Rattle.dimacs_text.specs.Reader as generic
-use Rattle.dimacs_text.specs.Stream.{StopsWell}
+use Rattle.dimacs_lines.specs.Reader as generic
+use Rattle.dimacs_lines.specs.Stream.{StopsWell}
 use Rattle.dimacs_text.specs.declared.draft.Draft.{Draft}
 use Rattle.dimacs_text.specs.declared.problem_reader.ProblemReader.{ProblemReader}
 use Rattle.dimacs_text.specs.Reading.{ProblemValue, problem_rule, reads}

@@ -1,16 +1,16 @@
 -- Reading a problem text: its first faulty line, or the fault at its end, or the problem.
 use Rattle.std.specs.Prelude.{◌≡◌, ℕ, List, [], Option, Some, None, Result, Ok, Err, length, not, nat_lt, if◌then◌else◌}
-use Rattle.dimacs_text.specs.declared.fault.Fault.{Fault}
-use Rattle.dimacs_text.specs.declared.fault.Fault.TheVariants as fault
-use Rattle.dimacs_text.specs.declared.fault.LineError.{LineError}
-use Rattle.dimacs_text.specs.declared.fault.TextFault.{TextFault}
+use Rattle.dimacs_lines.specs.declared.fault.Fault.{Fault}
+use Rattle.dimacs_lines.specs.declared.fault.Fault.TheVariants as fault
+use Rattle.dimacs_lines.specs.declared.fault.LineError.{LineError}
+use Rattle.dimacs_lines.specs.declared.fault.TextFault.{TextFault}
 use Rattle.dimacs_text.specs.declared.problem.Kind.{Kind}
 use Rattle.dimacs_text.specs.declared.problem.NodeMark.{NodeMark}
 use Rattle.dimacs_text.specs.declared.problem.ArcRow.{ArcRow}
 use Rattle.dimacs_text.specs.declared.problem.Size.{Size}
-use Rattle.dimacs_text.specs.Lines.{Line, lines_of}
+use Rattle.dimacs_lines.specs.Lines.{Line, lines_of}
 use Rattle.dimacs_text.specs.Problem.{Told, told_of, and_told, line_fault, has_terminals}
-use Rattle.dimacs_text.specs.Stream.{Rule, Reports, first_fault, fault_or, or_at}
+use Rattle.dimacs_lines.specs.Stream.{Rule, Reports, first_fault, fault_or, or_at}
 
 -- a problem without where it lies in memory
 pub record ProblemValue : Type 0 where

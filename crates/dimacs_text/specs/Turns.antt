@@ -1,7 +1,7 @@
 -- The turns of a command text: what is answered at once.
 use Rattle.std.specs.Prelude.{Bool, true, false, List, [], ◌∷◌, ◌++◌, Option, Some, None}
 use Rattle.std.specs.List.{fold}
-use Rattle.dimacs_text.specs.Lines.{Line}
+use Rattle.dimacs_lines.specs.Lines.{Line}
 use Rattle.dimacs_text.specs.Command.{opens_group, ends_group}
 
 -- a line, or the lines of a group between `group` and `end`

@@ -1,6 +1,6 @@
 //! What an answer text says.
 
-use crate::sequence::Sequence;
+use dimacs_lines::Sequence;
 
 /// What an `f` line says: the flow of an arc, with its ends, which are nodes counted from 1.
 #[derive(Clone, Copy, Debug, PartialEq, Eq)]

@@ -6,10 +6,9 @@ ghost use Rattle.dimacs_text.specs.Answer.{Takes, TakesAs, read_value, read_flow
 
 use crate::answer::{Answer, FlowLine};
 use crate::answer_line::AnswerLine;
-use crate::fault::{Fault, LineError};
-use crate::numbers::{claimed_value, integer, natural, natural_in};
-use crate::sequence::Sequence;
-use crate::words::Words;
+use dimacs_lines::{
+    Fault, LineError, Sequence, Words, claimed_value, integer, natural, natural_in,
+};
 use std::alloc::Global;
 use std::marker::Model;
 

@@ -1,15 +1,14 @@
 //! A reader of answer texts.
 
 ghost use Rattle.std.specs.Prelude.{◌≡◌, List, ℕ, [], ◌++◌, Some, None, Err, IfOk, IfErr};
-ghost use Rattle.dimacs_text.specs.Lines.{IsBytes};
-ghost use Rattle.dimacs_text.specs.Stream.{decided, EndsWell};
+ghost use Rattle.dimacs_lines.specs.Lines.{IsBytes};
+ghost use Rattle.dimacs_lines.specs.Stream.{decided, EndsWell};
 ghost use Rattle.dimacs_text.specs.Answer.{FitsSize, answer_rule, answers};
-ghost use Rattle.dimacs_text.specs.declared.fault.TextFault.{TextFault};
+ghost use Rattle.dimacs_lines.specs.declared.fault.TextFault.{TextFault};
 
 use crate::answer::Answer;
 use crate::answer_draft::AnswerDraft;
-use crate::fault::{LineError, TextFault};
-use crate::reader::{LineTaker, TextReader};
+use dimacs_lines::{LineError, LineTaker, TextFault, TextReader};
 use std::alloc::Global;
 
 impl LineTaker for AnswerDraft {

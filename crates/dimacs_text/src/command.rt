@@ -3,16 +3,12 @@
 ghost use Rattle.std.specs.Prelude.{◌≡◌, ◌≢◌, ◌↔◌, IsTrue, [], ◌∷◌, ◌<◌, length, Ok};
 ghost use Rattle.dimacs_text.specs.declared.command.Command.TheVariants as commands;
 ghost use Rattle.dimacs_text.specs.declared.problem.Kind.{Kind};
-ghost use Rattle.dimacs_text.specs.Fields.{words_of};
-ghost use Rattle.dimacs_text.specs.Lines.{Line};
+ghost use Rattle.dimacs_lines.specs.Fields.{words_of};
+ghost use Rattle.dimacs_lines.specs.Lines.{Line};
 ghost use Rattle.dimacs_text.specs.Command.{asked, command, opens_group, ends_group, verb_of, is_for, read_words, read_by, read_bare, read_name, read_cap, read_low, read_cost, read_supply, read_add, read_min_arc, read_max_arc, read_asn_arc, read_close, as_edit};
 
-use crate::cutter::LINE_LIMIT;
-use crate::fault::Fault;
-use crate::name::Name;
-use crate::numbers::{integer_in, natural, natural_in};
 use crate::problem::{CAP_LIMIT, COST_LIMIT, Kind, SUPPLY_LIMIT};
-use crate::words::Words;
+use dimacs_lines::{Fault, LINE_LIMIT, Name, Words, integer_in, natural, natural_in};
 
 /// A change of an instance. Arcs and nodes are named by their numbers, counted from 1; whether they exist is not tested
 /// yet.

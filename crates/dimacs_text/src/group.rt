@@ -2,16 +2,16 @@
 
 ghost use Rattle.std.specs.Prelude.{◌≡◌, length};
 ghost use Rattle.std.specs.Option.{option_map};
-ghost use Rattle.dimacs_text.specs.Lines.{Line};
+ghost use Rattle.dimacs_lines.specs.Lines.{Line};
 ghost use Rattle.dimacs_text.specs.Command.{asked, ends_group};
-ghost use Rattle.dimacs_text.specs.Cut.{kept};
+ghost use Rattle.dimacs_lines.specs.Cut.{kept};
 ghost use Rattle.dimacs_text.specs.Group.{edit_of, is_end_asked, gathered, gathered_after, and_line};
-ghost use Rattle.dimacs_text.specs.Fault.{number_of};
+ghost use Rattle.dimacs_lines.specs.Fault.{number_of};
 
 use crate::command::{Command, Edit, read_line};
-use crate::fault::Fault;
 use crate::problem::Kind;
 use arrayvec::ArrayVec;
+use dimacs_lines::Fault;
 use std::marker::Model;
 
 /// The most edits of a group.

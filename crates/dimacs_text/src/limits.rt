@@ -1,10 +1,10 @@
 //! The limits of the texts, each by its number, so that no definition of a contract moves with a constant.
 
 ghost use Rattle.std.specs.Prelude.{◌≡◌, pos};
-ghost use Rattle.dimacs_text.specs.declared.cutter.TheConstants.{LINE_LIMIT};
+ghost use Rattle.dimacs_lines.specs.declared.cutter.TheConstants.{LINE_LIMIT};
 ghost use Rattle.dimacs_text.specs.declared.group.TheConstants.{GROUP_LIMIT};
-ghost use Rattle.dimacs_text.specs.declared.name.TheConstants.{NAME_LIMIT};
-ghost use Rattle.dimacs_text.specs.declared.numbers.TheConstants.{DIGIT_LIMIT, VALUE_DIGIT_LIMIT};
+ghost use Rattle.dimacs_lines.specs.declared.name.TheConstants.{NAME_LIMIT};
+ghost use Rattle.dimacs_lines.specs.declared.numbers.TheConstants.{DIGIT_LIMIT, VALUE_DIGIT_LIMIT};
 ghost use Rattle.dimacs_text.specs.declared.problem.TheConstants.{NODE_LIMIT, ARC_LIMIT, CAP_LIMIT, COST_LIMIT, SUPPLY_LIMIT};
 
 /// A law, with nothing to run: the limits are these numbers.

@@ -1,15 +1,14 @@
 //! Reading a problem text in pieces.
 
 ghost use Rattle.std.specs.Prelude.{◌≡◌, List, ℕ, [], ◌++◌, Some, None, Err, IfErr};
-ghost use Rattle.dimacs_text.specs.Lines.{IsBytes};
-ghost use Rattle.dimacs_text.specs.Stream.{decided, EndsWell};
+ghost use Rattle.dimacs_lines.specs.Lines.{IsBytes};
+ghost use Rattle.dimacs_lines.specs.Stream.{decided, EndsWell};
 ghost use Rattle.dimacs_text.specs.Reading.{problem_rule, reads};
-ghost use Rattle.dimacs_text.specs.declared.fault.TextFault.{TextFault};
+ghost use Rattle.dimacs_lines.specs.declared.fault.TextFault.{TextFault};
 
 use crate::draft::Draft;
-use crate::fault::{LineError, TextFault};
 use crate::problem::Problem;
-use crate::reader::{LineTaker, TextReader};
+use dimacs_lines::{LineError, LineTaker, TextFault, TextReader};
 use std::alloc::Global;
 
 impl LineTaker for Draft {

@@ -3,8 +3,8 @@
 ghost use Rattle.std.specs.Prelude.{◌≡◌};
 ghost use Rattle.dimacs_text.specs.Problem.{is_source, is_sink, has_source, has_sink, has_terminals, is_source_word, is_sink_word, terminal_by};
 
-use crate::fault::Fault;
 use crate::problem::{Kind, NodeMark};
+use dimacs_lines::Fault;
 
 /// Whether each terminal that the kind asks for is named.
 pub fn has_terminals(kind: Kind, marks: &[NodeMark]) -> bool

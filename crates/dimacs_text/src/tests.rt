@@ -1,8 +1,8 @@
 ghost use Rattle.std.specs.Prelude.{◌<◌};
 
 use crate::{
-    Command, Edit, GROUP_LIMIT, Group, Kind, LineCutter, Name, NodeMark, Problem, ProblemReader,
-    TextFault, is_blank, read_command,
+    Command, Edit, GROUP_LIMIT, Group, Kind, Name, NodeMark, Problem, ProblemReader, TextFault,
+    is_blank, read_command,
 };
 use std::alloc::Global;
 use std::process::Abort;
@@ -142,19 +142,6 @@ fn nothing_is_read(rt: HostRuntime) {
                 }
             );
         }
-    }
-}
-
-#[test]
-fn a_line_is_cut(rt: HostRuntime) {
-    let mut cutter = LineCutter::new();
-    assert_eq!(rt; cutter.take(b" \t"), (2, false));
-    assert!(rt; cutter.begun());
-    assert_eq!(rt; cutter.take(b"\r\nn 1"), (2, true));
-    assert!(rt; !cutter.begun());
-    match cutter.line() {
-        Some(line) => assert!(rt; line == b" \t\r".as_slice() && is_blank(line)),
-        None => panic!(rt; "the line fits"),
     }
 }
 

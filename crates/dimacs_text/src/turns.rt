@@ -1,7 +1,7 @@
 //! The turns of a command text.
 
 ghost use Rattle.std.specs.Prelude.{◌≡◌, List, [], ◌∷◌, ◌++◌};
-ghost use Rattle.dimacs_text.specs.Lines.{Line};
+ghost use Rattle.dimacs_lines.specs.Lines.{Line};
 ghost use Rattle.dimacs_text.specs.Turns.{turns_of, and_turn, no_turns};
 
 /// A law, with nothing to run: the turns of lines come one line after the other.

@@ -4,9 +4,9 @@ use Rattle.std.proofs.lemmas.Bool.{ltb-true}
 use Rattle.std.proofs.Math.Seq.{take-add}
 use Rattle.std.specs.List.{position_or_len}
 use Rattle.dimacs_io.specs.Device.{IsBeginning}
-use Rattle.dimacs_text.specs.Cut.{bytes_used, has_line_feed}
-use Rattle.dimacs_text.specs.Lines.{Line, Parts, is_line_feed, parts_of}
-use Rattle.dimacs_text.proofs.LineLemmas.{joined_parts, parts_of-append}
+use Rattle.dimacs_lines.specs.Cut.{bytes_used, has_line_feed}
+use Rattle.dimacs_lines.specs.Lines.{Line, Parts, is_line_feed, parts_of}
+use Rattle.dimacs_lines.proofs.LineLemmas.{joined_parts, parts_of-append}
 
 pub IsBeginning-trans : {A : Type 0} (xs ys zs : List A) → IsBeginning xs ys → IsBeginning ys zs → IsBeginning xs zs
 IsBeginning-trans xs ys zs p q = (p.0 ++ q.0, q.1 ∙ ap (λ l. l ++ q.0) p.1 ∙ append_assoc xs p.0 q.0)

@@ -9,15 +9,15 @@ use Rattle.dimacs_io.specs.Line.{refusal_line}
 use Rattle.dimacs_text.specs.declared.command.Edit.{Edit}
 use Rattle.dimacs_text.specs.declared.command.Command.{Command}
 use Rattle.dimacs_text.specs.declared.command.Command.TheVariants as commands
-use Rattle.dimacs_text.specs.declared.fault.Fault.{Fault}
-use Rattle.dimacs_text.specs.declared.fault.Fault.TheVariants as fault
+use Rattle.dimacs_lines.specs.declared.fault.Fault.{Fault}
+use Rattle.dimacs_lines.specs.declared.fault.Fault.TheVariants as fault
 use Rattle.dimacs_text.specs.declared.problem.Kind.{Kind}
 use Rattle.dimacs_text.specs.Command.{asked, command, ends_group, has_one, is_group, numbered, opens_group, read_words}
-use Rattle.dimacs_text.specs.Cut.{kept}
-use Rattle.dimacs_text.specs.Fault.{number_of as fault_number}
+use Rattle.dimacs_lines.specs.Cut.{kept}
+use Rattle.dimacs_lines.specs.Fault.{number_of as fault_number}
 use Rattle.dimacs_text.specs.Group.{Gathered, and_line, gathered}
-use Rattle.dimacs_text.specs.Fields.{Word, words_of}
-use Rattle.dimacs_text.specs.Lines.{Line, is_too_long}
+use Rattle.dimacs_lines.specs.Fields.{Word, words_of}
+use Rattle.dimacs_lines.specs.Lines.{Line, is_too_long}
 use Rattle.dimacs_text.specs.Turns.{Turn, Turns, OfGroup, OfLine, and_inside, and_outside, and_turn_by}
 use Rattle.dimacs_text.proofs.BracketLemmas.{opens}
 use Rattle.history.specs.Boards.{Advances, StepsBack, StepsForward}

@@ -9,12 +9,12 @@ use Rattle.std.proofs.KnownBytes.{Appends-nil, Appends-trans}
 use Rattle.dimacs_io.specs.Device.{IsBeginning, AppendsBeginning, CountsFailure}
 use Rattle.dimacs_io.proofs.DeviceLemmas.{AppendsBeginning-after}
 use Rattle.dimacs_text.specs.Command.{opens_group, ends_group}
-use Rattle.dimacs_text.specs.Cut.{Cut, CutsLine, HoldsRest, has_bytes, is_begun, kept}
+use Rattle.dimacs_lines.specs.Cut.{Cut, CutsLine, HoldsRest, has_bytes, is_begun, kept}
 use Rattle.dimacs_text.specs.Group.{Gathered}
-use Rattle.dimacs_text.specs.Lines.{Line, is_too_long, last_line, lines_of, parts_of}
-use Rattle.dimacs_text.specs.Fields.{words_of}
+use Rattle.dimacs_lines.specs.Lines.{Line, is_too_long, last_line, lines_of, parts_of}
+use Rattle.dimacs_lines.specs.Fields.{words_of}
 use Rattle.dimacs_text.specs.Turns.{Turn, Turns, and_inside, and_outside, and_turn_by, turns_of}
-use Rattle.dimacs_text.proofs.BegunLemmas.{bytes_begun, cut_line_of}
+use Rattle.dimacs_lines.proofs.BegunLemmas.{bytes_begun, cut_line_of}
 use Rattle.dimacs_text.proofs.TurnLemmas.{one_line_more}
 use Rattle.session.specs.Step.{SessionState}
 use Rattle.engines.specs.Run.{Answers, AnswersTurns, Run, asks, turns_by, turns_in}

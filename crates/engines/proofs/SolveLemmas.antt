@@ -2,8 +2,8 @@
 use Rattle.std.proofs.Common.{◌≡◌, ℕ, ◌+◌, ◌-◌, arith, Bool, List, [], take, Option, None, Some, Ok, Err, inl, inr, refl, sym, ap, ◌∙◌, append-nil}
 use Rattle.std.specs.Io.KnownBytes.{Appends, IsAtEnd}
 use Rattle.dimacs_io.specs.Device.{AppendsBeginning}
-use Rattle.dimacs_text.specs.declared.fault.TextFault.TheVariants as text_fault
-use Rattle.dimacs_text.specs.Stream.{decided}
+use Rattle.dimacs_lines.specs.declared.fault.TextFault.TheVariants as text_fault
+use Rattle.dimacs_lines.specs.Stream.{decided}
 use Rattle.dimacs_text.specs.Reading.{ProblemValue, problem_rule, reads}
 use Rattle.network.specs.Instance.{first}
 use Rattle.flow_solver.specs.declared.verdict.Verdict.{Verdict}

@@ -1,8 +1,8 @@
 -- Runs of a session over the turns of a command text: over its lines, and over its groups.
 use Rattle.std.specs.Prelude.{◌≡◌, Bool, ◌||◌, nat_le, ℕ, List, [], ◌∷◌, length, filter, Option, if◌then◌else◌}
 use Rattle.std.specs.List.{concat}
-use Rattle.dimacs_text.specs.Fields.{words_of}
-use Rattle.dimacs_text.specs.Lines.{Line, is_too_long}
+use Rattle.dimacs_lines.specs.Fields.{words_of}
+use Rattle.dimacs_lines.specs.Lines.{Line, is_too_long}
 use Rattle.dimacs_text.specs.Turns.{Turn, Turns, and_turn_by, turns_of}
 use Rattle.session.specs.Step.{Reply, SessionState, TurnStep}
 use Rattle.engines.specs.Printing.{reply_text}

@@ -3,9 +3,9 @@ use Rattle.std.specs.Prelude.{◌≡◌, ℕ, ◌+◌, List, ◌⊎◌, Option, 
 use Rattle.std.specs.Option.{option_map}
 use Rattle.std.specs.Io.KnownBytes.{Appends, IsAtEnd}
 use Rattle.dimacs_io.specs.Device.{IsBeginning, AppendsBeginning, WritesUpTo}
-use Rattle.dimacs_text.specs.Cut.{Cut, HoldsRest}
+use Rattle.dimacs_lines.specs.Cut.{Cut, HoldsRest}
 use Rattle.dimacs_text.specs.Group.{Gathered, gathered}
-use Rattle.dimacs_text.specs.Lines.{Line, parts_of, lines_of}
+use Rattle.dimacs_lines.specs.Lines.{Line, parts_of, lines_of}
 use Rattle.network.specs.Instance.{kind_of}
 use Rattle.session.specs.declared.refusal.Refusal.{Refusal}
 use Rattle.session.specs.declared.refusal.Refusal.TheVariants as refusal

@@ -1,9 +1,9 @@
 -- What a session writes.
 use Rattle.std.specs.Prelude.{◌≡◌, ℕ, List, [], ◌++◌, take, ◌⊎◌, Option, None, Some, Err, IfSome}
 use Rattle.dimacs_io.specs.Device.{IsBeginning}
-use Rattle.dimacs_text.specs.declared.fault.TextFault.TheVariants.{Fault}
-use Rattle.dimacs_text.specs.Lines.{Line, parts_of, lines_of}
-use Rattle.dimacs_text.specs.Stream.{decided}
+use Rattle.dimacs_lines.specs.declared.fault.TextFault.TheVariants.{Fault}
+use Rattle.dimacs_lines.specs.Lines.{Line, parts_of, lines_of}
+use Rattle.dimacs_lines.specs.Stream.{decided}
 use Rattle.dimacs_text.specs.Reading.{ProblemValue, problem_rule, reads}
 use Rattle.network.specs.Instance.{first}
 use Rattle.session.specs.Step.{SessionState}

@@ -1,8 +1,8 @@
 -- What `solve` writes.
 use Rattle.std.specs.Prelude.{◌≡◌, ℕ, Bool, List, [], ◌++◌, take, Option, None, Some, Err, IfSome}
 use Rattle.dimacs_io.specs.Device.{IsBeginning}
-use Rattle.dimacs_text.specs.declared.fault.TextFault.TheVariants.{Fault}
-use Rattle.dimacs_text.specs.Stream.{decided}
+use Rattle.dimacs_lines.specs.declared.fault.TextFault.TheVariants.{Fault}
+use Rattle.dimacs_lines.specs.Stream.{decided}
 use Rattle.dimacs_text.specs.Reading.{ProblemValue, problem_rule, reads}
 use Rattle.network.specs.Instance.{Instance, first}
 use Rattle.flow_solver.specs.declared.verdict.Verdict.{Verdict}

@@ -1,8 +1,8 @@
 -- What a reader's answer to a whole text says of it.
 use Rattle.std.proofs.Common.{ℕ, List, [], Result, Ok, Err}
 use Rattle.std.proofs.lemmas.List.{append-nil}
-use Rattle.dimacs_text.specs.declared.fault.TextFault.{TextFault}
-use Rattle.dimacs_text.specs.declared.fault.TextFault.TheVariants as text_fault
+use Rattle.dimacs_lines.specs.declared.fault.TextFault.{TextFault}
+use Rattle.dimacs_lines.specs.declared.fault.TextFault.TheVariants as text_fault
 use Rattle.dimacs_text.specs.declared.problem_reader.ProblemReader.{ProblemReader}
 use Rattle.dimacs_text.specs.ProblemReader.{Feeds, Finishes}
 use Rattle.dimacs_text.specs.Reading.{ProblemValue}

@@ -4,12 +4,12 @@ use Rattle.std.proofs.lemmas.Bool.{false≢true, lt-ltb, le-ltb}
 use Rattle.dimacs_text.specs.declared.command.Edit.{Edit}
 use Rattle.dimacs_text.specs.declared.command.Command.{Command}
 use Rattle.dimacs_text.specs.declared.command.Command.TheVariants as commands
-use Rattle.dimacs_text.specs.declared.cutter.TheConstants.{LINE_LIMIT}
-use Rattle.dimacs_text.specs.declared.fault.Fault.TheVariants as fault
+use Rattle.dimacs_lines.specs.declared.cutter.TheConstants.{LINE_LIMIT}
+use Rattle.dimacs_lines.specs.declared.fault.Fault.TheVariants as fault
 use Rattle.dimacs_text.specs.declared.problem.Kind.{Kind}
 use Rattle.dimacs_text.specs.Command.{command, numbered, read_words}
-use Rattle.dimacs_text.specs.Fields.{Word, words_of}
-use Rattle.dimacs_text.specs.Lines.{Line, is_too_long}
+use Rattle.dimacs_lines.specs.Fields.{Word, words_of}
+use Rattle.dimacs_lines.specs.Lines.{Line, is_too_long}
 use Rattle.history.specs.Boards.{Advances, StepsBack, StepsForward}
 use Rattle.network.specs.Edited.{edited}
 use Rattle.network.specs.Instance.{Instance, kind_of}

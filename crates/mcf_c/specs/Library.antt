@@ -1,8 +1,8 @@
 -- What the calls do, in terms of the state behind a handle: its moments and its marks.
 use Rattle.std.specs.Prelude.{◌≡◌, ℕ, ◌^◌, ◌==◌, ℤ, pos, ◌+ℤ◌, ◌*ℤ◌, Bool, true, false, not, List, [], length, Option, None, Some, Result, Ok, Err, if◌then◌else◌}
 use Rattle.std.specs.Option.{MatchOption, option_map}
-use Rattle.dimacs_text.specs.declared.fault.TextFault.{TextFault}
-use Rattle.dimacs_text.specs.declared.fault.TextFault.TheVariants as text_fault
+use Rattle.dimacs_lines.specs.declared.fault.TextFault.{TextFault}
+use Rattle.dimacs_lines.specs.declared.fault.TextFault.TheVariants as text_fault
 use Rattle.dimacs_text.specs.Reading.{ProblemValue, reads}
 use Rattle.flow_solver.specs.Desk.{IsAnswered}
 use Rattle.flow_solver.specs.Moment.{Moment}

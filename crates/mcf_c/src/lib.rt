@@ -6,7 +6,7 @@
 ghost use Rattle.std.specs.Prelude.{◌≡◌, ◌≢◌, ◌⊎◌, ℕ, ℤ, List, None, Some, Err, pos, length, IfSome};
 ghost use Rattle.dimacs_text.specs.Reading.{reads};
 ghost use Rattle.dimacs_text.specs.declared.command.Command.TheVariants as commands;
-ghost use Rattle.dimacs_text.specs.declared.fault.TextFault.TheVariants as faults;
+ghost use Rattle.dimacs_lines.specs.declared.fault.TextFault.TheVariants as faults;
 ghost use Rattle.flow_solver.specs.Desk.{IsAnswered};
 ghost use Rattle.flow_solver.specs.declared.verdict.Verdict.TheVariants.{Infeasible};
 ghost use Rattle.network.specs.Instance.{IsBest, IsBreach, IsCertified, IsLegal, at_node, is_marked};

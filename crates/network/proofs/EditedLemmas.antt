@@ -10,8 +10,8 @@ use Rattle.dimacs_text.specs.declared.command.Edit.TheVariants.{Cap, Low, Cost, 
 use Rattle.dimacs_text.specs.declared.problem.ArcRow.{ArcRow}
 use Rattle.dimacs_text.specs.declared.problem.TheConstants.{CAP_LIMIT, COST_LIMIT, SUPPLY_LIMIT}
 use Rattle.dimacs_text.specs.Lawful.{IsLawfulRow, IsWithin}
-use Rattle.dimacs_text.specs.declared.fault.Fault.{Fault}
-use Rattle.dimacs_text.specs.declared.fault.Fault.TheVariants.{OutOfRange, NoSuchNode, EditLowAboveCap, EditNotAcrossSides, ArcTableFull, NotForKind}
+use Rattle.dimacs_lines.specs.declared.fault.Fault.{Fault}
+use Rattle.dimacs_lines.specs.declared.fault.Fault.TheVariants.{OutOfRange, NoSuchNode, EditLowAboveCap, EditNotAcrossSides, ArcTableFull, NotForKind}
 use Rattle.network.specs.Edited.{demand, row_or, with_arc, edited, edited_by, tried, by_number, has_edit, has_room, is_across, is_bound, is_node, is_within, suits_kind}
 use Rattle.network.specs.Instance.{Demand, Supplies, Terminals, Sides, Instance, IsLawful, ArcFits, arc_at, kind_of, with_supply}
 

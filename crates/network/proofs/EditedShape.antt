@@ -8,8 +8,8 @@ use Rattle.dimacs_text.specs.declared.command.Edit.TheVariants.{Cap, Low, Cost, 
 use Rattle.dimacs_text.specs.declared.problem.ArcRow.{ArcRow}
 use Rattle.dimacs_text.specs.declared.problem.Kind.TheVariants.{Min}
 use Rattle.dimacs_text.specs.Lawful.{IsNode}
-use Rattle.dimacs_text.specs.declared.fault.Fault.{Fault}
-use Rattle.dimacs_text.specs.declared.fault.Fault.TheVariants.{OutOfRange, NoSuchNode, EditLowAboveCap, EditNotAcrossSides, ArcTableFull, NotForKind}
+use Rattle.dimacs_lines.specs.declared.fault.Fault.{Fault}
+use Rattle.dimacs_lines.specs.declared.fault.Fault.TheVariants.{OutOfRange, NoSuchNode, EditLowAboveCap, EditNotAcrossSides, ArcTableFull, NotForKind}
 use Rattle.network.specs.Edited.{row_or, with_arc, edited, edited_by, tried, has_edit, has_room, is_across, is_new_row, is_node}
 use Rattle.network.specs.Instance.{Demand, Supplies, Terminals, Sides, Instance, arc_at, kind_of, with_supply}
 use Rattle.network.proofs.EndLemmas.{no_arc}

@@ -9,9 +9,9 @@ use Rattle.dimacs_text.specs.declared.command.Edit.{Edit}
 use Rattle.dimacs_text.specs.declared.command.Edit.TheVariants.{Cap, Low, Cost, Supply, Add, Close}
 use Rattle.dimacs_text.specs.declared.problem.ArcRow.{ArcRow}
 use Rattle.dimacs_text.specs.declared.problem.TheConstants.{NODE_LIMIT, ARC_LIMIT}
-use Rattle.dimacs_text.specs.declared.fault.Fault.{Fault}
-use Rattle.dimacs_text.specs.declared.fault.Fault.TheVariants.{OutOfRange, NoSuchNode, EditLowAboveCap, EditNotAcrossSides, ArcTableFull, NotForKind}
-use Rattle.dimacs_text.specs.Fault.{number_of}
+use Rattle.dimacs_lines.specs.declared.fault.Fault.{Fault}
+use Rattle.dimacs_lines.specs.declared.fault.Fault.TheVariants.{OutOfRange, NoSuchNode, EditLowAboveCap, EditNotAcrossSides, ArcTableFull, NotForKind}
+use Rattle.dimacs_lines.specs.Fault.{number_of}
 use Rattle.network.specs.Edited.{EndsFit, SharesFrame, changed_if, count_after, edited, edited_all, edited_by, has_edit, has_room, is_across, is_new_row, is_node, outcome, by_number, row_after, row_or, tried, with_arc}
 use Rattle.network.specs.Instance.{Demand, Supplies, Terminals, Sides, Instance, IsLawful, arc_at, kind_of, with_supply}
 use Rattle.network.proofs.EndLinks.{slice_get-set_other}

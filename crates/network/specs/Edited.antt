@@ -7,9 +7,9 @@ use Rattle.dimacs_text.specs.declared.problem.ArcRow.{ArcRow}
 use Rattle.dimacs_text.specs.declared.problem.Kind.{Kind}
 use Rattle.dimacs_text.specs.declared.problem.Kind.TheVariants.{Min, Max, Asn}
 use Rattle.dimacs_text.specs.declared.problem.TheConstants.{CAP_LIMIT, COST_LIMIT, SUPPLY_LIMIT}
-use Rattle.dimacs_text.specs.declared.fault.Fault.{Fault}
-use Rattle.dimacs_text.specs.declared.fault.Fault.TheVariants.{NotForKind, OutOfRange, NoSuchArc, NoSuchNode, EditLowAboveCap, EditNotAcrossSides, ArcTableFull}
-use Rattle.dimacs_text.specs.Fault.{number_of}
+use Rattle.dimacs_lines.specs.declared.fault.Fault.{Fault}
+use Rattle.dimacs_lines.specs.declared.fault.Fault.TheVariants.{NotForKind, OutOfRange, NoSuchArc, NoSuchNode, EditLowAboveCap, EditNotAcrossSides, ArcTableFull}
+use Rattle.dimacs_lines.specs.Fault.{number_of}
 use Rattle.dimacs_text.specs.Command.{is_for, verb_for}
 use Rattle.network.specs.Instance.{Demand, Supplies, Terminals, Sides, Instance, arc_at, is_marked, kind_of, reduced_supply, with_supply}
 

@@ -1,13 +1,13 @@
 -- The steps of a session: what a line or a group asks for, what it does to the moments, and what is replied.
 use Rattle.std.specs.Prelude.{◌≡◌, ℕ, Bool, true, false, List, [], length, ◌⊎◌, Option, None, Some, MatchResult}
-use Rattle.dimacs_text.specs.declared.fault.Fault.{Fault}
+use Rattle.dimacs_lines.specs.declared.fault.Fault.{Fault}
 use Rattle.dimacs_text.specs.declared.command.Edit.{Edit}
 use Rattle.dimacs_text.specs.declared.command.Command.{Command}
 use Rattle.dimacs_text.specs.declared.command.Command.TheVariants as commands
 use Rattle.dimacs_text.specs.Command.{command}
-use Rattle.dimacs_text.specs.Fault.{number_of}
+use Rattle.dimacs_lines.specs.Fault.{number_of}
 use Rattle.dimacs_text.specs.Group.{Gathered, gathered}
-use Rattle.dimacs_text.specs.Lines.{Line}
+use Rattle.dimacs_lines.specs.Lines.{Line}
 use Rattle.dimacs_text.specs.Turns.{Turn, OfLine, OfGroup}
 use Rattle.history.specs.Boards.{Timeline, Advances, StepsBack, StepsForward}
 use Rattle.network.specs.Edited.{edited, edited_all}

@@ -1,7 +1,7 @@
 use Rattle.std.proofs.Common.{[], ◌++◌, take, refl, arith, rules}
 use Rattle.std.proofs.lemmas.Result.{err_from_is_err_and}
 use Rattle.dimacs_text.specs.Answer.{answer_rule}
-use Rattle.dimacs_text.proofs.StreamLemmas.{undecided_nothing}
+use Rattle.dimacs_lines.proofs.StreamLemmas.{undecided_nothing}
 use Rattle.checker.proofs.SourceLemmas.{Gives-nil, Gives-more, Gives-none}
 use Rattle.checker.proofs.ReadLemmas.{answer_fed, answer_finished}
 use Rattle.checker.proofs.read.read_answer.Goals as goal

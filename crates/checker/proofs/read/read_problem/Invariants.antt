@@ -1,5 +1,5 @@
 use Rattle.std.proofs.Common.{◌≡◌, ℕ, List, None}
-use Rattle.dimacs_text.specs.Stream.{decided}
+use Rattle.dimacs_lines.specs.Stream.{decided}
 use Rattle.dimacs_text.specs.Reading.{problem_rule}
 use Rattle.dimacs_text.specs.ProblemReader.{StandsFor}
 use Rattle.checker.specs.Reading.{Gives}

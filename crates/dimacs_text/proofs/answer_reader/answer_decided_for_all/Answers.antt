@@ -1,7 +1,7 @@
 use Rattle.dimacs_text.specs.Answer.{answer_rule}
 use Rattle.dimacs_text.proofs.AnswerLemmas.{answer_always}
 use Rattle.dimacs_text.proofs.AnswerDecidedLemmas.{answer_only}
-use Rattle.dimacs_text.proofs.StreamLemmas.{undecided_nothing}
+use Rattle.dimacs_lines.proofs.StreamLemmas.{undecided_nothing}
 use Rattle.dimacs_text.proofs.answer_reader.answer_decided_for_all.Goals as goal
 
 pub returns : goal.returns

@@ -1,6 +1,6 @@
 use Rattle.dimacs_text.specs.Reading.{problem_rule}
 use Rattle.dimacs_text.proofs.ReadLemmas.{problem_always, problem_only}
-use Rattle.dimacs_text.proofs.StreamLemmas.{undecided_nothing}
+use Rattle.dimacs_lines.proofs.StreamLemmas.{undecided_nothing}
 use Rattle.dimacs_text.proofs.problem_reader.decided_for_all.Goals as goal
 
 pub returns : goal.returns

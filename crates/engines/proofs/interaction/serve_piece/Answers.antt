@@ -1,7 +1,7 @@
 use Rattle.std.proofs.Common.{◌++◌, ◌+◌, ◌∙◌, true, false, Ok, take, drop, refl, arith, rules}
 use Rattle.std.proofs.lemmas.List.{take_all, take_rest}
 use Rattle.std.proofs.lemmas.Result.{err_from_is_err_and}
-use Rattle.dimacs_text.specs.Cut.{CutsLine}
+use Rattle.dimacs_lines.specs.Cut.{CutsLine}
 use Rattle.engines.proofs.LineLemmas.{append_take_add, append_take_rest, used_more}
 use Rattle.engines.proofs.RunLemmas.{Stands-partial, GoesOn-complete, Stopped-append}
 use Rattle.engines.proofs.interaction.serve_piece.Goals as goal

@@ -1,5 +1,5 @@
 use Rattle.std.proofs.lemmas.Result.{err_from_is_err_and}
-use Rattle.dimacs_text.specs.Lines.{lines_of}
+use Rattle.dimacs_lines.specs.Lines.{lines_of}
 use Rattle.dimacs_text.proofs.AnswerLemmas as law
 use Rattle.dimacs_text.proofs.answer_reader.AnswerReader.finish.Goals as goal
 

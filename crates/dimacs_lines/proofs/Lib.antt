@@ -1,0 +1,13 @@
+pub mod LineLemmas
+pub mod GoesOnLemmas
+pub mod PartLemmas
+pub mod BegunLemmas
+pub mod CutLemmas
+pub mod PlaceLemmas
+pub mod WordLemmas
+pub mod NumberLemmas
+pub mod StreamLemmas
+pub mod ReaderLemmas
+pub mod EndLemmas
+pub mod DecidedLemmas
+pub mod NameLemmas

@@ -1,0 +1,37 @@
+-- The lines of a text that goes on.
+use Rattle.std.proofs.Common.{◌≡◌, ℕ, Bool, true, false, cond, List, [], ◌∷◌, ◌++◌, refl, sym}
+use Rattle.dimacs_lines.specs.Lines.{Line, Parts, is_line_feed, with_first, parts_of}
+
+-- the parts of two texts in a row
+abbrev pub joined_parts : List Line → Line → List Line → Line → Parts
+joined_parts ended rest [] more = record { ended = ended; rest = rest ++ more }
+joined_parts ended rest (line ∷ lines) more = record { ended = ended ++ (rest ++ line) ∷ lines; rest = more }
+
+abbrev pub joined : Parts → Parts → Parts
+joined a b = joined_parts a.ended a.rest b.ended b.rest
+
+joined-nil : (lines : List Line) (rest : Line) → joined_parts [] [] lines rest ≡ record { ended = lines; rest = rest }
+joined-nil [] rest = refl
+joined-nil (line ∷ lines) rest = refl
+
+joined-cons : (first : Line) (ended : List Line) (rest : Line) (lines : List Line) (more : Line) → joined_parts (first ∷ ended) rest lines more ≡ record { ended = first ∷ (joined_parts ended rest lines more).ended; rest = (joined_parts ended rest lines more).rest }
+joined-cons first ended rest [] more = refl
+joined-cons first ended rest (line ∷ lines) more = refl
+
+with_first-joined : (byte : ℕ) (ended : List Line) (rest : Line) (lines : List Line) (more : Line) →
+    with_first byte (joined_parts ended rest lines more).ended (joined_parts ended rest lines more).rest ≡ joined (with_first byte ended rest) (record { ended = lines; rest = more })
+with_first-joined byte [] rest [] more = refl
+with_first-joined byte [] rest (line ∷ lines) more = refl
+with_first-joined byte (first ∷ ended) rest [] more = refl
+with_first-joined byte (first ∷ ended) rest (line ∷ lines) more = refl
+
+byte_by : (ended : Bool) (byte : ℕ) (a b : Parts) →
+    cond ended (record { ended = [] ∷ (joined a b).ended; rest = (joined a b).rest }) (with_first byte (joined a b).ended (joined a b).rest)
+    ≡ joined (cond ended (record { ended = [] ∷ a.ended; rest = a.rest }) (with_first byte a.ended a.rest)) b
+byte_by true byte a b = sym (joined-cons [] a.ended a.rest b.ended b.rest)
+byte_by false byte a b = with_first-joined byte a.ended a.rest b.ended b.rest
+
+pub parts_of-append : (text more : List ℕ) → parts_of (text ++ more) ≡ joined (parts_of text) (parts_of more)
+unfolding parts_of
+parts_of-append [] more = sym (joined-nil (parts_of more).ended (parts_of more).rest)
+parts_of-append (byte ∷ text) more = rw (parts_of-append text more) (byte_by (is_line_feed byte) byte (parts_of text) (parts_of more))

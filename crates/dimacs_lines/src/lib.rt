@@ -1,0 +1,25 @@
+//! The lines of texts that come in pieces: their words, numbers and names, their faults, and a reader that takes them
+//! one after the other.
+#![tactic(auto)]
+
+mod cutter;
+mod fault;
+mod limits;
+mod name;
+mod numbers;
+mod reader;
+mod sequence;
+#[cfg(test)]
+mod tests;
+mod words;
+
+pub use cutter::{LINE_LIMIT, LineCutter};
+pub use fault::{Fault, LineError, TextFault};
+pub use limits::limits_are;
+pub use name::{NAME_LIMIT, Name, names_are_compared};
+pub use numbers::{
+    DIGIT_LIMIT, VALUE_DIGIT_LIMIT, claimed_value, integer, integer_in, natural, natural_in,
+};
+pub use reader::{LineTaker, TextReader};
+pub use sequence::Sequence;
+pub use words::{Words, is_blank};

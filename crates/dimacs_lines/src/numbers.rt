@@ -1,0 +1,117 @@
+//! The numbers that words spell.
+
+ghost use Rattle.std.specs.Prelude.{◌≡◌, ◌<◌, ◌≤◌, ◌*◌, ◌^◌, IfSome, IfOk, pos, ◌≤ℤ◌, neg_ℤ};
+ghost use Rattle.dimacs_lines.specs.declared.numbers.TheConstants.{DIGIT_LIMIT, VALUE_DIGIT_LIMIT};
+ghost use Rattle.dimacs_lines.specs.Fields.{natural, natural_within, integer, claimed_value, is_negative, without_sign};
+ghost use Rattle.dimacs_lines.specs.Checks.{natural_in, integer_in};
+
+use crate::fault::Fault;
+
+/// The most digits of a number.
+pub const DIGIT_LIMIT: usize = 18;
+/// The most digits of the value of an answer.
+pub const VALUE_DIGIT_LIMIT: usize = 30;
+/// What the digits before the last `DIGIT_LIMIT` count in.
+const BACK_UNIT: u128 = 1_000_000_000_000_000_000;
+
+/// The number that one to 18 digits spell.
+pub fn natural(word: &[u8]) -> Option<u64>
+    ensures value { result ≡ natural word.now }
+    ensures below { IfSome result (λ value. value < 10 ^ DIGIT_LIMIT) }
+{
+    if word.is_empty() || word.len() > DIGIT_LIMIT {
+        return None;
+    }
+    let mut value = 0;
+    for byte in word {
+        if !byte.is_ascii_digit() {
+            return None;
+        }
+        value = value * 10 + u64::from(*byte - b'0');
+    }
+    Some(value)
+}
+
+/// The number that one to 18 digits spell, after one `-` or none.
+#[tactic(auto, unfolding(crate::specs::Fields::integer))]
+pub fn integer(word: &[u8]) -> Option<i64>
+    ensures { result ≡ integer word.now }
+{
+    let (negative, digits) = split_sign(word);
+    let size = natural(digits)? as i64;
+    Some(if negative { -size } else { size })
+}
+
+/// The value of an answer: one to 30 digits, after one `-` or none.
+#[tactic(auto, unfolding(crate::specs::Fields::claimed_value))]
+pub fn claimed_value(word: &[u8]) -> Option<i128>
+    ensures { result ≡ claimed_value word.now }
+{
+    let (negative, digits) = split_sign(word);
+    let size = long_natural(digits)? as i128;
+    Some(if negative { -size } else { size })
+}
+
+/// The number that one to 30 digits spell: that of the last 18, and that of those before them.
+fn long_natural(word: &[u8]) -> Option<u128>
+    ensures value { result ≡ natural_within VALUE_DIGIT_LIMIT word.now }
+    ensures below { IfSome result (λ value. value < 10 ^ (2 * DIGIT_LIMIT)) }
+{
+    if word.len() > VALUE_DIGIT_LIMIT {
+        return None;
+    }
+    if word.len() <= DIGIT_LIMIT {
+        let value = natural(word)?;
+        return Some(u128::from(value));
+    }
+    let (front, back) = word.split_at(word.len() - DIGIT_LIMIT);
+    let high = natural(front)?;
+    let low = natural(back)?;
+    Some(u128::from(high) * BACK_UNIT + u128::from(low))
+}
+
+/// Whether a word begins with a `-`, and what stands after it.
+fn split_sign(word: &[u8]) -> (bool, &[u8])
+    ensures sign { result.0 ≡ is_negative word.now }
+    ensures digits { result.1.now ≡ without_sign word.now }
+{
+    match word {
+        [b'-', digits @ ..] => (true, digits),
+        _ => (false, word),
+    }
+}
+
+/// The number of a field without sign, from `low` to `high`: first its shape is tested, then its range.
+pub fn natural_in(word: &[u8], low: u64, high: u64) -> Result<u64, Fault>
+    ensures value { result ≡ natural_in low high word.now }
+    ensures range { IfOk result (λ value. (low ≤ value) × (value ≤ high)) }
+{
+    match natural(word) {
+        None => Err(Fault::NotANumber),
+        Some(value) => {
+            if low <= value && value <= high {
+                Ok(value)
+            } else {
+                Err(Fault::OutOfRange)
+            }
+        }
+    }
+}
+
+/// The number of a field with a sign, at most the limit either way: first its shape is tested, then its range.
+pub fn integer_in(word: &[u8], limit: i64) -> Result<i64, Fault>
+    requires { pos 0 ≤ℤ limit }
+    ensures value { result ≡ integer_in limit word.now }
+    ensures range { IfOk result (λ value. (neg_ℤ limit ≤ℤ value) × (value ≤ℤ limit)) }
+{
+    match integer(word) {
+        None => Err(Fault::NotANumber),
+        Some(value) => {
+            if -limit <= value && value <= limit {
+                Ok(value)
+            } else {
+                Err(Fault::OutOfRange)
+            }
+        }
+    }
+}

@@ -1,0 +1,146 @@
+//! Reading a text in pieces, line by line, under any rule for its lines.
+
+ghost use Rattle.std.specs.Prelude.{◌≡◌, ◌<◌, ◌≤◌, List, ℕ, [], ◌++◌, Option, Err, IfOk, IfErr, length};
+ghost use Rattle.dimacs_lines.specs.declared.fault.Fault.{Fault};
+ghost use Rattle.dimacs_lines.specs.declared.fault.TextFault.{TextFault};
+ghost use Rattle.dimacs_lines.specs.Stream.{TakesLine, TakesCut, EndsWell};
+
+use crate::cutter::LineCutter;
+use crate::fault::{Fault, LineError, TextFault};
+
+/// What takes the lines of a text, one after the other.
+pub trait LineTaker: Drop {
+    /// What is known before the text begins.
+    ghost Setting: { Type 0 } = { Unit {0} };
+
+    /// The fault of a line that fits, among the lines before it.
+    ghost rule: { Self.Setting → List (List ℕ) → List ℕ → Option Fault };
+
+    /// What these lines tell is held.
+    ghost holds: { Self.Setting → List (List ℕ) → Self → Type 0 };
+
+    /// Takes a line that is not too long.
+    fn take_line(&mut self, line: &[u8]) -> Result<(), LineError>
+        ensures { (setting : Self.Setting) (before : List (List ℕ)) → holds setting before self.old
+            → TakesLine (rule setting) (holds setting) result before line.now self.new };
+}
+
+/// Takes the line that was cut, where it is complete or too long.
+fn take_cut<T: LineTaker>(
+    cutter: &LineCutter,
+    complete: bool,
+    taker: &mut T,
+) -> Result<(), LineError>
+    ensures { (setting : T.Setting) (before : List (List ℕ)) → T.holds setting before taker.old
+        → TakesCut (T.rule setting) (T.holds setting) result before cutter.now.line complete taker.new }
+{
+    match cutter.line() {
+        None => Err(LineError::Fault(Fault::LineTooLong)),
+        Some(line) => {
+            if complete {
+                taker.take_line(line)
+            } else {
+                Ok(())
+            }
+        }
+    }
+}
+
+/// A reader of a text, which holds one line of it beside what its taker holds.
+#[derive(Drop)]
+pub struct TextReader<T: LineTaker> {
+    cutter: LineCutter,
+    taker: T,
+    lines: u64,
+    failure: Option<TextFault>,
+}
+
+impl<T: LineTaker> TextReader<T> {
+    ghost use Rattle.dimacs_lines.specs.Reader.{StandsFor, FeedsPart, Feeds, HasFailed, Finishes};
+
+    /// A reader of the empty text.
+    pub fn new(taker: T) -> Self
+        ensures { (setting : T.Setting) → T.holds setting [] taker → StandsFor (T.rule setting) (T.holds setting) result [] }
+    {
+        TextReader {
+            cutter: LineCutter::new(),
+            taker,
+            lines: 0,
+            failure: None,
+        }
+    }
+
+    /// Takes the next piece of the text, and answers the fault that is decided by now.
+    pub fn feed(&mut self, piece: &[u8]) -> Result<(), TextFault>
+        ensures text { (setting : T.Setting) (text : List ℕ) → StandsFor (T.rule setting) (T.holds setting) self.old text
+            → Feeds (T.rule setting) (T.holds setting) result self.new (text ++ piece.now) }
+        ensures memory { (setting : T.Setting) (text : List ℕ) → StandsFor (T.rule setting) (T.holds setting) self.old text
+            → result ≡ Err TextFault.Memory → EndsWell (T.rule setting) text piece.now }
+        // Every later call answers the same.
+        ensures err { IfErr result (HasFailed self.new) }
+        ensures failed { (e : TextFault) → HasFailed self.old e → result ≡ Err e }
+    {
+        if let Some(failure) = self.failure {
+            return Err(failure);
+        }
+        let mut rest = piece;
+        while !rest.is_empty() {
+            let used = self.feed_part(rest)?;
+            rest = &rest[used..];
+        }
+        Ok(())
+    }
+
+    /// Takes the piece through its first LF, and answers how many bytes.
+    fn feed_part(&mut self, piece: &[u8]) -> Result<usize, TextFault>
+        requires { 0 < length piece.now }
+        ensures used { IfOk result (λ used. (0 < used) × (used ≤ length piece.now)) }
+        ensures err { IfErr result (HasFailed self.new) }
+        ensures text { (setting : T.Setting) (text : List ℕ) → StandsFor (T.rule setting) (T.holds setting) self.old text
+            → FeedsPart (T.rule setting) (T.holds setting) result piece.now self.new text }
+    {
+        if let Some(failure) = self.failure {
+            return Err(failure);
+        }
+        let (used, complete) = self.cutter.take(piece);
+        let line = self.lines.saturating_add(1);
+        match take_cut(&self.cutter, complete, &mut self.taker) {
+            Ok(()) => {
+                if complete {
+                    self.lines = line;
+                }
+                Ok(used)
+            }
+            Err(error) => {
+                let failure = error.at_line(line);
+                self.failure = Some(failure);
+                Err(failure)
+            }
+        }
+    }
+
+    /// Ends the text, and answers its taker and the number of its lines.
+    pub fn finish(self) -> Result<(T, u64), TextFault>
+        ensures text { (setting : T.Setting) (text : List ℕ) → StandsFor (T.rule setting) (T.holds setting) self text
+            → Finishes (T.rule setting) (T.holds setting) result text }
+        ensures failed { (e : TextFault) → HasFailed self e → result ≡ Err e }
+    {
+        let TextReader {
+            cutter,
+            mut taker,
+            lines,
+            failure,
+        } = self;
+        if let Some(failure) = failure {
+            return Err(failure);
+        }
+        if !cutter.begun() {
+            return Ok((taker, lines));
+        }
+        let line = lines.saturating_add(1);
+        match take_cut(&cutter, true, &mut taker) {
+            Ok(()) => Ok((taker, line)),
+            Err(error) => Err(error.at_line(line)),
+        }
+    }
+}
