@@ -1,4 +1,4 @@
-"""Solves the diamond and takes an edit back, over the shared library that is named as the first argument."""
+"""Solves the diamond at once; then takes an edit back in a session. The first argument names the shared library."""
 
 import ctypes
 import sys
@@ -23,6 +23,46 @@ class View(ctypes.Structure):
         ("arcs", ctypes.c_uint32),
         ("feasible", ctypes.c_bool),
     ]
+
+
+class Answer(ctypes.Structure):
+    _fields_ = [
+        ("flow", ctypes.POINTER(ctypes.c_int64)),
+        ("flow_room", ctypes.c_size_t),
+        ("potentials", ctypes.POINTER(ctypes.c_int64)),
+        ("potentials_room", ctypes.c_size_t),
+        ("cut", ctypes.POINTER(ctypes.c_bool)),
+        ("cut_room", ctypes.c_size_t),
+        ("view", View),
+        ("fault", Fault),
+    ]
+
+
+DONE, TOO_SHORT = 0, -7
+
+
+def worth(view):
+    return view.worth_high * 2**64 + view.worth_low
+
+
+def solve(library, text):
+    """The view of a problem text, with a best flow and potentials, or with a cut."""
+    arcs = nodes = 0
+    while True:
+        # An array has one entry at least, since a pointer is never null.
+        flow = (ctypes.c_int64 * max(arcs, 1))()
+        potentials = (ctypes.c_int64 * max(nodes, 1))()
+        cut = (ctypes.c_bool * max(nodes, 1))()
+        answer = Answer(flow, arcs, potentials, nodes, cut, nodes)
+        status = library.mcf_solve(text, ctypes.c_size_t(len(text)), ctypes.byref(answer))
+        if status == TOO_SHORT:
+            arcs, nodes = answer.view.arcs, answer.view.nodes
+        elif status == DONE and answer.view.feasible:
+            return answer.view, flow[:arcs], potentials[:nodes]
+        elif status == DONE:
+            return answer.view, cut[:nodes]
+        else:
+            raise ValueError(f"not solved: {status} (line {answer.fault.line}, fault {answer.fault.number})")
 
 
 class Session:
@@ -54,8 +94,7 @@ class Session:
         return view
 
     def worth(self):
-        view = self.view()
-        return view.worth_high * 2**64 + view.worth_low
+        return worth(self.view())
 
     def flow(self):
         """A best flow, or None where no flow is legal."""
@@ -76,6 +115,14 @@ a 3 4 0 5 1
 
 if __name__ == "__main__":
     library = ctypes.CDLL(sys.argv[1])
+    view, flow, potentials = solve(library, TEXT)
+    print("worth", worth(view), "flow", flow, "potentials", potentials)
+    view, cut = solve(library, TEXT.replace(b"a 1 2 0 4 2", b"a 1 2 0 1 2"))
+    print("infeasible by", view.shortage, "cut", cut)
+    try:
+        solve(library, TEXT[:20])
+    except ValueError as error:
+        print(error)
     with Session(library, TEXT) as session:
         print("worth", session.worth(), "flow", session.flow())
         print("close 2:", session.command(b"close 2"))

@@ -1,15 +1,20 @@
-/* A minimum-cost flow solver with a what-if session, for C and for whatever calls C.
+/* A minimum-cost flow solver, for C and for whatever calls C: one call that answers a problem text, and a session that
+ * answers edits of it.
  *
- * The library is crates/mcf_c/out/libmcf_c.a; link the kit's C part, liblibc_c.a, after it. Each call is proved, by the
- * contract in crates/mcf_c/src/lib.rt; nothing checks that C keeps the rules below:
+ * docs/EMBEDDING.md tells how to build the library and what to link it with. Problem texts, the lines of a session's
+ * commands, and the numbers of faults and of refusals are those of docs/FORMATS.md. Arcs come in the order of their
+ * lines in the text, and then those that were added; nodes in the order of their numbers, so that node 1 has entry 0.
  *
- * - A pointer leads to memory of the caller's that holds for the call as many entries as the length says, also where
- *   that is 0; it is never null, and no two of a call's pointers lead to the same memory.
- * - A handle is made by MCF_HANDLE_INIT, kept as it is, passed to these calls alone, and copied by nobody. One call at a
- *   time has it, always on one thread. mcf_close gives its memory back.
- * - The program's malloc, realloc and free are one allocator that aligns to 16.
+ * Each call is proved, by the contract in crates/mcf_c/src/lib.rt; nothing checks that C keeps the rules below:
  *
- * The numbers of faults and of refusals are those of docs/FORMATS.md.
+ * - A pointer leads to memory of the caller's that holds for the call as many entries as the length says; it is never
+ *   null, not even where that is 0, and no two of a call's pointers lead to the same entry. Texts need no byte 0 at
+ *   their end, and bools hold true or false.
+ * - A handle is made by MCF_HANDLE_INIT, kept as it is, passed to these calls alone, and copied by nobody. One call at
+ *   a time has it, always on one thread. mcf_close gives its memory back. Other threads may use other handles and
+ *   answers meanwhile.
+ * - The program's malloc, realloc and free are one allocator that aligns to 16. No call is made in a signal handler, or
+ *   after fork in the child of a process with threads.
  */
 #ifndef MCF_H
 #define MCF_H
@@ -18,7 +23,11 @@
 #include <stddef.h>
 #include <stdint.h>
 
-/* What a call answers: MCF_DONE, the number of a refusal (1 to 33), or one of these. */
+#ifdef __cplusplus
+extern "C" {
+#endif
+
+/* What a call answers: MCF_DONE, the number of a refused command (1 to 33), or one of these. */
 enum {
     MCF_DONE = 0,
     MCF_CLOSED = -1,       /* the handle has no session */
@@ -26,8 +35,64 @@ enum {
     MCF_OTHER_LENGTH = -3, /* the array has another length than the list */
     MCF_NOT_THERE = -4,    /* no flow where no legal one exists; no cut where one does */
     MCF_FAULT = -5,        /* the text has a fault */
-    MCF_MEMORY = -6        /* memory was refused */
+    MCF_MEMORY = -6,       /* memory was refused */
+    MCF_TOO_SHORT = -7     /* a list of the answer has no room */
 };
+
+/* The first fault of a text: its line, counted from 1, and its number. A fault of the text's end has the last line. */
+typedef struct mcf_fault {
+    uint64_t line;
+    uint8_t number;
+} mcf_fault;
+
+/* What is told of a problem. The worth of a best flow is its cost, for max what the source sends out: worth_high * 2^64
+ * + worth_low; where it fits 64 bits, it is (int64_t)worth_low. Where no flow is legal, the worth is 0 and the shortage
+ * says how many units are missing; else that is 0. */
+typedef struct mcf_view {
+    int64_t worth_high;
+    uint64_t worth_low;
+    int64_t shortage;
+    uint64_t past;   /* how many moments of the session can be undone */
+    uint64_t future; /* how many can be done again */
+    uint32_t nodes;
+    uint32_t arcs;
+    bool feasible; /* whether a legal flow exists */
+} mcf_view;
+
+/* ---- a problem, answered at once */
+
+/* Where an answer goes. The caller sets the pointers and how many entries there is room for; a call writes to the start
+ * of that room, and changes neither pointers nor lengths. */
+typedef struct mcf_answer {
+    int64_t *flow; /* one entry an arc: a best flow */
+    size_t flow_room;
+    int64_t *potentials; /* one entry a node: potentials that prove the flow best */
+    size_t potentials_room;
+    bool *cut; /* one mark a node: a cut that proves that no flow is legal */
+    size_t cut_room;
+    mcf_view view;
+    mcf_fault fault;
+} mcf_answer;
+
+/* Answers a problem text of the DIMACS formats min, max and asn, and keeps nothing. It answers
+ *
+ * - MCF_DONE: the view is filled in; flow and potentials too where it says feasible, else the cut. Other lists, what is
+ *   beyond the end of a list, and the fault stay as they were.
+ * - MCF_FAULT: the fault is filled in, and nothing else.
+ * - MCF_TOO_SHORT: there is not room for each arc in flow, or for each node in potentials and in cut. view.nodes and
+ *   view.arcs say how many there are, and nothing else is written. Nothing was solved yet.
+ * - MCF_MEMORY: nothing is written.
+ *
+ * So a first call with no room asks for the sizes:
+ *
+ *     int64_t number;
+ *     bool mark;
+ *     mcf_answer answer = {.flow = &number, .potentials = &number, .cut = &mark};
+ *     if (mcf_solve(text, length, &answer) == MCF_TOO_SHORT) ...
+ */
+int32_t mcf_solve(const uint8_t *text, size_t length, mcf_answer *answer);
+
+/* ---- a session */
 
 /* A session, or none. Both fields are the library's own. */
 typedef struct mcf_handle {
@@ -37,32 +102,13 @@ typedef struct mcf_handle {
 
 #define MCF_HANDLE_INIT {NULL, false}
 
-/* The first fault of a text: its line, counted from 1, and its number. */
-typedef struct mcf_fault {
-    uint64_t line;
-    uint8_t number;
-} mcf_fault;
-
-/* What is told of the present moment. The worth of a best flow is worth_high * 2^64 + worth_low; where it fits 64 bits,
- * it is (int64_t)worth_low. Where no flow is legal, the worth is 0 and the shortage says how many units are missing. */
-typedef struct mcf_view {
-    int64_t worth_high;
-    uint64_t worth_low;
-    int64_t shortage;
-    uint64_t past;   /* how many moments can be undone */
-    uint64_t future; /* how many moments can be done again */
-    uint32_t nodes;
-    uint32_t arcs;
-    bool feasible;
-} mcf_view;
-
-/* Opens a session on a problem text of the DIMACS formats min, max and asn, with room for so many arcs more, and
- * answers its first question: the present moment has a best flow, or a cut that shows that none is legal.
- * MCF_OPEN, MCF_FAULT (with the fault) or MCF_MEMORY: the handle is as before. */
+/* Opens a session on a problem text, as mcf_solve takes it, and solves it: the present moment has a best flow, or a cut
+ * that proves that none is legal. There is room for commands to add `extra` arcs. MCF_OPEN, MCF_FAULT (with the fault)
+ * or MCF_MEMORY: the handle is as before. */
 int32_t mcf_open(mcf_handle *handle, const uint8_t *text, size_t length, uint32_t extra, mcf_fault *fault);
 
-/* Takes a line of a session's commands, without its line feed, such as "cap 5 3", and answers the new question. A
- * refusal by its number, or MCF_CLOSED: nothing has changed. "show" and "proof" change nothing; "mark NAME" names the
+/* Takes a line of a session's commands, without its line feed, such as "cap 5 3" (arc 5 may carry 3), and solves again.
+ * A refusal by its number, or MCF_CLOSED: nothing has changed. "show" and "proof" change nothing; "mark NAME" names the
  * present moment, and "back NAME" goes there again; "group" and "end" are refused (29), since a call takes one line. */
 int32_t mcf_command(mcf_handle *handle, const uint8_t *line, size_t length);
 
@@ -70,10 +116,13 @@ int32_t mcf_command(mcf_handle *handle, const uint8_t *line, size_t length);
 int32_t mcf_undo(mcf_handle *handle);
 int32_t mcf_redo(mcf_handle *handle);
 
-/* Tells the verdict of the present moment, its sizes, and how many moments are past and future. */
+/* Tells the verdict of the present moment, its sizes, and how many moments are past and future; or MCF_CLOSED. */
 int32_t mcf_look(mcf_handle *handle, mcf_view *view);
 
-/* A best flow, one entry an arc, in the order of the arcs. */
+/* The next three copy a list of the present moment to an array of its length, which the view tells. MCF_NOT_THERE,
+ * MCF_OTHER_LENGTH or MCF_CLOSED: nothing is written. */
+
+/* A best flow, one entry an arc. */
 int32_t mcf_flow(mcf_handle *handle, int64_t *flow, size_t arcs);
 
 /* Potentials that prove the flow best, one entry a node. */
@@ -84,5 +133,9 @@ int32_t mcf_cut(mcf_handle *handle, bool *cut, size_t nodes);
 
 /* Ends the session and gives its memory back. A closed handle stays closed, and can be opened again. */
 void mcf_close(mcf_handle *handle);
+
+#ifdef __cplusplus
+}
+#endif
 
 #endif

@@ -6,7 +6,7 @@ use Rattle.std.proofs.lemmas.Int.{ints, int_wrap_fits, fits_signed_from_abs}
 use Rattle.std.proofs.lemmas.Bool.{cases_lt}
 use Rattle.std.proofs.lemmas.List.Sums.{sum_by-cons}
 use Rattle.dimacs_text.specs.declared.problem.ArcRow.{ArcRow}
-use Rattle.network.specs.Flow.{AllWithinBounds, IsCertifiedFlow, IsGreatestPotential, net, surplus_of, total_cost, IsLeastGreatestSurplus, IsLeastGreatestShortfall}
+use Rattle.network.specs.Flow.{AllWithinBounds, IsCertifiedFlow, net, surplus_of, total_cost, IsLeastGreatestSurplus, IsLeastGreatestShortfall}
 use Rattle.network.specs.Instance.{Demand, Supplies, Terminals, Sides, Instance, IsLawful, IsLegal, ArcFits, IsCertified as IsCertifiedBy, IsBreach, at_node, is_marked, reduced, return_arc_of, reduced_arcs, reduced_flow, numbered_flow, worth}
 use Rattle.std.proofs.lemmas.List.Elements.{All-from_recursion}
 use Rattle.std.specs.List.{AllByRecursion}
@@ -16,17 +16,17 @@ use Rattle.network.proofs.Reduction.{made, rows_of, reduced_ends, certified_is_b
 use Rattle.network.proofs.Surplus.{surplus_at_most}
 use Rattle.flow_solver.specs.declared.verdict.Verdict.{Verdict}
 use Rattle.flow_solver.specs.declared.verdict.Verdict.TheVariants.{Best, Infeasible}
-use Rattle.shortest_paths.specs.Limits.{supply_limit, entry_limit, cap_sum_limit}
-use Rattle.shortest_paths.specs.Residual.{IsCertified, AreGreatest, ArePathsAbove, number_at, arc_at}
+use Rattle.shortest_paths.specs.Limits.{supply_limit, entry_limit, cap_sum_limit, label_floor}
+use Rattle.shortest_paths.specs.Residual.{IsCertified, ArePotentials, number_at, arc_at}
 use Rattle.shortest_paths.specs.Push.{AreSmall, IsExcess, AreSupplies, positive_part, left, cap_total}
 use Rattle.shortest_paths.specs.Cut.{in_set, sum_in, sum_leaving, sum_entering, lack, IsChosenSet}
 use Rattle.shortest_paths.specs.Nodes.{held}
-use Rattle.flow_solver.specs.Answer.{IsBestMoment, IsInfeasibleMoment, IsVerdict, IsChosenBreach, IsChosenCut, IsJudged, worth_by}
+use Rattle.flow_solver.specs.Answer.{IsBestMoment, IsInfeasibleMoment, IsVerdict, IsChosenBreach, IsChosenCut, IsJudged, worth_by, IsAnswered}
 use Rattle.flow_solver.specs.Balance.{IsWrappedExcess}
-use Rattle.flow_solver.specs.Desk.{IsAnswered, IsFlow}
+use Rattle.flow_solver.specs.Desk.{IsFlow}
 use Rattle.flow_solver.specs.Moment.{Moment, IsReturnVerdict, TellsReturn, TellsReturnBy, VerdictFits, returned, with_return}
 use Rattle.flow_solver.proofs.BalanceLemmas.{IsExactExcess, excess_exact}
-use Rattle.flow_solver.proofs.FlowLaws.{AgreesAt, bounds_from, certified_same, certified_flow, greatest_flow}
+use Rattle.flow_solver.proofs.FlowLaws.{AgreesAt, bounds_from, certified_same, certified_flow}
 use Rattle.flow_solver.proofs.CutLaws.{IsMarkedBy, least_surplus, least_shortfall}
 use Rattle.flow_solver.proofs.PushLaws.{legal_flow, left_is}
 use Rattle.flow_solver.proofs.InstanceLemmas.{range_of_labels}
@@ -84,25 +84,21 @@ exact_of_certified I rows x e q lawful same certified is = excess_exact I rows x
 -- what stands in the tables when no search finds a node in deficit any more
 pub record IsEnd (I : Instance) (y p e : List ℤ) (set : List Bool) : Type 0 where
   pub lawful : IsLawful I
-  pub potentials_in : length p ≡ I.nodes + 1
+  pub potentials_in : ArePotentials (length p) label_floor p
   pub excess_in : length e ≡ I.nodes + 1
   pub cut_in : length set ≡ I.nodes + 1
   pub certified : IsCertified (reduced I).arcs y p
-  pub greatest : AreGreatest (reduced I).arcs y p
-  pub above : ArePathsAbove (reduced I).arcs p
   pub excess_is : IsExcess (reduced I).arcs (held I.nodes (reduced I).supply) y e
   pub chosen : IsChosenSet (reduced I).arcs (held I.nodes (reduced I).supply) e set
 
-pub end_of : (I : Instance) (rows : List ArcRow) (y p e : List ℤ) (set : List Bool) → IsLawful I → rows ≡ (reduced I).arcs → length p ≡ I.nodes + 1 → length e ≡ I.nodes + 1 → length set ≡ I.nodes + 1
-    → IsCertified rows y p → AreGreatest rows y p → ArePathsAbove rows p → IsExcess rows (held I.nodes (reduced I).supply) y e → IsChosenSet rows (held I.nodes (reduced I).supply) e set → IsEnd I y p e set
-end_of I rows y p e set lawful same potentials_in excess_in cut_in certified greatest above excess_is chosen = record {
+pub end_of : (I : Instance) (rows : List ArcRow) (y p e : List ℤ) (set : List Bool) → IsLawful I → rows ≡ (reduced I).arcs → ArePotentials (length p) label_floor p → length e ≡ I.nodes + 1 → length set ≡ I.nodes + 1
+    → IsCertified rows y p → IsExcess rows (held I.nodes (reduced I).supply) y e → IsChosenSet rows (held I.nodes (reduced I).supply) e set → IsEnd I y p e set
+end_of I rows y p e set lawful same potentials_in excess_in cut_in certified excess_is chosen = record {
   lawful = lawful;
   potentials_in = potentials_in;
   excess_in = excess_in;
   cut_in = cut_in;
   certified = subst (λ (r : List ArcRow). IsCertified r y p) same certified;
-  greatest = subst (λ (r : List ArcRow). AreGreatest r y p) same greatest;
-  above = subst (λ (r : List ArcRow). ArePathsAbove r p) same above;
   excess_is = subst (λ (r : List ArcRow). IsExcess r (held I.nodes (reduced I).supply) y e) same excess_is;
   chosen = subst (λ (r : List ArcRow). IsChosenSet r (held I.nodes (reduced I).supply) e set) same chosen;
 }
@@ -117,10 +113,7 @@ module _ (I : Instance) (y p e : List ℤ) (set : List Bool) (end : IsEnd I y p 
   pub end_certified : IsCertifiedFlow (reduced I) y (at_node (drop 1 p))
   end_certified =
       certified_flow (reduced I) y p (at_node (drop 1 p)) (reduced_ends I end.lawful) end.certified (agrees_at I.nodes p)
-      (λ v node. range_of_labels I p end.lawful end.potentials_in end.above end.certified.potentials.at_most_0 v)
-
-  pub end_greatest : IsGreatestPotential (reduced I) y (at_node (drop 1 p))
-  end_greatest = greatest_flow (reduced I) y p (at_node (drop 1 p)) (reduced_ends I end.lawful) (agrees_at I.nodes p) end.greatest
+      (λ v node. range_of_labels (length p) p end.potentials_in v)
 
   cut_of_excess : 0 < left e → IsLeastGreatestSurplus (reduced I) (is_marked (drop 1 set)) (pos (left e))
   cut_of_excess some = least_surplus (reduced I) set (is_marked (drop 1 set)) (pos (left e)) (reduced_ends I end.lawful) sized_set (marked_by I.nodes set) (end.chosen.in_excess some)

@@ -1,17 +1,18 @@
 -- What the tables of a solver keep where entries are written, and what was kept of them.
-use Rattle.std.proofs.Common.{◌≡◌, ℕ, ◌+◌, ◌≤◌, ℤ, Bool, List, [], ◌∷◌, length, take, drop, refl, sym, ap, subst, ◌∙◌, arith, Option, None, Some}
+use Rattle.std.proofs.Common.{◌≡◌, ℕ, ◌+◌, ◌≤◌, ℤ, Bool, true, List, [], ◌∷◌, length, take, drop, refl, sym, ap, subst, ◌∙◌, arith, Option, None, Some}
 use Rattle.std.specs.Prelude.{IfSome, vec_capacity}
 use Rattle.std.proofs.lemmas.List.{length-take-le, length-drop}
 use Rattle.dimacs_text.specs.declared.problem.ArcRow.{ArcRow}
-use Rattle.network.specs.Instance.{Demand, Supplies, Terminals, Sides, Instance, numbered_flow, with_supply}
+use Rattle.network.specs.Instance.{Demand, Supplies, Terminals, Sides, Instance, at_node, numbered_flow, reduced, with_supply}
 use Rattle.flow_solver.specs.declared.balance.Balance.{Balance}
 use Rattle.shortest_paths.specs.declared.graph.Graph.{Graph}
 use Rattle.flow_solver.specs.declared.ledger.Ledger.{Ledger}
 use Rattle.flow_solver.specs.declared.part.Before.{Before}
 use Rattle.flow_solver.specs.declared.part.Part.{Part}
-use Rattle.flow_solver.specs.declared.part.Part.TheVariants.{OtherRow, OtherSupply, NoArc}
+use Rattle.flow_solver.specs.declared.part.Part.TheVariants.{Arc, Supply, Last, Gone}
 use Rattle.shortest_paths.specs.declared.scratch.Scratch.{Scratch}
 use Rattle.flow_solver.specs.declared.verdict.Verdict.{Verdict}
+use Rattle.flow_solver.specs.Answer.{AreGreatestPotentials}
 use Rattle.flow_solver.specs.Balance.{IsBalanceOf}
 use Rattle.flow_solver.specs.Desk.{NameChanges}
 use Rattle.flow_solver.specs.Moment.{IsSized, Kept, Moment, kept_of}
@@ -54,8 +55,9 @@ idle_kept l m written idle = subst IsIdleEntry (sym (kept_written l m written)) 
 pub tables_written : (g h : Graph) (flow flow' potentials potentials' : Ledger ℤ) (balance balance' : Balance) (cut cut' : Ledger Bool) (scratch scratch' : Scratch) (before : Before) →
     AreTables g flow potentials balance cut scratch before → h.net.nodes ≡ g.net.nodes → h.net.room ≡ g.net.room → IsGraphFor (h.net.nodes + 1) h → length h.rows.items ≡ length g.rows.items → vec_capacity g.rows ≤ vec_capacity h.rows →
     IsWritten flow flow' → IsWritten potentials potentials' → IsIdleEntry potentials'.entries.items → IsBalanceOf h.net h.rows.items flow' balance' → IsWritten cut cut' → IsScratchFor (h.net.nodes + 1) scratch' →
+    (scratch'.labels.standing ≡ true → AreGreatestPotentials (reduced h.net) flow'.entries.items (at_node (drop 1 potentials'.entries.items))) →
     AreTables h flow' potentials' balance' cut' scratch' (record before { verdict = None })
-tables_written g h flow flow' potentials potentials' balance balance' cut cut' scratch scratch' before t nodes room_is graph many more flow_written potentials_written idle balance_is cut_written scratch_in = record {
+tables_written g h flow flow' potentials potentials' balance balance' cut cut' scratch scratch' before t nodes room_is graph many more flow_written potentials_written idle balance_is cut_written scratch_in standing = record {
   graph = graph;
   flow_ledger = flow_written.ledger;
   flow_in = flow_written.same_length ∙ t.flow_in ∙ sym many;
@@ -66,6 +68,7 @@ tables_written g h flow flow' potentials potentials' balance balance' cut cut' s
   balance_is = balance_is;
   cut_in = subst (λ (n : ℕ). IsOfNodes n cut') (sym nodes) (nodes_written g.net.nodes cut cut' t.cut_in cut_written);
   scratch_in = scratch_in;
+  standing = standing;
   rows_fit = omega (arith, t.rows_fit, room_is, more);
   log_fits = t.log_fits;
   before_is = tt;
@@ -84,11 +87,12 @@ sized_written g h flow flow' potentials potentials' balance cut cut' scratch bef
 }
 
 -- the tables stay tables where the arcs become others, with as many flows
-pub tables_with_arcs : (g h : Graph) (flow flow' potentials : Ledger ℤ) (balance balance' : Balance) (cut : Ledger Bool) (scratch : Scratch) (before : Before) →
+pub tables_with_arcs : (g h : Graph) (flow flow' potentials : Ledger ℤ) (balance balance' : Balance) (cut : Ledger Bool) (scratch scratch' : Scratch) (before : Before) →
     AreTables g flow potentials balance cut scratch before → h.net.nodes ≡ g.net.nodes → h.net.room ≡ g.net.room → IsGraphFor (h.net.nodes + 1) h → vec_capacity g.rows ≤ vec_capacity h.rows →
-    IsLedger flow' → length flow'.entries.items ≡ length h.rows.items → length flow'.touched ≡ length flow.touched → IsBalanceOf h.net h.rows.items flow' balance' →
-    AreTables h flow' potentials balance' cut scratch (record before { verdict = None })
-tables_with_arcs g h flow flow' potentials balance balance' cut scratch before t nodes room_is graph more ledger flow_in same_room balance_is = record {
+    IsLedger flow' → length flow'.entries.items ≡ length h.rows.items → length flow'.touched ≡ length flow.touched → IsBalanceOf h.net h.rows.items flow' balance' → IsScratchFor (g.net.nodes + 1) scratch' →
+    (scratch'.labels.standing ≡ true → AreGreatestPotentials (reduced h.net) flow'.entries.items (at_node (drop 1 potentials.entries.items))) →
+    AreTables h flow' potentials balance' cut scratch' (record before { verdict = None })
+tables_with_arcs g h flow flow' potentials balance balance' cut scratch scratch' before t nodes room_is graph more ledger flow_in same_room balance_is scratch_in standing = record {
   graph = graph;
   flow_ledger = ledger;
   flow_in = flow_in;
@@ -98,7 +102,8 @@ tables_with_arcs g h flow flow' potentials balance balance' cut scratch before t
   kept_idle = t.kept_idle;
   balance_is = balance_is;
   cut_in = subst (λ (n : ℕ). IsOfNodes n cut) (sym nodes) t.cut_in;
-  scratch_in = subst (λ (n : ℕ). IsScratchFor (n + 1) scratch) (sym nodes) t.scratch_in;
+  scratch_in = subst (λ (n : ℕ). IsScratchFor (n + 1) scratch') (sym nodes) scratch_in;
+  standing = standing;
   rows_fit = omega (arith, t.rows_fit, room_is, more);
   log_fits = t.log_fits;
   before_is = tt;
@@ -113,25 +118,27 @@ named_numbered (Sides marks) places xs ys named = named
 -- the numbered arcs of a flow, and how many come before them, are the same before a change
 pub numbered_before : (log : List Part) (I : Instance) (xs : List ℤ) → numbered_flow (before_all log I).demand xs ≡ numbered_flow I.demand xs
 numbered_before [] I xs = refl
-numbered_before (OtherRow k row ∷ log) I xs = numbered_before log I xs
-numbered_before (OtherSupply v value ∷ log) I xs = of (before_all log I).demand ∙ numbered_before log I xs
+numbered_before (Arc k row ∷ log) I xs = numbered_before log I xs
+numbered_before (Supply v value ∷ log) I xs = of (before_all log I).demand ∙ numbered_before log I xs
   where
     of : (D : Demand) → numbered_flow (with_supply D v value) xs ≡ numbered_flow D xs
     of (Supplies supplies) = refl
     of (Terminals source sink) = refl
     of (Sides marks) = refl
-numbered_before (NoArc ∷ log) I xs = numbered_before log I xs
+numbered_before (Last ∷ log) I xs = numbered_before log I xs
+numbered_before (Gone row flow ∷ log) I xs = numbered_before log I xs
 
 pub return_count_before : (log : List Part) (I : Instance) → return_count (before_all log I).demand ≡ return_count I.demand
 return_count_before [] I = refl
-return_count_before (OtherRow k row ∷ log) I = return_count_before log I
-return_count_before (OtherSupply v value ∷ log) I = of (before_all log I).demand ∙ return_count_before log I
+return_count_before (Arc k row ∷ log) I = return_count_before log I
+return_count_before (Supply v value ∷ log) I = of (before_all log I).demand ∙ return_count_before log I
   where
     of : (D : Demand) → return_count (with_supply D v value) ≡ return_count D
     of (Supplies supplies) = refl
     of (Terminals source sink) = refl
     of (Sides marks) = refl
-return_count_before (NoArc ∷ log) I = return_count_before log I
+return_count_before (Last ∷ log) I = return_count_before log I
+return_count_before (Gone row flow ∷ log) I = return_count_before log I
 
 -- the same where the first flow is of the instance before a change
 pub named_before : (log : List Part) (I : Instance) (places : List ℕ) (xs ys : List ℤ) → NameChanges 0 places xs ys → NameChanges (return_count (before_all log I).demand) places (numbered_flow (before_all log I).demand xs) (numbered_flow I.demand ys)

@@ -8,7 +8,7 @@ use Rattle.network.specs.Flow.{IsCertifiedFlow, total_excess}
 use Rattle.dimacs_text.specs.declared.problem.ArcRow.{ArcRow}
 use Rattle.network.specs.Instance.{Demand, Supplies, Terminals, Sides, Instance, at_node, reduced, reduced_arcs}
 use Rattle.flow_solver.specs.declared.part.Part.{Part}
-use Rattle.flow_solver.specs.declared.part.Part.TheVariants.{OtherRow, OtherSupply, NoArc}
+use Rattle.flow_solver.specs.declared.part.Part.TheVariants.{Arc, Supply, Last, Gone}
 use Rattle.flow_solver.specs.Desk.{Desk}
 use Rattle.flow_solver.specs.Edit.{AreChanges, AreMade, IsChange, IsMade}
 use Rattle.flow_solver.specs.Moment.{Kept, Moment}
@@ -149,24 +149,25 @@ making_more i edits old now noted next d below making same logged made_noted cer
 -- ---- the loop that takes them back
 
 -- an instance has no fewer arcs than the one before
-arcs_before : (part : Part) (I : Instance) → length (before_part part I).arcs ≤ length I.arcs
-arcs_before (OtherRow k row) I = (let same = length-set I.arcs (k - 1) row in omega (arith, same))
-arcs_before (OtherSupply v value) I = omega arith
-arcs_before NoArc I = (let less = length-take-le (length I.arcs - 1) I.arcs (omega arith) in omega (arith, less))
+arcs_before : (part : Part) (I : Instance) → CanTakeBack part I → length (before_part part I).arcs ≤ length I.arcs
+arcs_before (Arc k row) I can = (let same = length-set I.arcs (k - 1) row in omega (arith, same))
+arcs_before (Supply v value) I can = omega arith
+arcs_before Last I can = (let less = length-take-le (length I.arcs - 1) I.arcs (omega arith) in omega (arith, less))
+arcs_before (Gone row flow) I can = absurd can
 
 pub length-rows : (D : Demand) (arcs : List ArcRow) → length (reduced_arcs D arcs) ≡ return_count D + length arcs
 length-rows (Supplies supplies) arcs = omega arith
 length-rows (Terminals source sink) arcs = omega arith
 length-rows (Sides marks) arcs = omega arith
 
-rows_before : (part : Part) (I : Instance) → length (reduced (before_part part I)).arcs ≤ length (reduced I).arcs
-rows_before part I =
+rows_before : (part : Part) (I : Instance) → CanTakeBack part I → length (reduced (before_part part I)).arcs ≤ length (reduced I).arcs
+rows_before part I can =
     let J = before_part part I in
-    omega (arith, length-rows J.demand J.arcs, length-rows I.demand I.arcs, return_count_before (part ∷ []) I, arcs_before part I)
+    omega (arith, length-rows J.demand J.arcs, length-rows I.demand I.arcs, return_count_before (part ∷ []) I, arcs_before part I can)
 
-rows_before_all : (log : List Part) (I : Instance) → length (reduced (before_all log I)).arcs ≤ length (reduced I).arcs
-rows_before_all [] I = omega arith
-rows_before_all (part ∷ log) I = (let rest = rows_before_all log I in let one = rows_before part (before_all log I) in omega (arith, rest, one))
+rows_before_all : (log : List Part) (I : Instance) → CanTakeBackAll log I → length (reduced (before_all log I)).arcs ≤ length (reduced I).arcs
+rows_before_all [] I can = omega arith
+rows_before_all (part ∷ log) I can = (let rest = rows_before_all log I can.0 in let one = rows_before part (before_all log I) can.1 in omega (arith, rest, one))
 
 -- what is logged can be taken back, and what was kept is of the instance before it
 pub record IsTakingBack (old now : Desk) : Type 0 where
@@ -201,7 +202,7 @@ popped old now next part same was taking =
 
 -- a part that is popped does not take off more arcs than come off in all
 pub popped_fits : (old now : Desk) (part : Part) → IsPopped old now part → length now.kept.flow ≤ length (reduced (before_part part now.moment.instance)).arcs
-popped_fits old now part is = (let rest = rows_before_all now.kept.log (before_part part now.moment.instance) in omega (arith, is.fits, rest))
+popped_fits old now part is = (let rest = rows_before_all now.kept.log (before_part part now.moment.instance) is.can in omega (arith, is.fits, rest))
 
 pub taken_back : (old now next : Desk) (part : Part) → next.moment.instance ≡ before_part part now.moment.instance → next.kept ≡ now.kept → IsPopped old now part → IsTakingBack old next
 taken_back old now next part instance kept is =

@@ -13,72 +13,49 @@ use Rattle.network.specs.Flow.{AllWithinBounds, FollowsSign, IsCertifiedFlow, Is
 use Rattle.flow_solver.specs.Moment.{start}
 use Rattle.network.specs.Instance.{Demand, Supplies, Terminals, Sides, Instance, IsLawful, ArcFits, DemandFits, at_node, is_marked, return_arc, reduced, reduced_arcs, reduced_supply}
 use Rattle.network.proofs.Reduction.{rows_of, reduced_ends}
-use Rattle.shortest_paths.specs.declared.residual.Way.{Way}
-use Rattle.shortest_paths.specs.declared.residual.Way.TheVariants.{Forward, Backward}
 use Rattle.shortest_paths.specs.Limits.{entry_limit, row_limit, cap_sum_limit, supply_limit, label_floor}
-use Rattle.shortest_paths.specs.Residual.{IsRow, IsFlow, IsCertified, ArePotentials, ArePathsAbove, IsCheap, number_at, arc_at, cost_of}
+use Rattle.shortest_paths.specs.Residual.{IsRow, IsFlow, IsCertified, ArePotentials, number_at, arc_at}
 use Rattle.shortest_paths.specs.Push.{AreSupplies, positive_part, cap_total}
 use Rattle.shortest_paths.specs.Nodes.{held, IsIdleEntry}
 use Rattle.shortest_paths.proofs.NodeLemmas.{IsNodeOf, is_node_or_not, held_node, held_other}
 use Rattle.flow_solver.proofs.FlowLaws.{bounds_length, bounds_at, none_below_of}
 
--- an arc of the instance is a row of the tables, and costs no more than 10^12 a unit either way
-record IsCheapRow (n : ℕ) (a : ArcRow) : Type 0 where
-  row : IsRow (n + 1) a
-  cheap : (way : Way) → neg_ℤ (pos 1000000000000) ≤ℤ cost_of a way
-
-cheap_row : (n : ℕ) (a : ArcRow) → IsLawfulRow n a → IsCheapRow n a
-cheap_row n a keeps = record {
-  row = record {
-    tail_in = omega (arith, keeps.tail.1);
-    head_in = omega (arith, keeps.head.1);
-    low_at_least_0 = keeps.low;
-    low_at_most_cap = keeps.cap;
-    cap_in = omega (arith, ints, keeps.limit);
-    cost_low = omega (arith, ints, keeps.cost.0, keeps.cost.1);
-    cost_high = omega (arith, ints, keeps.cost.0, keeps.cost.1);
-  };
-  cheap = by_way;
+-- an arc of the instance is a row of the tables
+lawful_row : (n : ℕ) (a : ArcRow) → IsLawfulRow n a → IsRow (n + 1) a
+lawful_row n a keeps = record {
+  tail_in = omega (arith, keeps.tail.1);
+  head_in = omega (arith, keeps.head.1);
+  low_at_least_0 = keeps.low;
+  low_at_most_cap = keeps.cap;
+  cap_in = omega (arith, ints, keeps.limit);
+  cost_low = omega (arith, ints, keeps.cost.0, keeps.cost.1);
+  cost_high = omega (arith, ints, keeps.cost.0, keeps.cost.1);
 }
-  where
-    by_way : (way : Way) → neg_ℤ (pos 1000000000000) ≤ℤ cost_of a way
-    by_way Forward = omega (arith, ints, keeps.cost.0, keeps.cost.1)
-    by_way Backward = omega (arith, ints, keeps.cost.0, keeps.cost.1)
 
-return_row : (n source sink : ℕ) → DemandFits n (Terminals source sink) → IsCheapRow n (return_arc source sink)
+return_row : (n source sink : ℕ) → DemandFits n (Terminals source sink) → IsRow (n + 1) (return_arc source sink)
 return_row n source sink fits = record {
-  row = record {
-    tail_in = omega (arith, fits.1.1);
-    head_in = omega (arith, fits.0.1);
-    low_at_least_0 = omega (arith, ints);
-    low_at_most_cap = omega (arith, ints);
-    cap_in = omega (arith, ints);
-    cost_low = omega (arith, ints);
-    cost_high = omega (arith, ints);
-  };
-  cheap = by_way;
+  tail_in = omega (arith, fits.1.1);
+  head_in = omega (arith, fits.0.1);
+  low_at_least_0 = omega (arith, ints);
+  low_at_most_cap = omega (arith, ints);
+  cap_in = omega (arith, ints);
+  cost_low = omega (arith, ints);
+  cost_high = omega (arith, ints);
 }
-  where
-    by_way : (way : Way) → neg_ℤ (pos 1000000000000) ≤ℤ cost_of (return_arc source sink) way
-    by_way Forward = omega (arith, ints)
-    by_way Backward = omega (arith, ints)
 
-rows_at : (n : ℕ) (D : Demand) (arcs : List ArcRow) → AllByRecursion (λ arc. IsLawfulRow n arc × ArcFits D arc) arcs → (k : ℕ) → k < length arcs → IsCheapRow n (arc_at arcs k)
+rows_at : (n : ℕ) (D : Demand) (arcs : List ArcRow) → AllByRecursion (λ arc. IsLawfulRow n arc × ArcFits D arc) arcs → (k : ℕ) → k < length arcs → IsRow (n + 1) (arc_at arcs k)
 rows_at n D [] keeps k lt = absurd (omega arith)
-rows_at n D (a ∷ arcs) keeps zero lt = cheap_row n a keeps.0.0
+rows_at n D (a ∷ arcs) keeps zero lt = lawful_row n a keeps.0.0
 rows_at n D (a ∷ arcs) keeps (suc k) lt = rows_at n D arcs keeps.1 k (omega arith)
 
-reduced_rows : (n : ℕ) (D : Demand) (arcs : List ArcRow) → DemandFits n D → AllByRecursion (λ arc. IsLawfulRow n arc × ArcFits D arc) arcs → (k : ℕ) → k < length (reduced_arcs D arcs) → IsCheapRow n (arc_at (reduced_arcs D arcs) k)
+reduced_rows : (n : ℕ) (D : Demand) (arcs : List ArcRow) → DemandFits n D → AllByRecursion (λ arc. IsLawfulRow n arc × ArcFits D arc) arcs → (k : ℕ) → k < length (reduced_arcs D arcs) → IsRow (n + 1) (arc_at (reduced_arcs D arcs) k)
 reduced_rows n (Supplies s) arcs fits keeps k lt = rows_at n (Supplies s) arcs keeps k lt
 reduced_rows n (Terminals source sink) arcs fits keeps zero lt = return_row n source sink fits
 reduced_rows n (Terminals source sink) arcs fits keeps (suc k) lt = rows_at n (Terminals source sink) arcs keeps k (omega arith)
 reduced_rows n (Sides marks) arcs fits keeps k lt = rows_at n (Sides marks) arcs keeps k lt
 
 pub rows_of_instance : (I : Instance) → IsLawful I → (k : ℕ) → k < length (reduced I).arcs → IsRow (I.nodes + 1) (arc_at (reduced I).arcs k)
-rows_of_instance I lawful k lt = (reduced_rows I.nodes I.demand I.arcs lawful.demand (rows_of lawful) k lt).row
-
-pub cheap_instance : (I : Instance) → IsLawful I → IsCheap (reduced I).arcs 1000000000000
-cheap_instance I lawful k way lt = (reduced_rows I.nodes I.demand I.arcs lawful.demand (rows_of lawful) k lt).cheap way
+rows_of_instance I lawful k lt = reduced_rows I.nodes I.demand I.arcs lawful.demand (rows_of lawful) k lt
 
 rows_counted : (D : Demand) (arcs : List ArcRow) → length (reduced_arcs D arcs) ≤ length arcs + 1
 rows_counted (Supplies s) arcs = omega arith
@@ -162,15 +139,14 @@ certified_of I x p lawful sized idle certified =
     }
 
 -- shortest labels keep the range of potentials
-pub range_of_labels : (I : Instance) (p : List ℤ) → IsLawful I → length p ≡ I.nodes + 1 → ArePathsAbove (reduced I).arcs p → ((v : ℕ) → number_at p v ≤ℤ pos 0) → (v : ℕ) → IsPotential (number_at p v)
-range_of_labels I p lawful sized above low v =
-    (omega (arith, ints, above 1000000000000 I.nodes (cheap_instance I lawful) sized v, lawful.nodes.1), low v)
+pub range_of_labels : (n : ℕ) (p : List ℤ) → ArePotentials n label_floor p → (v : ℕ) → IsPotential (number_at p v)
+range_of_labels n p potentials v = (omega (arith, ints, potentials.at_least v), potentials.at_most_0 v)
 
 -- ---- the rows of the tables, and the start flow
 
-start_within : (n : ℕ) (a : ArcRow) → IsCheapRow n a → (b : Bool) → (a.low ≤ℤ cond b a.cap a.low) × (cond b a.cap a.low ≤ℤ a.cap)
-start_within n a row true = (row.row.low_at_most_cap, omega (arith, ints))
-start_within n a row false = (omega (arith, ints), row.row.low_at_most_cap)
+start_within : (n : ℕ) (a : ArcRow) → IsRow (n + 1) a → (b : Bool) → (a.low ≤ℤ cond b a.cap a.low) × (cond b a.cap a.low ≤ℤ a.cap)
+start_within n a row true = (row.low_at_most_cap, omega (arith, ints))
+start_within n a row false = (omega (arith, ints), row.low_at_most_cap)
 
 -- with potentials 0 the reduced cost is the cost
 start_sign : (q : ℕ → ℤ) (a : ArcRow) → ((v : ℕ) → q v ≡ pos 0) → FollowsSign q a (start a)
@@ -186,7 +162,7 @@ start_sign q a zero_at = by_test (int_lt a.cost (pos 0)) refl
       cheap = λ cheap. absurd (omega (arith, ints, cheap, e, zero_at a.tail, zero_at a.head));
     }
 
-start_bounds : (n : ℕ) (arcs : List ArcRow) → ((k : ℕ) → k < length arcs → IsCheapRow n (arc_at arcs k)) → AllWithinBounds arcs (map start arcs)
+start_bounds : (n : ℕ) (arcs : List ArcRow) → ((k : ℕ) → k < length arcs → IsRow (n + 1) (arc_at arcs k)) → AllWithinBounds arcs (map start arcs)
 start_bounds n [] rows = tt
 start_bounds n (a ∷ arcs) rows =
     (start_within n a (rows 0 (omega arith)) (int_lt a.cost (pos 0)), start_bounds n arcs (λ k lt. rows (suc k) (omega arith)))

@@ -1,4 +1,5 @@
 pub mod ExcessLemmas
+pub mod SideLaws
 pub mod SignLemmas
 pub mod FlowLaws
 pub mod CutLaws
@@ -12,6 +13,8 @@ pub mod NotedLemmas
 pub mod DeskLemmas
 pub mod BalanceLemmas
 pub mod CarryLemmas
+pub mod LabelLaws
 pub mod LedgerLemmas
 pub mod GroupLemmas
 pub mod LogLemmas
+pub mod StandingLemmas

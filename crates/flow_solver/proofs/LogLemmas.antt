@@ -9,7 +9,7 @@ use Rattle.dimacs_text.specs.declared.problem.Kind.TheVariants.{Min}
 use Rattle.dimacs_text.specs.Lawful.{IsNode}
 use Rattle.network.specs.Instance.{Demand, Supplies, Terminals, Sides, Instance, IsLawful, DemandFits, arc_at, kind_of, numbered_flow, reduced_supply, with_supply}
 use Rattle.flow_solver.specs.declared.part.Part.{Part}
-use Rattle.flow_solver.specs.declared.part.Part.TheVariants.{OtherRow, OtherSupply, NoArc}
+use Rattle.flow_solver.specs.declared.part.Part.TheVariants.{Arc, Supply, Last, Gone}
 use Rattle.flow_solver.specs.declared.verdict.Verdict.{Verdict}
 use Rattle.flow_solver.specs.Moment.{Kept}
 use Rattle.flow_solver.specs.Part.{before_all, before_of, before_part, CanTakeBack, CanTakeBackAll, IsKept, return_count}
@@ -53,7 +53,7 @@ set-other (y ∷ xs) zero (suc j) x other = refl
 set-other (y ∷ xs) (suc i) zero x other = refl
 set-other (y ∷ xs) (suc i) (suc j) x other = set-other xs i j x (λ same. other (ap suc same))
 
-pub row_found : (k : ℕ) (other : ArcRow) (I : Instance) (row : Option ArcRow) (arcs : ℕ) → CanTakeBack (OtherRow k other) I → IsArcAt k I row arcs → IsArcAt k (before_part (OtherRow k other) I) (Some other) arcs
+pub row_found : (k : ℕ) (other : ArcRow) (I : Instance) (row : Option ArcRow) (arcs : ℕ) → CanTakeBack (Arc k other) I → IsArcAt k I row arcs → IsArcAt k (before_part (Arc k other) I) (Some other) arcs
 row_found zero other I row arcs can at = absurd (omega (arith, can.0.0))
 row_found (suc k) other I row arcs can at =
     let place : suc k - 1 ≡ k = omega arith in
@@ -66,7 +66,7 @@ row_found (suc k) other I row arcs can at =
       many = at.many ∙ sym (length-set I.arcs (suc k - 1) other);
     }
 
-pub row_passed : (k a : ℕ) (other : ArcRow) (I : Instance) (row : Option ArcRow) (arcs : ℕ) → a ≢ k → CanTakeBack (OtherRow a other) I → IsArcAt k I row arcs → IsArcAt k (before_part (OtherRow a other) I) row arcs
+pub row_passed : (k a : ℕ) (other : ArcRow) (I : Instance) (row : Option ArcRow) (arcs : ℕ) → a ≢ k → CanTakeBack (Arc a other) I → IsArcAt k I row arcs → IsArcAt k (before_part (Arc a other) I) row arcs
 row_passed zero a other I row arcs differ can at = record { row_is = at.row_is; many = at.many ∙ sym (length-set I.arcs (a - 1) other) }
 row_passed (suc k) a other I row arcs differ can at = record {
   row_is = at.row_is ∙ sym (set-other I.arcs (a - 1) k other (λ same. differ (omega (arith, same, can.0.0))));
@@ -89,13 +89,13 @@ front_at xs i other = elim (cases_lt i (length xs - 1)) [
   | inr past ↦ slice_get_past (take (length xs - 1) xs) i (omega (arith, past, length-front xs)) ∙ sym (slice_get_past xs i (omega (arith, past, other)))
 ]
 
-pub row_gone : (k : ℕ) (I : Instance) (row : Option ArcRow) (arcs fewer : ℕ) → arcs ≡ k → fewer ≡ arcs - 1 → CanTakeBack NoArc I → IsArcAt k I row arcs → IsArcAt k (before_part NoArc I) None fewer
+pub row_gone : (k : ℕ) (I : Instance) (row : Option ArcRow) (arcs fewer : ℕ) → arcs ≡ k → fewer ≡ arcs - 1 → CanTakeBack Last I → IsArcAt k I row arcs → IsArcAt k (before_part Last I) None fewer
 row_gone zero I row arcs fewer last less can at = record { row_is = refl; many = omega (arith, less, at.many, length-front I.arcs) }
 row_gone (suc k) I row arcs fewer last less can at =
     let front = length-front I.arcs in
     record { row_is = sym (slice_get_past (take (length I.arcs - 1) I.arcs) k (omega (arith, front, last, at.many))); many = omega (arith, less, at.many, front) }
 
-pub row_left : (k : ℕ) (I : Instance) (row : Option ArcRow) (arcs fewer : ℕ) → arcs ≢ k → fewer ≡ arcs - 1 → CanTakeBack NoArc I → IsArcAt k I row arcs → IsArcAt k (before_part NoArc I) row fewer
+pub row_left : (k : ℕ) (I : Instance) (row : Option ArcRow) (arcs fewer : ℕ) → arcs ≢ k → fewer ≡ arcs - 1 → CanTakeBack Last I → IsArcAt k I row arcs → IsArcAt k (before_part Last I) row fewer
 row_left zero I row arcs fewer inner less can at = record { row_is = at.row_is; many = omega (arith, less, at.many, length-front I.arcs) }
 row_left (suc k) I row arcs fewer inner less can at =
     let front = length-front I.arcs in
@@ -105,9 +105,10 @@ row_left (suc k) I row arcs fewer inner less can at =
 
 pub nodes_before : (log : List Part) (I : Instance) → (before_all log I).nodes ≡ I.nodes
 nodes_before [] I = refl
-nodes_before (OtherRow k row ∷ log) I = nodes_before log I
-nodes_before (OtherSupply v value ∷ log) I = nodes_before log I
-nodes_before (NoArc ∷ log) I = nodes_before log I
+nodes_before (Arc k row ∷ log) I = nodes_before log I
+nodes_before (Supply v value ∷ log) I = nodes_before log I
+nodes_before (Last ∷ log) I = nodes_before log I
+nodes_before (Gone row flow ∷ log) I = nodes_before log I
 
 -- as many supplies as nodes, where the kind has supplies
 abbrev pub AreAllSupplied : ℕ → Demand → Type 0
@@ -127,9 +128,10 @@ supplied_set nodes (Sides marks) v value all = tt
 
 supplied_before : (log : List Part) (I : Instance) → AreAllSupplied I.nodes I.demand → AreAllSupplied I.nodes (before_all log I).demand
 supplied_before [] I all = all
-supplied_before (OtherRow k row ∷ log) I all = supplied_before log I all
-supplied_before (OtherSupply v value ∷ log) I all = supplied_set I.nodes (before_all log I).demand v value (supplied_before log I all)
-supplied_before (NoArc ∷ log) I all = supplied_before log I all
+supplied_before (Arc k row ∷ log) I all = supplied_before log I all
+supplied_before (Supply v value ∷ log) I all = supplied_set I.nodes (before_all log I).demand v value (supplied_before log I all)
+supplied_before (Last ∷ log) I all = supplied_before log I all
+supplied_before (Gone row flow ∷ log) I all = supplied_before log I all
 
 supply_here : (nodes : ℕ) (D : Demand) (v : ℕ) (value : ℤ) → kind_of D ≡ Min → AreAllSupplied nodes D → (1 ≤ v) × (v ≤ nodes) → reduced_supply (with_supply D v value) v ≡ value
 supply_here nodes (Supplies supplies) v value kind all node = get_or-set_same supplies (v - 1) value (pos 0) (omega (arith, all, node.0, node.1))
@@ -147,25 +149,25 @@ pub record IsSupplyAt (v : ℕ) (I : Instance) (log : List Part) (i : ℕ) (supp
   pub node : IsNode I.nodes v → supply ≡ Some (reduced_supply (before_all (drop i log) I).demand v)
   pub no_node : (IsNode I.nodes v → ⊥) → supply ≡ None
 
-pub supply_found : (v i : ℕ) (value : ℤ) (log : List Part) (d : Part) (I : Instance) (supply : Option ℤ) → IsLawful I → CanTakeBackAll log I → 0 < i → get_or log (i - 1) d ≡ OtherSupply v value → IsSupplyAt v I log i supply → IsSupplyAt v I log (i - 1) (Some value)
+pub supply_found : (v i : ℕ) (value : ℤ) (log : List Part) (d : Part) (I : Instance) (supply : Option ℤ) → IsLawful I → CanTakeBackAll log I → 0 < i → get_or log (i - 1) d ≡ Supply v value → IsSupplyAt v I log i supply → IsSupplyAt v I log (i - 1) (Some value)
 supply_found v i value log d I supply lawful can some is at =
     let rest = drop i log in
-    let fits = can_previous log i d (OtherSupply v value) I some at.inside is can in
+    let fits = can_previous log i d (Supply v value) I some at.inside is can in
     let nodes = nodes_before rest I in
     let there : (1 ≤ v) × (v ≤ I.nodes) = (fits.1.0, omega (arith, fits.1.1, nodes)) in
     let here = supply_here I.nodes (before_all rest I).demand v value fits.0 (supplied_before rest I (supplied_now I.nodes I.demand lawful.demand)) there in
-    let back = before_previous log i d (OtherSupply v value) I some at.inside is in
+    let back = before_previous log i d (Supply v value) I some at.inside is in
     record {
       inside = omega (arith, at.inside);
       node = λ node. ap Some (sym (ap (λ (J : Instance). reduced_supply J.demand v) back ∙ here));
       no_node = λ none. absurd (none there);
     }
 
-pub supply_passed : (v u i : ℕ) (value : ℤ) (log : List Part) (d : Part) (I : Instance) (supply : Option ℤ) → u ≢ v → CanTakeBackAll log I → 0 < i → get_or log (i - 1) d ≡ OtherSupply u value → IsSupplyAt v I log i supply → IsSupplyAt v I log (i - 1) supply
+pub supply_passed : (v u i : ℕ) (value : ℤ) (log : List Part) (d : Part) (I : Instance) (supply : Option ℤ) → u ≢ v → CanTakeBackAll log I → 0 < i → get_or log (i - 1) d ≡ Supply u value → IsSupplyAt v I log i supply → IsSupplyAt v I log (i - 1) supply
 supply_passed v u i value log d I supply differ can some is at =
     let rest = drop i log in
-    let fits = can_previous log i d (OtherSupply u value) I some at.inside is can in
-    let back = before_previous log i d (OtherSupply u value) I some at.inside is in
+    let fits = can_previous log i d (Supply u value) I some at.inside is can in
+    let back = before_previous log i d (Supply u value) I some at.inside is in
     record {
       inside = omega (arith, at.inside);
       node = λ node. at.node node ∙ ap Some (sym (ap (λ (J : Instance). reduced_supply J.demand v) back ∙ supply_there (before_all rest I).demand u v value differ fits.1.0 node.0));

@@ -11,7 +11,7 @@ use Rattle.dimacs_text.specs.Lawful.{IsLawfulRow, IsWithin}
 use Rattle.network.specs.Edited.{edited}
 use Rattle.network.specs.Instance.{Demand, Supplies, Terminals, Sides, Instance, IsLawful, ArcFits, DemandFits, arc_at, at_node, kind_of, reduced_supply, with_supply}
 use Rattle.flow_solver.specs.declared.part.Part.{Part}
-use Rattle.flow_solver.specs.declared.part.Part.TheVariants.{OtherRow, OtherSupply, NoArc}
+use Rattle.flow_solver.specs.declared.part.Part.TheVariants.{Arc, Supply, Last}
 use Rattle.flow_solver.specs.Edit.{IsRowEdit, IsSupplyEdit, IsAddEdit}
 use Rattle.flow_solver.specs.Part.{before_part, CanTakeBack, TakesBack}
 use Rattle.flow_solver.proofs.ChangeLemmas.{with_row, supplied, with_last}
@@ -27,7 +27,7 @@ from_after I after edit part is can back = record {
     same_as : (J : Instance) → edited I edit ≡ Ok J → after ≡ J
     same_as J e = (let both = sym is ∙ e in cc)
 
-pub row_back : (I : Instance) (edit : Edit) (k : ℕ) (old row : ArcRow) → IsLawful I → arc_at I.arcs k ≡ Some old → IsRowEdit I edit k row → TakesBack I edit (OtherRow k old)
+pub row_back : (I : Instance) (edit : Edit) (k : ℕ) (old row : ArcRow) → IsLawful I → arc_at I.arcs k ≡ Some old → IsRowEdit I edit k row → TakesBack I edit (Arc k old)
 row_back I edit k old row lawful is change =
     let at = change.arc in
     let lt : k - 1 < length I.arcs = omega (arith, at.0, at.1) in
@@ -35,7 +35,7 @@ row_back I edit k old row lawful is change =
     let was = row_there I.arcs k old row is in
     let itself = row_there I.arcs k old old is in
     let lawful_old = subst (λ (a : ArcRow). IsLawfulRow I.nodes a × ArcFits I.demand a) itself (lawful.arcs (k - 1) old lt) in
-    from_after I (with_row I (k - 1) row) edit (OtherRow k old) change.after (
+    from_after I (with_row I (k - 1) row) edit (Arc k old) change.after (
       (
         at.0,
         omega (arith, at.1, length-set I.arcs (k - 1) row),
@@ -61,16 +61,16 @@ supply_within n (Supplies s) v kind fits node = All-get_or (IsWithin SUPPLY_LIMI
 supply_within n (Terminals source sink) v kind fits node = cc
 supply_within n (Sides marks) v kind fits node = cc
 
-pub supply_back : (I : Instance) (edit : Edit) (v : ℕ) (x old : ℤ) → IsLawful I → old ≡ reduced_supply I.demand v → IsSupplyEdit I edit v x → TakesBack I edit (OtherSupply v old)
+pub supply_back : (I : Instance) (edit : Edit) (v : ℕ) (x old : ℤ) → IsLawful I → old ≡ reduced_supply I.demand v → IsSupplyEdit I edit v x → TakesBack I edit (Supply v old)
 supply_back I edit v x old lawful is change =
-    subst (λ (z : ℤ). TakesBack I edit (OtherSupply v z)) (sym is)
-    (from_after I (supplied I v x) edit (OtherSupply v (reduced_supply I.demand v)) change.after
+    subst (λ (z : ℤ). TakesBack I edit (Supply v z)) (sym is)
+    (from_after I (supplied I v x) edit (Supply v (reduced_supply I.demand v)) change.after
     (kind_kept I.demand v x ∙ change.kind, change.node, supply_within I.nodes I.demand v change.kind lawful.demand change.node)
     (ap (λ (D : Demand). record I { demand = D }) (demand_back I.nodes I.demand v x change.kind)))
 
-pub add_back : (I : Instance) (edit : Edit) (row : ArcRow) → IsAddEdit I edit row → TakesBack I edit NoArc
+pub add_back : (I : Instance) (edit : Edit) (row : ArcRow) → IsAddEdit I edit row → TakesBack I edit Last
 add_back I edit row change =
     let more = length-append I.arcs (row ∷ []) in
     let count : length (I.arcs ++ row ∷ []) - 1 ≡ length I.arcs = omega (arith, more) in
-    from_after I (with_last I row) edit NoArc change.after (omega (arith, more))
+    from_after I (with_last I row) edit Last change.after (omega (arith, more))
     (ap (λ (arcs : List ArcRow). record I { arcs = arcs }) (ap (λ (n : ℕ). take n (I.arcs ++ row ∷ [])) count ∙ take-append_seam I.arcs (row ∷ [])))

@@ -1,10 +1,11 @@
--- When a verdict is right of an instance, and which potentials and cut are chosen.
+-- When a moment answers its instance: the verdict is right, and the potentials and the cut are the chosen ones.
 use Rattle.std.specs.Prelude.{◌≡◌, ℕ, ◌<◌, ℤ, pos, ◌<ℤ◌, ◌≤ℤ◌, Bool, false, List}
 use Rattle.dimacs_text.specs.declared.problem.ArcRow.{ArcRow}
-use Rattle.network.specs.Flow.{MinCost, total_cost, surplus_of, IsGreatestPotential, IsLeastGreatestSurplus, IsLeastGreatestShortfall}
-use Rattle.network.specs.Instance.{Demand, Supplies, Terminals, Sides, Instance, numbered_flow, reduced_flow, worth, IsLegal, IsBest, IsBreach}
+use Rattle.network.specs.Flow.{MinCost, total_cost, surplus_of, IsCertifiedFlow, IsGreatestPotential, IsLeastGreatestSurplus, IsLeastGreatestShortfall}
+use Rattle.network.specs.Instance.{Demand, Supplies, Terminals, Sides, Instance, at_node, is_marked, numbered_flow, reduced, reduced_flow, worth, IsLegal, IsBest, IsBreach}
 use Rattle.flow_solver.specs.declared.verdict.Verdict.{Verdict}
 use Rattle.flow_solver.specs.declared.verdict.Verdict.TheVariants.{Best, Infeasible}
+use Rattle.flow_solver.specs.Moment.{IsSized, Moment}
 use Rattle.shortest_paths.specs.Residual.{number_at}
 use Rattle.shortest_paths.specs.Push.{left}
 use Rattle.shortest_paths.specs.Cut.{lack}
@@ -37,6 +38,14 @@ pub record IsChosenBreach (I : MinCost) (set : ℕ → Bool) (d : ℤ) : Type 0 
 abbrev pub IsChosenCut : Verdict → MinCost → (ℕ → Bool) → Type 0
 IsChosenCut (Best w) I set = Unit {0}
 IsChosenCut (Infeasible d) I set = IsChosenBreach I set d
+
+-- an answer to the instance, by the chosen certificates
+pub record IsAnswered (m : Moment) : Type 0 where
+  pub sized : IsSized m
+  pub certified : IsCertifiedFlow (reduced m.instance) m.flow (at_node m.potentials)
+  pub verdict : IsVerdict m.verdict m.instance m.flow (is_marked m.cut)
+  pub greatest : AreGreatestPotentials (reduced m.instance) m.flow (at_node m.potentials)
+  pub chosen : IsChosenCut m.verdict (reduced m.instance) (is_marked m.cut)
 
 -- the worth of a flow of the reduced instance: its cost, or what the return arc carries
 abbrev pub worth_by : Demand → List ArcRow → List ℤ → ℤ

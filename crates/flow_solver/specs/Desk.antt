@@ -3,25 +3,15 @@ use Rattle.std.specs.Prelude.{◌≡◌, ℕ, ◌+◌, ◌-◌, ◌<◌, ◌≤�
 use Rattle.dimacs_text.specs.declared.problem.ArcRow.{ArcRow}
 use Rattle.dimacs_text.specs.declared.problem.TheConstants.{CAP_LIMIT}
 use Rattle.dimacs_text.specs.Lawful.{IsLawfulRow}
-use Rattle.network.specs.Flow.{IsCertifiedFlow}
-use Rattle.network.specs.Instance.{Demand, Supplies, Terminals, Sides, Instance, ArcFits, at_node, is_marked, reduced}
-use Rattle.flow_solver.specs.Moment.{IsSized, Kept, Moment}
+use Rattle.network.specs.Instance.{Demand, Supplies, Terminals, Sides, Instance, ArcFits}
+use Rattle.flow_solver.specs.Moment.{Kept, Moment}
 use Rattle.shortest_paths.specs.Touched.{AgreeAt}
-use Rattle.flow_solver.specs.Answer.{AreGreatestPotentials, IsChosenCut, IsVerdict}
 
 pub record Desk : Type 0 where
   pub moment : Moment
   -- what the last snapshot kept
   pub kept : Kept
   pub before : Option Moment
-
--- an answer to the instance, by the chosen certificates
-pub record IsAnswered (m : Moment) : Type 0 where
-  pub sized : IsSized m
-  pub certified : IsCertifiedFlow (reduced m.instance) m.flow (at_node m.potentials)
-  pub verdict : IsVerdict m.verdict m.instance m.flow (is_marked m.cut)
-  pub greatest : AreGreatestPotentials (reduced m.instance) m.flow (at_node m.potentials)
-  pub chosen : IsChosenCut m.verdict (reduced m.instance) (is_marked m.cut)
 
 -- a flow within the limits
 abbrev pub IsFlow : ℤ → Type 0

@@ -7,22 +7,24 @@ use Rattle.dimacs_text.specs.declared.problem.Kind.TheVariants.{Min}
 use Rattle.network.specs.Edited.{edited}
 use Rattle.network.specs.Instance.{Demand, Supplies, Terminals, Sides, Instance, kind_of, reduced, with_supply}
 use Rattle.flow_solver.specs.declared.part.Part.{Part}
-use Rattle.flow_solver.specs.declared.part.Part.TheVariants.{OtherRow, OtherSupply, NoArc}
+use Rattle.flow_solver.specs.declared.part.Part.TheVariants.{Arc, Supply, Last, Gone}
 use Rattle.flow_solver.specs.declared.verdict.Verdict.{Verdict}
 use Rattle.flow_solver.specs.Moment.{Kept, Moment}
 use Rattle.flow_solver.specs.Desk.{HasEnds, IsRowOf}
 
 -- the instance before the change
 abbrev pub before_part : Part → Instance → Instance
-before_part (OtherRow k row) I = record I { arcs = slice_set I.arcs (k - 1) row }
-before_part (OtherSupply v value) I = record I { demand = with_supply I.demand v value }
-before_part NoArc I = record I { arcs = take (length I.arcs - 1) I.arcs }
+before_part (Arc k row) I = record I { arcs = slice_set I.arcs (k - 1) row }
+before_part (Supply v value) I = record I { demand = with_supply I.demand v value }
+before_part Last I = record I { arcs = take (length I.arcs - 1) I.arcs }
+before_part (Gone row flow) I = record I { arcs = I.arcs ++ row ∷ [] }
 
--- what taking it back asks for
+-- what taking it back asks for; no edit takes an arc off, so none is brought back
 abbrev pub CanTakeBack : Part → Instance → Type 0
-CanTakeBack (OtherRow k row) I = HasEnds I.arcs k row × IsRowOf I row
-CanTakeBack (OtherSupply v value) I = (kind_of I.demand ≡ Min) × IsNode I.nodes v × IsWithin SUPPLY_LIMIT value
-CanTakeBack NoArc I = 0 < length I.arcs
+CanTakeBack (Arc k row) I = HasEnds I.arcs k row × IsRowOf I row
+CanTakeBack (Supply v value) I = (kind_of I.demand ≡ Min) × IsNode I.nodes v × IsWithin SUPPLY_LIMIT value
+CanTakeBack Last I = 0 < length I.arcs
+CanTakeBack (Gone row flow) I = ⊥
 
 -- from each instance that the edit gives the part leads back
 pub record TakesBack (I : Instance) (edit : Edit) (part : Part) : Type 0 where

@@ -1,6 +1,7 @@
 -- What the tables hold of an instance.
-use Rattle.std.specs.Prelude.{◌≡◌, ℕ, ◌+◌, ◌≤◌, ℤ, Bool, drop, List, length, vec_capacity}
+use Rattle.std.specs.Prelude.{◌≡◌, ℕ, ◌+◌, ◌≤◌, ℤ, Bool, true, drop, List, length, vec_capacity}
 use Rattle.dimacs_text.specs.declared.group.TheConstants.{GROUP_LIMIT}
+use Rattle.network.specs.Instance.{at_node, reduced}
 use Rattle.shortest_paths.specs.declared.graph.Graph.{Graph}
 use Rattle.shortest_paths.specs.declared.scratch.Scratch.{Scratch}
 use Rattle.shortest_paths.specs.Graph.{IsGraphFor}
@@ -10,6 +11,7 @@ use Rattle.flow_solver.specs.declared.balance.Balance.{Balance}
 use Rattle.flow_solver.specs.declared.ledger.Ledger.{Ledger}
 use Rattle.flow_solver.specs.declared.part.Before.{Before}
 use Rattle.flow_solver.specs.declared.part.Part.{Part}
+use Rattle.flow_solver.specs.Answer.{AreGreatestPotentials}
 use Rattle.flow_solver.specs.Balance.{IsBalanceOf}
 use Rattle.flow_solver.specs.Ledger.{IsLedger, kept_in}
 use Rattle.flow_solver.specs.Moment.{Kept}
@@ -25,7 +27,8 @@ pub record IsOfNodes {T : Type 0} (nodes : ℕ) (l : Ledger T) : Type 0 where
 abbrev pub kept_by : Ledger ℤ → Ledger ℤ → Ledger Bool → List Part → Kept
 kept_by flow potentials cut log = record { flow = kept_in flow; potentials = drop 1 (kept_in potentials); cut = drop 1 (kept_in cut); log = log }
 
--- one entry for each row of the graph, one for each node and one for no node, room for all arcs that may be added, and room to log a group
+-- one entry for each row of the graph, one for each node and one for no node, room for all arcs that may be added, and room to log a group.
+-- Potentials that are said to stand are the greatest
 pub record AreTables (g : Graph) (flow potentials : Ledger ℤ) (balance : Balance) (cut : Ledger Bool) (scratch : Scratch) (before : Before) : Type 0 where
   pub graph : IsGraphFor (g.net.nodes + 1) g
   pub flow_ledger : IsLedger flow
@@ -37,6 +40,7 @@ pub record AreTables (g : Graph) (flow potentials : Ledger ℤ) (balance : Balan
   pub balance_is : IsBalanceOf g.net g.rows.items flow balance
   pub cut_in : IsOfNodes g.net.nodes cut
   pub scratch_in : IsScratchFor (g.net.nodes + 1) scratch
+  pub standing : scratch.labels.standing ≡ true → AreGreatestPotentials (reduced g.net) flow.entries.items (at_node (drop 1 potentials.entries.items))
   pub rows_fit : g.net.room + 1 ≤ vec_capacity g.rows
   pub log_fits : GROUP_LIMIT ≤ vec_capacity before.log
   pub before_is : IsKept before.verdict g.net (kept_by flow potentials cut before.log.items)

@@ -14,5 +14,6 @@ mod swaps;
 mod tables;
 mod verdict;
 
+pub use part::Part;
 pub use tables::Tables;
 pub use verdict::Verdict;

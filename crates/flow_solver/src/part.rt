@@ -1,4 +1,4 @@
-//! What a change of an instance replaced.
+//! Places of an instance, and what a change of it replaced there.
 
 ghost use Rattle.std.specs.Prelude.{◌≡◌, IsOk, None, Some};
 ghost use Rattle.network.specs.Edited.{edited};
@@ -11,21 +11,23 @@ use crate::verdict::Verdict;
 use dimacs_text::{ArcRow, Edit};
 use network::Network;
 
-/// What stood at the place that a change concerned.
-#[derive(Clone, Copy)]
+/// A place of an instance where another one differs, with what the other one has there.
+#[derive(Clone, Copy, Debug, PartialEq, Eq)]
 pub enum Part {
-    /// The arc had other bounds or another cost.
-    OtherRow { arc: u32, row: ArcRow },
-    /// The node had another supply.
-    OtherSupply { node: u32, value: i64 },
-    /// The last arc was not there.
-    NoArc,
+    /// The bounds and the cost of an arc, which is counted from 1.
+    Arc { k: u32, row: ArcRow },
+    /// The supply of a node, which is counted from 1.
+    Supply { id: u32, value: i64 },
+    /// An added arc that only this one has: one of the last, of which each has a part.
+    Last,
+    /// An added arc that only the other one has, with its flow.
+    Gone { row: ArcRow, flow: i64 },
 }
 
 /// What stood before a change, beside what the ledgers kept.
 #[derive(Drop)]
 pub struct Before {
-    /// What each edit since then replaced, one after the other.
+    /// What each edit since then replaced, one after the other. No edit takes an arc off, so none is gone.
     pub log: Vec<Part>,
     /// What was told of the instance, as long as the change can be taken back.
     pub verdict: Option<Verdict>,
@@ -41,18 +43,18 @@ pub fn part_of(net: &Network, edit: &Edit) -> Part
 {
     match edit {
         Edit::Supply { .. } => {
-            let (node, _) = edited_supply(net, edit);
-            Part::OtherSupply {
-                node,
-                value: supply_at(net, node),
+            let (id, _) = edited_supply(net, edit);
+            Part::Supply {
+                id,
+                value: supply_at(net, id),
             }
         }
-        Edit::Add { .. } => Part::NoArc,
+        Edit::Add { .. } => Part::Last,
         _ => {
-            let (arc, _) = edited_row(net, edit);
-            Part::OtherRow {
-                arc,
-                row: arc_of(net, u64::from(arc)),
+            let (k, _) = edited_row(net, edit);
+            Part::Arc {
+                k,
+                row: arc_of(net, u64::from(k)),
             }
         }
     }
@@ -79,18 +81,19 @@ pub fn row_before(net: &Network, log: &[Part], k: u32) -> Option<ArcRow>
     while i > 0 {
         i -= 1;
         match log[i] {
-            Part::OtherRow { arc, row: other } => {
+            Part::Arc { k: arc, row: other } => {
                 if arc == k {
                     row = Some(other);
                 }
             }
-            Part::OtherSupply { .. } => {}
-            Part::NoArc => {
+            Part::Supply { .. } => {}
+            Part::Last => {
                 if arcs == k {
                     row = None;
                 }
                 arcs -= 1;
             }
+            Part::Gone { .. } => unreachable!(),
         }
     }
     row
@@ -109,7 +112,7 @@ pub fn supply_before(net: &Network, log: &[Part], id: u32) -> Option<i64>
     let mut i = log.len();
     while i > 0 {
         i -= 1;
-        if let Part::OtherSupply { node, value } = log[i] {
+        if let Part::Supply { id: node, value } = log[i] {
             if node == id {
                 supply = Some(value);
             }

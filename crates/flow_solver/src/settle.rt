@@ -1,84 +1,109 @@
 //! Searches and pushes in turn, until no node in excess reaches a node in deficit.
 
 ghost use Rattle.shortest_paths.specs.Graph.{IsGraphFor};
-ghost use Rattle.shortest_paths.specs.Limits.{drift_limit, label_floor};
-ghost use Rattle.std.specs.Prelude.{◌≡◌, ℕ, ℤ, length, pos, neg_ℤ, ◌≤ℤ◌, ◌+ℤ◌, ◌-ℤ◌, ◌<◌, ◌≤◌, ◌+◌, IsTrue, ◌↔◌, MatchOption, IfNone};
-ghost use Rattle.shortest_paths.specs.Residual.{IsFlow, IsCertified, ArePotentials, AreGreatest, ArePathsAbove, number_at};
+ghost use Rattle.shortest_paths.specs.Limits.{drift_limit, label_floor, potential_floor};
+ghost use Rattle.std.specs.Prelude.{◌≡◌, ℕ, ℤ, List, true, drop, length, pos, neg_ℤ, ◌≤ℤ◌, ◌+ℤ◌, ◌-ℤ◌, ◌<◌, ◌≤◌, ◌+◌, IsTrue, ◌↔◌, MatchOption, IfNone};
+ghost use Rattle.shortest_paths.specs.Residual.{IsFlow, IsCertified, ArePotentials, number_at};
 ghost use Rattle.shortest_paths.specs.Settle.{IsNear};
-ghost use Rattle.shortest_paths.specs.Push.{ArePushes, IsExcess, Pushes, left, AreSmall};
+ghost use Rattle.shortest_paths.specs.Push.{ArePushes, IsExcess, Pushes, lack, left, AreSmall};
 ghost use Rattle.shortest_paths.specs.Scratch.{IsScratchFor};
+ghost use Rattle.shortest_paths.specs.Side.{other_side, seen};
+ghost use Rattle.dimacs_text.specs.declared.problem.ArcRow.{ArcRow};
 ghost use Rattle.flow_solver.specs.Ledger.{IsLedger, IsWritten};
-ghost use Rattle.flow_solver.specs.Settle.{HoldsSearch};
+ghost use Rattle.network.specs.Instance.{at_node, reduced};
+ghost use Rattle.flow_solver.specs.Answer.{AreGreatestPotentials};
+ghost use Rattle.flow_solver.specs.Settle.{HoldsSearch, seen_excess};
 ghost use Rattle.shortest_paths.specs.Cut.{amount, IsSide, IsParted, IsChosenSet};
-ghost use Rattle.shortest_paths.specs.declared.cut.Side.TheVariants.{Ahead, Behind};
+ghost use Rattle.shortest_paths.specs.declared.side.Side.TheVariants.{Ahead, Behind};
 
 use crate::ledger::Ledger;
-use crate::potentials::{lower, raise};
+use crate::potentials::{lower, raise, write_potentials};
 use shortest_paths::{
     Graph, Levels, Residual, Scratch, Side, find_deficits, forget, mark_side, push_found,
-    take_marks,
+    take_marks, turn_excess, turn_potentials,
 };
 
 /// How far potentials may fall before labels are taken again.
 const FALL_LIMIT: i64 = 70_000_000_000_000_000;
 
-/// Pushes flow along shortest paths until no node in excess reaches a node in deficit, and counts the pushes. Each search
-/// forgets what it reached before the next.
-fn push_all(
-    graph: &Graph,
-    flow: &mut Ledger<i64>,
-    potentials: &mut Ledger<i64>,
-    excess: &mut [i64],
-    scratch: &mut Scratch,
-) -> u64
+/// Pushes flow along shortest paths until no node in excess reaches a node in deficit, and counts the pushes. The searches
+/// go from the two sides in turn, and each forgets what it reached before the next.
+fn push_all(graph: &Graph, flow: &mut Ledger<i64>, excess: &mut [i64], scratch: &mut Scratch) -> u64
     requires flow_ledger { IsLedger flow.old }
-    requires potentials_ledger { IsLedger potentials.old }
-    requires graph { IsGraphFor (length potentials.old.entries.items) graph.now }
-    requires certified { IsCertified graph.now.rows.items flow.old.entries.items potentials.old.entries.items }
-    requires potentials_in { ArePotentials (length potentials.old.entries.items) label_floor potentials.old.entries.items }
-    requires excess_in { length excess.old ≡ length potentials.old.entries.items }
-    requires scratch { IsScratchFor (length potentials.old.entries.items) scratch.old }
+    requires graph { IsGraphFor (length scratch.old.potentials.items) graph.now }
+    requires certified { IsCertified graph.now.rows.items flow.old.entries.items scratch.old.potentials.items }
+    requires potentials_in { ArePotentials (length scratch.old.potentials.items) label_floor scratch.old.potentials.items }
+    requires excess_in { length excess.old ≡ length scratch.old.potentials.items }
+    requires scratch { IsScratchFor (length scratch.old.potentials.items) scratch.old }
     requires small { AreSmall excess.old }
     ensures flow_written { IsWritten flow.old flow.new }
-    ensures potentials_written { IsWritten potentials.old potentials.new }
-    ensures certified { IsCertified graph.now.rows.items flow.new.entries.items potentials.new.entries.items }
+    ensures certified { IsCertified graph.now.rows.items flow.new.entries.items scratch.new.potentials.items }
     ensures small { AreSmall excess.new }
     ensures pushed { ArePushes graph.now.rows.items result flow.old.entries.items excess.old flow.new.entries.items excess.new }
     ensures parted { IsParted graph.now.rows.items flow.new.entries.items excess.new }
-    ensures scratch { IsScratchFor (length potentials.new.entries.items) scratch.new }
+    ensures scratch { IsScratchFor (length scratch.old.potentials.items) scratch.new }
 {
+    if !has_both(excess) {
+        return 0;
+    }
+    // The potentials after a run are the shortest labels ahead: a search from behind has its goals near it.
+    let mut side = turn_round(Side::Ahead, excess, scratch);
     let mut pushes = 0;
     let mut fallen = 0;
-    while let Some(reach) = search_on(graph, flow, potentials, excess, scratch) {
-        pushes += push_within(graph, flow, potentials, excess, scratch, reach);
-        fallen = keep_near(graph, flow, potentials, scratch, fallen + reach);
+    while let Some(reach) = search_on(graph, side, flow, excess, scratch) {
+        pushes += push_within(graph, side, flow, excess, scratch, reach);
+        fallen = keep_near(graph, side, flow, scratch, fallen + reach);
+        side = turn_round(side, excess, scratch);
+    }
+    if let Side::Behind = side {
+        let _ahead = turn_round(side, excess, scratch);
     }
     pushes
 }
 
-/// Searches from the nodes in excess for nodes in deficit, where there are both, and gives how far the search has come;
-/// nothing where no node in excess reaches a node in deficit, and then the search is forgotten.
+/// Turns the potentials and the excess of each node round, for a search from the other side, and gives that side.
+fn turn_round(side: Side, excess: &mut [i64], scratch: &mut Scratch) -> Side
+    requires potentials_in { ArePotentials (length scratch.old.potentials.items) potential_floor scratch.old.potentials.items }
+    requires small { AreSmall excess.old }
+    requires scratch { IsScratchFor (length scratch.old.potentials.items) scratch.old }
+    ensures other { result ≡ other_side side }
+    ensures excess { seen_excess result excess.new ≡ seen_excess side excess.old }
+    ensures small { AreSmall excess.new }
+    ensures certified { (arcs : List ArcRow) (x : List ℤ) → IsCertified (seen side arcs) x scratch.old.potentials.items → IsCertified (seen result arcs) x scratch.new.potentials.items }
+    ensures near { (fallen : ℤ) → IsNear scratch.old.potentials.items fallen → IsNear scratch.new.potentials.items fallen }
+    ensures scratch { IsScratchFor (length scratch.old.potentials.items) scratch.new }
+{
+    turn_potentials(&mut scratch.potentials);
+    turn_excess(excess);
+    side.other()
+}
+
+/// Searches from the nodes in excess for nodes in deficit, as they are seen from a side, where there are both, and gives
+/// how far the search has come; nothing where no node in excess reaches a node in deficit, and then the search is
+/// forgotten.
 fn search_on(
     graph: &Graph,
+    side: Side,
     flow: &Ledger<i64>,
-    potentials: &Ledger<i64>,
     excess: &[i64],
     scratch: &mut Scratch,
 ) -> Option<i64>
-    requires graph { IsGraphFor (length potentials.now.entries.items) graph.now }
-    requires certified { IsCertified graph.now.rows.items flow.now.entries.items potentials.now.entries.items }
-    requires excess_in { length excess.now ≡ length potentials.now.entries.items }
-    requires scratch { IsScratchFor (length potentials.now.entries.items) scratch.old }
-    ensures found { MatchOption result (IsParted graph.now.rows.items flow.now.entries.items excess.now) (HoldsSearch graph.now.rows.items flow.now.entries.items potentials.now.entries.items excess.now scratch.new) }
-    ensures forgotten { IfNone result (IsScratchFor (length potentials.now.entries.items) scratch.new) }
+    requires graph { IsGraphFor (length scratch.old.potentials.items) graph.now }
+    requires certified { IsCertified (seen side graph.now.rows.items) flow.now.entries.items scratch.old.potentials.items }
+    requires excess_in { length excess.now ≡ length scratch.old.potentials.items }
+    requires scratch { IsScratchFor (length scratch.old.potentials.items) scratch.old }
+    ensures found { MatchOption result (IsParted (seen side graph.now.rows.items) flow.now.entries.items excess.now) (HoldsSearch (seen side graph.now.rows.items) flow.now.entries.items excess.now scratch.new) }
+    ensures kept { scratch.new.potentials.items ≡ scratch.old.potentials.items }
+    ensures forgotten { IfNone result (IsScratchFor (length scratch.old.potentials.items) scratch.new) }
 {
-    if !has_root(Side::Ahead, excess) || !has_root(Side::Behind, excess) {
+    if !has_both(excess) {
         return None;
     }
     let residual = Residual {
         graph,
+        side,
         flow: &flow.entries,
-        potentials: &potentials.entries,
+        potentials: &scratch.potentials,
     };
     let reach = find_deficits(
         residual,
@@ -97,39 +122,37 @@ fn search_on(
 /// the pushes, and forgets what the search reached.
 fn push_within(
     graph: &Graph,
+    side: Side,
     flow: &mut Ledger<i64>,
-    potentials: &mut Ledger<i64>,
     excess: &mut [i64],
     scratch: &mut Scratch,
     reach: i64,
 ) -> u64
     requires flow_ledger { IsLedger flow.old }
-    requires potentials_ledger { IsLedger potentials.old }
-    requires graph { IsGraphFor (length potentials.old.entries.items) graph.now }
-    requires certified { IsCertified graph.now.rows.items flow.old.entries.items potentials.old.entries.items }
-    requires near { (fallen : ℤ) × IsNear potentials.old.entries.items fallen }
-    requires excess_in { length excess.old ≡ length potentials.old.entries.items }
+    requires graph { IsGraphFor (length scratch.old.potentials.items) graph.now }
+    requires certified { IsCertified (seen side graph.now.rows.items) flow.old.entries.items scratch.old.potentials.items }
+    requires near { (fallen : ℤ) × IsNear scratch.old.potentials.items fallen }
+    requires excess_in { length excess.old ≡ length scratch.old.potentials.items }
     requires small { AreSmall excess.old }
-    requires found { HoldsSearch graph.now.rows.items flow.old.entries.items potentials.old.entries.items excess.old scratch.old reach }
+    requires found { HoldsSearch (seen side graph.now.rows.items) flow.old.entries.items excess.old scratch.old reach }
     ensures flow_written { IsWritten flow.old flow.new }
-    ensures potentials_written { IsWritten potentials.old potentials.new }
-    ensures certified { IsCertified graph.now.rows.items flow.new.entries.items potentials.new.entries.items }
-    ensures at_least { (fallen : ℤ) → IsNear potentials.old.entries.items fallen → (v : ℕ) → (neg_ℤ (pos label_floor) -ℤ (fallen +ℤ reach)) ≤ℤ number_at potentials.new.entries.items v }
+    ensures certified { IsCertified (seen side graph.now.rows.items) flow.new.entries.items scratch.new.potentials.items }
+    ensures at_least { (fallen : ℤ) → IsNear scratch.old.potentials.items fallen → (v : ℕ) → (neg_ℤ (pos label_floor) -ℤ (fallen +ℤ reach)) ≤ℤ number_at scratch.new.potentials.items v }
     ensures small { AreSmall excess.new }
-    ensures pushed { ArePushes graph.now.rows.items result flow.old.entries.items excess.old flow.new.entries.items excess.new }
+    ensures pushed { ArePushes (seen side graph.now.rows.items) result flow.old.entries.items excess.old flow.new.entries.items excess.new }
     ensures some { 0 < result }
-    ensures scratch { IsScratchFor (length potentials.new.entries.items) scratch.new }
+    ensures scratch { IsScratchFor (length scratch.old.potentials.items) scratch.new }
 {
     lower(
-        &mut potentials.entries,
-        &mut potentials.touched,
+        &mut scratch.potentials,
         &scratch.visits,
         &scratch.trail,
         reach,
     );
     let levels = Levels {
         graph,
-        potentials: &potentials.entries,
+        side,
+        potentials: &scratch.potentials,
         visits: &scratch.visits,
     };
     let pushes = push_found(
@@ -148,27 +171,25 @@ fn push_within(
 /// what they have fallen by since.
 fn keep_near(
     graph: &Graph,
+    side: Side,
     flow: &Ledger<i64>,
-    potentials: &mut Ledger<i64>,
     scratch: &mut Scratch,
     fallen: i64,
 ) -> i64
-    requires potentials_ledger { IsLedger potentials.old }
-    requires graph { IsGraphFor (length potentials.old.entries.items) graph.now }
-    requires certified { IsCertified graph.now.rows.items flow.now.entries.items potentials.old.entries.items }
-    requires scratch { IsScratchFor (length potentials.old.entries.items) scratch.old }
+    requires graph { IsGraphFor (length scratch.old.potentials.items) graph.now }
+    requires certified { IsCertified (seen side graph.now.rows.items) flow.now.entries.items scratch.old.potentials.items }
+    requires scratch { IsScratchFor (length scratch.old.potentials.items) scratch.old }
     requires not_below_0 { pos 0 ≤ℤ fallen }
-    requires at_least { (v : ℕ) → (neg_ℤ (pos label_floor) -ℤ fallen) ≤ℤ number_at potentials.old.entries.items v }
-    ensures written { IsWritten potentials.old potentials.new }
-    ensures certified { IsCertified graph.now.rows.items flow.now.entries.items potentials.new.entries.items }
-    ensures scratch { IsScratchFor (length potentials.new.entries.items) scratch.new }
-    ensures near { IsNear potentials.new.entries.items result }
-    ensures kept { fallen ≤ℤ pos drift_limit → (potentials.new ≡ potentials.old) × (result ≡ fallen) }
+    requires at_least { (v : ℕ) → (neg_ℤ (pos label_floor) -ℤ fallen) ≤ℤ number_at scratch.old.potentials.items v }
+    ensures certified { IsCertified (seen side graph.now.rows.items) flow.now.entries.items scratch.new.potentials.items }
+    ensures scratch { IsScratchFor (length scratch.old.potentials.items) scratch.new }
+    ensures near { IsNear scratch.new.potentials.items result }
+    ensures kept { fallen ≤ℤ pos drift_limit → (scratch.new ≡ scratch.old) × (result ≡ fallen) }
 {
     if fallen <= FALL_LIMIT {
         return fallen;
     }
-    raise(graph, flow, potentials, scratch);
+    raise(graph, side, flow, scratch);
     0
 }
 
@@ -182,6 +203,13 @@ fn has_root(side: Side, excess: &[i64]) -> bool
         }
     }
     false
+}
+
+/// Whether there are both nodes in excess and nodes in deficit.
+fn has_both(excess: &[i64]) -> bool
+    ensures { IsTrue result ↔ ((0 < left excess.now) × (0 < lack excess.now)) }
+{
+    has_root(Side::Ahead, excess) && has_root(Side::Behind, excess)
 }
 
 /// Marks the set that tells why some supply is left over or some demand is not met, first in a table of the searches.
@@ -237,14 +265,14 @@ pub fn settle(
     requires excess_in { length excess.old ≡ length potentials.old.entries.items }
     requires cut_in { length cut.old.entries.items ≡ length potentials.old.entries.items }
     requires scratch { IsScratchFor (length potentials.old.entries.items) scratch.old }
+    requires standing { scratch.old.labels.standing ≡ true → AreGreatestPotentials (reduced graph.now.net) flow.old.entries.items (at_node (drop 1 potentials.old.entries.items)) }
     requires small { AreSmall excess.old }
     ensures flow_written { IsWritten flow.old flow.new }
     ensures potentials_written { IsWritten potentials.old potentials.new }
     ensures cut_written { IsWritten cut.old cut.new }
     ensures certified { IsCertified graph.now.rows.items flow.new.entries.items potentials.new.entries.items }
     ensures potentials_in { ArePotentials (length potentials.new.entries.items) label_floor potentials.new.entries.items }
-    ensures greatest { AreGreatest graph.now.rows.items flow.new.entries.items potentials.new.entries.items }
-    ensures above { ArePathsAbove graph.now.rows.items potentials.new.entries.items }
+    ensures greatest { AreGreatestPotentials (reduced graph.now.net) flow.new.entries.items (at_node (drop 1 potentials.new.entries.items)) }
     ensures small { AreSmall excess.new }
     ensures excess { (supply : ℕ → ℤ) → IsExcess graph.now.rows.items supply flow.old.entries.items excess.old → IsExcess graph.now.rows.items supply flow.new.entries.items excess.new }
     ensures pushes { (supply : ℕ → ℤ) → IsExcess graph.now.rows.items supply flow.old.entries.items excess.old → Pushes graph.now.rows.items supply result flow.old.entries.items flow.new.entries.items }
@@ -252,8 +280,14 @@ pub fn settle(
     ensures scratch { IsScratchFor (length potentials.new.entries.items) scratch.new }
     ensures cut { (supply : ℕ → ℤ) → IsExcess graph.now.rows.items supply flow.old.entries.items excess.old → IsChosenSet graph.now.rows.items supply excess.new cut.new.entries.items }
 {
-    let pushes = push_all(graph, flow, potentials, excess, scratch);
+    let stood = scratch.labels.standing;
+    scratch.potentials.copy_from_slice(&potentials.entries);
+    let pushes = push_all(graph, flow, excess, scratch);
+    // Where nothing is pushed the flow is what it was, and potentials that were the greatest are so still.
+    if pushes > 0 || !stood {
+        write_potentials(graph, flow, potentials, scratch);
+    }
     mark_cut(graph, flow, excess, scratch, cut);
-    raise(graph, flow, potentials, scratch);
+    scratch.labels.standing = true;
     pushes
 }

@@ -1,5 +1,2 @@
 mod LooseValues
 mod Pointers
-mod ReadLemmas
-mod StepLemmas
-mod ListLemmas

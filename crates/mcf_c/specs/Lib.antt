@@ -1,2 +1,2 @@
 pub mod Ownership
-pub mod Library
+pub mod Handles

@@ -1,45 +1,67 @@
-//! What C calls: a session of a flow problem behind a handle, as `mcf.h` says.
+//! What C calls, as `mcf.h` says: a flow problem answered at once, or a session of one behind a handle.
 //!
-//! Each call takes the session out of its handle, does its work on it by a function of this crate, and puts it back.
+//! Each call of a session takes it out of its handle, does its work on it by a function of `calls`, and puts it back.
 #![tactic(auto)]
 
 ghost use Rattle.std.specs.Prelude.{◌≡◌, ◌≢◌, ◌⊎◌, ℕ, ℤ, List, None, Some, Err, pos, length, IfSome};
 ghost use Rattle.dimacs_text.specs.Reading.{reads};
 ghost use Rattle.dimacs_text.specs.declared.command.Command.TheVariants as commands;
 ghost use Rattle.dimacs_lines.specs.declared.fault.TextFault.TheVariants as faults;
-ghost use Rattle.flow_solver.specs.Desk.{IsAnswered};
+ghost use Rattle.flow_solver.specs.Answer.{IsAnswered};
 ghost use Rattle.flow_solver.specs.declared.verdict.Verdict.TheVariants.{Infeasible};
 ghost use Rattle.network.specs.Instance.{IsBest, IsBreach, IsCertified, IsLegal, at_node, is_marked};
 ghost use Rattle.session.specs.Parts.{flow_of};
 ghost use Rattle.session.specs.Step.{Step, StepBy};
-ghost use Rattle.mcf_c.specs.Library.{Goes, IsOpening, IsViewOf, Steps, arc_count, given_of, has_cut, has_flow, node_count, state_behind};
+ghost use Rattle.calls.specs.Answer.{AreListsKept, IsSameRoom, IsSolved, IsTooShort};
+ghost use Rattle.calls.specs.declared.status.TheConstants.{FAULT};
+ghost use Rattle.calls.specs.Library.{Goes, IsOpening, IsViewOf, Steps, arc_count, given_of, has_cut, has_flow, node_count};
+ghost use Rattle.mcf_c.specs.Handles.{state_behind};
 
 mod handle;
-mod library;
-mod lists;
 mod loose;
 mod plan;
 mod pointer;
-mod status;
-mod view;
 
-use dimacs_text::TextFault;
+use calls::{
+    Answer, CLOSED, Fault, MEMORY, OPEN, TOO_SHORT, View, give_answer, give_cut, give_flow,
+    give_potentials, has_room, look, read_problem, take_line, tell_refusal,
+};
 use handle::Handle;
-use library::{read_problem, take_line};
-use lists::{give_cut, give_flow, give_potentials};
 use plan::Plan;
 use session::Session;
-use status::{CLOSED, FAULT, MEMORY, OPEN};
 use std::alloc::Global;
-use view::{View, look};
 
-/// The first fault of a text.
-#[repr(C)]
-#[derive(Clone, Copy)]
-pub struct Fault {
-    /// The line, counted from 1.
-    pub line: u64,
-    pub number: u8,
+/// Answers a problem text at once: exactly what opening a session on it and looking would give, each list at the start of
+/// the room for it.
+///
+/// Answers 0, or `FAULT`, with the fault; `TOO_SHORT` where a list has no room, with the sizes in the view and before
+/// anything is solved; or `MEMORY`. Nothing else is written then.
+#[unsafe(no_mangle)]
+pub extern "C" fn mcf_solve(alloc: Global, text: &[u8], answer: &mut Answer) -> i32
+    ensures solved { result ≡ pos 0 → IsSolved text.now answer.old answer.new }
+    ensures fault { result ≡ FAULT → reads text.now ≡ Err (faults.Fault answer.new.fault.number answer.new.fault.line) }
+    ensures too_short { result ≡ TOO_SHORT → IsTooShort text.now answer.old answer.new }
+    ensures otherwise { result ≢ pos 0 → result ≢ FAULT → result ≢ TOO_SHORT → result ≡ MEMORY }
+    ensures refused { result ≢ pos 0 → AreListsKept answer.old answer.new }
+    ensures view { result ≢ pos 0 → result ≢ TOO_SHORT → answer.new.view ≡ answer.old.view }
+    ensures no_fault { result ≢ FAULT → answer.new.fault ≡ answer.old.fault }
+    ensures same_room { IsSameRoom answer.old answer.new }
+{
+    let problem = match read_problem(alloc, text) {
+        Ok(problem) => problem,
+        Err(refused) => return tell_refusal(refused, &mut answer.fault),
+    };
+    if !has_room(answer, &problem) {
+        answer.view.nodes = problem.nodes();
+        answer.view.arcs = problem.arcs().len() as u32;
+        return TOO_SHORT;
+    }
+    let session = match Session::open(alloc, &problem, 0) {
+        Ok(session) => session,
+        Err(_) => return MEMORY,
+    };
+    give_answer(&session, answer);
+    0
 }
 
 /// Opens a session on a problem text, with room for `extra` arcs more, up to the limit of arcs.
@@ -58,6 +80,7 @@ pub extern "C" fn mcf_open(
     ensures fault { result ≡ FAULT → reads text.now ≡ Err (faults.Fault fault.new.number fault.new.line) }
     ensures in_use { result ≡ OPEN → state_behind handle.old ≢ None }
     ensures otherwise { result ≢ pos 0 → result ≢ FAULT → result ≢ OPEN → result ≡ MEMORY }
+    ensures no_fault { result ≢ FAULT → fault.new ≡ fault.old }
     ensures refused { result ≢ pos 0 → state_behind handle.new ≡ state_behind handle.old }
 {
     if handle.is_open() {
@@ -65,11 +88,7 @@ pub extern "C" fn mcf_open(
     }
     let problem = match read_problem(alloc, text) {
         Ok(problem) => problem,
-        Err(TextFault::Fault { number, line }) => {
-            *fault = Fault { line, number };
-            return FAULT;
-        }
-        Err(TextFault::Memory) => return MEMORY,
+        Err(refused) => return tell_refusal(refused, fault),
     };
     let session = match Session::open(alloc, &problem, extra) {
         Ok(session) => session,
@@ -108,7 +127,7 @@ pub extern "C" fn mcf_undo(alloc: Global, handle: &mut Handle) -> i32
     let Some(mut plan) = handle.take(alloc) else {
         return CLOSED;
     };
-    let number = library::undo(&mut plan.session);
+    let number = calls::undo(&mut plan.session);
     handle.put(plan);
     i32::from(number)
 }
@@ -121,7 +140,7 @@ pub extern "C" fn mcf_redo(alloc: Global, handle: &mut Handle) -> i32
     let Some(mut plan) = handle.take(alloc) else {
         return CLOSED;
     };
-    let number = library::redo(&mut plan.session);
+    let number = calls::redo(&mut plan.session);
     handle.put(plan);
     i32::from(number)
 }

@@ -5,7 +5,8 @@ use Rattle.dimacs_text.specs.declared.command.Edit.{Edit}
 use Rattle.network.specs.Edited.{edited_all}
 use Rattle.network.proofs.EditedAll.{edited_one}
 use Rattle.flow_solver.specs.Moment.{Moment}
-use Rattle.flow_solver.specs.Desk.{Desk, IsAnswered}
+use Rattle.flow_solver.specs.Answer.{IsAnswered}
+use Rattle.flow_solver.specs.Desk.{Desk}
 use Rattle.session.specs.Session.{AreAcceptedEdits, AreEdited, IsEdited, old_moment}
 
 pub was_there : (desk : Desk) (old : Moment) → desk.before ≡ Some old → old_moment desk ≡ old

@@ -5,7 +5,8 @@ use Rattle.std.proofs.lemmas.List.{get_or_default, get_or_append_left}
 use Rattle.std.proofs.lemmas.Bool.{cases_eq}
 use Rattle.session.specs.Places.{IsRising, AreWithin, exchanged, taken, DifferAt, IsDifference, AllDiffer, changed}
 use Rattle.session.specs.PlacesLaws.{IsElsewhere, length-exchanged, get_or-exchanged_elsewhere, get_or-taken, length-taken, within_more}
-use Rattle.session.specs.EndingLaws.{ended_none, length-changed, taken_changed}
+use Rattle.session.specs.EndingLaws.{length-changed, taken_changed}
+use Rattle.session.proofs.Endings.{ended_none}
 
 module _ {X : Type 0} where
   -- a place is named, or none of the places is it

@@ -5,7 +5,7 @@ use Rattle.std.proofs.lemmas.List.Elements.{All-push}
 use Rattle.std.proofs.lemmas.List.Quantifiers.{all_pairs_push}
 use Rattle.flow_solver.specs.Touched.{AgreeAt}
 use Rattle.session.specs.Places.{AreFound}
-use Rattle.session.specs.PlacesLaws.{exchanged-push}
+use Rattle.session.proofs.Exchanges.{exchanged-push}
 
 module _ {X : Type 0} (places : List (ℕ × X)) (xs ys : List X) (k : ℕ) (x y : X) (below : k < length xs) (fewer : length xs ≤ length ys) (found : AreFound places xs ys k) (is_x : x ≡ get_or xs k x) (is_y : y ≡ get_or ys k y) where
   new_at : y ≡ get_or ys k x

@@ -6,7 +6,8 @@ use Rattle.std.proofs.lemmas.List.{get_or_at}
 use Rattle.history.specs.Boards.{Changes, Timeline, all_boards, boards, StandsFor, StepsBack, StepsForward, Advances, MovesBack, MovesForward}
 use Rattle.history.proofs.Timelines.{stands_push, stands_back, stands_forward, boards_same, all_boards_back, all_boards_forward, all_advance}
 use Rattle.flow_solver.specs.Moment.{Moment}
-use Rattle.flow_solver.specs.Desk.{Desk, IsAnswered}
+use Rattle.flow_solver.specs.Answer.{IsAnswered}
+use Rattle.flow_solver.specs.Desk.{Desk}
 use Rattle.session.specs.Parts.{named, flow_of}
 use Rattle.session.specs.Record.{Recorded, RecordFits, Differs, swapped, turned}
 use Rattle.session.specs.RecordLaws.{board_again, flow_of-swapped, go_there}

@@ -1,3 +1,6 @@
+mod Returns
+mod Endings
+mod Supplies
 mod Running
 mod Found
 mod Numbers

@@ -9,7 +9,7 @@ use Rattle.history.proofs.Timelines.{holds_past, holds_future}
 use Rattle.flow_solver.specs.Moment.{Moment}
 use Rattle.session.specs.declared.marks.Mark.{Mark}
 use Rattle.session.specs.Parts.{Named, named, flow_of, IsOneEnd}
-use Rattle.session.specs.PartsLaws.{has_supply}
+use Rattle.session.proofs.Supplies.{has_supply}
 use Rattle.session.specs.Record.{Recorded, RecordFits, Differs, swapped, turned}
 use Rattle.session.specs.RecordLaws.{flow_of-swapped, flows_came, go_there}
 use Rattle.session.specs.Session.{stack_of, moment_at, IsKept, IsRecord, PartsTell}

@@ -15,8 +15,8 @@ use Rattle.network.specs.Instance.{Instance}
 use Rattle.network.proofs.EditedShape.{IsChangedBy, changed_by_edit}
 use Rattle.flow_solver.specs.Moment.{Moment}
 use Rattle.flow_solver.specs.Desk.{supplies_in}
-use Rattle.session.specs.declared.part.Part.{Part}
-use Rattle.session.specs.declared.part.Part.TheVariants.{Last}
+use Rattle.flow_solver.specs.declared.part.Part.{Part}
+use Rattle.flow_solver.specs.declared.part.Part.TheVariants.{Last}
 use Rattle.session.specs.Places.{taken}
 use Rattle.session.specs.EndingLaws.{length-end_of}
 use Rattle.session.specs.Parts.{Named, named, listed, supply_parts, arc_parts, gone_parts, named_turned, no_row, NamedFit}

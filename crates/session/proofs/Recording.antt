@@ -10,16 +10,18 @@ use Rattle.network.specs.Instance.{Demand, Supplies, Terminals, Sides, Instance,
 use Rattle.network.proofs.Answering.{potentials_from}
 use Rattle.flow_solver.specs.declared.verdict.Verdict.{Verdict}
 use Rattle.flow_solver.specs.Moment.{Moment, VerdictFits, returned}
-use Rattle.flow_solver.specs.Desk.{IsAnswered, IsFlow, NameChanges, supplies_in}
+use Rattle.flow_solver.specs.Answer.{IsAnswered}
+use Rattle.flow_solver.specs.Desk.{IsFlow, NameChanges, supplies_in}
 use Rattle.flow_solver.specs.Part.{return_count}
 use Rattle.flow_solver.proofs.AnswerLemmas.{verdict_fits, flow_told, flows_within}
-use Rattle.session.specs.declared.part.Part.{Part}
+use Rattle.flow_solver.specs.declared.part.Part.{Part}
 use Rattle.session.specs.Group.{nodes_of, arcs_of, AreNames, ArePartsOf, ArePlaces}
 use Rattle.session.specs.Places.{exchanged, PlacesFit, AreFound, ended}
 use Rattle.session.specs.PlacesLaws.{length-exchanged}
 use Rattle.session.specs.Parts.{Named, named, flow_of, demand_swapped, instance_swapped}
 use Rattle.session.specs.Record.{Recorded, swapped, IsInRange, IsMark, RecordFits, Differs}
-use Rattle.session.specs.ReturnLaws.{length-numbered, returned-swapped, verdict_fits-swapped}
+use Rattle.session.specs.ReturnLaws.{returned-swapped, verdict_fits-swapped}
+use Rattle.session.proofs.Returns.{length-numbered}
 use Rattle.session.specs.RecordLaws.{moment_is}
 use Rattle.session.specs.Session.{AreAcceptedEdits}
 use Rattle.session.proofs.Leading.{LeadsBack, leads_back, nodes_are_there, arcs_are_there}

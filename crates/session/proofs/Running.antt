@@ -10,13 +10,14 @@ use Rattle.dimacs_text.specs.Lawful.{IsWithin}
 use Rattle.network.specs.Instance.{Demand, Supplies, Terminals, Sides, Instance, DemandFits, IsLawful, numbered_flow, with_supply}
 use Rattle.flow_solver.specs.Moment.{Moment}
 use Rattle.flow_solver.specs.Desk.{IsFlow, IsRowOf, HasEnds, supplies_in}
-use Rattle.session.specs.declared.part.Part.{Part}
-use Rattle.session.specs.declared.part.Part.TheVariants.{Arc, Supply, Last, Gone}
+use Rattle.flow_solver.specs.declared.part.Part.{Part}
+use Rattle.flow_solver.specs.declared.part.Part.TheVariants.{Arc, Supply, Last, Gone}
 use Rattle.session.specs.Places.{PlacesFit, exchanged, taken, ended, end_of}
 use Rattle.session.specs.PlacesLaws.{length-exchanged, taken-set, IsElsewhere, rising_head, rising_tail}
-use Rattle.session.specs.EndingLaws.{end_of-exchanged, ended_none, come_then_go}
+use Rattle.session.proofs.Endings.{end_of-exchanged, ended_none, come_then_go}
 use Rattle.session.specs.Parts.{Named, named, supply_parts, arc_parts, gone_parts, listed, flow_of, demand_swapped, named_turned, parts_swapped, NamedFit, PartsFit, no_row, put_in, left_by, next_after, PartFits, cut_off}
-use Rattle.session.specs.PartsLaws.{row_for, demand_fits-swapped, supplies_within, has_supply}
+use Rattle.session.specs.PartsLaws.{row_for, demand_fits-swapped, supplies_within}
+use Rattle.session.proofs.Supplies.{has_supply}
 use Rattle.session.specs.ReturnLaws.{numbered-swapped}
 
 -- ---- one part after the other
@@ -242,7 +243,7 @@ module _ (ps : List Part) (m : Moment) (fits : PartsFit ps m.instance) (lawful :
       let flow_is : flow_of put ≡ flow_of m = numbered-swapped N.supplies I.demand m.flow in
       let rows_put : All (IsRowOf put.instance) N.come_rows = λ i d below. row_for I N.supplies put.instance.arcs _ (fit.come_rows i d below) in
       let last = run_end_parts N.go N.come_rows N.come_flows put fit.one_end fit.one_flow (omega (arith, one, ap length flow_is, same)) (omega (arith, same, fit.go)) (omega (arith, same, fit.room)) (omega (arith, same, lawful.count, lawful.room)) rows_put fit.come_flows in
-      let here = rw (end_of-exchanged N.rows N.go N.come_rows I.arcs fit.go fit.rows.within, same, flow_is) at last in
+      let here = rw (end_of-exchanged N.rows N.go I.arcs fit.go fit.rows.within, same, flow_is) at last in
       let rows : PlacesFit (IsRowOf sent.instance) (length I.arcs - N.go) N.rows = record {
         rising = fit.rows.rising;
         within = fit.rows.within;

@@ -3,13 +3,14 @@ use Rattle.std.proofs.Common.{◌≡◌, ℕ, ℤ, Bool, List, ◌++◌, length,
 use Rattle.network.specs.Instance.{IsLawful}
 use Rattle.flow_solver.specs.declared.verdict.Verdict.{Verdict}
 use Rattle.flow_solver.specs.Moment.{Moment, TellsReturn, VerdictFits, returned, with_verdict}
-use Rattle.session.specs.declared.part.Part.{Part}
+use Rattle.flow_solver.specs.declared.part.Part.{Part}
 use Rattle.session.specs.Places.{exchanged, taken, end_of}
 use Rattle.session.specs.PlacesLaws.{length-exchanged}
 use Rattle.session.specs.Parts.{Named, named, listed, flow_of, named_turned, parts_swapped, PartsFit}
 use Rattle.session.specs.Record.{Recorded, with_flow, swapped, turned, RecordFits}
-use Rattle.session.specs.EndingLaws.{ended_behind, end_of-exchanged}
-use Rattle.session.specs.ReturnLaws.{numbered_behind, tells_behind}
+use Rattle.session.proofs.Endings.{ended_behind, end_of-exchanged}
+use Rattle.session.specs.ReturnLaws.{numbered_behind}
+use Rattle.session.proofs.Returns.{tells_behind}
 use Rattle.session.specs.RecordLaws.{go_there, record_is}
 
 -- the moment once the lists and the verdict are exchanged, and the parts are not
@@ -31,7 +32,7 @@ module _ (r : Recorded) (m : Moment) (fits : RecordFits r m) where
   parts_turned_after : named_turned N (lists_swapped r m) ≡ named_turned N m
   parts_turned_after =
       ap (λ (xs : List ℤ). record (named_turned N m) { come_flows = xs })
-      (ap (end_of N.go) flows_behind ∙ end_of-exchanged r.flows N.go N.come_flows (flow_of m) (go_there r m fits) fits.flows.within)
+      (ap (end_of N.go) flows_behind ∙ end_of-exchanged r.flows N.go (flow_of m) (go_there r m fits) fits.flows.within)
 
   module _ (m₁ m₂ m₃ : Moment) (is_m₁ : m₁ ≡ with_flow m (exchanged r.flows (flow_of m))) (is_m₂ : m₂ ≡ record m₁ { potentials = exchanged r.potentials m₁.potentials }) (is_m₃ : m₃ ≡ record m₂ { cut = exchanged r.marks m₂.cut }) where
     -- before the verdict is exchanged

@@ -1,9 +1,9 @@
 -- A list that takes values at its places and another end: that twice is nothing.
-use Rattle.std.proofs.Common.{◌≡◌, ℕ, suc, ◌+◌, ◌-◌, ◌≤◌, List, [], ◌∷◌, ◌++◌, length, take, drop, sym, ap, ap₂, ◌∙◌, arith, append_assoc, append-nil, length-append, ◌⊎◌, inl, inr, length-take-le, length-drop}
+use Rattle.std.proofs.Common.{◌≡◌, ℕ, ◌+◌, ◌-◌, ◌≤◌, List, ◌++◌, length, take, drop, sym, ap, ap₂, ◌∙◌, arith, length-append, length-take-le, length-drop}
 use Rattle.std.specs.List.{All}
-use Rattle.std.proofs.lemmas.List.{take-append-drop, take_at, take_all, drop_at}
+use Rattle.std.proofs.lemmas.List.{take-append-drop, take_at, drop_at}
 use Rattle.std.proofs.lemmas.List.Elements.{All-append, All-take, All-drop}
-use Rattle.session.specs.Places.{IsRising, AreWithin, exchanged, taken, ended, end_of, changed}
+use Rattle.session.specs.Places.{IsRising, AreWithin, exchanged, taken, end_of, changed}
 use Rattle.session.specs.PlacesLaws.{length-exchanged, exchanged_again, taken_again, exchanged-append_left, taken-append_left, within_taken, All-exchanged}
 
 module _ {X : Type 0} (places : List (ℕ × X)) (n : ℕ) (come xs : List X) (fits : n ≤ length xs) (within : AreWithin (length xs - n) places) where
@@ -19,10 +19,10 @@ module _ {X : Type 0} (places : List (ℕ × X)) (n : ℕ) (come xs : List X) (f
   within_front : AreWithin (length front) places
   within_front = rw length-front within
 
-  length-exchanged_front : length (exchanged places front) ≡ length xs - n
+  pub length-exchanged_front : length (exchanged places front) ≡ length xs - n
   length-exchanged_front = length-exchanged places front ∙ length-front
 
-  exchanged-front : exchanged places xs ≡ exchanged places front ++ end_of n xs
+  pub exchanged-front : exchanged places xs ≡ exchanged places front ++ end_of n xs
   exchanged-front = ap (exchanged places) (sym split) ∙ exchanged-append_left places front (end_of n xs) within_front
 
   -- the list is that of the front with the other end
@@ -35,13 +35,6 @@ module _ {X : Type 0} (places : List (ℕ × X)) (n : ℕ) (come xs : List X) (f
 
   taken-front : taken places xs ≡ taken places front
   taken-front = ap (taken places) (sym split) ∙ taken-append_left places front (end_of n xs) within_front
-
-  -- none of the places is of the last n values
-  pub end_of-exchanged : end_of n (exchanged places xs) ≡ end_of n xs
-  end_of-exchanged =
-      ap (λ k. drop (k - n) (exchanged places xs)) (length-exchanged places xs)
-      ∙ ap (drop (length xs - n)) exchanged-front
-      ∙ drop_at (exchanged places front) (end_of n xs) (length xs - n) length-exchanged_front
 
   pub length-changed : length (changed places n come xs) ≡ length xs - n + length come
   length-changed = ap length changed-front ∙ length-append (exchanged places front) come ∙ ap (λ k. k + length come) length-exchanged_front
@@ -83,24 +76,3 @@ module _ {X : Type 0} where
 
   pub All-end_of : (P : X → Type 0) (n : ℕ) (xs : List X) → All P xs → All P (end_of n xs)
   All-end_of P n xs all = All-drop P _ xs all
-
-  -- where values only come, or only go, they may come before the others go
-  pub come_then_go : (n : ℕ) (come xs : List X) → (n ≡ 0) ⊎ (come ≡ []) → ended n [] (xs ++ come) ≡ ended n come xs
-  come_then_go n come xs (inl none) = rw none (ap (λ zs. zs ++ []) (take_all (length (xs ++ come) - 0) (xs ++ come) (omega arith)) ∙ append-nil (xs ++ come) ∙ ap (λ zs. zs ++ come) (sym (take_all (length xs - 0) xs (omega arith))))
-  come_then_go n come xs (inr none) = rw none (ap (λ zs. ended n [] zs) (append-nil xs))
-
-  -- with the end that the list has it is as it was
-  pub ended_none : (xs : List X) → ended 0 [] xs ≡ xs
-  ended_none xs = append-nil (take (length xs - 0) xs) ∙ take_all (length xs - 0) xs (omega arith)
-
-  take_behind : (before xs : List X) (n : ℕ) → take (length before + n) (before ++ xs) ≡ before ++ take n xs
-  take_behind [] xs n = ap (λ (k : ℕ). take k xs) {x = length {A = X} [] + n} {y = n} (omega arith)
-  take_behind (x ∷ before) xs n =
-      ap (λ (k : ℕ). take k (x ∷ before ++ xs)) {x = length (x ∷ before) + n} {y = suc (length before + n)} (omega arith) ∙ ap (λ (ys : List X). x ∷ ys) (take_behind before xs n)
-
-  -- values in front stay in front
-  pub ended_behind : (before : List X) (n : ℕ) (come xs : List X) → n ≤ length xs → ended n come (before ++ xs) ≡ before ++ ended n come xs
-  ended_behind before n come xs fits =
-      ap (λ (k : ℕ). take k (before ++ xs) ++ come) {x = length (before ++ xs) - n} {y = length before + (length xs - n)} (omega (arith, length-append before xs, fits))
-      ∙ ap (λ zs. zs ++ come) (take_behind before xs (length xs - n))
-      ∙ append_assoc before (take (length xs - n) xs) come

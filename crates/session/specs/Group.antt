@@ -5,7 +5,7 @@ use Rattle.dimacs_text.specs.declared.command.Edit.{Edit}
 use Rattle.dimacs_text.specs.declared.command.Edit.TheVariants as edits
 use Rattle.network.specs.Instance.{Instance}
 use Rattle.flow_solver.specs.Desk.{supplies_in}
-use Rattle.session.specs.declared.part.Part.{Part}
+use Rattle.flow_solver.specs.declared.part.Part.{Part}
 use Rattle.session.specs.Parts.{listed, no_row}
 
 -- the nodes that the edits name, in their order

@@ -4,25 +4,19 @@ use Rattle.std.proofs.Math.ListN.{replicate}
 use Rattle.std.specs.List.{All}
 use Rattle.std.proofs.lemmas.List.{drop_all}
 use Rattle.dimacs_text.specs.declared.problem.ArcRow.{ArcRow}
-use Rattle.dimacs_text.specs.declared.problem.Kind.TheVariants.{Min}
 use Rattle.dimacs_text.specs.declared.problem.TheConstants.{SUPPLY_LIMIT}
-use Rattle.dimacs_text.specs.Lawful.{IsNode, IsWithin}
-use Rattle.network.specs.Instance.{Demand, Supplies, Terminals, Sides, Instance, kind_of, ArcFits, DemandFits, IsLawful}
+use Rattle.dimacs_text.specs.Lawful.{IsWithin}
+use Rattle.network.specs.Instance.{Demand, Supplies, Terminals, Sides, Instance, ArcFits, DemandFits, IsLawful}
 use Rattle.flow_solver.specs.Moment.{Moment}
 use Rattle.flow_solver.specs.Desk.{IsFlow, IsRowOf, HasEnds, supplies_in}
-use Rattle.session.specs.declared.part.Part.{Part}
-use Rattle.session.specs.declared.part.Part.TheVariants.{Last}
+use Rattle.flow_solver.specs.declared.part.Part.{Part}
+use Rattle.flow_solver.specs.declared.part.Part.TheVariants.{Last}
 use Rattle.session.specs.Places.{IsRising, AreWithin, PlacesFit, exchanged, taken, end_of, changed}
 use Rattle.session.specs.PlacesLaws.{length-exchanged, exchanged_again, taken_again, fit_taken, length-taken, get_or-taken, All-exchanged}
 use Rattle.session.specs.EndingLaws.{length-changed, taken_changed, end_of-changed, changed_again, length-end_of, All-changed, All-end_of}
 use Rattle.session.specs.Parts.{Named, nothing_named, named, supply_parts, arc_parts, gone_parts, listed, flow_of, demand_swapped, instance_swapped, named_turned, IsOneEnd, NamedFit}
 
 -- ---- the demand
-
-pub kind-swapped : (places : List (ℕ × ℤ)) (demand : Demand) → kind_of (demand_swapped places demand) ≡ kind_of demand
-kind-swapped places (Supplies supplies) = refl
-kind-swapped places (Terminals source sink) = refl
-kind-swapped places (Sides marks) = refl
 
 arc_fits-swapped : (places : List (ℕ × ℤ)) (demand : Demand) (arc : ArcRow) → ArcFits demand arc → ArcFits (demand_swapped places demand) arc
 arc_fits-swapped places (Supplies supplies) arc fits = fits
@@ -57,17 +51,6 @@ pub supplies_within : (nodes : ℕ) (demand : Demand) → DemandFits nodes deman
 supplies_within nodes (Supplies supplies) fits = fits.1
 supplies_within nodes (Terminals source sink) fits = λ k d below. absurd (omega arith)
 supplies_within nodes (Sides marks) fits = λ k d below. absurd (omega arith)
-
--- a node that has a supply
-pub has_supply : (nodes : ℕ) (demand : Demand) (id : ℕ) → DemandFits nodes demand → 1 ≤ id → id ≤ length (supplies_in demand) → (kind_of demand ≡ Min) × IsNode nodes id
-has_supply nodes (Supplies supplies) id fits some there = (refl, (some, omega (arith, there, fits.0)))
-has_supply nodes (Terminals source sink) id fits some there = absurd (omega (arith, some, there))
-has_supply nodes (Sides marks) id fits some there = absurd (omega (arith, some, there))
-
-pub supplies_are : (nodes : ℕ) (demand : Demand) → DemandFits nodes demand → kind_of demand ≡ Min → (length (supplies_in demand) ≡ nodes) × All (IsWithin SUPPLY_LIMIT) (supplies_in demand)
-supplies_are nodes (Supplies supplies) fits is_min = fits
-supplies_are nodes (Terminals source sink) fits is_min = absurd (cc)
-supplies_are nodes (Sides marks) fits is_min = absurd (cc)
 
 -- ---- the list and what it names
 

@@ -1,9 +1,8 @@
 -- Values that change places with those of a list: what each place has then, and that twice is nothing.
-use Rattle.std.proofs.Common.{◌≡◌, ◌≢◌, ℕ, zero, suc, ◌+◌, ◌-◌, ◌<◌, ◌≤◌, List, [], ◌∷◌, ◌++◌, length, get_or, set, take, drop, refl, sym, ap, ap₂, ◌∙◌, arith, append_assoc, length-set, length-take-le, get_or-take, get_or-set_same, get_or-set_other}
+use Rattle.std.proofs.Common.{◌≡◌, ◌≢◌, ℕ, zero, suc, ◌-◌, ◌<◌, ◌≤◌, List, [], ◌∷◌, ◌++◌, length, get_or, set, refl, sym, ap, ap₂, ◌∙◌, arith, length-set, get_or-set_same, get_or-set_other}
 use Rattle.std.specs.List.{All}
 use Rattle.std.proofs.lemmas.List.Elements.{All-set}
-use Rattle.std.proofs.lemmas.List.{set-append_left, get_or_append_left, set-set, set-get_or, set_comm, set_at, take_more, drop_more, get_or_at, get_or_default}
-use Rattle.std.proofs.lemmas.Grind.{common_steps}
+use Rattle.std.proofs.lemmas.List.{set-append_left, get_or_append_left, set-set, set-get_or, set_comm}
 use Rattle.session.specs.Places.{IsRising, AreWithin, exchanged, taken, PlacesFit}
 
 module _ {X : Type 0} where
@@ -75,27 +74,9 @@ module _ {X : Type 0} where
       (ap (λ qs. taken qs (exchanged places ys)) (sym (taken-set places xs k p.1 elsewhere))
       ∙ taken_again places ys (rising_tail p places rising) (λ i d below. rw same_length (within (suc i) d (omega arith))))
 
-  pub exchanged-push : (places : List (ℕ × X)) (xs : List X) (p : ℕ × X) → exchanged (places ++ p ∷ []) xs ≡ set (exchanged places xs) (p.0 - 1) p.1
-  exchanged-push [] xs p = refl
-  exchanged-push (q ∷ places) xs p = exchanged-push places (set xs (q.0 - 1) q.1) p
-
-  pub taken-push : (places : List (ℕ × X)) (xs : List X) (p : ℕ × X) → taken (places ++ p ∷ []) xs ≡ taken places xs ++ (p.0, get_or xs (p.0 - 1) p.1) ∷ []
-  taken-push [] xs p = refl
-  taken-push (q ∷ places) xs p = ap (λ qs. (q.0, get_or xs (q.0 - 1) q.1) ∷ qs) (taken-push places xs p)
-
   pub length-taken : (places : List (ℕ × X)) (xs : List X) → length (taken places xs) ≡ length places
   length-taken [] xs = refl
   length-taken (p ∷ places) xs = ap suc (length-taken places xs)
-
-  -- the places before place i are other places than it
-  elsewhere_before : (n : ℕ) (places : List (ℕ × X)) (i : ℕ) (d : ℕ × X) → IsRising places → AreWithin n places → i < length places → IsElsewhere ((get_or places i d).0 - 1) (take i places)
-  elsewhere_before n places i d rising within below j e before same =
-      let in_take : length (take i places) ≡ i = length-take-le i places (omega arith) in
-      let apart = rising j i e (omega arith) below in
-      let some = (within j e (omega arith)).0 in
-      let at = get_or-take i places j e (omega arith) in
-      let here = get_or_default places i d e below in
-      grind (arith, common_steps)
 
   -- place i of what is taken
   pub get_or-taken : (places : List (ℕ × X)) (xs : List X) (i : ℕ) (d : ℕ × X) → i < length places → get_or (taken places xs) i d ≡ ((get_or places i d).0, get_or xs ((get_or places i d).0 - 1) (get_or places i d).1)
@@ -150,39 +131,3 @@ module _ {X : Type 0} where
   taken-append_left (p ∷ places) xs ys within =
       let (some, inside) = within_head (length xs) p places within in
       ap₂ ◌∷◌ (ap (λ (x : X). (p.0, x)) (get_or_append_left xs ys p.1 (p.0 - 1) (omega arith))) (taken-append_left places xs ys (within_tail (length xs) p places within))
-
--- one place more is exchanged, where the places before it are
-module _ {X : Type 0} (n : ℕ) (places : List (ℕ × X)) (xs : List X) (i : ℕ) (d : ℕ × X) (rising : IsRising places) (within : AreWithin n places) (below : i < length places) where
-  abbrev here : ℕ × X
-  here = get_or places i d
-
-  pub exchanged_more : exchanged (take (i + 1) places) xs ≡ set (exchanged (take i places) xs) (here.0 - 1) here.1
-  exchanged_more = ap (λ qs. exchanged qs xs) (take_more places i d below) ∙ exchanged-push (take i places) xs here
-
-  pub read_more : (e : X) → get_or (exchanged (take i places) xs) (here.0 - 1) e ≡ get_or xs (here.0 - 1) e
-  read_more e = get_or-exchanged_elsewhere (take i places) xs (here.0 - 1) e (elsewhere_before n places i d rising within below)
-
-  pub taken_more : set (taken (take i places) xs ++ drop i places) i (here.0, get_or xs (here.0 - 1) here.1) ≡ taken (take (i + 1) places) xs ++ drop (i + 1) places
-  taken_more =
-      let done = length-taken (take i places) xs ∙ length-take-le i places (omega arith) in
-      ap (λ qs. set (taken (take i places) xs ++ qs) i (here.0, get_or xs (here.0 - 1) here.1)) (drop_more places i d below)
-      ∙ set_at (taken (take i places) xs) here (drop (i + 1) places) _ i done
-      ∙ sym (ap (λ qs. qs ++ drop (i + 1) places) (ap (λ qs. taken qs xs) (take_more places i d below) ∙ taken-push (take i places) xs here) ∙ append_assoc (taken (take i places) xs) ((here.0, get_or xs (here.0 - 1) here.1) ∷ []) (drop (i + 1) places))
-
-  -- place i is still as it was
-  pub here_is : (e : ℕ × X) → get_or (taken (take i places) xs ++ drop i places) i e ≡ here
-  here_is e =
-      let done = length-taken (take i places) xs ∙ length-take-le i places (omega arith) in
-      ap (λ qs. get_or (taken (take i places) xs ++ qs) i e) (drop_more places i d below) ∙ get_or_at (taken (take i places) xs) here (drop (i + 1) places) e i done
-
--- what one exchange does to a list of places of which those before place i are exchanged, and to the list
-pub exchange_step : {X : Type 0} (n : ℕ) (all now : List (ℕ × X)) (xs ys : List X) (i : ℕ) (d : ℕ × X) (v : X) → IsRising all → AreWithin n all → i < length all → now ≡ taken (take i all) xs ++ drop i all → ys ≡ exchanged (take i all) xs → v ≡ get_or ys ((get_or now i d).0 - 1) (get_or now i d).1 → record { places : set now i ((get_or now i d).0, v) ≡ taken (take (i + 1) all) xs ++ drop (i + 1) all; list : set ys ((get_or now i d).0 - 1) (get_or now i d).1 ≡ exchanged (take (i + 1) all) xs }
-exchange_step {X} n all now xs ys i d v rising within below now_is ys_is value =
-    let p : ℕ × X = get_or all i d in
-    let k : ℕ = p.0 - 1 in
-    let here = ap (λ qs. get_or qs i d) now_is ∙ here_is n all xs i d rising within below d in
-    let read : v ≡ get_or xs k p.1 = value ∙ ap (λ (q : ℕ × X). get_or ys (q.0 - 1) q.1) here ∙ ap (λ (zs : List X). get_or zs k p.1) ys_is ∙ read_more n all xs i d rising within below p.1 in
-    record {
-      places = ap (λ (q : ℕ × X). set now i (q.0, v)) here ∙ ap (λ (x : X). set now i (p.0, x)) read ∙ ap (λ qs. set qs i (p.0, get_or xs k p.1)) now_is ∙ taken_more n all xs i d rising within below;
-      list = ap (λ (q : ℕ × X). set ys (q.0 - 1) q.1) here ∙ ap (λ (zs : List X). set zs k p.1) ys_is ∙ sym (exchanged_more n all xs i d rising within below);
-    }

@@ -5,11 +5,12 @@ use Rattle.dimacs_text.specs.declared.command.Edit.{Edit}
 use Rattle.dimacs_text.specs.declared.command.Edit.TheVariants as edits
 use Rattle.network.specs.Edited.{edited, edited_all}
 use Rattle.flow_solver.specs.Moment.{Moment}
-use Rattle.flow_solver.specs.Desk.{Desk, IsAnswered}
+use Rattle.flow_solver.specs.Answer.{IsAnswered}
+use Rattle.flow_solver.specs.Desk.{Desk}
 use Rattle.history.specs.Boards.{Changes, all_changes, Timeline, all_boards, boards, StandsFor}
 use Rattle.session.specs.declared.marks.Mark.{Mark}
-use Rattle.session.specs.declared.part.Part.{Part}
-use Rattle.session.specs.declared.part.Part.TheVariants.{Arc, Supply, Last, Gone}
+use Rattle.flow_solver.specs.declared.part.Part.{Part}
+use Rattle.flow_solver.specs.declared.part.Part.TheVariants.{Arc, Supply, Last, Gone}
 use Rattle.session.specs.Marks.{AreOn}
 use Rattle.session.specs.Places.{IsRising, AreWithin, IsDifference, end_of}
 use Rattle.session.specs.Parts.{named, listed, flow_of, instance_swapped, IsOneEnd}

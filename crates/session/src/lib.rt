@@ -8,7 +8,6 @@ mod laws;
 mod marks;
 #[cfg(test)]
 mod marks_tests;
-mod part;
 mod record;
 mod refusal;
 #[cfg(test)]
@@ -18,9 +17,9 @@ mod swaps;
 #[cfg(test)]
 mod tests;
 
+pub use flow_solver::Part;
 pub use laws::{marks_are_few, moves_are_steps};
 pub use marks::{MARK_LIMIT, Mark};
-pub use part::Part;
 pub use record::Record;
 pub use refusal::Refusal;
 pub use session::Session;

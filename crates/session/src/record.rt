@@ -9,11 +9,10 @@ ghost use Rattle.session.specs.Session.{AreAcceptedEdits, old_moment};
 mod building;
 
 use crate::differences::differences;
-use crate::part::Part;
 use crate::swaps::{swap_flows, swap_marks, swap_parts, swap_potentials};
 use building::parts_before;
 use dimacs_text::Edit;
-use flow_solver::{Tables, Verdict};
+use flow_solver::{Part, Tables, Verdict};
 use history::Change;
 use std::alloc::{AllocError, Allocator, Global};
 use std::marker::Model;

@@ -7,7 +7,7 @@ ghost use Rattle.history.specs.Boards.{Advances, StepsBack, StepsForward};
 ghost use Rattle.dimacs_text.specs.declared.group.TheConstants.{GROUP_LIMIT};
 ghost use Rattle.network.specs.Edited.{edited, edited_all};
 ghost use Rattle.network.specs.Instance.{at_node, first};
-ghost use Rattle.flow_solver.specs.Desk.{IsAnswered};
+ghost use Rattle.flow_solver.specs.Answer.{IsAnswered};
 ghost use Rattle.flow_solver.specs.Edit.{AreChanges, IsChange};
 ghost use Rattle.session.specs.Marks.{has_place, marked, up_to, with_mark, IsMovedTo};
 ghost use Rattle.session.specs.Parts.{flow_of};

@@ -9,8 +9,7 @@ ghost use Rattle.session.specs.Places.{exchanged, taken, PlacesFit};
 ghost use Rattle.session.specs.Parts.{named, listed, flow_of, named_turned, parts_swapped, PartsFit, put_in, left_by, next_after, PartFits, cut_off};
 ghost use Rattle.session.specs.Record.{with_flow, IsInRange, IsMark};
 
-use crate::part::Part;
-use flow_solver::Tables;
+use flow_solver::{Part, Tables};
 
 /// Exchanges the flows of these arcs.
 pub(crate) fn swap_flows(places: &mut [(u32, i64)], tables: &mut Tables)

@@ -9,15 +9,10 @@ use Rattle.std.proofs.lemmas.List.{length-map, length-set, get_or-set_same, get_
 use Rattle.dimacs_text.specs.declared.problem.ArcRow.{ArcRow}
 use Rattle.shortest_paths.specs.declared.residual.Way.{Way}
 use Rattle.shortest_paths.specs.declared.residual.Way.TheVariants.{Forward, Backward}
-use Rattle.shortest_paths.specs.Residual.{IsFlow, IsRow, IsWithin, number_at, arc_at, other_way, start_of, end_of, start_at, end_at, room_of, IsResidual}
+use Rattle.shortest_paths.specs.Residual.{IsFlow, IsRow, IsWithin, number_at, arc_at, start_of, end_of, start_at, end_at, room_of, IsResidual}
 use Rattle.network.specs.Flow.{net, outflow, inflow}
-use Rattle.shortest_paths.specs.declared.graph.Graph.{Graph}
-use Rattle.shortest_paths.specs.declared.walk.End.{End}
-use Rattle.shortest_paths.specs.declared.walk.Walk.{Walk}
-use Rattle.shortest_paths.specs.Ends.{NothingToCome, leaving}
-use Rattle.shortest_paths.proofs.EndLemmas.{AllHaveOrCome, all_ends_met, all_entering}
-use Rattle.shortest_paths.specs.declared.cut.Side.{Side}
-use Rattle.shortest_paths.specs.declared.cut.Side.TheVariants.{Ahead, Behind}
+use Rattle.shortest_paths.specs.declared.side.Side.{Side}
+use Rattle.shortest_paths.specs.declared.side.Side.TheVariants.{Ahead, Behind}
 use Rattle.shortest_paths.specs.Push.{IsExcess, at_node, positive_part, left}
 use Rattle.shortest_paths.proofs.PushLemmas.{at_same, at_other}
 use Rattle.shortest_paths.specs.declared.visit.Mark.{Mark}
@@ -25,7 +20,9 @@ use Rattle.shortest_paths.specs.declared.visit.Mark.TheVariants.{Unreached, Open
 use Rattle.shortest_paths.specs.declared.visit.Visit.{Visit}
 use Rattle.shortest_paths.specs.Search.{visit_at, mark_at, is_unsettled, is_not_settled, IsReached, AllRelaxed, IsFromExcess, IsExhausted}
 use Rattle.shortest_paths.proofs.SearchLemmas.{in_range}
-use Rattle.shortest_paths.specs.Cut.{in_set, sum_in, sum_leaving, sum_entering, surplus, shortfall, IsLeastSet, IsRoot, amount, near_at, far_at, leading, IsClosed, HoldsRoots, IsSide, IsParted, IsChosenSet, IsFarIn, AreFarIn, node_at, IsListed, IsLineOf, IsGrown, lack}
+use Rattle.shortest_paths.specs.Cut.{in_set, sum_in, sum_leaving, sum_entering, surplus, shortfall, IsLeastSet, IsRoot, amount, near_at, far_at, IsClosed, HoldsRoots, IsSide, IsParted, IsChosenSet, node_at, IsListed, IsLineOf, IsGrown, lack}
+use Rattle.shortest_paths.specs.Side.{seen, turned_row}
+use Rattle.shortest_paths.proofs.TurnLemmas.{arc_at-turned, start_at-turned, end_at-turned, residual-turned, residual-unturned, outflow-turned, inflow-turned, number_at-neg, left-neg}
 
 pub sum_in-same : (set : List Bool) (f g : ℕ → ℤ) → ((v : ℕ) → f v ≡ g v) → sum_in set f ≡ sum_in set g
 sum_in-same [] f g same = refl
@@ -229,116 +226,60 @@ ahead_is_least : (arcs : List ArcRow) (supply : ℕ → ℤ) (x e : List ℤ) (s
 ahead_is_least arcs supply x e set is sized within sized_set ahead parted =
     is_least_cut arcs supply x e set is sized within sized_set ahead.closed ahead.holds (λ v h. parted.no_deficit v (ahead.least parted.set parted.closed parted.holds v h)) ahead.least
 
--- the network with each arc turned round: what lies in deficit there is what lies in excess here
-abbrev pub mirror : ArcRow → ArcRow
-mirror a = record { tail = a.head; head = a.tail; low = a.low; cap = a.cap; cost = a.cost }
+-- ---- the network with each arc turned round: what lies in deficit there is what lies in excess here
 
-arc_at-mirror : (arcs : List ArcRow) (k : ℕ) → arc_at (map mirror arcs) k ≡ mirror (arc_at arcs k)
-arc_at-mirror [] k = refl
-arc_at-mirror (a ∷ arcs) zero = refl
-arc_at-mirror (a ∷ arcs) (suc k) = arc_at-mirror arcs k
+leaving-turned : (set : List Bool) (f : ArcRow → ℤ) (arcs : List ArcRow) → ((a : ArcRow) → f (turned_row a) ≡ f a) → sum_leaving set f (map turned_row arcs) ≡ sum_entering set f arcs
+leaving-turned set f [] same = refl
+leaving-turned set f (a ∷ arcs) same =
+    omega (arith, ints, ap (λ (n : ℤ). cond (in_set set a.head && not (in_set set a.tail)) n (pos 0)) (same a), leaving-turned set f arcs same)
 
-number_at-neg : (e : List ℤ) (v : ℕ) → number_at (map neg_ℤ e) v ≡ neg_ℤ (number_at e v)
-number_at-neg [] v = refl
-number_at-neg (z ∷ e) zero = refl
-number_at-neg (z ∷ e) (suc v) = number_at-neg e v
-
-flow_out-mirror : (arcs : List ArcRow) (x : List ℤ) (v : ℕ) → outflow (map mirror arcs) x v ≡ inflow arcs x v
-flow_out-mirror [] x v = refl
-flow_out-mirror (a ∷ arcs) [] v = refl
-flow_out-mirror (a ∷ arcs) (y ∷ x) v = ap (λ (n : ℤ). at_node a.head y v +ℤ n) (flow_out-mirror arcs x v)
-
-flow_in-mirror : (arcs : List ArcRow) (x : List ℤ) (v : ℕ) → inflow (map mirror arcs) x v ≡ outflow arcs x v
-flow_in-mirror [] x v = refl
-flow_in-mirror (a ∷ arcs) [] v = refl
-flow_in-mirror (a ∷ arcs) (y ∷ x) v = ap (λ (n : ℤ). at_node a.tail y v +ℤ n) (flow_in-mirror arcs x v)
-
-leaving-mirror : (set : List Bool) (f : ArcRow → ℤ) (arcs : List ArcRow) → ((a : ArcRow) → f (mirror a) ≡ f a) → sum_leaving set f (map mirror arcs) ≡ sum_entering set f arcs
-leaving-mirror set f [] same = refl
-leaving-mirror set f (a ∷ arcs) same =
-    omega (arith, ints, ap (λ (n : ℤ). cond (in_set set a.head && not (in_set set a.tail)) n (pos 0)) (same a), leaving-mirror set f arcs same)
-
-entering-mirror : (set : List Bool) (f : ArcRow → ℤ) (arcs : List ArcRow) → ((a : ArcRow) → f (mirror a) ≡ f a) → sum_entering set f (map mirror arcs) ≡ sum_leaving set f arcs
-entering-mirror set f [] same = refl
-entering-mirror set f (a ∷ arcs) same =
-    omega (arith, ints, ap (λ (n : ℤ). cond (in_set set a.tail && not (in_set set a.head)) n (pos 0)) (same a), entering-mirror set f arcs same)
+entering-turned : (set : List Bool) (f : ArcRow → ℤ) (arcs : List ArcRow) → ((a : ArcRow) → f (turned_row a) ≡ f a) → sum_entering set f (map turned_row arcs) ≡ sum_leaving set f arcs
+entering-turned set f [] same = refl
+entering-turned set f (a ∷ arcs) same =
+    omega (arith, ints, ap (λ (n : ℤ). cond (in_set set a.tail && not (in_set set a.head)) n (pos 0)) (same a), entering-turned set f arcs same)
 
 sum_in-neg : (set : List Bool) (f : ℕ → ℤ) → sum_in set (λ v. neg_ℤ (f v)) ≡ neg_ℤ (sum_in set f)
 sum_in-neg [] f = refl
 sum_in-neg (true ∷ set) f = omega (arith, ints, sum_in-neg set (λ v. f (suc v)))
 sum_in-neg (false ∷ set) f = omega (arith, ints, sum_in-neg set (λ v. f (suc v)))
 
-surplus-mirror : (arcs : List ArcRow) (supply : ℕ → ℤ) (set : List Bool) → surplus (map mirror arcs) (λ v. neg_ℤ (supply v)) set ≡ shortfall arcs supply set
-surplus-mirror arcs supply set =
+surplus-turned : (arcs : List ArcRow) (supply : ℕ → ℤ) (set : List Bool) → surplus (map turned_row arcs) (λ v. neg_ℤ (supply v)) set ≡ shortfall arcs supply set
+surplus-turned arcs supply set =
     omega (
       arith,
       ints,
       sum_in-neg set (supply),
-      leaving-mirror set (λ a. a.cap) arcs (λ a. refl),
-      entering-mirror set (λ a. a.low) arcs (λ a. refl),
+      leaving-turned set (λ a. a.cap) arcs (λ a. refl),
+      entering-turned set (λ a. a.low) arcs (λ a. refl),
     )
 
-left-neg : (e : List ℤ) → left (map neg_ℤ e) ≡ lack e
-left-neg [] = refl
-left-neg (z ∷ e) = omega (arith, sum_by-cons positive_part (neg_ℤ z) (map neg_ℤ e), sum_by-cons (λ (y : ℤ). positive_part (neg_ℤ y)) z e, left-neg e)
+closed-turned : (arcs : List ArcRow) (x : List ℤ) (set : List Bool) → IsClosed Behind arcs x set → IsClosed Ahead (map turned_row arcs) x set
+closed-turned arcs x set closed k way residual start =
+    ap (in_set set) (end_at-turned arcs k way) ∙ closed k way (residual-unturned arcs x k way residual) (sym (ap (in_set set) (start_at-turned arcs k way)) ∙ start)
 
-start_of-mirror : (a : ArcRow) (way : Way) → start_of (mirror a) way ≡ end_of a way
-start_of-mirror a Forward = refl
-start_of-mirror a Backward = refl
-
-end_of-mirror : (a : ArcRow) (way : Way) → end_of (mirror a) way ≡ start_of a way
-end_of-mirror a Forward = refl
-end_of-mirror a Backward = refl
-
-room_of-mirror : (a : ArcRow) (y : ℤ) (way : Way) → room_of (mirror a) y way ≡ room_of a y way
-room_of-mirror a y Forward = refl
-room_of-mirror a y Backward = refl
-
-residual-mirror : (arcs : List ArcRow) (x : List ℤ) (k : ℕ) (way : Way) → IsResidual (map mirror arcs) x k way → IsResidual arcs x k way
-residual-mirror arcs x k way residual = record {
-  is_arc = rw (length-map arcs mirror) at residual.is_arc;
-  has_room = subst (λ (r : ℤ). pos 0 <ℤ r) (ap (λ (a : ArcRow). room_of a (number_at x k) way) (arc_at-mirror arcs k) ∙ room_of-mirror (arc_at arcs k) (number_at x k) way) residual.has_room;
-}
-
-mirror-residual : (arcs : List ArcRow) (x : List ℤ) (k : ℕ) (way : Way) → IsResidual arcs x k way → IsResidual (map mirror arcs) x k way
-mirror-residual arcs x k way residual = record {
-  is_arc = rw (length-map arcs mirror) residual.is_arc;
-  has_room = subst (λ (r : ℤ). pos 0 <ℤ r) (sym (ap (λ (a : ArcRow). room_of a (number_at x k) way) (arc_at-mirror arcs k) ∙ room_of-mirror (arc_at arcs k) (number_at x k) way)) residual.has_room;
-}
-
-start_at-mirror : (arcs : List ArcRow) (k : ℕ) (way : Way) → start_at (map mirror arcs) k way ≡ end_at arcs k way
-start_at-mirror arcs k way = ap (λ (a : ArcRow). start_of a way) (arc_at-mirror arcs k) ∙ start_of-mirror (arc_at arcs k) way
-
-end_at-mirror : (arcs : List ArcRow) (k : ℕ) (way : Way) → end_at (map mirror arcs) k way ≡ start_at arcs k way
-end_at-mirror arcs k way = ap (λ (a : ArcRow). end_of a way) (arc_at-mirror arcs k) ∙ end_of-mirror (arc_at arcs k) way
-
-closed-mirror : (arcs : List ArcRow) (x : List ℤ) (set : List Bool) → IsClosed Behind arcs x set → IsClosed Ahead (map mirror arcs) x set
-closed-mirror arcs x set closed k way residual start =
-    ap (in_set set) (end_at-mirror arcs k way) ∙ closed k way (residual-mirror arcs x k way residual) (sym (ap (in_set set) (start_at-mirror arcs k way)) ∙ start)
-
-mirror-closed : (arcs : List ArcRow) (x : List ℤ) (set : List Bool) → IsClosed Ahead (map mirror arcs) x set → IsClosed Behind arcs x set
-mirror-closed arcs x set closed k way residual end =
-    sym (ap (in_set set) (end_at-mirror arcs k way)) ∙ closed k way (mirror-residual arcs x k way residual) (ap (in_set set) (start_at-mirror arcs k way) ∙ end)
+closed-unturned : (arcs : List ArcRow) (x : List ℤ) (set : List Bool) → IsClosed Ahead (map turned_row arcs) x set → IsClosed Behind arcs x set
+closed-unturned arcs x set closed k way residual end =
+    sym (ap (in_set set) (end_at-turned arcs k way)) ∙ closed k way (residual-turned arcs x k way residual) (ap (in_set set) (start_at-turned arcs k way) ∙ end)
 
 -- the nodes that reach a node in deficit, where no node is in excess
 behind_is_least : (arcs : List ArcRow) (supply : ℕ → ℤ) (x e : List ℤ) (set : List Bool) → IsExcess arcs supply x e → length x ≡ length arcs → ((k : ℕ) → k < length arcs → IsWithin (arc_at arcs k) (number_at x k)) → length set ≡ length e → IsSide Behind arcs x e set → ((v : ℕ) → number_at e v ≤ℤ pos 0) → IsLeastSet (shortfall arcs supply) set (pos (lack e))
 behind_is_least arcs supply x e set is sized within sized_set behind none =
-    let there = is_least_cut (map mirror arcs) (λ v. neg_ℤ (supply v)) x (map neg_ℤ e) set
-    (λ v. number_at-neg e v ∙ omega (arith, ints, is v, flow_out-mirror arcs x v, flow_in-mirror arcs x v))
-    (sized ∙ sym (length-map arcs mirror))
-    (λ k lt. subst (λ (a : ArcRow). IsWithin a (number_at x k)) (sym (arc_at-mirror arcs k)) (turned_within (arc_at arcs k) (number_at x k) (within k (rw (length-map arcs mirror) at lt))))
+    let there = is_least_cut (map turned_row arcs) (λ v. neg_ℤ (supply v)) x (map neg_ℤ e) set
+    (λ v. number_at-neg e v ∙ omega (arith, ints, is v, outflow-turned arcs x v, inflow-turned arcs x v))
+    (sized ∙ sym (length-map arcs turned_row))
+    (λ k lt. subst (λ (a : ArcRow). IsWithin a (number_at x k)) (sym (arc_at-turned arcs k)) (turned_within (arc_at arcs k) (number_at x k) (within k (rw (length-map arcs turned_row) at lt))))
     (sized_set ∙ sym (length-map e neg_ℤ))
-    (closed-mirror arcs x set behind.closed)
+    (closed-turned arcs x set behind.closed)
     (λ v high. behind.holds v (omega (arith, ints, high, number_at-neg e v)))
     (λ v h. omega (arith, ints, number_at-neg e v, none v))
-    (λ other closed holds v h. behind.least other (mirror-closed arcs x other closed) (λ q low. holds q (omega (arith, ints, low, number_at-neg e q))) v h) in
+    (λ other closed holds v h. behind.least other (closed-unturned arcs x other closed) (λ q low. holds q (omega (arith, ints, low, number_at-neg e q))) v h) in
     record {
-      value_is = sym (surplus-mirror arcs supply set) ∙ there.value_is ∙ ap pos (left-neg e);
-      greatest = λ other same. rw (← surplus-mirror arcs supply other, ← left-neg e) (there.greatest other same);
-      smallest = λ other same full. there.smallest other same (surplus-mirror arcs supply other ∙ full ∙ ap pos (sym (left-neg e)));
+      value_is = sym (surplus-turned arcs supply set) ∙ there.value_is ∙ ap pos (left-neg e);
+      greatest = λ other same. rw (← surplus-turned arcs supply other, ← left-neg e) (there.greatest other same);
+      smallest = λ other same full. there.smallest other same (surplus-turned arcs supply other ∙ full ∙ ap pos (sym (left-neg e)));
     }
   where
-    turned_within : (a : ArcRow) (y : ℤ) → IsWithin a y → IsWithin (mirror a) y
+    turned_within : (a : ArcRow) (y : ℤ) → IsWithin a y → IsWithin (turned_row a) y
     turned_within a y h = record { low_kept = h.low_kept; cap_kept = h.cap_kept }
 
 -- where nothing lies in excess, no number is above 0
@@ -506,33 +447,14 @@ marked_in set v h = elim (cases_lt v (length set)) [
   | inr past ↦ absurd (false≢true (sym (get_or_past set v false past) ∙ h))
 ]
 
--- ---- the walk over the ends at a node
+-- a residual arc leads on from its near end to its far end
+pub near_seen : (side : Side) (arcs : List ArcRow) (k : ℕ) (way : Way) → start_at (seen side arcs) k way ≡ near_at side arcs k way
+near_seen Ahead arcs k way = refl
+near_seen Behind arcs k way = start_at-turned arcs k way
 
--- the way of the residual arc that leads on, where the one that leaves the node goes in this way
-abbrev pub way_on : Side → Way → Way
-way_on Ahead way = way
-way_on Behind way = other_way way
-
-pub leading_is : (side : Side) (end : End) → leading side end ≡ record { arc = (leaving end).arc; way = way_on side (leaving end).way }
-leading_is Ahead end = refl
-leading_is Behind end = refl
-
--- that residual arc goes from the node to the other one
-pub leads_from : (side : Side) (arcs : List ArcRow) (k : ℕ) (way : Way) → near_at side arcs k (way_on side way) ≡ start_at arcs k way
-leads_from Ahead arcs k way = refl
-leads_from Behind arcs k Forward = refl
-leads_from Behind arcs k Backward = refl
-
-pub leads_to : (side : Side) (arcs : List ArcRow) (k : ℕ) (way : Way) → far_at side arcs k (way_on side way) ≡ end_at arcs k way
-leads_to Ahead arcs k way = refl
-leads_to Behind arcs k Forward = refl
-leads_to Behind arcs k Backward = refl
-
--- each residual arc that leads on from a node is met by a walk
-pub far_in_met : (side : Side) (g : Graph) (w : Walk) (v : ℕ) (x : List ℤ) (set : List Bool) → AllHaveOrCome g w v (λ k way. IsFarIn side g.rows.items x set k (way_on side way)) → NothingToCome g w
-    → AreFarIn side g.rows.items x set v
-far_in_met Ahead g w v x set done nothing k way near residual = all_ends_met g w v (λ k way. IsFarIn Ahead g.rows.items x set k way) done nothing k way residual.is_arc near residual
-far_in_met Behind g w v x set done nothing k way near residual = all_entering g w v (λ k way. IsFarIn Behind g.rows.items x set k way) done nothing k way residual.is_arc near residual
+pub far_seen : (side : Side) (arcs : List ArcRow) (k : ℕ) (way : Way) → end_at (seen side arcs) k way ≡ far_at side arcs k way
+far_seen Ahead arcs k way = refl
+far_seen Behind arcs k way = end_at-turned arcs k way
 
 -- the node to which a residual arc leads on is marked
 pub IsGrown-put : (side : Side) (arcs : List ArcRow) (x : List ℤ) (set : List Bool) (line : List ℕ) (len v k : ℕ) (way : Way) → IsLineOf set line len → IsResidual arcs x k way → in_set set (near_at side arcs k way) ≡ true

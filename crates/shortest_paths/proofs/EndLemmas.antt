@@ -16,8 +16,8 @@ use Rattle.shortest_paths.specs.declared.walk.Stage.TheVariants.{Added, Return, 
 use Rattle.shortest_paths.specs.declared.walk.Walk.{Walk}
 use Rattle.shortest_paths.specs.Ends.{AllToCome, IsAddedUpTo, IsBeforeSpokes, IsEnd, IsEndAt, IsFirstStage, IsFromEnd, IsNextToCome, IsToCome, IsWalk, NothingToCome, StandsIn, entered, last_in, leaving, left_in, left_of, stage_of}
 use Rattle.shortest_paths.specs.Limits.{row_limit}
-use Rattle.shortest_paths.specs.Residual.{arc_at, end_at, end_of, other_way, start_at, start_of}
-use Rattle.shortest_paths.specs.Star.{Covers, IsPlaced, spoke_at}
+use Rattle.shortest_paths.specs.Residual.{arc_at, cost_at, cost_of, end_at, end_of, other_way, start_at, start_of}
+use Rattle.shortest_paths.specs.Star.{Covers, HasCost, IsPlaced, spoke_at}
 use Rattle.shortest_paths.specs.Walk.{AreRowsOf, end_way}
 use Rattle.shortest_paths.proofs.StarLemmas.{start_is}
 use Rattle.shortest_paths.proofs.WalkLemmas.{IsNextEnd, rows_split}
@@ -212,7 +212,7 @@ module _ (g : Graph) (w : Walk) (place : ℕ) (spoke : Spoke)
     way = end_way spoke.end
 
     abbrev at_spoke : End
-    at_spoke = record { number = spoke.end + 2 * w.first_row; other = spoke.other }
+    at_spoke = record { number = spoke.end + 2 * w.first_row; other = spoke.other; cost = spoke.cost }
 
     abbrev after : Walk
     after = record { node = w.node; first_row = w.first_row; covered = w.covered; stage = w.stage; next = place + 1; last = w.last }
@@ -239,6 +239,11 @@ module _ (g : Graph) (w : Walk) (place : ℕ) (spoke : Spoke)
         subst (λ (q : Spoke). q.end / 2 < g.star.arcs → q.other ≡ end_at g.net.arcs (q.end / 2 + 0) (end_way q.end)) (sym is)
         (λ low. walk.at.graph.star.named place (omega (arith, before_next, walk.at.graph.star.within (w.node + 1))) low) covered
 
+    has_cost : HasCost g.net.arcs spoke
+    has_cost =
+        subst (λ (q : Spoke). q.end / 2 < g.star.arcs → HasCost g.net.arcs q) (sym is)
+        (λ low. walk.at.graph.star.priced w.node place walk.at.node (omega (arith, walk.after, from)) before_next low) covered
+
     pub spoke_end : IsEndAt g.rows.items w.node at_spoke
     spoke_end = record {
       is_arc = omega (arith, spoke_row);
@@ -246,6 +251,8 @@ module _ (g : Graph) (w : Walk) (place : ℕ) (spoke : Spoke)
           ∙ ap (λ (a : ArcRow). start_of a way) row_there ∙ starts_at_node;
       ends = ap (λ (k : ℕ). end_at g.rows.items k (end_way at_spoke.number)) (number_row spoke.end w.first_row) ∙ ap (end_at g.rows.items row) (number_way spoke.end w.first_row)
           ∙ ap (λ (a : ArcRow). end_of a way) row_there ∙ ap (λ (k : ℕ). end_at g.net.arcs k way) none ∙ sym names_other;
+      cost = has_cost ∙ sym (ap (λ (k : ℕ). cost_at g.rows.items k (end_way at_spoke.number)) (number_row spoke.end w.first_row) ∙ ap (cost_at g.rows.items row) (number_way spoke.end w.first_row)
+          ∙ ap (λ (a : ArcRow). cost_of a way) row_there);
     }
       where
         none : spoke.end / 2 ≡ spoke.end / 2 + 0
@@ -303,7 +310,7 @@ added_rest g w current next k way stage is (inl before) = go (subst (λ (s : Sta
 -- a walk that goes on by the return arc
 pub return_rest : (g : Graph) (w : Walk) (first : Way) (next : Option ℕ) (k : ℕ) (way : Way) → w.stage ≡ Return first → IsNextEnd g.net.arcs w.node (2 * length g.net.arcs) next → IsToCome g w k way
     → ((k ≡ 0) × (way ≡ first)) ⊎ IsToCome g (entered g w (stage_of g.star.arcs next)) k way
-return_rest g w first next k way stage is (inr at) = inr (inr (record { place = at.place; after = at.after; before = at.before; covered = at.covered; from = at.from }))
+return_rest g w first next k _ stage is (inr at) = inr (inr (record { place = at.place; after = at.after; before = at.before; covered = at.covered; from = at.from }))
 return_rest g w first next k way stage is (inl before) = elim (subst (λ (s : Stage). IsBeforeSpokes g w.node w.first_row s k way) stage before) [
   | inl here ↦ inl here
   | inr added ↦ inr (inl (stage_more g w.node w.first_row (2 * length g.net.arcs) next k way is added added.is_end))
@@ -346,7 +353,7 @@ all_ends_met g w v P done nothing k way lt starts = elim (done k way lt starts) 
 ]
 
 pub is_end : (arcs : List ArcRow) (v : ℕ) (end : End) → IsEndAt arcs v end → IsEnd arcs end
-is_end arcs v end at = record { is_arc = at.is_arc; starts = refl; ends = at.ends }
+is_end arcs v end at = record { is_arc = at.is_arc; starts = refl; ends = at.ends; cost = at.cost }
 
 -- the same of the residual arcs that enter the node
 pub all_entering : (g : Graph) (w : Walk) (v : ℕ) (P : ℕ → Way → Type 0) → AllHaveOrCome g w v (λ k way. P k (other_way way)) → NothingToCome g w → (k : ℕ) (way : Way) → k < length g.rows.items → end_at g.rows.items k way ≡ v → P k way

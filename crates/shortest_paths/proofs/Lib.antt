@@ -15,3 +15,5 @@ pub mod TrailLemmas
 pub mod TouchedLemmas
 pub mod ApartLemmas
 pub mod EndLemmas
+pub mod SideLemmas
+pub mod TurnLemmas

@@ -1,10 +1,10 @@
 -- What one search, one change of potentials and the pushes after it keep.
 use Rattle.shortest_paths.specs.Limits.{potential_floor, label_floor, left_limit, excess_limit, entry_limit}
-use Rattle.std.proofs.Common.{◌≡◌, ℕ, zero, suc, ◌+◌, ◌<◌, ◌≤◌, ℤ, pos, negsuc, neg_ℤ, ◌-ℤ◌, ◌+ℤ◌, ◌≤ℤ◌, List, [], ◌∷◌, length, refl, sym, ap, subst, ◌∙◌, inl, inr, arith}
+use Rattle.std.proofs.Common.{◌≡◌, ℕ, zero, suc, ◌+◌, ◌<◌, ◌≤◌, ℤ, pos, negsuc, neg_ℤ, ◌-ℤ◌, ◌+ℤ◌, ◌≤ℤ◌, List, [], ◌∷◌, length, map, refl, sym, ap, subst, ◌∙◌, inl, inr, arith}
 use Rattle.std.specs.Prelude.{◌<ℤ◌, slice_index_or}
 use Rattle.std.proofs.lemmas.Int.{ints}
-use Rattle.std.proofs.lemmas.Bool.{cases_eq}
-use Rattle.std.proofs.lemmas.List.{get_or_default}
+use Rattle.std.proofs.lemmas.Bool.{cases_eq, cases_lt}
+use Rattle.std.proofs.lemmas.List.{get_or_default, get_or_past, length-map}
 use Rattle.std.proofs.lemmas.List.Sums.{sum_by-cons, sum_by-le}
 use Rattle.dimacs_text.specs.declared.problem.ArcRow.{ArcRow}
 use Rattle.shortest_paths.specs.declared.visit.Mark.{Mark}
@@ -13,11 +13,11 @@ use Rattle.shortest_paths.specs.declared.visit.Visit.{Visit}
 use Rattle.shortest_paths.specs.Residual.{IsCertified, ArePotentials, NoneBelow, number_at, end_at}
 use Rattle.shortest_paths.specs.Search.{mark_at, key_at, depth_at, IsSearch, AllRelaxed, IsFromExcess, IsFoundDeficit, IsFront, IsLowered, lowered_by}
 use Rattle.network.specs.Flow.{net}
-use Rattle.shortest_paths.specs.Push.{Hop, IsExcess, IsPush, Pushes, path_of, root_to, HavePaths, ArePathsTight, HasRoom, IsTransfer, IsUnderWay, ArePushes, CanPush, push_along, at_node, AreSmall, positive_part, left}
+use Rattle.shortest_paths.specs.Push.{Hop, IsExcess, IsPush, Pushes, path_of, root_to, HavePaths, ArePathsTight, HasRoom, IsTransfer, IsUnderWay, ArePushes, CanPush, push_along, at_node, AreSmall, positive_part, left, lack}
 use Rattle.shortest_paths.specs.Settle.{IsNear}
-use Rattle.shortest_paths.specs.Cut.{lack}
 use Rattle.shortest_paths.proofs.SearchLemmas.{settled_is_reached}
 use Rattle.shortest_paths.proofs.RunLemmas.{lowered_none_below}
+use Rattle.shortest_paths.proofs.TurnLemmas.{number_at-neg, left-neg}
 use Rattle.shortest_paths.proofs.BlockingLemmas.{IsAlong}
 use Rattle.shortest_paths.proofs.PushLemmas.{arc_to, way_to, before, root_reached, IsShift-along, IsFlow-along, NoneBelow-along, net-along, at_same, at_other}
 
@@ -180,6 +180,23 @@ module _ (nodes : ℕ) (arcs : List ArcRow) (q x e : List ℤ) (hops : List Hop)
         (λ v same. positive_part-mono (number_at f v) (number_at e v) (λ h. omega (arith, ints, same))))
         (positive_part-less (number_at f root) (number_at e root) (omega (arith, ints, in_excess, at_least_1)) (omega (arith, ints, f_root, at_least_1)))
 
+    -- the target is in deficit, so it is one of the nodes
+    target_in : t < length e
+    target_in = elim (cases_lt t (length e)) [
+      | inl lt ↦ lt
+      | inr past ↦ absurd (let nothing : number_at e t ≡ pos 0 = get_or_past e t (pos 0) past in omega (arith, ints, nothing, in_deficit, at_least_1))
+    ]
+
+    lack_falls : lack f < lack e
+    lack_falls =
+        let lower = left-less (map neg_ℤ e) (map neg_ℤ f) t (omega (arith, length-map e neg_ℤ, length-map f neg_ℤ, transfer.same_length)) (omega (arith, length-map e neg_ℤ, target_in))
+        (by_three (λ v. positive_part (number_at (map neg_ℤ f) v) ≤ positive_part (number_at (map neg_ℤ e) v))
+        (positive_part-mono (number_at (map neg_ℤ f) root) (number_at (map neg_ℤ e) root) (λ h. absurd (omega (arith, ints, h, number_at-neg f root, f_root, in_excess))))
+        (positive_part-mono (number_at (map neg_ℤ f) t) (number_at (map neg_ℤ e) t) (λ h. omega (arith, ints, number_at-neg f t, number_at-neg e t, f_target, at_least_1)))
+        (λ v same. positive_part-mono (number_at (map neg_ℤ f) v) (number_at (map neg_ℤ e) v) (λ h. omega (arith, ints, number_at-neg f v, number_at-neg e v, same))))
+        (positive_part-less (number_at (map neg_ℤ f) t) (number_at (map neg_ℤ e) t) (omega (arith, ints, number_at-neg e t, in_deficit, at_least_1)) (omega (arith, ints, number_at-neg f t, number_at-neg e t, f_target, at_least_1))) in
+        omega (arith, lower, left-neg e, left-neg f)
+
     net_after : (v : ℕ) → net arcs (push_along hops m x) v ≡ (net arcs x v +ℤ at_node root m v) -ℤ at_node t m v
     net_after v = net-along arcs hops m x root t v is.leads is.apart state.flow.same_length
 
@@ -210,12 +227,9 @@ module _ (nodes : ℕ) (arcs : List ArcRow) (q x e : List ℤ) (hops : List Hop)
       excess = λ supply known v. omega (arith, ints, known v, net_after v, transfer.by_node v);
       pushes = λ supply known. (x, refl, is_push supply known);
       count = omega (arith, left_falls);
+      lacking = omega (arith, lack_falls);
       none = λ h. absurd (omega (arith, h));
     }
-
-    -- what is lacking at the target falls, and nowhere more is lacking
-    pub lack_falls : number_at f t ≡ number_at e t +ℤ m
-    lack_falls = f_target
 
 -- ---- pushes one after the other
 
@@ -224,6 +238,7 @@ ArePushes-none arcs x e = record {
   excess = λ supply is. is;
   pushes = λ supply is. refl;
   count = omega arith;
+  lacking = omega arith;
   none = λ h. (refl, refl);
 }
 
@@ -243,6 +258,7 @@ ArePushes-more {arcs} {m} {n} {x} {e} {y} {f} {z} {g} first rest =
       excess = λ supply is. rest.excess supply (first.excess supply is);
       pushes = λ supply is. subst (λ (k : ℕ). Pushes arcs supply k x z) turned (Pushes-more arcs supply m n x y z (first.pushes supply is) (rest.pushes supply (first.excess supply is)));
       count = omega (arith, first.count, rest.count);
+      lacking = omega (arith, first.lacking, rest.lacking);
       none = λ h.
           (let kept = first.none (omega arith) in
           let still = rest.none (omega arith) in

@@ -1,5 +1,5 @@
 -- What the trail of a search lists, and how the reached nodes are found again.
-use Rattle.std.proofs.Common.{◌≡◌, ◌≢◌, ℕ, suc, ◌+◌, ◌<◌, ℤ, pos, ◌≤ℤ◌, List, [], ◌∷◌, length, Bool, true, false, cond, slice_set, arith, ap, refl, rules, inl, inr, ◌∙◌, subst, sym}
+use Rattle.std.proofs.Common.{◌≡◌, ◌≢◌, ℕ, zero, suc, ◌+◌, ◌<◌, ℤ, pos, ◌≤ℤ◌, List, [], ◌∷◌, length, Bool, true, false, cond, replicate, slice_set, arith, ap, refl, rules, inl, inr, ◌∙◌, subst, sym}
 use Rattle.std.specs.Prelude.{◌<ℤ◌, int_lt, slice_index}
 use Rattle.std.proofs.lemmas.Bool.{cases_eq}
 use Rattle.std.proofs.lemmas.Int.{ints, by_lt_z}
@@ -15,7 +15,7 @@ use Rattle.shortest_paths.specs.Cut.{IsListed, node_at}
 use Rattle.shortest_paths.specs.Queue.{IsQueueOf}
 use Rattle.shortest_paths.specs.Residual.{IsCertified, number_at}
 use Rattle.shortest_paths.specs.Search.{AllRelaxed, IsFinding, IsFromExcess, IsReached, IsLowered, IsSearch, Settles, depth_at, is_unsettled, key_at, lowered, lowered_by, mark_at, source_visit, unsettled, visit_at}
-use Rattle.shortest_paths.specs.Trail.{HoldReached, IsTrailFor, IsTrailOf}
+use Rattle.shortest_paths.specs.Trail.{HoldReached, IsFresh, IsTrailFor, IsTrailOf}
 use Rattle.shortest_paths.proofs.SearchLemmas.{in_range, open_is_reached, settled_is_reached, weight_of, weight_unsettled}
 
 -- after a search the trail and the queue hold what it reached
@@ -203,3 +203,9 @@ lowered_along s t reach before now trail written v = by_mark (mark_at s v) refl
     by_mark Settled is =
         let there = trail.listed v is in
         subst (λ (w : ℕ). number_at now w ≡ lowered (number_at before w) (visit_at s w) reach) there.is_there (written.done there.place there.in_line)
+
+-- a table of nodes that no search has reached
+pub fresh_table : (n : ℕ) → IsFresh (replicate n (source_visit (pos 0)))
+fresh_table zero v = refl
+fresh_table (suc n) zero = refl
+fresh_table (suc n) (suc v) = fresh_table n v

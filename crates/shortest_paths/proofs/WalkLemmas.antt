@@ -42,7 +42,7 @@ stands_at arcs u n (Some end) le is = (let at = is.found end refl in (omega (ari
 
 -- ---- the first end of a node
 
-row_ends : (n : ℕ) (arcs : List ArcRow) → AllEndsIn n arcs → (k : ℕ) → k < length arcs → IsNodeOf n (arc_at arcs k).tail × IsNodeOf n (arc_at arcs k).head
+pub row_ends : (n : ℕ) (arcs : List ArcRow) → AllEndsIn n arcs → (k : ℕ) → k < length arcs → IsNodeOf n (arc_at arcs k).tail × IsNodeOf n (arc_at arcs k).head
 row_ends n [] ends k lt = absurd (omega arith)
 row_ends n (a ∷ arcs) ends zero lt = (ends.0.0, ends.0.1)
 row_ends n (a ∷ arcs) ends (suc k) lt = row_ends n arcs ends.1 k (omega arith)

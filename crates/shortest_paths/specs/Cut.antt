@@ -1,17 +1,15 @@
 -- Sets of nodes whose supply cannot leave, or whose demand cannot be met
 -- (Ahuja, Magnanti, Orlin, "Network Flows": feasibility of flows, cuts).
-use Rattle.std.specs.Prelude.{◌≡◌, ℕ, suc, ◌+◌, ◌<◌, ◌≤◌, ℤ, pos, neg_ℤ, ◌-ℤ◌, ◌+ℤ◌, ◌≤ℤ◌, List, [], ◌∷◌, length, slice_index_or, Bool, true, false, if◌then◌else◌, ◌&&◌, not, IsTrue}
+use Rattle.std.specs.Prelude.{◌≡◌, ℕ, suc, ◌+◌, ◌<◌, ◌≤◌, ℤ, pos, ◌-ℤ◌, ◌+ℤ◌, ◌≤ℤ◌, List, [], ◌∷◌, length, slice_index_or, Bool, true, false, if◌then◌else◌, ◌&&◌, not, IsTrue}
 use Rattle.dimacs_text.specs.declared.problem.ArcRow.{ArcRow}
 use Rattle.std.specs.Prelude.{◌<ℤ◌}
-use Rattle.std.specs.List.{sum_by, count_by}
-use Rattle.shortest_paths.specs.declared.residual.ResidualArc.{ResidualArc}
+use Rattle.std.specs.List.{count_by}
 use Rattle.shortest_paths.specs.declared.residual.Way.{Way}
-use Rattle.shortest_paths.specs.declared.walk.End.{End}
-use Rattle.shortest_paths.specs.declared.cut.Side.{Side}
-use Rattle.shortest_paths.specs.declared.cut.Side.TheVariants.{Ahead, Behind}
-use Rattle.shortest_paths.specs.Ends.{leaving}
-use Rattle.shortest_paths.specs.Push.{positive_part, left}
-use Rattle.shortest_paths.specs.Residual.{number_at, arc_at, start_of, end_of, turned, IsResidual}
+use Rattle.shortest_paths.specs.declared.side.Side.{Side}
+use Rattle.shortest_paths.specs.declared.side.Side.TheVariants.{Ahead, Behind}
+use Rattle.shortest_paths.specs.Push.{left}
+pub use Rattle.shortest_paths.specs.Push.{lack}
+use Rattle.shortest_paths.specs.Residual.{number_at, arc_at, start_of, end_of, IsResidual}
 
 -- whether node v is in the set
 abbrev pub in_set : List Bool → ℕ → Bool
@@ -48,10 +46,6 @@ pub record IsLeastSet (value : List Bool → ℤ) (set : List Bool) (d : ℤ) : 
   pub greatest : (other : List Bool) → length other ≡ length set → value other ≤ℤ d
   pub smallest : (other : List Bool) → length other ≡ length set → value other ≡ d → (v : ℕ) → IsTrue (in_set set v) → IsTrue (in_set other v)
 
--- the sum of what lies in deficit
-abbrev pub lack : List ℤ → ℕ
-lack e = sum_by (λ z. positive_part (neg_ℤ z)) e
-
 -- a node with this excess is one that a side begins at: ahead those in excess, behind those in deficit
 abbrev pub IsRoot : Side → ℤ → Type 0
 IsRoot Ahead e = pos 0 <ℤ e
@@ -77,11 +71,6 @@ near_at side arcs k way = near_of side (arc_at arcs k) way
 
 abbrev pub far_at : Side → List ArcRow → ℕ → Way → ℕ
 far_at side arcs k way = far_of side (arc_at arcs k) way
-
--- the residual arc that leads on from an end of an arc
-abbrev pub leading : Side → End → ResidualArc
-leading Ahead end = leaving end
-leading Behind end = turned (leaving end)
 
 -- no residual arc leads on out of the set: ahead none leaves it, and behind none enters it
 abbrev pub IsClosed : Side → List ArcRow → List ℤ → List Bool → Type 0

@@ -11,7 +11,7 @@ use Rattle.shortest_paths.specs.declared.walk.Stage.TheVariants.{Return, Added, 
 use Rattle.shortest_paths.specs.declared.walk.Walk.{Walk}
 use Rattle.shortest_paths.specs.Graph.{IsGraphFor}
 use Rattle.shortest_paths.specs.Limits.{row_limit}
-use Rattle.shortest_paths.specs.Residual.{end_at, start_at}
+use Rattle.shortest_paths.specs.Residual.{cost_at, end_at, start_at}
 use Rattle.shortest_paths.specs.Star.{spoke_at}
 use Rattle.shortest_paths.specs.Walk.{end_way}
 
@@ -19,11 +19,12 @@ use Rattle.shortest_paths.specs.Walk.{end_way}
 abbrev pub leaving : End → ResidualArc
 leaving end = record { arc = end.number / 2; way = end_way end.number }
 
--- the residual arc that leaves node v there, and the node to which it leads
+-- the residual arc that leaves node v there, the node to which it leads, and its cost
 pub record IsEndAt (arcs : List ArcRow) (v : ℕ) (end : End) : Type 0 where
   pub is_arc : (leaving end).arc < length arcs
   pub starts : start_at arcs (leaving end).arc (leaving end).way ≡ v
   pub ends : end_at arcs (leaving end).arc (leaving end).way ≡ end.other
+  pub cost : end.cost ≡ cost_at arcs (leaving end).arc (leaving end).way
 
 -- the end of an arc that is there, at the node which the residual arc leaves
 abbrev pub IsEnd : List ArcRow → End → Type 0

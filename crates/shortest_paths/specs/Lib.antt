@@ -4,6 +4,7 @@ pub mod Nodes
 pub mod Search
 pub mod Push
 pub mod Settle
+pub mod Side
 pub mod Cut
 pub mod Touched
 pub mod Graph

@@ -69,6 +69,10 @@ positive_part (negsuc n) = 0
 abbrev pub left : List ℤ → ℕ
 left excess = sum_by positive_part excess
 
+-- the sum of what lies in deficit
+abbrev pub lack : List ℤ → ℕ
+lack e = sum_by (λ z. positive_part (neg_ℤ z)) e
+
 -- the path by which the search came to v, which has d hops
 abbrev pub path_of : List ArcRow → List Visit → ℕ → ℕ → List Hop
 path_of arcs s zero v = []
@@ -158,6 +162,7 @@ pub record ArePushes (arcs : List ArcRow) (n : ℕ) (x e y f : List ℤ) : Type 
   pub excess : (supply : ℕ → ℤ) → IsExcess arcs supply x e → IsExcess arcs supply y f
   pub pushes : (supply : ℕ → ℤ) → IsExcess arcs supply x e → Pushes arcs supply n x y
   pub count : n + left f ≤ left e
+  pub lacking : n + lack f ≤ lack e
   pub none : n ≡ 0 → (x ≡ y) × (e ≡ f)
 
 -- node t lacks something that can be pushed along its path

@@ -9,6 +9,7 @@ use Rattle.shortest_paths.specs.Trail.{IsFresh, IsTrailFor}
 -- each table has one entry a node, and no node is marked by a search
 pub record IsScratchFor (entries : ℕ) (s : Scratch) : Type 0 where
   pub visits_sized : length s.visits.items ≡ entries
+  pub potentials_sized : length s.potentials.items ≡ entries
   pub fresh : IsFresh s.visits.items
   pub labels : IsLabelsFor entries s.labels
   pub queue : IsQueueFor entries s.queue

@@ -3,6 +3,7 @@
 ghost use Rattle.std.specs.Prelude.{◌≡◌, ◌≢◌, ℕ, ℤ, length, slice_set, pos, neg_ℤ, ◌≤ℤ◌, ◌<ℤ◌, ◌<◌, ◌≤◌, ◌⊎◌, List};
 ghost use Rattle.shortest_paths.specs.Blocking.{AreAlive, IsDone, IsFound, IsWalksFor, IsWay, hops_from};
 ghost use Rattle.shortest_paths.specs.Graph.{IsGraphFor};
+ghost use Rattle.shortest_paths.specs.Side.{seen};
 ghost use Rattle.shortest_paths.specs.Limits.{potential_floor};
 ghost use Rattle.shortest_paths.specs.Residual.{IsRow, IsWithin, IsFlow, ArePotentials, number_at, arc_at, room_of};
 ghost use Rattle.shortest_paths.specs.Search.{IsFoundDeficit};
@@ -11,7 +12,6 @@ ghost use Rattle.shortest_paths.specs.Touched.{AreNoted};
 ghost use Rattle.shortest_paths.specs.Trail.{IsTrailOf};
 
 use crate::blocking::{Walks, find_path};
-use crate::graph::Graph;
 use crate::levels::Levels;
 use crate::residual::{ResidualArc, Way};
 use crate::touched::Touched;
@@ -26,34 +26,34 @@ struct FoundPath {
 }
 
 /// How much fits along a residual arc, at most `limit`.
-fn room_on(graph: &Graph, flow: &[i64], hop: ResidualArc, limit: i64) -> i64
-    requires flow { (nodes : ℕ) × IsFlow nodes graph.now.rows.items flow.now }
-    requires arc_in { hop.arc < length graph.now.rows.items }
+fn room_on(levels: Levels<'_>, flow: &[i64], hop: ResidualArc, limit: i64) -> i64
+    requires flow { (nodes : ℕ) × IsFlow nodes (seen levels.side levels.graph.now.rows.items) flow.now }
+    requires arc_in { hop.arc < length (seen levels.side levels.graph.now.rows.items) }
     ensures at_most { result ≤ℤ limit }
-    ensures fits { result ≤ℤ room_of (arc_at graph.now.rows.items hop.arc) (number_at flow.now hop.arc) hop.way }
-    ensures most { (m : ℤ) → m ≤ℤ limit → m ≤ℤ room_of (arc_at graph.now.rows.items hop.arc) (number_at flow.now hop.arc) hop.way → m ≤ℤ result }
+    ensures fits { result ≤ℤ room_of (arc_at (seen levels.entry.side levels.entry.graph.now.rows.items) hop.arc) (number_at flow.now hop.arc) hop.way }
+    ensures most { (m : ℤ) → m ≤ℤ limit → m ≤ℤ room_of (arc_at (seen levels.entry.side levels.entry.graph.now.rows.items) hop.arc) (number_at flow.now hop.arc) hop.way → m ≤ℤ result }
 {
-    let row = graph.rows[hop.arc as usize];
+    let row = levels.graph.row(levels.side, hop.arc as usize);
     let fits = hop.way.room(&row, flow[hop.arc as usize]);
     limit.min(fits)
 }
 
 /// How much fits along the path on which the walk came from `target` to `root`, at most `limit`.
 fn bottleneck(levels: Levels<'_>, flow: &[i64], walks: &Walks, path: FoundPath, limit: i64) -> i64
-    requires flow { IsFlow (length levels.visits.now) levels.graph.now.rows.items flow.now }
+    requires flow { IsFlow (length levels.visits.now) (seen levels.side levels.graph.now.rows.items) flow.now }
     requires walks { IsWalksFor (length levels.visits.now) walks.now }
     requires target_in { path.target < length levels.visits.now }
-    requires way { IsWay levels.graph.now.rows.items flow.now levels.visits.now walks.now path.target path.root }
+    requires way { IsWay (seen levels.side levels.graph.now.rows.items) flow.now levels.visits.now walks.now path.target path.root }
     ensures at_most { result ≤ℤ limit }
-    ensures room { HasRoom levels.entry.graph.now.rows.items flow.now result (hops_from levels.entry.graph.now.rows.items levels.entry.visits.now walks.now.back.items path.target path.root) }
-    ensures most { (m : ℤ) → m ≤ℤ limit → HasRoom levels.entry.graph.now.rows.items flow.now m (hops_from levels.entry.graph.now.rows.items levels.entry.visits.now walks.now.back.items path.target path.root) → m ≤ℤ result }
+    ensures room { HasRoom (seen levels.entry.side levels.entry.graph.now.rows.items) flow.now result (hops_from (seen levels.entry.side levels.entry.graph.now.rows.items) levels.entry.visits.now walks.now.back.items path.target path.root) }
+    ensures most { (m : ℤ) → m ≤ℤ limit → HasRoom (seen levels.entry.side levels.entry.graph.now.rows.items) flow.now m (hops_from (seen levels.entry.side levels.entry.graph.now.rows.items) levels.entry.visits.now walks.now.back.items path.target path.root) → m ≤ℤ result }
 {
     let mut room = limit;
     let mut node = path.root;
     while levels.visits[node].depth < levels.visits[path.target].depth {
         let hop = walks.way_on(node);
-        room = room_on(levels.graph, flow, hop, room);
-        node = levels.graph.end(hop.arc as usize, hop.way);
+        room = room_on(levels, flow, hop, room);
+        node = levels.graph.end(levels.side, hop.arc as usize, hop.way);
     }
     room
 }
@@ -66,19 +66,19 @@ fn amount_along(
     walks: &Walks,
     path: FoundPath,
 ) -> i64
-    requires flow { IsFlow (length levels.visits.now) levels.graph.now.rows.items flow.now }
+    requires flow { IsFlow (length levels.visits.now) (seen levels.side levels.graph.now.rows.items) flow.now }
     requires excess_in { length excess.now ≡ length levels.visits.now }
     requires small { AreSmall excess.now }
     requires walks { IsWalksFor (length levels.visits.now) walks.now }
     requires target_in { path.target < length levels.visits.now }
-    requires way { IsWay levels.graph.now.rows.items flow.now levels.visits.now walks.now path.target path.root }
+    requires way { IsWay (seen levels.side levels.graph.now.rows.items) flow.now levels.visits.now walks.now path.target path.root }
     requires some_excess { pos 0 <ℤ number_at excess.now path.root }
     requires some_deficit { number_at excess.now path.target <ℤ pos 0 }
     ensures at_least_1 { pos 1 ≤ℤ result }
     ensures in_excess { result ≤ℤ number_at excess.now path.root }
     ensures in_deficit { number_at excess.now path.target ≤ℤ neg_ℤ result }
-    ensures room { HasRoom levels.entry.graph.now.rows.items flow.now result (hops_from levels.entry.graph.now.rows.items levels.entry.visits.now walks.now.back.items path.target path.root) }
-    ensures most { (m : ℤ) → m ≤ℤ number_at excess.now path.root → number_at excess.now path.target ≤ℤ neg_ℤ m → HasRoom levels.entry.graph.now.rows.items flow.now m (hops_from levels.entry.graph.now.rows.items levels.entry.visits.now walks.now.back.items path.target path.root) → m ≤ℤ result }
+    ensures room { HasRoom (seen levels.entry.side levels.entry.graph.now.rows.items) flow.now result (hops_from (seen levels.entry.side levels.entry.graph.now.rows.items) levels.entry.visits.now walks.now.back.items path.target path.root) }
+    ensures most { (m : ℤ) → m ≤ℤ number_at excess.now path.root → number_at excess.now path.target ≤ℤ neg_ℤ m → HasRoom (seen levels.entry.side levels.entry.graph.now.rows.items) flow.now m (hops_from (seen levels.entry.side levels.entry.graph.now.rows.items) levels.entry.visits.now walks.now.back.items path.target path.root) → m ≤ℤ result }
 {
     let surplus = excess[path.root];
     let lacking = -excess[path.target];
@@ -95,35 +95,41 @@ fn shift(
     amount: i64,
 )
     requires touched_in { length flow.old ≤ length touched.old }
-    requires flow { IsFlow (length levels.visits.now) levels.graph.now.rows.items flow.old }
+    requires flow { IsFlow (length levels.visits.now) (seen levels.side levels.graph.now.rows.items) flow.old }
     requires walks { IsWalksFor (length levels.visits.now) walks.now }
     requires target_in { path.target < length levels.visits.now }
-    requires way { IsWay levels.graph.now.rows.items flow.old levels.visits.now walks.now path.target path.root }
+    requires way { IsWay (seen levels.side levels.graph.now.rows.items) flow.old levels.visits.now walks.now path.target path.root }
     requires amount { pos 1 ≤ℤ amount }
-    requires room { HasRoom levels.graph.now.rows.items flow.old amount (hops_from levels.graph.now.rows.items levels.visits.now walks.now.back.items path.target path.root) }
-    ensures flow { flow.new ≡ push_along (hops_from levels.entry.graph.now.rows.items levels.entry.visits.now walks.now.back.items path.target path.root) amount flow.old }
+    requires room { HasRoom (seen levels.side levels.graph.now.rows.items) flow.old amount (hops_from (seen levels.side levels.graph.now.rows.items) levels.visits.now walks.now.back.items path.target path.root) }
+    ensures flow { flow.new ≡ push_along (hops_from (seen levels.entry.side levels.entry.graph.now.rows.items) levels.entry.visits.now walks.now.back.items path.target path.root) amount flow.old }
     ensures noted { AreNoted touched.old flow.old touched.new flow.new }
 {
     let mut node = path.root;
     while levels.visits[node].depth < levels.visits[path.target].depth {
         let hop = walks.way_on(node);
-        shift_on(levels.graph, flow, touched, hop, amount);
-        node = levels.graph.end(hop.arc as usize, hop.way);
+        shift_on(levels, flow, touched, hop, amount);
+        node = levels.graph.end(levels.side, hop.arc as usize, hop.way);
     }
 }
 
 /// Moves `amount` along a residual arc.
-fn shift_on(graph: &Graph, flow: &mut [i64], touched: &mut Touched, hop: ResidualArc, amount: i64)
+fn shift_on(
+    levels: Levels<'_>,
+    flow: &mut [i64],
+    touched: &mut Touched,
+    hop: ResidualArc,
+    amount: i64,
+)
     requires touched_in { length flow.old ≤ length touched.old }
-    requires flow { (nodes : ℕ) × IsFlow nodes graph.now.rows.items flow.old }
-    requires arc_in { hop.arc < length graph.now.rows.items }
+    requires flow { (nodes : ℕ) × IsFlow nodes (seen levels.side levels.graph.now.rows.items) flow.old }
+    requires arc_in { hop.arc < length (seen levels.side levels.graph.now.rows.items) }
     requires amount { pos 1 ≤ℤ amount }
-    requires fits { amount ≤ℤ room_of (arc_at graph.now.rows.items hop.arc) (number_at flow.old hop.arc) hop.way }
+    requires fits { amount ≤ℤ room_of (arc_at (seen levels.side levels.graph.now.rows.items) hop.arc) (number_at flow.old hop.arc) hop.way }
     ensures flow { flow.new ≡ slice_set flow.old hop.arc (moved hop.way (number_at flow.old hop.arc) amount) }
     ensures noted { AreNoted touched.old flow.old touched.new flow.new }
 {
     let arc = hop.arc as usize;
-    let row = graph.rows[arc];
+    let row = levels.graph.row(levels.side, arc);
     flow[arc] = shifted(&row, flow[arc], hop.way, amount);
     touched.note(arc);
 }
@@ -167,14 +173,14 @@ fn push_on(
     path: FoundPath,
 )
     requires touched_in { length flow.old ≤ length touched.old }
-    requires state { IsUnderWay (length levels.visits.now) levels.graph.now.rows.items levels.potentials.now flow.old excess.old }
+    requires state { IsUnderWay (length levels.visits.now) (seen levels.side levels.graph.now.rows.items) levels.potentials.now flow.old excess.old }
     requires walks { IsWalksFor (length levels.visits.now) walks.now }
     requires target_in { path.target < length levels.visits.now }
     requires some_deficit { number_at excess.old path.target <ℤ pos 0 }
-    requires found { IsFound levels.graph.now.rows.items levels.potentials.now flow.old excess.old levels.visits.now walks.now path.target path.root }
+    requires found { IsFound (seen levels.side levels.graph.now.rows.items) levels.potentials.now flow.old excess.old levels.visits.now walks.now path.target path.root }
     ensures noted { AreNoted touched.old flow.old touched.new flow.new }
-    ensures state { IsUnderWay (length levels.entry.visits.now) levels.entry.graph.now.rows.items levels.entry.potentials.now flow.new excess.new }
-    ensures push { ArePushes levels.entry.graph.now.rows.items 1 flow.old excess.old flow.new excess.new }
+    ensures state { IsUnderWay (length levels.entry.visits.now) (seen levels.entry.side levels.entry.graph.now.rows.items) levels.entry.potentials.now flow.new excess.new }
+    ensures push { ArePushes (seen levels.entry.side levels.entry.graph.now.rows.items) 1 flow.old excess.old flow.new excess.new }
 {
     let amount = amount_along(levels, flow, excess, walks, path);
     shift(levels, flow, touched, walks, path, amount);
@@ -192,15 +198,15 @@ fn push_to(
 ) -> u64
     requires graph { IsGraphFor (length levels.potentials.now) levels.graph.now }
     requires touched_in { length flow.old ≤ length touched.old }
-    requires state { IsUnderWay (length levels.visits.now) levels.graph.now.rows.items levels.potentials.now flow.old excess.old }
+    requires state { IsUnderWay (length levels.visits.now) (seen levels.side levels.graph.now.rows.items) levels.potentials.now flow.old excess.old }
     requires walks { IsWalksFor (length levels.visits.now) walks.old }
     requires target_in { target < length levels.visits.now }
     ensures noted { AreNoted touched.old flow.old touched.new flow.new }
-    ensures state { IsUnderWay (length levels.entry.visits.now) levels.entry.graph.now.rows.items levels.entry.potentials.now flow.new excess.new }
+    ensures state { IsUnderWay (length levels.entry.visits.now) (seen levels.entry.side levels.entry.graph.now.rows.items) levels.entry.potentials.now flow.new excess.new }
     ensures walks { IsWalksFor (length levels.entry.visits.now) walks.new }
-    ensures pushes { ArePushes levels.entry.graph.now.rows.items result flow.old excess.old flow.new excess.new }
+    ensures pushes { ArePushes (seen levels.entry.side levels.entry.graph.now.rows.items) result flow.old excess.old flow.new excess.new }
     ensures done { IsDone excess.new walks.new target }
-    ensures some { ArePaths levels.entry.graph.now.rows.items levels.entry.potentials.now levels.entry.visits.now → CanPush levels.entry.graph.now.rows.items flow.old excess.old levels.entry.visits.now target → AreAlive levels.entry.visits.now walks.old.dead.items → 0 < result }
+    ensures some { ArePaths (seen levels.entry.side levels.entry.graph.now.rows.items) levels.entry.potentials.now levels.entry.visits.now → CanPush (seen levels.entry.side levels.entry.graph.now.rows.items) flow.old excess.old levels.entry.visits.now target → AreAlive levels.entry.visits.now walks.old.dead.items → 0 < result }
     ensures kept { (number_at excess.old target <ℤ pos 0) ⊎ (walks.new ≡ walks.old) }
 {
     let mut pushes = 0;
@@ -234,15 +240,15 @@ pub fn push_found(
 ) -> u64
     requires graph { IsGraphFor (length levels.potentials.now) levels.graph.now }
     requires touched_in { length flow.old ≤ length touched.old }
-    requires state { IsUnderWay (length levels.visits.now) levels.graph.now.rows.items levels.potentials.now flow.old excess.old }
-    requires paths { ArePaths levels.graph.now.rows.items levels.potentials.now levels.visits.now }
+    requires state { IsUnderWay (length levels.visits.now) (seen levels.side levels.graph.now.rows.items) levels.potentials.now flow.old excess.old }
+    requires paths { ArePaths (seen levels.side levels.graph.now.rows.items) levels.potentials.now levels.visits.now }
     requires trail { IsTrailOf levels.visits.now trail.now }
     requires walks { IsWalksFor (length levels.visits.now) walks.old }
-    requires can_push { (t : ℕ) → IsFoundDeficit excess.old levels.visits.now t → CanPush levels.graph.now.rows.items flow.old excess.old levels.visits.now t }
+    requires can_push { (t : ℕ) → IsFoundDeficit excess.old levels.visits.now t → CanPush (seen levels.side levels.graph.now.rows.items) flow.old excess.old levels.visits.now t }
     ensures noted { AreNoted touched.old flow.old touched.new flow.new }
-    ensures state { IsUnderWay (length levels.entry.visits.now) levels.entry.graph.now.rows.items levels.entry.potentials.now flow.new excess.new }
+    ensures state { IsUnderWay (length levels.entry.visits.now) (seen levels.entry.side levels.entry.graph.now.rows.items) levels.entry.potentials.now flow.new excess.new }
     ensures walks { IsWalksFor (length levels.entry.visits.now) walks.new }
-    ensures pushes { ArePushes levels.entry.graph.now.rows.items result flow.old excess.old flow.new excess.new }
+    ensures pushes { ArePushes (seen levels.entry.side levels.entry.graph.now.rows.items) result flow.old excess.old flow.new excess.new }
     ensures some { (t : ℕ) → IsFoundDeficit excess.old levels.entry.visits.now t → 0 < result }
 {
     walks.refresh(trail);

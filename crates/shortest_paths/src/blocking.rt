@@ -3,6 +3,7 @@
 ghost use Rattle.std.specs.Prelude.{◌≡◌, ℕ, ℤ, List, length, pos, ◌≤ℤ◌, ◌<ℤ◌, ◌+ℤ◌, ◌-ℤ◌, ◌<◌, ◌≤◌, ◌+◌, ◌/◌, ◌^◌, IsTrue, ◌↔◌, false, slice_index, slice_set, IfOk, IfSome, IfNone, Some};
 ghost use Rattle.shortest_paths.specs.Cut.{in_set};
 ghost use Rattle.shortest_paths.specs.Graph.{IsGraphFor};
+ghost use Rattle.shortest_paths.specs.Side.{seen};
 ghost use Rattle.shortest_paths.specs.Limits.{entry_limit, potential_floor, row_limit};
 ghost use Rattle.shortest_paths.specs.Residual.{IsRow, IsFlow, ArePotentials, number_at, start_at, end_at, start_of, end_of, cost_of};
 ghost use Rattle.shortest_paths.specs.Search.{visit_at};
@@ -96,13 +97,13 @@ fn is_tight(row: &ArcRow, potentials: &[i64], way: Way) -> bool
 
 /// Whether arc `k`, gone along in this way, is a hop that a path to the node can take.
 fn is_hop_to(levels: Levels<'_>, flow: &[i64], node: usize, arc: ResidualArc) -> bool
-    requires flow { IsFlow (length levels.visits.now) levels.graph.now.rows.items flow.now }
+    requires flow { IsFlow (length levels.visits.now) (seen levels.side levels.graph.now.rows.items) flow.now }
     requires node_in { node < length levels.visits.now }
-    requires arc_in { arc.arc < length levels.graph.now.rows.items }
-    ensures { IsTrue result ↔ IsHopTo levels.entry.graph.now.rows.items levels.entry.potentials.now flow.now levels.entry.visits.now node arc.arc arc.way }
+    requires arc_in { arc.arc < length (seen levels.side levels.graph.now.rows.items) }
+    ensures { IsTrue result ↔ IsHopTo (seen levels.entry.side levels.entry.graph.now.rows.items) levels.entry.potentials.now flow.now levels.entry.visits.now node arc.arc arc.way }
 {
     let k = arc.arc as usize;
-    let row = levels.graph.rows[k];
+    let row = levels.graph.row(levels.side, k);
     let way = arc.way;
     if way.end(&row) as usize != node {
         return false;
@@ -128,13 +129,13 @@ fn is_admissible(
     node: usize,
     arc: ResidualArc,
 ) -> bool
-    requires flow { IsFlow (length levels.visits.now) levels.graph.now.rows.items flow.now }
+    requires flow { IsFlow (length levels.visits.now) (seen levels.side levels.graph.now.rows.items) flow.now }
     requires node_in { node < length levels.visits.now }
     requires dead_in { length dead.now ≡ length levels.visits.now }
-    requires arc_in { arc.arc < length levels.graph.now.rows.items }
-    ensures { IsTrue result ↔ IsAdmissible levels.entry.graph.now.rows.items levels.entry.potentials.now flow.now levels.entry.visits.now dead.now node arc.arc arc.way }
+    requires arc_in { arc.arc < length (seen levels.side levels.graph.now.rows.items) }
+    ensures { IsTrue result ↔ IsAdmissible (seen levels.entry.side levels.entry.graph.now.rows.items) levels.entry.potentials.now flow.now levels.entry.visits.now dead.now node arc.arc arc.way }
 {
-    let start = levels.graph.start(arc.arc as usize, arc.way);
+    let start = levels.graph.start(levels.side, arc.arc as usize, arc.way);
     !dead[start] && is_hop_to(levels, flow, node, arc)
 }
 
@@ -146,18 +147,19 @@ fn next_place(
     node: usize,
 ) -> Option<(Place, ResidualArc)>
     requires graph { IsGraphFor (length levels.potentials.now) levels.graph.now }
-    requires flow { IsFlow (length levels.visits.now) levels.graph.now.rows.items flow.now }
+    requires flow { IsFlow (length levels.visits.now) (seen levels.side levels.graph.now.rows.items) flow.now }
     requires node_in { node < length levels.visits.now }
     requires walks { IsWalksFor (length levels.visits.now) walks.now }
-    ensures { IfSome result (λ next. IsAdmissible levels.entry.graph.now.rows.items levels.entry.potentials.now flow.now levels.entry.visits.now walks.now.dead.items node next.1.arc next.1.way) }
+    ensures { IfSome result (λ next. IsAdmissible (seen levels.entry.side levels.entry.graph.now.rows.items) levels.entry.potentials.now flow.now levels.entry.visits.now walks.now.dead.items node next.1.arc next.1.way) }
 {
     let mut walk = Walk::resume(levels.graph, node as u32, walks.current[node]);
     let mut before = walk;
     while let Some(end) = walk.next(levels.graph) {
         let other = end.other;
-        // No walk comes to such a node: neither the arc nor its flow is read.
-        if !walks.dead[other] && levels.visits[other].is_settled() {
-            let arc = end.entering();
+        // A walk goes to no node that is dead or not nearer to where the search began: neither the arc nor its flow is read.
+        let visit = levels.visits[other];
+        if !walks.dead[other] && visit.is_settled() && visit.depth < levels.visits[node].depth {
+            let arc = levels.side.trailing(end);
             if is_admissible(levels, flow, &walks.dead, node, arc) {
                 return Some((before.place(), arc));
             }
@@ -171,15 +173,15 @@ fn next_place(
 /// gives the node that it comes to: nothing where there is no such arc.
 fn step_back(levels: Levels<'_>, flow: &[i64], walks: &mut Walks, node: usize) -> Option<usize>
     requires graph { IsGraphFor (length levels.potentials.now) levels.graph.now }
-    requires flow { IsFlow (length levels.visits.now) levels.graph.now.rows.items flow.now }
+    requires flow { IsFlow (length levels.visits.now) (seen levels.side levels.graph.now.rows.items) flow.now }
     requires node_in { node < length levels.visits.now }
     requires walks { IsWalksFor (length levels.visits.now) walks.old }
     ensures walks { IsWalksFor (length levels.entry.visits.now) walks.new }
     ensures dead { walks.new.dead ≡ walks.old.dead }
-    ensures some { IfSome result (IsSteppedTo levels.entry.graph.now.rows.items levels.entry.potentials.now flow.now levels.entry.visits.now walks.old walks.new node) }
+    ensures some { IfSome result (IsSteppedTo (seen levels.entry.side levels.entry.graph.now.rows.items) levels.entry.potentials.now flow.now levels.entry.visits.now walks.old walks.new node) }
     ensures none { IfNone result (walks.new ≡ walks.old) }
     // The arc by which the search came to the node is tried first.
-    ensures own { IsAdmissible levels.entry.graph.now.rows.items levels.entry.potentials.now flow.now levels.entry.visits.now walks.old.dead.items node (visit_at levels.entry.visits.now node).arc (visit_at levels.entry.visits.now node).way → result ≡ Some (start_at levels.entry.graph.now.rows.items (visit_at levels.entry.visits.now node).arc (visit_at levels.entry.visits.now node).way) }
+    ensures own { IsAdmissible (seen levels.entry.side levels.entry.graph.now.rows.items) levels.entry.potentials.now flow.now levels.entry.visits.now walks.old.dead.items node (visit_at levels.entry.visits.now node).arc (visit_at levels.entry.visits.now node).way → result ≡ Some (start_at (seen levels.entry.side levels.entry.graph.now.rows.items) (visit_at levels.entry.visits.now node).arc (visit_at levels.entry.visits.now node).way) }
 {
     let visit = levels.visits[node];
     let own = ResidualArc {
@@ -189,14 +191,14 @@ fn step_back(levels: Levels<'_>, flow: &[i64], walks: &mut Walks, node: usize) -
     if (own.arc as usize) < levels.graph.rows.len()
         && is_admissible(levels, flow, &walks.dead, node, own)
     {
-        let from = levels.graph.start(own.arc as usize, own.way);
+        let from = levels.graph.start(levels.side, own.arc as usize, own.way);
         walks.back[from] = own;
         return Some(from);
     }
     match next_place(levels, flow, walks, node) {
         Some((place, back)) => {
             walks.current[node] = place;
-            let from = levels.graph.start(back.arc as usize, back.way);
+            let from = levels.graph.start(levels.side, back.arc as usize, back.way);
             walks.back[from] = back;
             Some(from)
         }
@@ -213,15 +215,15 @@ pub fn find_path(
     target: usize,
 ) -> Option<usize>
     requires graph { IsGraphFor (length levels.potentials.now) levels.graph.now }
-    requires flow { IsFlow (length levels.visits.now) levels.graph.now.rows.items flow.now }
+    requires flow { IsFlow (length levels.visits.now) (seen levels.side levels.graph.now.rows.items) flow.now }
     requires excess_in { length excess.now ≡ length levels.visits.now }
     requires target_in { target < length levels.visits.now }
     requires walks { IsWalksFor (length levels.visits.now) walks.old }
     ensures walks { IsWalksFor (length levels.entry.visits.now) walks.new }
-    ensures some { IfSome result (IsFound levels.entry.graph.now.rows.items levels.entry.potentials.now flow.now excess.now levels.entry.visits.now walks.new target) }
+    ensures some { IfSome result (IsFound (seen levels.entry.side levels.entry.graph.now.rows.items) levels.entry.potentials.now flow.now excess.now levels.entry.visits.now walks.new target) }
     ensures none { IfNone result (IsDead walks.new target) }
     // At first the path by which the search came to the target is taken.
-    ensures first { IfNone result (ArePaths levels.entry.graph.now.rows.items levels.entry.potentials.now levels.entry.visits.now → CanPush levels.entry.graph.now.rows.items flow.now excess.now levels.entry.visits.now target → AreAlive levels.entry.visits.now walks.old.dead.items → ⊥) }
+    ensures first { IfNone result (ArePaths (seen levels.entry.side levels.entry.graph.now.rows.items) levels.entry.potentials.now levels.entry.visits.now → CanPush (seen levels.entry.side levels.entry.graph.now.rows.items) flow.now excess.now levels.entry.visits.now target → AreAlive levels.entry.visits.now walks.old.dead.items → ⊥) }
 {
     if walks.dead[target] {
         return None;
@@ -236,7 +238,7 @@ pub fn find_path(
                     return None;
                 }
                 let back = walks.way_on(node);
-                node = levels.graph.end(back.arc as usize, back.way);
+                node = levels.graph.end(levels.side, back.arc as usize, back.way);
             }
         }
     }

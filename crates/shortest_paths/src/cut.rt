@@ -4,43 +4,14 @@ ghost use Rattle.std.specs.Prelude.{◌≡◌, ℕ, length, ◌<◌, ◌≤◌, 
 ghost use Rattle.shortest_paths.specs.Limits.{entry_limit};
 ghost use Rattle.shortest_paths.specs.Residual.{IsFlow, number_at};
 ghost use Rattle.shortest_paths.specs.Graph.{IsGraphFor};
-ghost use Rattle.shortest_paths.specs.Cut.{in_set, IsRoot, leading, IsSide, IsLineOf, IsGrown, AreFarIn};
+ghost use Rattle.shortest_paths.specs.Cut.{in_set, IsRoot, IsSide, IsLineOf, IsGrown, AreFarIn};
 ghost use Rattle.shortest_paths.specs.Touched.{AreNoted};
+ghost use Rattle.shortest_paths.specs.Side.{leading};
 
 use crate::graph::Graph;
-use crate::residual::ResidualArc;
+use crate::side::Side;
 use crate::touched::Touched;
-use crate::walk::{End, Walk};
-
-/// The two sides of a flow that is stuck: the nodes that those in excess reach along residual arcs, and the nodes that
-/// reach one in deficit. The roots of a side are the nodes in excess, or those in deficit.
-#[derive(Clone, Copy)]
-pub enum Side {
-    Ahead,
-    Behind,
-}
-
-impl Side {
-    /// Whether a node with this excess is a root.
-    pub fn is_root(self, excess: i64) -> bool
-        ensures { IsTrue result ↔ IsRoot self excess }
-    {
-        match self {
-            Side::Ahead => excess > 0,
-            Side::Behind => excess < 0,
-        }
-    }
-
-    /// The residual arc that leads on from an end of an arc.
-    fn leading(self, end: End) -> ResidualArc
-        ensures { result ≡ leading self end }
-    {
-        match self {
-            Side::Ahead => end.leaving(),
-            Side::Behind => end.entering(),
-        }
-    }
-}
+use crate::walk::Walk;
 
 /// What leads on from the marked nodes of a side.
 #[derive(Clone, Copy)]

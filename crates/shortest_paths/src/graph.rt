@@ -2,11 +2,14 @@
 
 ghost use Rattle.std.specs.Prelude.{◌≡◌, ℕ, ◌+◌, ◌<◌, ◌≤◌, ◌↔◌, IfOk, IsTrue, length, vec_capacity};
 ghost use Rattle.shortest_paths.specs.Graph.{IsGraphFor};
-ghost use Rattle.shortest_paths.specs.Residual.{IsFlow, IsResidual, end_at, start_at};
+ghost use Rattle.shortest_paths.specs.Residual.{IsFlow, IsResidual, arc_at, end_at, start_at};
+ghost use Rattle.shortest_paths.specs.Side.{seen, turned_row};
+ghost use Rattle.shortest_paths.specs.declared.side.Side.{Side};
 ghost use Rattle.shortest_paths.specs.Walk.{AreRowsOf};
 
 use crate::residual::{ResidualArc, Way};
 use crate::rows::reduced_rows;
+use crate::side::Side;
 use crate::star::Star;
 use dimacs_text::ArcRow;
 use network::Network;
@@ -46,29 +49,53 @@ impl Graph {
         self.rows.len() - self.net.arcs() as usize
     }
 
-    /// Whether this residual arc is there under the flow.
+    /// The row of an arc, as it is seen from this side.
+    pub fn row(&self, side: Side, k: usize) -> ArcRow
+        requires { k < length (seen side self.now.rows.items) }
+        ensures { result ≡ arc_at (seen side self.now.rows.items) k }
+    {
+        let row = self.rows[k];
+        match side {
+            Side::Ahead => row,
+            Side::Behind => turned(row),
+        }
+    }
+
+    /// Whether this residual arc is there under the flow: it is from either side.
     pub fn has_room(&self, flow: &[i64], arc: ResidualArc) -> bool
         requires flow { (nodes : ℕ) × IsFlow nodes self.now.rows.items flow.now }
         requires arc_in { arc.arc < length self.now.rows.items }
-        ensures { IsTrue result ↔ IsResidual self.now.rows.items flow.now arc.arc arc.way }
+        ensures here { IsTrue result ↔ IsResidual self.now.rows.items flow.now arc.arc arc.way }
+        ensures seen { (side : Side) → IsTrue result ↔ IsResidual (seen side self.now.rows.items) flow.now arc.arc arc.way }
     {
         let k = arc.arc as usize;
         arc.way.room(&self.rows[k], flow[k]) > 0
     }
 
-    /// The node from which the residual arc in this way along the arc in row `k` leads.
-    pub fn start(&self, k: usize, way: Way) -> usize
-        requires { k < length self.now.rows.items }
-        ensures { result ≡ start_at self.now.rows.items k way }
+    /// The node from which the residual arc in this way along the arc in row `k` leads, as it is seen from this side.
+    pub fn start(&self, side: Side, k: usize, way: Way) -> usize
+        requires { k < length (seen side self.now.rows.items) }
+        ensures { result ≡ start_at (seen side self.now.rows.items) k way }
     {
-        way.start(&self.rows[k]) as usize
+        way.start(&self.row(side, k)) as usize
     }
 
-    /// The node to which the residual arc in this way along the arc in row `k` leads.
-    pub fn end(&self, k: usize, way: Way) -> usize
-        requires { k < length self.now.rows.items }
-        ensures { result ≡ end_at self.now.rows.items k way }
+    /// The node to which the residual arc in this way along the arc in row `k` leads, as it is seen from this side.
+    pub fn end(&self, side: Side, k: usize, way: Way) -> usize
+        requires { k < length (seen side self.now.rows.items) }
+        ensures { result ≡ end_at (seen side self.now.rows.items) k way }
     {
-        way.end(&self.rows[k]) as usize
+        way.end(&self.row(side, k)) as usize
+    }
+}
+
+/// An arc with its ends exchanged.
+fn turned(row: ArcRow) -> ArcRow
+    ensures { result ≡ turned_row row }
+{
+    ArcRow {
+        tail: row.head,
+        head: row.tail,
+        ..row
     }
 }

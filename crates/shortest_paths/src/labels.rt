@@ -1,11 +1,12 @@
 //! The labels of all nodes: what still stands of the forest that the last pass left is kept, and the rest is searched.
 
-ghost use Rattle.std.specs.Prelude.{◌≡◌, ℕ, ◌≤ℤ◌, ◌<◌, ◌≤◌, ◌+◌, ◌⊎◌, length, None, Some, IfSome, IfOk};
+ghost use Rattle.std.specs.Prelude.{◌≡◌, ℕ, ◌≤ℤ◌, ◌<◌, ◌≤◌, ◌+◌, ◌⊎◌, length, false, None, Some, IfSome, IfOk};
 ghost use Rattle.shortest_paths.specs.Limits.{entry_limit, potential_floor};
 ghost use Rattle.shortest_paths.specs.Residual.{ArePotentials, IsCertified, number_at};
 ghost use Rattle.shortest_paths.specs.Search.{IsSearch, AllRelaxed, IsFromAll, NoneOpen, mark_at, root_visit, settled_visit};
 ghost use Rattle.shortest_paths.specs.Labels.{AreInOrder, IsLabelsFor, IsForest, IsHop, IsThrough, Stands, Opens, IsShortest, NothingOpen, IsEntered};
 ghost use Rattle.shortest_paths.specs.Graph.{IsGraphFor};
+ghost use Rattle.shortest_paths.specs.Side.{seen};
 ghost use Rattle.shortest_paths.specs.Queue.{IsQueueOf, IsQueueFor};
 ghost use Rattle.shortest_paths.specs.declared.visit.Mark.TheVariants.{Unreached, Open};
 
@@ -15,7 +16,6 @@ use crate::residual_network::Residual;
 use crate::search::{key_through, settle_node};
 use crate::visit::{Mark, Visit};
 use crate::walk::Walk;
-use dimacs_text::ArcRow;
 use std::alloc::{AllocError, Global};
 
 /// How the last pass reached each node, and the nodes in the order in which it settled them. Both are hints, which are
@@ -24,6 +24,8 @@ use std::alloc::{AllocError, Global};
 pub struct Labels {
     pub visits: Vec<Visit>,
     pub order: Vec<u32>,
+    /// Whether the potentials that the last pass gave are known to be the greatest still. No search reads it.
+    pub standing: bool,
 }
 
 impl Labels {
@@ -33,6 +35,7 @@ impl Labels {
     /// Memory for a table was refused.
     pub fn new(alloc: Global, entries: u32) -> Result<Labels, AllocError>
         ensures sized { IfOk result (λ l. IsLabelsFor entries l) }
+        ensures standing { IfOk result (λ l. l.standing ≡ false) }
         ensures in_order { IfOk result (λ l. AreInOrder l.order.items entries) }
     {
         let visits = vec![in alloc; Visit::unreached(); entries as usize]?;
@@ -40,7 +43,11 @@ impl Labels {
         for v in 0..entries {
             order[v as usize] = v;
         }
-        Ok(Labels { visits, order })
+        Ok(Labels {
+            visits,
+            order,
+            standing: false,
+        })
     }
 }
 
@@ -80,23 +87,20 @@ fn settled(visit: Visit) -> Visit
 
 /// How the node is reached along a residual arc, where it is there and comes from a settled node.
 fn visit_through(
-    rows: &[ArcRow],
-    flow: &[i64],
-    potentials: &[i64],
+    residual: Residual<'_>,
     visits: &[Visit],
     v: usize,
     arc: ResidualArc,
 ) -> Option<Visit>
-    requires certified { IsCertified rows.now flow.now potentials.now }
-    requires forest { IsForest rows.now flow.now potentials.now visits.now }
-    requires arc_in { arc.arc < length rows.now }
-    ensures none { result ≡ None → IsHop rows.now flow.now visits.now v arc.arc arc.way → ⊥ }
-    ensures through { IfSome result (IsThrough rows.now flow.now potentials.now visits.now v) }
+    requires forest { IsForest (seen residual.side residual.graph.now.rows.items) residual.flow.now residual.potentials.now visits.now }
+    requires arc_in { arc.arc < length (seen residual.side residual.graph.now.rows.items) }
+    ensures none { result ≡ None → IsHop (seen residual.entry.side residual.entry.graph.now.rows.items) residual.entry.flow.now visits.now v arc.arc arc.way → ⊥ }
+    ensures through { IfSome result (IsThrough (seen residual.entry.side residual.entry.graph.now.rows.items) residual.entry.flow.now residual.entry.potentials.now visits.now v) }
     ensures is_open { IfSome result (λ e. e.mark ≡ Open) }
     ensures along { IfSome result (λ e. (e.arc ≡ arc.arc) × (e.way ≡ arc.way)) }
 {
     let k = arc.arc as usize;
-    let row = rows[k];
+    let row = residual.graph.row(residual.side, k);
     let start = arc.way.start(&row) as usize;
     if !visits[start].is_settled() {
         return None;
@@ -104,12 +108,12 @@ fn visit_through(
     if arc.way.end(&row) as usize != v {
         return None;
     }
-    if arc.way.room(&row, flow[k]) <= 0 {
+    if arc.way.room(&row, residual.flow[k]) <= 0 {
         return None;
     }
     Some(Visit {
         mark: Mark::Open,
-        key: key_through(&row, arc.way, potentials, visits),
+        key: key_through(&row, arc.way, residual.potentials, visits),
         depth: visits[start].depth + 1,
         arc: arc.arc,
         way: arc.way,
@@ -119,9 +123,9 @@ fn visit_through(
 /// How the node was reached, where it is still reached so: as a root whose potential is 0, or by a residual arc of
 /// reduced cost 0 from a node that is kept.
 fn standing(residual: Residual<'_>, visits: &[Visit], v: usize) -> Option<Visit>
-    requires forest { IsForest residual.graph.now.rows.items residual.flow.now residual.potentials.now visits.now }
+    requires forest { IsForest (seen residual.side residual.graph.now.rows.items) residual.flow.now residual.potentials.now visits.now }
     requires v_in { v < length visits.now }
-    ensures { IfSome result (Stands residual.entry.graph.now.rows.items residual.entry.flow.now residual.entry.potentials.now visits.now v) }
+    ensures { IfSome result (Stands (seen residual.entry.side residual.entry.graph.now.rows.items) residual.entry.flow.now residual.entry.potentials.now visits.now v) }
 {
     if residual.potentials[v] == 0 {
         return Some(settled(root(residual.potentials, v)));
@@ -134,14 +138,7 @@ fn standing(residual: Residual<'_>, visits: &[Visit], v: usize) -> Option<Visit>
     if arc.arc as usize >= residual.graph.rows.len() {
         return None;
     }
-    match visit_through(
-        &residual.graph.rows,
-        residual.flow,
-        residual.potentials,
-        visits,
-        v,
-        arc,
-    ) {
+    match visit_through(residual, visits, v, arc) {
         Some(visit) if visit.key == 0 => Some(settled(visit)),
         _ => None,
     }
@@ -149,9 +146,9 @@ fn standing(residual: Residual<'_>, visits: &[Visit], v: usize) -> Option<Visit>
 
 /// Settles the node where it stands, and tells whether it does.
 fn keep_node(residual: Residual<'_>, visits: &mut [Visit], v: usize) -> bool
-    requires forest { IsForest residual.graph.now.rows.items residual.flow.now residual.potentials.now visits.old }
+    requires forest { IsForest (seen residual.side residual.graph.now.rows.items) residual.flow.now residual.potentials.now visits.old }
     requires closed { NothingOpen visits.old }
-    ensures forest { IsForest residual.entry.graph.now.rows.items residual.entry.flow.now residual.entry.potentials.now visits.new }
+    ensures forest { IsForest (seen residual.entry.side residual.entry.graph.now.rows.items) residual.entry.flow.now residual.entry.potentials.now visits.new }
     ensures closed { NothingOpen visits.new }
 {
     if v >= visits.len() {
@@ -172,9 +169,9 @@ fn keep_node(residual: Residual<'_>, visits: &mut [Visit], v: usize) -> bool
 /// Settles each node that stands, after the node before it on its path; moves these nodes to the front of `order`, and
 /// gives their number.
 fn keep(residual: Residual<'_>, visits: &mut [Visit], order: &mut [u32]) -> usize
-    requires forest { IsForest residual.graph.now.rows.items residual.flow.now residual.potentials.now visits.old }
+    requires forest { IsForest (seen residual.side residual.graph.now.rows.items) residual.flow.now residual.potentials.now visits.old }
     requires closed { NothingOpen visits.old }
-    ensures forest { IsForest residual.entry.graph.now.rows.items residual.entry.flow.now residual.entry.potentials.now visits.new }
+    ensures forest { IsForest (seen residual.entry.side residual.entry.graph.now.rows.items) residual.entry.flow.now residual.entry.potentials.now visits.new }
     ensures closed { NothingOpen visits.new }
     ensures count { result ≤ length order.new }
 {
@@ -204,25 +201,18 @@ fn nearer(best: Visit, other: Option<Visit>) -> Visit
 /// The nearest visit to the node: as a root, or by a residual arc from a settled node.
 fn nearest(residual: Residual<'_>, visits: &[Visit], v: usize) -> Visit
     requires graph { IsGraphFor (length residual.potentials.now) residual.graph.now }
-    requires forest { IsForest residual.graph.now.rows.items residual.flow.now residual.potentials.now visits.now }
+    requires forest { IsForest (seen residual.side residual.graph.now.rows.items) residual.flow.now residual.potentials.now visits.now }
     requires v_in { v < length visits.now }
-    ensures opens { Opens residual.entry.graph.now.rows.items residual.entry.flow.now residual.entry.potentials.now visits.now v result }
-    ensures nearest { IsShortest residual.entry.graph.now.rows.items residual.entry.flow.now residual.entry.potentials.now visits.now v result }
+    ensures opens { Opens (seen residual.entry.side residual.entry.graph.now.rows.items) residual.entry.flow.now residual.entry.potentials.now visits.now v result }
+    ensures nearest { IsShortest (seen residual.entry.side residual.entry.graph.now.rows.items) residual.entry.flow.now residual.entry.potentials.now visits.now v result }
 {
     let mut best = root(residual.potentials, v);
     let mut walk = Walk::at(residual.graph, v as u32);
     while let Some(end) = walk.next(residual.graph) {
         // No path goes on from a node that is not settled: neither the arc nor its flow is read.
         if visits[end.other].is_settled() {
-            let arc = end.entering();
-            let visit = visit_through(
-                &residual.graph.rows,
-                residual.flow,
-                residual.potentials,
-                visits,
-                v,
-                arc,
-            );
+            let arc = residual.side.trailing(end);
+            let visit = visit_through(residual, visits, v, arc);
             best = nearer(best, visit);
         }
     }
@@ -232,10 +222,10 @@ fn nearest(residual: Residual<'_>, visits: &[Visit], v: usize) -> Visit
 /// Opens the node, where it is not settled.
 fn enter_node(residual: Residual<'_>, visits: &mut [Visit], queue: &mut Queue, v: usize)
     requires graph { IsGraphFor (length residual.potentials.now) residual.graph.now }
-    requires entered { IsEntered residual.graph.now.rows.items residual.flow.now residual.potentials.now visits.old v }
+    requires entered { IsEntered (seen residual.side residual.graph.now.rows.items) residual.flow.now residual.potentials.now visits.old v }
     requires v_in { v < length visits.old }
     requires queue { IsQueueOf visits.old queue.old }
-    ensures entered { IsEntered residual.entry.graph.now.rows.items residual.entry.flow.now residual.entry.potentials.now visits.new (v + 1) }
+    ensures entered { IsEntered (seen residual.entry.side residual.entry.graph.now.rows.items) residual.entry.flow.now residual.entry.potentials.now visits.new (v + 1) }
     ensures queue { IsQueueOf visits.new queue.new }
 {
     if visits[v].is_settled() {
@@ -248,10 +238,10 @@ fn enter_node(residual: Residual<'_>, visits: &mut [Visit], queue: &mut Queue, v
 /// Opens each node that is not settled.
 fn enter(residual: Residual<'_>, visits: &mut [Visit], queue: &mut Queue)
     requires graph { IsGraphFor (length residual.potentials.now) residual.graph.now }
-    requires forest { IsForest residual.graph.now.rows.items residual.flow.now residual.potentials.now visits.old }
+    requires forest { IsForest (seen residual.side residual.graph.now.rows.items) residual.flow.now residual.potentials.now visits.old }
     requires closed { NothingOpen visits.old }
     requires queue { IsQueueOf visits.old queue.old }
-    ensures entered { IsEntered residual.entry.graph.now.rows.items residual.entry.flow.now residual.entry.potentials.now visits.new (length visits.new) }
+    ensures entered { IsEntered (seen residual.entry.side residual.entry.graph.now.rows.items) residual.entry.flow.now residual.entry.potentials.now visits.new (length visits.new) }
     ensures queue { IsQueueOf visits.new queue.new }
 {
     for v in 0..visits.len() {
@@ -281,13 +271,13 @@ fn search_rest(
     kept: usize,
 )
     requires graph { IsGraphFor (length residual.potentials.now) residual.graph.now }
-    requires search { IsSearch residual.graph.now.rows.items residual.flow.now residual.potentials.now visits.old }
-    requires relaxed { AllRelaxed residual.graph.now.rows.items residual.flow.now residual.potentials.now visits.old }
+    requires search { IsSearch (seen residual.side residual.graph.now.rows.items) residual.flow.now residual.potentials.now visits.old }
+    requires relaxed { AllRelaxed (seen residual.side residual.graph.now.rows.items) residual.flow.now residual.potentials.now visits.old }
     requires from_all { IsFromAll residual.potentials.now visits.old }
     requires queue { IsQueueOf visits.old queue.old }
     requires kept { kept ≤ length order.old }
-    ensures search { IsSearch residual.entry.graph.now.rows.items residual.entry.flow.now residual.entry.potentials.now visits.new }
-    ensures relaxed { AllRelaxed residual.entry.graph.now.rows.items residual.entry.flow.now residual.entry.potentials.now visits.new }
+    ensures search { IsSearch (seen residual.entry.side residual.entry.graph.now.rows.items) residual.entry.flow.now residual.entry.potentials.now visits.new }
+    ensures relaxed { AllRelaxed (seen residual.entry.side residual.entry.graph.now.rows.items) residual.entry.flow.now residual.entry.potentials.now visits.new }
     ensures from_all { IsFromAll residual.entry.potentials.now visits.new }
     ensures done { NoneOpen visits.new (length visits.new) }
     ensures queue { IsQueueOf visits.new queue.new }
@@ -309,8 +299,8 @@ pub fn search_labels(
     requires graph { IsGraphFor (length residual.potentials.now) residual.graph.now }
     requires visits_in { length visits.old ≡ length residual.potentials.now }
     requires sized { IsQueueFor (length residual.potentials.now) queue.old }
-    ensures search { IsSearch residual.entry.graph.now.rows.items residual.entry.flow.now residual.entry.potentials.now visits.new }
-    ensures relaxed { AllRelaxed residual.entry.graph.now.rows.items residual.entry.flow.now residual.entry.potentials.now visits.new }
+    ensures search { IsSearch (seen residual.entry.side residual.entry.graph.now.rows.items) residual.entry.flow.now residual.entry.potentials.now visits.new }
+    ensures relaxed { AllRelaxed (seen residual.entry.side residual.entry.graph.now.rows.items) residual.entry.flow.now residual.entry.potentials.now visits.new }
     ensures from_all { IsFromAll residual.entry.potentials.now visits.new }
     ensures done { NoneOpen visits.new (length visits.new) }
     ensures sized { IsQueueFor (length residual.entry.potentials.now) queue.new }

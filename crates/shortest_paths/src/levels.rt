@@ -5,13 +5,15 @@ ghost use Rattle.shortest_paths.specs.Limits.{potential_floor};
 ghost use Rattle.shortest_paths.specs.Residual.{ArePotentials};
 
 use crate::graph::Graph;
+use crate::side::Side;
 use crate::visit::Visit;
 
-/// A network, potentials, and what a search knows of each node. A walk goes back along residual arcs that cost nothing
-/// under the potentials, one level lower at each step.
+/// A network as it is seen from one side, potentials, and what a search knows of each node. A walk goes back along
+/// residual arcs that cost nothing under the potentials, one level lower at each step.
 #[derive(Clone, Copy)]
 pub struct Levels<'a> {
     pub graph: &'a Graph,
+    pub side: Side,
     pub potentials: &'a [i64],
     pub visits: &'a [Visit],
     ghost potentials_in: { ArePotentials (length visits.now) potential_floor potentials.now },

@@ -1,6 +1,6 @@
 //! The tables that searches write in.
 
-ghost use Rattle.std.specs.Prelude.{IfOk};
+ghost use Rattle.std.specs.Prelude.{◌≡◌, false, IfOk};
 ghost use Rattle.shortest_paths.specs.Scratch.{IsScratchFor};
 
 use crate::blocking::Walks;
@@ -15,6 +15,8 @@ use std::alloc::{AllocError, Global};
 #[derive(Drop)]
 pub struct Scratch {
     pub visits: Vec<Visit>,
+    /// Potentials while flow is pushed, as the side sees them from which the last search went.
+    pub potentials: Vec<i64>,
     pub labels: Labels,
     pub queue: Queue,
     pub trail: Trail,
@@ -27,15 +29,18 @@ impl Scratch {
     /// # Errors
     /// Memory for a table was refused.
     pub fn new(alloc: Global, entries: u32) -> Result<Scratch, AllocError>
-        ensures { IfOk result (λ s. IsScratchFor entries s) }
+        ensures sized { IfOk result (λ s. IsScratchFor entries s) }
+        ensures standing { IfOk result (λ s. s.labels.standing ≡ false) }
     {
         let visits = vec![in alloc; Visit::unreached(); entries as usize]?;
+        let potentials = vec![in alloc; 0; entries as usize]?;
         let labels = Labels::new(alloc, entries)?;
         let queue = Queue::new(alloc, entries as usize)?;
         let trail = Trail::new(alloc, entries as usize)?;
         let walks = Walks::new(alloc, entries as usize)?;
         Ok(Scratch {
             visits,
+            potentials,
             labels,
             queue,
             trail,

@@ -1,13 +1,13 @@
 //! Shortest paths over reduced costs, from the nodes in excess.
 
-ghost use Rattle.std.specs.Prelude.{◌≡◌, ℕ, pos, ◌≤ℤ◌, ◌+ℤ◌, ◌-ℤ◌, ◌<ℤ◌, ◌<◌, ◌≤◌, int_lt, length, neg_ℤ, MatchOption, ◌+◌, ◌/◌};
+ghost use Rattle.std.specs.Prelude.{◌≡◌, ℕ, pos, ◌≤ℤ◌, ◌+ℤ◌, ◌-ℤ◌, ◌<ℤ◌, ◌<◌, ◌≤◌, int_lt, length, neg_ℤ, MatchOption, ◌+◌};
 ghost use Rattle.std.specs.List.{count_by};
 ghost use Rattle.shortest_paths.specs.Limits.{entry_limit, key_limit, potential_floor};
 ghost use Rattle.shortest_paths.specs.Residual.{IsRow, IsFlow, IsCertified, ArePotentials, IsResidual, number_at, start_at, start_of, end_of, cost_at, cost_of};
-ghost use Rattle.shortest_paths.specs.Search.{IsSearch, IsLastSettled, Improves, IsRelaxed, IsRelaxedFrom, AllRelaxed, Settles, visit_at, mark_at, key_at, priced_key, source_visit, IsFromExcess, IsExhausted, HasFound};
+ghost use Rattle.shortest_paths.specs.Search.{IsSearch, IsLastSettled, Improves, Takes, reduced_at, IsRelaxed, IsRelaxedFrom, AllRelaxed, Settles, visit_at, mark_at, key_at, priced_key, source_visit, IsFromExcess, IsExhausted, HasFound};
 ghost use Rattle.shortest_paths.specs.Graph.{IsGraphFor};
 ghost use Rattle.shortest_paths.specs.Queue.{IsQueueOf, IsQueueFor, size, first_of};
-ghost use Rattle.shortest_paths.specs.Ends.{IsEnd, leaving};
+ghost use Rattle.shortest_paths.specs.Side.{IsLeading, leading, seen};
 ghost use Rattle.shortest_paths.specs.Trail.{IsFresh, IsTrailFor, IsTrailOf};
 ghost use Rattle.shortest_paths.specs.declared.visit.Mark.TheVariants.{Unreached};
 
@@ -36,87 +36,88 @@ pub fn key_through(row: &ArcRow, way: Way, potentials: &[i64], visits: &[Visit])
 /// The length of the path that goes on from a settled node at this end. `from` is the length of the path to the node
 /// with the node's potential.
 fn key_beyond(residual: Residual<'_>, from: i64, end: End) -> i64
-    requires end { IsEnd residual.graph.now.rows.items end }
+    requires end { IsLeading residual.side (seen residual.side residual.graph.now.rows.items) end }
     requires low { neg_ℤ (pos potential_floor) ≤ℤ from }
     requires high { from ≤ℤ pos key_limit }
-    ensures { result ≡ (from +ℤ cost_at residual.entry.graph.now.rows.items (leaving end).arc (leaving end).way) -ℤ number_at residual.entry.potentials.now end.other }
+    ensures { result ≡ (from +ℤ cost_at (seen residual.entry.side residual.entry.graph.now.rows.items) (leading residual.entry.side end).arc (leading residual.entry.side end).way) -ℤ number_at residual.entry.potentials.now end.other }
 {
-    let arc = end.leaving();
-    let row = residual.graph.rows[arc.arc as usize];
-    from + arc.way.unit_cost(&row) - residual.potentials[end.other]
+    from + residual.side.leading_cost(end) - residual.potentials[end.other]
 }
 
-/// Takes the residual arc that leaves the node settled last at this end into account. `from` is the length of the path
-/// to the node with the node's potential.
-fn relax_residual(
-    residual: Residual<'_>,
-    visits: &mut [Visit],
-    queue: &mut Queue,
-    from: i64,
-    end: End,
-)
-    requires search { IsSearch residual.graph.now.rows.items residual.flow.now residual.potentials.now visits.old }
+/// Takes a better path to the other node at this end, which goes on from the node settled last. `key` is its length.
+fn take_path(residual: Residual<'_>, visits: &mut [Visit], queue: &mut Queue, key: i64, end: End)
+    requires search { IsSearch (seen residual.side residual.graph.now.rows.items) residual.flow.now residual.potentials.now visits.old }
     requires queue { IsQueueOf visits.old queue.old }
-    requires end { IsEnd residual.graph.now.rows.items end }
-    requires last { IsLastSettled visits.old (start_at residual.graph.now.rows.items (leaving end).arc (leaving end).way) }
-    requires from { from ≡ priced_key residual.potentials.now visits.old (start_at residual.graph.now.rows.items (leaving end).arc (leaving end).way) }
-    requires residual { IsResidual residual.graph.now.rows.items residual.flow.now (leaving end).arc (leaving end).way }
-    ensures search { IsSearch residual.entry.graph.now.rows.items residual.entry.flow.now residual.entry.potentials.now visits.new }
+    requires end { IsLeading residual.side (seen residual.side residual.graph.now.rows.items) end }
+    requires last { IsLastSettled visits.old (start_at (seen residual.side residual.graph.now.rows.items) (leading residual.side end).arc (leading residual.side end).way) }
+    requires residual { IsResidual (seen residual.side residual.graph.now.rows.items) residual.flow.now (leading residual.side end).arc (leading residual.side end).way }
+    requires key { key ≡ key_at visits.old (start_at (seen residual.side residual.graph.now.rows.items) (leading residual.side end).arc (leading residual.side end).way) +ℤ reduced_at (seen residual.side residual.graph.now.rows.items) residual.potentials.now (leading residual.side end).arc (leading residual.side end).way }
+    requires better { Takes (visit_at visits.old end.other) key }
+    ensures search { IsSearch (seen residual.entry.side residual.entry.graph.now.rows.items) residual.entry.flow.now residual.entry.potentials.now visits.new }
     ensures queue { IsQueueOf visits.new queue.new }
     ensures improves { Improves visits.old visits.new }
-    ensures relaxed { IsRelaxed residual.entry.graph.now.rows.items residual.entry.potentials.now visits.new (leaving end).arc (leaving end).way }
+    ensures relaxed { IsRelaxed (seen residual.entry.side residual.entry.graph.now.rows.items) residual.entry.potentials.now visits.new (leading residual.entry.side end).arc (leading residual.entry.side end).way }
 {
-    let key = key_beyond(residual, from, end);
-    if visits[end.other].takes(key) {
-        let arc = end.leaving();
-        let start = residual.graph.start(arc.arc as usize, arc.way);
-        let depth = visits[start].depth + 1;
-        queue.improve(
-            visits,
-            end.other,
-            Visit {
-                mark: Mark::Open,
-                key,
-                depth,
-                arc: arc.arc,
-                way: arc.way,
-            },
-        );
-    }
+    let arc = residual.side.leading(end);
+    let start = residual
+        .graph
+        .start(residual.side, arc.arc as usize, arc.way);
+    let depth = visits[start].depth + 1;
+    queue.improve(
+        visits,
+        end.other,
+        Visit {
+            mark: Mark::Open,
+            key,
+            depth,
+            arc: arc.arc,
+            way: arc.way,
+        },
+    );
 }
 
-/// Takes the residual arc that leaves the node settled last at this end into account, where it is there.
+/// Takes the residual arc that leads on from the node settled last at this end into account, where it is there. `from`
+/// is the length of the path to the node with the node's potential.
 fn relax(residual: Residual<'_>, visits: &mut [Visit], queue: &mut Queue, from: i64, end: End)
-    requires search { IsSearch residual.graph.now.rows.items residual.flow.now residual.potentials.now visits.old }
+    requires search { IsSearch (seen residual.side residual.graph.now.rows.items) residual.flow.now residual.potentials.now visits.old }
     requires queue { IsQueueOf visits.old queue.old }
-    requires end { IsEnd residual.graph.now.rows.items end }
-    requires last { IsLastSettled visits.old (start_at residual.graph.now.rows.items (leaving end).arc (leaving end).way) }
-    requires from { from ≡ priced_key residual.potentials.now visits.old (start_at residual.graph.now.rows.items (leaving end).arc (leaving end).way) }
-    ensures search { IsSearch residual.entry.graph.now.rows.items residual.entry.flow.now residual.entry.potentials.now visits.new }
+    requires end { IsLeading residual.side (seen residual.side residual.graph.now.rows.items) end }
+    requires last { IsLastSettled visits.old (start_at (seen residual.side residual.graph.now.rows.items) (leading residual.side end).arc (leading residual.side end).way) }
+    requires from { from ≡ priced_key residual.potentials.now visits.old (start_at (seen residual.side residual.graph.now.rows.items) (leading residual.side end).arc (leading residual.side end).way) }
+    ensures search { IsSearch (seen residual.entry.side residual.entry.graph.now.rows.items) residual.entry.flow.now residual.entry.potentials.now visits.new }
     ensures queue { IsQueueOf visits.new queue.new }
     ensures improves { Improves visits.old visits.new }
-    ensures relaxed { IsResidual residual.entry.graph.now.rows.items residual.entry.flow.now (leaving end).arc (leaving end).way → IsRelaxed residual.entry.graph.now.rows.items residual.entry.potentials.now visits.new (leaving end).arc (leaving end).way }
+    ensures relaxed { IsResidual (seen residual.entry.side residual.entry.graph.now.rows.items) residual.entry.flow.now (leading residual.entry.side end).arc (leading residual.entry.side end).way → IsRelaxed (seen residual.entry.side residual.entry.graph.now.rows.items) residual.entry.potentials.now visits.new (leading residual.entry.side end).arc (leading residual.entry.side end).way }
 {
-    // No path to a settled node gets better: neither the arc nor its flow is read.
+    // No path to a settled node gets better: not even its potential is read.
     if visits[end.other].is_settled() {
         return;
     }
-    let arc = end.leaving();
+    let key = key_beyond(residual, from, end);
+    // No residual arc has a reduced cost below 0: none leads to where the path would be shorter than to a settled node.
+    if key < queue.present {
+        return;
+    }
+    // Most ends lead to no better path, and then neither the arc nor its flow is read, which are far away in memory.
+    if !visits[end.other].takes(key) {
+        return;
+    }
+    let arc = residual.side.leading(end);
     if residual.graph.has_room(residual.flow, arc) {
-        relax_residual(residual, visits, queue, from, end);
+        take_path(residual, visits, queue, key, end);
     }
 }
 
 /// Takes each residual arc from the node settled last into account.
 fn relax_all(residual: Residual<'_>, visits: &mut [Visit], queue: &mut Queue, u: usize)
     requires graph { IsGraphFor (length residual.potentials.now) residual.graph.now }
-    requires search { IsSearch residual.graph.now.rows.items residual.flow.now residual.potentials.now visits.old }
+    requires search { IsSearch (seen residual.side residual.graph.now.rows.items) residual.flow.now residual.potentials.now visits.old }
     requires queue { IsQueueOf visits.old queue.old }
     requires last { IsLastSettled visits.old u }
-    ensures search { IsSearch residual.entry.graph.now.rows.items residual.entry.flow.now residual.entry.potentials.now visits.new }
+    ensures search { IsSearch (seen residual.entry.side residual.entry.graph.now.rows.items) residual.entry.flow.now residual.entry.potentials.now visits.new }
     ensures queue { IsQueueOf visits.new queue.new }
     ensures improves { Improves visits.old visits.new }
-    ensures relaxed { IsRelaxedFrom residual.entry.graph.now.rows.items residual.entry.flow.now residual.entry.potentials.now visits.new u (length residual.entry.graph.now.rows.items) }
+    ensures relaxed { IsRelaxedFrom (seen residual.entry.side residual.entry.graph.now.rows.items) residual.entry.flow.now residual.entry.potentials.now visits.new u (length (seen residual.entry.side residual.entry.graph.now.rows.items)) }
 {
     let from = visits[u].key + residual.potentials[u];
     let mut walk = Walk::at(residual.graph, u as u32);
@@ -128,13 +129,13 @@ fn relax_all(residual: Residual<'_>, visits: &mut [Visit], queue: &mut Queue, u:
 /// Settles the open node of the least key.
 pub fn settle_node(residual: Residual<'_>, visits: &mut [Visit], queue: &mut Queue) -> usize
     requires graph { IsGraphFor (length residual.potentials.now) residual.graph.now }
-    requires search { IsSearch residual.graph.now.rows.items residual.flow.now residual.potentials.now visits.old }
+    requires search { IsSearch (seen residual.side residual.graph.now.rows.items) residual.flow.now residual.potentials.now visits.old }
     requires queue { IsQueueOf visits.old queue.old }
-    requires relaxed { AllRelaxed residual.graph.now.rows.items residual.flow.now residual.potentials.now visits.old }
+    requires relaxed { AllRelaxed (seen residual.side residual.graph.now.rows.items) residual.flow.now residual.potentials.now visits.old }
     requires some { 0 < size queue.old }
-    ensures search { IsSearch residual.entry.graph.now.rows.items residual.entry.flow.now residual.entry.potentials.now visits.new }
+    ensures search { IsSearch (seen residual.entry.side residual.entry.graph.now.rows.items) residual.entry.flow.now residual.entry.potentials.now visits.new }
     ensures queue { IsQueueOf visits.new queue.new }
-    ensures relaxed { AllRelaxed residual.entry.graph.now.rows.items residual.entry.flow.now residual.entry.potentials.now visits.new }
+    ensures relaxed { AllRelaxed (seen residual.entry.side residual.entry.graph.now.rows.items) residual.entry.flow.now residual.entry.potentials.now visits.new }
     ensures first { first_of queue.old ≡ result }
     ensures settles { Settles visits.old visits.new result }
 {
@@ -171,14 +172,15 @@ fn open_sources(excess: &[i64], visits: &mut [Visit], queue: &mut Queue)
     }
 }
 
-/// How many nodes in deficit one search looks for: more than half of them.
+/// How many nodes in deficit a search looks for: all of them, and 1 where there is none.
 fn wanted_deficits(excess: &[i64]) -> usize
-    ensures { result ≡ count_by (λ e. int_lt e (pos 0)) excess.now / 2 + 1 }
+    ensures all { 0 < count_by (λ e. int_lt e (pos 0)) excess.now → result ≡ count_by (λ e. int_lt e (pos 0)) excess.now }
+    ensures at_least_1 { 0 < result }
 {
-    excess.iter().filter(|e| **e < 0).count() / 2 + 1
+    excess.iter().filter(|e| **e < 0).count().max(1)
 }
 
-/// Searches from the nodes in excess until enough nodes in deficit are settled, or no node is open, and gives how far
+/// Searches from the nodes in excess until all nodes in deficit are settled, or no node is open, and gives how far
 /// the search has come; nothing where no node in deficit can be reached. The trail lists the settled nodes.
 pub fn find_deficits(
     residual: Residual<'_>,
@@ -193,8 +195,8 @@ pub fn find_deficits(
     requires fresh { IsFresh visits.old }
     requires sized { IsQueueFor (length residual.potentials.now) queue.old }
     requires trail_in { IsTrailFor (length residual.potentials.now) trail.old }
-    ensures search { IsSearch residual.entry.graph.now.rows.items residual.entry.flow.now residual.entry.potentials.now visits.new }
-    ensures relaxed { AllRelaxed residual.entry.graph.now.rows.items residual.entry.flow.now residual.entry.potentials.now visits.new }
+    ensures search { IsSearch (seen residual.entry.side residual.entry.graph.now.rows.items) residual.entry.flow.now residual.entry.potentials.now visits.new }
+    ensures relaxed { AllRelaxed (seen residual.entry.side residual.entry.graph.now.rows.items) residual.entry.flow.now residual.entry.potentials.now visits.new }
     ensures from_excess { IsFromExcess excess.now visits.new }
     ensures found { MatchOption result (IsExhausted excess.now visits.new) (HasFound excess.now visits.new) }
     ensures queue { IsQueueOf visits.new queue.new }

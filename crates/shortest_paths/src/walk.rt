@@ -3,13 +3,14 @@
 ghost use Rattle.std.specs.Prelude.{◌≡◌, ◌≢◌, ◌+◌, ◌*◌, ◌/◌, ◌<◌, ◌≤◌, ◌↔◌, length, None, IfSome, IsTrue, MatchOption};
 ghost use Rattle.shortest_paths.specs.Ends.{AllToCome, HasNode, IsEndAt, IsFirstStage, IsNextToCome, IsWalk, NothingToCome, StandsIn, entered, last_in, leaving, left_of, stage_of};
 ghost use Rattle.shortest_paths.specs.Limits.{row_limit};
-ghost use Rattle.shortest_paths.specs.Residual.{end_at, start_at, turned};
+ghost use Rattle.shortest_paths.specs.Residual.{start_at, turned};
 ghost use Rattle.shortest_paths.specs.Walk.{AreRowsOf, end_way};
 ghost use Rattle.shortest_paths.specs.declared.residual.Way.{Way};
 ghost use Rattle.shortest_paths.specs.declared.walk.Stage.TheVariants.{Added, Spokes};
 
 use crate::graph::Graph;
 use crate::residual::{ResidualArc, Way};
+use crate::side::Side;
 use crate::star::Spoke;
 
 /// The end of an arc at a node.
@@ -19,6 +20,8 @@ pub struct End {
     pub number: u32,
     /// The node at the arc's other end.
     pub other: usize,
+    /// The cost of a unit along the residual arc that leaves the node there.
+    pub cost: i64,
 }
 
 impl End {
@@ -295,7 +298,7 @@ fn is_added_at(graph: &Graph, end: u32, node: u32, first_row: usize) -> bool
     if end / 2 < graph.star.arcs || end / 2 >= graph.net.arcs() {
         return false;
     }
-    graph.start(end as usize / 2 + first_row, Way::of_end(end)) == node as usize
+    graph.start(Side::Ahead, end as usize / 2 + first_row, Way::of_end(end)) == node as usize
 }
 
 /// The number of an end of the network among those of the rows.
@@ -309,32 +312,29 @@ fn number_of(end: u32, first_row: usize) -> u32
 /// The end that has this spoke.
 fn spoke_end(spoke: Spoke, first_row: usize) -> End
     requires { spoke.end / 2 + first_row ≤ row_limit }
-    ensures { result ≡ record { number = spoke.end + 2 * first_row; other = spoke.other } }
+    ensures { result ≡ record { number = spoke.end + 2 * first_row; other = spoke.other; cost = spoke.cost } }
 {
     End {
         number: number_of(spoke.end, first_row),
         other: spoke.other as usize,
+        cost: spoke.cost,
     }
 }
 
-/// The end with this number.
+/// The end with this number. Few ends are not spokes, so this is kept out of the loops over them.
+#[cold]
+#[inline(never)]
 fn end_with(graph: &Graph, number: u32) -> End
-    requires { number / 2 < length graph.now.rows.items }
+    requires rows { AreRowsOf graph.now.net graph.now.rows.items }
+    requires row { number / 2 < length graph.now.rows.items }
     ensures end { IsEndAt graph.now.rows.items (start_at graph.now.rows.items (number / 2) (end_way number)) result }
     ensures number { result.number ≡ number }
 {
+    let row = graph.rows[number as usize / 2];
+    let way = Way::of_end(number);
     End {
         number,
-        other: far_node(graph, number),
+        other: way.end(&row) as usize,
+        cost: way.unit_cost(&row),
     }
-}
-
-/// The node at the other end of an arc. Few ends are not spokes, so this is kept out of the loops over them.
-#[cold]
-#[inline(never)]
-fn far_node(graph: &Graph, number: u32) -> usize
-    requires { number / 2 < length graph.now.rows.items }
-    ensures { result ≡ end_at graph.now.rows.items (number / 2) (end_way number) }
-{
-    Way::of_end(number).end(&graph.rows[number as usize / 2]) as usize
 }

@@ -1,12 +1,15 @@
 //! Changes: an edit is made by exchanges, and then the flow is settled. What stood before can be restored.
 
-ghost use Rattle.std.specs.Prelude.{◌≡◌, pos, ◌<◌, ◌≤◌, ◌≤ℤ◌, ◌++◌, ◌∷◌, [], IsOk, IsSome, None, Ok, Some, length};
+ghost use Rattle.std.specs.Prelude.{◌≡◌, ℕ, pos, ◌<◌, ◌≤◌, ◌≤ℤ◌, ◌++◌, ◌∷◌, [], ◌↔◌, IsTrue, IsOk, IsSome, None, Ok, Some, length};
 ghost use Rattle.network.specs.Edited.{edited, edited_all};
 ghost use Rattle.flow_solver.specs.declared.part.Part.{Part};
-ghost use Rattle.network.specs.Flow.{IsCertifiedFlow, total_excess};
+ghost use Rattle.dimacs_text.specs.Lawful.{IsNode};
+ghost use Rattle.network.specs.Flow.{IsCertifiedFlow, IsPotential, reduced_cost, total_excess};
 ghost use Rattle.network.specs.Instance.{at_node, reduced};
 ghost use Rattle.shortest_paths.specs.Push.{Pushes};
-ghost use Rattle.flow_solver.specs.Desk.{IsAnswered};
+ghost use Rattle.shortest_paths.specs.Residual.{arc_at as row_at};
+ghost use Rattle.flow_solver.specs.Answer.{IsAnswered};
+ghost use Rattle.flow_solver.specs.Desk.{flow_index};
 ghost use Rattle.flow_solver.specs.Edit.{AreChanges, AreMade, IsChange, IsMade, IsOfAdd, IsOfArc, IsOfSupply};
 ghost use Rattle.flow_solver.specs.Moment.{IsSized, kept_of};
 ghost use Rattle.flow_solver.specs.Part.{before_all, before_part, CanTakeBack, CanTakeBackAll, IsLogged, LeadsBack};
@@ -14,7 +17,7 @@ ghost use Rattle.flow_solver.specs.Part.{before_all, before_part, CanTakeBack, C
 use super::Tables;
 use crate::answer::judge;
 use crate::balance::{carry_back, cost_now};
-use crate::edit::{added_row, edited_row, edited_supply, nearest, reduced_cost};
+use crate::edit::{added_row, arc_of, edited_row, edited_supply, nearest, reduced_cost};
 use crate::part::{Part, part_of};
 use crate::settle::settle;
 use crate::verdict::Verdict;
@@ -119,10 +122,23 @@ impl Tables {
         ensures kept { self.new.kept ≡ self.old.kept }
     {
         let (k, mut row) = edited_row(&self.graph.net, edit);
+        // Tight arcs alone keep potentials from being greater.
+        let stands = self.scratch.labels.standing && !self.is_tight(k);
         let before = self.flow()[k as usize - 1];
         let mut flow = nearest(&row, reduced_cost(&row, self.potentials()), before);
         self.swap_row(k, &mut row);
         self.swap_flow(k, &mut flow);
+        self.scratch.labels.standing = stands;
+    }
+
+    /// Whether the reduced cost of an arc is 0 under the potentials that stand.
+    fn is_tight(&self, k: u32) -> bool
+        requires arc { (1 ≤ k) × (k ≤ length self.now.moment.instance.arcs) }
+        requires range { (v : ℕ) → IsNode self.now.moment.instance.nodes v → IsPotential (at_node self.now.moment.potentials v) }
+        ensures { IsTrue result ↔ (reduced_cost (at_node self.now.moment.potentials) (row_at (reduced self.now.moment.instance).arcs (flow_index self.now.moment.instance.demand k)) ≡ pos 0) }
+    {
+        let row = arc_of(&self.graph.net, u64::from(k));
+        reduced_cost(&row, self.potentials()) == 0
     }
 
     /// Makes an accepted edit of a supply.
@@ -151,7 +167,10 @@ impl Tables {
     {
         let row = added_row(&self.graph.net, edit);
         let flow = nearest(&row, reduced_cost(&row, self.potentials()), 0);
+        // One arc more only takes certifying potentials away.
+        let stands = self.scratch.labels.standing;
         self.put_last(row, flow);
+        self.scratch.labels.standing = stands;
     }
 
     /// Logs what an edit will replace that the instance accepts.
@@ -186,17 +205,18 @@ impl Tables {
         ensures kept { self.new.kept ≡ self.old.kept }
     {
         match part {
-            Part::OtherRow { arc, row } => {
+            Part::Arc { k: arc, row } => {
                 let mut row = row;
                 self.swap_row(arc, &mut row);
             }
-            Part::OtherSupply { node, value } => {
+            Part::Supply { id, value } => {
                 let mut value = value;
-                self.swap_supply(node, &mut value);
+                self.swap_supply(id, &mut value);
             }
-            Part::NoArc => {
+            Part::Last => {
                 let _ = self.drop_last();
             }
+            Part::Gone { .. } => unreachable!(),
         }
     }
 
@@ -221,6 +241,7 @@ impl Tables {
         ensures moment { self.new.moment ≡ record self.old.moment { flow = self.old.kept.flow; potentials = self.old.kept.potentials; verdict = verdict; cut = self.old.kept.cut } }
     {
         self.before.verdict = None;
+        self.scratch.labels.standing = false;
         carry_back(&self.graph.rows, &self.flow, &mut self.balance.excess);
         self.flow.bring_back();
         self.potentials.bring_back();

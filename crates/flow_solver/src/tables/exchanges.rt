@@ -28,6 +28,7 @@ impl Tables {
         ensures before { self.new.before ≡ None }
     {
         self.before.verdict = None;
+        self.scratch.labels.standing = false;
         let place = self.graph.first_row() + (k as usize - 1);
         carry_over(
             &mut self.balance.excess,
@@ -48,6 +49,7 @@ impl Tables {
         ensures before { self.new.before ≡ None }
     {
         self.before.verdict = None;
+        self.scratch.labels.standing = false;
         exchange_node(&mut self.potentials, id, value);
     }
 
@@ -73,6 +75,7 @@ impl Tables {
         ensures before { self.new.before ≡ None }
     {
         self.before.verdict = None;
+        self.scratch.labels.standing = false;
         carry_worth(
             &self.graph.net,
             &self.graph.rows,
@@ -95,9 +98,11 @@ impl Tables {
         ensures before { self.new.before ≡ None }
     {
         self.before.verdict = None;
+        self.scratch.labels.standing = false;
         let place = self.graph.first_row() + (k as usize - 1);
         let cost = self.graph.rows[place].cost;
         self.balance.cost = reprice(self.balance.cost, cost, row.cost, self.flow.kept[place]);
+        self.graph.star.set_cost(&self.graph.net, k, row.cost);
         swap_row(&mut self.graph.net, &mut self.graph.rows, k, row);
     }
 
@@ -131,6 +136,7 @@ impl Tables {
         ensures before { self.new.before ≡ None }
     {
         self.before.verdict = None;
+        self.scratch.labels.standing = false;
         let last = self.graph.rows.len() - 1;
         let row = self.graph.rows[last];
         carry_over(&mut self.balance.excess, &row, self.flow.entries[last], 0);
@@ -154,6 +160,7 @@ impl Tables {
         ensures before { self.new.before ≡ None }
     {
         self.before.verdict = None;
+        self.scratch.labels.standing = false;
         carry_over(&mut self.balance.excess, &row, 0, flow);
         self.balance.cost = reprice(self.balance.cost, 0, flow, row.cost);
         put_row(&mut self.graph.net, &mut self.graph.rows, row);

@@ -5,11 +5,11 @@ use Rattle.flow_solver.proofs.part.supply_before.Goals as goal
 
 pub loop-i-preserved-then-node-id : goal.loop-i-preserved-then-node-id
 loop-i-preserved-then-node-id c =
-    let value = c.in-OtherSupply.value in
+    let value = c.in-Supply.value in
     let fits : SFits w64 value = search rules in
-    let found = supply_found c.args.id c.loop-i.i value c.args.log.now _ c.args.net.now c.loop-i.supply c.nodes.ensures.lawful c.requires c.loop-i-test.true (rw c.if-node-id.true at c.in-OtherSupply.is) c.loop-i.invariant in
+    let found = supply_found c.args.id c.loop-i.i value c.args.log.now _ c.args.net.now c.loop-i.supply c.nodes.ensures.lawful c.requires c.loop-i-test.true (rw c.if-node-id.true at c.in-Supply.is) c.loop-i.invariant in
     rw (to_z-of_z w64 value fits) found
 
 pub loop-i-preserved-else-node-id : goal.loop-i-preserved-else-node-id
 loop-i-preserved-else-node-id c =
-    supply_passed c.args.id c.in-OtherSupply.node c.loop-i.i c.in-OtherSupply.value c.args.log.now _ c.args.net.now c.loop-i.supply c.if-node-id.false c.requires c.loop-i-test.true c.in-OtherSupply.is c.loop-i.invariant
+    supply_passed c.args.id c.in-Supply.node c.loop-i.i c.in-Supply.value c.args.log.now _ c.args.net.now c.loop-i.supply c.if-node-id.false c.requires c.loop-i-test.true c.in-Supply.is c.loop-i.invariant

@@ -7,7 +7,6 @@ use Rattle.shortest_paths.specs.Search.{mark_at, visit_at, lowered, IsLowered}
 use Rattle.shortest_paths.specs.declared.visit.Mark.TheVariants.{Settled}
 use Rattle.shortest_paths.proofs.SearchLemmas.{in_range, settled_is_reached}
 use Rattle.shortest_paths.proofs.TrailLemmas.{IsWrittenAlong, IsWrittenAlong-more, stands_yet, lowered_along}
-use Rattle.shortest_paths.proofs.TouchedLemmas.{AreNoted-trans, AreNoted-set}
 use Rattle.flow_solver.proofs.potentials.lower.Goals as goal
 use Rattle.flow_solver.proofs.potentials.lower.Goals.{After-index}
 
@@ -23,7 +22,7 @@ node_in c =
 stands : (c : After-index) → number_at c.loop-j.potentials c.index.result.now ≡ number_at c.args.potentials.now c.index.result.now
 stands c =
     subst (λ (v : ℕ). number_at c.loop-j.potentials v ≡ number_at c.args.potentials.now v) (node_is c)
-    (stands_yet _ c.args.trail.now.nodes.items c.loop-j.j c.args.potentials.now c.loop-j.potentials c.loop-j.invariant.written (λ i lt. c.requires.trail.apart i c.loop-j.j lt c.loop-j-test.true))
+    (stands_yet _ c.args.trail.now.nodes.items c.loop-j.j c.args.potentials.now c.loop-j.potentials c.loop-j.invariant (λ i lt. c.requires.trail.apart i c.loop-j.j lt c.loop-j-test.true))
 
 was_read : (c : After-index) → to_z w64 (of_z w64 (number_at c.loop-j.potentials c.index.result.now)) ≡ number_at c.args.potentials.now c.index.result.now
 was_read c =
@@ -42,9 +41,6 @@ lowered-requires-clause-potential_low c = omega (arith, ints, was_read (goal.at.
 pub bounds-potentials-v : goal.bounds-potentials-v
 bounds-potentials-v c = omega (arith, node_in (goal.at.bounds-potentials-v c).After-index, c.requires.same_length, c.loop-j.auto.potentials)
 
-pub note-requires : goal.note-requires
-note-requires c = record { place = omega (arith, node_in (goal.at.note-requires c).After-index, c.requires.same_length, c.requires.touched_in, c.loop-j.invariant.noted.same_size) }
-
 pub loop-j-preserved : goal.loop-j-preserved
 loop-j-preserved c =
     let a = (goal.at.loop-j-preserved c).After-index in
@@ -54,17 +50,13 @@ loop-j-preserved c =
     let written_is : to_z w64 (of_z w64 c.lowered.result) ≡ c.lowered.result = to_z-of_z w64 c.lowered.result fits in
     let made : c.lowered.result ≡ lowered (to_z w64 (of_z w64 (number_at c.loop-j.potentials v))) (visit_at c.args.visits.now v) (to_z w64 (of_z w64 c.args.reach)) = c.lowered.ensures in
     let in_table : v < length c.loop-j.potentials = omega (arith, node_in a, c.requires.same_length, c.loop-j.auto.potentials) in
-    let in_touched : v < length c.loop-j.touched = omega (arith, node_in a, c.requires.same_length, c.requires.touched_in, c.loop-j.invariant.noted.same_size) in
-    record {
-      written = IsWrittenAlong-more (λ (w : ℕ) (old : ℤ). lowered old (visit_at c.args.visits.now w) (to_z w64 (of_z w64 c.args.reach))) c.args.trail.now.nodes.items c.loop-j.j c.args.potentials.now c.loop-j.potentials c.loop-j.invariant.written
-          (λ i lt. c.requires.trail.apart i c.loop-j.j lt c.loop-j-test.true) v _ (node_is a) in_table
-          (written_is ∙ made ∙ ap (λ (old : ℤ). lowered old (visit_at c.args.visits.now v) (to_z w64 (of_z w64 c.args.reach))) (was_read a));
-      noted = AreNoted-trans c.loop-j.invariant.noted (rw c.note.ensures (AreNoted-set c.loop-j.touched c.loop-j.potentials v _ in_touched));
-    }
+    IsWrittenAlong-more (λ (w : ℕ) (old : ℤ). lowered old (visit_at c.args.visits.now w) (to_z w64 (of_z w64 c.args.reach))) c.args.trail.now.nodes.items c.loop-j.j c.args.potentials.now c.loop-j.potentials c.loop-j.invariant
+    (λ i lt. c.requires.trail.apart i c.loop-j.j lt c.loop-j-test.true) v _ (node_is a) in_table
+    (written_is ∙ made ∙ ap (λ (old : ℤ). lowered old (visit_at c.args.visits.now v) (to_z w64 (of_z w64 c.args.reach))) (was_read a))
 
-pub returns-clause-lowered : goal.returns-clause-lowered
-returns-clause-lowered c =
+pub returns : goal.returns
+returns c =
     let whole : c.loop-j.j ≡ c.args.trail.now.len = omega (arith, c.loop-j-test.false, c.loop-j.auto.j-end) in
     let reach_is : to_z w64 (of_z w64 c.args.reach) ≡ c.args.reach = to_z-of_z w64 c.args.reach c.ranges.reach in
-    let written = subst (λ (n : ℕ). IsWrittenAlong (λ (w : ℕ) (old : ℤ). lowered old (visit_at c.args.visits.now w) (to_z w64 (of_z w64 c.args.reach))) c.args.trail.now.nodes.items n c.args.potentials.now c.loop-j.potentials) whole c.loop-j.invariant.written in
+    let written = subst (λ (n : ℕ). IsWrittenAlong (λ (w : ℕ) (old : ℤ). lowered old (visit_at c.args.visits.now w) (to_z w64 (of_z w64 c.args.reach))) c.args.trail.now.nodes.items n c.args.potentials.now c.loop-j.potentials) whole c.loop-j.invariant in
     subst (IsLowered c.args.potentials.now c.loop-j.potentials c.args.visits.now) reach_is (lowered_along c.args.visits.now c.args.trail.now _ c.args.potentials.now c.loop-j.potentials c.requires.trail written)

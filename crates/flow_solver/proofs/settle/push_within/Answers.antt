@@ -4,11 +4,11 @@ use Rattle.std.proofs.lemmas.Int.{ints, to_z-of_z}
 use Rattle.std.proofs.lemmas.List.{with_items_is}
 use Rattle.shortest_paths.specs.declared.visit.Visit.{Visit}
 use Rattle.shortest_paths.specs.Blocking.{IsWalksFor}
-use Rattle.shortest_paths.specs.Labels.{IsLabelsFor}
 use Rattle.shortest_paths.specs.Limits.{potential_floor}
 use Rattle.shortest_paths.specs.Push.{ArePaths, IsUnderWay, CanPush}
 use Rattle.shortest_paths.specs.Residual.{ArePotentials, IsFlow, NoneBelow, number_at}
 use Rattle.shortest_paths.specs.Search.{IsFoundDeficit, IsLowered}
+use Rattle.shortest_paths.specs.Side.{seen}
 use Rattle.shortest_paths.specs.Touched.{AreNoted}
 use Rattle.shortest_paths.specs.Trail.{HoldReached, IsFresh}
 use Rattle.shortest_paths.proofs.SettleLemmas.{paths_of_search, paths_tight, none_below_after, potentials_after, fallen_further, can_push}
@@ -17,33 +17,33 @@ use Rattle.flow_solver.proofs.LedgerLemmas.{IsWritten-noted}
 use Rattle.flow_solver.proofs.settle.push_within.Goals as goal
 use Rattle.flow_solver.proofs.settle.push_within.Goals.{After-lower, After-deref-3, After-deref_mut-2, After-push_found-pushes, After-forget}
 
-is_lowered : (c : After-lower) → IsLowered c.args.potentials.now.entries.items c.lower.new.potentials c.args.scratch.now.visits.items c.args.reach
+is_lowered : (c : After-lower) → IsLowered c.args.scratch.now.potentials.items c.lower.new.potentials c.args.scratch.now.visits.items c.args.reach
 is_lowered c =
     let reach_is : to_z w64 (of_z w64 c.args.reach) ≡ c.args.reach = to_z-of_z w64 c.args.reach c.ranges.reach in
-    subst (λ (r : ℤ). IsLowered c.args.potentials.now.entries.items c.lower.new.potentials c.args.scratch.now.visits.items r) reach_is
-    (subst (λ (s : List Visit). IsLowered c.args.potentials.now.entries.items c.lower.new.potentials s (to_z w64 (of_z w64 c.args.reach))) c.deref.ensures.value
-    (subst (λ (p : List ℤ). IsLowered p c.lower.new.potentials c.deref.result.now (to_z w64 (of_z w64 c.args.reach))) c.deref_mut.ensures.value c.lower.ensures.lowered))
+    subst (λ (r : ℤ). IsLowered c.args.scratch.now.potentials.items c.lower.new.potentials c.args.scratch.now.visits.items r) reach_is
+    (subst (λ (s : List Visit). IsLowered c.args.scratch.now.potentials.items c.lower.new.potentials s (to_z w64 (of_z w64 c.args.reach))) c.deref.ensures.value
+    (subst (λ (p : List ℤ). IsLowered p c.lower.new.potentials c.deref.result.now (to_z w64 (of_z w64 c.args.reach))) c.deref_mut.ensures.value c.lower.ensures))
 
 -- one visit for each potential
 sized : (c : After-lower) → length c.args.scratch.now.visits.items ≡ length c.lower.new.potentials
 sized c = c.requires.found.searched.search.sized ∙ sym (c.lower.auto.potentials ∙ ap (λ (p : List ℤ). length p) c.deref_mut.ensures.value)
 
-none_below : (c : After-lower) → NoneBelow c.args.graph.now.rows.items c.args.flow.now.entries.items c.lower.new.potentials
+none_below : (c : After-lower) → NoneBelow (seen c.args.side c.args.graph.now.rows.items) c.args.flow.now.entries.items c.lower.new.potentials
 none_below c =
     let f = c.requires.found.searched in
-    none_below_after c.args.graph.now.rows.items c.args.flow.now.entries.items c.args.potentials.now.entries.items c.lower.new.potentials c.args.scratch.now.visits.items c.args.reach c.requires.near.0 c.requires.certified f.search f.relaxed f.found.front (is_lowered c) c.requires.near.1
+    none_below_after (seen c.args.side c.args.graph.now.rows.items) c.args.flow.now.entries.items c.args.scratch.now.potentials.items c.lower.new.potentials c.args.scratch.now.visits.items c.args.reach c.requires.near.0 c.requires.certified f.search f.relaxed f.found.front (is_lowered c) c.requires.near.1
 
 within : (c : After-lower) → ArePotentials (length c.lower.new.potentials) potential_floor c.lower.new.potentials
 within c =
     let f = c.requires.found.searched in
-    potentials_after c.args.graph.now.rows.items c.args.flow.now.entries.items c.args.potentials.now.entries.items c.lower.new.potentials c.args.scratch.now.visits.items c.args.reach c.requires.near.0 c.requires.certified f.search f.relaxed f.found.front (is_lowered c) c.requires.near.1
+    potentials_after (seen c.args.side c.args.graph.now.rows.items) c.args.flow.now.entries.items c.args.scratch.now.potentials.items c.lower.new.potentials c.args.scratch.now.visits.items c.args.reach c.requires.near.0 c.requires.certified f.search f.relaxed f.found.front (is_lowered c) c.requires.near.1
 
 -- the lowered potentials, as they stand in the table
-new_is : (c : After-lower) → (with_items c.args.potentials.now.entries c.lower.new.potentials).items ≡ c.lower.new.potentials
-new_is c = with_items_is c.args.potentials.now.entries c.lower.new.potentials (c.lower.auto.potentials ∙ c.deref_mut.ensures.len)
+new_is : (c : After-lower) → (with_items c.args.scratch.now.potentials c.lower.new.potentials).items ≡ c.lower.new.potentials
+new_is c = with_items_is c.args.scratch.now.potentials c.lower.new.potentials (c.lower.auto.potentials ∙ c.deref_mut.ensures.len)
 
 potentials_are : (c : After-deref-3) → c.deref-2.result.now ≡ c.lower.new.potentials
-potentials_are c = c.deref-2.ensures.value ∙ with_items_is c.args.potentials.now.entries c.lower.new.potentials (c.lower.auto.potentials ∙ c.deref_mut.ensures.len)
+potentials_are c = c.deref-2.ensures.value ∙ with_items_is c.args.scratch.now.potentials c.lower.new.potentials (c.lower.auto.potentials ∙ c.deref_mut.ensures.len)
 
 pub invariant_of-levels : goal.invariant_of-levels
 invariant_of-levels c =
@@ -59,7 +59,7 @@ pub push_found-pushes-requires-clause-state : goal.push_found-pushes-requires-cl
 push_found-pushes-requires-clause-state c =
     let a = (goal.at.push_found-pushes-requires-clause-state c).After-lower in
     let d = (goal.at.push_found-pushes-requires-clause-state c).After-deref-3 in
-    let rows = c.args.graph.now.rows.items in
+    let rows = seen c.args.side c.args.graph.now.rows.items in
     let visits = c.args.scratch.now.visits.items in
     let state : IsUnderWay (length visits) rows c.lower.new.potentials c.args.flow.now.entries.items c.args.excess.now = record {
       flow = subst (λ (n : ℕ). IsFlow n rows c.args.flow.now.entries.items) (sym c.requires.found.searched.search.sized) c.requires.certified.flow;
@@ -75,24 +75,24 @@ pub push_found-pushes-requires-clause-paths : goal.push_found-pushes-requires-cl
 push_found-pushes-requires-clause-paths c =
     let a = (goal.at.push_found-pushes-requires-clause-paths c).After-lower in
     let d = (goal.at.push_found-pushes-requires-clause-paths c).After-deref-3 in
-    let rows = c.args.graph.now.rows.items in
+    let rows = seen c.args.side c.args.graph.now.rows.items in
     let f = c.requires.found.searched in
     let paths : ArePaths rows c.lower.new.potentials c.args.scratch.now.visits.items = record {
       paths = paths_of_search f.search;
-      tight = paths_tight rows c.args.flow.now.entries.items c.args.potentials.now.entries.items c.lower.new.potentials c.args.scratch.now.visits.items c.args.reach c.requires.near.0 c.requires.certified f.search f.relaxed f.found.front (is_lowered a) c.requires.near.1;
+      tight = paths_tight rows c.args.flow.now.entries.items c.args.scratch.now.potentials.items c.lower.new.potentials c.args.scratch.now.visits.items c.args.reach c.requires.near.0 c.requires.certified f.search f.relaxed f.found.front (is_lowered a) c.requires.near.1;
     } in
     subst (λ (s : List Visit). ArePaths rows c.deref-2.result.now s) (sym c.deref-3.ensures.value)
     (subst (λ (p : List ℤ). ArePaths rows p c.args.scratch.now.visits.items) (sym (potentials_are d)) paths)
 
 pub push_found-pushes-requires-clause-can_push : goal.push_found-pushes-requires-clause-can_push
 push_found-pushes-requires-clause-can_push c = λ t found.
-    (let rows = c.args.graph.now.rows.items in
+    (let rows = seen c.args.side c.args.graph.now.rows.items in
     let visits = c.args.scratch.now.visits.items in
     let f = c.requires.found.searched in
     let here : IsFoundDeficit c.args.excess.now visits t = subst (λ (s : List Visit). IsFoundDeficit c.args.excess.now s t) c.deref-3.ensures.value found in
     subst (λ (s : List Visit). CanPush rows c.deref_mut-2.result.now c.args.excess.now s t) (sym c.deref-3.ensures.value)
     (subst (λ (x : List ℤ). CanPush rows x c.args.excess.now visits t) (sym c.deref_mut-2.ensures.value)
-    (can_push rows c.args.flow.now.entries.items c.args.potentials.now.entries.items c.args.excess.now visits t f.search f.from_excess here)))
+    (can_push rows c.args.flow.now.entries.items c.args.scratch.now.potentials.items c.args.excess.now visits t f.search f.from_excess here)))
 
 pub forget-requires : goal.forget-requires
 forget-requires c = record {
@@ -113,25 +113,15 @@ returns-clause-flow_written c =
     c.requires.flow_ledger refl refl (omega arith)
     (subst (λ (x : List ℤ). AreNoted c.args.flow.now.touched c.args.flow.now.entries.items now.touched x) (sym (flow_is s)) from)
 
-pub returns-clause-potentials_written : goal.returns-clause-potentials_written
-returns-clause-potentials_written c =
-    let s = (goal.at.returns-clause-potentials_written c).After-lower in
-    let now = c.lower.new in
-    let from : AreNoted c.args.potentials.now.touched c.args.potentials.now.entries.items now.touched now.potentials =
-    subst (λ (p : List ℤ). AreNoted c.args.potentials.now.touched p now.touched now.potentials) c.deref_mut.ensures.value c.lower.ensures.noted in
-    IsWritten-noted c.args.potentials.now (record { entries = with_items c.args.potentials.now.entries now.potentials; kept = c.args.potentials.now.kept; size = c.args.potentials.now.size; touched = now.touched })
-    c.requires.potentials_ledger refl refl (omega arith)
-    (subst (λ (p : List ℤ). AreNoted c.args.potentials.now.touched c.args.potentials.now.entries.items now.touched p) (sym (new_is s)) from)
-
 pub returns-clause-certified : goal.returns-clause-certified
 returns-clause-certified c =
     let a = (goal.at.returns-clause-certified c).After-lower in
     let d = (goal.at.returns-clause-certified c).After-deref-3 in
     let s = (goal.at.returns-clause-certified c).After-push_found-pushes in
-    let rows = c.args.graph.now.rows.items in
+    let rows = seen c.args.side c.args.graph.now.rows.items in
     let y = c.push_found-pushes.new.flow in
     let state = c.push_found-pushes.ensures.state in
-    let entries = (with_items c.args.potentials.now.entries c.lower.new.potentials).items in
+    let entries = (with_items c.args.scratch.now.potentials c.lower.new.potentials).items in
     let many : length c.deref-3.result.now ≡ length entries = ap (λ (s : List Visit). length s) c.deref-3.ensures.value ∙ sized a ∙ sym (ap (λ (p : List ℤ). length p) (new_is a)) in
     record {
       flow = subst (λ (x : List ℤ). IsFlow (length entries) rows x) (sym (flow_is s)) (subst (λ (n : ℕ). IsFlow n rows y) many state.flow);
@@ -143,22 +133,21 @@ pub returns-clause-at_least : goal.returns-clause-at_least
 returns-clause-at_least c = λ fallen near v.
     (let a = (goal.at.returns-clause-at_least c).After-lower in
     let f = c.requires.found.searched in
-    let further = fallen_further c.args.graph.now.rows.items c.args.flow.now.entries.items c.args.potentials.now.entries.items c.lower.new.potentials c.args.scratch.now.visits.items c.args.reach fallen c.requires.certified f.search f.relaxed f.found.front (is_lowered a) near v in
-    let same : number_at (with_items c.args.potentials.now.entries c.lower.new.potentials).items v ≡ number_at c.lower.new.potentials v = ap (λ (p : List ℤ). number_at p v) (new_is a) in
+    let further = fallen_further (seen c.args.side c.args.graph.now.rows.items) c.args.flow.now.entries.items c.args.scratch.now.potentials.items c.lower.new.potentials c.args.scratch.now.visits.items c.args.reach fallen c.requires.certified f.search f.relaxed f.found.front (is_lowered a) near v in
+    let same : number_at (with_items c.args.scratch.now.potentials c.lower.new.potentials).items v ≡ number_at c.lower.new.potentials v = ap (λ (p : List ℤ). number_at p v) (new_is a) in
     omega (arith, ints, further, same))
 
 pub returns-clause-scratch : goal.returns-clause-scratch
 returns-clause-scratch c =
     let a = (goal.at.returns-clause-scratch c).After-lower in
-    let entries = (with_items c.args.potentials.now.entries c.lower.new.potentials).items in
     let old = c.args.scratch.now in
-    let many : length old.visits.items ≡ length entries = sized a ∙ sym (ap (λ (p : List ℤ). length p) (new_is a)) in
-    let same : length c.args.potentials.now.entries.items ≡ length entries = sym c.requires.found.searched.search.sized ∙ many in
+    let many : length old.visits.items ≡ length old.potentials.items = c.requires.found.searched.search.sized in
     let visits_are : (with_items old.visits c.forget.new.visits).items ≡ c.forget.new.visits = with_items_is old.visits c.forget.new.visits (c.forget.auto.visits ∙ c.deref_mut-3.ensures.len) in
     record {
       visits_sized = ap (λ (s : List Visit). length s) visits_are ∙ c.forget.auto.visits ∙ ap (λ (s : List Visit). length s) c.deref_mut-3.ensures.value ∙ many;
+      potentials_sized = ap (λ (p : List ℤ). length p) (new_is a) ∙ sym (sized a) ∙ many;
       fresh = subst IsFresh (sym visits_are) c.forget.ensures.fresh;
-      labels = subst (λ (n : ℕ). IsLabelsFor n old.labels) same c.requires.found.labels;
+      labels = c.requires.found.labels;
       queue = record {
         line_sized = c.requires.found.queue.line.sized ∙ many;
         order_sized = c.requires.found.queue.heap.index.order_sized ∙ many;

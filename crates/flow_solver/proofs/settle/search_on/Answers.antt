@@ -1,37 +1,30 @@
-use Rattle.std.proofs.Common.{◌≡◌, ◌∙◌, sym, subst, ℕ, ℤ, Bool, false, IsTrue, ◌↔◌, ◌<◌, inl, inr, arith, rules, List, MatchOption, Some, None}
+use Rattle.std.proofs.Common.{◌≡◌, ◌∙◌, sym, subst, ℤ, false, IsTrue, rules, List, MatchOption, Some, None}
 use Rattle.std.specs.Prelude.{Option, is_some}
 use Rattle.std.specs.Vec.{with_items}
-use Rattle.std.proofs.lemmas.Bool.{cases_eq, false≢true}
+use Rattle.std.proofs.lemmas.Bool.{false≢true}
 use Rattle.std.proofs.lemmas.List.{with_items_is}
 use Rattle.shortest_paths.specs.declared.visit.Visit.{Visit}
 use Rattle.shortest_paths.specs.Search.{HasFound, IsExhausted}
 use Rattle.shortest_paths.specs.Settle.{HasSearched}
 use Rattle.shortest_paths.specs.Cut.{IsParted}
+use Rattle.shortest_paths.specs.Side.{seen}
 use Rattle.shortest_paths.specs.Queue.{IsQueueOf}
 use Rattle.shortest_paths.specs.Trail.{IsTrailOf, HoldReached}
-use Rattle.shortest_paths.proofs.CutLemmas.{parted_no_excess, parted_no_deficit, parted_exhausted}
+use Rattle.shortest_paths.proofs.CutLemmas.{parted_exhausted}
+use Rattle.flow_solver.proofs.SideLaws.{parted_unless_both}
 use Rattle.shortest_paths.proofs.TrailLemmas.{held_after_search}
 use Rattle.flow_solver.specs.Settle.{HoldsSearch}
 use Rattle.flow_solver.proofs.settle.search_on.Goals as goal
-use Rattle.flow_solver.proofs.settle.search_on.Goals.{After-find_deficits-reach, then-not-has_root-via-then-not-has_root, then-not-has_root-via-else-not-has_root+then-not-has_root-2}
-
--- what is not more than 0 is 0
-none_of : (some : Bool) (n : ℕ) → some ≡ false → IsTrue some ↔ (0 < n) → n ≡ 0
-none_of some n none means = elim (cases_eq n 0) [
-  | inl zero ↦ zero
-  | inr more ↦ absurd (false≢true (sym none ∙ means.1 (omega (arith, more))))
-]
+use Rattle.flow_solver.proofs.settle.search_on.Goals.{After-find_deficits-reach}
 
 -- what stands in the table after the search
 visits_are : (c : After-find_deficits-reach) → (with_items c.args.scratch.now.visits c.find_deficits-reach.new.visits).items ≡ c.find_deficits-reach.new.visits
 visits_are c = with_items_is c.args.scratch.now.visits c.find_deficits-reach.new.visits (c.find_deficits-reach.auto.visits ∙ c.deref_mut.ensures.len)
 
-pub returns-then-not-has_root-clause-found : goal.returns-then-not-has_root-clause-found
-returns-then-not-has_root-clause-found c =
-    elim c.then-not-has_root.branch [
-      | then-not-has_root-via-then-not-has_root w ↦ parted_no_excess c.args.graph.now.rows.items c.args.flow.now.entries.items c.args.excess.now (none_of _ _ w.if-not-has_root.true c.has_root.ensures)
-      | then-not-has_root-via-else-not-has_root+then-not-has_root-2 w ↦ parted_no_deficit _ c.args.graph.now.rows.items c.args.flow.now.entries.items c.args.excess.now c.requires.certified.flow c.requires.excess_in (none_of _ _ w.if-not-has_root-2.true w.has_root-else-not-has_root.ensures)
-    ]
+pub returns-then-not-has_both-clause-found : goal.returns-then-not-has_both-clause-found
+returns-then-not-has_both-clause-found c =
+    parted_unless_both (seen c.args.side c.args.graph.now.rows.items) c.args.flow.now.entries.items c.args.excess.now
+    (rw c.requires.excess_in c.requires.certified.flow) (λ both. false≢true (sym c.if-not-has_both.true ∙ c.has_both.ensures.1 both))
 
 pub forget-requires : goal.forget-requires
 forget-requires c = record {
@@ -43,20 +36,20 @@ pub returns-then-is_none-clause-found : goal.returns-then-is_none-clause-found
 returns-then-is_none-clause-found c = by_result c.find_deficits-reach.result c.find_deficits-reach.ensures.found (search rules)
   where
     by_result : (found : Option ℤ) → MatchOption found (IsExhausted c.args.excess.now c.find_deficits-reach.new.visits) (HasFound c.args.excess.now c.find_deficits-reach.new.visits) → is_some found ≡ false
-        → MatchOption found (IsParted c.args.graph.now.rows.items c.args.flow.now.entries.items c.args.excess.now) (HoldsSearch c.args.graph.now.rows.items c.args.flow.now.entries.items c.args.potentials.now.entries.items c.args.excess.now (record { visits = with_items (with_items c.args.scratch.now.visits c.find_deficits-reach.new.visits) c.forget.new.visits; labels = c.args.scratch.now.labels; queue = c.find_deficits-reach.new.queue; trail = c.find_deficits-reach.new.trail; walks = c.args.scratch.now.walks }))
-    by_result None done none = subst (λ (x : List ℤ). IsParted c.args.graph.now.rows.items x c.args.excess.now) c.deref.ensures.value
-        (parted_exhausted c.args.graph.now.rows.items c.deref.result.now c.deref-2.result.now c.args.excess.now c.find_deficits-reach.new.visits c.find_deficits-reach.ensures.relaxed c.find_deficits-reach.ensures.from_excess done)
+        → MatchOption found (IsParted (seen c.args.side c.args.graph.now.rows.items) c.args.flow.now.entries.items c.args.excess.now) (HoldsSearch (seen c.args.side c.args.graph.now.rows.items) c.args.flow.now.entries.items c.args.excess.now (record { visits = with_items (with_items c.args.scratch.now.visits c.find_deficits-reach.new.visits) c.forget.new.visits; potentials = c.args.scratch.now.potentials; labels = c.args.scratch.now.labels; queue = c.find_deficits-reach.new.queue; trail = c.find_deficits-reach.new.trail; walks = c.args.scratch.now.walks }))
+    by_result None done none = subst (λ (x : List ℤ). IsParted (seen c.args.side c.args.graph.now.rows.items) x c.args.excess.now) c.deref.ensures.value
+        (parted_exhausted (seen c.args.side c.args.graph.now.rows.items) c.deref.result.now c.deref-2.result.now c.args.excess.now c.find_deficits-reach.new.visits c.find_deficits-reach.ensures.relaxed c.find_deficits-reach.ensures.from_excess done)
     by_result (Some reach) found none = absurd (false≢true (sym none))
 
 pub returns-else-is_none-clause-found : goal.returns-else-is_none-clause-found
 returns-else-is_none-clause-found c = by_result c.find_deficits-reach.result c.find_deficits-reach.ensures.found (search rules)
   where
     by_result : (found : Option ℤ) → MatchOption found (IsExhausted c.args.excess.now c.find_deficits-reach.new.visits) (HasFound c.args.excess.now c.find_deficits-reach.new.visits) → IsTrue (is_some found)
-        → MatchOption found (IsParted c.args.graph.now.rows.items c.args.flow.now.entries.items c.args.excess.now) (HoldsSearch c.args.graph.now.rows.items c.args.flow.now.entries.items c.args.potentials.now.entries.items c.args.excess.now (record { visits = with_items c.args.scratch.now.visits c.find_deficits-reach.new.visits; labels = c.args.scratch.now.labels; queue = c.find_deficits-reach.new.queue; trail = c.find_deficits-reach.new.trail; walks = c.args.scratch.now.walks }))
+        → MatchOption found (IsParted (seen c.args.side c.args.graph.now.rows.items) c.args.flow.now.entries.items c.args.excess.now) (HoldsSearch (seen c.args.side c.args.graph.now.rows.items) c.args.flow.now.entries.items c.args.excess.now (record { visits = with_items c.args.scratch.now.visits c.find_deficits-reach.new.visits; potentials = c.args.scratch.now.potentials; labels = c.args.scratch.now.labels; queue = c.find_deficits-reach.new.queue; trail = c.find_deficits-reach.new.trail; walks = c.args.scratch.now.walks }))
     by_result None done some = absurd (false≢true some)
     by_result (Some reach) found some =
         let is = visits_are (goal.at.returns-else-is_none-clause-found c).After-find_deficits-reach in
-        let rows = c.args.graph.now.rows.items in
+        let rows = seen c.args.side c.args.graph.now.rows.items in
         let searched : HasSearched rows c.deref.result.now c.deref-2.result.now c.args.excess.now c.find_deficits-reach.new.visits reach = record {
           search = c.find_deficits-reach.ensures.search;
           relaxed = c.find_deficits-reach.ensures.relaxed;
@@ -64,8 +57,8 @@ returns-else-is_none-clause-found c = by_result c.find_deficits-reach.result c.f
           found = found;
         } in
         record {
-          searched = subst (λ (s : List Visit). HasSearched rows c.args.flow.now.entries.items c.args.potentials.now.entries.items c.args.excess.now s reach) (sym is)
-              (subst (λ (x : List ℤ). HasSearched rows x c.args.potentials.now.entries.items c.args.excess.now c.find_deficits-reach.new.visits reach) c.deref.ensures.value
+          searched = subst (λ (s : List Visit). HasSearched rows c.args.flow.now.entries.items c.args.scratch.now.potentials.items c.args.excess.now s reach) (sym is)
+              (subst (λ (x : List ℤ). HasSearched rows x c.args.scratch.now.potentials.items c.args.excess.now c.find_deficits-reach.new.visits reach) c.deref.ensures.value
               (subst (λ (p : List ℤ). HasSearched rows c.deref.result.now p c.args.excess.now c.find_deficits-reach.new.visits reach) c.deref-2.ensures.value searched));
           queue = subst (λ (s : List Visit). IsQueueOf s c.find_deficits-reach.new.queue) (sym is) c.find_deficits-reach.ensures.queue;
           trail = subst (λ (s : List Visit). IsTrailOf s c.find_deficits-reach.new.trail) (sym is) c.find_deficits-reach.ensures.trail;

@@ -1,5 +1,5 @@
 use Rattle.std.proofs.Common.{ap, ◌-◌, arith}
-use Rattle.session.specs.declared.part.Part.TheVariants.{Supply}
+use Rattle.flow_solver.specs.declared.part.Part.TheVariants.{Supply}
 use Rattle.flow_solver.specs.Desk.{supplies_in}
 use Rattle.session.proofs.Running.{supply_as_bits}
 use Rattle.session.proofs.swaps.swap_part.Goals as goal

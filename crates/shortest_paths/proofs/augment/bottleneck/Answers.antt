@@ -5,12 +5,13 @@ use Rattle.shortest_paths.specs.Blocking.{IsWay, head_at, hops_from, hops_of}
 use Rattle.shortest_paths.specs.Push.{HasRoom}
 use Rattle.shortest_paths.specs.Residual.{arc_at, end_at, number_at, room_of}
 use Rattle.shortest_paths.specs.Search.{depth_at}
+use Rattle.shortest_paths.specs.Side.{seen}
 use Rattle.shortest_paths.proofs.BlockingLemmas.{hop_on, here_fits, more_fits}
 use Rattle.shortest_paths.proofs.augment.bottleneck.Goals as goal
 
 pub loop-node-preserved : goal.loop-node-preserved
 loop-node-preserved c =
-    let rows = c.args.levels.graph.now.rows.items in
+    let rows = (seen c.args.levels.side c.args.levels.graph.now.rows.items) in
     let x = c.args.flow.now in
     let s = c.args.levels.visits.now in
     let w = c.args.walks.now in
@@ -38,7 +39,7 @@ loop-node-preserved c =
 
 pub loop-node-smaller : goal.loop-node-smaller
 loop-node-smaller c =
-    let rows = c.args.levels.graph.now.rows.items in
+    let rows = (seen c.args.levels.side c.args.levels.graph.now.rows.items) in
     let s = c.args.levels.visits.now in
     let w = c.args.walks.now in
     let on = hop_on rows c.args.flow.now s w c.args.path.target c.loop-node.node c.requires.flow (omega arith) c.loop-node.invariant.way in
@@ -47,7 +48,7 @@ loop-node-smaller c =
 
 pub returns-clause-room : goal.returns-clause-room
 returns-clause-room c =
-    let rows = c.args.levels.graph.now.rows.items in
+    let rows = (seen c.args.levels.side c.args.levels.graph.now.rows.items) in
     let s = c.args.levels.visits.now in
     let back = c.args.walks.now.back.items in
     let last : depth_at s c.args.path.target - depth_at s c.loop-node.node ≡ 0 = omega (arith, c.loop-node-test.false) in

@@ -13,6 +13,7 @@ use Rattle.shortest_paths.specs.Residual.{number_at}
 use Rattle.shortest_paths.specs.Search.{IsFoundDeficit, mark_at}
 use Rattle.shortest_paths.specs.Push.{left, CanPush}
 use Rattle.shortest_paths.specs.Trail.{IsTrailOf}
+use Rattle.shortest_paths.specs.Side.{seen}
 use Rattle.shortest_paths.proofs.SearchLemmas.{in_range, settled_is_reached}
 use Rattle.shortest_paths.proofs.SettleLemmas.{left-small, ArePushes-none, ArePushes-more}
 use Rattle.shortest_paths.proofs.TouchedLemmas.{AreNoted-none, AreNoted-trans}
@@ -41,7 +42,7 @@ loop-j-init c = record {
     current_sized = c.refresh.ensures.current_sized ∙ c.requires.walks.current_sized;
     back_sized = ap (λ b. length b.items) c.refresh.ensures.back ∙ c.requires.walks.back_sized;
   };
-  done = ArePushes-none c.args.levels.graph.now.rows.items c.args.flow.now c.args.excess.now;
+  done = ArePushes-none (seen c.args.levels.side c.args.levels.graph.now.rows.items) c.args.flow.now c.args.excess.now;
   alive = λ h v settled. (let at = c.requires.trail.listed v settled in subst (λ (u : ℕ). in_set c.refresh.new.self.dead.items u ≡ false) at.is_there (c.refresh.ensures.alive at.place at.in_line));
   some = λ i lt found. absurd (omega (arith, lt));
 }
@@ -70,7 +71,7 @@ overflow_add-pushes c =
 first_pushed : (c : After-push_to-pushes) → c.loop-j.pushes ≡ 0 → IsFoundDeficit c.args.excess.now c.args.levels.visits.now c.index.result.now → 0 < c.push_to-pushes.result
 first_pushed c none found =
     let same = c.loop-j.invariant.done.none none in
-    let rows = c.args.levels.graph.now.rows.items in
+    let rows = (seen c.args.levels.side c.args.levels.graph.now.rows.items) in
     let t = c.index.result.now in
     let can = c.requires.can_push t found in
     c.push_to-pushes.ensures.some c.requires.paths

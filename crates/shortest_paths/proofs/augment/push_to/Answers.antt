@@ -7,6 +7,7 @@ use Rattle.shortest_paths.specs.Residual.{number_at}
 use Rattle.shortest_paths.specs.declared.blocking.Walks.{Walks}
 use Rattle.shortest_paths.specs.Blocking.{AreAlive}
 use Rattle.shortest_paths.specs.Push.{CanPush, left}
+use Rattle.shortest_paths.specs.Side.{seen}
 use Rattle.shortest_paths.proofs.SettleLemmas.{left-small, ArePushes-none, ArePushes-more}
 use Rattle.shortest_paths.proofs.TouchedLemmas.{AreNoted-none, AreNoted-trans}
 use Rattle.shortest_paths.proofs.augment.push_to.Goals as goal
@@ -25,7 +26,7 @@ loop-excess-init c = record {
   noted = AreNoted-none c.args.touched.now c.args.flow.now;
   state = c.requires.state;
   walks = c.requires.walks;
-  pushed = ArePushes-none c.args.levels.graph.now.rows.items c.args.flow.now c.args.excess.now;
+  pushed = ArePushes-none (seen c.args.levels.side c.args.levels.graph.now.rows.items) c.args.flow.now c.args.excess.now;
   first = λ h. refl;
   kept = inl refl;
 }
@@ -61,7 +62,7 @@ returns-clause-kept c = elim c.loop-excess.invariant.kept [
 
 pub returns-in-None-clause-some : goal.returns-in-None-clause-some
 returns-in-None-clause-some c = λ paths can alive.
-    (let rows = c.args.levels.graph.now.rows.items in
+    (let rows = (seen c.args.levels.side c.args.levels.graph.now.rows.items) in
     let s = c.args.levels.visits.now in
     let t = c.args.target in
     elim (cases_eq c.loop-excess.pushes 0) [

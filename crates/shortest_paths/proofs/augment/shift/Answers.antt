@@ -5,13 +5,14 @@ use Rattle.shortest_paths.specs.Blocking.{IsWay, back_at, head_at, hops_from, ho
 use Rattle.shortest_paths.specs.Residual.{IsFlow, arc_at, end_at, number_at, room_of}
 use Rattle.shortest_paths.specs.Search.{depth_at}
 use Rattle.shortest_paths.specs.Push.{HasRoom, push_along, moved}
+use Rattle.shortest_paths.specs.Side.{seen}
 use Rattle.shortest_paths.proofs.BlockingLemmas.{hop_on, here_fits, shift_on}
 use Rattle.shortest_paths.proofs.TouchedLemmas.{AreNoted-none, AreNoted-trans}
 use Rattle.shortest_paths.proofs.augment.shift.Goals as goal
 
 pub shift_on-requires-clause-fits : goal.shift_on-requires-clause-fits
 shift_on-requires-clause-fits c =
-    let rows = c.args.levels.graph.now.rows.items in
+    let rows = (seen c.args.levels.side c.args.levels.graph.now.rows.items) in
     let known = c.loop-node.invariant in
     let on = hop_on rows c.loop-node.flow c.args.levels.visits.now c.args.walks.now c.args.path.target c.loop-node.node known.flow (omega arith) known.way in
     subst (λ (h : ResidualArc). to_z w64 (of_z w64 c.args.amount) ≤ℤ room_of (arc_at rows h.arc) (number_at c.loop-node.flow h.arc) h.way) (sym c.way_on-hop.ensures)
@@ -28,7 +29,7 @@ loop-node-init c = record {
 
 pub loop-node-smaller : goal.loop-node-smaller
 loop-node-smaller c =
-    let rows = c.args.levels.graph.now.rows.items in
+    let rows = (seen c.args.levels.side c.args.levels.graph.now.rows.items) in
     let s = c.args.levels.visits.now in
     let w = c.args.walks.now in
     let known = c.loop-node.invariant in
@@ -38,7 +39,7 @@ loop-node-smaller c =
 
 pub loop-node-preserved : goal.loop-node-preserved
 loop-node-preserved c =
-    let rows = c.args.levels.graph.now.rows.items in
+    let rows = (seen c.args.levels.side c.args.levels.graph.now.rows.items) in
     let s = c.args.levels.visits.now in
     let w = c.args.walks.now in
     let t = c.args.path.target in
@@ -63,7 +64,7 @@ loop-node-preserved c =
 
 pub returns-clause-flow : goal.returns-clause-flow
 returns-clause-flow c =
-    let rows = c.args.levels.graph.now.rows.items in
+    let rows = (seen c.args.levels.side c.args.levels.graph.now.rows.items) in
     let s = c.args.levels.visits.now in
     let back = c.args.walks.now.back.items in
     let last : depth_at s c.args.path.target - depth_at s c.loop-node.node ≡ 0 = omega (arith, c.loop-node-test.false) in

@@ -4,6 +4,7 @@ use Rattle.shortest_paths.specs.Cut.{in_set}
 use Rattle.shortest_paths.specs.Search.{depth_at}
 use Rattle.shortest_paths.specs.Push.{ArePaths, CanPush}
 use Rattle.shortest_paths.specs.Blocking.{AreAlive, IsOnWalk, IsWalksFor}
+use Rattle.shortest_paths.specs.Side.{seen}
 use Rattle.shortest_paths.proofs.FirstWalk.{IsFirstWalk}
 use Rattle.shortest_paths.proofs.blocking.find_path.Given as goal
 
@@ -11,8 +12,8 @@ abbrev pub invariant-loop-node : goal.invariant-loop-node
 invariant-loop-node l = record {
   walks : IsWalksFor (length l.levels.visits.now) l.walks;
   alive : in_set l.walks.dead.items l.node ≡ false;
-  on_walk : IsOnWalk l.levels.graph.now.rows.items l.levels.potentials.now l.flow l.levels.visits.now l.walks.dead.items l.walks.back.items (pos 1) l.target l.node;
-  first : ArePaths l.levels.graph.now.rows.items l.levels.potentials.now l.levels.visits.now → CanPush l.levels.graph.now.rows.items l.flow l.excess l.levels.visits.now l.target → AreAlive l.levels.visits.now l.initial.walks.dead.items → IsFirstWalk l.levels.graph.now.rows.items l.flow l.excess l.levels.visits.now l.walks.dead.items l.node;
+  on_walk : IsOnWalk (seen l.levels.side l.levels.graph.now.rows.items) l.levels.potentials.now l.flow l.levels.visits.now l.walks.dead.items l.walks.back.items (pos 1) l.target l.node;
+  first : ArePaths (seen l.levels.side l.levels.graph.now.rows.items) l.levels.potentials.now l.levels.visits.now → CanPush (seen l.levels.side l.levels.graph.now.rows.items) l.flow l.excess l.levels.visits.now l.target → AreAlive l.levels.visits.now l.initial.walks.dead.items → IsFirstWalk (seen l.levels.side l.levels.graph.now.rows.items) l.flow l.excess l.levels.visits.now l.walks.dead.items l.node;
 }
 
 abbrev pub decreases-loop-node : goal.decreases-loop-node

@@ -1,8 +1,7 @@
 use Rattle.std.proofs.Common.{◌≡◌}
 use Rattle.shortest_paths.specs.Cut.{IsFarIn, IsGrown, IsLineOf}
 use Rattle.shortest_paths.specs.Ends.{IsWalk, left_of}
-use Rattle.shortest_paths.proofs.CutLemmas.{way_on}
-use Rattle.shortest_paths.proofs.EndLemmas.{AllHaveOrCome}
+use Rattle.shortest_paths.proofs.SideLemmas.{AllSeenOrCome}
 use Rattle.shortest_paths.proofs.cut.mark_from.Given as goal
 
 abbrev pub invariant-loop-end : goal.invariant-loop-end
@@ -11,7 +10,7 @@ invariant-loop-end l = record {
   grown : IsGrown l.on.side l.on.graph.now.rows.items l.on.flow.now l.initial.cut l.initial.line l.len l.cut l.line l.longer;
   walk : IsWalk l.on.graph.now l.walk;
   node : l.walk.node ≡ l.node;
-  done : AllHaveOrCome l.on.graph.now l.walk l.node (λ k way. IsFarIn l.on.side l.on.graph.now.rows.items l.on.flow.now l.cut k (way_on l.on.side way));
+  done : AllSeenOrCome l.on.side l.on.graph.now l.walk l.node (IsFarIn l.on.side l.on.graph.now.rows.items l.on.flow.now l.cut);
 }
 
 abbrev pub decreases-loop-end : goal.decreases-loop-end

@@ -1,4 +1,5 @@
 use Rattle.std.proofs.Common.{arith}
+use Rattle.shortest_paths.specs.Side.{seen}
 use Rattle.shortest_paths.proofs.SearchLemmas.{IsPut-set}
 use Rattle.shortest_paths.proofs.LabelLemmas.{IsForest-stands, NothingOpen-stands}
 use Rattle.shortest_paths.proofs.labels.keep_node.Goals as goal
@@ -6,7 +7,7 @@ use Rattle.shortest_paths.proofs.labels.keep_node.Goals as goal
 pub returns-in-Some-clause-forest : goal.returns-in-Some-clause-forest
 returns-in-Some-clause-forest c =
     let stands = c.in-Some.ensures in
-    IsForest-stands c.args.residual.graph.now.rows.items c.args.residual.flow.now c.args.residual.potentials.now c.args.visits.now _ c.args.v c.in-Some.visit c.args.residual.certified c.requires.forest c.requires.closed
+    IsForest-stands (seen c.args.residual.side c.args.residual.graph.now.rows.items) c.args.residual.flow.now c.args.residual.potentials.now c.args.visits.now _ c.args.v c.in-Some.visit c.args.residual.certified c.requires.forest c.requires.closed
     (λ h. cc (c.is_settled.ensures.1 h)) (IsPut-set c.args.visits.now c.args.v c.in-Some.visit (omega (arith, c.if-v-visits.false))) stands.settled stands.kept stands.reaches
 
 pub returns-in-Some-clause-closed : goal.returns-in-Some-clause-closed

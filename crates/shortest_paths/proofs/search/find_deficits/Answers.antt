@@ -4,6 +4,7 @@ use Rattle.std.proofs.lemmas.Int.{ints, to_z-of_z}
 use Rattle.shortest_paths.specs.Residual.{number_at}
 use Rattle.shortest_paths.specs.Search.{key_at, IsFinding, Settles}
 use Rattle.shortest_paths.specs.Trail.{IsTrailOf}
+use Rattle.shortest_paths.specs.Side.{seen}
 use Rattle.shortest_paths.proofs.SearchLemmas.{key_high, settled_is_reached}
 use Rattle.shortest_paths.proofs.RunLemmas.{IsFromExcess-settles, IsFinding-deficit, IsFinding-other}
 use Rattle.shortest_paths.proofs.TrailLemmas.{trail_first, trail_more, none_settled, known_first, relaxed_first, from_excess_first, finding_first}
@@ -18,7 +19,7 @@ reach_is c =
     let known = c.settle_node-settled.ensures.search in
     let reached = settled_is_reached c.settle_node-settled.new.visits c.in-Some.u (settles_u c).now_settled in
     let low = known.key_at_least_0 c.in-Some.u reached in
-    let high = key_high c.args.residual.graph.now.rows.items c.args.residual.flow.now c.args.residual.potentials.now c.settle_node-settled.new.visits c.in-Some.u c.args.residual.certified known reached in
+    let high = key_high (seen c.args.residual.side c.args.residual.graph.now.rows.items) c.args.residual.flow.now c.args.residual.potentials.now c.settle_node-settled.new.visits c.in-Some.u c.args.residual.certified known reached in
     let fits : SFits w64 (key_at c.settle_node-settled.new.visits c.in-Some.u) = omega (arith, ints, low, high) in
     to_z-of_z w64 (key_at c.settle_node-settled.new.visits c.in-Some.u) fits
 
@@ -26,12 +27,12 @@ reach_is c =
 one_more : (c : After-settle_node-settled) → number_at c.args.excess.now c.in-Some.u <ℤ pos 0 → IsFinding c.args.excess.now c.settle_node-settled.new.visits (to_z w64 (of_z w64 (key_at c.settle_node-settled.new.visits c.in-Some.u))) (c.loop-u.found + 1)
 one_more c low =
     subst (λ (r : ℤ). IsFinding c.args.excess.now c.settle_node-settled.new.visits r (c.loop-u.found + 1)) (sym (reach_is c))
-    (IsFinding-deficit c.args.residual.graph.now.rows.items c.args.residual.flow.now c.args.residual.potentials.now c.args.excess.now c.loop-u.visits c.settle_node-settled.new.visits c.in-Some.u _ c.loop-u.found c.args.residual.certified c.loop-u.invariant.known c.settle_node-settled.ensures.search c.in-Some.ensures.found.is_open (settles_u c) c.loop-u.invariant.finding low)
+    (IsFinding-deficit (seen c.args.residual.side c.args.residual.graph.now.rows.items) c.args.residual.flow.now c.args.residual.potentials.now c.args.excess.now c.loop-u.visits c.settle_node-settled.new.visits c.in-Some.u _ c.loop-u.found c.args.residual.certified c.loop-u.invariant.known c.settle_node-settled.ensures.search c.in-Some.ensures.found.is_open (settles_u c) c.loop-u.invariant.finding low)
 
 no_more : (c : After-settle_node-settled) → pos 0 ≤ℤ number_at c.args.excess.now c.in-Some.u → IsFinding c.args.excess.now c.settle_node-settled.new.visits (to_z w64 (of_z w64 (key_at c.settle_node-settled.new.visits c.in-Some.u))) c.loop-u.found
 no_more c high =
     subst (λ (r : ℤ). IsFinding c.args.excess.now c.settle_node-settled.new.visits r c.loop-u.found) (sym (reach_is c))
-    (IsFinding-other c.args.residual.graph.now.rows.items c.args.residual.flow.now c.args.residual.potentials.now c.args.excess.now c.loop-u.visits c.settle_node-settled.new.visits c.in-Some.u _ c.loop-u.found c.args.residual.certified c.loop-u.invariant.known c.settle_node-settled.ensures.search c.in-Some.ensures.found.is_open (settles_u c) c.loop-u.invariant.finding high)
+    (IsFinding-other (seen c.args.residual.side c.args.residual.graph.now.rows.items) c.args.residual.flow.now c.args.residual.potentials.now c.args.excess.now c.loop-u.visits c.settle_node-settled.new.visits c.in-Some.u _ c.loop-u.found c.args.residual.certified c.loop-u.invariant.known c.settle_node-settled.ensures.search c.in-Some.ensures.found.is_open (settles_u c) c.loop-u.invariant.finding high)
 
 -- the node that was settled is in the trail
 noted : (c : After-note) → IsTrailOf c.settle_node-settled.new.visits c.note.new.self
@@ -74,7 +75,7 @@ loop-u-preserved c = record {
 
 pub loop-u-init : goal.loop-u-init
 loop-u-init c =
-    let arcs = c.args.residual.graph.now.rows.items in
+    let arcs = (seen c.args.residual.side c.args.residual.graph.now.rows.items) in
     let x = c.args.residual.flow.now in
     let p = c.args.residual.potentials.now in
     let excess = c.args.excess.now in
@@ -87,6 +88,6 @@ loop-u-init c =
       known = known_first arcs x p excess s c.args.residual.certified sized opened.sources opened.others;
       relaxed = relaxed_first arcs x p excess s c.args.residual.certified sized opened.sources opened.others;
       from_excess = from_excess_first arcs x p excess s c.args.residual.certified sized opened.sources opened.others;
-      few = omega (arith, c.wanted_deficits-wanted.ensures);
+      few = omega (arith, c.wanted_deficits-wanted.ensures.at_least_1);
       finding = finding_first arcs x p excess s c.args.residual.certified sized opened.sources opened.others;
     }

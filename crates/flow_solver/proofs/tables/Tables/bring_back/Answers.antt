@@ -1,4 +1,4 @@
-use Rattle.std.proofs.Common.{◌≡◌, ◌∙◌, List, ℤ, ap, arith, length, refl, subst, sym}
+use Rattle.std.proofs.Common.{◌≡◌, ◌∙◌, List, ℤ, ap, arith, false, length, refl, subst, sym}
 use Rattle.std.proofs.lemmas.List.{with_items_is}
 use Rattle.dimacs_text.specs.declared.problem.ArcRow.{ArcRow}
 use Rattle.network.specs.Instance.{reduced}
@@ -8,6 +8,7 @@ use Rattle.shortest_paths.specs.Nodes.{IsIdleEntry}
 use Rattle.flow_solver.specs.Ledger.{kept_in}
 use Rattle.flow_solver.proofs.CarryLemmas.{balance_back, sends}
 use Rattle.flow_solver.proofs.DeskLemmas.{length_kept, nodes_alike}
+use Rattle.flow_solver.proofs.StandingLemmas.{scratch_told}
 use Rattle.flow_solver.proofs.tables.Tables.bring_back.Goals as goal
 
 pub invariant_of-self : goal.invariant_of-self
@@ -36,7 +37,8 @@ invariant_of-self c =
       balance_is = balance_back I t.graph.rows.items t.flow c.bring_back.new.self t.balance _ inv.flow_ledger size c.bring_back.ensures.entries c.bring_back.ensures.whole
           (ap length items ∙ c.carry_back.auto.excess ∙ ap length c.deref_mut.ensures.value) excess refl inv.balance_is;
       cut_in = nodes_alike I.nodes c.bring_back-3.new.self (kept_in t.cut) (kept_in t.cut) c.bring_back-3.ensures.ledger c.bring_back-3.ensures.entries c.bring_back-3.ensures.kept cut cut;
-      scratch_in = inv.scratch_in;
+      scratch_in = scratch_told _ t.scratch false inv.scratch_in;
+      standing = λ none. cc;
       rows_fit = inv.rows_fit;
       log_fits = omega (arith, inv.log_fits);
       before_is = tt;

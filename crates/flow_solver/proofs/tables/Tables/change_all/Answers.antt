@@ -52,6 +52,7 @@ invariant_of-self c =
       balance_is = inv.balance_is;
       cut_in = inv.cut_in;
       scratch_in = inv.scratch_in;
+      standing = inv.standing;
       rows_fit = inv.rows_fit;
       log_fits = inv.log_fits;
       before_is = (

@@ -1,4 +1,4 @@
-use Rattle.std.proofs.Common.{◌≡◌, ◌∙◌, ◌+◌, ◌-◌, ◌<◌, ◌∷◌, [], ◌+ℤ◌, ◌-ℤ◌, ◌*ℤ◌, ℕ, ℤ, List, pos, drop, ap, arith, length, min, refl, rules, subst, sym, w64, SFits, to_z, of_z}
+use Rattle.std.proofs.Common.{◌≡◌, ◌∙◌, ◌+◌, ◌-◌, ◌<◌, ◌∷◌, [], ◌+ℤ◌, ◌-ℤ◌, ◌*ℤ◌, ℕ, ℤ, List, pos, drop, ap, arith, false, length, min, refl, rules, subst, sym, w64, SFits, to_z, of_z}
 use Rattle.std.specs.Int.{int_wrap, w128}
 use Rattle.std.specs.Vec.{with_items}
 use Rattle.std.proofs.lemmas.Int.{to_z-of_z}
@@ -12,6 +12,7 @@ use Rattle.flow_solver.specs.Ledger.{kept_in}
 use Rattle.flow_solver.proofs.CarryLemmas.{arcs_in, balance_dropped, carried_as, ends_in}
 use Rattle.flow_solver.proofs.DeskLemmas.{length_kept, tables_with_arcs}
 use Rattle.shortest_paths.proofs.StarLemmas.{covers_dropped}
+use Rattle.flow_solver.proofs.StandingLemmas.{scratch_told}
 use Rattle.flow_solver.proofs.tables.Tables.drop_last.Goals as goal
 use Rattle.flow_solver.proofs.tables.Tables.drop_last.Goals.{After-len-last}
 
@@ -68,11 +69,11 @@ invariant_of-self c =
     let balance = balance_dropped I J t.graph.rows.items c.drop_row-row.new.rows.items t.flow c.pop-flow.new.self t.balance now c.drop_row-row.result c.pop-flow.result last
     inv.graph.rows.rows_are c.drop_row-row.ensures.rows.rows_are c.drop_row-row.ensures.net c.pop-flow.ensures.ledger inv.flow_in (inv.flow_ledger.same_length ∙ inv.flow_in) c.pop-flow.ensures.entries c.pop-flow.ensures.whole
     (ap (λ (n : ℕ). n - 1) many) carried cost inv.balance_is in
-    tables_with_arcs t.graph (record { net = J; star = c.keep.new.self; rows = c.drop_row-row.new.rows }) t.flow c.pop-flow.new.self t.potentials t.balance now t.cut t.scratch t.before
+    tables_with_arcs t.graph (record { net = J; star = c.keep.new.self; rows = c.drop_row-row.new.rows }) t.flow c.pop-flow.new.self t.potentials t.balance now t.cut t.scratch _ t.before
     inv (sym (ap (λ (K : Instance). K.nodes) c.drop_row-row.ensures.net)) (sym (ap (λ (K : Instance). K.room) c.drop_row-row.ensures.net)) (record { rows = c.drop_row-row.ensures.rows; star = covers }) c.drop_row-row.ensures.room
     c.pop-flow.ensures.ledger
     (omega (arith, ap (λ (xs : List ℤ). length xs) c.pop-flow.ensures.entries, length-append c.pop-flow.new.self.entries.items (c.pop-flow.result ∷ []), inv.flow_in, c.drop_row-row.ensures.one_less))
-    c.pop-flow.ensures.room balance
+    c.pop-flow.ensures.room balance (scratch_told _ t.scratch false inv.scratch_in) (λ none. cc)
 
 pub returns-clause-kept : goal.returns-clause-kept
 returns-clause-kept c asked =

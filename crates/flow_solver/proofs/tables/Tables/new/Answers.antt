@@ -1,4 +1,4 @@
-use Rattle.std.proofs.Common.{add-one, ◌≡◌, ◌∙◌, ◌+◌, ℕ, suc, ℤ, arith, pos, false, List, map, drop, length, replicate, rules, ap, sym, subst}
+use Rattle.std.proofs.Common.{add-one, ◌≡◌, ◌∙◌, ◌+◌, ℕ, suc, ℤ, arith, pos, false, true, List, map, drop, length, replicate, rules, ap, sym, subst}
 use Rattle.std.proofs.lemmas.Int.{ints}
 use Rattle.std.proofs.lemmas.List.{length-map}
 use Rattle.network.specs.Flow.{IsCertifiedFlow}
@@ -50,6 +50,7 @@ invariant_of-result c =
       };
       cut_in = nodes_alike c.in_ok-graph.graph.net.nodes cut (replicate (c.nodes.result + 1) false) (replicate (c.nodes.result + 1) false) c.in_ok-cut.ensures.ledger unmarked kept_unmarked (search rules) (search rules);
       scratch_in = search rules;
+      standing = λ stood. (let wrong : false ≡ true = sym c.in_ok-scratch.ensures.standing ∙ stood in cc);
       rows_fit = search rules;
       log_fits = search rules;
       before_is = tt;

@@ -19,7 +19,7 @@ use Rattle.flow_solver.proofs.DeskLemmas.{sized_written, tables_written}
 use Rattle.flow_solver.proofs.FlowLaws.{bounds_from}
 use Rattle.flow_solver.proofs.PushLaws.{pushes_of, left_is}
 use Rattle.flow_solver.proofs.InstanceLemmas.{few_entries, potentials_of, certified_of, supplies_of_instance, caps_of_instance}
-use Rattle.flow_solver.proofs.AnswerLemmas.{AreRows, IsEnd, exact_of_certified, wrapped_small, end_of, certified_at, end_certified, end_greatest, end_verdict, end_chosen, left_fits, lack_fits}
+use Rattle.flow_solver.proofs.AnswerLemmas.{AreRows, IsEnd, exact_of_certified, wrapped_small, end_of, certified_at, end_certified, end_verdict, end_chosen, left_fits, lack_fits}
 use Rattle.flow_solver.proofs.tables.Tables.settle.Goals as goal
 use Rattle.flow_solver.proofs.tables.Tables.settle.Goals.{After-settle-pushes, After-judge-self-inside}
 
@@ -60,8 +60,8 @@ end : (c : After-settle-pushes) → IsEnd c.self.inside.graph.net c.settle-pushe
 end c =
     let supply = held c.self.inside.graph.net.nodes (reduced c.self.inside.graph.net).supply in
     end_of c.self.inside.graph.net c.self.inside.graph.rows.items c.settle-pushes.new.flow.entries.items c.settle-pushes.new.potentials.entries.items c.settle-pushes.new.excess c.settle-pushes.new.cut.entries.items c.self.invariant.graph.rows.lawful c.self.invariant.graph.rows.rows_are
-    (c.settle-pushes.ensures.potentials_written.same_length ∙ c.self.invariant.potentials_in.entries_in) (excess_in c) (c.settle-pushes.ensures.cut_written.same_length ∙ c.self.invariant.cut_in.entries_in)
-    c.settle-pushes.ensures.certified c.settle-pushes.ensures.greatest c.settle-pushes.ensures.above
+    c.settle-pushes.ensures.potentials_in (excess_in c) (c.settle-pushes.ensures.cut_written.same_length ∙ c.self.invariant.cut_in.entries_in)
+    c.settle-pushes.ensures.certified
     (c.settle-pushes.ensures.excess supply (excess_before c)) (c.settle-pushes.ensures.cut supply (excess_before c))
 
 few : (c : After-settle-pushes) → c.self.inside.graph.net.nodes + 1 ≤ entry_limit
@@ -120,7 +120,7 @@ invariant_of-self c =
     let many = call.ensures.potentials_written.same_length ∙ inv.potentials_in.entries_in in
     tables_written t.graph t.graph t.flow call.new.flow t.potentials call.new.potentials t.balance now t.cut call.new.cut t.scratch call.new.scratch t.before
     inv refl refl inv.graph refl (omega arith) call.ensures.flow_written call.ensures.potentials_written (call.ensures.potentials_in.at_least 0, call.ensures.potentials_in.at_most_0 0) balance call.ensures.cut_written
-    (subst (λ (n : ℕ). IsScratchFor n call.new.scratch) many call.ensures.scratch)
+    (subst (λ (n : ℕ). IsScratchFor n call.new.scratch) many call.ensures.scratch) (λ stands. call.ensures.greatest)
 
 pub returns-clause-answered : goal.returns-clause-answered
 returns-clause-answered c =
@@ -138,7 +138,7 @@ returns-clause-answered c =
           c.self.invariant refl c.self.invariant.graph.rows refl call.ensures.flow_written call.ensures.potentials_written call.ensures.cut_written;
       certified = end_certified I y p e set ended;
       verdict = end_verdict I y p e set ended c.judge-self-inside.result told;
-      greatest = record { none_above = end_greatest I y p e set ended };
+      greatest = call.ensures.greatest;
       chosen = end_chosen I y p e set ended c.judge-self-inside.result told;
     }
 

@@ -1,7 +1,9 @@
-use Rattle.std.proofs.Common.{◌∙◌, List, ap, arith, length, refl, subst, sym}
+use Rattle.std.proofs.Common.{◌∙◌, ℤ, List, ap, arith, drop, length, refl, subst, sym}
 use Rattle.std.specs.Int.{w128}
 use Rattle.std.proofs.lemmas.Int.{to_z-of_z}
 use Rattle.dimacs_text.specs.declared.problem.ArcRow.{ArcRow}
+use Rattle.network.specs.Instance.{at_node, reduced}
+use Rattle.flow_solver.specs.Answer.{AreGreatestPotentials}
 use Rattle.flow_solver.specs.Balance.{IsWrappedCost}
 use Rattle.shortest_paths.specs.Nodes.{IsIdleEntry}
 use Rattle.flow_solver.proofs.CarryLemmas.{balance_kept}
@@ -26,6 +28,9 @@ invariant_of-self c =
       balance_is = balance_kept t.graph.net t.graph.rows.items t.flow c.snapshot.new.self t.balance _ c.snapshot.ensures.entries c.snapshot.ensures.whole refl cost inv.balance_is;
       cut_in = nodes_alike t.graph.net.nodes c.snapshot-3.new.self t.cut.entries.items t.cut.entries.items c.snapshot-3.ensures.ledger c.snapshot-3.ensures.entries c.snapshot-3.ensures.kept inv.cut_in.entries_in inv.cut_in.entries_in;
       scratch_in = inv.scratch_in;
+      standing = λ stood.
+          subst (λ (p : List ℤ). AreGreatestPotentials (reduced t.graph.net) c.snapshot.new.self.entries.items (at_node (drop 1 p))) (sym c.snapshot-2.ensures.entries)
+          (subst (λ (x : List ℤ). AreGreatestPotentials (reduced t.graph.net) x (at_node (drop 1 t.potentials.entries.items))) (sym c.snapshot.ensures.entries) (inv.standing stood));
       rows_fit = inv.rows_fit;
       log_fits = omega (arith, inv.log_fits);
       before_is = tt;

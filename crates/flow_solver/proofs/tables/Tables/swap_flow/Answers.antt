@@ -1,4 +1,4 @@
-use Rattle.std.proofs.Common.{◌≡◌, ◌∙◌, ◌≤◌, ◌-◌, ◌+◌, ℕ, ℤ, List, pos, length, slice_set, drop, ap, arith, refl, rules, subst, sym, w64, SFits}
+use Rattle.std.proofs.Common.{◌≡◌, ◌∙◌, ◌≤◌, ◌-◌, ◌+◌, ℕ, ℤ, List, pos, length, slice_set, drop, ap, arith, false, refl, rules, subst, sym, w64, SFits}
 use Rattle.std.specs.Prelude.{slice_index_or}
 use Rattle.std.proofs.lemmas.Int.{to_z-of_z}
 use Rattle.std.proofs.lemmas.List.{get_or_default, with_items_is}
@@ -7,6 +7,7 @@ use Rattle.shortest_paths.specs.Residual.{arc_at, number_at}
 use Rattle.flow_solver.proofs.CarryLemmas.{IsPlace, balance_set, carried_as, ends_in, place_is}
 use Rattle.flow_solver.proofs.DeskLemmas.{tables_written}
 use Rattle.flow_solver.proofs.LedgerLemmas.{IsWritten-same}
+use Rattle.flow_solver.proofs.StandingLemmas.{scratch_told}
 use Rattle.flow_solver.proofs.tables.Tables.swap_flow.Goals as goal
 use Rattle.flow_solver.proofs.tables.Tables.swap_flow.Goals.{After-first_row}
 
@@ -55,9 +56,10 @@ invariant_of-self c =
     let excess = with_items_is t.balance.excess c.carry_over.new.excess (c.carry_over.auto.excess ∙ c.deref_mut.ensures.len) in
     let carried = carried_as (arc_at t.graph.rows.items place) _ (number_at t.flow.entries.items place) _ c.args.value.now _ t.balance.excess.items _ _ _ row entry value c.deref_mut.ensures.value (sym excess) c.carry_over.ensures in
     let balance = balance_set t.graph.net t.graph.rows.items t.flow c.exchange.new.self t.balance _ place c.args.value.now there inv.flow_in carried refl c.exchange.ensures.entries c.exchange.ensures.written.kept inv.balance_is in
-    tables_written t.graph t.graph t.flow c.exchange.new.self t.potentials t.potentials t.balance _ t.cut t.cut t.scratch t.scratch t.before
+    tables_written t.graph t.graph t.flow c.exchange.new.self t.potentials t.potentials t.balance _ t.cut t.cut t.scratch _ t.before
     inv refl refl inv.graph refl (omega arith) c.exchange.ensures.written (IsWritten-same t.potentials inv.potentials_in.ledger)
-    inv.idle balance (IsWritten-same t.cut inv.cut_in.ledger) inv.scratch_in
+    inv.idle balance (IsWritten-same t.cut inv.cut_in.ledger)
+    (scratch_told _ t.scratch false inv.scratch_in) (λ none. cc)
 
 pub returns-clause-moment : goal.returns-clause-moment
 returns-clause-moment c =

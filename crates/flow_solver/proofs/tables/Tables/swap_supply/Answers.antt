@@ -1,10 +1,11 @@
-use Rattle.std.proofs.Common.{◌∙◌, ◌≡◌, ◌+◌, ap, arith, refl, rules, subst, sym, w64, SFits}
+use Rattle.std.proofs.Common.{◌∙◌, ◌≡◌, ◌+◌, ap, arith, drop, refl, rules, subst, sym, w64, SFits}
 use Rattle.std.specs.Vec.{with_items}
 use Rattle.std.proofs.lemmas.Int.{to_z-of_z}
 use Rattle.std.proofs.lemmas.List.{with_items_is}
 use Rattle.dimacs_text.specs.Lawful.{IsNode}
 use Rattle.dimacs_text.specs.declared.problem.Kind.TheVariants.{Min}
-use Rattle.network.specs.Instance.{Instance, kind_of, reduced}
+use Rattle.network.specs.Instance.{Instance, at_node, kind_of, reduced}
+use Rattle.flow_solver.specs.Answer.{AreGreatestPotentials}
 use Rattle.flow_solver.specs.Balance.{IsBalanceOf}
 use Rattle.shortest_paths.specs.Graph.{IsGraphFor}
 use Rattle.flow_solver.specs.Desk.{Desk}
@@ -15,6 +16,7 @@ use Rattle.flow_solver.proofs.CarryLemmas.{balance_supplied, raised_as}
 use Rattle.flow_solver.proofs.DeskLemmas.{tables_written}
 use Rattle.shortest_paths.proofs.NodeLemmas.{held_node}
 use Rattle.flow_solver.proofs.LedgerLemmas.{IsWritten-same}
+use Rattle.flow_solver.proofs.StandingLemmas.{greatest_supplied}
 use Rattle.flow_solver.proofs.tables.Tables.swap_supply.Goals as goal
 
 pub invariant_of-self : goal.invariant_of-self
@@ -41,3 +43,5 @@ invariant_of-self c =
     tables_written t.graph (record t.graph { net = J }) t.flow t.flow t.potentials t.potentials t.balance now t.cut t.cut t.scratch t.scratch t.before
     inv (ap (λ (K : Instance). K.nodes) net) (ap (λ (K : Instance). K.room) net) graph refl (omega arith) (IsWritten-same t.flow inv.flow_ledger) (IsWritten-same t.potentials inv.potentials_in.ledger)
     inv.idle balance (IsWritten-same t.cut inv.cut_in.ledger) (subst (λ (K : Instance). IsScratchFor (K.nodes + 1) t.scratch) (sym net) inv.scratch_in)
+    (λ stood. subst (λ (K : Instance). AreGreatestPotentials (reduced K) t.flow.entries.items (at_node (drop 1 t.potentials.entries.items))) (sym net)
+    (greatest_supplied I c.args.id c.args.value.now (at_node (drop 1 t.potentials.entries.items)) t.flow.entries.items (inv.standing stood)))

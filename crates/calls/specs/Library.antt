@@ -1,0 +1,106 @@
+-- What the calls do, in terms of the state behind a handle: its moments and its marks.
+use Rattle.std.specs.Prelude.{◌≡◌, ℕ, ◌^◌, ◌==◌, ℤ, pos, ◌+ℤ◌, ◌*ℤ◌, Bool, true, false, not, List, [], length, Option, None, Some, Result, Ok, Err, if◌then◌else◌}
+use Rattle.std.specs.Option.{MatchOption}
+use Rattle.dimacs_lines.specs.declared.fault.TextFault.{TextFault}
+use Rattle.dimacs_lines.specs.declared.fault.TextFault.TheVariants as text_fault
+use Rattle.dimacs_text.specs.Reading.{ProblemValue, reads}
+use Rattle.flow_solver.specs.Answer.{IsAnswered}
+use Rattle.flow_solver.specs.Moment.{Moment}
+use Rattle.flow_solver.specs.declared.verdict.Verdict.{Verdict}
+use Rattle.flow_solver.specs.declared.verdict.Verdict.TheVariants.{Best, Infeasible}
+use Rattle.history.specs.Boards.{Timeline}
+use Rattle.network.specs.Instance.{first}
+use Rattle.session.specs.declared.refusal.Refusal.{Refusal}
+use Rattle.session.specs.declared.refusal.Refusal.TheVariants as refusal
+use Rattle.session.specs.Step.{Reply, SessionState, Tells, Shows, Refuses}
+use Rattle.calls.specs.declared.fault.Fault.{Fault}
+use Rattle.calls.specs.declared.view.View.{View}
+use Rattle.calls.specs.declared.status.TheConstants.{CLOSED, FAULT, MEMORY, NOT_THERE, OTHER_LENGTH}
+
+-- ---- opening
+
+-- the text's problem or its first fault; memory may be wanted for any text
+abbrev pub ReadsAs : Result ProblemValue TextFault → List ℕ → Type 0
+ReadsAs (Ok problem) text = reads text ≡ Ok problem
+ReadsAs (Err (text_fault.Fault number line)) text = reads text ≡ Err (text_fault.Fault number line)
+ReadsAs (Err text_fault.Memory) text = Unit {0}
+
+-- a fault is told by its status, and put where C looks for it; for want of memory nothing is put there
+abbrev pub IsToldAs : TextFault → ℤ → Fault → Fault → Type 0
+IsToldAs (text_fault.Fault number line) status old new = (status ≡ FAULT) × (new.number ≡ number) × (new.line ≡ line)
+IsToldAs text_fault.Memory status old new = (status ≡ MEMORY) × (new ≡ old)
+
+-- a session begins with the problem of the text, answered, with room for so many arcs more, and without marks
+pub record IsOpening (text : List ℕ) (extra : ℕ) (s : SessionState) : Type 0 where
+  pub problem : ProblemValue
+  pub problem_read : reads text ≡ Ok problem
+  pub instance_is : s.moments.present.instance ≡ first problem extra
+  pub answered : IsAnswered s.moments.present
+  pub no_past : s.moments.past ≡ []
+  pub no_future : s.moments.future ≡ []
+  pub no_marks : s.marks ≡ []
+
+-- ---- steps
+
+-- the number that is told of a refused edit
+abbrev pub number_of : Refusal → ℕ
+number_of (refusal.Cause number) = number
+number_of refusal.Memory = 30
+
+-- how a reply is told: nothing to say, or the number of the refusal
+abbrev pub told : Reply → ℕ
+told Tells = 0
+told (Shows proof) = 0
+told (Refuses number) = number
+
+-- a step is taken by which this relation holds, and its reply is told by this number
+abbrev pub Steps : (Reply → SessionState → Type 0) → ℕ → SessionState → Type 0
+Steps StepTo number new = (reply : Reply) × (number ≡ told reply) × StepTo reply new
+
+-- a closed handle stays so, and this is told; an open one stays open, and goes from its state to the new one
+abbrev pub Goes : Option SessionState → ℤ → Option SessionState → (SessionState → ℕ → SessionState → Type 0) → Type 0
+Goes old status new Step =
+    MatchOption old ((status ≡ CLOSED) × (new ≡ None)) (λ before. (number : ℕ) × (status ≡ pos number) × (after : SessionState) × (new ≡ Some after) × Step before number after)
+
+-- ---- views
+
+abbrev pub is_feasible : Verdict → Bool
+is_feasible (Best worth) = true
+is_feasible (Infeasible shortage) = false
+
+-- a number in two halves, of which the high one has the sign
+abbrev pub joined : ℤ → ℕ → ℤ
+joined high low = high *ℤ pos (2 ^ 64) +ℤ pos low
+
+abbrev pub ShowsVerdict : Verdict → View → Type 0
+ShowsVerdict (Best worth) view = (view.feasible ≡ true) × (worth ≡ joined view.worth_high view.worth_low) × (view.shortage ≡ pos 0)
+ShowsVerdict (Infeasible shortage) view = (view.feasible ≡ false) × (view.worth_high ≡ pos 0) × (view.worth_low ≡ 0) × (view.shortage ≡ shortage)
+
+-- the view shows the present moment, and how many moments are past and future
+pub record IsViewOf (t : Timeline Moment) (view : View) : Type 0 where
+  pub verdict : ShowsVerdict t.present.verdict view
+  pub nodes : view.nodes ≡ t.present.instance.nodes
+  pub arcs : view.arcs ≡ length t.present.instance.arcs
+  pub past : view.past ≡ length t.past
+  pub future : view.future ≡ length t.future
+
+-- what is told of a list that is there or not, for a room of its own length or another
+abbrev pub given : Bool → ℕ → ℕ → ℤ
+given there count room = if there then (if count == room then pos 0 else OTHER_LENGTH) else NOT_THERE
+
+-- the same of a list of the present moment, by the verdict and the instance's sizes, behind a handle that may be closed
+abbrev pub given_of : Option SessionState → (Moment → Bool) → (Moment → ℕ) → ℕ → ℤ
+given_of None there count room = CLOSED
+given_of (Some s) there count room = given (there s.moments.present) (count s.moments.present) room
+
+abbrev pub has_flow : Moment → Bool
+has_flow m = is_feasible m.verdict
+
+abbrev pub has_cut : Moment → Bool
+has_cut m = not (is_feasible m.verdict)
+
+abbrev pub arc_count : Moment → ℕ
+arc_count m = length m.instance.arcs
+
+abbrev pub node_count : Moment → ℕ
+node_count m = m.instance.nodes

@@ -1,0 +1,16 @@
+//! What the calls of C do to a session that is there, and to room that C has for a problem's answer.
+#![tactic(auto)]
+
+mod answer;
+mod fault;
+mod library;
+mod lists;
+mod status;
+mod view;
+
+pub use answer::{Answer, give_answer, has_room};
+pub use fault::{Fault, tell_refusal};
+pub use library::{read_problem, redo, take_line, undo};
+pub use lists::{give_cut, give_flow, give_potentials};
+pub use status::{CLOSED, FAULT, MEMORY, NOT_THERE, OPEN, OTHER_LENGTH, TOO_SHORT};
+pub use view::{View, look};

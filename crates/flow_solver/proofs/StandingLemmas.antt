@@ -1,0 +1,204 @@
+-- Where potentials that are the greatest stay the greatest, though arcs and flows change.
+use Rattle.std.proofs.Common.{◌≡◌, ℕ, zero, suc, ◌+◌, ◌-◌, ◌<◌, ◌≤◌, ℤ, pos, ◌-ℤ◌, ◌+ℤ◌, ◌<ℤ◌, ◌≤ℤ◌, List, [], ◌∷◌, ◌++◌, length, drop, Some, refl, sym, subst, ◌∙◌, ◌⊎◌, inl, inr, arith, Bool, true, false, cond, slice_set}
+use Rattle.std.specs.Prelude.{int_lt}
+use Rattle.std.specs.List.{AllZip}
+use Rattle.std.proofs.lemmas.Int.{ints, by_lt_z}
+use Rattle.std.proofs.lemmas.Bool.{cases_eq}
+use Rattle.std.proofs.lemmas.Option.{slice_get-get_or}
+use Rattle.std.proofs.lemmas.List.{get_or_append_left, get_or-set_other, length-append, length-set}
+use Rattle.dimacs_text.specs.declared.problem.ArcRow.{ArcRow}
+use Rattle.dimacs_text.specs.Lawful.{IsLawfulRow}
+use Rattle.network.specs.Flow.{MinCost, AllWithinBounds, FollowsSign, IsCertifiedFlow, IsGreatestPotential, IsPotential, reduced_cost}
+use Rattle.network.specs.Instance.{ArcFits, Instance, IsLawful, arc_at as number_at_arc, at_node, reduced}
+use Rattle.network.proofs.Reduction.{reduced_ends}
+use Rattle.shortest_paths.specs.declared.graph.Graph.{Graph}
+use Rattle.shortest_paths.specs.declared.scratch.Scratch.{Scratch}
+use Rattle.shortest_paths.specs.Residual.{AreGreatest, number_at, arc_at}
+use Rattle.shortest_paths.specs.Scratch.{IsScratchFor}
+use Rattle.shortest_paths.specs.Walk.{AreRowsOf}
+use Rattle.flow_solver.specs.Answer.{AreGreatestPotentials}
+use Rattle.flow_solver.specs.declared.balance.Balance.{Balance}
+use Rattle.flow_solver.specs.declared.ledger.Ledger.{Ledger}
+use Rattle.flow_solver.specs.declared.part.Before.{Before}
+use Rattle.flow_solver.specs.Desk.{flow_index}
+use Rattle.flow_solver.specs.Tables.{AreTables}
+use Rattle.flow_solver.proofs.AnswerLemmas.{agrees_at}
+use Rattle.flow_solver.proofs.ChangeLemmas.{with_row, with_last, supplied, row_is, rows_changed, rows_more, rows_kept}
+use Rattle.flow_solver.proofs.EditRows.{row_there}
+use Rattle.flow_solver.proofs.FlowLaws.{bounds_length, greatest_flow, signs_at}
+
+-- ---- a step up, where other potentials lie higher
+
+module _ (p q : ℕ → ℤ) where
+  -- p, one higher where q is higher
+  abbrev raised : ℕ → ℤ
+  raised v = cond (int_lt (p v) (q v)) (p v +ℤ pos 1) (p v)
+
+  raised_at : (v : ℕ) → ((p v <ℤ q v) × (raised v ≡ p v +ℤ pos 1)) ⊎ ((q v ≤ℤ p v) × (raised v ≡ p v))
+  raised_at v = by_test (int_lt (p v) (q v)) refl
+    where
+      by_test : (b : Bool) → int_lt (p v) (q v) ≡ b → ((p v <ℤ q v) × (cond b (p v +ℤ pos 1) (p v) ≡ p v +ℤ pos 1)) ⊎ ((q v ≤ℤ p v) × (cond b (p v +ℤ pos 1) (p v) ≡ p v))
+      by_test true e = inl (omega (arith, ints, e), refl)
+      by_test false e = inr (omega (arith, ints, e), refl)
+
+  rises : (v : ℕ) → (p v ≤ℤ raised v) × (raised v ≤ℤ (p v +ℤ pos 1))
+  rises v = elim (raised_at v) [
+    | inl up ↦ (omega (arith, ints, up.1), omega (arith, ints, up.1))
+    | inr low ↦ (omega (arith, ints, low.1), omega (arith, ints, low.1))
+  ]
+
+  -- where the one rises more than the other, q lies further above it
+  further : (u v : ℕ) → (raised v -ℤ p v) <ℤ (raised u -ℤ p u) → (q v -ℤ p v) <ℤ (q u -ℤ p u)
+  further u v more = elim (raised_at u) [
+    | inl up ↦ elim (raised_at v) [
+      | inl both ↦ absurd (omega (arith, ints, more, up.1, both.1))
+      | inr low ↦ omega (arith, ints, up.0, low.0)
+    ]
+    | inr low ↦ absurd (omega (arith, ints, more, low.1, (rises v).0))
+  ]
+
+  -- the rule of signs stays: over an arc that is not tight p leaves 1, and over a tight one q keeps the rule too
+  raised_sign : (a : ArcRow) (x : ℤ) → FollowsSign p a x → (reduced_cost p a ≡ pos 0 → FollowsSign q a x) → FollowsSign raised a x
+  raised_sign a x sign tight = record {
+    dear = λ dear. by_lt_z (pos 0) (reduced_cost p a) sign.dear (λ not_dear.
+        by_lt_z (reduced_cost p a) (pos 0)
+        (λ cheap. absurd (omega (arith, ints, dear, cheap, (rises a.tail).1, (rises a.head).0)))
+        (λ not_cheap. (tight (omega (arith, ints, not_dear, not_cheap))).dear
+        (omega (arith, ints, not_dear, not_cheap, further a.tail a.head (omega (arith, ints, dear, not_dear, not_cheap))))));
+    cheap = λ cheap. by_lt_z (reduced_cost p a) (pos 0) sign.cheap (λ not_cheap.
+        by_lt_z (pos 0) (reduced_cost p a)
+        (λ dear. absurd (omega (arith, ints, dear, cheap, (rises a.tail).0, (rises a.head).1)))
+        (λ not_dear. (tight (omega (arith, ints, not_dear, not_cheap))).cheap
+        (omega (arith, ints, not_dear, not_cheap, further a.head a.tail (omega (arith, ints, cheap, not_dear, not_cheap))))));
+  }
+
+  raised_signs : (arcs : List ArcRow) (x : List ℤ) → AllZip (FollowsSign p) arcs x → ((k : ℕ) → k < length arcs → reduced_cost p (arc_at arcs k) ≡ pos 0 → FollowsSign q (arc_at arcs k) (number_at x k)) → AllZip (FollowsSign raised) arcs x
+  raised_signs [] [] signs tight = tt
+  raised_signs [] (y ∷ x) signs tight = absurd signs
+  raised_signs (a ∷ arcs) [] signs tight = absurd signs
+  raised_signs (a ∷ arcs) (y ∷ x) signs tight =
+      (raised_sign a y signs.0 (tight 0 (omega arith)), raised_signs arcs x signs.1 (λ k lt. tight (suc k) (omega arith)))
+
+  raised_range : (v : ℕ) → IsPotential (p v) → IsPotential (q v) → IsPotential (raised v)
+  raised_range v here there = elim (raised_at v) [
+    | inl up ↦ (omega (arith, ints, up.1, here.0), omega (arith, ints, up.0, up.1, there.1))
+    | inr low ↦ (omega (arith, ints, low.1, here.0), omega (arith, ints, low.1, here.1))
+  ]
+
+-- ---- the greatest potentials
+
+-- potentials stay the greatest where whatever certifies the flow afterwards keeps the rule at each arc that was tight
+greatest_still : (I J : MinCost) (x y : List ℤ) (p : ℕ → ℤ) → J.nodes ≡ I.nodes → IsCertifiedFlow I x p → IsGreatestPotential I x p
+    → ((q : ℕ → ℤ) → IsCertifiedFlow J y q → (k : ℕ) → k < length I.arcs → reduced_cost p (arc_at I.arcs k) ≡ pos 0 → FollowsSign q (arc_at I.arcs k) (number_at x k))
+    → IsGreatestPotential J y p
+greatest_still I J x y p nodes certified greatest keeps q other v node =
+    let below = greatest (raised p q) (record {
+      bounds = certified.bounds;
+      signs = raised_signs p q I.arcs x certified.signs (keeps q other);
+      range = λ w at. raised_range p q w (certified.range w at) (other.range w (at.0, omega (arith, at.1, nodes)));
+    }) v (node.0, omega (arith, node.1, nodes)) in
+    elim (raised_at p q v) [
+      | inl up ↦ absurd (omega (arith, ints, below, up.1))
+      | inr low ↦ low.0
+    ]
+
+-- the shortest labels of the tables are the greatest
+pub greatest_labels : (I : Instance) (rows : List ArcRow) (x p : List ℤ) → AreRowsOf I rows → AreGreatest rows x p → AreGreatestPotentials (reduced I) x (at_node (drop 1 p))
+greatest_labels I rows x p of greatest = record {
+  none_above = greatest_flow (reduced I) x p (at_node (drop 1 p)) (reduced_ends I of.lawful) (agrees_at I.nodes p) (subst (λ (r : List ArcRow). AreGreatest r x p) of.rows_are greatest);
+}
+
+-- potentials that are the greatest are so still where an arc changed that was not tight
+pub greatest_changed : (I : Instance) (k : ℕ) (row : ArcRow) (p : ℕ → ℤ) (x : List ℤ) (z : ℤ) → 1 ≤ k → (reduced_cost p (arc_at (reduced I).arcs (flow_index I.demand k)) ≡ pos 0 → ⊥)
+    → IsCertifiedFlow (reduced I) x p → AreGreatestPotentials (reduced I) x p → AreGreatestPotentials (reduced (with_row I (k - 1) row)) (slice_set x (flow_index I.demand k) z) p
+greatest_changed I k row p x z one loose certified greatest = record {
+  none_above = greatest_still (reduced I) (reduced (with_row I (k - 1) row)) x (slice_set x place z) p refl certified greatest.none_above keeps;
+}
+  where
+    place : ℕ
+    place = flow_index I.demand k
+
+    keeps : (q : ℕ → ℤ) → IsCertifiedFlow (reduced (with_row I (k - 1) row)) (slice_set x place z) q → (j : ℕ) → j < length (reduced I).arcs → reduced_cost p (arc_at (reduced I).arcs j) ≡ pos 0 → FollowsSign q (arc_at (reduced I).arcs j) (number_at x j)
+    keeps q other j lt tight = elim (cases_eq j place) [
+      | inl here ↦ absurd (loose (subst (λ (i : ℕ). reduced_cost p (arc_at (reduced I).arcs i) ≡ pos 0) here tight))
+      | inr elsewhere ↦ (let signs = subst (λ (arcs : List ArcRow). AllZip (FollowsSign q) arcs (slice_set x place z)) (sym (rows_changed I k row one)) other.signs in
+          let many = length-set (reduced I).arcs place row in
+          let there = signs_at q (slice_set (reduced I).arcs place row) (slice_set x place z) signs j (omega (arith, lt, many)) in
+          subst (λ (a : ArcRow). FollowsSign q a (number_at x j)) (get_or-set_other (reduced I).arcs place j row _ elsewhere)
+          (subst (λ (y : ℤ). FollowsSign q (arc_at (slice_set (reduced I).arcs place row) j) y) (get_or-set_other x place j z (pos 0) elsewhere) there))
+    ]
+
+-- where an arc is more, whatever its flow
+pub greatest_more : (I : Instance) (row : ArcRow) (p : ℕ → ℤ) (x : List ℤ) (z : ℤ) → IsCertifiedFlow (reduced I) x p → AreGreatestPotentials (reduced I) x p → AreGreatestPotentials (reduced (with_last I row)) (x ++ z ∷ []) p
+greatest_more I row p x z certified greatest = record {
+  none_above = greatest_still (reduced I) (reduced (with_last I row)) x (x ++ z ∷ []) p refl certified greatest.none_above keeps;
+}
+  where
+    keeps : (q : ℕ → ℤ) → IsCertifiedFlow (reduced (with_last I row)) (x ++ z ∷ []) q → (j : ℕ) → j < length (reduced I).arcs → reduced_cost p (arc_at (reduced I).arcs j) ≡ pos 0 → FollowsSign q (arc_at (reduced I).arcs j) (number_at x j)
+    keeps q other j lt tight =
+        let signs = subst (λ (arcs : List ArcRow). AllZip (FollowsSign q) arcs (x ++ z ∷ [])) (sym (rows_more I row)) other.signs in
+        let many = length-append (reduced I).arcs (row ∷ []) in
+        let there = signs_at q ((reduced I).arcs ++ row ∷ []) (x ++ z ∷ []) signs j (omega (arith, lt, many)) in
+        subst (λ (a : ArcRow). FollowsSign q a (number_at x j)) (get_or_append_left (reduced I).arcs (row ∷ []) _ j lt)
+        (subst (λ (y : ℤ). FollowsSign q (arc_at ((reduced I).arcs ++ row ∷ []) j) y) (get_or_append_left x (z ∷ []) (pos 0) j (omega (arith, lt, bounds_length (reduced I).arcs x certified.bounds))) there)
+
+-- and where a supply changed, which certifying potentials do not see
+pub greatest_supplied : (I : Instance) (v : ℕ) (value : ℤ) (p : ℕ → ℤ) (x : List ℤ) → AreGreatestPotentials (reduced I) x p → AreGreatestPotentials (reduced (supplied I v value)) x p
+greatest_supplied I v value p x greatest = record {
+  none_above = λ q other. greatest.none_above q (record {
+    bounds = subst (λ (arcs : List ArcRow). AllWithinBounds arcs x) (rows_kept I v value) other.bounds;
+    signs = subst (λ (arcs : List ArcRow). AllZip (FollowsSign q) arcs x) (rows_kept I v value) other.signs;
+    range = other.range;
+  });
+}
+
+-- ---- an arc of the instance
+
+-- an arc with a number in range is there
+pub arc_there : (arcs : List ArcRow) (k : ℕ) → (1 ≤ k) × (k ≤ length arcs) → (row : ArcRow) × (number_at_arc arcs k ≡ Some row)
+arc_there arcs zero at = absurd (omega (arith, at.0))
+arc_there arcs (suc i) at = (arc_at arcs i, slice_get-get_or arcs i _ (omega (arith, at.1)))
+
+module _ (I : Instance) (k : ℕ) (row : ArcRow) (at : (1 ≤ k) × (k ≤ length I.arcs)) (there : number_at_arc I.arcs k ≡ Some row) where
+  -- it is lawful
+  pub arc_lawful : IsLawful I → IsLawfulRow I.nodes row
+  arc_lawful lawful = (subst (λ (a : ArcRow). IsLawfulRow I.nodes a × ArcFits I.demand a) (row_there I.arcs k row row there) (lawful.arcs (k - 1) row (omega (arith, at.0, at.1)))).0
+
+  -- and is the one at its place
+  pub arc_placed : arc_at (reduced I).arcs (flow_index I.demand k) ≡ row
+  arc_placed = row_is I k row at ∙ row_there I.arcs k row row there
+
+-- ---- the tables
+
+-- the searches' tables are theirs whatever is told of the potentials
+pub scratch_told : (n : ℕ) (s : Scratch) (told : Bool) → IsScratchFor n s → IsScratchFor n (record s { labels = record s.labels { standing = told } })
+scratch_told n s told of = record {
+  visits_sized = of.visits_sized;
+  potentials_sized = of.potentials_sized;
+  fresh = of.fresh;
+  labels = record { visits_sized = of.labels.visits_sized; order_sized = of.labels.order_sized };
+  queue = of.queue;
+  trail = of.trail;
+  walks = of.walks;
+}
+
+-- the tables stay tables where nothing is told of the potentials, or what is true of them
+pub tables_told : (g : Graph) (flow potentials : Ledger ℤ) (balance : Balance) (cut : Ledger Bool) (scratch : Scratch) (before : Before) (told : Bool) →
+    AreTables g flow potentials balance cut scratch before → (told ≡ true → AreGreatestPotentials (reduced g.net) flow.entries.items (at_node (drop 1 potentials.entries.items))) →
+    AreTables g flow potentials balance cut (record scratch { labels = record scratch.labels { standing = told } }) before
+tables_told g flow potentials balance cut scratch before told t standing = record {
+  graph = t.graph;
+  flow_ledger = t.flow_ledger;
+  flow_in = t.flow_in;
+  flow_fits = t.flow_fits;
+  potentials_in = t.potentials_in;
+  idle = t.idle;
+  kept_idle = t.kept_idle;
+  balance_is = t.balance_is;
+  cut_in = t.cut_in;
+  scratch_in = scratch_told (g.net.nodes + 1) scratch told t.scratch_in;
+  standing = standing;
+  rows_fit = t.rows_fit;
+  log_fits = t.log_fits;
+  before_is = t.before_is;
+}

@@ -1,6 +1,0 @@
-use Rattle.std.proofs.Common.{[]}
-use Rattle.mcf_c.proofs.ReadLemmas.{fed}
-use Rattle.mcf_c.proofs.library.read_problem.Goals as goal
-
-pub returns-in-Err : goal.returns-in-Err
-returns-in-Err c = fed c.in-Err.fault c.feed.new.self c.args.text.now (c.in-Err.ensures.text [] c.new-reader.ensures)
