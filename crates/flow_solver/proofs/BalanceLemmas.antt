@@ -16,7 +16,7 @@ use Rattle.network.specs.Instance.{Instance, IsLawful, reduced}
 use Rattle.network.proofs.IntegerAlgebra.{linear, mul-sub, neg-mul, sub-mul}
 use Rattle.network.proofs.RunningSums.{abs-add}
 use Rattle.shortest_paths.specs.Limits.{cap_sum_limit}
-use Rattle.shortest_paths.specs.Residual.{IsFlow, IsRow, IsWithin, arc_at, number_at}
+use Rattle.residual_graph.specs.Residual.{IsFlow, IsRow, IsWithin, arc_at, number_at}
 use Rattle.shortest_paths.specs.Nodes.{held}
 use Rattle.shortest_paths.specs.Cut.{in_set}
 use Rattle.shortest_paths.specs.Push.{AreSmall, AreSupplies, IsExcess, at_node, cap_total}

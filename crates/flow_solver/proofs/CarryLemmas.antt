@@ -8,17 +8,18 @@ use Rattle.dimacs_text.specs.declared.problem.Kind.TheVariants.{Min}
 use Rattle.network.specs.Flow.{total_cost}
 use Rattle.network.specs.Instance.{Demand, Supplies, Terminals, Sides, Instance, IsLawful, kind_of, reduced, reduced_arcs, reduced_supply}
 use Rattle.flow_solver.specs.declared.balance.Balance.{Balance}
-use Rattle.flow_solver.specs.declared.ledger.Ledger.{Ledger}
+use Rattle.flow_solver.specs.declared.tracked.Tracked.{Tracked}
 use Rattle.flow_solver.specs.Balance.{AreEndsIn, IsBalanceOf, IsCarried, IsRaised, IsWrappedCost, IsWrappedExcess}
 use Rattle.shortest_paths.specs.Nodes.{held}
 use Rattle.shortest_paths.specs.Push.{at_node}
-use Rattle.shortest_paths.specs.Residual.{IsRow, arc_at, number_at}
-use Rattle.flow_solver.specs.Desk.{flow_index}
-use Rattle.flow_solver.specs.Ledger.{IsLedger, kept_in}
+use Rattle.residual_graph.specs.Residual.{IsRow, arc_at, number_at}
+use Rattle.flow_solver.specs.TablesView.{flow_index}
+use Rattle.flow_solver.specs.Tracked.{IsTracked, kept_in}
 use Rattle.flow_solver.proofs.BalanceLemmas.{cost_first, cost_last, cost_row, excess_first, excess_last, excess_row, excess_set, excess_supplied}
 use Rattle.flow_solver.proofs.ChangeLemmas.{place_in, row_is, rows_changed, rows_more, supplied, supply_at, with_last, with_row}
 use Rattle.flow_solver.proofs.InstanceLemmas.{rows_of_instance}
-use Rattle.shortest_paths.proofs.NodeLemmas.{IsNodeOf, is_node_or_not, held_node, held_other}
+use Rattle.residual_graph.proofs.NodeNumbers.{IsNodeOf, is_node_or_not}
+use Rattle.shortest_paths.proofs.NodeLemmas.{held_node, held_other}
 use Rattle.shortest_paths.proofs.PushLemmas.{at_other}
 
 -- what each node of an instance has to send out
@@ -43,7 +44,7 @@ raised_as u x x' y y' e e' f f' befores afters es fs raised =
     (subst (λ (g : List ℤ). IsRaised u x' y' e' g) fs raised)))
 
 -- the flow of one arc changes
-pub balance_set : (I : Instance) (rows : List ArcRow) (flow flow' : Ledger ℤ) (b b' : Balance) (k : ℕ) (y : ℤ) → k < length rows → length flow.entries.items ≡ length rows → IsCarried (arc_at rows k) (number_at flow.entries.items k) y b.excess.items b'.excess.items → b'.cost ≡ b.cost → flow'.entries.items ≡ slice_set flow.entries.items k y → flow'.kept ≡ flow.kept → IsBalanceOf I rows flow b → IsBalanceOf I rows flow' b'
+pub balance_set : (I : Instance) (rows : List ArcRow) (flow flow' : Tracked ℤ) (b b' : Balance) (k : ℕ) (y : ℤ) → k < length rows → length flow.entries.items ≡ length rows → IsCarried (arc_at rows k) (number_at flow.entries.items k) y b.excess.items b'.excess.items → b'.cost ≡ b.cost → flow'.entries.items ≡ slice_set flow.entries.items k y → flow'.kept ≡ flow.kept → IsBalanceOf I rows flow b → IsBalanceOf I rows flow' b'
 balance_set I rows flow flow' b b' k y lt many carried same_cost written kept is = record {
   sized = carried.same_length ∙ is.sized;
   excess = subst (λ (x : List ℤ). IsWrappedExcess rows (sends I) x b'.excess.items) (sym written) (excess_set rows (sends I) flow.entries.items b.excess.items b'.excess.items k y lt many carried is.excess);
@@ -51,7 +52,7 @@ balance_set I rows flow flow' b b' k y lt many carried same_cost written kept is
 }
 
 -- another row with the same ends
-pub balance_row : (I J : Instance) (rows rows' : List ArcRow) (flow : Ledger ℤ) (b b' : Balance) (k : ℕ) (row : ArcRow) → k < length rows → length flow.entries.items ≡ length rows → length flow.kept.items ≡ length rows → row.tail ≡ (arc_at rows k).tail → row.head ≡ (arc_at rows k).head → rows' ≡ slice_set rows k row → J.nodes ≡ I.nodes → J.demand ≡ I.demand → b'.excess ≡ b.excess → b'.cost ≡ int_wrap w128 (b.cost +ℤ (row.cost -ℤ (arc_at rows k).cost) *ℤ number_at flow.kept.items k) → IsBalanceOf I rows flow b → IsBalanceOf J rows' flow b'
+pub balance_row : (I J : Instance) (rows rows' : List ArcRow) (flow : Tracked ℤ) (b b' : Balance) (k : ℕ) (row : ArcRow) → k < length rows → length flow.entries.items ≡ length rows → length flow.kept.items ≡ length rows → row.tail ≡ (arc_at rows k).tail → row.head ≡ (arc_at rows k).head → rows' ≡ slice_set rows k row → J.nodes ≡ I.nodes → J.demand ≡ I.demand → b'.excess ≡ b.excess → b'.cost ≡ int_wrap w128 (b.cost +ℤ (row.cost -ℤ (arc_at rows k).cost) *ℤ number_at flow.kept.items k) → IsBalanceOf I rows flow b → IsBalanceOf J rows' flow b'
 balance_row I J rows rows' flow b b' k row lt many as_many tail head rows_are nodes demand same_excess cost is =
     let excess = excess_row rows (sends I) flow.entries.items b.excess.items k row lt many tail head is.excess in
     let other = subst (λ (r : List ArcRow). IsWrappedExcess r (sends I) flow.entries.items b.excess.items) (sym rows_are) excess in
@@ -73,7 +74,7 @@ sends_supplied I v z lawful kind node w = elim (is_node_or_not I.nodes w) [
       omega (arith, ints))
 ]
 
-pub balance_supplied : (I : Instance) (rows : List ArcRow) (flow : Ledger ℤ) (b b' : Balance) (v : ℕ) (z : ℤ) → IsLawful I → kind_of I.demand ≡ Min → IsNodeOf I.nodes v → IsRaised v ((reduced I).supply v) z b.excess.items b'.excess.items → b'.cost ≡ b.cost → IsBalanceOf I rows flow b → IsBalanceOf (supplied I v z) rows flow b'
+pub balance_supplied : (I : Instance) (rows : List ArcRow) (flow : Tracked ℤ) (b b' : Balance) (v : ℕ) (z : ℤ) → IsLawful I → kind_of I.demand ≡ Min → IsNodeOf I.nodes v → IsRaised v ((reduced I).supply v) z b.excess.items b'.excess.items → b'.cost ≡ b.cost → IsBalanceOf I rows flow b → IsBalanceOf (supplied I v z) rows flow b'
 balance_supplied I rows flow b b' v z lawful kind node raised same_cost is = record {
   sized = raised.same_length ∙ is.sized;
   excess = excess_supplied rows (sends I) (sends (supplied I v z)) flow.entries.items b.excess.items b'.excess.items v ((reduced I).supply v) z (sends_supplied I v z lawful kind node) raised is.excess;
@@ -81,7 +82,7 @@ balance_supplied I rows flow b b' v z lawful kind node raised same_cost is = rec
 }
 
 -- one more arc, with its flow
-pub balance_last : (I J : Instance) (rows rows' : List ArcRow) (flow flow' : Ledger ℤ) (b b' : Balance) (row : ArcRow) (y : ℤ) → length flow.entries.items ≡ length rows → length flow.kept.items ≡ length rows → rows' ≡ rows ++ row ∷ [] → flow'.entries.items ≡ flow.entries.items ++ y ∷ [] → flow'.kept.items ≡ flow.kept.items ++ y ∷ [] → J.nodes ≡ I.nodes → J.demand ≡ I.demand → IsCarried row (pos 0) y b.excess.items b'.excess.items → b'.cost ≡ int_wrap w128 (b.cost +ℤ (y -ℤ pos 0) *ℤ row.cost) → IsBalanceOf I rows flow b → IsBalanceOf J rows' flow' b'
+pub balance_last : (I J : Instance) (rows rows' : List ArcRow) (flow flow' : Tracked ℤ) (b b' : Balance) (row : ArcRow) (y : ℤ) → length flow.entries.items ≡ length rows → length flow.kept.items ≡ length rows → rows' ≡ rows ++ row ∷ [] → flow'.entries.items ≡ flow.entries.items ++ y ∷ [] → flow'.kept.items ≡ flow.kept.items ++ y ∷ [] → J.nodes ≡ I.nodes → J.demand ≡ I.demand → IsCarried row (pos 0) y b.excess.items b'.excess.items → b'.cost ≡ int_wrap w128 (b.cost +ℤ (y -ℤ pos 0) *ℤ row.cost) → IsBalanceOf I rows flow b → IsBalanceOf J rows' flow' b'
 balance_last I J rows rows' flow flow' b b' row y many as_many rows_are entries kept nodes demand carried cost is =
     let one : held J.nodes (reduced J).supply ≡ held I.nodes (reduced J).supply = ap (λ (n : ℕ). held n (reduced J).supply) nodes in
     let same : sends J ≡ sends I = one ∙ ap (λ d. held I.nodes (reduced_supply d)) demand in
@@ -97,7 +98,7 @@ balance_last I J rows rows' flow flow' b b' row y many as_many rows_are entries 
     }
 
 -- the last arc is taken off
-pub balance_first : (I J : Instance) (rows rows' : List ArcRow) (flow flow' : Ledger ℤ) (b b' : Balance) (row : ArcRow) (y z : ℤ) → length flow'.entries.items ≡ length rows' → length flow'.kept.items ≡ length rows' → rows ≡ rows' ++ row ∷ [] → flow.entries.items ≡ flow'.entries.items ++ y ∷ [] → flow.kept.items ≡ flow'.kept.items ++ z ∷ [] → J.nodes ≡ I.nodes → J.demand ≡ I.demand → IsCarried row y (pos 0) b.excess.items b'.excess.items → b'.cost ≡ int_wrap w128 (b.cost +ℤ (pos 0 -ℤ z) *ℤ row.cost) → IsBalanceOf I rows flow b → IsBalanceOf J rows' flow' b'
+pub balance_first : (I J : Instance) (rows rows' : List ArcRow) (flow flow' : Tracked ℤ) (b b' : Balance) (row : ArcRow) (y z : ℤ) → length flow'.entries.items ≡ length rows' → length flow'.kept.items ≡ length rows' → rows ≡ rows' ++ row ∷ [] → flow.entries.items ≡ flow'.entries.items ++ y ∷ [] → flow.kept.items ≡ flow'.kept.items ++ z ∷ [] → J.nodes ≡ I.nodes → J.demand ≡ I.demand → IsCarried row y (pos 0) b.excess.items b'.excess.items → b'.cost ≡ int_wrap w128 (b.cost +ℤ (pos 0 -ℤ z) *ℤ row.cost) → IsBalanceOf I rows flow b → IsBalanceOf J rows' flow' b'
 balance_first I J rows rows' flow flow' b b' row y z many as_many rows_are entries kept nodes demand carried cost is =
     let one : held J.nodes (reduced J).supply ≡ held I.nodes (reduced J).supply = ap (λ (n : ℕ). held n (reduced J).supply) nodes in
     let same : sends J ≡ sends I = one ∙ ap (λ d. held I.nodes (reduced_supply d)) demand in
@@ -113,7 +114,7 @@ balance_first I J rows rows' flow flow' b b' row y z many as_many rows_are entri
     }
 
 -- what stands in the table is kept
-pub balance_kept : (I : Instance) (rows : List ArcRow) (flow flow' : Ledger ℤ) (b b' : Balance) → flow'.entries.items ≡ flow.entries.items → flow'.kept.items ≡ flow.entries.items → b'.excess ≡ b.excess → IsWrappedCost rows flow.entries.items b'.cost → IsBalanceOf I rows flow b → IsBalanceOf I rows flow' b'
+pub balance_kept : (I : Instance) (rows : List ArcRow) (flow flow' : Tracked ℤ) (b b' : Balance) → flow'.entries.items ≡ flow.entries.items → flow'.kept.items ≡ flow.entries.items → b'.excess ≡ b.excess → IsWrappedCost rows flow.entries.items b'.cost → IsBalanceOf I rows flow b → IsBalanceOf I rows flow' b'
 balance_kept I rows flow flow' b b' entries kept same_excess cost is = record {
   sized = ap (λ v. length v.items) same_excess ∙ is.sized;
   excess = subst (λ v. IsWrappedExcess rows (sends I) flow'.entries.items v.items) (sym same_excess) (subst (λ (x : List ℤ). IsWrappedExcess rows (sends I) x b.excess.items) (sym entries) is.excess);
@@ -121,9 +122,9 @@ balance_kept I rows flow flow' b b' entries kept same_excess cost is = record {
 }
 
 -- what was kept comes back
-pub balance_back : (I : Instance) (rows : List ArcRow) (flow flow' : Ledger ℤ) (b b' : Balance) → IsLedger flow → flow.size ≡ length flow.entries.items → flow'.entries.items ≡ kept_in flow → flow'.kept ≡ flow.kept → length b'.excess.items ≡ length b.excess.items → IsWrappedExcess rows (sends I) flow.kept.items b'.excess.items → b'.cost ≡ b.cost → IsBalanceOf I rows flow b → IsBalanceOf I rows flow' b'
-balance_back I rows flow flow' b b' ledger size entries kept same_length excess same_cost is =
-    let all : kept_in flow ≡ flow.kept.items = take_all flow.size flow.kept.items (omega (arith, ledger.same_length)) in
+pub balance_back : (I : Instance) (rows : List ArcRow) (flow flow' : Tracked ℤ) (b b' : Balance) → IsTracked flow → flow.size ≡ length flow.entries.items → flow'.entries.items ≡ kept_in flow → flow'.kept ≡ flow.kept → length b'.excess.items ≡ length b.excess.items → IsWrappedExcess rows (sends I) flow.kept.items b'.excess.items → b'.cost ≡ b.cost → IsBalanceOf I rows flow b → IsBalanceOf I rows flow' b'
+balance_back I rows flow flow' b b' tracked size entries kept same_length excess same_cost is =
+    let all : kept_in flow ≡ flow.kept.items = take_all flow.size flow.kept.items (omega (arith, tracked.same_length)) in
     record {
       sized = same_length ∙ is.sized;
       excess = subst (λ (x : List ℤ). IsWrappedExcess rows (sends I) x b'.excess.items) (sym (entries ∙ all)) excess;
@@ -158,7 +159,7 @@ place_is I rows k place same at is =
     }
 
 -- the row of a numbered arc becomes another with the same ends
-pub balance_swapped : (I J : Instance) (rows rows' : List ArcRow) (flow : Ledger ℤ) (b b' : Balance) (k place : ℕ) (row : ArcRow) → 1 ≤ k → IsPlace I rows k place → rows ≡ (reduced I).arcs → rows' ≡ (reduced J).arcs → J ≡ with_row I (k - 1) row → row.tail ≡ (slice_index_or I.arcs (k - 1) row).tail → row.head ≡ (slice_index_or I.arcs (k - 1) row).head → length flow.entries.items ≡ length rows → length flow.kept.items ≡ length rows → b'.excess ≡ b.excess → b'.cost ≡ int_wrap w128 (b.cost +ℤ (row.cost -ℤ (arc_at rows place).cost) *ℤ number_at flow.kept.items place) → IsBalanceOf I rows flow b → IsBalanceOf J rows' flow b'
+pub balance_swapped : (I J : Instance) (rows rows' : List ArcRow) (flow : Tracked ℤ) (b b' : Balance) (k place : ℕ) (row : ArcRow) → 1 ≤ k → IsPlace I rows k place → rows ≡ (reduced I).arcs → rows' ≡ (reduced J).arcs → J ≡ with_row I (k - 1) row → row.tail ≡ (slice_index_or I.arcs (k - 1) row).tail → row.head ≡ (slice_index_or I.arcs (k - 1) row).head → length flow.entries.items ≡ length rows → length flow.kept.items ≡ length rows → b'.excess ≡ b.excess → b'.cost ≡ int_wrap w128 (b.cost +ℤ (row.cost -ℤ (arc_at rows place).cost) *ℤ number_at flow.kept.items place) → IsBalanceOf I rows flow b → IsBalanceOf J rows' flow b'
 balance_swapped I J rows rows' flow b b' k place row one there before after other tail head many as_many same_excess cost is =
     let set : slice_set (reduced I).arcs (flow_index I.demand k) row ≡ slice_set rows place row = ap (λ (n : ℕ). slice_set (reduced I).arcs n row) (sym there.index_is) ∙ ap (λ (r : List ArcRow). slice_set r place row) (sym before) in
     let rows_are : rows' ≡ slice_set rows place row = after ∙ ap (λ (K : Instance). (reduced K).arcs) other ∙ sym (rows_changed I k row one) ∙ set in
@@ -176,14 +177,14 @@ last_is [] y d = refl
 last_is (x ∷ xs) y d = last_is xs y d
 
 -- the balance of an instance with an arc more
-pub balance_put : (I J : Instance) (rows rows' : List ArcRow) (flow flow' : Ledger ℤ) (b b' : Balance) (row : ArcRow) (y : ℤ) → rows ≡ (reduced I).arcs → rows' ≡ (reduced J).arcs → J ≡ with_last I row → length flow.entries.items ≡ length rows → length flow.kept.items ≡ length rows → flow'.entries.items ≡ flow.entries.items ++ y ∷ [] → flow'.kept.items ≡ flow.kept.items ++ y ∷ [] → IsCarried row (pos 0) y b.excess.items b'.excess.items → b'.cost ≡ int_wrap w128 (b.cost +ℤ (y -ℤ pos 0) *ℤ row.cost) → IsBalanceOf I rows flow b → IsBalanceOf J rows' flow' b'
+pub balance_put : (I J : Instance) (rows rows' : List ArcRow) (flow flow' : Tracked ℤ) (b b' : Balance) (row : ArcRow) (y : ℤ) → rows ≡ (reduced I).arcs → rows' ≡ (reduced J).arcs → J ≡ with_last I row → length flow.entries.items ≡ length rows → length flow.kept.items ≡ length rows → flow'.entries.items ≡ flow.entries.items ++ y ∷ [] → flow'.kept.items ≡ flow.kept.items ++ y ∷ [] → IsCarried row (pos 0) y b.excess.items b'.excess.items → b'.cost ≡ int_wrap w128 (b.cost +ℤ (y -ℤ pos 0) *ℤ row.cost) → IsBalanceOf I rows flow b → IsBalanceOf J rows' flow' b'
 balance_put I J rows rows' flow flow' b b' row y before after other many as_many entries kept carried cost is =
     balance_last I J rows rows' flow flow' b b' row y many as_many (after ∙ ap (λ (K : Instance). (reduced K).arcs) other ∙ sym (rows_more I row) ∙ ap (λ (r : List ArcRow). r ++ row ∷ []) (sym before)) entries kept
     (ap (λ (K : Instance). K.nodes) other) (ap (λ (K : Instance). K.demand) other) carried cost is
 
 -- the balance of an instance without its last arc
-pub balance_dropped : (I J : Instance) (rows rows' : List ArcRow) (flow flow' : Ledger ℤ) (b b' : Balance) (row : ArcRow) (y : ℤ) (last : ℕ) → rows ≡ (reduced I).arcs → rows' ≡ (reduced J).arcs → I ≡ with_last J row → IsLedger flow' → length flow.entries.items ≡ length rows → length flow.kept.items ≡ length rows → flow.entries.items ≡ flow'.entries.items ++ y ∷ [] → flow'.kept.items ≡ take (length flow'.entries.items) flow.kept.items → last ≡ length rows - 1 → IsCarried (arc_at rows last) (number_at flow.entries.items last) (pos 0) b.excess.items b'.excess.items → b'.cost ≡ int_wrap w128 (b.cost +ℤ (pos 0 -ℤ number_at flow.kept.items last) *ℤ (arc_at rows last).cost) → IsBalanceOf I rows flow b → IsBalanceOf J rows' flow' b'
-balance_dropped I J rows rows' flow flow' b b' row y last before after other ledger sized as_sized entries whole last_at carried cost is =
+pub balance_dropped : (I J : Instance) (rows rows' : List ArcRow) (flow flow' : Tracked ℤ) (b b' : Balance) (row : ArcRow) (y : ℤ) (last : ℕ) → rows ≡ (reduced I).arcs → rows' ≡ (reduced J).arcs → I ≡ with_last J row → IsTracked flow' → length flow.entries.items ≡ length rows → length flow.kept.items ≡ length rows → flow.entries.items ≡ flow'.entries.items ++ y ∷ [] → flow'.kept.items ≡ take (length flow'.entries.items) flow.kept.items → last ≡ length rows - 1 → IsCarried (arc_at rows last) (number_at flow.entries.items last) (pos 0) b.excess.items b'.excess.items → b'.cost ≡ int_wrap w128 (b.cost +ℤ (pos 0 -ℤ number_at flow.kept.items last) *ℤ (arc_at rows last).cost) → IsBalanceOf I rows flow b → IsBalanceOf J rows' flow' b'
+balance_dropped I J rows rows' flow flow' b b' row y last before after other tracked sized as_sized entries whole last_at carried cost is =
     let n = length flow'.entries.items in
     let z = number_at flow.kept.items last in
     let rows_are : rows ≡ rows' ++ row ∷ [] = before ∙ ap (λ (K : Instance). (reduced K).arcs) other ∙ sym (rows_more J row) ∙ ap (λ (r : List ArcRow). r ++ row ∷ []) (sym after) in
@@ -196,7 +197,7 @@ balance_dropped I J rows rows' flow flow' b b' row y last before after other led
     let entry_is : number_at flow.entries.items last ≡ y = ap (number_at flow.entries.items) at_flow ∙ ap (λ (x : List ℤ). number_at x (length flow'.entries.items)) entries ∙ last_is flow'.entries.items y (pos 0) in
     let kept : flow.kept.items ≡ flow'.kept.items ++ z ∷ [] = sym (take_all (n + 1) flow.kept.items (omega (arith, as_sized, sized, one_flow_more))) ∙ take_more flow.kept.items n (pos 0) (omega (arith, as_sized, sized, one_flow_more))
     ∙ ap (λ (m : ℕ). take n flow.kept.items ++ number_at flow.kept.items m ∷ []) (sym at_flow) ∙ ap (λ (x : List ℤ). x ++ z ∷ []) (sym whole) in
-    balance_first I J rows rows' flow flow' b b' row y z many (ledger.same_length ∙ many) rows_are entries kept (sym (ap (λ (K : Instance). K.nodes) other)) (sym (ap (λ (K : Instance). K.demand) other))
+    balance_first I J rows rows' flow flow' b b' row y z many (tracked.same_length ∙ many) rows_are entries kept (sym (ap (λ (K : Instance). K.nodes) other)) (sym (ap (λ (K : Instance). K.demand) other))
     (carried_as row (arc_at rows last) y (number_at flow.entries.items last) (pos 0) (pos 0) b.excess.items b.excess.items b'.excess.items b'.excess.items row_is entry_is refl refl refl carried)
     (cost ∙ ap (λ (a : ArcRow). int_wrap w128 (b.cost +ℤ (pos 0 -ℤ z) *ℤ a.cost)) row_is) is
 

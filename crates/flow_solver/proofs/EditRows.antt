@@ -12,11 +12,11 @@ use Rattle.network.specs.Edited.{with_arc, edited, has_edit, is_bound, is_within
 use Rattle.dimacs_text.specs.declared.problem.TheConstants.{COST_LIMIT}
 use Rattle.network.specs.Instance.{Instance, IsLawful, ArcFits, arc_at, kind_of, reduced}
 use Rattle.network.proofs.EditedLemmas.{edited_lawful}
-use Rattle.shortest_paths.specs.Residual.{IsWithin, number_at}
+use Rattle.residual_graph.specs.Residual.{IsWithin, number_at}
 use Rattle.network.specs.Flow.{IsCertifiedFlow, FollowsSign, reduced_cost}
 use Rattle.flow_solver.proofs.FlowLaws.{bounds_at, bounds_length, signs_at}
 use Rattle.flow_solver.proofs.ChangeLemmas.{place_in, row_is, with_last, with_row, supplied, lawful_more, excess_changed, excess_more, excess_supplied}
-use Rattle.flow_solver.specs.Desk.{flow_index}
+use Rattle.flow_solver.specs.TablesView.{flow_index}
 use Rattle.flow_solver.specs.Edit.{IsNearest, IsRowEdit, IsSupplyEdit, IsAltered, GoesToNearest, IsAddEdit, IsMade}
 
 -- ---- checks that were met

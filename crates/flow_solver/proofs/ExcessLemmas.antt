@@ -5,7 +5,7 @@ use Rattle.std.proofs.lemmas.Int.{ints}
 use Rattle.std.proofs.lemmas.Bool.{cases_eq}
 use Rattle.std.proofs.lemmas.List.Sums.{sum_by-cons}
 use Rattle.dimacs_text.specs.declared.problem.ArcRow.{ArcRow}
-use Rattle.shortest_paths.specs.Residual.{IsFlow, number_at, arc_at}
+use Rattle.residual_graph.specs.Residual.{IsFlow, number_at, arc_at}
 use Rattle.network.specs.Flow.{outflow, inflow}
 use Rattle.shortest_paths.specs.Push.{IsExcess, at_node, AreSmall, positive_part, left, cap_total, AreSupplies}
 use Rattle.shortest_paths.proofs.PushLemmas.{at_same, at_other}

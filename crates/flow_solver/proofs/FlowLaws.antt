@@ -4,8 +4,8 @@ use Rattle.std.specs.List.{AllZip, AllByRecursion}
 use Rattle.std.proofs.lemmas.Int.{ints, by_lt_z}
 use Rattle.dimacs_text.specs.declared.problem.ArcRow.{ArcRow}
 use Rattle.network.specs.Flow.{MinCost, IsNode, AllEndsAreNodes, AllWithinBounds, FollowsSign, IsCertifiedFlow, IsGreatestPotential, IsPotential, reduced_cost}
-use Rattle.shortest_paths.specs.declared.residual.Way.TheVariants.{Forward, Backward}
-use Rattle.shortest_paths.specs.Residual.{IsWithin, NoneBelowBy, IsCertified, KeepsSigns, AreGreatest, number_at, arc_at}
+use Rattle.residual_graph.specs.declared.residual.Way.TheVariants.{Forward, Backward}
+use Rattle.residual_graph.specs.Residual.{IsWithin, NoneBelowBy, IsCertified, KeepsSigns, AreGreatest, number_at, arc_at}
 use Rattle.shortest_paths.specs.Nodes.{held}
 use Rattle.shortest_paths.proofs.NodeLemmas.{held_node, held_at_most_0}
 use Rattle.flow_solver.proofs.SignLemmas.{signs_from_none_below}

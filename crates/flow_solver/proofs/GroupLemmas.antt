@@ -9,11 +9,11 @@ use Rattle.dimacs_text.specs.declared.problem.ArcRow.{ArcRow}
 use Rattle.network.specs.Instance.{Demand, Supplies, Terminals, Sides, Instance, at_node, reduced, reduced_arcs}
 use Rattle.flow_solver.specs.declared.part.Part.{Part}
 use Rattle.flow_solver.specs.declared.part.Part.TheVariants.{Arc, Supply, Last, Gone}
-use Rattle.flow_solver.specs.Desk.{Desk}
+use Rattle.flow_solver.specs.TablesView.{TablesView}
 use Rattle.flow_solver.specs.Edit.{AreChanges, AreMade, IsChange, IsMade}
-use Rattle.flow_solver.specs.Moment.{Kept, Moment}
+use Rattle.flow_solver.specs.Moment.{Snapshot, Moment}
 use Rattle.flow_solver.specs.Part.{before_all, before_part, CanTakeBack, CanTakeBackAll, IsLogged, LeadsBack, TakesBack, return_count}
-use Rattle.flow_solver.proofs.DeskLemmas.{return_count_before}
+use Rattle.flow_solver.proofs.TablesViewLemmas.{return_count_before}
 
 -- ---- what the edits make
 
@@ -98,7 +98,7 @@ leads_push log I K J edit part leads made takes =
 
 -- ---- the loop that makes the edits
 
-pub record IsMaking (i : ℕ) (edits : List Edit) (old now : Desk) : Type 0 where
+pub record IsMaking (i : ℕ) (edits : List Edit) (old now : TablesView) : Type 0 where
   pub accepted : IsOk (edited_all now.moment.instance (drop i edits))
   pub made : AreMade old.moment.instance (take i edits) (at_node old.moment.potentials) old.moment.flow now.moment.instance now.moment.flow
   pub certified : IsCertifiedFlow (reduced now.moment.instance) now.moment.flow (at_node now.moment.potentials)
@@ -107,7 +107,7 @@ pub record IsMaking (i : ℕ) (edits : List Edit) (old now : Desk) : Type 0 wher
   pub kept : now.kept ≡ record old.kept { log = now.kept.log }
   pub logged : length now.kept.log ≡ i
 
-pub making_start : (edits : List Edit) (old : Desk) → old.kept.log ≡ [] → IsCertifiedFlow (reduced old.moment.instance) old.moment.flow (at_node old.moment.potentials) → IsOk (edited_all old.moment.instance edits) → IsMaking 0 edits old old
+pub making_start : (edits : List Edit) (old : TablesView) → old.kept.log ≡ [] → IsCertifiedFlow (reduced old.moment.instance) old.moment.flow (at_node old.moment.potentials) → IsOk (edited_all old.moment.instance edits) → IsMaking 0 edits old old
 making_start edits old fresh certified accepted = record {
   accepted = accepted;
   made = (refl, refl);
@@ -118,11 +118,11 @@ making_start edits old fresh certified accepted = record {
   logged = ap (λ (log : List Part). length log) fresh;
 }
 
-pub making_fits : (i : ℕ) (edits : List Edit) (old now : Desk) (d : Edit) → i < length edits → IsMaking i edits old now → IsOk (edited now.moment.instance (get_or edits i d))
+pub making_fits : (i : ℕ) (edits : List Edit) (old now : TablesView) (d : Edit) → i < length edits → IsMaking i edits old now → IsOk (edited now.moment.instance (get_or edits i d))
 making_fits i edits old now d below making =
     accepted_first now.moment.instance (get_or edits i d) (drop (i + 1) edits) (subst (λ (es : List Edit). IsOk (edited_all now.moment.instance es)) (drop_more edits i d below) making.accepted)
 
-pub making_more : (i : ℕ) (edits : List Edit) (old now noted next : Desk) (d : Edit) → i < length edits → IsMaking i edits old now
+pub making_more : (i : ℕ) (edits : List Edit) (old now noted next : TablesView) (d : Edit) → i < length edits → IsMaking i edits old now
     → noted.moment ≡ now.moment → IsLogged now.moment.instance (get_or edits i d) now.kept noted.kept
     → IsMade noted.moment.instance next.moment.instance (get_or edits i d) (at_node noted.moment.potentials) noted.moment.flow next.moment.flow
     → IsCertifiedFlow (reduced next.moment.instance) next.moment.flow (at_node next.moment.potentials)
@@ -133,7 +133,7 @@ making_more i edits old now noted next d below making same logged made_noted cer
     let made : IsMade now.moment.instance next.moment.instance edit (at_node old.moment.potentials) now.moment.flow next.moment.flow =
     subst (λ (p : List ℤ). IsMade now.moment.instance next.moment.instance edit (at_node p) now.moment.flow next.moment.flow) making.potentials
     (subst (λ m. IsMade m.instance next.moment.instance edit (at_node m.potentials) m.flow next.moment.flow) same made_noted) in
-    let log : next.kept.log ≡ now.kept.log ++ logged.part ∷ [] = ap (λ (k : Kept). k.log) (kept ∙ logged.now_is) in
+    let log : next.kept.log ≡ now.kept.log ++ logged.part ∷ [] = ap (λ (k : Snapshot). k.log) (kept ∙ logged.now_is) in
     record {
       accepted = accepted_rest now.moment.instance next.moment.instance edit (drop (i + 1) edits) made.after (subst (λ (es : List Edit). IsOk (edited_all now.moment.instance es)) (drop_more edits i d below) making.accepted);
       made = subst (λ (es : List Edit). AreMade old.moment.instance es (at_node old.moment.potentials) old.moment.flow next.moment.instance next.moment.flow) (sym (take_more edits i d below))
@@ -142,7 +142,7 @@ making_more i edits old now noted next d below making same logged made_noted cer
       potentials = potentials ∙ ap (λ m. m.potentials) same ∙ making.potentials;
       back = subst (λ (ps : List Part). LeadsBack ps old.moment.instance next.moment.instance) (sym log)
           (leads_push now.kept.log old.moment.instance now.moment.instance next.moment.instance edit logged.part making.back made.after logged.takes_back);
-      kept = kept ∙ logged.now_is ∙ ap (λ (k : Kept). record k { log = now.kept.log ++ logged.part ∷ [] }) making.kept ∙ ap (λ (ps : List Part). record old.kept { log = ps }) (sym log);
+      kept = kept ∙ logged.now_is ∙ ap (λ (k : Snapshot). record k { log = now.kept.log ++ logged.part ∷ [] }) making.kept ∙ ap (λ (ps : List Part). record old.kept { log = ps }) (sym log);
       logged = ap (λ (ps : List Part). length ps) log ∙ length-append now.kept.log (logged.part ∷ []) ∙ ap (λ (n : ℕ). n + 1) making.logged;
     }
 
@@ -170,23 +170,23 @@ rows_before_all [] I can = omega arith
 rows_before_all (part ∷ log) I can = (let rest = rows_before_all log I can.0 in let one = rows_before part (before_all log I) can.1 in omega (arith, rest, one))
 
 -- what is logged can be taken back, and what was kept is of the instance before it
-pub record IsTakingBack (old now : Desk) : Type 0 where
+pub record IsTakingBack (old now : TablesView) : Type 0 where
   pub can : CanTakeBackAll now.kept.log now.moment.instance
   pub instance : before_all now.kept.log now.moment.instance ≡ before_all old.kept.log old.moment.instance
   pub kept : now.kept ≡ record old.kept { log = now.kept.log }
   pub fits : length now.kept.flow ≡ length (reduced (before_all now.kept.log now.moment.instance)).arcs
 
 -- the same once a part is off the log, but not yet taken back
-pub record IsPopped (old now : Desk) (part : Part) : Type 0 where
+pub record IsPopped (old now : TablesView) (part : Part) : Type 0 where
   pub can : CanTakeBackAll now.kept.log (before_part part now.moment.instance)
   pub can_part : CanTakeBack part now.moment.instance
   pub instance : before_all now.kept.log (before_part part now.moment.instance) ≡ before_all old.kept.log old.moment.instance
   pub kept : now.kept ≡ record old.kept { log = now.kept.log }
   pub fits : length now.kept.flow ≡ length (reduced (before_all now.kept.log (before_part part now.moment.instance))).arcs
 
-pub popped : (old now next : Desk) (part : Part) → next.moment ≡ now.moment → now.kept ≡ record next.kept { log = next.kept.log ++ part ∷ [] } → IsTakingBack old now → IsPopped old next part
+pub popped : (old now next : TablesView) (part : Part) → next.moment ≡ now.moment → now.kept ≡ record next.kept { log = next.kept.log ++ part ∷ [] } → IsTakingBack old now → IsPopped old next part
 popped old now next part same was taking =
-    let log : now.kept.log ≡ next.kept.log ++ part ∷ [] = ap (λ (k : Kept). k.log) was in
+    let log : now.kept.log ≡ next.kept.log ++ part ∷ [] = ap (λ (k : Snapshot). k.log) was in
     let I = now.moment.instance in
     let here = ap (λ (m : Moment). m.instance) same in
     let can = can_pop next.kept.log part next.moment.instance (subst (λ (J : Instance). CanTakeBackAll (next.kept.log ++ part ∷ []) J) (sym here) (subst (λ (ps : List Part). CanTakeBackAll ps I) log taking.can)) in
@@ -196,22 +196,22 @@ popped old now next part same was taking =
       can = can.0;
       can_part = can.1;
       instance = sym back ∙ taking.instance;
-      kept = ap (λ (k : Kept). record k { log = next.kept.log }) (sym was) ∙ ap (λ (k : Kept). record k { log = next.kept.log }) taking.kept;
-      fits = ap (λ (k : Kept). length k.flow) (sym was) ∙ taking.fits ∙ ap (λ (J : Instance). length (reduced J).arcs) back;
+      kept = ap (λ (k : Snapshot). record k { log = next.kept.log }) (sym was) ∙ ap (λ (k : Snapshot). record k { log = next.kept.log }) taking.kept;
+      fits = ap (λ (k : Snapshot). length k.flow) (sym was) ∙ taking.fits ∙ ap (λ (J : Instance). length (reduced J).arcs) back;
     }
 
 -- a part that is popped does not take off more arcs than come off in all
-pub popped_fits : (old now : Desk) (part : Part) → IsPopped old now part → length now.kept.flow ≤ length (reduced (before_part part now.moment.instance)).arcs
+pub popped_fits : (old now : TablesView) (part : Part) → IsPopped old now part → length now.kept.flow ≤ length (reduced (before_part part now.moment.instance)).arcs
 popped_fits old now part is = (let rest = rows_before_all now.kept.log (before_part part now.moment.instance) is.can in omega (arith, is.fits, rest))
 
-pub taken_back : (old now next : Desk) (part : Part) → next.moment.instance ≡ before_part part now.moment.instance → next.kept ≡ now.kept → IsPopped old now part → IsTakingBack old next
+pub taken_back : (old now next : TablesView) (part : Part) → next.moment.instance ≡ before_part part now.moment.instance → next.kept ≡ now.kept → IsPopped old now part → IsTakingBack old next
 taken_back old now next part instance kept is =
-    let log : next.kept.log ≡ now.kept.log = ap (λ (k : Kept). k.log) kept in
+    let log : next.kept.log ≡ now.kept.log = ap (λ (k : Snapshot). k.log) kept in
     let back : before_all next.kept.log next.moment.instance ≡ before_all now.kept.log (before_part part now.moment.instance) =
     ap (λ (ps : List Part). before_all ps next.moment.instance) log ∙ ap (before_all now.kept.log) instance in
     record {
       can = subst (λ (ps : List Part). CanTakeBackAll ps next.moment.instance) (sym log) (subst (CanTakeBackAll now.kept.log) (sym instance) is.can);
       instance = back ∙ is.instance;
       kept = kept ∙ is.kept ∙ ap (λ (ps : List Part). record old.kept { log = ps }) (sym log);
-      fits = ap (λ (k : Kept). length k.flow) kept ∙ is.fits ∙ ap (λ (J : Instance). length (reduced J).arcs) (sym back);
+      fits = ap (λ (k : Snapshot). length k.flow) kept ∙ is.fits ∙ ap (λ (J : Instance). length (reduced J).arcs) (sym back);
     }

@@ -10,11 +10,11 @@ pub mod ChangeLemmas
 pub mod EditRows
 pub mod PartLemmas
 pub mod NotedLemmas
-pub mod DeskLemmas
+pub mod TablesViewLemmas
 pub mod BalanceLemmas
 pub mod CarryLemmas
 pub mod LabelLaws
-pub mod LedgerLemmas
+pub mod TrackedLemmas
 pub mod GroupLemmas
 pub mod LogLemmas
 pub mod StandingLemmas

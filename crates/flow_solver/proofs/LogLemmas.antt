@@ -11,9 +11,9 @@ use Rattle.network.specs.Instance.{Demand, Supplies, Terminals, Sides, Instance,
 use Rattle.flow_solver.specs.declared.part.Part.{Part}
 use Rattle.flow_solver.specs.declared.part.Part.TheVariants.{Arc, Supply, Last, Gone}
 use Rattle.flow_solver.specs.declared.verdict.Verdict.{Verdict}
-use Rattle.flow_solver.specs.Moment.{Kept}
+use Rattle.flow_solver.specs.Moment.{Snapshot}
 use Rattle.flow_solver.specs.Part.{before_all, before_of, before_part, CanTakeBack, CanTakeBackAll, IsKept, return_count}
-use Rattle.flow_solver.proofs.DeskLemmas.{numbered_before, return_count_before}
+use Rattle.flow_solver.proofs.TablesViewLemmas.{numbered_before, return_count_before}
 use Rattle.flow_solver.proofs.GroupLemmas.{length-rows}
 
 -- ---- the end of a log
@@ -175,18 +175,18 @@ supply_passed v u i value log d I supply differ can some is at =
     }
 
 -- the same of the moment before, where there is one
-pub supply_since : (told : Option Verdict) (I : Instance) (kept : Kept) (v : ℕ) (supply : Option ℤ) → (IsNode I.nodes v → supply ≡ Some (reduced_supply (before_all kept.log I).demand v)) → IfSome (before_of told I kept) (λ old. IsNode old.instance.nodes v → supply ≡ Some (reduced_supply old.instance.demand v))
+pub supply_since : (told : Option Verdict) (I : Instance) (kept : Snapshot) (v : ℕ) (supply : Option ℤ) → (IsNode I.nodes v → supply ≡ Some (reduced_supply (before_all kept.log I).demand v)) → IfSome (before_of told I kept) (λ old. IsNode old.instance.nodes v → supply ≡ Some (reduced_supply old.instance.demand v))
 supply_since None I kept v supply is = tt
 supply_since (Some verdict) I kept v supply is = λ node. is (subst (λ (n : ℕ). IsNode n v) (nodes_before kept.log I) node)
 
-pub no_supply_since : (told : Option Verdict) (I : Instance) (kept : Kept) (v : ℕ) (supply : Option ℤ) → ((IsNode I.nodes v → ⊥) → supply ≡ None) → IfSome (before_of told I kept) (λ old. (IsNode old.instance.nodes v → ⊥) → supply ≡ None)
+pub no_supply_since : (told : Option Verdict) (I : Instance) (kept : Snapshot) (v : ℕ) (supply : Option ℤ) → ((IsNode I.nodes v → ⊥) → supply ≡ None) → IfSome (before_of told I kept) (λ old. (IsNode old.instance.nodes v → ⊥) → supply ≡ None)
 no_supply_since None I kept v supply is = tt
 no_supply_since (Some verdict) I kept v supply is = λ none. is (λ node. none (subst (λ (n : ℕ). IsNode n v) (sym (nodes_before kept.log I)) node))
 
 -- ---- flows
 
 -- the flow that was kept has the return arc, where there is one
-pub return_kept : (told : Option Verdict) (I : Instance) (kept : Kept) → IsSome (before_of told I kept) → IsKept told I kept → return_count I.demand ≤ length kept.flow
+pub return_kept : (told : Option Verdict) (I : Instance) (kept : Snapshot) → IsSome (before_of told I kept) → IsKept told I kept → return_count I.demand ≤ length kept.flow
 return_kept None I kept some is = cc
 return_kept (Some verdict) I kept some is =
     let J = before_all kept.log I in
@@ -198,6 +198,6 @@ numbered_is (Terminals source sink) xs = refl
 numbered_is (Sides marks) xs = refl
 
 -- what comes after it is the flow of the numbered arcs then
-pub numbered_kept : (told : Option Verdict) (I : Instance) (kept : Kept) → IfSome (before_of told I kept) (λ old. drop (return_count I.demand) kept.flow ≡ numbered_flow old.instance.demand old.flow)
+pub numbered_kept : (told : Option Verdict) (I : Instance) (kept : Snapshot) → IfSome (before_of told I kept) (λ old. drop (return_count I.demand) kept.flow ≡ numbered_flow old.instance.demand old.flow)
 numbered_kept None I kept = tt
 numbered_kept (Some verdict) I kept = numbered_is I.demand kept.flow ∙ sym (numbered_before kept.log I kept.flow)

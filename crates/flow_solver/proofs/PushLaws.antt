@@ -5,12 +5,13 @@ use Rattle.std.proofs.lemmas.List.Sums.{sum_by-cons}
 use Rattle.dimacs_text.specs.declared.problem.ArcRow.{ArcRow}
 use Rattle.network.specs.Flow.{MinCost, IsNode, AllEndsAreNodes, IsLegalFlow, AllWithinBounds, nodes_sum, net, excess, total_excess}
 use Rattle.network.specs.Flow as flow
-use Rattle.shortest_paths.specs.Residual.{number_at}
+use Rattle.residual_graph.specs.Residual.{number_at}
 use Rattle.shortest_paths.specs.Push.{IsExcess, IsPush, Pushes, positive_part, left}
 use Rattle.shortest_paths.specs.Cut.{lack}
 use Rattle.shortest_paths.specs.Nodes.{held}
 use Rattle.shortest_paths.proofs.CutLemmas.{none_above, lack-none}
-use Rattle.shortest_paths.proofs.NodeLemmas.{AllEndsIn, is_node_or_not, held_node, held_other, net-none, nodes_sum-first}
+use Rattle.residual_graph.proofs.NodeNumbers.{AllEndsIn, is_node_or_not}
+use Rattle.shortest_paths.proofs.NodeLemmas.{held_node, held_other, net-none, nodes_sum-first}
 
 -- ---- pushes
 

@@ -3,14 +3,15 @@ use Rattle.std.proofs.Common.{◌≡◌, ◌∙◌, ℕ, ℤ, neg_ℤ, List, len
 use Rattle.std.proofs.lemmas.Bool.{cases_eq}
 use Rattle.std.proofs.lemmas.List.{length-map}
 use Rattle.dimacs_text.specs.declared.problem.ArcRow.{ArcRow}
-use Rattle.shortest_paths.specs.declared.side.Side.{Side}
-use Rattle.shortest_paths.specs.declared.side.Side.TheVariants.{Ahead, Behind}
+use Rattle.residual_graph.specs.declared.side.Side.{Side}
+use Rattle.residual_graph.specs.declared.side.Side.TheVariants.{Ahead, Behind}
 use Rattle.shortest_paths.specs.Cut.{IsParted}
 use Rattle.shortest_paths.specs.Push.{ArePushes, lack, left}
-use Rattle.shortest_paths.specs.Residual.{IsFlow}
-use Rattle.shortest_paths.specs.Side.{other_side, seen}
+use Rattle.residual_graph.specs.Residual.{IsFlow}
+use Rattle.residual_graph.specs.Side.{other_side, seen}
 use Rattle.shortest_paths.proofs.CutLemmas.{parted_no_deficit, parted_no_excess}
-use Rattle.shortest_paths.proofs.TurnLemmas.{are_pushes-turned, excess_twice, flow_both, parted-turned}
+use Rattle.shortest_paths.proofs.TurnLemmas.{are_pushes-turned, excess_twice, parted-turned}
+use Rattle.residual_graph.proofs.TurnedRows.{flow_both}
 use Rattle.flow_solver.specs.Settle.{seen_excess}
 
 -- excesses that are turned round are from the other side what they were

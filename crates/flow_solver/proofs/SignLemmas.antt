@@ -2,8 +2,8 @@
 use Rattle.std.proofs.Common.{ℕ, ℤ, List, arith}
 use Rattle.std.proofs.lemmas.Int.{ints, by_lt_z}
 use Rattle.dimacs_text.specs.declared.problem.ArcRow.{ArcRow}
-use Rattle.shortest_paths.specs.declared.residual.Way.TheVariants.{Forward, Backward}
-use Rattle.shortest_paths.specs.Residual.{IsFlow, NoneBelow, KeepsSigns, number_at, arc_at}
+use Rattle.residual_graph.specs.declared.residual.Way.TheVariants.{Forward, Backward}
+use Rattle.residual_graph.specs.Residual.{IsFlow, NoneBelow, KeepsSigns, number_at, arc_at}
 
 pub signs_from_none_below : {nodes : ℕ} {arcs : List ArcRow} {x : List ℤ} (p : List ℤ) → IsFlow nodes arcs x → NoneBelow arcs x p → KeepsSigns arcs x p
 signs_from_none_below {nodes} {arcs} {x} p flow none k lt =

@@ -11,16 +11,16 @@ use Rattle.dimacs_text.specs.Lawful.{IsLawfulRow}
 use Rattle.network.specs.Flow.{MinCost, AllWithinBounds, FollowsSign, IsCertifiedFlow, IsGreatestPotential, IsPotential, reduced_cost}
 use Rattle.network.specs.Instance.{ArcFits, Instance, IsLawful, arc_at as number_at_arc, at_node, reduced}
 use Rattle.network.proofs.Reduction.{reduced_ends}
-use Rattle.shortest_paths.specs.declared.graph.Graph.{Graph}
+use Rattle.residual_graph.specs.declared.graph.Graph.{Graph}
 use Rattle.shortest_paths.specs.declared.scratch.Scratch.{Scratch}
-use Rattle.shortest_paths.specs.Residual.{AreGreatest, number_at, arc_at}
+use Rattle.residual_graph.specs.Residual.{AreGreatest, number_at, arc_at}
 use Rattle.shortest_paths.specs.Scratch.{IsScratchFor}
-use Rattle.shortest_paths.specs.Walk.{AreRowsOf}
+use Rattle.residual_graph.specs.Walk.{AreRowsOf}
 use Rattle.flow_solver.specs.Answer.{AreGreatestPotentials}
 use Rattle.flow_solver.specs.declared.balance.Balance.{Balance}
-use Rattle.flow_solver.specs.declared.ledger.Ledger.{Ledger}
+use Rattle.flow_solver.specs.declared.tracked.Tracked.{Tracked}
 use Rattle.flow_solver.specs.declared.part.Before.{Before}
-use Rattle.flow_solver.specs.Desk.{flow_index}
+use Rattle.flow_solver.specs.TablesView.{flow_index}
 use Rattle.flow_solver.specs.Tables.{AreTables}
 use Rattle.flow_solver.proofs.AnswerLemmas.{agrees_at}
 use Rattle.flow_solver.proofs.ChangeLemmas.{with_row, with_last, supplied, row_is, rows_changed, rows_more, rows_kept}
@@ -173,22 +173,22 @@ module _ (I : Instance) (k : ℕ) (row : ArcRow) (at : (1 ≤ k) × (k ≤ lengt
 -- the searches' tables are theirs whatever is told of the potentials
 pub scratch_told : (n : ℕ) (s : Scratch) (told : Bool) → IsScratchFor n s → IsScratchFor n (record s { labels = record s.labels { standing = told } })
 scratch_told n s told of = record {
-  visits_sized = of.visits_sized;
+  node_labels_sized = of.node_labels_sized;
   potentials_sized = of.potentials_sized;
   fresh = of.fresh;
-  labels = record { visits_sized = of.labels.visits_sized; order_sized = of.labels.order_sized };
+  labels = record { node_labels_sized = of.labels.node_labels_sized; order_sized = of.labels.order_sized };
   queue = of.queue;
-  trail = of.trail;
+  settled_order = of.settled_order;
   walks = of.walks;
 }
 
 -- the tables stay tables where nothing is told of the potentials, or what is true of them
-pub tables_told : (g : Graph) (flow potentials : Ledger ℤ) (balance : Balance) (cut : Ledger Bool) (scratch : Scratch) (before : Before) (told : Bool) →
+pub tables_told : (g : Graph) (flow potentials : Tracked ℤ) (balance : Balance) (cut : Tracked Bool) (scratch : Scratch) (before : Before) (told : Bool) →
     AreTables g flow potentials balance cut scratch before → (told ≡ true → AreGreatestPotentials (reduced g.net) flow.entries.items (at_node (drop 1 potentials.entries.items))) →
     AreTables g flow potentials balance cut (record scratch { labels = record scratch.labels { standing = told } }) before
 tables_told g flow potentials balance cut scratch before told t standing = record {
   graph = t.graph;
-  flow_ledger = t.flow_ledger;
+  flow_tracked = t.flow_tracked;
   flow_in = t.flow_in;
   flow_fits = t.flow_fits;
   potentials_in = t.potentials_in;

@@ -3,10 +3,10 @@ use Rattle.std.specs.Prelude.{◌≡◌, ℕ, ◌+◌, ◌<◌, ℤ, ◌+ℤ◌,
 use Rattle.std.specs.Int.{int_wrap, w64, w128}
 use Rattle.dimacs_text.specs.declared.problem.ArcRow.{ArcRow}
 use Rattle.network.specs.Flow.{net, total_cost}
-use Rattle.shortest_paths.specs.Residual.{arc_at, number_at}
+use Rattle.residual_graph.specs.Residual.{arc_at, number_at}
 use Rattle.network.specs.Instance.{Instance, reduced}
 use Rattle.flow_solver.specs.declared.balance.Balance.{Balance}
-use Rattle.flow_solver.specs.declared.ledger.Ledger.{Ledger}
+use Rattle.flow_solver.specs.declared.tracked.Tracked.{Tracked}
 use Rattle.shortest_paths.specs.Nodes.{held}
 use Rattle.shortest_paths.specs.Push.{at_node}
 
@@ -40,8 +40,8 @@ pub record IsCarried (row : ArcRow) (before after : ℤ) (e f : List ℤ) : Type
 abbrev pub AreEndsIn : ℕ → List ArcRow → Type 0
 AreEndsIn nodes arcs = (k : ℕ) → k < length arcs → ((arc_at arcs k).tail < nodes) × ((arc_at arcs k).head < nodes)
 
--- the excess of each node is that of the flow which stands in a ledger, the cost that of the flow which was kept
-pub record IsBalanceOf (I : Instance) (rows : List ArcRow) (flow : Ledger ℤ) (b : Balance) : Type 0 where
+-- the excess of each node is that of the flow which stands in a tracked, the cost that of the flow which was kept
+pub record IsBalanceOf (I : Instance) (rows : List ArcRow) (flow : Tracked ℤ) (b : Balance) : Type 0 where
   pub sized : length b.excess.items ≡ I.nodes + 1
   pub excess : IsWrappedExcess rows (held I.nodes (reduced I).supply) flow.entries.items b.excess.items
   pub cost : IsWrappedCost rows flow.kept.items b.cost

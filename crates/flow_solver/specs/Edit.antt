@@ -9,9 +9,9 @@ use Rattle.dimacs_text.specs.declared.problem.TheConstants.{SUPPLY_LIMIT}
 use Rattle.dimacs_text.specs.declared.problem.Kind.TheVariants.{Min}
 use Rattle.dimacs_text.specs.declared.command.Edit.{Edit}
 use Rattle.dimacs_text.specs.declared.command.Edit.TheVariants.{Cap, Low, Cost, Supply, Add, Close}
-use Rattle.shortest_paths.specs.Residual.{number_at, IsWithin}
+use Rattle.residual_graph.specs.Residual.{number_at, IsWithin}
 use Rattle.shortest_paths.specs.Push.{Pushes}
-use Rattle.flow_solver.specs.Desk.{flow_index}
+use Rattle.flow_solver.specs.TablesView.{flow_index}
 
 -- z is the flow nearest to x that the bounds of the arc and the sign of its reduced cost allow
 pub record IsNearest (a : ArcRow) (reduced x z : ℤ) : Type 0 where

@@ -1,11 +1,11 @@
 pub mod Edit
 pub mod Answer
 pub mod Moment
-pub mod Desk
+pub mod TablesView
 pub mod Part
 pub mod Tables
 pub mod Balance
-pub mod Ledger
+pub mod Tracked
 pub mod Settle
 pub use Rattle.shortest_paths.specs.Push
 pub use Rattle.shortest_paths.specs.Touched

@@ -6,7 +6,7 @@ use Rattle.network.specs.declared.TheConstants.{RETURN_CAP}
 use Rattle.flow_solver.specs.declared.part.Part.{Part}
 use Rattle.flow_solver.specs.declared.verdict.Verdict.{Verdict}
 use Rattle.flow_solver.specs.declared.verdict.Verdict.TheVariants.{Best, Infeasible}
-use Rattle.shortest_paths.specs.Residual.{number_at}
+use Rattle.residual_graph.specs.Residual.{number_at}
 
 -- an instance, a flow of its reduction, a potential for each node, what is told of the instance, and a mark for each node
 pub record Moment : Type 0 where
@@ -24,13 +24,13 @@ pub record IsSized (m : Moment) : Type 0 where
   pub one_mark : length m.cut ≡ m.instance.nodes
 
 -- what the tables keep of another moment: its flow, potentials and marks, and what the edits since then replaced in its instance
-pub record Kept : Type 0 where
+pub record Snapshot : Type 0 where
   pub flow : List ℤ
   pub potentials : List ℤ
   pub cut : List Bool
   pub log : List Part
 
-abbrev pub kept_of : Moment → Kept
+abbrev pub kept_of : Moment → Snapshot
 kept_of m = record { flow = m.flow; potentials = m.potentials; cut = m.cut; log = [] }
 
 -- the flow of an arc at the start: its cap where its cost is below 0, else its low

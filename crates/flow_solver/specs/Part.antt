@@ -9,8 +9,8 @@ use Rattle.network.specs.Instance.{Demand, Supplies, Terminals, Sides, Instance,
 use Rattle.flow_solver.specs.declared.part.Part.{Part}
 use Rattle.flow_solver.specs.declared.part.Part.TheVariants.{Arc, Supply, Last, Gone}
 use Rattle.flow_solver.specs.declared.verdict.Verdict.{Verdict}
-use Rattle.flow_solver.specs.Moment.{Kept, Moment}
-use Rattle.flow_solver.specs.Desk.{HasEnds, IsRowOf}
+use Rattle.flow_solver.specs.Moment.{Snapshot, Moment}
+use Rattle.flow_solver.specs.TablesView.{HasEnds, IsRowOf}
 
 -- the instance before the change
 abbrev pub before_part : Part → Instance → Instance
@@ -46,19 +46,19 @@ pub record LeadsBack (log : List Part) (I J : Instance) : Type 0 where
   pub back : before_all log J ≡ I
 
 -- what the edit replaces was logged, and all else that was kept stays
-pub record IsLogged (I : Instance) (edit : Edit) (kept now : Kept) : Type 0 where
+pub record IsLogged (I : Instance) (edit : Edit) (kept now : Snapshot) : Type 0 where
   pub part : Part
   pub takes_back : TakesBack I edit part
   pub now_is : now ≡ record kept { log = kept.log ++ part ∷ [] }
 
 -- the moment before, where it can be given back: what was kept, with what was told of it then
-abbrev pub before_of : Option Verdict → Instance → Kept → Option Moment
+abbrev pub before_of : Option Verdict → Instance → Snapshot → Option Moment
 before_of None I kept = None
 before_of (Some told) I kept =
     Some (record { instance = before_all kept.log I; flow = kept.flow; potentials = kept.potentials; verdict = told; cut = kept.cut })
 
 -- where the moment before can be given back, what was kept is of it
-abbrev pub IsKept : Option Verdict → Instance → Kept → Type 0
+abbrev pub IsKept : Option Verdict → Instance → Snapshot → Type 0
 IsKept None I kept = Unit {0}
 IsKept (Some told) I kept = CanTakeBackAll kept.log I × (length kept.flow ≡ length (reduced (before_all kept.log I)).arcs)
 

@@ -2,36 +2,36 @@
 use Rattle.std.specs.Prelude.{◌≡◌, ℕ, ◌+◌, ◌≤◌, ℤ, Bool, true, drop, List, length, vec_capacity}
 use Rattle.dimacs_text.specs.declared.group.TheConstants.{GROUP_LIMIT}
 use Rattle.network.specs.Instance.{at_node, reduced}
-use Rattle.shortest_paths.specs.declared.graph.Graph.{Graph}
+use Rattle.residual_graph.specs.declared.graph.Graph.{Graph}
 use Rattle.shortest_paths.specs.declared.scratch.Scratch.{Scratch}
-use Rattle.shortest_paths.specs.Graph.{IsGraphFor}
+use Rattle.residual_graph.specs.Graph.{IsGraphFor}
 use Rattle.shortest_paths.specs.Nodes.{IsIdleEntry}
 use Rattle.shortest_paths.specs.Scratch.{IsScratchFor}
 use Rattle.flow_solver.specs.declared.balance.Balance.{Balance}
-use Rattle.flow_solver.specs.declared.ledger.Ledger.{Ledger}
+use Rattle.flow_solver.specs.declared.tracked.Tracked.{Tracked}
 use Rattle.flow_solver.specs.declared.part.Before.{Before}
 use Rattle.flow_solver.specs.declared.part.Part.{Part}
 use Rattle.flow_solver.specs.Answer.{AreGreatestPotentials}
 use Rattle.flow_solver.specs.Balance.{IsBalanceOf}
-use Rattle.flow_solver.specs.Ledger.{IsLedger, kept_in}
-use Rattle.flow_solver.specs.Moment.{Kept}
+use Rattle.flow_solver.specs.Tracked.{IsTracked, kept_in}
+use Rattle.flow_solver.specs.Moment.{Snapshot}
 use Rattle.flow_solver.specs.Part.{IsKept}
 
--- a ledger of nodes: one entry for each node and one for no node, now and when it was kept
-pub record IsOfNodes {T : Type 0} (nodes : ℕ) (l : Ledger T) : Type 0 where
-  pub ledger : IsLedger l
+-- a tracked of nodes: one entry for each node and one for no node, now and when it was kept
+pub record IsOfNodes {T : Type 0} (nodes : ℕ) (l : Tracked T) : Type 0 where
+  pub tracked : IsTracked l
   pub entries_in : length l.entries.items ≡ nodes + 1
   pub size_is : l.size ≡ nodes + 1
 
--- what the ledgers and the log keep of a moment
-abbrev pub kept_by : Ledger ℤ → Ledger ℤ → Ledger Bool → List Part → Kept
+-- what the tracked_tables and the log keep of a moment
+abbrev pub kept_by : Tracked ℤ → Tracked ℤ → Tracked Bool → List Part → Snapshot
 kept_by flow potentials cut log = record { flow = kept_in flow; potentials = drop 1 (kept_in potentials); cut = drop 1 (kept_in cut); log = log }
 
 -- one entry for each row of the graph, one for each node and one for no node, room for all arcs that may be added, and room to log a group.
 -- Potentials that are said to stand are the greatest
-pub record AreTables (g : Graph) (flow potentials : Ledger ℤ) (balance : Balance) (cut : Ledger Bool) (scratch : Scratch) (before : Before) : Type 0 where
+pub record AreTables (g : Graph) (flow potentials : Tracked ℤ) (balance : Balance) (cut : Tracked Bool) (scratch : Scratch) (before : Before) : Type 0 where
   pub graph : IsGraphFor (g.net.nodes + 1) g
-  pub flow_ledger : IsLedger flow
+  pub flow_tracked : IsTracked flow
   pub flow_in : length flow.entries.items ≡ length g.rows.items
   pub flow_fits : g.net.room + 1 ≤ length flow.touched
   pub potentials_in : IsOfNodes g.net.nodes potentials

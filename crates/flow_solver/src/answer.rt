@@ -3,16 +3,16 @@
 ghost use Rattle.std.specs.Prelude.{◌≡◌, ◌^◌, ◌<◌, ◌≤◌, length};
 ghost use Rattle.network.specs.Flow.{AllWithinBounds};
 ghost use Rattle.network.specs.Instance.{reduced, IsLawful};
-ghost use Rattle.shortest_paths.specs.Limits.{entry_limit};
+ghost use Rattle.residual_graph.specs.Limits.{entry_limit};
 ghost use Rattle.shortest_paths.specs.Push.{AreSmall, left, positive_part};
 ghost use Rattle.shortest_paths.specs.Cut.{lack};
 ghost use Rattle.shortest_paths.specs.Nodes.{held};
-ghost use Rattle.flow_solver.specs.Ledger.{IsLedger};
+ghost use Rattle.flow_solver.specs.Tracked.{IsTracked};
 ghost use Rattle.flow_solver.specs.Balance.{IsWrappedCost};
 ghost use Rattle.flow_solver.specs.Answer.{IsJudged, worth_by};
 
 use crate::balance::{Balance, cost_now};
-use crate::ledger::Ledger;
+use crate::tracked::Tracked;
 use crate::verdict::Verdict;
 use dimacs_text::ArcRow;
 use network::Network;
@@ -60,11 +60,11 @@ fn sum_deficit(excess: &[i64]) -> u64
     sum
 }
 
-/// The cost of the flow that stands in a ledger, or what its return arc carries.
-fn worth(net: &Network, rows: &[ArcRow], flow: &Ledger<i64>, balance: &Balance) -> i128
+/// The cost of the flow that stands in a tracked, or what its return arc carries.
+fn worth(net: &Network, rows: &[ArcRow], flow: &Tracked<i64>, balance: &Balance) -> i128
     requires lawful { IsLawful net.now }
     requires rows { rows.now ≡ (reduced net.now).arcs }
-    requires ledger { IsLedger flow.now }
+    requires tracked { IsTracked flow.now }
     requires bounds { AllWithinBounds rows.now flow.now.entries.items }
     requires cost { IsWrappedCost rows.now flow.now.kept.items balance.now.cost }
     ensures { result ≡ worth_by net.now.demand rows.now flow.now.entries.items }
@@ -76,10 +76,10 @@ fn worth(net: &Network, rows: &[ArcRow], flow: &Ledger<i64>, balance: &Balance) 
 }
 
 /// The verdict by what is left in excess or in deficit.
-pub fn judge(net: &Network, rows: &[ArcRow], flow: &Ledger<i64>, balance: &Balance) -> Verdict
+pub fn judge(net: &Network, rows: &[ArcRow], flow: &Tracked<i64>, balance: &Balance) -> Verdict
     requires lawful { IsLawful net.now }
     requires rows { rows.now ≡ (reduced net.now).arcs }
-    requires ledger { IsLedger flow.now }
+    requires tracked { IsTracked flow.now }
     requires bounds { AllWithinBounds rows.now flow.now.entries.items }
     requires cost { IsWrappedCost rows.now flow.now.kept.items balance.now.cost }
     requires small { AreSmall balance.now.excess.items }

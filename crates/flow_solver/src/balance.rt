@@ -3,19 +3,19 @@
 ghost use Rattle.std.specs.Prelude.{◌≡◌, ℕ, ℤ, pos, ◌+◌, ◌*ℤ◌, ◌+ℤ◌, ◌-ℤ◌, ◌<◌, ◌≤◌, IfOk, length};
 ghost use Rattle.std.specs.Int.{int_wrap, w128};
 ghost use Rattle.network.specs.Instance.{reduced};
-ghost use Rattle.shortest_paths.specs.Limits.{entry_limit};
-ghost use Rattle.shortest_paths.specs.Residual.{arc_at, number_at};
+ghost use Rattle.residual_graph.specs.Limits.{entry_limit};
+ghost use Rattle.residual_graph.specs.Residual.{arc_at, number_at};
 ghost use Rattle.shortest_paths.specs.Nodes.{held};
-ghost use Rattle.flow_solver.specs.Ledger.{IsLedger};
+ghost use Rattle.flow_solver.specs.Tracked.{IsTracked};
 ghost use Rattle.flow_solver.specs.Balance.{AreEndsIn, AreWrapped, IsCarried, IsRaised, IsWrappedCost, IsWrappedExcess};
 
 use crate::answer::supply_at;
-use crate::ledger::Ledger;
+use crate::tracked::Tracked;
 use dimacs_text::ArcRow;
 use network::Network;
 use std::alloc::{AllocError, Global};
 
-/// The excess of each node under the flow that stands in a ledger, and the cost of the flow that the ledger kept. Both are
+/// The excess of each node under the flow that stands in a tracked, and the cost of the flow that the tracked kept. Both are
 /// sums that wrap: so each is carried over as one arc or one supply changes, whatever the flows are in between, and of a
 /// flow within its bounds it is exact, since it fits. `cost_now` gives the cost of the flow that stands.
 #[derive(Drop)]
@@ -75,8 +75,8 @@ pub fn reprice(cost: i128, before: i64, after: i64, factor: i64) -> i128
 }
 
 /// The cost of what stands in the table, from that of what was kept.
-pub fn cost_now(rows: &[ArcRow], flow: &Ledger<i64>, cost: i128) -> i128
-    requires ledger { IsLedger flow.now }
+pub fn cost_now(rows: &[ArcRow], flow: &Tracked<i64>, cost: i128) -> i128
+    requires tracked { IsTracked flow.now }
     requires as_many { length rows.now ≡ length flow.now.entries.items }
     requires cost { IsWrappedCost rows.now flow.now.kept.items cost }
     ensures { IsWrappedCost rows.now flow.now.entries.items result }
@@ -94,8 +94,8 @@ pub fn cost_now(rows: &[ArcRow], flow: &Ledger<i64>, cost: i128) -> i128
 }
 
 /// Carries the excess of what stands in the table back to that of what was kept.
-pub fn carry_back(rows: &[ArcRow], flow: &Ledger<i64>, excess: &mut [i64])
-    requires ledger { IsLedger flow.now }
+pub fn carry_back(rows: &[ArcRow], flow: &Tracked<i64>, excess: &mut [i64])
+    requires tracked { IsTracked flow.now }
     requires as_many { length rows.now ≡ length flow.now.entries.items }
     requires ends { AreEndsIn (length excess.old) rows.now }
     ensures { (supply : ℕ → ℤ) → IsWrappedExcess rows.now supply flow.now.entries.items excess.old → IsWrappedExcess rows.now supply flow.now.kept.items excess.new }

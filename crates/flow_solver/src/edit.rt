@@ -8,8 +8,8 @@ ghost use Rattle.dimacs_text.specs.declared.problem.ArcRow.{ArcRow};
 ghost use Rattle.network.specs.Edited.{edited};
 ghost use Rattle.network.specs.Flow.{IsPotential, reduced_cost};
 ghost use Rattle.network.specs.Instance.{IsLawful, arc_at as number_at_arc, ArcFits, at_node, kind_of, with_supply};
-ghost use Rattle.shortest_paths.specs.Walk.{AreRowsOf};
-ghost use Rattle.flow_solver.specs.Desk.{supplies_in};
+ghost use Rattle.residual_graph.specs.Walk.{AreRowsOf};
+ghost use Rattle.flow_solver.specs.TablesView.{supplies_in};
 ghost use Rattle.flow_solver.specs.Edit.{IsNearest, IsAddEdit, IsOfAdd, IsOfArc, IsOfSupply, IsSupplyEdit, IsRowEdit};
 
 use crate::answer::supply_at;

@@ -5,13 +5,13 @@
 mod answer;
 mod balance;
 mod edit;
-mod ledger;
 mod part;
 mod potentials;
 mod settle;
 mod start;
 mod swaps;
 mod tables;
+mod tracked;
 mod verdict;
 
 pub use part::Part;

@@ -24,7 +24,7 @@ pub enum Part {
     Gone { row: ArcRow, flow: i64 },
 }
 
-/// What stood before a change, beside what the ledgers kept.
+/// What stood before a change, beside what the tracked_tables kept.
 #[derive(Drop)]
 pub struct Before {
     /// What each edit since then replaced, one after the other. No edit takes an arc off, so none is gone.

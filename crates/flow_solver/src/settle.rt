@@ -1,26 +1,28 @@
 //! Searches and pushes in turn, until no node in excess reaches a node in deficit.
 
-ghost use Rattle.shortest_paths.specs.Graph.{IsGraphFor};
-ghost use Rattle.shortest_paths.specs.Limits.{drift_limit, label_floor, potential_floor};
+ghost use Rattle.residual_graph.specs.Graph.{IsGraphFor};
+ghost use Rattle.shortest_paths.specs.Limits.{drift_limit, label_floor};
+ghost use Rattle.residual_graph.specs.Limits.{potential_floor};
 ghost use Rattle.std.specs.Prelude.{◌≡◌, ℕ, ℤ, List, true, drop, length, pos, neg_ℤ, ◌≤ℤ◌, ◌+ℤ◌, ◌-ℤ◌, ◌<◌, ◌≤◌, ◌+◌, IsTrue, ◌↔◌, MatchOption, IfNone};
-ghost use Rattle.shortest_paths.specs.Residual.{IsFlow, IsCertified, ArePotentials, number_at};
+ghost use Rattle.residual_graph.specs.Residual.{IsFlow, IsCertified, ArePotentials, number_at};
 ghost use Rattle.shortest_paths.specs.Settle.{IsNear};
 ghost use Rattle.shortest_paths.specs.Push.{ArePushes, IsExcess, Pushes, lack, left, AreSmall};
 ghost use Rattle.shortest_paths.specs.Scratch.{IsScratchFor};
-ghost use Rattle.shortest_paths.specs.Side.{other_side, seen};
+ghost use Rattle.residual_graph.specs.Side.{other_side, seen};
 ghost use Rattle.dimacs_text.specs.declared.problem.ArcRow.{ArcRow};
-ghost use Rattle.flow_solver.specs.Ledger.{IsLedger, IsWritten};
+ghost use Rattle.flow_solver.specs.Tracked.{IsTracked, IsWritten};
 ghost use Rattle.network.specs.Instance.{at_node, reduced};
 ghost use Rattle.flow_solver.specs.Answer.{AreGreatestPotentials};
 ghost use Rattle.flow_solver.specs.Settle.{HoldsSearch, seen_excess};
 ghost use Rattle.shortest_paths.specs.Cut.{amount, IsSide, IsParted, IsChosenSet};
-ghost use Rattle.shortest_paths.specs.declared.side.Side.TheVariants.{Ahead, Behind};
+ghost use Rattle.residual_graph.specs.declared.side.Side.TheVariants.{Ahead, Behind};
 
-use crate::ledger::Ledger;
 use crate::potentials::{lower, raise, write_potentials};
+use crate::tracked::Tracked;
+use residual_graph::{Graph, Residual, Side};
 use shortest_paths::{
-    Graph, Levels, Residual, Scratch, Side, find_deficits, forget, mark_side, push_found,
-    take_marks, turn_excess, turn_potentials,
+    Levels, Scratch, find_deficits, forget, mark_side, push_found, take_marks, turn_excess,
+    turn_potentials,
 };
 
 /// How far potentials may fall before labels are taken again.
@@ -28,8 +30,13 @@ const FALL_LIMIT: i64 = 70_000_000_000_000_000;
 
 /// Pushes flow along shortest paths until no node in excess reaches a node in deficit, and counts the pushes. The searches
 /// go from the two sides in turn, and each forgets what it reached before the next.
-fn push_all(graph: &Graph, flow: &mut Ledger<i64>, excess: &mut [i64], scratch: &mut Scratch) -> u64
-    requires flow_ledger { IsLedger flow.old }
+fn push_all(
+    graph: &Graph,
+    flow: &mut Tracked<i64>,
+    excess: &mut [i64],
+    scratch: &mut Scratch,
+) -> u64
+    requires flow_tracked { IsTracked flow.old }
     requires graph { IsGraphFor (length scratch.old.potentials.items) graph.now }
     requires certified { IsCertified graph.now.rows.items flow.old.entries.items scratch.old.potentials.items }
     requires potentials_in { ArePotentials (length scratch.old.potentials.items) label_floor scratch.old.potentials.items }
@@ -84,7 +91,7 @@ fn turn_round(side: Side, excess: &mut [i64], scratch: &mut Scratch) -> Side
 fn search_on(
     graph: &Graph,
     side: Side,
-    flow: &Ledger<i64>,
+    flow: &Tracked<i64>,
     excess: &[i64],
     scratch: &mut Scratch,
 ) -> Option<i64>
@@ -108,12 +115,16 @@ fn search_on(
     let reach = find_deficits(
         residual,
         excess,
-        &mut scratch.visits,
+        &mut scratch.node_labels,
         &mut scratch.queue,
-        &mut scratch.trail,
+        &mut scratch.settled_order,
     );
     if reach.is_none() {
-        forget(&mut scratch.visits, &scratch.queue, &scratch.trail);
+        forget(
+            &mut scratch.node_labels,
+            &scratch.queue,
+            &scratch.settled_order,
+        );
     }
     reach
 }
@@ -123,12 +134,12 @@ fn search_on(
 fn push_within(
     graph: &Graph,
     side: Side,
-    flow: &mut Ledger<i64>,
+    flow: &mut Tracked<i64>,
     excess: &mut [i64],
     scratch: &mut Scratch,
     reach: i64,
 ) -> u64
-    requires flow_ledger { IsLedger flow.old }
+    requires flow_tracked { IsTracked flow.old }
     requires graph { IsGraphFor (length scratch.old.potentials.items) graph.now }
     requires certified { IsCertified (seen side graph.now.rows.items) flow.old.entries.items scratch.old.potentials.items }
     requires near { (fallen : ℤ) × IsNear scratch.old.potentials.items fallen }
@@ -145,25 +156,29 @@ fn push_within(
 {
     lower(
         &mut scratch.potentials,
-        &scratch.visits,
-        &scratch.trail,
+        &scratch.node_labels,
+        &scratch.settled_order,
         reach,
     );
     let levels = Levels {
         graph,
         side,
         potentials: &scratch.potentials,
-        visits: &scratch.visits,
+        node_labels: &scratch.node_labels,
     };
     let pushes = push_found(
         levels,
         &mut flow.entries,
         &mut flow.touched,
         excess,
-        &scratch.trail,
+        &scratch.settled_order,
         &mut scratch.walks,
     );
-    forget(&mut scratch.visits, &scratch.queue, &scratch.trail);
+    forget(
+        &mut scratch.node_labels,
+        &scratch.queue,
+        &scratch.settled_order,
+    );
     pushes
 }
 
@@ -172,7 +187,7 @@ fn push_within(
 fn keep_near(
     graph: &Graph,
     side: Side,
-    flow: &Ledger<i64>,
+    flow: &Tracked<i64>,
     scratch: &mut Scratch,
     fallen: i64,
 ) -> i64
@@ -215,12 +230,12 @@ fn has_both(excess: &[i64]) -> bool
 /// Marks the set that tells why some supply is left over or some demand is not met, first in a table of the searches.
 fn mark_cut(
     graph: &Graph,
-    flow: &Ledger<i64>,
+    flow: &Tracked<i64>,
     excess: &[i64],
     scratch: &mut Scratch,
-    cut: &mut Ledger<bool>,
+    cut: &mut Tracked<bool>,
 )
-    requires cut_ledger { IsLedger cut.old }
+    requires cut_tracked { IsTracked cut.old }
     requires graph { IsGraphFor (length excess.now) graph.now }
     requires flow { IsFlow (length excess.now) graph.now.rows.items flow.now.entries.items }
     requires cut_in { length cut.old.entries.items ≡ length excess.now }
@@ -250,16 +265,16 @@ fn mark_cut(
 /// potentials that certify it, and counts the pushes.
 pub fn settle(
     graph: &Graph,
-    flow: &mut Ledger<i64>,
-    potentials: &mut Ledger<i64>,
+    flow: &mut Tracked<i64>,
+    potentials: &mut Tracked<i64>,
     excess: &mut [i64],
     scratch: &mut Scratch,
-    cut: &mut Ledger<bool>,
+    cut: &mut Tracked<bool>,
 ) -> u64
     requires graph { IsGraphFor (length potentials.old.entries.items) graph.now }
-    requires flow_ledger { IsLedger flow.old }
-    requires potentials_ledger { IsLedger potentials.old }
-    requires cut_ledger { IsLedger cut.old }
+    requires flow_tracked { IsTracked flow.old }
+    requires potentials_tracked { IsTracked potentials.old }
+    requires cut_tracked { IsTracked cut.old }
     requires certified { IsCertified graph.now.rows.items flow.old.entries.items potentials.old.entries.items }
     requires potentials_in { ArePotentials (length potentials.old.entries.items) label_floor potentials.old.entries.items }
     requires excess_in { length excess.old ≡ length potentials.old.entries.items }

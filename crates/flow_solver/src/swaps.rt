@@ -4,17 +4,17 @@ ghost use Rattle.std.specs.Prelude.{◌≡◌, ◌-◌, ◌<◌, ◌≤◌, drop
 ghost use Rattle.network.specs.Instance.{IsLawful, reduced};
 ghost use Rattle.flow_solver.specs.Balance.{IsBalanceOf};
 ghost use Rattle.flow_solver.specs.Moment.{VerdictFits, with_return};
-ghost use Rattle.flow_solver.specs.Ledger.{IsLedger, IsWritten};
+ghost use Rattle.flow_solver.specs.Tracked.{IsTracked, IsWritten};
 
 use crate::balance::{Balance, carry_over};
-use crate::ledger::Ledger;
+use crate::tracked::Tracked;
 use crate::verdict::Verdict;
 use dimacs_text::ArcRow;
 use network::Network;
 
 /// Exchanges the entry of a node, in a table with an entry for no node in front.
-pub fn exchange_node<T: Copy>(table: &mut Ledger<T>, id: u32, value: &mut T)
-    requires ledger { IsLedger table.old }
+pub fn exchange_node<T: Copy>(table: &mut Tracked<T>, id: u32, value: &mut T)
+    requires tracked { IsTracked table.old }
     requires node { (1 ≤ id) × (id < length table.old.entries.items) }
     ensures written { IsWritten table.old table.new }
     ensures table { drop 1 table.new.entries.items ≡ slice_set (drop 1 table.old.entries.items) (id - 1) value.old }
@@ -28,7 +28,7 @@ pub fn exchange_node<T: Copy>(table: &mut Ledger<T>, id: u32, value: &mut T)
 pub fn carry_worth(
     net: &Network,
     rows: &[ArcRow],
-    flow: &mut Ledger<i64>,
+    flow: &mut Tracked<i64>,
     balance: &mut Balance,
     verdict: Verdict,
 )
@@ -36,7 +36,7 @@ pub fn carry_worth(
     requires rows { rows.now ≡ (reduced net.now).arcs }
     requires balance { IsBalanceOf net.now rows.now flow.old balance.old }
     requires fits { VerdictFits net.now.demand verdict }
-    requires ledger { IsLedger flow.old }
+    requires tracked { IsTracked flow.old }
     requires flow_in { length flow.old.entries.items ≡ length (reduced net.now).arcs }
     ensures balance { IsBalanceOf net.now rows.now flow.new balance.new }
     ensures written { IsWritten flow.old flow.new }

@@ -7,18 +7,19 @@ ghost use Rattle.std.specs.Prelude.{◌≡◌, ◌≢◌, AllPairs, ◌≤◌, I
 ghost use Rattle.dimacs_text.specs.Lawful.{IsNode};
 ghost use Rattle.network.specs.Flow.{IsCertifiedFlow};
 ghost use Rattle.network.specs.Instance.{arc_at, at_node, numbered_flow, reduced, reduced_supply};
-ghost use Rattle.flow_solver.specs.Desk.{NameChanges};
+ghost use Rattle.flow_solver.specs.TablesView.{NameChanges};
 ghost use Rattle.flow_solver.specs.Moment.{IsStart};
 ghost use Rattle.flow_solver.specs.Part.{return_count};
 
 use crate::balance::Balance;
-use crate::ledger::Ledger;
 use crate::part::{Before, return_count, row_before, supply_before};
 use crate::start::start_flow;
+use crate::tracked::Tracked;
 use crate::verdict::Verdict;
 use dimacs_text::{ArcRow, GROUP_LIMIT, NODE_LIMIT};
 use network::Network;
-use shortest_paths::{Graph, Scratch};
+use residual_graph::Graph;
+use shortest_paths::Scratch;
 use std::alloc::{AllocError, Global};
 use std::marker::Model;
 
@@ -29,10 +30,10 @@ use std::marker::Model;
 #[derive(Drop)]
 pub struct Tables {
     graph: Graph,
-    flow: Ledger<i64>,
-    potentials: Ledger<i64>,
+    flow: Tracked<i64>,
+    potentials: Tracked<i64>,
     balance: Balance,
-    cut: Ledger<bool>,
+    cut: Tracked<bool>,
     scratch: Scratch,
     verdict: Verdict,
     before: Before,
@@ -40,11 +41,11 @@ pub struct Tables {
 
 impl Model for Tables {
     ghost use Rattle.std.specs.Prelude.{drop};
-    ghost use Rattle.flow_solver.specs.Desk.{Desk};
+    ghost use Rattle.flow_solver.specs.TablesView.{TablesView};
     ghost use Rattle.flow_solver.specs.Part.{before_of};
     ghost use Rattle.flow_solver.specs.Tables.{AreTables, kept_by};
 
-    ghost Value = { Desk };
+    ghost Value = { TablesView };
 
     ghost view = { λ t. record {
       moment = record { instance = t.graph.net; flow = t.flow.entries.items; potentials = drop 1 t.potentials.entries.items; verdict = t.verdict; cut = drop 1 t.cut.entries.items };
@@ -70,10 +71,10 @@ impl Tables {
         let graph = Graph::new(alloc, net)?;
         let entries = graph.net.nodes() as usize + 1;
         let room = graph.net.room() as usize + 1;
-        let flow = Ledger::new(alloc, start_flow(alloc, &graph.rows, room)?, room)?;
-        let potentials = Ledger::new(alloc, vec![in alloc; 0; entries]?, entries)?;
+        let flow = Tracked::new(alloc, start_flow(alloc, &graph.rows, room)?, room)?;
+        let potentials = Tracked::new(alloc, vec![in alloc; 0; entries]?, entries)?;
         let balance = Balance::new(alloc, &graph.net, &graph.rows, &flow.entries)?;
-        let cut = Ledger::new(alloc, vec![in alloc; false; entries]?, entries)?;
+        let cut = Tracked::new(alloc, vec![in alloc; false; entries]?, entries)?;
         let scratch = Scratch::new(alloc, graph.net.nodes() + 1)?;
         let log = Vec::with_capacity(alloc, GROUP_LIMIT)?;
         Ok(Tables {

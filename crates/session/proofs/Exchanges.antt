@@ -4,7 +4,7 @@ use Rattle.std.proofs.lemmas.List.{set_at, take_more, drop_more, get_or_at, get_
 use Rattle.std.proofs.lemmas.Grind.{common_steps}
 use Rattle.network.specs.Flow.{IsPotential}
 use Rattle.flow_solver.specs.Moment.{Moment, VerdictFits}
-use Rattle.flow_solver.specs.Desk.{IsFlow, flow_index}
+use Rattle.flow_solver.specs.TablesView.{IsFlow, flow_index}
 use Rattle.session.specs.Places.{IsRising, AreWithin, exchanged, taken, PlacesFit}
 use Rattle.session.specs.PlacesLaws.{IsElsewhere, get_or-exchanged_elsewhere, length-taken}
 use Rattle.session.specs.Parts.{flow_of}

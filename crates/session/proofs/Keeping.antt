@@ -7,7 +7,7 @@ use Rattle.history.specs.Boards.{Changes, Timeline, all_boards, boards, StandsFo
 use Rattle.history.proofs.Timelines.{stands_push, stands_back, stands_forward, boards_same, all_boards_back, all_boards_forward, all_advance}
 use Rattle.flow_solver.specs.Moment.{Moment}
 use Rattle.flow_solver.specs.Answer.{IsAnswered}
-use Rattle.flow_solver.specs.Desk.{Desk}
+use Rattle.flow_solver.specs.TablesView.{TablesView}
 use Rattle.session.specs.Parts.{named, flow_of}
 use Rattle.session.specs.Record.{Recorded, RecordFits, Differs, swapped, turned}
 use Rattle.session.specs.RecordLaws.{board_again, flow_of-swapped, go_there}
@@ -62,9 +62,9 @@ kept_by_redo true old new m d kept stands moves steps same same_board = kept_for
 kept_by_redo false old new m d kept stands moves steps same same_board = rw (same, same_board) kept
 
 -- a board that stays keeps its moment
-pub same_moment : (moved : Bool) (old new : Desk) → OnFalse moved (new ≡ old) → OnFalse moved (new.moment ≡ old.moment)
+pub same_moment : (moved : Bool) (old new : TablesView) → OnFalse moved (new ≡ old) → OnFalse moved (new.moment ≡ old.moment)
 same_moment true old new same = tt
-same_moment false old new same = ap (λ (t : Desk). t.moment) same
+same_moment false old new same = ap (λ (t : TablesView). t.moment) same
 
 -- the present moment is one of all
 pub present_answered : (h : Changes Recorded) (m : Moment) → IsKept h m → IsAnswered m

@@ -14,7 +14,7 @@ use Rattle.network.specs.Edited.{edited}
 use Rattle.network.specs.Instance.{Instance}
 use Rattle.network.proofs.EditedShape.{IsChangedBy, changed_by_edit}
 use Rattle.flow_solver.specs.Moment.{Moment}
-use Rattle.flow_solver.specs.Desk.{supplies_in}
+use Rattle.flow_solver.specs.TablesView.{supplies_in}
 use Rattle.flow_solver.specs.declared.part.Part.{Part}
 use Rattle.flow_solver.specs.declared.part.Part.TheVariants.{Last}
 use Rattle.session.specs.Places.{taken}

@@ -4,7 +4,7 @@ use Rattle.dimacs_text.specs.declared.problem.ArcRow.{ArcRow}
 use Rattle.network.specs.Instance.{Demand, Supplies, Terminals, Sides, numbered_flow, reduced_arcs}
 use Rattle.flow_solver.specs.declared.verdict.Verdict.{Verdict}
 use Rattle.flow_solver.specs.declared.verdict.Verdict.TheVariants.{Best, Infeasible}
-use Rattle.flow_solver.specs.Desk.{flow_index}
+use Rattle.flow_solver.specs.TablesView.{flow_index}
 use Rattle.flow_solver.specs.Moment.{returned, VerdictFits, TellsReturnBy}
 
 -- it has what the verdict tells

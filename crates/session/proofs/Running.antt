@@ -9,7 +9,7 @@ use Rattle.dimacs_text.specs.declared.problem.TheConstants.{ARC_LIMIT, SUPPLY_LI
 use Rattle.dimacs_text.specs.Lawful.{IsWithin}
 use Rattle.network.specs.Instance.{Demand, Supplies, Terminals, Sides, Instance, DemandFits, IsLawful, numbered_flow, with_supply}
 use Rattle.flow_solver.specs.Moment.{Moment}
-use Rattle.flow_solver.specs.Desk.{IsFlow, IsRowOf, HasEnds, supplies_in}
+use Rattle.flow_solver.specs.TablesView.{IsFlow, IsRowOf, HasEnds, supplies_in}
 use Rattle.flow_solver.specs.declared.part.Part.{Part}
 use Rattle.flow_solver.specs.declared.part.Part.TheVariants.{Arc, Supply, Last, Gone}
 use Rattle.session.specs.Places.{PlacesFit, exchanged, taken, ended, end_of}

@@ -5,7 +5,7 @@ use Rattle.dimacs_text.specs.declared.problem.Kind.TheVariants.{Min}
 use Rattle.dimacs_text.specs.declared.problem.TheConstants.{SUPPLY_LIMIT}
 use Rattle.dimacs_text.specs.Lawful.{IsNode, IsWithin}
 use Rattle.network.specs.Instance.{Demand, Supplies, Terminals, Sides, kind_of, DemandFits}
-use Rattle.flow_solver.specs.Desk.{supplies_in}
+use Rattle.flow_solver.specs.TablesView.{supplies_in}
 
 -- a node that has a supply
 pub has_supply : (nodes : ℕ) (demand : Demand) (id : ℕ) → DemandFits nodes demand → 1 ≤ id → id ≤ length (supplies_in demand) → (kind_of demand ≡ Min) × IsNode nodes id

@@ -4,7 +4,7 @@ use Rattle.std.specs.List.{Contains}
 use Rattle.dimacs_text.specs.declared.command.Edit.{Edit}
 use Rattle.dimacs_text.specs.declared.command.Edit.TheVariants as edits
 use Rattle.network.specs.Instance.{Instance}
-use Rattle.flow_solver.specs.Desk.{supplies_in}
+use Rattle.flow_solver.specs.TablesView.{supplies_in}
 use Rattle.flow_solver.specs.declared.part.Part.{Part}
 use Rattle.session.specs.Parts.{listed, no_row}
 

@@ -8,7 +8,7 @@ use Rattle.dimacs_text.specs.declared.problem.TheConstants.{SUPPLY_LIMIT}
 use Rattle.dimacs_text.specs.Lawful.{IsWithin}
 use Rattle.network.specs.Instance.{Demand, Supplies, Terminals, Sides, Instance, ArcFits, DemandFits, IsLawful}
 use Rattle.flow_solver.specs.Moment.{Moment}
-use Rattle.flow_solver.specs.Desk.{IsFlow, IsRowOf, HasEnds, supplies_in}
+use Rattle.flow_solver.specs.TablesView.{IsFlow, IsRowOf, HasEnds, supplies_in}
 use Rattle.flow_solver.specs.declared.part.Part.{Part}
 use Rattle.flow_solver.specs.declared.part.Part.TheVariants.{Last}
 use Rattle.session.specs.Places.{IsRising, AreWithin, PlacesFit, exchanged, taken, end_of, changed}

@@ -5,7 +5,7 @@ use Rattle.network.specs.Flow.{IsPotential}
 use Rattle.network.specs.Instance.{IsLawful}
 use Rattle.flow_solver.specs.declared.verdict.Verdict.{Verdict}
 use Rattle.flow_solver.specs.Moment.{Moment, returned, VerdictFits}
-use Rattle.flow_solver.specs.Desk.{IsFlow}
+use Rattle.flow_solver.specs.TablesView.{IsFlow}
 use Rattle.flow_solver.specs.declared.part.Part.{Part}
 use Rattle.session.specs.Places.{exchanged, taken, PlacesFit, AllDiffer, changed}
 use Rattle.session.specs.Parts.{named, listed, flow_of, instance_swapped, named_turned, PartsFit}

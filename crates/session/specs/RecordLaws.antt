@@ -4,7 +4,7 @@ use Rattle.network.specs.Flow.{IsPotential}
 use Rattle.network.specs.Instance.{Instance}
 use Rattle.flow_solver.specs.declared.verdict.Verdict.{Verdict}
 use Rattle.flow_solver.specs.Moment.{Moment, returned, VerdictFits}
-use Rattle.flow_solver.specs.Desk.{IsFlow}
+use Rattle.flow_solver.specs.TablesView.{IsFlow}
 use Rattle.flow_solver.specs.declared.part.Part.{Part}
 use Rattle.session.specs.Places.{taken, end_of, changed}
 use Rattle.session.specs.PlacesLaws.{length-exchanged, exchanged_again, taken_again, fit_taken, All-exchanged}

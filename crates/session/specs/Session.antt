@@ -6,7 +6,7 @@ use Rattle.dimacs_text.specs.declared.command.Edit.TheVariants as edits
 use Rattle.network.specs.Edited.{edited, edited_all}
 use Rattle.flow_solver.specs.Moment.{Moment}
 use Rattle.flow_solver.specs.Answer.{IsAnswered}
-use Rattle.flow_solver.specs.Desk.{Desk}
+use Rattle.flow_solver.specs.TablesView.{TablesView}
 use Rattle.history.specs.Boards.{Changes, all_changes, Timeline, all_boards, boards, StandsFor}
 use Rattle.session.specs.declared.marks.Mark.{Mark}
 use Rattle.flow_solver.specs.declared.part.Part.{Part}
@@ -43,8 +43,8 @@ pub record AreAcceptedEdits (edits : List Edit) (old new : Moment) : Type 0 wher
   pub after : IsAnswered new
 
 -- the moment before the last change of the tables, where there was one
-abbrev pub old_moment : Desk → Moment
-old_moment desk = unwrap_or desk.before desk.moment
+abbrev pub old_moment : TablesView → Moment
+old_moment shown = unwrap_or shown.before shown.moment
 
 -- the parts, in their normal form, name places with what the other moment has there: nodes and arcs once and rising, then
 -- arcs that only the other moment has, with their flows, or how many arcs only this one has. Outside these places the

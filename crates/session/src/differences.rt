@@ -2,7 +2,7 @@
 
 ghost use Rattle.std.specs.Prelude.{◌≡◌, ◌≢◌, ℕ, ◌+◌, ◌<◌, ◌≤◌, ◌^◌, All, AllPairs, IfOk, MatchOption, length};
 ghost use Rattle.std.specs.Bool.{Decides};
-ghost use Rattle.flow_solver.specs.Desk.{NameChanges};
+ghost use Rattle.flow_solver.specs.TablesView.{NameChanges};
 ghost use Rattle.flow_solver.specs.Touched.{AgreeAt};
 ghost use Rattle.session.specs.Places.{AreFound, DifferAt};
 

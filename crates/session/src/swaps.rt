@@ -4,7 +4,7 @@ ghost use Rattle.std.specs.Prelude.{◌≡◌, ◌<◌, ◌≤◌, length};
 ghost use Rattle.dimacs_text.specs.declared.problem.TheConstants.{ARC_LIMIT};
 ghost use Rattle.network.specs.Flow.{IsPotential};
 ghost use Rattle.network.specs.Instance.{IsLawful};
-ghost use Rattle.flow_solver.specs.Desk.{IsFlow};
+ghost use Rattle.flow_solver.specs.TablesView.{IsFlow};
 ghost use Rattle.session.specs.Places.{exchanged, taken, PlacesFit};
 ghost use Rattle.session.specs.Parts.{named, listed, flow_of, named_turned, parts_swapped, PartsFit, put_in, left_by, next_after, PartFits, cut_off};
 ghost use Rattle.session.specs.Record.{with_flow, IsInRange, IsMark};

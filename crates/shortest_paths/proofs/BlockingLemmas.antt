@@ -8,15 +8,15 @@ use Rattle.std.proofs.lemmas.List.Elements.{All-nil, All-cons, All-weaker}
 use Rattle.std.proofs.lemmas.List.Kept.{AllPairs-cons}
 use Rattle.std.proofs.lemmas.List.Sums.{sum_by-set}
 use Rattle.dimacs_text.specs.declared.problem.ArcRow.{ArcRow}
-use Rattle.shortest_paths.specs.declared.residual.ResidualArc.{ResidualArc}
+use Rattle.residual_graph.specs.declared.residual.ResidualArc.{ResidualArc}
 use Rattle.shortest_paths.specs.declared.blocking.Walks.{Walks}
-use Rattle.shortest_paths.specs.declared.residual.Way.{Way}
-use Rattle.shortest_paths.specs.declared.residual.Way.TheVariants.{Forward, Backward}
-use Rattle.shortest_paths.specs.declared.visit.Visit.{Visit}
+use Rattle.residual_graph.specs.declared.residual.Way.{Way}
+use Rattle.residual_graph.specs.declared.residual.Way.TheVariants.{Forward, Backward}
+use Rattle.shortest_paths.specs.declared.node_label.NodeLabel.{NodeLabel}
 use Rattle.shortest_paths.specs.Cut.{in_set}
-use Rattle.shortest_paths.specs.Residual.{IsFlow, arc_at, number_at, room_of, start_at, end_at}
+use Rattle.residual_graph.specs.Residual.{IsFlow, arc_at, number_at, room_of, start_at, end_at}
 use Rattle.shortest_paths.specs.Search.{depth_at}
-use Rattle.shortest_paths.specs.Push.{Hop, IsPath, IsTight, HasRoom, moved, nodes_on, push_along}
+use Rattle.shortest_paths.specs.Push.{IsPath, IsTight, HasRoom, moved, nodes_on, push_along}
 use Rattle.shortest_paths.specs.Blocking.{IsStep, IsWalk, IsOnWalk, IsSteppedTo, IsWalksFor, IsWay, back_at, head_at, hops_of, hops_from}
 use Rattle.shortest_paths.proofs.PushLemmas.{Avoids, AreApart, HasRoom-set, IsFlow-set, IsWithin-moved}
 
@@ -33,13 +33,13 @@ AllPairs-nil : {X : Type 0} (R : X → X → Type 0) → AllPairs R []
 AllPairs-nil R i j d h g = absurd (omega arith)
 
 -- either way of an arc has its ends at two levels: an arc that comes from a higher level is another one
-pub arcs_apart : (rows : List ArcRow) (s : List Visit) (k : ℕ) (a b : Way) → depth_at s (end_at rows k a) ≡ depth_at s (start_at rows k a) + 1 → depth_at s (end_at rows k b) ≡ depth_at s (start_at rows k b) + 1 → depth_at s (start_at rows k a) < depth_at s (start_at rows k b) → ⊥
+pub arcs_apart : (rows : List ArcRow) (s : List NodeLabel) (k : ℕ) (a b : Way) → depth_at s (end_at rows k a) ≡ depth_at s (start_at rows k a) + 1 → depth_at s (end_at rows k b) ≡ depth_at s (start_at rows k b) + 1 → depth_at s (start_at rows k a) < depth_at s (start_at rows k b) → ⊥
 arcs_apart rows s k Forward Forward e f lt = omega (arith, lt)
 arcs_apart rows s k Backward Backward e f lt = omega (arith, lt)
 arcs_apart rows s k Forward Backward e f lt = omega (arith, e, f)
 arcs_apart rows s k Backward Forward e f lt = omega (arith, e, f)
 
-module _ (rows : List ArcRow) (q x : List ℤ) (s : List Visit) (m : ℤ) where
+module _ (rows : List ArcRow) (q x : List ℤ) (s : List NodeLabel) (m : ℤ) where
   lower-other : (u v : ℕ) → depth_at s u < depth_at s v → v ≢ u
   lower-other u v lt e = (let same : depth_at s v ≡ depth_at s u = ap (depth_at s) e in omega arith)
 
@@ -135,7 +135,7 @@ module _ (rows : List ArcRow) (q x : List ℤ) (s : List Visit) (m : ℤ) where
       (hops-simple dead back t d next walk.1)
 
 -- the flow of an arc from a lower node is written
-pub walk-room : (rows : List ArcRow) (q x : List ℤ) (s : List Visit) (m : ℤ) (k : ℕ) (way : Way) (z : ℤ) → depth_at s (end_at rows k way) ≡ depth_at s (start_at rows k way) + 1 → (dead : List Bool) (back : List ResidualArc) (t d v : ℕ) → depth_at s (start_at rows k way) < depth_at s v → IsWalk rows q x s dead back m t d v → IsWalk rows q (slice_set x k z) s dead back m t d v
+pub walk-room : (rows : List ArcRow) (q x : List ℤ) (s : List NodeLabel) (m : ℤ) (k : ℕ) (way : Way) (z : ℤ) → depth_at s (end_at rows k way) ≡ depth_at s (start_at rows k way) + 1 → (dead : List Bool) (back : List ResidualArc) (t d v : ℕ) → depth_at s (start_at rows k way) < depth_at s v → IsWalk rows q x s dead back m t d v → IsWalk rows q (slice_set x k z) s dead back m t d v
 walk-room rows q x s m k way z higher dead back t zero v lt walk = walk
 walk-room rows q x s m k way z higher dead back t (suc d) v lt walk =
     let here = walk.0 in
@@ -155,7 +155,7 @@ walk-room rows q x s m k way z higher dead back t (suc d) v lt walk =
 
 -- ---- one step of a walk
 
-module _ (rows : List ArcRow) (q x : List ℤ) (s : List Visit) (flow : IsFlow (length s) rows x) where
+module _ (rows : List ArcRow) (q x : List ℤ) (s : List NodeLabel) (flow : IsFlow (length s) rows x) where
   ends_in : (way : Way) (k : ℕ) → k < length rows → (start_at rows k way < length s) × (end_at rows k way < length s)
   ends_in Forward k lt = ((flow.rows k lt).tail_in, (flow.rows k lt).head_in)
   ends_in Backward k lt = ((flow.rows k lt).head_in, (flow.rows k lt).tail_in)
@@ -249,14 +249,14 @@ module _ (rows : List ArcRow) (q x : List ℤ) (s : List Visit) (flow : IsFlow (
   }
 
 -- what a push of m along the way on from a node takes
-pub record IsAlong (rows : List ArcRow) (q x : List ℤ) (m : ℤ) (hops : List Hop) (root t : ℕ) : Type 0 where
+pub record IsAlong (rows : List ArcRow) (q x : List ℤ) (m : ℤ) (hops : List ResidualArc) (root t : ℕ) : Type 0 where
   pub leads : IsPath rows hops root t
   pub tight : IsTight rows q hops
   pub simple : AllPairs ◌≢◌ (nodes_on rows hops root)
   pub apart : AreApart rows hops
   pub room : HasRoom rows x m hops
 
-pub along : (rows : List ArcRow) (q x : List ℤ) (s : List Visit) (m : ℤ) (back : List ResidualArc) (dead : List Bool) (t root : ℕ) → IsOnWalk rows q x s dead back m t root → IsAlong rows q x m (hops_from rows s back t root) root t
+pub along : (rows : List ArcRow) (q x : List ℤ) (s : List NodeLabel) (m : ℤ) (back : List ResidualArc) (dead : List Bool) (t root : ℕ) → IsOnWalk rows q x s dead back m t root → IsAlong rows q x m (hops_from rows s back t root) root t
 along rows q x s m back dead t root on =
     let level = walk-level rows q x s m dead back t on.steps root on.walk in
     let same : on.steps ≡ depth_at s t - depth_at s root = omega (arith, level) in
@@ -271,14 +271,14 @@ along rows q x s m back dead t root on =
 -- ---- one hop of the way on
 
 -- what is known at a node of the way that is lower than the target
-pub record IsHopOn (rows : List ArcRow) (x : List ℤ) (s : List Visit) (w : Walks) (t v : ℕ) : Type 0 where
+pub record IsHopOn (rows : List ArcRow) (x : List ℤ) (s : List NodeLabel) (w : Walks) (t v : ℕ) : Type 0 where
   pub is_arc : (back_at w.back.items v).arc < length rows
   pub way : IsWay rows x s w t (head_at rows w.back.items v)
   pub lower : depth_at s v < depth_at s (head_at rows w.back.items v)
   pub no_higher : depth_at s (head_at rows w.back.items v) ≤ depth_at s t
   pub hops : hops_from rows s w.back.items t v ≡ record { arc = (back_at w.back.items v).arc; way = (back_at w.back.items v).way } ∷ hops_from rows s w.back.items t (head_at rows w.back.items v)
 
-pub hop_on : (rows : List ArcRow) (x : List ℤ) (s : List Visit) (w : Walks) (t v : ℕ) → IsFlow (length s) rows x → depth_at s v < depth_at s t → IsWay rows x s w t v → IsHopOn rows x s w t v
+pub hop_on : (rows : List ArcRow) (x : List ℤ) (s : List NodeLabel) (w : Walks) (t v : ℕ) → IsFlow (length s) rows x → depth_at s v < depth_at s t → IsWay rows x s w t v → IsHopOn rows x s w t v
 hop_on rows x s w t v flow lt way =
     let ne : v ≢ t = λ e. (let same : depth_at s v ≡ depth_at s t = ap (depth_at s) e in omega (arith, lt, same)) in
     let next = next_on rows way.0 x s flow (pos 1) w.back.items w.dead.items t v ne way.1 in
@@ -291,21 +291,21 @@ hop_on rows x s w t v flow lt way =
     }
 
 -- one hop of a push: what is left of the way lies higher
-pub record IsShiftOn (rows : List ArcRow) (x y : List ℤ) (s : List Visit) (w : Walks) (m : ℤ) (t v : ℕ) : Type 0 where
+pub record IsShiftOn (rows : List ArcRow) (x y : List ℤ) (s : List NodeLabel) (w : Walks) (m : ℤ) (t v : ℕ) : Type 0 where
   pub way : IsWay rows y s w t (head_at rows w.back.items v)
   pub flow : IsFlow (length s) rows y
   pub room : HasRoom rows y m (hops_from rows s w.back.items t (head_at rows w.back.items v))
   pub rest : push_along (hops_from rows s w.back.items t (head_at rows w.back.items v)) m y ≡ push_along (hops_from rows s w.back.items t v) m x
 
-pub here_fits : (rows : List ArcRow) (x : List ℤ) (s : List Visit) (w : Walks) (m : ℤ) (t v : ℕ) → IsHopOn rows x s w t v → HasRoom rows x m (hops_from rows s w.back.items t v)
+pub here_fits : (rows : List ArcRow) (x : List ℤ) (s : List NodeLabel) (w : Walks) (m : ℤ) (t v : ℕ) → IsHopOn rows x s w t v → HasRoom rows x m (hops_from rows s w.back.items t v)
     → (m ≤ℤ room_of (arc_at rows (back_at w.back.items v).arc) (number_at x (back_at w.back.items v).arc) (back_at w.back.items v).way) × HasRoom rows x m (hops_from rows s w.back.items t (head_at rows w.back.items v))
-here_fits rows x s w m t v on room = subst (λ (hops : List Hop). HasRoom rows x m hops) on.hops room
+here_fits rows x s w m t v on room = subst (λ (hops : List ResidualArc). HasRoom rows x m hops) on.hops room
 
-pub more_fits : (rows : List ArcRow) (x : List ℤ) (s : List Visit) (w : Walks) (m : ℤ) (t v : ℕ) → IsHopOn rows x s w t v → m ≤ℤ room_of (arc_at rows (back_at w.back.items v).arc) (number_at x (back_at w.back.items v).arc) (back_at w.back.items v).way
+pub more_fits : (rows : List ArcRow) (x : List ℤ) (s : List NodeLabel) (w : Walks) (m : ℤ) (t v : ℕ) → IsHopOn rows x s w t v → m ≤ℤ room_of (arc_at rows (back_at w.back.items v).arc) (number_at x (back_at w.back.items v).arc) (back_at w.back.items v).way
     → HasRoom rows x m (hops_from rows s w.back.items t (head_at rows w.back.items v)) → HasRoom rows x m (hops_from rows s w.back.items t v)
-more_fits rows x s w m t v on here rest = subst (λ (hops : List Hop). HasRoom rows x m hops) (sym on.hops) (here, rest)
+more_fits rows x s w m t v on here rest = subst (λ (hops : List ResidualArc). HasRoom rows x m hops) (sym on.hops) (here, rest)
 
-pub shift_on : (rows : List ArcRow) (x : List ℤ) (s : List Visit) (w : Walks) (m : ℤ) (t v : ℕ) → IsFlow (length s) rows x → pos 1 ≤ℤ m → depth_at s v < depth_at s t → IsWay rows x s w t v → HasRoom rows x m (hops_from rows s w.back.items t v)
+pub shift_on : (rows : List ArcRow) (x : List ℤ) (s : List NodeLabel) (w : Walks) (m : ℤ) (t v : ℕ) → IsFlow (length s) rows x → pos 1 ≤ℤ m → depth_at s v < depth_at s t → IsWay rows x s w t v → HasRoom rows x m (hops_from rows s w.back.items t v)
     → IsShiftOn rows x (slice_set x (back_at w.back.items v).arc (moved (back_at w.back.items v).way (number_at x (back_at w.back.items v).arc) m)) s w m t v
 shift_on rows x s w m t v flow at_least lt way room =
     let b = back_at w.back.items v in
@@ -331,8 +331,8 @@ shift_on rows x s w m t v flow at_least lt way room =
       );
       flow = IsFlow-set flow b.arc z next.step.is_arc (IsWithin-moved (length s) (arc_at rows b.arc) (number_at x b.arc) m b.way (flow.rows b.arc next.step.is_arc) (flow.within b.arc next.step.is_arc) at_least fits.0);
       room = HasRoom-set rows x m b.arc z (hops_from rows s w.back.items t u) avoids fits.1;
-      rest = ap (λ (hops : List Hop). push_along hops m x) (sym on.hops);
+      rest = ap (λ (hops : List ResidualArc). push_along hops m x) (sym on.hops);
     }
 
-pub along_more : (rows : List ArcRow) (q x : List ℤ) (n m : ℤ) (hops : List Hop) (root t : ℕ) → IsAlong rows q x n hops root t → HasRoom rows x m hops → IsAlong rows q x m hops root t
+pub along_more : (rows : List ArcRow) (q x : List ℤ) (n m : ℤ) (hops : List ResidualArc) (root t : ℕ) → IsAlong rows q x n hops root t → HasRoom rows x m hops → IsAlong rows q x m hops root t
 along_more rows q x n m hops root t is room = record { leads = is.leads; tight = is.tight; simple = is.simple; apart = is.apart; room = room }

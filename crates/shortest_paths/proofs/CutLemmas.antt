@@ -1,4 +1,4 @@
--- Sums over sets of nodes, which set has the greatest surplus, and the line of marked nodes by which a set grows.
+-- Sums over sets of nodes, which set has the greatest surplus, and the list of marked nodes by which a set grows.
 use Rattle.std.proofs.Common.{◌≡◌, ℕ, zero, suc, ◌+◌, ◌<◌, ℤ, pos, negsuc, neg_ℤ, ◌-ℤ◌, ◌+ℤ◌, ◌≤ℤ◌, List, [], ◌∷◌, length, map, replicate, refl, sym, ap, subst, ◌∙◌, inl, inr, arith, Bool, true, false, cond, not, ◌&&◌}
 use Rattle.std.specs.Prelude.{◌<ℤ◌, slice_set}
 use Rattle.std.proofs.lemmas.Int.{ints, by_lt_z}
@@ -7,22 +7,24 @@ use Rattle.std.proofs.lemmas.List.Sums.{sum_by-cons, sum_by-set}
 use Rattle.std.specs.List.{count_by}
 use Rattle.std.proofs.lemmas.List.{length-map, length-set, get_or-set_same, get_or-set_other, get_or-replicate, get_or_past}
 use Rattle.dimacs_text.specs.declared.problem.ArcRow.{ArcRow}
-use Rattle.shortest_paths.specs.declared.residual.Way.{Way}
-use Rattle.shortest_paths.specs.declared.residual.Way.TheVariants.{Forward, Backward}
-use Rattle.shortest_paths.specs.Residual.{IsFlow, IsRow, IsWithin, number_at, arc_at, start_of, end_of, start_at, end_at, room_of, IsResidual}
+use Rattle.residual_graph.specs.declared.residual.Way.{Way}
+use Rattle.residual_graph.specs.declared.residual.Way.TheVariants.{Forward, Backward}
+use Rattle.residual_graph.specs.Residual.{IsFlow, IsRow, IsWithin, number_at, arc_at, start_of, end_of, start_at, end_at, room_of, IsResidual}
 use Rattle.network.specs.Flow.{net, outflow, inflow}
-use Rattle.shortest_paths.specs.declared.side.Side.{Side}
-use Rattle.shortest_paths.specs.declared.side.Side.TheVariants.{Ahead, Behind}
+use Rattle.residual_graph.specs.declared.side.Side.{Side}
+use Rattle.residual_graph.specs.declared.side.Side.TheVariants.{Ahead, Behind}
 use Rattle.shortest_paths.specs.Push.{IsExcess, at_node, positive_part, left}
 use Rattle.shortest_paths.proofs.PushLemmas.{at_same, at_other}
-use Rattle.shortest_paths.specs.declared.visit.Mark.{Mark}
-use Rattle.shortest_paths.specs.declared.visit.Mark.TheVariants.{Unreached, Open, Settled}
-use Rattle.shortest_paths.specs.declared.visit.Visit.{Visit}
-use Rattle.shortest_paths.specs.Search.{visit_at, mark_at, is_unsettled, is_not_settled, IsReached, AllRelaxed, IsFromExcess, IsExhausted}
+use Rattle.shortest_paths.specs.declared.node_label.State.{State}
+use Rattle.shortest_paths.specs.declared.node_label.State.TheVariants.{Unreached, Open, Settled}
+use Rattle.shortest_paths.specs.declared.node_label.NodeLabel.{NodeLabel}
+use Rattle.shortest_paths.specs.Search.{node_label_at, state_at, is_unsettled, is_not_settled, IsReached, AllRelaxed, IsFromExcess, IsExhausted}
 use Rattle.shortest_paths.proofs.SearchLemmas.{in_range}
-use Rattle.shortest_paths.specs.Cut.{in_set, sum_in, sum_leaving, sum_entering, surplus, shortfall, IsLeastSet, IsRoot, amount, near_at, far_at, IsClosed, HoldsRoots, IsSide, IsParted, IsChosenSet, node_at, IsListed, IsLineOf, IsGrown, lack}
-use Rattle.shortest_paths.specs.Side.{seen, turned_row}
-use Rattle.shortest_paths.proofs.TurnLemmas.{arc_at-turned, start_at-turned, end_at-turned, residual-turned, residual-unturned, outflow-turned, inflow-turned, number_at-neg, left-neg}
+use Rattle.shortest_paths.specs.Cut.{in_set, sum_in, sum_leaving, sum_entering, surplus, shortfall, IsLeastSet, amount, near_at, far_at, IsClosed, HoldsRoots, IsSide, IsParted, IsChosenSet, IsListOf, IsGrown, lack}
+use Rattle.residual_graph.specs.Side.{IsRoot, seen, turned_row}
+use Rattle.shortest_paths.specs.NodeLists.{node_at, IsListed}
+use Rattle.residual_graph.proofs.TurnedRows.{arc_at-turned, start_at-turned, end_at-turned, residual-turned, residual-unturned}
+use Rattle.shortest_paths.proofs.TurnLemmas.{outflow-turned, inflow-turned, number_at-neg, left-neg}
 
 pub sum_in-same : (set : List Bool) (f g : ℕ → ℤ) → ((v : ℕ) → f v ≡ g v) → sum_in set f ≡ sum_in set g
 sum_in-same [] f g same = refl
@@ -348,36 +350,36 @@ parted_no_deficit nodes arcs x e flow sized no_lack = record {
     ]
 
 -- whether a node is settled
-abbrev is_settled : Visit → Bool
+abbrev is_settled : NodeLabel → Bool
 is_settled e = not (is_unsettled e)
 
-in_map : (s : List Visit) (v : ℕ) → in_set (map is_settled s) v ≡ is_settled (visit_at s v)
+in_map : (s : List NodeLabel) (v : ℕ) → in_set (map is_settled s) v ≡ is_settled (node_label_at s v)
 in_map [] v = refl
 in_map (e ∷ s) zero = refl
 in_map (e ∷ s) (suc v) = in_map s v
 
 -- the settled nodes at the end of a search from the nodes in excess
-module _ (arcs : List ArcRow) (x p e : List ℤ) (s : List Visit)
+module _ (arcs : List ArcRow) (x p e : List ℤ) (s : List NodeLabel)
     (all : AllRelaxed arcs x p s) (from : IsFromExcess e s) (done : IsExhausted e s)
   where
-    in_settled : (v : ℕ) → in_set (map is_settled s) v ≡ not (is_not_settled (mark_at s v))
+    in_settled : (v : ℕ) → in_set (map is_settled s) v ≡ not (is_not_settled (state_at s v))
     in_settled v = in_map s v
 
-    by_mark : (m : Mark) → not (is_not_settled m) ≡ true → m ≡ Settled
+    by_mark : (m : State) → not (is_not_settled m) ≡ true → m ≡ Settled
     by_mark Unreached h = absurd (false≢true h)
     by_mark Open h = absurd (false≢true h)
     by_mark Settled h = refl
 
-    settled_in : (v : ℕ) → in_set (map is_settled s) v ≡ true → mark_at s v ≡ Settled
-    settled_in v h = by_mark (mark_at s v) (sym (in_settled v) ∙ h)
+    settled_in : (v : ℕ) → in_set (map is_settled s) v ≡ true → state_at s v ≡ Settled
+    settled_in v h = by_mark (state_at s v) (sym (in_settled v) ∙ h)
 
-    reached_mark : (v : ℕ) (m : Mark) → mark_at s v ≡ m → IsReached s v → not (is_not_settled m) ≡ true
+    reached_mark : (v : ℕ) (m : State) → state_at s v ≡ m → IsReached s v → not (is_not_settled m) ≡ true
     reached_mark v Unreached h reached = absurd (reached h)
     reached_mark v Open h reached = absurd (done.none_open v (in_range s v reached) h)
     reached_mark v Settled h reached = refl
 
     reached_in : (v : ℕ) → IsReached s v → in_set (map is_settled s) v ≡ true
-    reached_in v reached = in_settled v ∙ reached_mark v (mark_at s v) refl reached
+    reached_in v reached = in_settled v ∙ reached_mark v (state_at s v) refl reached
 
     pub parted_exhausted : IsParted arcs x e
     parted_exhausted = record {
@@ -387,7 +389,7 @@ module _ (arcs : List ArcRow) (x p e : List ℤ) (s : List Visit)
       no_deficit = λ v h. done.no_deficit v (settled_in v h);
     }
 
--- ---- the line of marked nodes
+-- ---- the list of marked nodes
 
 -- one node more in a set is one less outside
 count_by-marked : (set : List Bool) (v : ℕ) → v < length set → in_set set v ≡ false → count_by not (slice_set set v true) + 1 ≡ count_by not set
@@ -395,12 +397,12 @@ count_by-marked set v lt out =
     let marks : Bool → ℕ = λ b. cond (not b) 1 0 in
     omega (arith, ap marks out, sum_by-set marks set v true false lt)
 
-module _ (set : List Bool) (line : List ℕ) (len v : ℕ) (is : IsLineOf set line len) (node : v < length set) (out : in_set set v ≡ false) where
-  room_for_one : len < length line
+module _ (set : List Bool) (list : List ℕ) (len v : ℕ) (is : IsListOf set list len) (node : v < length set) (out : in_set set v ≡ false) where
+  room_for_one : len < length list
   room_for_one = omega (arith, is.room, is.one_a_node, count_by-marked set v node out)
 
-  line_kept : (j : ℕ) → j < len → node_at (slice_set line len v) j ≡ node_at line j
-  line_kept j lt = get_or-set_other line len j v 0 (λ e. omega (arith, lt))
+  line_kept : (j : ℕ) → j < len → node_at (slice_set list len v) j ≡ node_at list j
+  line_kept j lt = get_or-set_other list len j v 0 (λ e. omega (arith, lt))
 
   set_kept : (w : ℕ) → in_set set w ≡ true → in_set (slice_set set v true) w ≡ true
   set_kept w h = elim (cases_eq w v) [
@@ -408,32 +410,32 @@ module _ (set : List Bool) (line : List ℕ) (len v : ℕ) (is : IsLineOf set li
     | inr other ↦ get_or-set_other set v w true false other ∙ h
   ]
 
-  put_inside : (j : ℕ) → j < len + 1 → in_set (slice_set set v true) (node_at (slice_set line len v) j) ≡ true
+  put_inside : (j : ℕ) → j < len + 1 → in_set (slice_set set v true) (node_at (slice_set list len v) j) ≡ true
   put_inside j lt = elim (cases_eq j len) [
-    | inl last ↦ subst (λ (q : ℕ). in_set (slice_set set v true) q ≡ true) (sym (ap (node_at (slice_set line len v)) last ∙ get_or-set_same line len v 0 room_for_one)) (get_or-set_same set v true false node)
-    | inr other ↦ (let lt' : j < len = omega (arith, other) in subst (λ (q : ℕ). in_set (slice_set set v true) q ≡ true) (sym (line_kept j lt')) (set_kept (node_at line j) (is.inside j lt')))
+    | inl last ↦ subst (λ (q : ℕ). in_set (slice_set set v true) q ≡ true) (sym (ap (node_at (slice_set list len v)) last ∙ get_or-set_same list len v 0 room_for_one)) (get_or-set_same set v true false node)
+    | inr other ↦ (let lt' : j < len = omega (arith, other) in subst (λ (q : ℕ). in_set (slice_set set v true) q ≡ true) (sym (line_kept j lt')) (set_kept (node_at list j) (is.inside j lt')))
   ]
 
-  put_listed : (w : ℕ) → in_set (slice_set set v true) w ≡ true → IsListed (slice_set line len v) (len + 1) w
+  put_listed : (w : ℕ) → in_set (slice_set set v true) w ≡ true → IsListed (slice_set list len v) (len + 1) w
   put_listed w h = elim (cases_eq w v) [
-    | inl same ↦ record { place = len; in_line = omega arith; is_there = get_or-set_same line len v 0 room_for_one ∙ sym same }
+    | inl same ↦ record { place = len; in_list = omega arith; is_there = get_or-set_same list len v 0 room_for_one ∙ sym same }
     | inr other ↦ (let before = is.listed w (sym (get_or-set_other set v w true false other) ∙ h) in
-        record { place = before.place; in_line = omega (arith, before.in_line); is_there = line_kept before.place before.in_line ∙ before.is_there })
+        record { place = before.place; in_list = omega (arith, before.in_list); is_there = line_kept before.place before.in_list ∙ before.is_there })
   ]
 
   -- a node outside is marked and put at the end
-  pub IsLineOf-put : IsLineOf (slice_set set v true) (slice_set line len v) (len + 1)
-  IsLineOf-put = record {
-    one_a_node = length-set line len v ∙ is.one_a_node ∙ sym (length-set set v true);
+  pub IsListOf-put : IsListOf (slice_set set v true) (slice_set list len v) (len + 1)
+  IsListOf-put = record {
+    one_a_node = length-set list len v ∙ is.one_a_node ∙ sym (length-set set v true);
     inside = put_inside;
     listed = put_listed;
     room = omega (arith, is.room, count_by-marked set v node out, length-set set v true);
   }
 
-pub IsGrown-refl : (side : Side) (arcs : List ArcRow) (x : List ℤ) (set : List Bool) (line : List ℕ) (len : ℕ) → IsGrown side arcs x set line len set line len
-IsGrown-refl side arcs x set line len = record { kept = λ v h. h; least = λ other closed holds. holds; no_shorter = omega arith; same_before = λ j lt. refl }
+pub IsGrown-refl : (side : Side) (arcs : List ArcRow) (x : List ℤ) (set : List Bool) (list : List ℕ) (len : ℕ) → IsGrown side arcs x set list len set list len
+IsGrown-refl side arcs x set list len = record { kept = λ v h. h; least = λ other closed holds. holds; no_shorter = omega arith; same_before = λ j lt. refl }
 
-pub IsGrown-trans : {side : Side} {arcs : List ArcRow} {x : List ℤ} {set mid new : List Bool} → {line line' line'' : List ℕ} → {len len' len'' : ℕ} → IsGrown side arcs x set line len mid line' len' → IsGrown side arcs x mid line' len' new line'' len'' → IsGrown side arcs x set line len new line'' len''
+pub IsGrown-trans : {side : Side} {arcs : List ArcRow} {x : List ℤ} {set mid new : List Bool} → {list list' list'' : List ℕ} → {len len' len'' : ℕ} → IsGrown side arcs x set list len mid list' len' → IsGrown side arcs x mid list' len' new list'' len'' → IsGrown side arcs x set list len new list'' len''
 IsGrown-trans one two = record {
   kept = λ v h. two.kept v (one.kept v h);
   least = λ other closed holds. two.least other closed (one.least other closed holds);
@@ -457,14 +459,14 @@ far_seen Ahead arcs k way = refl
 far_seen Behind arcs k way = end_at-turned arcs k way
 
 -- the node to which a residual arc leads on is marked
-pub IsGrown-put : (side : Side) (arcs : List ArcRow) (x : List ℤ) (set : List Bool) (line : List ℕ) (len v k : ℕ) (way : Way) → IsLineOf set line len → IsResidual arcs x k way → in_set set (near_at side arcs k way) ≡ true
-    → far_at side arcs k way ≡ v → v < length set → in_set set v ≡ false → IsGrown side arcs x set line len (slice_set set v true) (slice_set line len v) (len + 1)
-IsGrown-put side arcs x set line len v k way is residual near far node out = record {
-  kept = λ w h. set_kept set line len v is node out w h;
+pub IsGrown-put : (side : Side) (arcs : List ArcRow) (x : List ℤ) (set : List Bool) (list : List ℕ) (len v k : ℕ) (way : Way) → IsListOf set list len → IsResidual arcs x k way → in_set set (near_at side arcs k way) ≡ true
+    → far_at side arcs k way ≡ v → v < length set → in_set set v ≡ false → IsGrown side arcs x set list len (slice_set set v true) (slice_set list len v) (len + 1)
+IsGrown-put side arcs x set list len v k way is residual near far node out = record {
+  kept = λ w h. set_kept set list len v is node out w h;
   least = λ other closed holds w h. elim (cases_eq w v) [
     | inl same ↦ subst (λ (q : ℕ). in_set other q ≡ true) (far ∙ sym same) (closed k way residual (holds (near_at side arcs k way) near))
     | inr ne ↦ holds w (sym (get_or-set_other set v w true false ne) ∙ h)
   ];
   no_shorter = omega arith;
-  same_before = λ j lt. line_kept set line len v is node out j lt;
+  same_before = λ j lt. line_kept set list len v is node out j lt;
 }

@@ -4,22 +4,22 @@ use Rattle.std.specs.Prelude.{◌<ℤ◌}
 use Rattle.std.proofs.lemmas.Int.{ints}
 use Rattle.std.proofs.lemmas.Bool.{cases_lt}
 use Rattle.dimacs_text.specs.declared.problem.ArcRow.{ArcRow}
-use Rattle.shortest_paths.specs.declared.visit.Mark.TheVariants.{Settled}
-use Rattle.shortest_paths.specs.declared.visit.Visit.{Visit}
-use Rattle.shortest_paths.specs.Residual.{number_at}
-use Rattle.shortest_paths.specs.Search.{depth_at, mark_at}
+use Rattle.shortest_paths.specs.declared.node_label.State.TheVariants.{Settled}
+use Rattle.shortest_paths.specs.declared.node_label.NodeLabel.{NodeLabel}
+use Rattle.residual_graph.specs.Residual.{number_at}
+use Rattle.shortest_paths.specs.Search.{depth_at, state_at}
 use Rattle.shortest_paths.specs.Push.{ArePaths, CanPush, HasRoom, path_to, root_of, root_to}
 use Rattle.shortest_paths.specs.Blocking.{AreAlive, IsAdmissible}
 use Rattle.shortest_paths.proofs.PushLemmas.{arc_to, way_to, before, here_room, root_step}
 
 -- no node is dead yet, and the walk stands on the search's own path, along which one unit fits
-pub record IsFirstWalk (rows : List ArcRow) (x e : List ℤ) (s : List Visit) (dead : List Bool) (v : ℕ) : Type 0 where
+pub record IsFirstWalk (rows : List ArcRow) (x e : List ℤ) (s : List NodeLabel) (dead : List Bool) (v : ℕ) : Type 0 where
   pub all_alive : AreAlive s dead
-  pub settled : mark_at s v ≡ Settled
+  pub settled : state_at s v ≡ Settled
   pub room : HasRoom rows x (pos 1) (path_to rows s v)
   pub in_excess : pos 0 <ℤ number_at e (root_to rows s v)
 
-pub first_begins : (rows : List ArcRow) (x e : List ℤ) (s : List Visit) (dead : List Bool) (t : ℕ) → CanPush rows x e s t → AreAlive s dead → IsFirstWalk rows x e s dead t
+pub first_begins : (rows : List ArcRow) (x e : List ℤ) (s : List NodeLabel) (dead : List Bool) (t : ℕ) → CanPush rows x e s t → AreAlive s dead → IsFirstWalk rows x e s dead t
 first_begins rows x e s dead t can alive = record {
   all_alive = alive;
   settled = can.found.settled;
@@ -28,11 +28,11 @@ first_begins rows x e s dead t can alive = record {
 }
 
 -- as long as the walk is not at a node in excess, the search's own arc is the next step
-pub record IsOwnNext (rows : List ArcRow) (q x e : List ℤ) (s : List Visit) (dead : List Bool) (v : ℕ) : Type 0 where
+pub record IsOwnNext (rows : List ArcRow) (q x e : List ℤ) (s : List NodeLabel) (dead : List Bool) (v : ℕ) : Type 0 where
   pub admissible : IsAdmissible rows q x s dead v (arc_to s v) (way_to s v)
   pub next : IsFirstWalk rows x e s dead (before rows s v)
 
-pub own_next : (rows : List ArcRow) (q x e : List ℤ) (s : List Visit) (dead : List Bool) (v : ℕ) → ArePaths rows q s → IsFirstWalk rows x e s dead v → (pos 0 <ℤ number_at e v → ⊥) → IsOwnNext rows q x e s dead v
+pub own_next : (rows : List ArcRow) (q x e : List ℤ) (s : List NodeLabel) (dead : List Bool) (v : ℕ) → ArePaths rows q s → IsFirstWalk rows x e s dead v → (pos 0 <ℤ number_at e v → ⊥) → IsOwnNext rows q x e s dead v
 own_next rows q x e s dead v paths is none = elim (cases_lt 0 (depth_at s v)) [
   | inl deep ↦
       (let came = paths.paths v is.settled deep in

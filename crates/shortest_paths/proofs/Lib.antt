@@ -8,12 +8,8 @@ pub mod CutLemmas
 pub mod HeapLemmas
 pub mod QueueLemmas
 pub mod NodeLemmas
-pub mod WalkLemmas
 pub mod LabelLemmas
-pub mod StarLemmas
-pub mod TrailLemmas
+pub mod SettledOrderLemmas
 pub mod TouchedLemmas
 pub mod ApartLemmas
-pub mod EndLemmas
-pub mod SideLemmas
 pub mod TurnLemmas

@@ -11,19 +11,7 @@ use Rattle.shortest_paths.specs.Push.{at_node}
 use Rattle.shortest_paths.specs.Cut.{in_set, sum_in}
 use Rattle.shortest_paths.specs.Nodes.{table, held}
 use Rattle.shortest_paths.proofs.PushLemmas.{at_other}
-
-abbrev pub IsNodeOf : ℕ → ℕ → Type 0
-IsNodeOf n v = (1 ≤ v) × (v ≤ n)
-
-abbrev pub AllEndsIn : ℕ → List ArcRow → Type 0
-AllEndsIn n arcs = AllByRecursion (λ arc. ((1 ≤ arc.tail) × (arc.tail ≤ n)) × ((1 ≤ arc.head) × (arc.head ≤ n))) arcs
-
-pub is_node_or_not : (n v : ℕ) → IsNodeOf n v ⊎ (IsNodeOf n v → ⊥)
-is_node_or_not n zero = inr (λ h. omega (arith, h.0))
-is_node_or_not n (suc v) = elim (cases_lt v n) [
-  | inl lt ↦ inl (omega arith, omega arith)
-  | inr past ↦ inr (λ h. omega (arith, h.1))
-]
+use Rattle.residual_graph.proofs.NodeNumbers.{AllEndsIn, IsNodeOf, is_node_or_not}
 
 pub length-table : {A : Type 0} (n : ℕ) (f : ℕ → A) → length (table n f) ≡ n
 length-table zero f = refl

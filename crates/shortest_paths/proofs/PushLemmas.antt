@@ -7,37 +7,38 @@ use Rattle.std.proofs.lemmas.Bool.{cases_eq, eq-eqb, ne_eqb}
 use Rattle.std.proofs.lemmas.List.{get_or-set_same, get_or-set_other, length-set}
 use Rattle.std.proofs.lemmas.List.Elements.{All-nil, All-cons, All-head, All-tail}
 use Rattle.dimacs_text.specs.declared.problem.ArcRow.{ArcRow}
-use Rattle.shortest_paths.specs.declared.residual.Way.{Way}
-use Rattle.shortest_paths.specs.declared.residual.Way.TheVariants.{Forward, Backward}
-use Rattle.shortest_paths.specs.declared.visit.Visit.{Visit}
-use Rattle.shortest_paths.specs.Residual.{IsRow, IsWithin, IsFlow, NoneBelow, number_at, arc_at, room_of, start_at, end_at, cost_at}
-use Rattle.shortest_paths.specs.declared.visit.Mark.TheVariants.{Settled}
-use Rattle.shortest_paths.specs.Search.{visit_at, mark_at, depth_at}
+use Rattle.residual_graph.specs.declared.residual.Way.{Way}
+use Rattle.residual_graph.specs.declared.residual.Way.TheVariants.{Forward, Backward}
+use Rattle.shortest_paths.specs.declared.node_label.NodeLabel.{NodeLabel}
+use Rattle.residual_graph.specs.Residual.{IsRow, IsWithin, IsFlow, NoneBelow, number_at, arc_at, room_of, start_at, end_at, cost_at}
+use Rattle.shortest_paths.specs.declared.node_label.State.TheVariants.{Settled}
+use Rattle.shortest_paths.specs.Search.{node_label_at, state_at, depth_at}
 use Rattle.network.specs.Flow.{net, outflow, inflow}
-use Rattle.shortest_paths.specs.Push.{Hop, IsPath, moved, IsShift, path_of, root_of, path_to, HavePaths, HasRoom, push_along, IsTight, at_node, IsTransfer}
+use Rattle.shortest_paths.specs.Push.{IsPath, moved, IsShift, path_of, root_of, path_to, HavePaths, HasRoom, push_along, IsTight, at_node, IsTransfer}
+use Rattle.residual_graph.specs.declared.residual.ResidualArc.{ResidualArc}
 
 -- the last arc of the path to v, and the node before it
-abbrev pub arc_to : List Visit → ℕ → ℕ
-arc_to s v = (visit_at s v).arc
+abbrev pub arc_to : List NodeLabel → ℕ → ℕ
+arc_to s v = (node_label_at s v).arc
 
-abbrev pub way_to : List Visit → ℕ → Way
-way_to s v = (visit_at s v).way
+abbrev pub way_to : List NodeLabel → ℕ → Way
+way_to s v = (node_label_at s v).way
 
-abbrev pub before : List ArcRow → List Visit → ℕ → ℕ
+abbrev pub before : List ArcRow → List NodeLabel → ℕ → ℕ
 before arcs s v = start_at arcs (arc_to s v) (way_to s v)
 
-pub path_step : (arcs : List ArcRow) (s : List Visit) (v : ℕ) → depth_at s v ≡ depth_at s (before arcs s v) + 1 → path_to arcs s v ≡ record { arc = arc_to s v; way = way_to s v } ∷ path_to arcs s (before arcs s v)
+pub path_step : (arcs : List ArcRow) (s : List NodeLabel) (v : ℕ) → depth_at s v ≡ depth_at s (before arcs s v) + 1 → path_to arcs s v ≡ record { arc = arc_to s v; way = way_to s v } ∷ path_to arcs s (before arcs s v)
 path_step arcs s v deeper = ap (λ (d : ℕ). path_of arcs s d v) (deeper ∙ add-one (depth_at s (before arcs s v)))
 
-pub root_step : (arcs : List ArcRow) (s : List Visit) (v : ℕ) → depth_at s v ≡ depth_at s (before arcs s v) + 1 → root_of arcs s (depth_at s v) v ≡ root_of arcs s (depth_at s (before arcs s v)) (before arcs s v)
+pub root_step : (arcs : List ArcRow) (s : List NodeLabel) (v : ℕ) → depth_at s v ≡ depth_at s (before arcs s v) + 1 → root_of arcs s (depth_at s v) v ≡ root_of arcs s (depth_at s (before arcs s v)) (before arcs s v)
 root_step arcs s v deeper = ap (λ (d : ℕ). root_of arcs s d v) (deeper ∙ add-one (depth_at s (before arcs s v)))
 
 -- no hop is along arc k
-abbrev pub Avoids : ℕ → List Hop → Type 0
+abbrev pub Avoids : ℕ → List ResidualArc → Type 0
 Avoids k [] = Unit {0}
 Avoids k (h ∷ hops) = (h.arc ≡ k → ⊥) × Avoids k hops
 
-pub HasRoom-set : (arcs : List ArcRow) (x : List ℤ) (m : ℤ) (k : ℕ) (z : ℤ) (hops : List Hop) → Avoids k hops → HasRoom arcs x m hops → HasRoom arcs (slice_set x k z) m hops
+pub HasRoom-set : (arcs : List ArcRow) (x : List ℤ) (m : ℤ) (k : ℕ) (z : ℤ) (hops : List ResidualArc) → Avoids k hops → HasRoom arcs x m hops → HasRoom arcs (slice_set x k z) m hops
 HasRoom-set arcs x m k z [] apart room = tt
 HasRoom-set arcs x m k z (h ∷ hops) apart room =
     (rw (get_or-set_other x k h.arc z (pos 0) apart.0) room.0, HasRoom-set arcs x m k z hops apart.1 room.1)
@@ -65,50 +66,50 @@ IsFlow-set {nodes} {arcs} {x} flow k z lt within = record {
   ]);
 }
 
-pub here_room : (arcs : List ArcRow) (x : List ℤ) (s : List Visit) (v : ℕ) (m : ℤ) → depth_at s v ≡ depth_at s (before arcs s v) + 1 → HasRoom arcs x m (path_to arcs s v) → (m ≤ℤ room_of (arc_at arcs (arc_to s v)) (number_at x (arc_to s v)) (way_to s v)) × HasRoom arcs x m (path_to arcs s (before arcs s v))
-here_room arcs x s v m deeper room = subst (λ (hops : List Hop). HasRoom arcs x m hops) (path_step arcs s v deeper) room
+pub here_room : (arcs : List ArcRow) (x : List ℤ) (s : List NodeLabel) (v : ℕ) (m : ℤ) → depth_at s v ≡ depth_at s (before arcs s v) + 1 → HasRoom arcs x m (path_to arcs s v) → (m ≤ℤ room_of (arc_at arcs (arc_to s v)) (number_at x (arc_to s v)) (way_to s v)) × HasRoom arcs x m (path_to arcs s (before arcs s v))
+here_room arcs x s v m deeper room = subst (λ (hops : List ResidualArc). HasRoom arcs x m hops) (path_step arcs s v deeper) room
 
 -- the hops are along arcs that are there, no two along one arc
-abbrev pub AreApart : List ArcRow → List Hop → Type 0
+abbrev pub AreApart : List ArcRow → List ResidualArc → Type 0
 AreApart arcs [] = Unit {0}
 AreApart arcs (h ∷ hops) = (h.arc < length arcs) × Avoids h.arc hops × AreApart arcs hops
 
-module _ (arcs : List ArcRow) (s : List Visit) (paths : HavePaths arcs s) where
-  pub root_reached : (d v : ℕ) → mark_at s v ≡ Settled → depth_at s v ≡ d → (mark_at s (root_of arcs s d v) ≡ Settled) × (depth_at s (root_of arcs s d v) ≡ 0)
+module _ (arcs : List ArcRow) (s : List NodeLabel) (paths : HavePaths arcs s) where
+  pub root_reached : (d v : ℕ) → state_at s v ≡ Settled → depth_at s v ≡ d → (state_at s (root_of arcs s d v) ≡ Settled) × (depth_at s (root_of arcs s d v) ≡ 0)
   root_reached zero v reached e = (reached, e)
   root_reached (suc d) v reached e =
       let came = paths v reached (omega arith) in
       root_reached d (before arcs s v) came.before (omega (arith, came.deeper))
 
 -- what a push leaves of the arcs that it does not take
-pub push_elsewhere : (hops : List Hop) (m : ℤ) (x : List ℤ) (k : ℕ) → Avoids k hops → number_at (push_along hops m x) k ≡ number_at x k
+pub push_elsewhere : (hops : List ResidualArc) (m : ℤ) (x : List ℤ) (k : ℕ) → Avoids k hops → number_at (push_along hops m x) k ≡ number_at x k
 push_elsewhere [] m x k apart = refl
 push_elsewhere (h ∷ hops) m x k apart =
     push_elsewhere hops m (slice_set x h.arc (moved h.way (number_at x h.arc) m)) k apart.1 ∙ get_or-set_other x h.arc k (moved h.way (number_at x h.arc) m) (pos 0) (λ e. apart.0 (sym e))
 
-pub length-push : (hops : List Hop) (m : ℤ) (x : List ℤ) → length (push_along hops m x) ≡ length x
+pub length-push : (hops : List ResidualArc) (m : ℤ) (x : List ℤ) → length (push_along hops m x) ≡ length x
 length-push [] m x = refl
 length-push (h ∷ hops) m x = length-push hops m (slice_set x h.arc (moved h.way (number_at x h.arc) m)) ∙ length-set x h.arc (moved h.way (number_at x h.arc) m)
 
-Avoids-from_all : (k : ℕ) (hops : List Hop) → All (λ h. h.arc ≢ k) hops → Avoids k hops
+Avoids-from_all : (k : ℕ) (hops : List ResidualArc) → All (λ h. h.arc ≢ k) hops → Avoids k hops
 Avoids-from_all k [] all = tt
 Avoids-from_all k (h ∷ hops) all = (All-head (λ g. g.arc ≢ k) h hops all, Avoids-from_all k hops (All-tail (λ g. g.arc ≢ k) h hops all))
 
-unmoved : (hops : List Hop) (m : ℤ) (x y : List ℤ) (k : ℕ) (z : ℤ) → Avoids k hops → All (λ h. number_at y h.arc ≡ moved h.way (number_at (slice_set x k z) h.arc) m) hops → All (λ h. number_at y h.arc ≡ moved h.way (number_at x h.arc) m) hops
+unmoved : (hops : List ResidualArc) (m : ℤ) (x y : List ℤ) (k : ℕ) (z : ℤ) → Avoids k hops → All (λ h. number_at y h.arc ≡ moved h.way (number_at (slice_set x k z) h.arc) m) hops → All (λ h. number_at y h.arc ≡ moved h.way (number_at x h.arc) m) hops
 unmoved [] m x y k z apart all = All-nil (λ h. number_at y h.arc ≡ moved h.way (number_at x h.arc) m)
 unmoved (h ∷ hops) m x y k z apart all =
     All-cons (λ g. number_at y g.arc ≡ moved g.way (number_at x g.arc) m) h hops
     (All-head (λ g. number_at y g.arc ≡ moved g.way (number_at (slice_set x k z) g.arc) m) h hops all ∙ ap (λ (n : ℤ). moved h.way n m) (get_or-set_other x k h.arc z (pos 0) apart.0))
     (unmoved hops m x y k z apart.1 (All-tail (λ g. number_at y g.arc ≡ moved g.way (number_at (slice_set x k z) g.arc) m) h hops all))
 
-pub IsShift-along : (arcs : List ArcRow) (hops : List Hop) (m : ℤ) (x : List ℤ) → length x ≡ length arcs → AreApart arcs hops → IsShift hops m x (push_along hops m x)
+pub IsShift-along : (arcs : List ArcRow) (hops : List ResidualArc) (m : ℤ) (x : List ℤ) → length x ≡ length arcs → AreApart arcs hops → IsShift hops m x (push_along hops m x)
 IsShift-along arcs hops m x sized apart = record {
   same_length = length-push hops m x;
   on_path = moved_on hops x sized apart;
   elsewhere = λ k all. push_elsewhere hops m x k (Avoids-from_all k hops all);
 }
   where
-    moved_on : (hops : List Hop) (x : List ℤ) → length x ≡ length arcs → AreApart arcs hops → All (λ h. number_at (push_along hops m x) h.arc ≡ moved h.way (number_at x h.arc) m) hops
+    moved_on : (hops : List ResidualArc) (x : List ℤ) → length x ≡ length arcs → AreApart arcs hops → All (λ h. number_at (push_along hops m x) h.arc ≡ moved h.way (number_at x h.arc) m) hops
     moved_on [] x sized apart = All-nil (λ h. number_at x h.arc ≡ moved h.way (number_at x h.arc) m)
     moved_on (h ∷ hops) x sized apart =
         let z = moved h.way (number_at x h.arc) m in
@@ -116,7 +117,7 @@ IsShift-along arcs hops m x sized apart = record {
         (push_elsewhere hops m (slice_set x h.arc z) h.arc apart.1 ∙ get_or-set_same x h.arc z (pos 0) (omega (arith, sized, apart.0)))
         (unmoved hops m x (push_along hops m (slice_set x h.arc z)) h.arc z apart.1 (moved_on hops (slice_set x h.arc z) (length-set x h.arc z ∙ sized) apart.2))
 
-pub IsFlow-along : (nodes : ℕ) (arcs : List ArcRow) (hops : List Hop) (m : ℤ) (x : List ℤ) → IsFlow nodes arcs x → pos 1 ≤ℤ m → AreApart arcs hops → HasRoom arcs x m hops → IsFlow nodes arcs (push_along hops m x)
+pub IsFlow-along : (nodes : ℕ) (arcs : List ArcRow) (hops : List ResidualArc) (m : ℤ) (x : List ℤ) → IsFlow nodes arcs x → pos 1 ≤ℤ m → AreApart arcs hops → HasRoom arcs x m hops → IsFlow nodes arcs (push_along hops m x)
 IsFlow-along nodes arcs [] m x flow at_least apart room = flow
 IsFlow-along nodes arcs (h ∷ hops) m x flow at_least apart room =
     let z = moved h.way (number_at x h.arc) m in
@@ -136,7 +137,7 @@ NoneBelow-set arcs x q k way z none tight j b residual = elim (cases_eq j k) [
   | inr ne ↦ none j b (record { is_arc = residual.is_arc; has_room = rw (get_or-set_other x k j z (pos 0) ne) at residual.has_room })
 ]
 
-pub NoneBelow-along : (arcs : List ArcRow) (q : List ℤ) (hops : List Hop) (m : ℤ) (x : List ℤ) → NoneBelow arcs x q → IsTight arcs q hops → NoneBelow arcs (push_along hops m x) q
+pub NoneBelow-along : (arcs : List ArcRow) (q : List ℤ) (hops : List ResidualArc) (m : ℤ) (x : List ℤ) → NoneBelow arcs x q → IsTight arcs q hops → NoneBelow arcs (push_along hops m x) q
 NoneBelow-along arcs q [] m x none tight = none
 NoneBelow-along arcs q (h ∷ hops) m x none tight =
     NoneBelow-along arcs q hops m (slice_set x h.arc (moved h.way (number_at x h.arc) m)) (NoneBelow-set arcs x q h.arc h.way (moved h.way (number_at x h.arc) m) none tight.0) tight.1
@@ -174,7 +175,7 @@ net-moved arcs x k Backward m v lt sized =
     omega (arith, ints, flow_out-set arcs x k (number_at x k -ℤ m) v lt sized, flow_in-set arcs x k (number_at x k -ℤ m) v lt sized, at_node-sub (arc_at arcs k).tail v (number_at x k) m, at_node-sub (arc_at arcs k).head v (number_at x k) m)
 
 -- a push changes the net flow at the two ends of its path alone
-pub net-along : (arcs : List ArcRow) (hops : List Hop) (m : ℤ) (x : List ℤ) (u w v : ℕ) → IsPath arcs hops u w → AreApart arcs hops → length x ≡ length arcs → net arcs (push_along hops m x) v ≡ (net arcs x v +ℤ at_node u m v) -ℤ at_node w m v
+pub net-along : (arcs : List ArcRow) (hops : List ResidualArc) (m : ℤ) (x : List ℤ) (u w v : ℕ) → IsPath arcs hops u w → AreApart arcs hops → length x ≡ length arcs → net arcs (push_along hops m x) v ≡ (net arcs x v +ℤ at_node u m v) -ℤ at_node w m v
 net-along arcs [] m x u w v path apart sized =
     let same : at_node u m v ≡ at_node w m v = ap (λ (n : ℕ). at_node n m v) path in
     omega (arith, ints, same)

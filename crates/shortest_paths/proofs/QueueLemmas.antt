@@ -7,76 +7,76 @@ use Rattle.std.proofs.lemmas.Bool.{cases_lt, cases_eq}
 use Rattle.std.proofs.lemmas.List.{get_or-set_same, get_or-set_other, length-set}
 use Rattle.std.proofs.lemmas.List.Sums.{sum_by-cons, sum_by-set, count_by-le-length}
 use Rattle.shortest_paths.specs.declared.queue.Queue.{Queue}
-use Rattle.shortest_paths.specs.declared.visit.Visit.{Visit}
-use Rattle.shortest_paths.specs.declared.visit.Mark.{Mark}
-use Rattle.shortest_paths.specs.declared.visit.Mark.TheVariants.{Unreached, Open, Settled}
-use Rattle.shortest_paths.specs.Search.{mark_at, key_at, visit_at, Takes, IsLeastOpen, NoneOpen, settled_visit}
+use Rattle.shortest_paths.specs.declared.node_label.NodeLabel.{NodeLabel}
+use Rattle.shortest_paths.specs.declared.node_label.State.{State}
+use Rattle.shortest_paths.specs.declared.node_label.State.TheVariants.{Unreached, Open, Settled}
+use Rattle.shortest_paths.specs.Search.{state_at, distance_at, node_label_at, Takes, IsLeastOpen, NoneOpen, settled_node_label}
 use Rattle.shortest_paths.specs.Heap.{rank, rank_at, rank_in, IsHeap, IsIndex, IsIn, IsFirstRemoved, IsEntered, parent}
-use Rattle.shortest_paths.specs.Queue.{is_open_mark, open_count, IsWaiting, IsLine, IsBeyond, IsPassedKey, HoldsOpen, IsQueueOf, IsQueueFor}
+use Rattle.shortest_paths.specs.Queue.{is_open_state, open_count, IsWaiting, IsCurrent, IsBeyond, IsPassedDistance, HoldsOpen, IsQueueOf, IsQueueFor}
 use Rattle.shortest_paths.proofs.SearchLemmas.{IsPut, IsPut-set, takes_lower, in_range, open_is_reached}
 use Rattle.shortest_paths.proofs.HeapLemmas.{first_is_in, first_is_nearest}
 
 -- ---- how many nodes are open
 
-abbrev open_weight : Visit → ℕ
-open_weight r = cond (is_open_mark r.mark) 1 0
+abbrev open_weight : NodeLabel → ℕ
+open_weight r = cond (is_open_state r.state) 1 0
 
-weight_open : (r : Visit) → r.mark ≡ Open → open_weight r ≡ 1
-weight_open r h = ap (λ (m : Mark). cond (is_open_mark m) 1 0) h
+weight_open : (r : NodeLabel) → r.state ≡ Open → open_weight r ≡ 1
+weight_open r h = ap (λ (m : State). cond (is_open_state m) 1 0) h
 
-weight_shut : (r : Visit) → (r.mark ≡ Open → ⊥) → open_weight r ≡ 0
-weight_shut r h = by_mark r.mark h
+weight_shut : (r : NodeLabel) → (r.state ≡ Open → ⊥) → open_weight r ≡ 0
+weight_shut r h = by_state r.state h
   where
-    by_mark : (m : Mark) → (m ≡ Open → ⊥) → ◌≡◌ {A = ℕ} (cond (is_open_mark m) 1 0) 0
-    by_mark Unreached g = refl
-    by_mark Open g = absurd (g refl)
-    by_mark Settled g = refl
+    by_state : (m : State) → (m ≡ Open → ⊥) → ◌≡◌ {A = ℕ} (cond (is_open_state m) 1 0) 0
+    by_state Unreached g = refl
+    by_state Open g = absurd (g refl)
+    by_state Settled g = refl
 
-none_open_count : (s : List Visit) → NoneOpen s (length s) → open_count s ≡ 0
+none_open_count : (s : List NodeLabel) → NoneOpen s (length s) → open_count s ≡ 0
 none_open_count [] none = refl
 none_open_count (e ∷ s) none =
     omega (arith, sum_by-cons open_weight e s, weight_shut e (none 0 (omega arith)), none_open_count s (λ v lt. none (suc v) (omega arith)))
 
 -- where some node is not open, not all nodes are
-open_count-less : (s : List Visit) (v : ℕ) → v < length s → (mark_at s v ≡ Open → ⊥) → open_count s < length s
+open_count-less : (s : List NodeLabel) (v : ℕ) → v < length s → (state_at s v ≡ Open → ⊥) → open_count s < length s
 open_count-less [] v lt shut = absurd (omega arith)
 open_count-less (e ∷ s) zero lt shut =
-    omega (arith, sum_by-cons open_weight e s, weight_shut e shut, count_by-le-length (λ (r : Visit). is_open_mark r.mark) s)
-open_count-less (e ∷ s) (suc v) lt shut = omega (arith, sum_by-cons open_weight e s, at_most_1 (is_open_mark e.mark), open_count-less s v (omega arith) shut)
+    omega (arith, sum_by-cons open_weight e s, weight_shut e shut, count_by-le-length (λ (r : NodeLabel). is_open_state r.state) s)
+open_count-less (e ∷ s) (suc v) lt shut = omega (arith, sum_by-cons open_weight e s, at_most_1 (is_open_state e.state), open_count-less s v (omega arith) shut)
   where
     at_most_1 : (b : Bool) → cond b 1 0 ≤ 1
     at_most_1 true = omega arith
     at_most_1 false = omega arith
 
-count_put : (s : List Visit) (v : ℕ) (e : Visit) → v < length s → open_count (slice_set s v e) + open_weight (visit_at s v) ≡ open_count s + open_weight e
+count_put : (s : List NodeLabel) (v : ℕ) (e : NodeLabel) → v < length s → open_count (slice_set s v e) + open_weight (node_label_at s v) ≡ open_count s + open_weight e
 count_put s v e v_in = sum_by-set open_weight s v e _ v_in
 
 -- ---- the first node
 
-module _ (s : List Visit) (q : Queue) (queue : IsQueueOf s q) where
-  waiting_is_present : (v : ℕ) → IsWaiting q.line.items q.next q.end v → key_at s v ≡ q.present
-  waiting_is_present v w = ap (key_at s) (sym w.3) ∙ queue.line.all_present w.0 w.1 w.2
+module _ (s : List NodeLabel) (q : Queue) (queue : IsQueueOf s q) where
+  waiting_is_present : (v : ℕ) → IsWaiting q.current.items q.next q.end v → distance_at s v ≡ q.present
+  waiting_is_present v w = ap (distance_at s) (sym w.3) ∙ queue.current.all_present w.0 w.1 w.2
 
-  waiting_is_open : (v : ℕ) → IsWaiting q.line.items q.next q.end v → mark_at s v ≡ Open
-  waiting_is_open v w = ap (mark_at s) (sym w.3) ∙ queue.line.all_open w.0 w.1 w.2
+  waiting_is_open : (v : ℕ) → IsWaiting q.current.items q.next q.end v → state_at s v ≡ Open
+  waiting_is_open v w = ap (state_at s) (sym w.3) ∙ queue.current.all_open w.0 w.1 w.2
 
-  pub line_first : q.next < q.end → IsLeastOpen s (length s) (slice_index q.line.items q.next)
-  line_first some =
-      let is_open = queue.line.all_open q.next (omega arith) some in
+  pub current_first : q.next < q.end → IsLeastOpen s (length s) (slice_index q.current.items q.next)
+  current_first some =
+      let is_open = queue.current.all_open q.next (omega arith) some in
       record {
-        below = in_range s (slice_index q.line.items q.next) (open_is_reached s (slice_index q.line.items q.next) is_open);
+        below = in_range s (slice_index q.current.items q.next) (open_is_reached s (slice_index q.current.items q.next) is_open);
         is_open = is_open;
         least = λ v lt o. (elim (queue.holds.all v o) [
-          | inl inside ↦ omega (arith, ints, queue.beyond.no_nearer v inside, queue.line.all_present q.next (omega arith) some)
-          | inr waits ↦ omega (arith, ints, waiting_is_present v waits, queue.line.all_present q.next (omega arith) some)
+          | inl inside ↦ omega (arith, ints, queue.beyond.no_nearer v inside, queue.current.all_present q.next (omega arith) some)
+          | inr waits ↦ omega (arith, ints, waiting_is_present v waits, queue.current.all_present q.next (omega arith) some)
         ]);
       }
 
   module _ (empty : q.next < q.end → ⊥) where
-    none_waits : (v : ℕ) → IsWaiting q.line.items q.next q.end v → ⊥
+    none_waits : (v : ℕ) → IsWaiting q.current.items q.next q.end v → ⊥
     none_waits v w = empty (omega (arith, w.1, w.2))
 
-    pub open_is_in : (v : ℕ) → mark_at s v ≡ Open → IsIn q.order.items q.place.items q.len v
+    pub open_is_in : (v : ℕ) → state_at s v ≡ Open → IsIn q.order.items q.place.items q.len v
     open_is_in v o = elim (queue.holds.all v o) [
       | inl inside ↦ inside
       | inr waits ↦ absurd (none_waits v waits)
@@ -93,8 +93,8 @@ module _ (s : List Visit) (q : Queue) (queue : IsQueueOf s q) where
 
 -- ---- an empty queue
 
-pub empty_line : (s : List Visit) (line : List ℕ) (key : ℤ) → length line ≡ length s → IsLine s line 0 0 key
-empty_line s line key sized = record {
+pub empty_current : (s : List NodeLabel) (current : List ℕ) (distance : ℤ) → length current ≡ length s → IsCurrent s current 0 0 distance
+empty_current s current distance sized = record {
   sized = sized;
   begins = omega arith;
   ends = omega arith;
@@ -103,7 +103,7 @@ empty_line s line key sized = record {
   apart = λ i j le lt below. absurd (omega arith);
 }
 
-pub empty_queue : (s : List Visit) (q : Queue) → NoneOpen s (length s) → IsQueueFor (length s) q → IsQueueOf s (record q { next = 0; end = 0; present = pos 0; len = 0 })
+pub empty_queue : (s : List NodeLabel) (q : Queue) → NoneOpen s (length s) → IsQueueFor (length s) q → IsQueueOf s (record q { next = 0; end = 0; present = pos 0; len = 0 })
 empty_queue s q none sized = record {
   heap = record {
     index = record {
@@ -115,7 +115,7 @@ empty_queue s q none sized = record {
     };
     ordered = λ i pos_i lt. absurd (omega arith);
   };
-  line = empty_line s q.line.items (pos 0) sized.line_sized;
+  current = empty_current s q.current.items (pos 0) sized.current_sized;
   beyond = record {
     all_open = λ v inside. absurd (omega (arith, inside.0));
     no_nearer = λ v inside. absurd (omega (arith, inside.0));
@@ -130,16 +130,16 @@ empty_queue s q none sized = record {
 
 -- ---- node u is settled, and nothing else changes
 
-abbrev pub settled_in : List Visit → ℕ → List Visit
-settled_in s u = slice_set s u (settled_visit (visit_at s u))
+abbrev pub settled_in : List NodeLabel → ℕ → List NodeLabel
+settled_in s u = slice_set s u (settled_node_label (node_label_at s u))
 
-rank-settled : (r : Visit) → rank (settled_visit r) ≡ rank r
+rank-settled : (r : NodeLabel) → rank (settled_node_label r) ≡ rank r
 unfolding rank
 rank-settled r = refl
 
-module _ (s : List Visit) (u : ℕ) (least : IsLeastOpen s (length s) u) where
-  put_settled : IsPut s (settled_in s u) u (settled_visit (visit_at s u))
-  put_settled = IsPut-set s u (settled_visit (visit_at s u)) least.below
+module _ (s : List NodeLabel) (u : ℕ) (least : IsLeastOpen s (length s) u) where
+  put_settled : IsPut s (settled_in s u) u (settled_node_label (node_label_at s u))
+  put_settled = IsPut-set s u (settled_node_label (node_label_at s u)) least.below
 
   of_node : (P : ℕ → Type 0) → P u → ((w : ℕ) → (w ≡ u → ⊥) → P w) → (w : ℕ) → P w
   of_node P here other w = elim (cases_eq w u) [
@@ -147,17 +147,17 @@ module _ (s : List Visit) (u : ℕ) (least : IsLeastOpen s (length s) u) where
     | inr ne ↦ other w ne
   ]
 
-  now_settled : mark_at (settled_in s u) u ≡ Settled
-  now_settled = ap (λ (r : Visit). r.mark) put_settled.here
+  now_settled : state_at (settled_in s u) u ≡ Settled
+  now_settled = ap (λ (r : NodeLabel). r.state) put_settled.here
 
-  mark_kept : (w : ℕ) → (w ≡ u → ⊥) → mark_at (settled_in s u) w ≡ mark_at s w
-  mark_kept w ne = ap (λ (r : Visit). r.mark) (put_settled.elsewhere w ne)
+  state_kept : (w : ℕ) → (w ≡ u → ⊥) → state_at (settled_in s u) w ≡ state_at s w
+  state_kept w ne = ap (λ (r : NodeLabel). r.state) (put_settled.elsewhere w ne)
 
-  key_kept : (w : ℕ) → key_at (settled_in s u) w ≡ key_at s w
-  key_kept = of_node (λ w. key_at (settled_in s u) w ≡ key_at s w) (ap (λ (r : Visit). r.key) put_settled.here) (λ w ne. ap (λ (r : Visit). r.key) (put_settled.elsewhere w ne))
+  distance_kept : (w : ℕ) → distance_at (settled_in s u) w ≡ distance_at s w
+  distance_kept = of_node (λ w. distance_at (settled_in s u) w ≡ distance_at s w) (ap (λ (r : NodeLabel). r.distance) put_settled.here) (λ w ne. ap (λ (r : NodeLabel). r.distance) (put_settled.elsewhere w ne))
 
   rank_kept : (w : ℕ) → rank_at (settled_in s u) w ≡ rank_at s w
-  rank_kept = of_node (λ w. rank_at (settled_in s u) w ≡ rank_at s w) (ap rank put_settled.here ∙ rank-settled (visit_at s u)) (λ w ne. ap rank (put_settled.elsewhere w ne))
+  rank_kept = of_node (λ w. rank_at (settled_in s u) w ≡ rank_at s w) (ap rank put_settled.here ∙ rank-settled (node_label_at s u)) (λ w ne. ap rank (put_settled.elsewhere w ne))
 
   heap_settled : (order place : List ℕ) (len : ℕ) → IsHeap s order place len → IsHeap (settled_in s u) order place len
   heap_settled order place len heap = record {
@@ -166,61 +166,61 @@ module _ (s : List Visit) (u : ℕ) (least : IsLeastOpen s (length s) u) where
   }
 
   -- what is open was open, and is another node
-  was_open : (w : ℕ) → mark_at (settled_in s u) w ≡ Open → (w ≢ u) × (mark_at s w ≡ Open)
+  was_open : (w : ℕ) → state_at (settled_in s u) w ≡ Open → (w ≢ u) × (state_at s w ≡ Open)
   was_open w o = elim (cases_eq w u) [
-    | inl same ↦ (let m : mark_at (settled_in s u) w ≡ Settled = ap (mark_at (settled_in s u)) same ∙ now_settled in cc)
-    | inr ne ↦ (ne, sym (mark_kept w ne) ∙ o)
+    | inl same ↦ (let m : state_at (settled_in s u) w ≡ Settled = ap (state_at (settled_in s u)) same ∙ now_settled in cc)
+    | inr ne ↦ (ne, sym (state_kept w ne) ∙ o)
   ]
 
-  pub settled_key : key_at (settled_in s u) u ≡ key_at s u
-  settled_key = key_kept u
+  pub settled_distance : distance_at (settled_in s u) u ≡ distance_at s u
+  settled_distance = distance_kept u
 
-  -- the key of the node that was settled is that of a settled node
-  pub passed_settled : (key : ℤ) → key ≡ key_at s u → IsPassedKey (settled_in s u) key
-  passed_settled key same bound low within = omega (arith, ints, within u now_settled, key_kept u, same)
+  -- the distance of the node that was settled is that of a settled node
+  pub passed_settled : (distance : ℤ) → distance ≡ distance_at s u → IsPassedDistance (settled_in s u) distance
+  passed_settled distance same bound low within = omega (arith, ints, within u now_settled, distance_kept u, same)
 
   one_less : open_count (settled_in s u) + 1 ≡ open_count s
   one_less =
-      omega (arith, count_put s u (settled_visit (visit_at s u)) least.below, weight_open (visit_at s u) least.is_open)
+      omega (arith, count_put s u (settled_node_label (node_label_at s u)) least.below, weight_open (node_label_at s u) least.is_open)
 
-  -- it was the first in the line
-  module _ (q : Queue) (queue : IsQueueOf s q) (some : q.next < q.end) (is_first : slice_index q.line.items q.next ≡ u) where
-    not_first : (i : ℕ) → q.next + 1 ≤ i → i < q.end → slice_index q.line.items i ≡ u → ⊥
-    not_first i le lt same = queue.line.apart q.next i (omega arith) (omega arith) lt (is_first ∙ sym same)
+  -- it was the first of the current nodes
+  module _ (q : Queue) (queue : IsQueueOf s q) (some : q.next < q.end) (is_first : slice_index q.current.items q.next ≡ u) where
+    not_first : (i : ℕ) → q.next + 1 ≤ i → i < q.end → slice_index q.current.items i ≡ u → ⊥
+    not_first i le lt same = queue.current.apart q.next i (omega arith) (omega arith) lt (is_first ∙ sym same)
 
-    u_waits : IsWaiting q.line.items q.next q.end u
+    u_waits : IsWaiting q.current.items q.next q.end u
     u_waits = (q.next, omega arith, some, is_first)
 
     not_inside : (w : ℕ) → IsIn q.order.items q.place.items q.len w → w ≡ u → ⊥
     not_inside w inside same = queue.holds.not_both u u_waits (subst (IsIn q.order.items q.place.items q.len) same inside)
 
-    line_shorter : IsLine (settled_in s u) q.line.items (q.next + 1) q.end q.present
-    line_shorter = record {
-      sized = queue.line.sized ∙ sym put_settled.same_length;
+    current_shorter : IsCurrent (settled_in s u) q.current.items (q.next + 1) q.end q.present
+    current_shorter = record {
+      sized = queue.current.sized ∙ sym put_settled.same_length;
       begins = omega arith;
-      ends = queue.line.ends;
-      all_open = λ i le lt. mark_kept (slice_index q.line.items i) (not_first i le lt) ∙ queue.line.all_open i (omega arith) lt;
-      all_present = λ i le lt. key_kept (slice_index q.line.items i) ∙ queue.line.all_present i (omega arith) lt;
-      apart = λ i j le lt below. queue.line.apart i j (omega arith) lt below;
+      ends = queue.current.ends;
+      all_open = λ i le lt. state_kept (slice_index q.current.items i) (not_first i le lt) ∙ queue.current.all_open i (omega arith) lt;
+      all_present = λ i le lt. distance_kept (slice_index q.current.items i) ∙ queue.current.all_present i (omega arith) lt;
+      apart = λ i j le lt below. queue.current.apart i j (omega arith) lt below;
     }
 
     beyond_kept : IsBeyond (settled_in s u) q.order.items q.place.items q.len q.present
     beyond_kept = record {
-      all_open = λ w inside. mark_kept w (not_inside w inside) ∙ queue.beyond.all_open w inside;
-      no_nearer = λ w inside. omega (arith, ints, key_kept w, queue.beyond.no_nearer w inside);
+      all_open = λ w inside. state_kept w (not_inside w inside) ∙ queue.beyond.all_open w inside;
+      no_nearer = λ w inside. omega (arith, ints, distance_kept w, queue.beyond.no_nearer w inside);
     }
 
-    passed_kept : IsPassedKey (settled_in s u) q.present
-    passed_kept = passed_settled q.present (sym (queue.line.all_present q.next (omega arith) some) ∙ ap (key_at s) is_first)
+    passed_kept : IsPassedDistance (settled_in s u) q.present
+    passed_kept = passed_settled q.present (sym (queue.current.all_present q.next (omega arith) some) ∙ ap (distance_at s) is_first)
 
-    still_waits : (w : ℕ) → (w ≡ u → ⊥) → IsWaiting q.line.items q.next q.end w → IsWaiting q.line.items (q.next + 1) q.end w
+    still_waits : (w : ℕ) → (w ≡ u → ⊥) → IsWaiting q.current.items q.next q.end w → IsWaiting q.current.items (q.next + 1) q.end w
     still_waits w ne waits = elim (cases_eq waits.0 q.next) [
-      | inl same ↦ absurd (ne (sym waits.3 ∙ ap (slice_index q.line.items) same ∙ is_first))
+      | inl same ↦ absurd (ne (sym waits.3 ∙ ap (slice_index q.current.items) same ∙ is_first))
       | inr other ↦ (waits.0, omega (arith, waits.1, other), waits.2, waits.3)
     ]
 
-    holds_line_shorter : HoldsOpen (settled_in s u) q.line.items (q.next + 1) q.end q.order.items q.place.items q.len
-    holds_line_shorter = record {
+    holds_current_shorter : HoldsOpen (settled_in s u) q.current.items (q.next + 1) q.end q.order.items q.place.items q.len
+    holds_current_shorter = record {
       all = λ w o.
           (let was = was_open w o in
           elim (queue.holds.all w was.1) [
@@ -231,81 +231,81 @@ module _ (s : List Visit) (u : ℕ) (least : IsLeastOpen s (length s) u) where
       counted = omega (arith, queue.holds.counted, one_less);
     }
 
-    pub line_settled : IsQueueOf (settled_in s u) (record q { next = q.next + 1 })
-    line_settled = record {
+    pub current_settled : IsQueueOf (settled_in s u) (record q { next = q.next + 1 })
+    current_settled = record {
       heap = heap_settled q.order.items q.place.items q.len queue.heap;
-      line = line_shorter;
+      current = current_shorter;
       beyond = beyond_kept;
       passed = passed_kept;
-      holds = holds_line_shorter;
+      holds = holds_current_shorter;
     }
 
-  -- nobody waited, and it was the first in the heap
+  -- no node was current, and it was the first in the heap
   module _ (q : Queue) (queue : IsQueueOf s q) (empty : q.next < q.end → ⊥) (order place : List ℕ) (len : ℕ) (removed : IsFirstRemoved q.order.items q.place.items q.len order place len u) (some : 0 < q.len) where
-    pub beyond_first : IsBeyond (settled_in s u) order place len (key_at (settled_in s u) u)
+    pub beyond_first : IsBeyond (settled_in s u) order place len (distance_at (settled_in s u) u)
     beyond_first = record {
-      all_open = λ w inside. (let was = removed.before w inside in mark_kept w was.1 ∙ queue.beyond.all_open w was.0);
+      all_open = λ w inside. (let was = removed.before w inside in state_kept w was.1 ∙ queue.beyond.all_open w was.0);
       no_nearer = λ w inside.
           (let was = removed.before w inside in
-          omega (arith, ints, key_kept w, key_kept u, first_is_nearest s q.order.items q.place.items q.len queue.heap w was.0, ap (key_at s) removed.was_first));
+          omega (arith, ints, distance_kept w, distance_kept u, first_is_nearest s q.order.items q.place.items q.len queue.heap w was.0, ap (distance_at s) removed.was_first));
     }
 
-    pub holds_heap_shorter : HoldsOpen (settled_in s u) q.line.items 0 0 order place len
+    pub holds_heap_shorter : HoldsOpen (settled_in s u) q.current.items 0 0 order place len
     holds_heap_shorter = record {
       all = λ w o. (let was = was_open w o in inl (removed.kept w was.0 (open_is_in s q queue empty w was.1)));
       not_both = λ w waits inside. omega (arith, waits.2);
       counted = omega (arith, queue.holds.counted, one_less, removed.one_less);
     }
 
--- ---- what is known of node v is written again, and no nearer than the present key
+-- ---- what is known of node v is written again, and no nearer than the present distance
 
 -- node v may be known by e from now on
-pub record CanImprove (s : List Visit) (v : ℕ) (e : Visit) (q : Queue) : Type 0 where
+pub record CanImprove (s : List NodeLabel) (v : ℕ) (e : NodeLabel) (q : Queue) : Type 0 where
   pub queue : IsQueueOf s q
   pub v_in : v < length s
-  pub is_open : e.mark ≡ Open
-  pub better : Takes (visit_at s v) e.key
-  pub not_nearer : q.present ≤ℤ e.key
+  pub is_open : e.state ≡ Open
+  pub better : Takes (node_label_at s v) e.distance
+  pub not_nearer : q.present ≤ℤ e.distance
 
-module _ (s : List Visit) (v : ℕ) (e : Visit) (q : Queue) (known : CanImprove s v e q) where
+module _ (s : List NodeLabel) (v : ℕ) (e : NodeLabel) (q : Queue) (known : CanImprove s v e q) where
   put_open : IsPut s (slice_set s v e) v e
   put_open = IsPut-set s v e known.v_in
 
-  now_open : mark_at (slice_set s v e) v ≡ Open
-  now_open = ap (λ (r : Visit). r.mark) put_open.here ∙ known.is_open
+  now_open : state_at (slice_set s v e) v ≡ Open
+  now_open = ap (λ (r : NodeLabel). r.state) put_open.here ∙ known.is_open
 
-  now_key : key_at (slice_set s v e) v ≡ e.key
-  now_key = ap (λ (r : Visit). r.key) put_open.here
+  now_distance : distance_at (slice_set s v e) v ≡ e.distance
+  now_distance = ap (λ (r : NodeLabel). r.distance) put_open.here
 
-  mark_else : (w : ℕ) → (w ≡ v → ⊥) → mark_at (slice_set s v e) w ≡ mark_at s w
-  mark_else w ne = ap (λ (r : Visit). r.mark) (put_open.elsewhere w ne)
+  state_else : (w : ℕ) → (w ≡ v → ⊥) → state_at (slice_set s v e) w ≡ state_at s w
+  state_else w ne = ap (λ (r : NodeLabel). r.state) (put_open.elsewhere w ne)
 
-  key_else : (w : ℕ) → (w ≡ v → ⊥) → key_at (slice_set s v e) w ≡ key_at s w
-  key_else w ne = ap (λ (r : Visit). r.key) (put_open.elsewhere w ne)
+  distance_else : (w : ℕ) → (w ≡ v → ⊥) → distance_at (slice_set s v e) w ≡ distance_at s w
+  distance_else w ne = ap (λ (r : NodeLabel). r.distance) (put_open.elsewhere w ne)
 
-  not_settled : mark_at s v ≡ Settled → ⊥
+  not_settled : state_at s v ≡ Settled → ⊥
   not_settled m = rw m at known.better
 
   -- a node that waits does not get nearer
-  waits_not : IsWaiting q.line.items q.next q.end v → ⊥
+  waits_not : IsWaiting q.current.items q.next q.end v → ⊥
   waits_not waits =
       let o = waiting_is_open s q known.queue v waits in
-      let falls = takes_lower (visit_at s v) e.key known.better (λ h. cc) in
+      let falls = takes_lower (node_label_at s v) e.distance known.better (λ h. cc) in
       omega (arith, ints, falls, known.not_nearer, waiting_is_present s q known.queue v waits)
 
-  other_waits : (i : ℕ) → q.next ≤ i → i < q.end → slice_index q.line.items i ≡ v → ⊥
+  other_waits : (i : ℕ) → q.next ≤ i → i < q.end → slice_index q.current.items i ≡ v → ⊥
   other_waits i le lt same = waits_not (i, le, lt, same)
 
-  pub passed_written : IsPassedKey (slice_set s v e) q.present
-  passed_written bound low within = known.queue.passed bound low (λ w m. omega (arith, ints, key_else w (other w m), within w (mark_else w (other w m) ∙ m)))
+  pub passed_written : IsPassedDistance (slice_set s v e) q.present
+  passed_written bound low within = known.queue.passed bound low (λ w m. omega (arith, ints, distance_else w (other w m), within w (state_else w (other w m) ∙ m)))
     where
-      other : (w : ℕ) → mark_at s w ≡ Settled → w ≡ v → ⊥
-      other w m same = not_settled (ap (mark_at s) (sym same) ∙ m)
+      other : (w : ℕ) → state_at s w ≡ Settled → w ≡ v → ⊥
+      other w m same = not_settled (ap (state_at s) (sym same) ∙ m)
 
-  -- the node is new, and joins the line
-  module _ (is_new : mark_at s v ≡ Unreached) (present : e.key ≡ q.present) (room : q.end < length q.line.items) where
+  -- the node is new, and joins the current nodes
+  module _ (is_new : state_at s v ≡ Unreached) (present : e.distance ≡ q.present) (room : q.end < length q.current.items) where
     v_not_in : (w : ℕ) → IsIn q.order.items q.place.items q.len w → w ≡ v → ⊥
-    v_not_in w inside same = (let o : mark_at s w ≡ Open = known.queue.beyond.all_open w inside in let n : mark_at s w ≡ Unreached = ap (mark_at s) same ∙ is_new in cc)
+    v_not_in w inside same = (let o : state_at s w ≡ Open = known.queue.beyond.all_open w inside in let n : state_at s w ≡ Unreached = ap (state_at s) same ∙ is_new in cc)
 
     node_at : (i : ℕ) → i < q.len → IsIn q.order.items q.place.items q.len (slice_index q.order.items i)
     node_at i lt = (rw (known.queue.heap.index.placed i lt) lt, ap (slice_index q.order.items) (known.queue.heap.index.placed i lt))
@@ -321,15 +321,15 @@ module _ (s : List Visit) (v : ℕ) (e : Visit) (q : Queue) (known : CanImprove 
 
     beyond_same : IsBeyond (slice_set s v e) q.order.items q.place.items q.len q.present
     beyond_same = record {
-      all_open = λ w inside. mark_else w (v_not_in w inside) ∙ known.queue.beyond.all_open w inside;
-      no_nearer = λ w inside. omega (arith, ints, key_else w (v_not_in w inside), known.queue.beyond.no_nearer w inside);
+      all_open = λ w inside. state_else w (v_not_in w inside) ∙ known.queue.beyond.all_open w inside;
+      no_nearer = λ w inside. omega (arith, ints, distance_else w (v_not_in w inside), known.queue.beyond.no_nearer w inside);
     }
 
-    line_end : slice_index (slice_set q.line.items q.end v) q.end ≡ v
-    line_end = get_or-set_same q.line.items q.end v 0 room
+    current_end : slice_index (slice_set q.current.items q.end v) q.end ≡ v
+    current_end = get_or-set_same q.current.items q.end v 0 room
 
-    line_else : (i : ℕ) → i < q.end → slice_index (slice_set q.line.items q.end v) i ≡ slice_index q.line.items i
-    line_else i lt = get_or-set_other q.line.items q.end i v 0 (λ h. omega (arith, h))
+    current_else : (i : ℕ) → i < q.end → slice_index (slice_set q.current.items q.end v) i ≡ slice_index q.current.items i
+    current_else i lt = get_or-set_other q.current.items q.end i v 0 (λ h. omega (arith, h))
 
     by_end : (P : ℕ → Type 0) → P q.end → ((i : ℕ) → i < q.end → P i) → (i : ℕ) → i < q.end + 1 → P i
     by_end P at_end below i lt = elim (cases_lt i q.end) [
@@ -337,46 +337,46 @@ module _ (s : List Visit) (v : ℕ) (e : Visit) (q : Queue) (known : CanImprove 
       | inr above ↦ subst P (omega arith) at_end
     ]
 
-    line_longer : IsLine (slice_set s v e) (slice_set q.line.items q.end v) q.next (q.end + 1) q.present
-    line_longer = record {
-      sized = length-set q.line.items q.end v ∙ known.queue.line.sized ∙ sym put_open.same_length;
-      begins = omega (arith, known.queue.line.begins);
-      ends = omega (arith, length-set q.line.items q.end v);
-      all_open = λ i le lt. by_end (λ j. q.next ≤ j → mark_at (slice_set s v e) (slice_index (slice_set q.line.items q.end v) j) ≡ Open)
-          (λ le_j. ap (mark_at (slice_set s v e)) line_end ∙ now_open)
-          (λ j below le_j. ap (mark_at (slice_set s v e)) (line_else j below) ∙ mark_else (slice_index q.line.items j) (other_waits j le_j below) ∙ known.queue.line.all_open j le_j below)
+    current_longer : IsCurrent (slice_set s v e) (slice_set q.current.items q.end v) q.next (q.end + 1) q.present
+    current_longer = record {
+      sized = length-set q.current.items q.end v ∙ known.queue.current.sized ∙ sym put_open.same_length;
+      begins = omega (arith, known.queue.current.begins);
+      ends = omega (arith, length-set q.current.items q.end v);
+      all_open = λ i le lt. by_end (λ j. q.next ≤ j → state_at (slice_set s v e) (slice_index (slice_set q.current.items q.end v) j) ≡ Open)
+          (λ le_j. ap (state_at (slice_set s v e)) current_end ∙ now_open)
+          (λ j below le_j. ap (state_at (slice_set s v e)) (current_else j below) ∙ state_else (slice_index q.current.items j) (other_waits j le_j below) ∙ known.queue.current.all_open j le_j below)
           i lt le;
-      all_present = λ i le lt. by_end (λ j. q.next ≤ j → key_at (slice_set s v e) (slice_index (slice_set q.line.items q.end v) j) ≡ q.present)
-          (λ le_j. ap (key_at (slice_set s v e)) line_end ∙ now_key ∙ present)
-          (λ j below le_j. ap (key_at (slice_set s v e)) (line_else j below) ∙ key_else (slice_index q.line.items j) (other_waits j le_j below) ∙ known.queue.line.all_present j le_j below)
+      all_present = λ i le lt. by_end (λ j. q.next ≤ j → distance_at (slice_set s v e) (slice_index (slice_set q.current.items q.end v) j) ≡ q.present)
+          (λ le_j. ap (distance_at (slice_set s v e)) current_end ∙ now_distance ∙ present)
+          (λ j below le_j. ap (distance_at (slice_set s v e)) (current_else j below) ∙ distance_else (slice_index q.current.items j) (other_waits j le_j below) ∙ known.queue.current.all_present j le_j below)
           i lt le;
-      apart = λ i j le lt below. by_end (λ k. i < k → slice_index (slice_set q.line.items q.end v) i ≢ slice_index (slice_set q.line.items q.end v) k)
-          (λ lt_k same. other_waits i le lt_k (sym (line_else i lt_k) ∙ same ∙ line_end))
-          (λ k below_k lt_k same. known.queue.line.apart i k le lt_k below_k (sym (line_else i (omega arith)) ∙ same ∙ line_else k below_k))
+      apart = λ i j le lt below. by_end (λ k. i < k → slice_index (slice_set q.current.items q.end v) i ≢ slice_index (slice_set q.current.items q.end v) k)
+          (λ lt_k same. other_waits i le lt_k (sym (current_else i lt_k) ∙ same ∙ current_end))
+          (λ k below_k lt_k same. known.queue.current.apart i k le lt_k below_k (sym (current_else i (omega arith)) ∙ same ∙ current_else k below_k))
           j below lt;
     }
 
-    holds_line_longer : HoldsOpen (slice_set s v e) (slice_set q.line.items q.end v) q.next (q.end + 1) q.order.items q.place.items q.len
-    holds_line_longer = record {
+    holds_current_longer : HoldsOpen (slice_set s v e) (slice_set q.current.items q.end v) q.next (q.end + 1) q.order.items q.place.items q.len
+    holds_current_longer = record {
       all = λ w o. (elim (cases_eq w v) [
-        | inl same ↦ inr (q.end, known.queue.line.begins, omega arith, line_end ∙ sym same)
-        | inr ne ↦ (elim (known.queue.holds.all w (sym (mark_else w ne) ∙ o)) [
+        | inl same ↦ inr (q.end, known.queue.current.begins, omega arith, current_end ∙ sym same)
+        | inr ne ↦ (elim (known.queue.holds.all w (sym (state_else w ne) ∙ o)) [
           | inl inside ↦ inl inside
-          | inr waits ↦ inr (waits.0, waits.1, omega (arith, waits.2), line_else waits.0 waits.2 ∙ waits.3)
+          | inr waits ↦ inr (waits.0, waits.1, omega (arith, waits.2), current_else waits.0 waits.2 ∙ waits.3)
         ])
       ]);
-      not_both = λ w waits inside. by_end (λ j. q.next ≤ j → slice_index (slice_set q.line.items q.end v) j ≡ w → ⊥)
-          (λ le same. v_not_in w inside (sym same ∙ line_end))
-          (λ j below le same. known.queue.holds.not_both w (j, le, below, sym (line_else j below) ∙ same) inside)
+      not_both = λ w waits inside. by_end (λ j. q.next ≤ j → slice_index (slice_set q.current.items q.end v) j ≡ w → ⊥)
+          (λ le same. v_not_in w inside (sym same ∙ current_end))
+          (λ j below le same. known.queue.holds.not_both w (j, le, below, sym (current_else j below) ∙ same) inside)
           waits.0 waits.2 waits.1 waits.3;
-      counted = omega (arith, count_put s v e known.v_in, weight_open e known.is_open, weight_shut (visit_at s v) (λ h. cc), known.queue.holds.counted, known.queue.line.begins);
+      counted = omega (arith, count_put s v e known.v_in, weight_open e known.is_open, weight_shut (node_label_at s v) (λ h. cc), known.queue.holds.counted, known.queue.current.begins);
     }
 
-    pub joined : IsQueueOf (slice_set s v e) (record q { line = with_item q.line q.end v; end = q.end + 1 })
-    joined = record { heap = heap_same; line = line_longer; beyond = beyond_same; passed = passed_written; holds = holds_line_longer }
+    pub joined : IsQueueOf (slice_set s v e) (record q { current = with_item q.current q.end v; end = q.end + 1 })
+    joined = record { heap = heap_same; current = current_longer; beyond = beyond_same; passed = passed_written; holds = holds_current_longer }
 
   -- it enters the heap, or moves in it
-  open_inside : mark_at s v ≡ Open → IsIn q.order.items q.place.items q.len v
+  open_inside : state_at s v ≡ Open → IsIn q.order.items q.place.items q.len v
   open_inside o = elim (known.queue.holds.all v o) [
     | inl inside ↦ inside
     | inr waits ↦ absurd (waits_not waits)
@@ -385,42 +385,42 @@ module _ (s : List Visit) (v : ℕ) (e : Visit) (q : Queue) (known : CanImprove 
   pub room_in : (IsIn q.order.items q.place.items q.len v → ⊥) → q.len < length s
   room_in out = omega (arith, known.queue.holds.counted, open_count-less s v known.v_in (λ o. out (open_inside o)))
 
-  pub line_same : IsLine (slice_set s v e) q.line.items q.next q.end q.present
-  line_same = record {
-    sized = known.queue.line.sized ∙ sym put_open.same_length;
-    begins = known.queue.line.begins;
-    ends = known.queue.line.ends;
-    all_open = λ i le lt. mark_else (slice_index q.line.items i) (other_waits i le lt) ∙ known.queue.line.all_open i le lt;
-    all_present = λ i le lt. key_else (slice_index q.line.items i) (other_waits i le lt) ∙ known.queue.line.all_present i le lt;
-    apart = known.queue.line.apart;
+  pub current_same : IsCurrent (slice_set s v e) q.current.items q.next q.end q.present
+  current_same = record {
+    sized = known.queue.current.sized ∙ sym put_open.same_length;
+    begins = known.queue.current.begins;
+    ends = known.queue.current.ends;
+    all_open = λ i le lt. state_else (slice_index q.current.items i) (other_waits i le lt) ∙ known.queue.current.all_open i le lt;
+    all_present = λ i le lt. distance_else (slice_index q.current.items i) (other_waits i le lt) ∙ known.queue.current.all_present i le lt;
+    apart = known.queue.current.apart;
   }
 
   module _ (order place : List ℕ) (len : ℕ) (entered : IsEntered q.order.items q.place.items q.len order place len v) where
     pub beyond_entered : IsBeyond (slice_set s v e) order place len q.present
     beyond_entered = record {
       all_open = λ w inside. (elim (cases_eq w v) [
-        | inl same ↦ ap (mark_at (slice_set s v e)) same ∙ now_open
-        | inr ne ↦ mark_else w ne ∙ known.queue.beyond.all_open w (entered.before w ne inside)
+        | inl same ↦ ap (state_at (slice_set s v e)) same ∙ now_open
+        | inr ne ↦ state_else w ne ∙ known.queue.beyond.all_open w (entered.before w ne inside)
       ]);
       no_nearer = λ w inside. (elim (cases_eq w v) [
-        | inl same ↦ (let here : key_at (slice_set s v e) w ≡ e.key = ap (key_at (slice_set s v e)) same ∙ now_key in omega (arith, ints, known.not_nearer))
-        | inr ne ↦ omega (arith, ints, key_else w ne, known.queue.beyond.no_nearer w (entered.before w ne inside))
+        | inl same ↦ (let here : distance_at (slice_set s v e) w ≡ e.distance = ap (distance_at (slice_set s v e)) same ∙ now_distance in omega (arith, ints, known.not_nearer))
+        | inr ne ↦ omega (arith, ints, distance_else w ne, known.queue.beyond.no_nearer w (entered.before w ne inside))
       ]);
     }
 
-    counted_entered : (m : Mark) → mark_at s v ≡ m → len + (q.end - q.next) ≡ open_count (slice_set s v e)
+    counted_entered : (m : State) → state_at s v ≡ m → len + (q.end - q.next) ≡ open_count (slice_set s v e)
     counted_entered Unreached m = one_more (λ o. cc)
       where
-        one_more : (mark_at s v ≡ Open → ⊥) → len + (q.end - q.next) ≡ open_count (slice_set s v e)
-        one_more shut = omega (arith, count_put s v e known.v_in, weight_open e known.is_open, weight_shut (visit_at s v) shut, known.queue.holds.counted, entered.one_more (λ inside. shut (known.queue.beyond.all_open v inside)))
-    counted_entered Open m = omega (arith, count_put s v e known.v_in, weight_open e known.is_open, weight_open (visit_at s v) m, known.queue.holds.counted, entered.as_many (open_inside m))
+        one_more : (state_at s v ≡ Open → ⊥) → len + (q.end - q.next) ≡ open_count (slice_set s v e)
+        one_more shut = omega (arith, count_put s v e known.v_in, weight_open e known.is_open, weight_shut (node_label_at s v) shut, known.queue.holds.counted, entered.one_more (λ inside. shut (known.queue.beyond.all_open v inside)))
+    counted_entered Open m = omega (arith, count_put s v e known.v_in, weight_open e known.is_open, weight_open (node_label_at s v) m, known.queue.holds.counted, entered.as_many (open_inside m))
     counted_entered Settled m = absurd (not_settled m)
 
-    pub holds_entered : HoldsOpen (slice_set s v e) q.line.items q.next q.end order place len
+    pub holds_entered : HoldsOpen (slice_set s v e) q.current.items q.next q.end order place len
     holds_entered = record {
       all = λ w o. (elim (cases_eq w v) [
         | inl same ↦ inl (subst (IsIn order place len) (sym same) entered.entered)
-        | inr ne ↦ (elim (known.queue.holds.all w (sym (mark_else w ne) ∙ o)) [
+        | inr ne ↦ (elim (known.queue.holds.all w (sym (state_else w ne) ∙ o)) [
           | inl inside ↦ inl (entered.kept w inside)
           | inr waits ↦ inr waits
         ])
@@ -429,14 +429,14 @@ module _ (s : List Visit) (v : ℕ) (e : Visit) (q : Queue) (known : CanImprove 
         | inl same ↦ waits_not (waits.0, waits.1, waits.2, waits.3 ∙ same)
         | inr ne ↦ known.queue.holds.not_both w waits (entered.before w ne inside)
       ]);
-      counted = counted_entered (mark_at s v) refl;
+      counted = counted_entered (state_at s v) refl;
     }
 
 -- a queue whose heap is lent out comes back with it
-pub queue_of : (t s : List Visit) (q : Queue) (order place : List ℕ) → t ≡ s → q.order.items ≡ order → q.place.items ≡ place → IsHeap s order place q.len → IsLine s q.line.items q.next q.end q.present → IsBeyond s order place q.len q.present → IsPassedKey s q.present → HoldsOpen s q.line.items q.next q.end order place q.len → IsQueueOf t q
-queue_of t s q order place same order_is place_is heap line beyond passed holds = subst (λ (v : List Visit). IsQueueOf v q) (sym same) (record {
+pub queue_of : (t s : List NodeLabel) (q : Queue) (order place : List ℕ) → t ≡ s → q.order.items ≡ order → q.place.items ≡ place → IsHeap s order place q.len → IsCurrent s q.current.items q.next q.end q.present → IsBeyond s order place q.len q.present → IsPassedDistance s q.present → HoldsOpen s q.current.items q.next q.end order place q.len → IsQueueOf t q
+queue_of t s q order place same order_is place_is heap current beyond passed holds = subst (λ (v : List NodeLabel). IsQueueOf v q) (sym same) (record {
   heap = rw (order_is, place_is) heap;
-  line = line;
+  current = current;
   beyond = rw (order_is, place_is) beyond;
   passed = passed;
   holds = rw (order_is, place_is) holds;

@@ -1,26 +1,27 @@
 -- What a whole search keeps from step to step, and what follows at its end.
-use Rattle.shortest_paths.specs.Limits.{label_floor, cost_limit}
-use Rattle.std.proofs.Common.{◌≡◌, ℕ, zero, suc, ◌⊎◌, ◌+◌, ◌*◌, ◌<◌, ◌≤◌, ℤ, pos, neg_ℤ, ◌-ℤ◌, ◌+ℤ◌, ◌≤ℤ◌, List, length, refl, sym, ap, subst, ◌∙◌, inl, inr, arith}
+use Rattle.shortest_paths.specs.Limits.{label_floor}
+use Rattle.residual_graph.specs.Limits.{cost_limit}
+use Rattle.std.proofs.Common.{◌≡◌, ℕ, zero, suc, ◌⊎◌, ◌+◌, ◌*◌, ◌<◌, ℤ, pos, neg_ℤ, ◌-ℤ◌, ◌+ℤ◌, ◌≤ℤ◌, List, length, refl, sym, ap, subst, ◌∙◌, inl, inr, arith}
 use Rattle.std.specs.Prelude.{◌<ℤ◌}
-use Rattle.std.proofs.Math.Nat.{mul-suc, mul-zero, mul-le-mul_left}
 use Rattle.std.proofs.lemmas.Int.{ints}
 use Rattle.std.proofs.lemmas.Bool.{cases_lt}
 use Rattle.std.proofs.lemmas.List.{get_or_past}
-use Rattle.shortest_paths.proofs.SearchLemmas.{cost_of-bounds, start_of-in, settled_is_reached, in_range, key_high}
+use Rattle.residual_graph.proofs.RowLemmas.{cost_of-bounds, start_of-in}
+use Rattle.shortest_paths.proofs.SearchLemmas.{settled_is_reached, in_range, distance_high}
 use Rattle.dimacs_text.specs.declared.problem.ArcRow.{ArcRow}
-use Rattle.shortest_paths.specs.declared.residual.Way.{Way}
-use Rattle.shortest_paths.specs.declared.visit.Mark.{Mark}
-use Rattle.shortest_paths.specs.declared.visit.Mark.TheVariants.{Unreached, Open, Settled}
-use Rattle.shortest_paths.specs.declared.visit.Visit.{Visit}
-use Rattle.shortest_paths.specs.Residual.{IsCertified, IsFlow, ArePotentials, NoneBelow, NoneBelowBy, AreGreatest, IsCheap, ArePathsAbove, number_at, arc_at, start_at, end_at, cost_at, IsResidual}
-use Rattle.shortest_paths.specs.Search.{visit_at, mark_at, key_at, depth_at, IsReached, IsSearch, Settles, AllRelaxed, IsFromExcess, NoDeficit, IsFoundDeficit, IsFront, IsFinding, IsFromAll, AreLabels, IsReach, lowered_by, IsLowered, NoneOpen}
+use Rattle.residual_graph.specs.declared.residual.Way.{Way}
+use Rattle.shortest_paths.specs.declared.node_label.State.{State}
+use Rattle.shortest_paths.specs.declared.node_label.State.TheVariants.{Unreached, Open, Settled}
+use Rattle.shortest_paths.specs.declared.node_label.NodeLabel.{NodeLabel}
+use Rattle.residual_graph.specs.Residual.{IsCertified, IsFlow, ArePotentials, NoneBelow, NoneBelowBy, AreGreatest, number_at, arc_at, start_at, end_at, cost_at, IsResidual}
+use Rattle.shortest_paths.specs.Search.{node_label_at, state_at, distance_at, depth_at, IsReached, IsSearch, Settles, AllRelaxed, IsFromExcess, NoDeficit, IsFoundDeficit, IsFront, IsFinding, IsFromAll, AreLabels, IsReach, lowered_by, IsLowered, NoneOpen}
 
-pub IsFromExcess-settles : {arcs : List ArcRow} {x p excess : List ℤ} {s t : List Visit} {u : ℕ} → IsFromExcess excess s → IsSearch arcs x p t → Settles s t u → IsFromExcess excess t
+pub IsFromExcess-settles : {arcs : List ArcRow} {x p excess : List ℤ} {s t : List NodeLabel} {u : ℕ} → IsFromExcess excess s → IsSearch arcs x p t → Settles s t u → IsFromExcess excess t
 IsFromExcess-settles {arcs} {x} {p} {excess} {s} {t} {u} before known settles = record {
   sources = λ v h.
       (let was = before.sources v h in
       let reached = settles.reached_kept v was.0 in
-      (reached, omega (arith, ints, was.1, settles.key_falls v was.0, known.key_at_least_0 v reached)));
+      (reached, omega (arith, ints, was.1, settles.distance_falls v was.0, known.distance_at_least_0 v reached)));
   roots = λ v r d.
       (let was = settles.roots_kept v r d in
       let root = before.roots v was.0 was.1 in
@@ -28,29 +29,29 @@ IsFromExcess-settles {arcs} {x} {p} {excess} {s} {t} {u} before known settles = 
 }
 
 -- a node that is settled and not in deficit leaves none in deficit behind
-pub NoDeficit-settles : (excess : List ℤ) (s t : List Visit) (u : ℕ) → NoDeficit excess s → Settles s t u → pos 0 ≤ℤ number_at excess u → NoDeficit excess t
+pub NoDeficit-settles : (excess : List ℤ) (s t : List NodeLabel) (u : ℕ) → NoDeficit excess s → Settles s t u → pos 0 ≤ℤ number_at excess u → NoDeficit excess t
 NoDeficit-settles excess s t u before settles here v m = elim (settles.settled_before v m) [
   | inl same ↦ subst (λ (q : ℕ). pos 0 ≤ℤ number_at excess q) (sym same) here
   | inr was ↦ before v was
 ]
 
-pub IsFoundDeficit-settles : {excess : List ℤ} {s t : List Visit} {u v : ℕ} → IsFoundDeficit excess s v → Settles s t u → IsFoundDeficit excess t v
+pub IsFoundDeficit-settles : {excess : List ℤ} {s t : List NodeLabel} {u v : ℕ} → IsFoundDeficit excess s v → Settles s t u → IsFoundDeficit excess t v
 IsFoundDeficit-settles {excess} {s} {t} {u} {v} found settles = record {
-  settled = ap (λ (r : Visit). r.mark) (settles.settled_kept v found.settled) ∙ found.settled;
+  settled = ap (λ (r : NodeLabel). r.state) (settles.settled_kept v found.settled) ∙ found.settled;
   deficit = found.deficit;
 }
 
 -- the search has come as far as the node that it settled
-pub IsFront-settles : {arcs : List ArcRow} {x p : List ℤ} {s t : List Visit} {u : ℕ} → IsCertified arcs x p → IsSearch arcs x p s → IsSearch arcs x p t → mark_at s u ≡ Open → Settles s t u → IsFront t (key_at t u)
+pub IsFront-settles : {arcs : List ArcRow} {x p : List ℤ} {s t : List NodeLabel} {u : ℕ} → IsCertified arcs x p → IsSearch arcs x p s → IsSearch arcs x p t → state_at s u ≡ Open → Settles s t u → IsFront t (distance_at t u)
 IsFront-settles {arcs} {x} {p} {s} {t} {u} certified before known opened settles = record {
-  not_below_0 = known.key_at_least_0 u (settled_is_reached t u settles.now_settled);
+  not_below_0 = known.distance_at_least_0 u (settled_is_reached t u settles.now_settled);
   settled = record {
-    not_far = key_high arcs x p t u certified known (settled_is_reached t u settles.now_settled);
+    not_far = distance_high arcs x p t u certified known (settled_is_reached t u settles.now_settled);
     within = λ v m. (
-      known.key_at_least_0 v (settled_is_reached t v m),
+      known.distance_at_least_0 v (settled_is_reached t v m),
       elim (settles.settled_before v m) [
-        | inl same ↦ (let equal : key_at t v ≡ key_at t u = ap (key_at t) same in omega (arith, ints, equal))
-        | inr was ↦ omega (arith, ints, ap (λ (r : Visit). r.key) (settles.settled_kept v was), before.in_order v u was opened, settles.key_kept)
+        | inl same ↦ (let equal : distance_at t v ≡ distance_at t u = ap (distance_at t) same in omega (arith, ints, equal))
+        | inr was ↦ omega (arith, ints, ap (λ (r : NodeLabel). r.distance) (settles.settled_kept v was), before.in_order v u was opened, settles.distance_kept)
       ],
     );
   };
@@ -59,82 +60,79 @@ IsFront-settles {arcs} {x} {p} {s} {t} {u} certified before known opened settles
 }
 
 -- a settled node in deficit is one more, and another none
-module _ (arcs : List ArcRow) (x p excess : List ℤ) (s t : List Visit) (u : ℕ) (reach : ℤ) (found : ℕ)
-    (certified : IsCertified arcs x p) (before : IsSearch arcs x p s) (known : IsSearch arcs x p t) (opened : mark_at s u ≡ Open) (settles : Settles s t u)
+module _ (arcs : List ArcRow) (x p excess : List ℤ) (s t : List NodeLabel) (u : ℕ) (reach : ℤ) (found : ℕ)
+    (certified : IsCertified arcs x p) (before : IsSearch arcs x p s) (known : IsSearch arcs x p t) (opened : state_at s u ≡ Open) (settles : Settles s t u)
     (finding : IsFinding excess s reach found)
   where
-    pub IsFinding-deficit : number_at excess u <ℤ pos 0 → IsFinding excess t (key_at t u) (found + 1)
+    pub IsFinding-deficit : number_at excess u <ℤ pos 0 → IsFinding excess t (distance_at t u) (found + 1)
     IsFinding-deficit low = record {
       front = IsFront-settles certified before known opened settles;
       none = λ h. absurd (omega (arith, h));
       some = λ h. (u, record { settled = settles.now_settled; deficit = low });
     }
 
-    pub IsFinding-other : pos 0 ≤ℤ number_at excess u → IsFinding excess t (key_at t u) found
+    pub IsFinding-other : pos 0 ≤ℤ number_at excess u → IsFinding excess t (distance_at t u) found
     IsFinding-other high = record {
       front = IsFront-settles certified before known opened settles;
       none = λ h. NoDeficit-settles excess s t u (finding.none h) settles high;
       some = λ h. (let was = finding.some h in (was.0, IsFoundDeficit-settles was.1 settles));
     }
 
-pub IsFromAll-settles : {p : List ℤ} {s t : List Visit} {u : ℕ} → IsFromAll p s → Settles s t u → ((v : ℕ) → IsReached t v → v < length p) → IsFromAll p t
+pub IsFromAll-settles : {p : List ℤ} {s t : List NodeLabel} {u : ℕ} → IsFromAll p s → Settles s t u → ((v : ℕ) → IsReached t v → v < length p) → IsFromAll p t
 IsFromAll-settles {p} {s} {t} {u} before settles in_nodes = record {
   reached = λ v lt. settles.reached_kept v (before.reached v lt);
   roots = λ v r d. (let was = settles.roots_kept v r d in was.2 ∙ before.roots v was.0 was.1);
-  at_most_0 = λ v r. (let was = before.reached v (in_nodes v r) in omega (arith, ints, settles.key_falls v was, before.at_most_0 v was));
+  at_most_0 = λ v r. (let was = before.reached v (in_nodes v r) in omega (arith, ints, settles.distance_falls v was, before.at_most_0 v was));
 }
 
-module _ (arcs : List ArcRow) (x p : List ℤ) (s : List Visit)
+module _ (arcs : List ArcRow) (x p : List ℤ) (s : List NodeLabel)
     (certified : IsCertified arcs x p) (known : IsSearch arcs x p s) (all : AllRelaxed arcs x p s)
     (from_all : IsFromAll p s) (done : NoneOpen s (length s))
   where
-    settled_mark : (v : ℕ) (m : Mark) → mark_at s v ≡ m → v < length p → mark_at s v ≡ Settled
-    settled_mark v Unreached e lt = absurd (from_all.reached v lt e)
-    settled_mark v Open e lt = absurd (done v (rw known.sized lt) e)
-    settled_mark v Settled e lt = e
+    settled_state : (v : ℕ) (m : State) → state_at s v ≡ m → v < length p → state_at s v ≡ Settled
+    settled_state v Unreached e lt = absurd (from_all.reached v lt e)
+    settled_state v Open e lt = absurd (done v (rw known.sized lt) e)
+    settled_state v Settled e lt = e
 
-    all_settled : (v : ℕ) → v < length p → mark_at s v ≡ Settled
-    all_settled v lt = settled_mark v (mark_at s v) refl lt
+    all_settled : (v : ℕ) → v < length p → state_at s v ≡ Settled
+    all_settled v lt = settled_state v (state_at s v) refl lt
 
     start_in : (k : ℕ) (way : Way) → IsResidual arcs x k way → start_at arcs k way < length p
     start_in k way h = start_of-in (length p) (arc_at arcs k) way (certified.flow.rows k h.is_arc)
 
-    reached_or_past : (v : ℕ) → IsReached s v ⊎ ((number_at p v ≡ pos 0) × (key_at s v ≡ pos 0))
+    reached_or_past : (v : ℕ) → IsReached s v ⊎ ((number_at p v ≡ pos 0) × (distance_at s v ≡ pos 0))
     reached_or_past v = elim (cases_lt v (length p)) [
       | inl lt ↦ inl (from_all.reached v lt)
-      | inr past ↦ inr (get_or_past p v (pos 0) past, ap (λ (e : Visit). e.key) (get_or_past s v _ (rw known.sized past)))
+      | inr past ↦ inr (get_or_past p v (pos 0) past, ap (λ (e : NodeLabel). e.distance) (get_or_past s v _ (rw known.sized past)))
     ]
 
-    greatest_at : (r : ℕ → ℤ) → NoneBelowBy arcs x r → ((v : ℕ) → r v ≤ℤ pos 0) → (d v : ℕ) → IsReached s v → depth_at s v ≡ d → r v ≤ℤ (number_at p v +ℤ key_at s v)
+    greatest_at : (r : ℕ → ℤ) → NoneBelowBy arcs x r → ((v : ℕ) → r v ≤ℤ pos 0) → (d v : ℕ) → IsReached s v → depth_at s v ≡ d → r v ≤ℤ (number_at p v +ℤ distance_at s v)
     greatest_at r fits low zero v reached e = omega (arith, ints, low v, from_all.roots v reached e)
     greatest_at r fits low (suc d) v reached e =
         let traced = known.traced v reached (omega arith) in
-        let k = (visit_at s v).arc in
-        let way = (visit_at s v).way in
+        let k = (node_label_at s v).arc in
+        let way = (node_label_at s v).way in
         let shallower : depth_at s (start_at arcs k way) ≡ d = omega (arith, traced.deeper) in
         let before = greatest_at r fits low d (start_at arcs k way) (settled_is_reached s _ traced.settled) shallower in
         let at_end : r (end_at arcs k way) ≡ r v = ap r traced.ends in
         let p_end : number_at p (end_at arcs k way) ≡ number_at p v = ap (number_at p) traced.ends in
         omega (arith, ints, before, fits k way traced.residual, traced.tight, at_end, p_end)
 
-    label_at_least : (most d v : ℕ) → IsCheap arcs most → IsReached s v → depth_at s v ≡ d → neg_ℤ (pos (most * d)) ≤ℤ (number_at p v +ℤ key_at s v)
-    label_at_least most zero v cheap reached e = omega (arith, ints, from_all.roots v reached e, mul-zero most)
-    label_at_least most (suc d) v cheap reached e =
+    label_at_least : (d v : ℕ) → IsReached s v → depth_at s v ≡ d → neg_ℤ (pos (cost_limit * d)) ≤ℤ (number_at p v +ℤ distance_at s v)
+    label_at_least zero v reached e = omega (arith, ints, from_all.roots v reached e)
+    label_at_least (suc d) v reached e =
         let traced = known.traced v reached (omega arith) in
-        let k = (visit_at s v).arc in
-        let way = (visit_at s v).way in
+        let k = (node_label_at s v).arc in
+        let way = (node_label_at s v).way in
         let shallower : depth_at s (start_at arcs k way) ≡ d = omega (arith, traced.deeper) in
-        let before = label_at_least most d (start_at arcs k way) cheap (settled_is_reached s _ traced.settled) shallower in
+        let before = label_at_least d (start_at arcs k way) (settled_is_reached s _ traced.settled) shallower in
         let p_end : number_at p (end_at arcs k way) ≡ number_at p v = ap (number_at p) traced.ends in
-        let cost = cheap k way traced.residual.is_arc in
-        omega (arith, ints, before, traced.tight, p_end, cost, mul-suc most d)
+        let cost = (cost_of-bounds (length p) (arc_at arcs k) way (certified.flow.rows k traced.residual.is_arc)).0 in
+        omega (arith, ints, before, traced.tight, p_end, cost)
 
-    cheap : IsCheap arcs cost_limit
-    cheap k way lt = (cost_of-bounds (length p) (arc_at arcs k) way (certified.flow.rows k lt)).0
-
-    pub label_fits : (v : ℕ) → (neg_ℤ (pos label_floor) ≤ℤ (number_at p v +ℤ key_at s v)) × ((number_at p v +ℤ key_at s v) ≤ℤ pos 0)
+    pub label_fits : (v : ℕ) → (neg_ℤ (pos label_floor) ≤ℤ (number_at p v +ℤ distance_at s v)) × ((number_at p v +ℤ distance_at s v) ≤ℤ pos 0)
     label_fits v = elim (reached_or_past v) [
-      | inl reached ↦ (omega (arith, ints, label_at_least cost_limit (depth_at s v) v cheap reached refl, known.settled_depth v (all_settled v (rw (sym known.sized) (in_range s v reached))), known.sized, certified.flow.few_nodes), omega (arith, ints, from_all.at_most_0 v reached))
+      | inl reached ↦ (omega (arith, ints, label_at_least (depth_at s v) v reached refl, known.settled_depth v (all_settled v (rw (sym known.sized) (in_range s v reached))), known.sized, certified.flow.few_nodes), omega (arith, ints, from_all.at_most_0 v reached))
       | inr past ↦ (omega (arith, ints, past.0, past.1), omega (arith, ints, past.0, past.1))
     ]
 
@@ -150,13 +148,6 @@ module _ (arcs : List ArcRow) (x p : List ℤ) (s : List Visit)
         at_most_0 = λ v. rw labels (label_fits v).1;
         at_least = λ v. rw labels (label_fits v).0;
       }
-
-      pub labels_above : ArePathsAbove arcs q
-      labels_above most entries cheap_by sized_q v = elim (reached_or_past v) [
-        | inl reached ↦ (let shallow : depth_at s v ≤ entries = omega (arith, known.settled_depth v (all_settled v (rw (sym known.sized) (in_range s v reached))), known.sized) in
-            omega (arith, ints, labels v, label_at_least most (depth_at s v) v cheap_by reached refl, mul-le-mul_left most shallow))
-        | inr past ↦ omega (arith, ints, labels v, past.0, past.1)
-      ]
 
       pub labels_certified : IsCertified arcs x q
       labels_certified = record {
@@ -175,27 +166,27 @@ module _ (arcs : List ArcRow) (x p : List ℤ) (s : List Visit)
         | inr past ↦ omega (arith, ints, past.0, past.1, low v)
       ])
 
-module _ (arcs : List ArcRow) (x p q : List ℤ) (s : List Visit) (reach : ℤ)
+module _ (arcs : List ArcRow) (x p q : List ℤ) (s : List NodeLabel) (reach : ℤ)
     (certified : IsCertified arcs x p) (known : IsSearch arcs x p s) (all : AllRelaxed arcs x p s)
-    (near : IsReach s reach) (beyond : (v : ℕ) → mark_at s v ≡ Open → reach ≤ℤ key_at s v)
+    (near : IsReach s reach) (beyond : (v : ℕ) → state_at s v ≡ Open → reach ≤ℤ distance_at s v)
     (low : IsLowered p q s reach)
   where
     -- what a potential falls by: nothing, or what its node is nearer than `reach`
-    falls : (v : ℕ) (m : Mark) → mark_at s v ≡ m → number_at q v ≡ lowered_by m (number_at p v) (key_at s v) reach
-    falls v m e = low v ∙ ap (λ (n : Mark). lowered_by n (number_at p v) (key_at s v) reach) e
+    falls : (v : ℕ) (m : State) → state_at s v ≡ m → number_at q v ≡ lowered_by m (number_at p v) (distance_at s v) reach
+    falls v m e = low v ∙ ap (λ (n : State). lowered_by n (number_at p v) (distance_at s v) reach) e
 
-    not_above : (v : ℕ) (m : Mark) → mark_at s v ≡ m → number_at q v ≤ℤ number_at p v
+    not_above : (v : ℕ) (m : State) → state_at s v ≡ m → number_at q v ≤ℤ number_at p v
     not_above v Unreached e = omega (arith, ints, falls v Unreached e)
     not_above v Open e = omega (arith, ints, falls v Open e)
     not_above v Settled e = omega (arith, ints, falls v Settled e, near.within v e)
 
-    -- a node that is reached ends at most `reach - key` below, and keeps its potential where it is open
-    at_most : (v : ℕ) (m : Mark) → mark_at s v ≡ m → IsReached s v → number_at q v ≤ℤ ((number_at p v +ℤ key_at s v) -ℤ reach)
+    -- a node that is reached ends at most `reach - distance` below, and keeps its potential where it is open
+    at_most : (v : ℕ) (m : State) → state_at s v ≡ m → IsReached s v → number_at q v ≤ℤ ((number_at p v +ℤ distance_at s v) -ℤ reach)
     at_most v Unreached e r = absurd (r e)
     at_most v Open e r = omega (arith, ints, falls v Open e, beyond v e)
     at_most v Settled e r = omega (arith, ints, falls v Settled e)
 
-    lowered_arc : (k : ℕ) (way : Way) (m : Mark) → mark_at s (start_at arcs k way) ≡ m → IsResidual arcs x k way → number_at q (end_at arcs k way) ≤ℤ (cost_at arcs k way +ℤ number_at q (start_at arcs k way))
+    lowered_arc : (k : ℕ) (way : Way) (m : State) → state_at s (start_at arcs k way) ≡ m → IsResidual arcs x k way → number_at q (end_at arcs k way) ≤ℤ (cost_at arcs k way +ℤ number_at q (start_at arcs k way))
     lowered_arc k way Unreached e h = omega (arith, ints, falls _ Unreached e, not_above (end_at arcs k way) _ refl, certified.none_below k way h)
     lowered_arc k way Open e h = omega (arith, ints, falls _ Open e, not_above (end_at arcs k way) _ refl, certified.none_below k way h)
     lowered_arc k way Settled e h =
@@ -203,4 +194,4 @@ module _ (arcs : List ArcRow) (x p q : List ℤ) (s : List Visit) (reach : ℤ)
         omega (arith, ints, falls _ Settled e, relaxed.no_dearer, at_most (end_at arcs k way) _ refl relaxed.reached)
 
     pub lowered_none_below : NoneBelow arcs x q
-    lowered_none_below k way h = lowered_arc k way (mark_at s (start_at arcs k way)) refl h
+    lowered_none_below k way h = lowered_arc k way (state_at s (start_at arcs k way)) refl h

@@ -1,5 +1,6 @@
 -- What one search, one change of potentials and the pushes after it keep.
-use Rattle.shortest_paths.specs.Limits.{potential_floor, label_floor, left_limit, excess_limit, entry_limit}
+use Rattle.residual_graph.specs.Limits.{potential_floor, entry_limit}
+use Rattle.shortest_paths.specs.Limits.{label_floor, left_limit, excess_limit}
 use Rattle.std.proofs.Common.{◌≡◌, ℕ, zero, suc, ◌+◌, ◌<◌, ◌≤◌, ℤ, pos, negsuc, neg_ℤ, ◌-ℤ◌, ◌+ℤ◌, ◌≤ℤ◌, List, [], ◌∷◌, length, map, refl, sym, ap, subst, ◌∙◌, inl, inr, arith}
 use Rattle.std.specs.Prelude.{◌<ℤ◌, slice_index_or}
 use Rattle.std.proofs.lemmas.Int.{ints}
@@ -7,13 +8,14 @@ use Rattle.std.proofs.lemmas.Bool.{cases_eq, cases_lt}
 use Rattle.std.proofs.lemmas.List.{get_or_default, get_or_past, length-map}
 use Rattle.std.proofs.lemmas.List.Sums.{sum_by-cons, sum_by-le}
 use Rattle.dimacs_text.specs.declared.problem.ArcRow.{ArcRow}
-use Rattle.shortest_paths.specs.declared.visit.Mark.{Mark}
-use Rattle.shortest_paths.specs.declared.visit.Mark.TheVariants.{Unreached, Open, Settled}
-use Rattle.shortest_paths.specs.declared.visit.Visit.{Visit}
-use Rattle.shortest_paths.specs.Residual.{IsCertified, ArePotentials, NoneBelow, number_at, end_at}
-use Rattle.shortest_paths.specs.Search.{mark_at, key_at, depth_at, IsSearch, AllRelaxed, IsFromExcess, IsFoundDeficit, IsFront, IsLowered, lowered_by}
+use Rattle.shortest_paths.specs.declared.node_label.State.{State}
+use Rattle.shortest_paths.specs.declared.node_label.State.TheVariants.{Unreached, Open, Settled}
+use Rattle.shortest_paths.specs.declared.node_label.NodeLabel.{NodeLabel}
+use Rattle.residual_graph.specs.Residual.{IsCertified, ArePotentials, NoneBelow, number_at, end_at}
+use Rattle.shortest_paths.specs.Search.{state_at, distance_at, depth_at, IsSearch, AllRelaxed, IsFromExcess, IsFoundDeficit, IsFront, IsLowered, lowered_by}
 use Rattle.network.specs.Flow.{net}
-use Rattle.shortest_paths.specs.Push.{Hop, IsExcess, IsPush, Pushes, path_of, root_to, HavePaths, ArePathsTight, HasRoom, IsTransfer, IsUnderWay, ArePushes, CanPush, push_along, at_node, AreSmall, positive_part, left, lack}
+use Rattle.shortest_paths.specs.Push.{IsExcess, IsPush, Pushes, path_of, root_to, HavePaths, ArePathsTight, HasRoom, IsTransfer, IsUnderWay, ArePushes, CanPush, push_along, at_node, AreSmall, positive_part, left, lack}
+use Rattle.residual_graph.specs.declared.residual.ResidualArc.{ResidualArc}
 use Rattle.shortest_paths.specs.Settle.{IsNear}
 use Rattle.shortest_paths.proofs.SearchLemmas.{settled_is_reached}
 use Rattle.shortest_paths.proofs.RunLemmas.{lowered_none_below}
@@ -22,7 +24,7 @@ use Rattle.shortest_paths.proofs.BlockingLemmas.{IsAlong}
 use Rattle.shortest_paths.proofs.PushLemmas.{arc_to, way_to, before, root_reached, IsShift-along, IsFlow-along, NoneBelow-along, net-along, at_same, at_other}
 
 -- the paths behind the nodes that the search settled
-pub paths_of_search : {arcs : List ArcRow} {x p : List ℤ} {s : List Visit} → IsSearch arcs x p s → HavePaths arcs s
+pub paths_of_search : {arcs : List ArcRow} {x p : List ℤ} {s : List NodeLabel} → IsSearch arcs x p s → HavePaths arcs s
 paths_of_search {arcs} {x} {p} {s} known v settled deep =
     let traced = known.traced v (settled_is_reached s v settled) deep in
     record {
@@ -76,12 +78,12 @@ lack-small e small few =
     part_small (negsuc n) h = omega (arith, ints)
 
 -- the potentials lowered after a search that came as far as `reach`
-module _ (arcs : List ArcRow) (x p q : List ℤ) (s : List Visit) (reach fallen : ℤ)
+module _ (arcs : List ArcRow) (x p q : List ℤ) (s : List NodeLabel) (reach fallen : ℤ)
     (certified : IsCertified arcs x p) (known : IsSearch arcs x p s) (all : AllRelaxed arcs x p s) (front : IsFront s reach)
     (low : IsLowered p q s reach) (near : IsNear p fallen)
   where
-    falls_at : (v : ℕ) (m : Mark) → mark_at s v ≡ m → number_at q v ≡ lowered_by m (number_at p v) (key_at s v) reach
-    falls_at v m h = low v ∙ ap (λ (n : Mark). lowered_by n (number_at p v) (key_at s v) reach) h
+    falls_at : (v : ℕ) (m : State) → state_at s v ≡ m → number_at q v ≡ lowered_by m (number_at p v) (distance_at s v) reach
+    falls_at v m h = low v ∙ ap (λ (n : State). lowered_by n (number_at p v) (distance_at s v) reach) h
 
     pub paths_tight : ArePathsTight arcs q s
     paths_tight v settled deep =
@@ -92,22 +94,22 @@ module _ (arcs : List ArcRow) (x p q : List ℤ) (s : List Visit) (reach fallen 
         let q_end : number_at q (end_at arcs k way) ≡ number_at q v = ap (number_at q) traced.ends in
         omega (arith, ints, falls_at v Settled settled, falls_at (before arcs s v) Settled traced.settled, traced.tight, p_end, q_end)
 
-    not_raised : (v : ℕ) (m : Mark) → mark_at s v ≡ m → (number_at q v ≤ℤ number_at p v) × ((number_at p v -ℤ reach) ≤ℤ number_at q v)
+    not_raised : (v : ℕ) (m : State) → state_at s v ≡ m → (number_at q v ≤ℤ number_at p v) × ((number_at p v -ℤ reach) ≤ℤ number_at q v)
     not_raised v Unreached m = (omega (arith, ints, falls_at v Unreached m), omega (arith, ints, falls_at v Unreached m, front.not_below_0))
     not_raised v Open m = (omega (arith, ints, falls_at v Open m), omega (arith, ints, falls_at v Open m, front.not_below_0))
     not_raised v Settled m =
         let within = front.settled.within v m in
         (omega (arith, ints, falls_at v Settled m, within.1), omega (arith, ints, falls_at v Settled m, within.0))
 
-    settled_key : (v : ℕ) → mark_at s v ≡ Settled → key_at s v ≤ℤ (pos (label_floor + label_floor) +ℤ fallen)
-    settled_key v m =
+    settled_distance : (v : ℕ) → state_at s v ≡ Settled → distance_at s v ≤ℤ (pos (label_floor + label_floor) +ℤ fallen)
+    settled_distance v m =
         omega (arith, ints, known.label_high v (settled_is_reached s v m), known.settled_depth v m, known.sized, certified.flow.few_nodes, near.at_least v)
 
     pub reach_high : reach ≤ℤ (pos (label_floor + label_floor) +ℤ fallen)
-    reach_high = front.no_further _ (omega (arith, ints, near.not_below_0)) settled_key
+    reach_high = front.no_further _ (omega (arith, ints, near.not_below_0)) settled_distance
 
     pub fallen_further : (v : ℕ) → (neg_ℤ (pos label_floor) -ℤ (fallen +ℤ reach)) ≤ℤ number_at q v
-    fallen_further v = omega (arith, ints, (not_raised v (mark_at s v) refl).1, near.at_least v)
+    fallen_further v = omega (arith, ints, (not_raised v (state_at s v) refl).1, near.at_least v)
 
     pub none_below_after : NoneBelow arcs x q
     none_below_after = lowered_none_below arcs x p q s reach certified known all front.settled front.beyond low
@@ -115,15 +117,15 @@ module _ (arcs : List ArcRow) (x p q : List ℤ) (s : List Visit) (reach fallen 
     pub potentials_after : ArePotentials (length q) potential_floor q
     potentials_after = record {
       sized = refl;
-      at_most_0 = λ v. omega (arith, ints, (not_raised v (mark_at s v) refl).0, certified.potentials.at_most_0 v);
+      at_most_0 = λ v. omega (arith, ints, (not_raised v (state_at s v) refl).0, certified.potentials.at_most_0 v);
       at_least = λ v. omega (arith, ints, fallen_further v, reach_high, near.not_above);
     }
 
 -- what was found can be pushed to, at first
-module _ (arcs : List ArcRow) (x p e : List ℤ) (s : List Visit) (t : ℕ)
+module _ (arcs : List ArcRow) (x p e : List ℤ) (s : List NodeLabel) (t : ℕ)
     (known : IsSearch arcs x p s) (from : IsFromExcess e s) (found : IsFoundDeficit e s t)
   where
-    path_room : (d v : ℕ) → mark_at s v ≡ Settled → depth_at s v ≡ d → HasRoom arcs x (pos 1) (path_of arcs s d v)
+    path_room : (d v : ℕ) → state_at s v ≡ Settled → depth_at s v ≡ d → HasRoom arcs x (pos 1) (path_of arcs s d v)
     path_room zero v settled deep = tt
     path_room (suc d) v settled deep =
         let traced = known.traced v (settled_is_reached s v settled) (omega arith) in
@@ -139,7 +141,7 @@ module _ (arcs : List ArcRow) (x p e : List ℤ) (s : List Visit) (t : ℕ)
         }
 
 -- flow moved along a path from a node in excess to a node in deficit
-module _ (nodes : ℕ) (arcs : List ArcRow) (q x e : List ℤ) (hops : List Hop) (root t : ℕ) (m : ℤ) (f : List ℤ)
+module _ (nodes : ℕ) (arcs : List ArcRow) (q x e : List ℤ) (hops : List ResidualArc) (root t : ℕ) (m : ℤ) (f : List ℤ)
     (state : IsUnderWay nodes arcs q x e) (is : IsAlong arcs q x m hops root t)
     (at_least_1 : pos 1 ≤ℤ m) (root_in : root < nodes) (in_excess : m ≤ℤ number_at e root) (in_deficit : number_at e t ≤ℤ neg_ℤ m)
     (transfer : IsTransfer root t m e f)

@@ -5,7 +5,8 @@ use Rattle.std.proofs.lemmas.Bool.{cases_eq, cases_lt, false≢true, true≢fals
 use Rattle.std.proofs.lemmas.List.{length-set, get_or-set_same, get_or-set_other, get_or_past}
 use Rattle.std.proofs.lemmas.List.Sums.{sum_by-cons}
 use Rattle.std.specs.List.{count_by}
-use Rattle.shortest_paths.specs.Cut.{in_set, node_at, IsLineOf}
+use Rattle.shortest_paths.specs.Cut.{in_set, IsListOf}
+use Rattle.shortest_paths.specs.NodeLists.{node_at}
 use Rattle.shortest_paths.specs.Touched.{AreNoted}
 
 -- a place is noted, or it is not
@@ -60,8 +61,8 @@ AreForgotten-more noted places j place noted' are is = record {
   ];
 }
 
-pub AreForgotten-all : (noted : List Bool) (places : List ℕ) (len : ℕ) (noted' : List Bool) → IsLineOf noted places len → AreForgotten noted places len noted' → (k : ℕ) → in_set noted' k ≡ false
-AreForgotten-all noted places len noted' line are k = false_from_ne_true (in_set noted' k) (λ h. (let listed = line.listed k (are.before k h) in true≢false (sym h ∙ subst (λ (q : ℕ). in_set noted' q ≡ false) listed.is_there (are.forgotten listed.place listed.in_line))))
+pub AreForgotten-all : (noted : List Bool) (places : List ℕ) (len : ℕ) (noted' : List Bool) → IsListOf noted places len → AreForgotten noted places len noted' → (k : ℕ) → in_set noted' k ≡ false
+AreForgotten-all noted places len noted' line are k = false_from_ne_true (in_set noted' k) (λ h. (let listed = line.listed k (are.before k h) in true≢false (sym h ∙ subst (λ (q : ℕ). in_set noted' q ≡ false) listed.is_there (are.forgotten listed.place listed.in_list))))
 
 all_out : (set : List Bool) → ((k : ℕ) → in_set set k ≡ false) → count_by not set ≡ length set
 all_out [] none = refl
@@ -69,8 +70,8 @@ all_out (true ∷ set) none = absurd (true≢false (none 0))
 all_out (false ∷ set) none = omega (arith, sum_by-cons (λ (b : Bool). cond (not b) 1 0) false set, all_out set (λ k. none (suc k)))
 
 -- the line of no place
-pub IsLineOf-none : (noted : List Bool) (places : List ℕ) → length places ≡ length noted → ((k : ℕ) → in_set noted k ≡ false) → IsLineOf noted places 0
-IsLineOf-none noted places sized none = record {
+pub IsListOf-none : (noted : List Bool) (places : List ℕ) → length places ≡ length noted → ((k : ℕ) → in_set noted k ≡ false) → IsListOf noted places 0
+IsListOf-none noted places sized none = record {
   one_a_node = sized;
   inside = λ j lt. absurd (omega arith);
   listed = λ k h. absurd (true≢false (sym h ∙ none k));

@@ -1,5 +1,6 @@
 -- A network seen from behind, each of its arcs turned round: what holds of it there, and what that says of the network.
-use Rattle.shortest_paths.specs.Limits.{potential_floor, label_floor}
+use Rattle.residual_graph.specs.Limits.{potential_floor}
+use Rattle.shortest_paths.specs.Limits.{label_floor}
 use Rattle.std.proofs.Common.{◌≡◌, ◌≢◌, ◌↔◌, ℕ, zero, suc, ◌<◌, ℤ, pos, neg_ℤ, ◌-ℤ◌, ◌+ℤ◌, ◌≤ℤ◌, List, [], ◌∷◌, ◌++◌, length, map, refl, sym, ap, subst, ◌∙◌, inl, inr, arith, Bool, true, false, not}
 use Rattle.std.specs.Prelude.{◌<ℤ◌}
 use Rattle.std.specs.List.{All, AllPairs}
@@ -12,70 +13,23 @@ use Rattle.std.proofs.lemmas.List.Elements.{All-nil, All-cons, All-head, All-tai
 use Rattle.std.proofs.lemmas.List.Quantifiers.{all_pairs_push}
 use Rattle.dimacs_text.specs.declared.problem.ArcRow.{ArcRow}
 use Rattle.network.specs.Flow.{net, outflow, inflow}
-use Rattle.shortest_paths.specs.declared.residual.Way.{Way}
-use Rattle.shortest_paths.specs.declared.residual.Way.TheVariants.{Forward, Backward}
-use Rattle.shortest_paths.specs.declared.side.Side.{Side}
-use Rattle.shortest_paths.specs.declared.side.Side.TheVariants.{Ahead, Behind}
-use Rattle.shortest_paths.specs.Push.{Hop, IsExcess, IsPath, IsPush, IsShift, Pushes, ArePushes, nodes_on, moved, at_node, positive_part, left, lack}
+use Rattle.residual_graph.specs.declared.residual.Way.{Way}
+use Rattle.residual_graph.specs.declared.residual.Way.TheVariants.{Forward, Backward}
+use Rattle.residual_graph.specs.declared.side.Side.{Side}
+use Rattle.residual_graph.specs.declared.side.Side.TheVariants.{Ahead, Behind}
+use Rattle.shortest_paths.specs.Push.{IsExcess, IsPath, IsPush, IsShift, Pushes, ArePushes, nodes_on, moved, at_node, positive_part, left, lack}
+use Rattle.residual_graph.specs.declared.residual.ResidualArc.{ResidualArc}
 use Rattle.shortest_paths.specs.Cut.{IsParted, in_set}
 use Rattle.shortest_paths.specs.Nodes.{table}
-use Rattle.shortest_paths.specs.Residual.{IsCertified, IsFlow, IsResidual, IsRow, IsWithin, NoneBelow, number_at, arc_at, start_of, end_of, cost_of, room_of, start_at, end_at, cost_at}
+use Rattle.residual_graph.specs.Residual.{IsCertified, IsFlow, IsResidual, IsRow, IsWithin, NoneBelow, number_at, arc_at, start_of, end_of, cost_of, room_of, start_at, end_at, cost_at}
 use Rattle.shortest_paths.specs.Settle.{IsNear}
-use Rattle.shortest_paths.specs.Side.{AreOpposite, IsLeast, other_side, seen, turned_row}
+use Rattle.shortest_paths.specs.Turn.{AreOpposite, IsLeast}
+use Rattle.residual_graph.specs.Side.{other_side, seen, turned_row}
 use Rattle.shortest_paths.proofs.NodeLemmas.{length-table, table_at}
-use Rattle.shortest_paths.proofs.SearchLemmas.{start_of-in, end_of-in}
+use Rattle.residual_graph.proofs.RowLemmas.{start_of-in, end_of-in}
+use Rattle.residual_graph.proofs.TurnedRows.{start_at-turned, end_at-turned, flow-turned, turned_twice, cost_at-turned, residual-turned, residual-unturned}
 
--- ---- arcs turned round
-
-pub arc_at-turned : (arcs : List ArcRow) (k : ℕ) → arc_at (map turned_row arcs) k ≡ turned_row (arc_at arcs k)
-arc_at-turned [] k = refl
-arc_at-turned (a ∷ arcs) zero = refl
-arc_at-turned (a ∷ arcs) (suc k) = arc_at-turned arcs k
-
-turned_twice : (arcs : List ArcRow) → map turned_row (map turned_row arcs) ≡ arcs
-turned_twice [] = refl
-turned_twice (a ∷ arcs) = ap (λ (rest : List ArcRow). a ∷ rest) (turned_twice arcs)
-
-start_of-turned : (a : ArcRow) (way : Way) → start_of (turned_row a) way ≡ end_of a way
-start_of-turned a Forward = refl
-start_of-turned a Backward = refl
-
-end_of-turned : (a : ArcRow) (way : Way) → end_of (turned_row a) way ≡ start_of a way
-end_of-turned a Forward = refl
-end_of-turned a Backward = refl
-
-cost_of-turned : (a : ArcRow) (way : Way) → cost_of (turned_row a) way ≡ cost_of a way
-cost_of-turned a Forward = refl
-cost_of-turned a Backward = refl
-
-room_of-turned : (a : ArcRow) (y : ℤ) (way : Way) → room_of (turned_row a) y way ≡ room_of a y way
-room_of-turned a y Forward = refl
-room_of-turned a y Backward = refl
-
-pub start_at-turned : (arcs : List ArcRow) (k : ℕ) (way : Way) → start_at (map turned_row arcs) k way ≡ end_at arcs k way
-start_at-turned arcs k way = ap (λ (a : ArcRow). start_of a way) (arc_at-turned arcs k) ∙ start_of-turned (arc_at arcs k) way
-
-pub end_at-turned : (arcs : List ArcRow) (k : ℕ) (way : Way) → end_at (map turned_row arcs) k way ≡ start_at arcs k way
-end_at-turned arcs k way = ap (λ (a : ArcRow). end_of a way) (arc_at-turned arcs k) ∙ end_of-turned (arc_at arcs k) way
-
-cost_at-turned : (arcs : List ArcRow) (k : ℕ) (way : Way) → cost_at (map turned_row arcs) k way ≡ cost_at arcs k way
-cost_at-turned arcs k way = ap (λ (a : ArcRow). cost_of a way) (arc_at-turned arcs k) ∙ cost_of-turned (arc_at arcs k) way
-
-room_at-turned : (arcs : List ArcRow) (x : List ℤ) (k : ℕ) (way : Way) → room_of (arc_at (map turned_row arcs) k) (number_at x k) way ≡ room_of (arc_at arcs k) (number_at x k) way
-room_at-turned arcs x k way = ap (λ (a : ArcRow). room_of a (number_at x k) way) (arc_at-turned arcs k) ∙ room_of-turned (arc_at arcs k) (number_at x k) way
-
--- a residual arc is there from either side
-pub residual-turned : (arcs : List ArcRow) (x : List ℤ) (k : ℕ) (way : Way) → IsResidual arcs x k way → IsResidual (map turned_row arcs) x k way
-residual-turned arcs x k way residual = record {
-  is_arc = rw (length-map arcs turned_row) residual.is_arc;
-  has_room = rw (room_at-turned arcs x k way) residual.has_room;
-}
-
-pub residual-unturned : (arcs : List ArcRow) (x : List ℤ) (k : ℕ) (way : Way) → IsResidual (map turned_row arcs) x k way → IsResidual arcs x k way
-residual-unturned arcs x k way residual = record {
-  is_arc = rw (length-map arcs turned_row) at residual.is_arc;
-  has_room = rw (room_at-turned arcs x k way) at residual.has_room;
-}
+-- ---- flow along arcs turned round
 
 pub outflow-turned : (arcs : List ArcRow) (x : List ℤ) (v : ℕ) → outflow (map turned_row arcs) x v ≡ inflow arcs x v
 outflow-turned [] x v = refl
@@ -86,36 +40,6 @@ pub inflow-turned : (arcs : List ArcRow) (x : List ℤ) (v : ℕ) → inflow (ma
 inflow-turned [] x v = refl
 inflow-turned (a ∷ arcs) [] v = refl
 inflow-turned (a ∷ arcs) (y ∷ x) v = ap (λ (n : ℤ). at_node a.tail y v +ℤ n) (inflow-turned arcs x v)
-
-row-turned : (nodes : ℕ) (a : ArcRow) → IsRow nodes a → IsRow nodes (turned_row a)
-row-turned nodes a row = record {
-  tail_in = row.head_in;
-  head_in = row.tail_in;
-  low_at_least_0 = row.low_at_least_0;
-  low_at_most_cap = row.low_at_most_cap;
-  cap_in = row.cap_in;
-  cost_low = row.cost_low;
-  cost_high = row.cost_high;
-}
-
-flow-turned : (nodes : ℕ) (arcs : List ArcRow) (x : List ℤ) → IsFlow nodes arcs x → IsFlow nodes (map turned_row arcs) x
-flow-turned nodes arcs x flow = record {
-  few_nodes = flow.few_nodes;
-  few_arcs = omega (arith, sized, flow.few_arcs);
-  same_length = omega (arith, sized, flow.same_length);
-  rows = λ k lt. subst (IsRow nodes) (sym (arc_at-turned arcs k)) (row-turned nodes (arc_at arcs k) (flow.rows k (omega (arith, sized, lt))));
-  within = λ k lt. (let is = flow.within k (omega (arith, sized, lt)) in
-      subst (λ (a : ArcRow). IsWithin a (number_at x k)) (sym (arc_at-turned arcs k)) (record { low_kept = is.low_kept; cap_kept = is.cap_kept }));
-}
-  where
-    sized : length (map turned_row arcs) ≡ length arcs
-    sized = length-map arcs turned_row
-
-flow-unturned : (nodes : ℕ) (arcs : List ArcRow) (x : List ℤ) → IsFlow nodes (map turned_row arcs) x → IsFlow nodes arcs x
-flow-unturned nodes arcs x flow = subst (λ (rows : List ArcRow). IsFlow nodes rows x) (turned_twice arcs) (flow-turned nodes (map turned_row arcs) x flow)
-
-pub flow_both : (nodes : ℕ) (arcs : List ArcRow) (x : List ℤ) → IsFlow nodes (seen Behind arcs) x ↔ IsFlow nodes arcs x
-flow_both nodes arcs x = (flow-unturned nodes arcs x, flow-turned nodes arcs x)
 
 -- ---- potentials turned round
 
@@ -232,22 +156,22 @@ apart-from_end (v ∷ vs) pairs =
     (apart-from_end vs (λ i j d lt within. pairs (suc i) (suc j) d (omega (arith, lt)) (omega (arith, within))))
     (All-from_end (λ (u : ℕ). u ≢ v) vs (λ k d lt same. pairs 0 (suc k) d (omega arith) (omega (arith, lt)) (sym same)))
 
-path-push : (arcs : List ArcRow) (hops : List Hop) (u w v : ℕ) (h : Hop) → IsPath arcs hops u v → start_at arcs h.arc h.way ≡ v → end_at arcs h.arc h.way ≡ w → IsPath arcs (hops ++ h ∷ []) u w
+path-push : (arcs : List ArcRow) (hops : List ResidualArc) (u w v : ℕ) (h : ResidualArc) → IsPath arcs hops u v → start_at arcs h.arc h.way ≡ v → end_at arcs h.arc h.way ≡ w → IsPath arcs (hops ++ h ∷ []) u w
 path-push arcs [] u w v h path starts ends = (starts ∙ sym path, ends)
 path-push arcs (g ∷ hops) u w v h path starts ends = (path.0, path-push arcs hops (end_at arcs g.arc g.way) w v h path.1 starts ends)
 
 -- the last hop seen from behind is the first one
-path-turned : (arcs : List ArcRow) (hops : List Hop) (u w : ℕ) → IsPath (map turned_row arcs) hops u w → IsPath arcs (from_end hops) w u
+path-turned : (arcs : List ArcRow) (hops : List ResidualArc) (u w : ℕ) → IsPath (map turned_row arcs) hops u w → IsPath arcs (from_end hops) w u
 path-turned arcs [] u w path = sym path
 path-turned arcs (h ∷ hops) u w path =
     let v = end_at (map turned_row arcs) h.arc h.way in
     path-push arcs (from_end hops) w u v h (path-turned arcs hops v w path.1) (sym (end_at-turned arcs h.arc h.way)) (sym (start_at-turned arcs h.arc h.way) ∙ path.0)
 
-nodes-push : (arcs : List ArcRow) (hops : List Hop) (u : ℕ) (h : Hop) → nodes_on arcs (hops ++ h ∷ []) u ≡ nodes_on arcs hops u ++ end_at arcs h.arc h.way ∷ []
+nodes-push : (arcs : List ArcRow) (hops : List ResidualArc) (u : ℕ) (h : ResidualArc) → nodes_on arcs (hops ++ h ∷ []) u ≡ nodes_on arcs hops u ++ end_at arcs h.arc h.way ∷ []
 nodes-push arcs [] u h = refl
 nodes-push arcs (g ∷ hops) u h = ap (λ (vs : List ℕ). u ∷ vs) (nodes-push arcs hops (end_at arcs g.arc g.way) h)
 
-nodes-turned : (arcs : List ArcRow) (hops : List Hop) (u w : ℕ) → IsPath (map turned_row arcs) hops u w → nodes_on arcs (from_end hops) w ≡ from_end (nodes_on (map turned_row arcs) hops u)
+nodes-turned : (arcs : List ArcRow) (hops : List ResidualArc) (u w : ℕ) → IsPath (map turned_row arcs) hops u w → nodes_on arcs (from_end hops) w ≡ from_end (nodes_on (map turned_row arcs) hops u)
 nodes-turned arcs [] u w path = ap (λ (v : ℕ). v ∷ []) (sym path)
 nodes-turned arcs (h ∷ hops) u w path =
     let v = end_at (map turned_row arcs) h.arc h.way in
@@ -255,11 +179,11 @@ nodes-turned arcs (h ∷ hops) u w path =
     ∙ ap (λ (vs : List ℕ). vs ++ end_at arcs h.arc h.way ∷ []) (nodes-turned arcs hops v w path.1)
     ∙ ap (λ (last : ℕ). from_end (nodes_on (map turned_row arcs) hops v) ++ last ∷ []) (sym (start_at-turned arcs h.arc h.way) ∙ path.0)
 
-shift-from_end : (hops : List Hop) (m : ℤ) (x y : List ℤ) → IsShift hops m x y → IsShift (from_end hops) m x y
+shift-from_end : (hops : List ResidualArc) (m : ℤ) (x y : List ℤ) → IsShift hops m x y → IsShift (from_end hops) m x y
 shift-from_end hops m x y shift = record {
   same_length = shift.same_length;
-  on_path = All-from_end (λ (h : Hop). number_at y h.arc ≡ moved h.way (number_at x h.arc) m) hops shift.on_path;
-  elsewhere = λ k off. shift.elsewhere k (All-to_end (λ (h : Hop). h.arc ≢ k) hops off);
+  on_path = All-from_end (λ (h : ResidualArc). number_at y h.arc ≡ moved h.way (number_at x h.arc) m) hops shift.on_path;
+  elsewhere = λ k off. shift.elsewhere k (All-to_end (λ (h : ResidualArc). h.arc ≢ k) hops off);
 }
 
 -- ---- pushes seen from behind

@@ -4,12 +4,14 @@ use Rattle.std.specs.Prelude.{◌≡◌, ℕ, suc, ◌+◌, ◌<◌, ◌≤◌, 
 use Rattle.dimacs_text.specs.declared.problem.ArcRow.{ArcRow}
 use Rattle.std.specs.Prelude.{◌<ℤ◌}
 use Rattle.std.specs.List.{count_by}
-use Rattle.shortest_paths.specs.declared.residual.Way.{Way}
-use Rattle.shortest_paths.specs.declared.side.Side.{Side}
-use Rattle.shortest_paths.specs.declared.side.Side.TheVariants.{Ahead, Behind}
+use Rattle.residual_graph.specs.declared.residual.Way.{Way}
+use Rattle.residual_graph.specs.declared.side.Side.{Side}
+use Rattle.residual_graph.specs.declared.side.Side.TheVariants.{Ahead, Behind}
 use Rattle.shortest_paths.specs.Push.{left}
 pub use Rattle.shortest_paths.specs.Push.{lack}
-use Rattle.shortest_paths.specs.Residual.{number_at, arc_at, start_of, end_of, IsResidual}
+use Rattle.residual_graph.specs.Residual.{number_at, arc_at, start_of, end_of, IsResidual}
+use Rattle.residual_graph.specs.Side.{IsRoot}
+use Rattle.shortest_paths.specs.NodeLists.{IsListed, node_at}
 
 -- whether node v is in the set
 abbrev pub in_set : List Bool → ℕ → Bool
@@ -45,11 +47,6 @@ pub record IsLeastSet (value : List Bool → ℤ) (set : List Bool) (d : ℤ) : 
   pub value_is : value set ≡ d
   pub greatest : (other : List Bool) → length other ≡ length set → value other ≤ℤ d
   pub smallest : (other : List Bool) → length other ≡ length set → value other ≡ d → (v : ℕ) → IsTrue (in_set set v) → IsTrue (in_set other v)
-
--- a node with this excess is one that a side begins at: ahead those in excess, behind those in deficit
-abbrev pub IsRoot : Side → ℤ → Type 0
-IsRoot Ahead e = pos 0 <ℤ e
-IsRoot Behind e = e <ℤ pos 0
 
 -- what lies at the roots of a side
 abbrev pub amount : Side → List ℤ → ℕ
@@ -101,29 +98,19 @@ IsFarIn side arcs x set k way = IsResidual arcs x k way → in_set set (far_at s
 abbrev pub AreFarIn : Side → List ArcRow → List ℤ → List Bool → ℕ → Type 0
 AreFarIn side arcs x set v = (k : ℕ) (way : Way) → near_at side arcs k way ≡ v → IsFarIn side arcs x set k way
 
--- the node at a place in a line
-abbrev pub node_at : List ℕ → ℕ → ℕ
-node_at line j = slice_index_or line j 0
-
--- node v is among the first `len` in the line
-pub record IsListed (line : List ℕ) (len v : ℕ) : Type 0 where
-  pub place : ℕ
-  pub in_line : place < len
-  pub is_there : node_at line place ≡ v
-
--- the first `len` in the line are the nodes of the set, each once; so a node outside finds room
-pub record IsLineOf (set : List Bool) (line : List ℕ) (len : ℕ) : Type 0 where
-  pub one_a_node : length line ≡ length set
-  pub inside : (j : ℕ) → j < len → in_set set (node_at line j) ≡ true
-  pub listed : (v : ℕ) → in_set set v ≡ true → IsListed line len v
+-- the first `len` in the list are the nodes of the set, each once; so a node outside finds room
+pub record IsListOf (set : List Bool) (list : List ℕ) (len : ℕ) : Type 0 where
+  pub one_a_node : length list ≡ length set
+  pub inside : (j : ℕ) → j < len → in_set set (node_at list j) ≡ true
+  pub listed : (v : ℕ) → in_set set v ≡ true → IsListed list len v
   pub room : len + count_by not set ≡ length set
 
--- set and line have grown, or are the same: whatever holds the set, and has no residual arc that leads on out of it, holds the new one too
-pub record IsGrown (side : Side) (arcs : List ArcRow) (x : List ℤ) (set : List Bool) (line : List ℕ) (len : ℕ) (set' : List Bool) (line' : List ℕ) (len' : ℕ) : Type 0 where
+-- set and list have grown, or are the same: whatever holds the set, and has no residual arc that leads on out of it, holds the new one too
+pub record IsGrown (side : Side) (arcs : List ArcRow) (x : List ℤ) (set : List Bool) (list : List ℕ) (len : ℕ) (set' : List Bool) (list' : List ℕ) (len' : ℕ) : Type 0 where
   pub kept : (v : ℕ) → in_set set v ≡ true → in_set set' v ≡ true
   pub least : (other : List Bool) → IsClosed side arcs x other → ((v : ℕ) → in_set set v ≡ true → in_set other v ≡ true) → (v : ℕ) → in_set set' v ≡ true → in_set other v ≡ true
   pub no_shorter : len ≤ len'
-  pub same_before : (j : ℕ) → j < len → node_at line' j ≡ node_at line j
+  pub same_before : (j : ℕ) → j < len → node_at list' j ≡ node_at list j
 
 -- the set that tells why there is no legal flow: where something lies in excess the smallest set of the greatest surplus, else where something lies in deficit that of the greatest shortfall, else none
 pub record IsChosenSet (arcs : List ArcRow) (supply : ℕ → ℤ) (e : List ℤ) (set : List Bool) : Type 0 where

@@ -1,7 +1,7 @@
 -- Tables of nodes: node v has entry v, and entry 0 stands for no node.
 use Rattle.shortest_paths.specs.Limits.{label_floor}
 use Rattle.std.specs.Prelude.{ℕ, zero, suc, ℤ, pos, neg_ℤ, ◌≤ℤ◌, List, [], ◌∷◌}
-use Rattle.shortest_paths.specs.Residual.{number_at}
+use Rattle.residual_graph.specs.Residual.{number_at}
 
 -- the first n numbers of a sequence
 abbrev pub table : {A : Type 0} → ℕ → (ℕ → A) → List A

@@ -1,68 +1,68 @@
--- The open nodes of a search: those of the present key in a line, the others in a heap.
+-- The open nodes of a search: current ones, at the present distance, and the others in a heap.
 use Rattle.std.specs.Prelude.{◌≡◌, ◌≢◌, ℕ, ◌+◌, ◌-◌, ◌<◌, ◌≤◌, ℤ, pos, ◌≤ℤ◌, ◌⊎◌, Bool, true, false, List, length, slice_index, cond, nat_lt}
 use Rattle.std.specs.List.{count_by}
 use Rattle.shortest_paths.specs.declared.queue.Queue.{Queue}
-use Rattle.shortest_paths.specs.declared.visit.Visit.{Visit}
-use Rattle.shortest_paths.specs.declared.visit.Mark.{Mark}
-use Rattle.shortest_paths.specs.declared.visit.Mark.TheVariants.{Unreached, Open, Settled}
-use Rattle.shortest_paths.specs.Search.{mark_at, key_at}
+use Rattle.shortest_paths.specs.declared.node_label.NodeLabel.{NodeLabel}
+use Rattle.shortest_paths.specs.declared.node_label.State.{State}
+use Rattle.shortest_paths.specs.declared.node_label.State.TheVariants.{Unreached, Open, Settled}
+use Rattle.shortest_paths.specs.Search.{state_at, distance_at}
 use Rattle.shortest_paths.specs.Heap.{IsHeap, IsIn}
 
-abbrev pub is_open_mark : Mark → Bool
-is_open_mark Unreached = false
-is_open_mark Open = true
-is_open_mark Settled = false
+abbrev pub is_open_state : State → Bool
+is_open_state Unreached = false
+is_open_state Open = true
+is_open_state Settled = false
 
 -- how many nodes are open
-abbrev pub open_count : List Visit → ℕ
-open_count s = count_by (λ e. is_open_mark e.mark) s
+abbrev pub open_count : List NodeLabel → ℕ
+open_count s = count_by (λ e. is_open_state e.state) s
 
--- node v waits in the line, which goes from place `next` to before place `end`
+-- node v is current: it stands from place `next` to before place `end`
 abbrev pub IsWaiting : List ℕ → ℕ → ℕ → ℕ → Type 0
-IsWaiting line next end v = (i : ℕ) × (next ≤ i) × (i < end) × (slice_index line i ≡ v)
+IsWaiting current next end v = (i : ℕ) × (next ≤ i) × (i < end) × (slice_index current i ≡ v)
 
--- a line of open nodes with this key, none of them twice
-pub record IsLine (s : List Visit) (line : List ℕ) (next end : ℕ) (key : ℤ) : Type 0 where
-  pub sized : length line ≡ length s
+-- the current nodes are open nodes at this distance, none of them twice
+pub record IsCurrent (s : List NodeLabel) (current : List ℕ) (next end : ℕ) (distance : ℤ) : Type 0 where
+  pub sized : length current ≡ length s
   pub begins : next ≤ end
-  pub ends : end ≤ length line
-  pub all_open : (i : ℕ) → next ≤ i → i < end → mark_at s (slice_index line i) ≡ Open
-  pub all_present : (i : ℕ) → next ≤ i → i < end → key_at s (slice_index line i) ≡ key
-  pub apart : (i j : ℕ) → next ≤ i → i < j → j < end → slice_index line i ≢ slice_index line j
+  pub ends : end ≤ length current
+  pub all_open : (i : ℕ) → next ≤ i → i < end → state_at s (slice_index current i) ≡ Open
+  pub all_present : (i : ℕ) → next ≤ i → i < end → distance_at s (slice_index current i) ≡ distance
+  pub apart : (i j : ℕ) → next ≤ i → i < j → j < end → slice_index current i ≢ slice_index current j
 
--- each node in the heap is open, and no nearer than this key
-pub record IsBeyond (s : List Visit) (order place : List ℕ) (len : ℕ) (key : ℤ) : Type 0 where
-  pub all_open : (v : ℕ) → IsIn order place len v → mark_at s v ≡ Open
-  pub no_nearer : (v : ℕ) → IsIn order place len v → key ≤ℤ key_at s v
+-- each node in the heap is open, and no nearer than this distance
+pub record IsBeyond (s : List NodeLabel) (order place : List ℕ) (len : ℕ) (distance : ℤ) : Type 0 where
+  pub all_open : (v : ℕ) → IsIn order place len v → state_at s v ≡ Open
+  pub no_nearer : (v : ℕ) → IsIn order place len v → distance ≤ℤ distance_at s v
 
--- the search has passed this key: whatever bounds 0 and the keys of the settled nodes bounds it
-abbrev pub IsPassedKey : List Visit → ℤ → Type 0
-IsPassedKey s key = (bound : ℤ) → pos 0 ≤ℤ bound → ((v : ℕ) → mark_at s v ≡ Settled → key_at s v ≤ℤ bound) → key ≤ℤ bound
+-- the search has passed this distance: whatever bounds 0 and the distances of the settled nodes bounds it
+abbrev pub IsPassedDistance : List NodeLabel → ℤ → Type 0
+IsPassedDistance s distance = (bound : ℤ) → pos 0 ≤ℤ bound → ((v : ℕ) → state_at s v ≡ Settled → distance_at s v ≤ℤ bound) → distance ≤ℤ bound
 
--- each open node is in the heap or waits in the line, and none in both
-pub record HoldsOpen (s : List Visit) (line : List ℕ) (next end : ℕ) (order place : List ℕ) (len : ℕ) : Type 0 where
-  pub all : (v : ℕ) → mark_at s v ≡ Open → IsIn order place len v ⊎ IsWaiting line next end v
-  pub not_both : (v : ℕ) → IsWaiting line next end v → IsIn order place len v → ⊥
+-- each open node is current or in the heap, and none is both
+pub record HoldsOpen (s : List NodeLabel) (current : List ℕ) (next end : ℕ) (order place : List ℕ) (len : ℕ) : Type 0 where
+  pub all : (v : ℕ) → state_at s v ≡ Open → IsIn order place len v ⊎ IsWaiting current next end v
+  pub not_both : (v : ℕ) → IsWaiting current next end v → IsIn order place len v → ⊥
   pub counted : len + (end - next) ≡ open_count s
 
--- the queue holds exactly the open nodes: those in the line have the present key, and none in the heap is nearer
-pub record IsQueueOf (s : List Visit) (q : Queue) : Type 0 where
+-- the queue holds exactly the open nodes: the current ones are at the present distance, and none in the heap is nearer
+pub record IsQueueOf (s : List NodeLabel) (q : Queue) : Type 0 where
   pub heap : IsHeap s q.order.items q.place.items q.len
-  pub line : IsLine s q.line.items q.next q.end q.present
+  pub current : IsCurrent s q.current.items q.next q.end q.present
   pub beyond : IsBeyond s q.order.items q.place.items q.len q.present
-  pub passed : IsPassedKey s q.present
-  pub holds : HoldsOpen s q.line.items q.next q.end q.order.items q.place.items q.len
+  pub passed : IsPassedDistance s q.present
+  pub holds : HoldsOpen s q.current.items q.next q.end q.order.items q.place.items q.len
 
 -- how many nodes are in the queue
 abbrev pub size : Queue → ℕ
 size q = q.len + (q.end - q.next)
 
--- the node that the queue gives next: the first in the line, or in the heap where nobody waits
+-- the node that the queue gives next: the first of the current ones, or in the heap where there are none
 abbrev pub first_of : Queue → ℕ
-first_of q = cond (nat_lt q.next q.end) (slice_index q.line.items q.next) (slice_index q.order.items 0)
+first_of q = cond (nat_lt q.next q.end) (slice_index q.current.items q.next) (slice_index q.order.items 0)
 
 -- the queue has room for each entry of a table of nodes
 pub record IsQueueFor (entries : ℕ) (q : Queue) : Type 0 where
-  pub line_sized : length q.line.items ≡ entries
+  pub current_sized : length q.current.items ≡ entries
   pub order_sized : length q.order.items ≡ entries
   pub place_sized : length q.place.items ≡ entries

@@ -4,14 +4,14 @@ use Rattle.shortest_paths.specs.declared.scratch.Scratch.{Scratch}
 use Rattle.shortest_paths.specs.Blocking.{IsWalksFor}
 use Rattle.shortest_paths.specs.Labels.{IsLabelsFor}
 use Rattle.shortest_paths.specs.Queue.{IsQueueFor}
-use Rattle.shortest_paths.specs.Trail.{IsFresh, IsTrailFor}
+use Rattle.shortest_paths.specs.SettledOrder.{IsFresh, IsSettledOrderFor}
 
 -- each table has one entry a node, and no node is marked by a search
 pub record IsScratchFor (entries : ℕ) (s : Scratch) : Type 0 where
-  pub visits_sized : length s.visits.items ≡ entries
+  pub node_labels_sized : length s.node_labels.items ≡ entries
   pub potentials_sized : length s.potentials.items ≡ entries
-  pub fresh : IsFresh s.visits.items
+  pub fresh : IsFresh s.node_labels.items
   pub labels : IsLabelsFor entries s.labels
   pub queue : IsQueueFor entries s.queue
-  pub trail : IsTrailFor entries s.trail
+  pub settled_order : IsSettledOrderFor entries s.settled_order
   pub walks : IsWalksFor entries s.walks

@@ -1,42 +1,43 @@
 -- What a search for shortest paths over reduced costs knows at each moment
 -- (Ahuja, Magnanti, Orlin, "Network Flows": Dijkstra's algorithm, as the successive shortest path algorithm uses it).
-use Rattle.shortest_paths.specs.Limits.{potential_floor, key_limit, cost_limit}
+use Rattle.residual_graph.specs.Limits.{potential_floor, cost_limit}
+use Rattle.shortest_paths.specs.Limits.{distance_limit}
 use Rattle.std.specs.Prelude.{◌≡◌, ◌≢◌, ℕ, ◌+◌, ◌*◌, ◌<◌, ◌≤◌, ℤ, pos, neg_ℤ, ◌-ℤ◌, ◌+ℤ◌, ◌<ℤ◌, ◌≤ℤ◌, List, length, slice_index_or, Bool, true, false, ◌⊎◌}
 use Rattle.std.specs.Prelude.{cond, int_lt}
 use Rattle.std.specs.List.{count_by}
 use Rattle.dimacs_text.specs.declared.problem.ArcRow.{ArcRow}
-use Rattle.shortest_paths.specs.declared.residual.Way.{Way}
-use Rattle.shortest_paths.specs.declared.residual.Way.TheVariants.{Forward}
-use Rattle.shortest_paths.specs.declared.visit.Mark.{Mark}
-use Rattle.shortest_paths.specs.declared.visit.Mark.TheVariants.{Unreached, Open, Settled}
-use Rattle.shortest_paths.specs.declared.visit.Visit.{Visit}
-use Rattle.shortest_paths.specs.Residual.{number_at, start_at, end_at, cost_at, IsResidual}
+use Rattle.residual_graph.specs.declared.residual.Way.{Way}
+use Rattle.residual_graph.specs.declared.residual.Way.TheVariants.{Forward}
+use Rattle.shortest_paths.specs.declared.node_label.State.{State}
+use Rattle.shortest_paths.specs.declared.node_label.State.TheVariants.{Unreached, Open, Settled}
+use Rattle.shortest_paths.specs.declared.node_label.NodeLabel.{NodeLabel}
+use Rattle.residual_graph.specs.Residual.{number_at, start_at, end_at, cost_at, IsResidual}
 
-abbrev pub visit_at : List Visit → ℕ → Visit
-visit_at s v = slice_index_or s v (record { mark = Unreached; key = pos 0; depth = 0; arc = 0; way = Forward })
+abbrev pub node_label_at : List NodeLabel → ℕ → NodeLabel
+node_label_at s v = slice_index_or s v (record { state = Unreached; distance = pos 0; depth = 0; arc = 0; way = Forward })
 
-abbrev pub mark_at : List Visit → ℕ → Mark
-mark_at s v = (visit_at s v).mark
+abbrev pub state_at : List NodeLabel → ℕ → State
+state_at s v = (node_label_at s v).state
 
-abbrev pub key_at : List Visit → ℕ → ℤ
-key_at s v = (visit_at s v).key
+abbrev pub distance_at : List NodeLabel → ℕ → ℤ
+distance_at s v = (node_label_at s v).distance
 
-abbrev pub depth_at : List Visit → ℕ → ℕ
-depth_at s v = (visit_at s v).depth
+abbrev pub depth_at : List NodeLabel → ℕ → ℕ
+depth_at s v = (node_label_at s v).depth
 
-abbrev pub IsReached : List Visit → ℕ → Type 0
-IsReached s v = mark_at s v ≢ Unreached
+abbrev pub IsReached : List NodeLabel → ℕ → Type 0
+IsReached s v = state_at s v ≢ Unreached
 
-abbrev pub is_not_settled : Mark → Bool
+abbrev pub is_not_settled : State → Bool
 is_not_settled Unreached = true
 is_not_settled Open = true
 is_not_settled Settled = false
 
-abbrev pub is_unsettled : Visit → Bool
-is_unsettled e = is_not_settled e.mark
+abbrev pub is_unsettled : NodeLabel → Bool
+is_unsettled e = is_not_settled e.state
 
 -- how many nodes are not settled
-abbrev pub unsettled : List Visit → ℕ
+abbrev pub unsettled : List NodeLabel → ℕ
 unsettled s = count_by is_unsettled s
 
 -- the cost of a residual arc less what the potentials pay for it
@@ -45,164 +46,164 @@ reduced_at arcs p k way =
     (cost_at arcs k way +ℤ number_at p (start_at arcs k way)) -ℤ number_at p (end_at arcs k way)
 
 -- the length of the path to node u, with the node's potential
-abbrev pub priced_key : List ℤ → List Visit → ℕ → ℤ
-priced_key p s u = key_at s u +ℤ number_at p u
+abbrev pub priced_distance : List ℤ → List NodeLabel → ℕ → ℤ
+priced_distance p s u = distance_at s u +ℤ number_at p u
 
 -- the best path to v that the search knows comes along arc k from a settled node
-pub record IsTracedBy (arcs : List ArcRow) (x p : List ℤ) (s : List Visit) (v k : ℕ) (way : Way) : Type 0 where
+pub record IsTracedBy (arcs : List ArcRow) (x p : List ℤ) (s : List NodeLabel) (v k : ℕ) (way : Way) : Type 0 where
   pub residual : IsResidual arcs x k way
   pub ends : end_at arcs k way ≡ v
-  pub settled : mark_at s (start_at arcs k way) ≡ Settled
+  pub settled : state_at s (start_at arcs k way) ≡ Settled
   pub deeper : depth_at s v ≡ depth_at s (start_at arcs k way) + 1
-  pub tight : key_at s v ≡ key_at s (start_at arcs k way) +ℤ reduced_at arcs p k way
+  pub tight : distance_at s v ≡ distance_at s (start_at arcs k way) +ℤ reduced_at arcs p k way
 
-abbrev pub IsTraced : List ArcRow → List ℤ → List ℤ → List Visit → ℕ → Type 0
-IsTraced arcs x p s v = IsTracedBy arcs x p s v (visit_at s v).arc (visit_at s v).way
+abbrev pub IsTraced : List ArcRow → List ℤ → List ℤ → List NodeLabel → ℕ → Type 0
+IsTraced arcs x p s v = IsTracedBy arcs x p s v (node_label_at s v).arc (node_label_at s v).way
 
 -- settled nodes are no further than open ones, and each node that was reached has its path behind it
-pub record IsSearch (arcs : List ArcRow) (x p : List ℤ) (s : List Visit) : Type 0 where
+pub record IsSearch (arcs : List ArcRow) (x p : List ℤ) (s : List NodeLabel) : Type 0 where
   pub sized : length s ≡ length p
-  pub in_order : (v w : ℕ) → mark_at s v ≡ Settled → mark_at s w ≡ Open → key_at s v ≤ℤ key_at s w
-  pub key_at_least_0 : (v : ℕ) → IsReached s v → pos 0 ≤ℤ key_at s v
-  pub settled_depth : (v : ℕ) → mark_at s v ≡ Settled → depth_at s v + unsettled s < length s
+  pub in_order : (v w : ℕ) → state_at s v ≡ Settled → state_at s w ≡ Open → distance_at s v ≤ℤ distance_at s w
+  pub distance_at_least_0 : (v : ℕ) → IsReached s v → pos 0 ≤ℤ distance_at s v
+  pub settled_depth : (v : ℕ) → state_at s v ≡ Settled → depth_at s v + unsettled s < length s
   pub reached_depth : (v : ℕ) → IsReached s v → depth_at s v + unsettled s ≤ length s
-  pub label_low : (v : ℕ) → IsReached s v → neg_ℤ (pos (potential_floor + cost_limit * depth_at s v)) ≤ℤ (key_at s v +ℤ number_at p v)
-  pub label_high : (v : ℕ) → IsReached s v → (key_at s v +ℤ number_at p v) ≤ℤ pos (cost_limit * depth_at s v)
+  pub label_low : (v : ℕ) → IsReached s v → neg_ℤ (pos (potential_floor + cost_limit * depth_at s v)) ≤ℤ (distance_at s v +ℤ number_at p v)
+  pub label_high : (v : ℕ) → IsReached s v → (distance_at s v +ℤ number_at p v) ≤ℤ pos (cost_limit * depth_at s v)
   pub traced : (v : ℕ) → IsReached s v → 0 < depth_at s v → IsTraced arcs x p s v
 
 -- u is settled, and no settled node is further
-pub record IsLastSettled (s : List Visit) (u : ℕ) : Type 0 where
-  pub settled : mark_at s u ≡ Settled
-  pub furthest : (v : ℕ) → mark_at s v ≡ Settled → key_at s v ≤ℤ key_at s u
+pub record IsLastSettled (s : List NodeLabel) (u : ℕ) : Type 0 where
+  pub settled : state_at s u ≡ Settled
+  pub furthest : (v : ℕ) → state_at s v ≡ Settled → distance_at s v ≤ℤ distance_at s u
 
--- a node with this mark and key takes a path of length `key`
-abbrev pub TakesBy : Mark → ℤ → ℤ → Type 0
-TakesBy Unreached old key = Unit {0}
-TakesBy Open old key = key <ℤ old
-TakesBy Settled old key = ⊥
+-- a node in this state and at this distance takes a path of length `distance`
+abbrev pub TakesBy : State → ℤ → ℤ → Type 0
+TakesBy Unreached old distance = Unit {0}
+TakesBy Open old distance = distance <ℤ old
+TakesBy Settled old distance = ⊥
 
-abbrev pub Takes : Visit → ℤ → Type 0
-Takes e key = TakesBy e.mark e.key key
+abbrev pub Takes : NodeLabel → ℤ → Type 0
+Takes e distance = TakesBy e.state e.distance distance
 
 -- the end of a residual arc is reached, and no dearer than by that arc
-pub record IsRelaxed (arcs : List ArcRow) (p : List ℤ) (s : List Visit) (k : ℕ) (way : Way) : Type 0 where
+pub record IsRelaxed (arcs : List ArcRow) (p : List ℤ) (s : List NodeLabel) (k : ℕ) (way : Way) : Type 0 where
   pub reached : IsReached s (end_at arcs k way)
-  pub no_dearer : key_at s (end_at arcs k way) ≤ℤ (key_at s (start_at arcs k way) +ℤ reduced_at arcs p k way)
+  pub no_dearer : distance_at s (end_at arcs k way) ≤ℤ (distance_at s (start_at arcs k way) +ℤ reduced_at arcs p k way)
 
 -- each residual arc from a settled node is relaxed
-abbrev pub AllRelaxed : List ArcRow → List ℤ → List ℤ → List Visit → Type 0
+abbrev pub AllRelaxed : List ArcRow → List ℤ → List ℤ → List NodeLabel → Type 0
 AllRelaxed arcs x p s =
-    (k : ℕ) (way : Way) → IsResidual arcs x k way → mark_at s (start_at arcs k way) ≡ Settled → IsRelaxed arcs p s k way
+    (k : ℕ) (way : Way) → IsResidual arcs x k way → state_at s (start_at arcs k way) ≡ Settled → IsRelaxed arcs p s k way
 
 -- each residual arc from node u is relaxed, as far as it goes along the first j arcs
-abbrev pub IsRelaxedFrom : List ArcRow → List ℤ → List ℤ → List Visit → ℕ → ℕ → Type 0
+abbrev pub IsRelaxedFrom : List ArcRow → List ℤ → List ℤ → List NodeLabel → ℕ → ℕ → Type 0
 IsRelaxedFrom arcs x p s u j =
     (k : ℕ) (way : Way) → k < j → IsResidual arcs x k way → start_at arcs k way ≡ u → IsRelaxed arcs p s k way
 
--- settled nodes stay as they are, reached ones stay reached, keys only fall, and no new root appears
-pub record Improves (s t : List Visit) : Type 0 where
+-- settled nodes stay as they are, reached ones stay reached, distances only fall, and no new root appears
+pub record Improves (s t : List NodeLabel) : Type 0 where
   pub same_length : length t ≡ length s
   pub same_count : unsettled t ≡ unsettled s
-  pub settled_kept : (v : ℕ) → mark_at s v ≡ Settled → visit_at t v ≡ visit_at s v
-  pub settled_before : (v : ℕ) → mark_at t v ≡ Settled → mark_at s v ≡ Settled
+  pub settled_kept : (v : ℕ) → state_at s v ≡ Settled → node_label_at t v ≡ node_label_at s v
+  pub settled_before : (v : ℕ) → state_at t v ≡ Settled → state_at s v ≡ Settled
   pub reached_kept : (v : ℕ) → IsReached s v → IsReached t v
-  pub key_falls : (v : ℕ) → IsReached s v → key_at t v ≤ℤ key_at s v
-  pub roots_kept : (v : ℕ) → IsReached t v → depth_at t v ≡ 0 → visit_at t v ≡ visit_at s v
+  pub distance_falls : (v : ℕ) → IsReached s v → distance_at t v ≤ℤ distance_at s v
+  pub roots_kept : (v : ℕ) → IsReached t v → depth_at t v ≡ 0 → node_label_at t v ≡ node_label_at s v
 
 -- no node below i is open
-abbrev pub NoneOpen : List Visit → ℕ → Type 0
-NoneOpen s i = (v : ℕ) → v < i → mark_at s v ≢ Open
+abbrev pub NoneOpen : List NodeLabel → ℕ → Type 0
+NoneOpen s i = (v : ℕ) → v < i → state_at s v ≢ Open
 
--- b is open, and of the open nodes below i none has a lower key
-pub record IsLeastOpen (s : List Visit) (i b : ℕ) : Type 0 where
+-- b is open, and of the open nodes below i none has a lower distance
+pub record IsLeastOpen (s : List NodeLabel) (i b : ℕ) : Type 0 where
   pub below : b < i
-  pub is_open : mark_at s b ≡ Open
-  pub least : (v : ℕ) → v < i → mark_at s v ≡ Open → key_at s b ≤ℤ key_at s v
+  pub is_open : state_at s b ≡ Open
+  pub least : (v : ℕ) → v < i → state_at s v ≡ Open → distance_at s b ≤ℤ distance_at s v
 
 -- u was open and is settled now with what follows from it, and nothing else changed but for the better
-pub record Settles (s t : List Visit) (u : ℕ) : Type 0 where
+pub record Settles (s t : List NodeLabel) (u : ℕ) : Type 0 where
   pub same_length : length t ≡ length s
   pub one_less : unsettled t + 1 ≡ unsettled s
-  pub now_settled : mark_at t u ≡ Settled
-  pub key_kept : key_at t u ≡ key_at s u
-  pub settled_before : (v : ℕ) → mark_at t v ≡ Settled → (v ≡ u) ⊎ (mark_at s v ≡ Settled)
-  pub settled_kept : (v : ℕ) → mark_at s v ≡ Settled → visit_at t v ≡ visit_at s v
+  pub now_settled : state_at t u ≡ Settled
+  pub distance_kept : distance_at t u ≡ distance_at s u
+  pub settled_before : (v : ℕ) → state_at t v ≡ Settled → (v ≡ u) ⊎ (state_at s v ≡ Settled)
+  pub settled_kept : (v : ℕ) → state_at s v ≡ Settled → node_label_at t v ≡ node_label_at s v
   pub reached_kept : (v : ℕ) → IsReached s v → IsReached t v
-  pub key_falls : (v : ℕ) → IsReached s v → key_at t v ≤ℤ key_at s v
-  pub roots_kept : (v : ℕ) → IsReached t v → depth_at t v ≡ 0 → IsReached s v × (depth_at s v ≡ 0) × (key_at t v ≡ key_at s v)
+  pub distance_falls : (v : ℕ) → IsReached s v → distance_at t v ≤ℤ distance_at s v
+  pub roots_kept : (v : ℕ) → IsReached t v → depth_at t v ≡ 0 → IsReached s v × (depth_at s v ≡ 0) × (distance_at t v ≡ distance_at s v)
 
-abbrev pub settled_visit : Visit → Visit
-settled_visit e = record { mark = Settled; key = e.key; depth = e.depth; arc = e.arc; way = e.way }
+abbrev pub settled_node_label : NodeLabel → NodeLabel
+settled_node_label e = record { state = Settled; distance = e.distance; depth = e.depth; arc = e.arc; way = e.way }
 
 -- what a node in excess, and any other node, begins with
-abbrev pub source_visit : ℤ → Visit
-source_visit e = record { mark = cond (int_lt (pos 0) e) Open Unreached; key = pos 0; depth = 0; arc = 0; way = Forward }
+abbrev pub source_node_label : ℤ → NodeLabel
+source_node_label e = record { state = cond (int_lt (pos 0) e) Open Unreached; distance = pos 0; depth = 0; arc = 0; way = Forward }
 
 -- what the search for nodes in deficit knows of the nodes in excess
-pub record IsFromExcess (excess : List ℤ) (s : List Visit) : Type 0 where
-  pub sources : (v : ℕ) → pos 0 <ℤ number_at excess v → IsReached s v × (key_at s v ≡ pos 0)
-  pub roots : (v : ℕ) → IsReached s v → depth_at s v ≡ 0 → (pos 0 <ℤ number_at excess v) × (key_at s v ≡ pos 0)
+pub record IsFromExcess (excess : List ℤ) (s : List NodeLabel) : Type 0 where
+  pub sources : (v : ℕ) → pos 0 <ℤ number_at excess v → IsReached s v × (distance_at s v ≡ pos 0)
+  pub roots : (v : ℕ) → IsReached s v → depth_at s v ≡ 0 → (pos 0 <ℤ number_at excess v) × (distance_at s v ≡ pos 0)
 
 -- no settled node is in deficit
-abbrev pub NoDeficit : List ℤ → List Visit → Type 0
-NoDeficit excess s = (v : ℕ) → mark_at s v ≡ Settled → pos 0 ≤ℤ number_at excess v
+abbrev pub NoDeficit : List ℤ → List NodeLabel → Type 0
+NoDeficit excess s = (v : ℕ) → state_at s v ≡ Settled → pos 0 ≤ℤ number_at excess v
 
 -- node t is settled, and in deficit
-pub record IsFoundDeficit (excess : List ℤ) (s : List Visit) (t : ℕ) : Type 0 where
-  pub settled : mark_at s t ≡ Settled
+pub record IsFoundDeficit (excess : List ℤ) (s : List NodeLabel) (t : ℕ) : Type 0 where
+  pub settled : state_at s t ≡ Settled
   pub deficit : number_at excess t <ℤ pos 0
 
 -- a settled node's potential falls by what the node is nearer than `reach`
-abbrev pub lowered_by : Mark → ℤ → ℤ → ℤ → ℤ
-lowered_by Unreached potential key reach = potential
-lowered_by Open potential key reach = potential
-lowered_by Settled potential key reach = potential -ℤ (reach -ℤ key)
+abbrev pub lowered_by : State → ℤ → ℤ → ℤ → ℤ
+lowered_by Unreached potential distance reach = potential
+lowered_by Open potential distance reach = potential
+lowered_by Settled potential distance reach = potential -ℤ (reach -ℤ distance)
 
-abbrev pub lowered : ℤ → Visit → ℤ → ℤ
-lowered potential e reach = lowered_by e.mark potential e.key reach
+abbrev pub lowered : ℤ → NodeLabel → ℤ → ℤ
+lowered potential e reach = lowered_by e.state potential e.distance reach
 
 -- the settled nodes are within `reach`
-pub record IsReach (s : List Visit) (reach : ℤ) : Type 0 where
-  pub not_far : reach ≤ℤ pos key_limit
-  pub within : (v : ℕ) → mark_at s v ≡ Settled → (pos 0 ≤ℤ key_at s v) × (key_at s v ≤ℤ reach)
+pub record IsReach (s : List NodeLabel) (reach : ℤ) : Type 0 where
+  pub not_far : reach ≤ℤ pos distance_limit
+  pub within : (v : ℕ) → state_at s v ≡ Settled → (pos 0 ≤ℤ distance_at s v) × (distance_at s v ≤ℤ reach)
 
 -- the search has come as far as `reach`, to the furthest settled node: no open one is nearer
-pub record IsFront (s : List Visit) (reach : ℤ) : Type 0 where
+pub record IsFront (s : List NodeLabel) (reach : ℤ) : Type 0 where
   pub not_below_0 : pos 0 ≤ℤ reach
   pub settled : IsReach s reach
-  pub beyond : (v : ℕ) → mark_at s v ≡ Open → reach ≤ℤ key_at s v
-  pub no_further : (bound : ℤ) → pos 0 ≤ℤ bound → ((v : ℕ) → mark_at s v ≡ Settled → key_at s v ≤ℤ bound) → reach ≤ℤ bound
+  pub beyond : (v : ℕ) → state_at s v ≡ Open → reach ≤ℤ distance_at s v
+  pub no_further : (bound : ℤ) → pos 0 ≤ℤ bound → ((v : ℕ) → state_at s v ≡ Settled → distance_at s v ≤ℤ bound) → reach ≤ℤ bound
 
 -- the search has come as far as `reach`, and found so many nodes in deficit
-pub record IsFinding (excess : List ℤ) (s : List Visit) (reach : ℤ) (found : ℕ) : Type 0 where
+pub record IsFinding (excess : List ℤ) (s : List NodeLabel) (reach : ℤ) (found : ℕ) : Type 0 where
   pub front : IsFront s reach
   pub none : found ≡ 0 → NoDeficit excess s
   pub some : 0 < found → (t : ℕ) × IsFoundDeficit excess s t
 
 -- no node is open, and no node in deficit was found
-pub record IsExhausted (excess : List ℤ) (s : List Visit) : Type 0 where
+pub record IsExhausted (excess : List ℤ) (s : List NodeLabel) : Type 0 where
   pub none_open : NoneOpen s (length s)
   pub no_deficit : NoDeficit excess s
 
 -- the search has come as far as `reach`, and found a node in deficit
-pub record HasFound (excess : List ℤ) (s : List Visit) (reach : ℤ) : Type 0 where
+pub record HasFound (excess : List ℤ) (s : List NodeLabel) (reach : ℤ) : Type 0 where
   pub front : IsFront s reach
   pub found : (t : ℕ) × IsFoundDeficit excess s t
 
 -- p is lowered to q
-abbrev pub IsLowered : List ℤ → List ℤ → List Visit → ℤ → Type 0
-IsLowered p q s reach = (v : ℕ) → number_at q v ≡ lowered (number_at p v) (visit_at s v) reach
+abbrev pub IsLowered : List ℤ → List ℤ → List NodeLabel → ℤ → Type 0
+IsLowered p q s reach = (v : ℕ) → number_at q v ≡ lowered (number_at p v) (node_label_at s v) reach
 
 -- what the search from all nodes knows: the root of each path has label 0, and no label is above 0
-pub record IsFromAll (p : List ℤ) (s : List Visit) : Type 0 where
+pub record IsFromAll (p : List ℤ) (s : List NodeLabel) : Type 0 where
   pub reached : (v : ℕ) → v < length p → IsReached s v
-  pub roots : (v : ℕ) → IsReached s v → depth_at s v ≡ 0 → key_at s v ≡ neg_ℤ (number_at p v)
-  pub at_most_0 : (v : ℕ) → IsReached s v → (key_at s v +ℤ number_at p v) ≤ℤ pos 0
+  pub roots : (v : ℕ) → IsReached s v → depth_at s v ≡ 0 → distance_at s v ≡ neg_ℤ (number_at p v)
+  pub at_most_0 : (v : ℕ) → IsReached s v → (distance_at s v +ℤ number_at p v) ≤ℤ pos 0
 
 -- what each node begins with in a search from all nodes
-abbrev pub root_visit : ℤ → Visit
-root_visit potential = record { mark = Open; key = neg_ℤ potential; depth = 0; arc = 0; way = Forward }
+abbrev pub root_node_label : ℤ → NodeLabel
+root_node_label potential = record { state = Open; distance = neg_ℤ potential; depth = 0; arc = 0; way = Forward }
 
 -- each potential becomes the label of its node
-abbrev pub AreLabels : List ℤ → List ℤ → List Visit → Type 0
-AreLabels p q s = (v : ℕ) → number_at q v ≡ number_at p v +ℤ key_at s v
+abbrev pub AreLabels : List ℤ → List ℤ → List NodeLabel → Type 0
+AreLabels p q s = (v : ℕ) → number_at q v ≡ number_at p v +ℤ distance_at s v

@@ -2,8 +2,8 @@
 use Rattle.shortest_paths.specs.Limits.{label_floor, drift_limit}
 use Rattle.std.specs.Prelude.{ℕ, ℤ, pos, neg_ℤ, ◌-ℤ◌, ◌≤ℤ◌, List}
 use Rattle.dimacs_text.specs.declared.problem.ArcRow.{ArcRow}
-use Rattle.shortest_paths.specs.declared.visit.Visit.{Visit}
-use Rattle.shortest_paths.specs.Residual.{number_at}
+use Rattle.shortest_paths.specs.declared.node_label.NodeLabel.{NodeLabel}
+use Rattle.residual_graph.specs.Residual.{number_at}
 use Rattle.shortest_paths.specs.Search.{IsSearch, AllRelaxed, IsFromExcess, HasFound}
 
 -- no potential lies further below the floor of labels than `fallen`, which is within its limit
@@ -13,7 +13,7 @@ pub record IsNear (p : List ℤ) (fallen : ℤ) : Type 0 where
   pub at_least : (v : ℕ) → (neg_ℤ (pos label_floor) -ℤ fallen) ≤ℤ number_at p v
 
 -- a search from the nodes in excess has come as far as `reach`, and found a node in deficit
-pub record HasSearched (arcs : List ArcRow) (x p e : List ℤ) (s : List Visit) (reach : ℤ) : Type 0 where
+pub record HasSearched (arcs : List ArcRow) (x p e : List ℤ) (s : List NodeLabel) (reach : ℤ) : Type 0 where
   pub search : IsSearch arcs x p s
   pub relaxed : AllRelaxed arcs x p s
   pub from_excess : IsFromExcess e s

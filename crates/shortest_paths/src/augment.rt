@@ -2,21 +2,21 @@
 
 ghost use Rattle.std.specs.Prelude.{◌≡◌, ◌≢◌, ℕ, ℤ, length, slice_set, pos, neg_ℤ, ◌≤ℤ◌, ◌<ℤ◌, ◌<◌, ◌≤◌, ◌⊎◌, List};
 ghost use Rattle.shortest_paths.specs.Blocking.{AreAlive, IsDone, IsFound, IsWalksFor, IsWay, hops_from};
-ghost use Rattle.shortest_paths.specs.Graph.{IsGraphFor};
-ghost use Rattle.shortest_paths.specs.Side.{seen};
-ghost use Rattle.shortest_paths.specs.Limits.{potential_floor};
-ghost use Rattle.shortest_paths.specs.Residual.{IsRow, IsWithin, IsFlow, ArePotentials, number_at, arc_at, room_of};
+ghost use Rattle.residual_graph.specs.Graph.{IsGraphFor};
+ghost use Rattle.residual_graph.specs.Side.{seen};
+ghost use Rattle.residual_graph.specs.Limits.{potential_floor};
+ghost use Rattle.residual_graph.specs.Residual.{IsRow, IsWithin, IsFlow, ArePotentials, number_at, arc_at, room_of};
 ghost use Rattle.shortest_paths.specs.Search.{IsFoundDeficit};
 ghost use Rattle.shortest_paths.specs.Push.{ArePaths, HasRoom, push_along, moved, AreSmall, IsTransfer, IsUnderWay, ArePushes, CanPush};
 ghost use Rattle.shortest_paths.specs.Touched.{AreNoted};
-ghost use Rattle.shortest_paths.specs.Trail.{IsTrailOf};
+ghost use Rattle.shortest_paths.specs.SettledOrder.{IsSettledOrderOf};
 
 use crate::blocking::{Walks, find_path};
 use crate::levels::Levels;
-use crate::residual::{ResidualArc, Way};
+use crate::settled_order::SettledOrder;
 use crate::touched::Touched;
-use crate::trail::Trail;
 use dimacs_text::ArcRow;
+use residual_graph::{ResidualArc, Way};
 
 /// The path on which a walk came from `target`, a node in deficit, to `root`, one in excess.
 #[derive(Clone, Copy)]
@@ -40,17 +40,17 @@ fn room_on(levels: Levels<'_>, flow: &[i64], hop: ResidualArc, limit: i64) -> i6
 
 /// How much fits along the path on which the walk came from `target` to `root`, at most `limit`.
 fn bottleneck(levels: Levels<'_>, flow: &[i64], walks: &Walks, path: FoundPath, limit: i64) -> i64
-    requires flow { IsFlow (length levels.visits.now) (seen levels.side levels.graph.now.rows.items) flow.now }
-    requires walks { IsWalksFor (length levels.visits.now) walks.now }
-    requires target_in { path.target < length levels.visits.now }
-    requires way { IsWay (seen levels.side levels.graph.now.rows.items) flow.now levels.visits.now walks.now path.target path.root }
+    requires flow { IsFlow (length levels.node_labels.now) (seen levels.side levels.graph.now.rows.items) flow.now }
+    requires walks { IsWalksFor (length levels.node_labels.now) walks.now }
+    requires target_in { path.target < length levels.node_labels.now }
+    requires way { IsWay (seen levels.side levels.graph.now.rows.items) flow.now levels.node_labels.now walks.now path.target path.root }
     ensures at_most { result ≤ℤ limit }
-    ensures room { HasRoom (seen levels.entry.side levels.entry.graph.now.rows.items) flow.now result (hops_from (seen levels.entry.side levels.entry.graph.now.rows.items) levels.entry.visits.now walks.now.back.items path.target path.root) }
-    ensures most { (m : ℤ) → m ≤ℤ limit → HasRoom (seen levels.entry.side levels.entry.graph.now.rows.items) flow.now m (hops_from (seen levels.entry.side levels.entry.graph.now.rows.items) levels.entry.visits.now walks.now.back.items path.target path.root) → m ≤ℤ result }
+    ensures room { HasRoom (seen levels.entry.side levels.entry.graph.now.rows.items) flow.now result (hops_from (seen levels.entry.side levels.entry.graph.now.rows.items) levels.entry.node_labels.now walks.now.back.items path.target path.root) }
+    ensures most { (m : ℤ) → m ≤ℤ limit → HasRoom (seen levels.entry.side levels.entry.graph.now.rows.items) flow.now m (hops_from (seen levels.entry.side levels.entry.graph.now.rows.items) levels.entry.node_labels.now walks.now.back.items path.target path.root) → m ≤ℤ result }
 {
     let mut room = limit;
     let mut node = path.root;
-    while levels.visits[node].depth < levels.visits[path.target].depth {
+    while levels.node_labels[node].depth < levels.node_labels[path.target].depth {
         let hop = walks.way_on(node);
         room = room_on(levels, flow, hop, room);
         node = levels.graph.end(levels.side, hop.arc as usize, hop.way);
@@ -66,19 +66,19 @@ fn amount_along(
     walks: &Walks,
     path: FoundPath,
 ) -> i64
-    requires flow { IsFlow (length levels.visits.now) (seen levels.side levels.graph.now.rows.items) flow.now }
-    requires excess_in { length excess.now ≡ length levels.visits.now }
+    requires flow { IsFlow (length levels.node_labels.now) (seen levels.side levels.graph.now.rows.items) flow.now }
+    requires excess_in { length excess.now ≡ length levels.node_labels.now }
     requires small { AreSmall excess.now }
-    requires walks { IsWalksFor (length levels.visits.now) walks.now }
-    requires target_in { path.target < length levels.visits.now }
-    requires way { IsWay (seen levels.side levels.graph.now.rows.items) flow.now levels.visits.now walks.now path.target path.root }
+    requires walks { IsWalksFor (length levels.node_labels.now) walks.now }
+    requires target_in { path.target < length levels.node_labels.now }
+    requires way { IsWay (seen levels.side levels.graph.now.rows.items) flow.now levels.node_labels.now walks.now path.target path.root }
     requires some_excess { pos 0 <ℤ number_at excess.now path.root }
     requires some_deficit { number_at excess.now path.target <ℤ pos 0 }
     ensures at_least_1 { pos 1 ≤ℤ result }
     ensures in_excess { result ≤ℤ number_at excess.now path.root }
     ensures in_deficit { number_at excess.now path.target ≤ℤ neg_ℤ result }
-    ensures room { HasRoom (seen levels.entry.side levels.entry.graph.now.rows.items) flow.now result (hops_from (seen levels.entry.side levels.entry.graph.now.rows.items) levels.entry.visits.now walks.now.back.items path.target path.root) }
-    ensures most { (m : ℤ) → m ≤ℤ number_at excess.now path.root → number_at excess.now path.target ≤ℤ neg_ℤ m → HasRoom (seen levels.entry.side levels.entry.graph.now.rows.items) flow.now m (hops_from (seen levels.entry.side levels.entry.graph.now.rows.items) levels.entry.visits.now walks.now.back.items path.target path.root) → m ≤ℤ result }
+    ensures room { HasRoom (seen levels.entry.side levels.entry.graph.now.rows.items) flow.now result (hops_from (seen levels.entry.side levels.entry.graph.now.rows.items) levels.entry.node_labels.now walks.now.back.items path.target path.root) }
+    ensures most { (m : ℤ) → m ≤ℤ number_at excess.now path.root → number_at excess.now path.target ≤ℤ neg_ℤ m → HasRoom (seen levels.entry.side levels.entry.graph.now.rows.items) flow.now m (hops_from (seen levels.entry.side levels.entry.graph.now.rows.items) levels.entry.node_labels.now walks.now.back.items path.target path.root) → m ≤ℤ result }
 {
     let surplus = excess[path.root];
     let lacking = -excess[path.target];
@@ -95,17 +95,17 @@ fn shift(
     amount: i64,
 )
     requires touched_in { length flow.old ≤ length touched.old }
-    requires flow { IsFlow (length levels.visits.now) (seen levels.side levels.graph.now.rows.items) flow.old }
-    requires walks { IsWalksFor (length levels.visits.now) walks.now }
-    requires target_in { path.target < length levels.visits.now }
-    requires way { IsWay (seen levels.side levels.graph.now.rows.items) flow.old levels.visits.now walks.now path.target path.root }
+    requires flow { IsFlow (length levels.node_labels.now) (seen levels.side levels.graph.now.rows.items) flow.old }
+    requires walks { IsWalksFor (length levels.node_labels.now) walks.now }
+    requires target_in { path.target < length levels.node_labels.now }
+    requires way { IsWay (seen levels.side levels.graph.now.rows.items) flow.old levels.node_labels.now walks.now path.target path.root }
     requires amount { pos 1 ≤ℤ amount }
-    requires room { HasRoom (seen levels.side levels.graph.now.rows.items) flow.old amount (hops_from (seen levels.side levels.graph.now.rows.items) levels.visits.now walks.now.back.items path.target path.root) }
-    ensures flow { flow.new ≡ push_along (hops_from (seen levels.entry.side levels.entry.graph.now.rows.items) levels.entry.visits.now walks.now.back.items path.target path.root) amount flow.old }
+    requires room { HasRoom (seen levels.side levels.graph.now.rows.items) flow.old amount (hops_from (seen levels.side levels.graph.now.rows.items) levels.node_labels.now walks.now.back.items path.target path.root) }
+    ensures flow { flow.new ≡ push_along (hops_from (seen levels.entry.side levels.entry.graph.now.rows.items) levels.entry.node_labels.now walks.now.back.items path.target path.root) amount flow.old }
     ensures noted { AreNoted touched.old flow.old touched.new flow.new }
 {
     let mut node = path.root;
-    while levels.visits[node].depth < levels.visits[path.target].depth {
+    while levels.node_labels[node].depth < levels.node_labels[path.target].depth {
         let hop = walks.way_on(node);
         shift_on(levels, flow, touched, hop, amount);
         node = levels.graph.end(levels.side, hop.arc as usize, hop.way);
@@ -173,13 +173,13 @@ fn push_on(
     path: FoundPath,
 )
     requires touched_in { length flow.old ≤ length touched.old }
-    requires state { IsUnderWay (length levels.visits.now) (seen levels.side levels.graph.now.rows.items) levels.potentials.now flow.old excess.old }
-    requires walks { IsWalksFor (length levels.visits.now) walks.now }
-    requires target_in { path.target < length levels.visits.now }
+    requires state { IsUnderWay (length levels.node_labels.now) (seen levels.side levels.graph.now.rows.items) levels.potentials.now flow.old excess.old }
+    requires walks { IsWalksFor (length levels.node_labels.now) walks.now }
+    requires target_in { path.target < length levels.node_labels.now }
     requires some_deficit { number_at excess.old path.target <ℤ pos 0 }
-    requires found { IsFound (seen levels.side levels.graph.now.rows.items) levels.potentials.now flow.old excess.old levels.visits.now walks.now path.target path.root }
+    requires found { IsFound (seen levels.side levels.graph.now.rows.items) levels.potentials.now flow.old excess.old levels.node_labels.now walks.now path.target path.root }
     ensures noted { AreNoted touched.old flow.old touched.new flow.new }
-    ensures state { IsUnderWay (length levels.entry.visits.now) (seen levels.entry.side levels.entry.graph.now.rows.items) levels.entry.potentials.now flow.new excess.new }
+    ensures state { IsUnderWay (length levels.entry.node_labels.now) (seen levels.entry.side levels.entry.graph.now.rows.items) levels.entry.potentials.now flow.new excess.new }
     ensures push { ArePushes (seen levels.entry.side levels.entry.graph.now.rows.items) 1 flow.old excess.old flow.new excess.new }
 {
     let amount = amount_along(levels, flow, excess, walks, path);
@@ -198,15 +198,15 @@ fn push_to(
 ) -> u64
     requires graph { IsGraphFor (length levels.potentials.now) levels.graph.now }
     requires touched_in { length flow.old ≤ length touched.old }
-    requires state { IsUnderWay (length levels.visits.now) (seen levels.side levels.graph.now.rows.items) levels.potentials.now flow.old excess.old }
-    requires walks { IsWalksFor (length levels.visits.now) walks.old }
-    requires target_in { target < length levels.visits.now }
+    requires state { IsUnderWay (length levels.node_labels.now) (seen levels.side levels.graph.now.rows.items) levels.potentials.now flow.old excess.old }
+    requires walks { IsWalksFor (length levels.node_labels.now) walks.old }
+    requires target_in { target < length levels.node_labels.now }
     ensures noted { AreNoted touched.old flow.old touched.new flow.new }
-    ensures state { IsUnderWay (length levels.entry.visits.now) (seen levels.entry.side levels.entry.graph.now.rows.items) levels.entry.potentials.now flow.new excess.new }
-    ensures walks { IsWalksFor (length levels.entry.visits.now) walks.new }
+    ensures state { IsUnderWay (length levels.entry.node_labels.now) (seen levels.entry.side levels.entry.graph.now.rows.items) levels.entry.potentials.now flow.new excess.new }
+    ensures walks { IsWalksFor (length levels.entry.node_labels.now) walks.new }
     ensures pushes { ArePushes (seen levels.entry.side levels.entry.graph.now.rows.items) result flow.old excess.old flow.new excess.new }
     ensures done { IsDone excess.new walks.new target }
-    ensures some { ArePaths (seen levels.entry.side levels.entry.graph.now.rows.items) levels.entry.potentials.now levels.entry.visits.now → CanPush (seen levels.entry.side levels.entry.graph.now.rows.items) flow.old excess.old levels.entry.visits.now target → AreAlive levels.entry.visits.now walks.old.dead.items → 0 < result }
+    ensures some { ArePaths (seen levels.entry.side levels.entry.graph.now.rows.items) levels.entry.potentials.now levels.entry.node_labels.now → CanPush (seen levels.entry.side levels.entry.graph.now.rows.items) flow.old excess.old levels.entry.node_labels.now target → AreAlive levels.entry.node_labels.now walks.old.dead.items → 0 < result }
     ensures kept { (number_at excess.old target <ℤ pos 0) ⊎ (walks.new ≡ walks.old) }
 {
     let mut pushes = 0;
@@ -235,26 +235,26 @@ pub fn push_found(
     flow: &mut [i64],
     touched: &mut Touched,
     excess: &mut [i64],
-    trail: &Trail,
+    settled_order: &SettledOrder,
     walks: &mut Walks,
 ) -> u64
     requires graph { IsGraphFor (length levels.potentials.now) levels.graph.now }
     requires touched_in { length flow.old ≤ length touched.old }
-    requires state { IsUnderWay (length levels.visits.now) (seen levels.side levels.graph.now.rows.items) levels.potentials.now flow.old excess.old }
-    requires paths { ArePaths (seen levels.side levels.graph.now.rows.items) levels.potentials.now levels.visits.now }
-    requires trail { IsTrailOf levels.visits.now trail.now }
-    requires walks { IsWalksFor (length levels.visits.now) walks.old }
-    requires can_push { (t : ℕ) → IsFoundDeficit excess.old levels.visits.now t → CanPush (seen levels.side levels.graph.now.rows.items) flow.old excess.old levels.visits.now t }
+    requires state { IsUnderWay (length levels.node_labels.now) (seen levels.side levels.graph.now.rows.items) levels.potentials.now flow.old excess.old }
+    requires paths { ArePaths (seen levels.side levels.graph.now.rows.items) levels.potentials.now levels.node_labels.now }
+    requires settled_order { IsSettledOrderOf levels.node_labels.now settled_order.now }
+    requires walks { IsWalksFor (length levels.node_labels.now) walks.old }
+    requires can_push { (t : ℕ) → IsFoundDeficit excess.old levels.node_labels.now t → CanPush (seen levels.side levels.graph.now.rows.items) flow.old excess.old levels.node_labels.now t }
     ensures noted { AreNoted touched.old flow.old touched.new flow.new }
-    ensures state { IsUnderWay (length levels.entry.visits.now) (seen levels.entry.side levels.entry.graph.now.rows.items) levels.entry.potentials.now flow.new excess.new }
-    ensures walks { IsWalksFor (length levels.entry.visits.now) walks.new }
+    ensures state { IsUnderWay (length levels.entry.node_labels.now) (seen levels.entry.side levels.entry.graph.now.rows.items) levels.entry.potentials.now flow.new excess.new }
+    ensures walks { IsWalksFor (length levels.entry.node_labels.now) walks.new }
     ensures pushes { ArePushes (seen levels.entry.side levels.entry.graph.now.rows.items) result flow.old excess.old flow.new excess.new }
-    ensures some { (t : ℕ) → IsFoundDeficit excess.old levels.entry.visits.now t → 0 < result }
+    ensures some { (t : ℕ) → IsFoundDeficit excess.old levels.entry.node_labels.now t → 0 < result }
 {
-    walks.refresh(trail);
+    walks.refresh(settled_order);
     let mut pushes = 0;
-    for j in 0..trail.len {
-        let target = trail.nodes[j] as usize;
+    for j in 0..settled_order.len {
+        let target = settled_order.nodes[j] as usize;
         pushes += push_to(levels, flow, touched, excess, walks, target);
     }
     pushes

@@ -2,19 +2,18 @@
 
 ghost use Rattle.std.specs.Prelude.{◌≡◌, ℕ, ℤ, List, length, pos, ◌≤ℤ◌, ◌<ℤ◌, ◌+ℤ◌, ◌-ℤ◌, ◌<◌, ◌≤◌, ◌+◌, ◌/◌, ◌^◌, IsTrue, ◌↔◌, false, slice_index, slice_set, IfOk, IfSome, IfNone, Some};
 ghost use Rattle.shortest_paths.specs.Cut.{in_set};
-ghost use Rattle.shortest_paths.specs.Graph.{IsGraphFor};
-ghost use Rattle.shortest_paths.specs.Side.{seen};
-ghost use Rattle.shortest_paths.specs.Limits.{entry_limit, potential_floor, row_limit};
-ghost use Rattle.shortest_paths.specs.Residual.{IsRow, IsFlow, ArePotentials, number_at, start_at, end_at, start_of, end_of, cost_of};
-ghost use Rattle.shortest_paths.specs.Search.{visit_at};
+ghost use Rattle.residual_graph.specs.Graph.{IsGraphFor};
+ghost use Rattle.residual_graph.specs.Side.{seen};
+ghost use Rattle.residual_graph.specs.Limits.{entry_limit, potential_floor, row_limit};
+ghost use Rattle.residual_graph.specs.Residual.{IsRow, IsFlow, ArePotentials, number_at, start_at, end_at, start_of, end_of, cost_of};
+ghost use Rattle.shortest_paths.specs.Search.{node_label_at};
 ghost use Rattle.shortest_paths.specs.Push.{IsHopTo, ArePaths, CanPush};
 ghost use Rattle.shortest_paths.specs.Blocking.{AreAlive, IsAdmissible, IsDead, IsFound, IsSteppedTo, IsWalksFor, back_at, head_at};
 
 use crate::levels::Levels;
-use crate::residual::{ResidualArc, Way};
-use crate::trail::Trail;
-use crate::walk::{Place, Walk};
+use crate::settled_order::SettledOrder;
 use dimacs_text::ArcRow;
+use residual_graph::{Place, ResidualArc, Walk, Way};
 use std::alloc::{AllocError, Global};
 
 /// What the walks after one search share. Each table has one entry a node, and what it holds of an earlier search is of
@@ -49,17 +48,17 @@ impl Walks {
     }
 
     /// Begins anew: no node that the search settled is dead, and each goes on from its first end.
-    pub fn refresh(&mut self, trail: &Trail)
-        requires fits { trail.now.len ≤ length trail.now.nodes.items }
-        requires in_dead { (j : ℕ) → j < trail.now.len → slice_index trail.now.nodes.items j < length self.old.dead.items }
-        requires in_current { (j : ℕ) → j < trail.now.len → slice_index trail.now.nodes.items j < length self.old.current.items }
+    pub fn refresh(&mut self, settled_order: &SettledOrder)
+        requires fits { settled_order.now.len ≤ length settled_order.now.nodes.items }
+        requires in_dead { (j : ℕ) → j < settled_order.now.len → slice_index settled_order.now.nodes.items j < length self.old.dead.items }
+        requires in_current { (j : ℕ) → j < settled_order.now.len → slice_index settled_order.now.nodes.items j < length self.old.current.items }
         ensures dead_sized { length self.new.dead.items ≡ length self.old.dead.items }
         ensures current_sized { length self.new.current.items ≡ length self.old.current.items }
         ensures back { self.new.back ≡ self.old.back }
-        ensures alive { (j : ℕ) → j < trail.now.len → in_set self.new.dead.items (slice_index trail.now.nodes.items j) ≡ false }
+        ensures alive { (j : ℕ) → j < settled_order.now.len → in_set self.new.dead.items (slice_index settled_order.now.nodes.items j) ≡ false }
     {
-        for j in 0..trail.len {
-            let node = trail.nodes[j] as usize;
+        for j in 0..settled_order.len {
+            let node = settled_order.nodes[j] as usize;
             self.dead[node] = false;
             self.current[node] = Place::First;
         }
@@ -97,10 +96,10 @@ fn is_tight(row: &ArcRow, potentials: &[i64], way: Way) -> bool
 
 /// Whether arc `k`, gone along in this way, is a hop that a path to the node can take.
 fn is_hop_to(levels: Levels<'_>, flow: &[i64], node: usize, arc: ResidualArc) -> bool
-    requires flow { IsFlow (length levels.visits.now) (seen levels.side levels.graph.now.rows.items) flow.now }
-    requires node_in { node < length levels.visits.now }
+    requires flow { IsFlow (length levels.node_labels.now) (seen levels.side levels.graph.now.rows.items) flow.now }
+    requires node_in { node < length levels.node_labels.now }
     requires arc_in { arc.arc < length (seen levels.side levels.graph.now.rows.items) }
-    ensures { IsTrue result ↔ IsHopTo (seen levels.entry.side levels.entry.graph.now.rows.items) levels.entry.potentials.now flow.now levels.entry.visits.now node arc.arc arc.way }
+    ensures { IsTrue result ↔ IsHopTo (seen levels.entry.side levels.entry.graph.now.rows.items) levels.entry.potentials.now flow.now levels.entry.node_labels.now node arc.arc arc.way }
 {
     let k = arc.arc as usize;
     let row = levels.graph.row(levels.side, k);
@@ -112,10 +111,10 @@ fn is_hop_to(levels: Levels<'_>, flow: &[i64], node: usize, arc: ResidualArc) ->
         return false;
     }
     let start = way.start(&row) as usize;
-    if !levels.visits[start].is_settled() {
+    if !levels.node_labels[start].is_settled() {
         return false;
     }
-    if u64::from(levels.visits[start].depth) + 1 != u64::from(levels.visits[node].depth) {
+    if u64::from(levels.node_labels[start].depth) + 1 != u64::from(levels.node_labels[node].depth) {
         return false;
     }
     is_tight(&row, levels.potentials, way)
@@ -129,11 +128,11 @@ fn is_admissible(
     node: usize,
     arc: ResidualArc,
 ) -> bool
-    requires flow { IsFlow (length levels.visits.now) (seen levels.side levels.graph.now.rows.items) flow.now }
-    requires node_in { node < length levels.visits.now }
-    requires dead_in { length dead.now ≡ length levels.visits.now }
+    requires flow { IsFlow (length levels.node_labels.now) (seen levels.side levels.graph.now.rows.items) flow.now }
+    requires node_in { node < length levels.node_labels.now }
+    requires dead_in { length dead.now ≡ length levels.node_labels.now }
     requires arc_in { arc.arc < length (seen levels.side levels.graph.now.rows.items) }
-    ensures { IsTrue result ↔ IsAdmissible (seen levels.entry.side levels.entry.graph.now.rows.items) levels.entry.potentials.now flow.now levels.entry.visits.now dead.now node arc.arc arc.way }
+    ensures { IsTrue result ↔ IsAdmissible (seen levels.entry.side levels.entry.graph.now.rows.items) levels.entry.potentials.now flow.now levels.entry.node_labels.now dead.now node arc.arc arc.way }
 {
     let start = levels.graph.start(levels.side, arc.arc as usize, arc.way);
     !dead[start] && is_hop_to(levels, flow, node, arc)
@@ -147,18 +146,21 @@ fn next_place(
     node: usize,
 ) -> Option<(Place, ResidualArc)>
     requires graph { IsGraphFor (length levels.potentials.now) levels.graph.now }
-    requires flow { IsFlow (length levels.visits.now) (seen levels.side levels.graph.now.rows.items) flow.now }
-    requires node_in { node < length levels.visits.now }
-    requires walks { IsWalksFor (length levels.visits.now) walks.now }
-    ensures { IfSome result (λ next. IsAdmissible (seen levels.entry.side levels.entry.graph.now.rows.items) levels.entry.potentials.now flow.now levels.entry.visits.now walks.now.dead.items node next.1.arc next.1.way) }
+    requires flow { IsFlow (length levels.node_labels.now) (seen levels.side levels.graph.now.rows.items) flow.now }
+    requires node_in { node < length levels.node_labels.now }
+    requires walks { IsWalksFor (length levels.node_labels.now) walks.now }
+    ensures { IfSome result (λ next. IsAdmissible (seen levels.entry.side levels.entry.graph.now.rows.items) levels.entry.potentials.now flow.now levels.entry.node_labels.now walks.now.dead.items node next.1.arc next.1.way) }
 {
     let mut walk = Walk::resume(levels.graph, node as u32, walks.current[node]);
     let mut before = walk;
     while let Some(end) = walk.next(levels.graph) {
         let other = end.other;
         // A walk goes to no node that is dead or not nearer to where the search began: neither the arc nor its flow is read.
-        let visit = levels.visits[other];
-        if !walks.dead[other] && visit.is_settled() && visit.depth < levels.visits[node].depth {
+        let node_label = levels.node_labels[other];
+        if !walks.dead[other]
+            && node_label.is_settled()
+            && node_label.depth < levels.node_labels[node].depth
+        {
             let arc = levels.side.trailing(end);
             if is_admissible(levels, flow, &walks.dead, node, arc) {
                 return Some((before.place(), arc));
@@ -173,20 +175,20 @@ fn next_place(
 /// gives the node that it comes to: nothing where there is no such arc.
 fn step_back(levels: Levels<'_>, flow: &[i64], walks: &mut Walks, node: usize) -> Option<usize>
     requires graph { IsGraphFor (length levels.potentials.now) levels.graph.now }
-    requires flow { IsFlow (length levels.visits.now) (seen levels.side levels.graph.now.rows.items) flow.now }
-    requires node_in { node < length levels.visits.now }
-    requires walks { IsWalksFor (length levels.visits.now) walks.old }
-    ensures walks { IsWalksFor (length levels.entry.visits.now) walks.new }
+    requires flow { IsFlow (length levels.node_labels.now) (seen levels.side levels.graph.now.rows.items) flow.now }
+    requires node_in { node < length levels.node_labels.now }
+    requires walks { IsWalksFor (length levels.node_labels.now) walks.old }
+    ensures walks { IsWalksFor (length levels.entry.node_labels.now) walks.new }
     ensures dead { walks.new.dead ≡ walks.old.dead }
-    ensures some { IfSome result (IsSteppedTo (seen levels.entry.side levels.entry.graph.now.rows.items) levels.entry.potentials.now flow.now levels.entry.visits.now walks.old walks.new node) }
+    ensures some { IfSome result (IsSteppedTo (seen levels.entry.side levels.entry.graph.now.rows.items) levels.entry.potentials.now flow.now levels.entry.node_labels.now walks.old walks.new node) }
     ensures none { IfNone result (walks.new ≡ walks.old) }
     // The arc by which the search came to the node is tried first.
-    ensures own { IsAdmissible (seen levels.entry.side levels.entry.graph.now.rows.items) levels.entry.potentials.now flow.now levels.entry.visits.now walks.old.dead.items node (visit_at levels.entry.visits.now node).arc (visit_at levels.entry.visits.now node).way → result ≡ Some (start_at (seen levels.entry.side levels.entry.graph.now.rows.items) (visit_at levels.entry.visits.now node).arc (visit_at levels.entry.visits.now node).way) }
+    ensures own { IsAdmissible (seen levels.entry.side levels.entry.graph.now.rows.items) levels.entry.potentials.now flow.now levels.entry.node_labels.now walks.old.dead.items node (node_label_at levels.entry.node_labels.now node).arc (node_label_at levels.entry.node_labels.now node).way → result ≡ Some (start_at (seen levels.entry.side levels.entry.graph.now.rows.items) (node_label_at levels.entry.node_labels.now node).arc (node_label_at levels.entry.node_labels.now node).way) }
 {
-    let visit = levels.visits[node];
+    let node_label = levels.node_labels[node];
     let own = ResidualArc {
-        arc: visit.arc,
-        way: visit.way,
+        arc: node_label.arc,
+        way: node_label.way,
     };
     if (own.arc as usize) < levels.graph.rows.len()
         && is_admissible(levels, flow, &walks.dead, node, own)
@@ -215,15 +217,15 @@ pub fn find_path(
     target: usize,
 ) -> Option<usize>
     requires graph { IsGraphFor (length levels.potentials.now) levels.graph.now }
-    requires flow { IsFlow (length levels.visits.now) (seen levels.side levels.graph.now.rows.items) flow.now }
-    requires excess_in { length excess.now ≡ length levels.visits.now }
-    requires target_in { target < length levels.visits.now }
-    requires walks { IsWalksFor (length levels.visits.now) walks.old }
-    ensures walks { IsWalksFor (length levels.entry.visits.now) walks.new }
-    ensures some { IfSome result (IsFound (seen levels.entry.side levels.entry.graph.now.rows.items) levels.entry.potentials.now flow.now excess.now levels.entry.visits.now walks.new target) }
+    requires flow { IsFlow (length levels.node_labels.now) (seen levels.side levels.graph.now.rows.items) flow.now }
+    requires excess_in { length excess.now ≡ length levels.node_labels.now }
+    requires target_in { target < length levels.node_labels.now }
+    requires walks { IsWalksFor (length levels.node_labels.now) walks.old }
+    ensures walks { IsWalksFor (length levels.entry.node_labels.now) walks.new }
+    ensures some { IfSome result (IsFound (seen levels.entry.side levels.entry.graph.now.rows.items) levels.entry.potentials.now flow.now excess.now levels.entry.node_labels.now walks.new target) }
     ensures none { IfNone result (IsDead walks.new target) }
     // At first the path by which the search came to the target is taken.
-    ensures first { IfNone result (ArePaths (seen levels.entry.side levels.entry.graph.now.rows.items) levels.entry.potentials.now levels.entry.visits.now → CanPush (seen levels.entry.side levels.entry.graph.now.rows.items) flow.now excess.now levels.entry.visits.now target → AreAlive levels.entry.visits.now walks.old.dead.items → ⊥) }
+    ensures first { IfNone result (ArePaths (seen levels.entry.side levels.entry.graph.now.rows.items) levels.entry.potentials.now levels.entry.node_labels.now → CanPush (seen levels.entry.side levels.entry.graph.now.rows.items) flow.now excess.now levels.entry.node_labels.now target → AreAlive levels.entry.node_labels.now walks.old.dead.items → ⊥) }
 {
     if walks.dead[target] {
         return None;

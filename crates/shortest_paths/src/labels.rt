@@ -1,28 +1,26 @@
 //! The labels of all nodes: what still stands of the forest that the last pass left is kept, and the rest is searched.
 
 ghost use Rattle.std.specs.Prelude.{◌≡◌, ℕ, ◌≤ℤ◌, ◌<◌, ◌≤◌, ◌+◌, ◌⊎◌, length, false, None, Some, IfSome, IfOk};
-ghost use Rattle.shortest_paths.specs.Limits.{entry_limit, potential_floor};
-ghost use Rattle.shortest_paths.specs.Residual.{ArePotentials, IsCertified, number_at};
-ghost use Rattle.shortest_paths.specs.Search.{IsSearch, AllRelaxed, IsFromAll, NoneOpen, mark_at, root_visit, settled_visit};
+ghost use Rattle.residual_graph.specs.Limits.{entry_limit, potential_floor};
+ghost use Rattle.residual_graph.specs.Residual.{ArePotentials, IsCertified, number_at};
+ghost use Rattle.shortest_paths.specs.Search.{IsSearch, AllRelaxed, IsFromAll, NoneOpen, state_at, root_node_label, settled_node_label};
 ghost use Rattle.shortest_paths.specs.Labels.{AreInOrder, IsLabelsFor, IsForest, IsHop, IsThrough, Stands, Opens, IsShortest, NothingOpen, IsEntered};
-ghost use Rattle.shortest_paths.specs.Graph.{IsGraphFor};
-ghost use Rattle.shortest_paths.specs.Side.{seen};
+ghost use Rattle.residual_graph.specs.Graph.{IsGraphFor};
+ghost use Rattle.residual_graph.specs.Side.{seen};
 ghost use Rattle.shortest_paths.specs.Queue.{IsQueueOf, IsQueueFor};
-ghost use Rattle.shortest_paths.specs.declared.visit.Mark.TheVariants.{Unreached, Open};
+ghost use Rattle.shortest_paths.specs.declared.node_label.State.TheVariants.{Unreached, Open};
 
+use crate::node_label::{NodeLabel, State};
 use crate::queue::Queue;
-use crate::residual::{ResidualArc, Way};
-use crate::residual_network::Residual;
-use crate::search::{key_through, settle_node};
-use crate::visit::{Mark, Visit};
-use crate::walk::Walk;
+use crate::search::{distance_through, settle_node};
+use residual_graph::{Residual, ResidualArc, Walk, Way};
 use std::alloc::{AllocError, Global};
 
 /// How the last pass reached each node, and the nodes in the order in which it settled them. Both are hints, which are
 /// tested again before they are used.
 #[derive(Drop)]
 pub struct Labels {
-    pub visits: Vec<Visit>,
+    pub node_labels: Vec<NodeLabel>,
     pub order: Vec<u32>,
     /// Whether the potentials that the last pass gave are known to be the greatest still. No search reads it.
     pub standing: bool,
@@ -38,37 +36,37 @@ impl Labels {
         ensures standing { IfOk result (λ l. l.standing ≡ false) }
         ensures in_order { IfOk result (λ l. AreInOrder l.order.items entries) }
     {
-        let visits = vec![in alloc; Visit::unreached(); entries as usize]?;
+        let node_labels = vec![in alloc; NodeLabel::unreached(); entries as usize]?;
         let mut order = vec![in alloc; 0; entries as usize]?;
         for v in 0..entries {
             order[v as usize] = v;
         }
         Ok(Labels {
-            visits,
+            node_labels,
             order,
             standing: false,
         })
     }
 }
 
-/// Takes the mark off each node, and leaves how it was reached.
-fn unmark(visits: &mut [Visit])
-    ensures { (v : ℕ) → mark_at visits.new v ≡ Unreached }
+/// Makes each node unreached, and leaves how it was reached.
+fn clear_states(node_labels: &mut [NodeLabel])
+    ensures { (v : ℕ) → state_at node_labels.new v ≡ Unreached }
 {
-    for v in 0..visits.len() {
-        visits[v].mark = Mark::Unreached;
+    for v in 0..node_labels.len() {
+        node_labels[v].state = State::Unreached;
     }
 }
 
 /// A root: a node that is open with label 0.
-fn root(potentials: &[i64], v: usize) -> Visit
+fn root(potentials: &[i64], v: usize) -> NodeLabel
     requires potentials_in { ArePotentials (length potentials.now) potential_floor potentials.now }
     requires v_in { v < length potentials.now }
-    ensures { result ≡ root_visit (number_at potentials.now v) }
+    ensures { result ≡ root_node_label (number_at potentials.now v) }
 {
-    Visit {
-        mark: Mark::Open,
-        key: -potentials[v],
+    NodeLabel {
+        state: State::Open,
+        distance: -potentials[v],
         depth: 0,
         arc: 0,
         way: Way::Forward,
@@ -76,33 +74,33 @@ fn root(potentials: &[i64], v: usize) -> Visit
 }
 
 /// The same, settled.
-fn settled(visit: Visit) -> Visit
-    ensures { result ≡ settled_visit visit }
+fn settled(node_label: NodeLabel) -> NodeLabel
+    ensures { result ≡ settled_node_label node_label }
 {
-    Visit {
-        mark: Mark::Settled,
-        ..visit
+    NodeLabel {
+        state: State::Settled,
+        ..node_label
     }
 }
 
 /// How the node is reached along a residual arc, where it is there and comes from a settled node.
-fn visit_through(
+fn node_label_through(
     residual: Residual<'_>,
-    visits: &[Visit],
+    node_labels: &[NodeLabel],
     v: usize,
     arc: ResidualArc,
-) -> Option<Visit>
-    requires forest { IsForest (seen residual.side residual.graph.now.rows.items) residual.flow.now residual.potentials.now visits.now }
+) -> Option<NodeLabel>
+    requires forest { IsForest (seen residual.side residual.graph.now.rows.items) residual.flow.now residual.potentials.now node_labels.now }
     requires arc_in { arc.arc < length (seen residual.side residual.graph.now.rows.items) }
-    ensures none { result ≡ None → IsHop (seen residual.entry.side residual.entry.graph.now.rows.items) residual.entry.flow.now visits.now v arc.arc arc.way → ⊥ }
-    ensures through { IfSome result (IsThrough (seen residual.entry.side residual.entry.graph.now.rows.items) residual.entry.flow.now residual.entry.potentials.now visits.now v) }
-    ensures is_open { IfSome result (λ e. e.mark ≡ Open) }
+    ensures none { result ≡ None → IsHop (seen residual.entry.side residual.entry.graph.now.rows.items) residual.entry.flow.now node_labels.now v arc.arc arc.way → ⊥ }
+    ensures through { IfSome result (IsThrough (seen residual.entry.side residual.entry.graph.now.rows.items) residual.entry.flow.now residual.entry.potentials.now node_labels.now v) }
+    ensures is_open { IfSome result (λ e. e.state ≡ Open) }
     ensures along { IfSome result (λ e. (e.arc ≡ arc.arc) × (e.way ≡ arc.way)) }
 {
     let k = arc.arc as usize;
     let row = residual.graph.row(residual.side, k);
     let start = arc.way.start(&row) as usize;
-    if !visits[start].is_settled() {
+    if !node_labels[start].is_settled() {
         return None;
     }
     if arc.way.end(&row) as usize != v {
@@ -111,10 +109,10 @@ fn visit_through(
     if arc.way.room(&row, residual.flow[k]) <= 0 {
         return None;
     }
-    Some(Visit {
-        mark: Mark::Open,
-        key: key_through(&row, arc.way, residual.potentials, visits),
-        depth: visits[start].depth + 1,
+    Some(NodeLabel {
+        state: State::Open,
+        distance: distance_through(&row, arc.way, residual.potentials, node_labels),
+        depth: node_labels[start].depth + 1,
         arc: arc.arc,
         way: arc.way,
     })
@@ -122,15 +120,15 @@ fn visit_through(
 
 /// How the node was reached, where it is still reached so: as a root whose potential is 0, or by a residual arc of
 /// reduced cost 0 from a node that is kept.
-fn standing(residual: Residual<'_>, visits: &[Visit], v: usize) -> Option<Visit>
-    requires forest { IsForest (seen residual.side residual.graph.now.rows.items) residual.flow.now residual.potentials.now visits.now }
-    requires v_in { v < length visits.now }
-    ensures { IfSome result (Stands (seen residual.entry.side residual.entry.graph.now.rows.items) residual.entry.flow.now residual.entry.potentials.now visits.now v) }
+fn standing(residual: Residual<'_>, node_labels: &[NodeLabel], v: usize) -> Option<NodeLabel>
+    requires forest { IsForest (seen residual.side residual.graph.now.rows.items) residual.flow.now residual.potentials.now node_labels.now }
+    requires v_in { v < length node_labels.now }
+    ensures { IfSome result (Stands (seen residual.entry.side residual.entry.graph.now.rows.items) residual.entry.flow.now residual.entry.potentials.now node_labels.now v) }
 {
     if residual.potentials[v] == 0 {
         return Some(settled(root(residual.potentials, v)));
     }
-    let hint = visits[v];
+    let hint = node_labels[v];
     let arc = ResidualArc {
         arc: hint.arc,
         way: hint.way,
@@ -138,28 +136,28 @@ fn standing(residual: Residual<'_>, visits: &[Visit], v: usize) -> Option<Visit>
     if arc.arc as usize >= residual.graph.rows.len() {
         return None;
     }
-    match visit_through(residual, visits, v, arc) {
-        Some(visit) if visit.key == 0 => Some(settled(visit)),
+    match node_label_through(residual, node_labels, v, arc) {
+        Some(node_label) if node_label.distance == 0 => Some(settled(node_label)),
         _ => None,
     }
 }
 
 /// Settles the node where it stands, and tells whether it does.
-fn keep_node(residual: Residual<'_>, visits: &mut [Visit], v: usize) -> bool
-    requires forest { IsForest (seen residual.side residual.graph.now.rows.items) residual.flow.now residual.potentials.now visits.old }
-    requires closed { NothingOpen visits.old }
-    ensures forest { IsForest (seen residual.entry.side residual.entry.graph.now.rows.items) residual.entry.flow.now residual.entry.potentials.now visits.new }
-    ensures closed { NothingOpen visits.new }
+fn keep_node(residual: Residual<'_>, node_labels: &mut [NodeLabel], v: usize) -> bool
+    requires forest { IsForest (seen residual.side residual.graph.now.rows.items) residual.flow.now residual.potentials.now node_labels.old }
+    requires closed { NothingOpen node_labels.old }
+    ensures forest { IsForest (seen residual.entry.side residual.entry.graph.now.rows.items) residual.entry.flow.now residual.entry.potentials.now node_labels.new }
+    ensures closed { NothingOpen node_labels.new }
 {
-    if v >= visits.len() {
+    if v >= node_labels.len() {
         return false;
     }
-    if visits[v].is_settled() {
+    if node_labels[v].is_settled() {
         return false;
     }
-    match standing(residual, visits, v) {
-        Some(visit) => {
-            visits[v] = visit;
+    match standing(residual, node_labels, v) {
+        Some(node_label) => {
+            node_labels[v] = node_label;
             true
         }
         None => false,
@@ -168,17 +166,17 @@ fn keep_node(residual: Residual<'_>, visits: &mut [Visit], v: usize) -> bool
 
 /// Settles each node that stands, after the node before it on its path; moves these nodes to the front of `order`, and
 /// gives their number.
-fn keep(residual: Residual<'_>, visits: &mut [Visit], order: &mut [u32]) -> usize
-    requires forest { IsForest (seen residual.side residual.graph.now.rows.items) residual.flow.now residual.potentials.now visits.old }
-    requires closed { NothingOpen visits.old }
-    ensures forest { IsForest (seen residual.entry.side residual.entry.graph.now.rows.items) residual.entry.flow.now residual.entry.potentials.now visits.new }
-    ensures closed { NothingOpen visits.new }
+fn keep(residual: Residual<'_>, node_labels: &mut [NodeLabel], order: &mut [u32]) -> usize
+    requires forest { IsForest (seen residual.side residual.graph.now.rows.items) residual.flow.now residual.potentials.now node_labels.old }
+    requires closed { NothingOpen node_labels.old }
+    ensures forest { IsForest (seen residual.entry.side residual.entry.graph.now.rows.items) residual.entry.flow.now residual.entry.potentials.now node_labels.new }
+    ensures closed { NothingOpen node_labels.new }
     ensures count { result ≤ length order.new }
 {
     let mut kept = 0;
     for i in 0..order.len() {
         let v = order[i];
-        if keep_node(residual, visits, v as usize) {
+        if keep_node(residual, node_labels, v as usize) {
             order[kept] = v;
             kept += 1;
         }
@@ -187,65 +185,65 @@ fn keep(residual: Residual<'_>, visits: &mut [Visit], order: &mut [u32]) -> usiz
 }
 
 /// The nearer of the two.
-fn nearer(best: Visit, other: Option<Visit>) -> Visit
-    ensures falls { result.key ≤ℤ best.key }
-    ensures no_dearer { IfSome other (λ e. result.key ≤ℤ e.key) }
+fn nearer(best: NodeLabel, other: Option<NodeLabel>) -> NodeLabel
+    ensures falls { result.distance ≤ℤ best.distance }
+    ensures no_dearer { IfSome other (λ e. result.distance ≤ℤ e.distance) }
     ensures one { (result ≡ best) ⊎ (other ≡ Some result) }
 {
     match other {
-        Some(visit) if visit.key < best.key => visit,
+        Some(node_label) if node_label.distance < best.distance => node_label,
         _ => best,
     }
 }
 
-/// The nearest visit to the node: as a root, or by a residual arc from a settled node.
-fn nearest(residual: Residual<'_>, visits: &[Visit], v: usize) -> Visit
+/// The node label of least distance that the node can have: as a root, or by a residual arc from a settled node.
+fn nearest(residual: Residual<'_>, node_labels: &[NodeLabel], v: usize) -> NodeLabel
     requires graph { IsGraphFor (length residual.potentials.now) residual.graph.now }
-    requires forest { IsForest (seen residual.side residual.graph.now.rows.items) residual.flow.now residual.potentials.now visits.now }
-    requires v_in { v < length visits.now }
-    ensures opens { Opens (seen residual.entry.side residual.entry.graph.now.rows.items) residual.entry.flow.now residual.entry.potentials.now visits.now v result }
-    ensures nearest { IsShortest (seen residual.entry.side residual.entry.graph.now.rows.items) residual.entry.flow.now residual.entry.potentials.now visits.now v result }
+    requires forest { IsForest (seen residual.side residual.graph.now.rows.items) residual.flow.now residual.potentials.now node_labels.now }
+    requires v_in { v < length node_labels.now }
+    ensures opens { Opens (seen residual.entry.side residual.entry.graph.now.rows.items) residual.entry.flow.now residual.entry.potentials.now node_labels.now v result }
+    ensures nearest { IsShortest (seen residual.entry.side residual.entry.graph.now.rows.items) residual.entry.flow.now residual.entry.potentials.now node_labels.now v result }
 {
     let mut best = root(residual.potentials, v);
     let mut walk = Walk::at(residual.graph, v as u32);
     while let Some(end) = walk.next(residual.graph) {
         // No path goes on from a node that is not settled: neither the arc nor its flow is read.
-        if visits[end.other].is_settled() {
+        if node_labels[end.other].is_settled() {
             let arc = residual.side.trailing(end);
-            let visit = visit_through(residual, visits, v, arc);
-            best = nearer(best, visit);
+            let node_label = node_label_through(residual, node_labels, v, arc);
+            best = nearer(best, node_label);
         }
     }
     best
 }
 
 /// Opens the node, where it is not settled.
-fn enter_node(residual: Residual<'_>, visits: &mut [Visit], queue: &mut Queue, v: usize)
+fn enter_node(residual: Residual<'_>, node_labels: &mut [NodeLabel], queue: &mut Queue, v: usize)
     requires graph { IsGraphFor (length residual.potentials.now) residual.graph.now }
-    requires entered { IsEntered (seen residual.side residual.graph.now.rows.items) residual.flow.now residual.potentials.now visits.old v }
-    requires v_in { v < length visits.old }
-    requires queue { IsQueueOf visits.old queue.old }
-    ensures entered { IsEntered (seen residual.entry.side residual.entry.graph.now.rows.items) residual.entry.flow.now residual.entry.potentials.now visits.new (v + 1) }
-    ensures queue { IsQueueOf visits.new queue.new }
+    requires entered { IsEntered (seen residual.side residual.graph.now.rows.items) residual.flow.now residual.potentials.now node_labels.old v }
+    requires v_in { v < length node_labels.old }
+    requires queue { IsQueueOf node_labels.old queue.old }
+    ensures entered { IsEntered (seen residual.entry.side residual.entry.graph.now.rows.items) residual.entry.flow.now residual.entry.potentials.now node_labels.new (v + 1) }
+    ensures queue { IsQueueOf node_labels.new queue.new }
 {
-    if visits[v].is_settled() {
+    if node_labels[v].is_settled() {
         return;
     }
-    let visit = nearest(residual, visits, v);
-    queue.improve(visits, v, visit);
+    let node_label = nearest(residual, node_labels, v);
+    queue.improve(node_labels, v, node_label);
 }
 
 /// Opens each node that is not settled.
-fn enter(residual: Residual<'_>, visits: &mut [Visit], queue: &mut Queue)
+fn enter(residual: Residual<'_>, node_labels: &mut [NodeLabel], queue: &mut Queue)
     requires graph { IsGraphFor (length residual.potentials.now) residual.graph.now }
-    requires forest { IsForest (seen residual.side residual.graph.now.rows.items) residual.flow.now residual.potentials.now visits.old }
-    requires closed { NothingOpen visits.old }
-    requires queue { IsQueueOf visits.old queue.old }
-    ensures entered { IsEntered (seen residual.entry.side residual.entry.graph.now.rows.items) residual.entry.flow.now residual.entry.potentials.now visits.new (length visits.new) }
-    ensures queue { IsQueueOf visits.new queue.new }
+    requires forest { IsForest (seen residual.side residual.graph.now.rows.items) residual.flow.now residual.potentials.now node_labels.old }
+    requires closed { NothingOpen node_labels.old }
+    requires queue { IsQueueOf node_labels.old queue.old }
+    ensures entered { IsEntered (seen residual.entry.side residual.entry.graph.now.rows.items) residual.entry.flow.now residual.entry.potentials.now node_labels.new (length node_labels.new) }
+    ensures queue { IsQueueOf node_labels.new queue.new }
 {
-    for v in 0..visits.len() {
-        enter_node(residual, visits, queue, v);
+    for v in 0..node_labels.len() {
+        enter_node(residual, node_labels, queue, v);
     }
 }
 
@@ -265,26 +263,26 @@ fn note(order: &mut [u32], place: usize, v: usize) -> usize
 /// Settles the open nodes, and notes them behind those that were kept.
 fn search_rest(
     residual: Residual<'_>,
-    visits: &mut [Visit],
+    node_labels: &mut [NodeLabel],
     order: &mut [u32],
     queue: &mut Queue,
     kept: usize,
 )
     requires graph { IsGraphFor (length residual.potentials.now) residual.graph.now }
-    requires search { IsSearch (seen residual.side residual.graph.now.rows.items) residual.flow.now residual.potentials.now visits.old }
-    requires relaxed { AllRelaxed (seen residual.side residual.graph.now.rows.items) residual.flow.now residual.potentials.now visits.old }
-    requires from_all { IsFromAll residual.potentials.now visits.old }
-    requires queue { IsQueueOf visits.old queue.old }
+    requires search { IsSearch (seen residual.side residual.graph.now.rows.items) residual.flow.now residual.potentials.now node_labels.old }
+    requires relaxed { AllRelaxed (seen residual.side residual.graph.now.rows.items) residual.flow.now residual.potentials.now node_labels.old }
+    requires from_all { IsFromAll residual.potentials.now node_labels.old }
+    requires queue { IsQueueOf node_labels.old queue.old }
     requires kept { kept ≤ length order.old }
-    ensures search { IsSearch (seen residual.entry.side residual.entry.graph.now.rows.items) residual.entry.flow.now residual.entry.potentials.now visits.new }
-    ensures relaxed { AllRelaxed (seen residual.entry.side residual.entry.graph.now.rows.items) residual.entry.flow.now residual.entry.potentials.now visits.new }
-    ensures from_all { IsFromAll residual.entry.potentials.now visits.new }
-    ensures done { NoneOpen visits.new (length visits.new) }
-    ensures queue { IsQueueOf visits.new queue.new }
+    ensures search { IsSearch (seen residual.entry.side residual.entry.graph.now.rows.items) residual.entry.flow.now residual.entry.potentials.now node_labels.new }
+    ensures relaxed { AllRelaxed (seen residual.entry.side residual.entry.graph.now.rows.items) residual.entry.flow.now residual.entry.potentials.now node_labels.new }
+    ensures from_all { IsFromAll residual.entry.potentials.now node_labels.new }
+    ensures done { NoneOpen node_labels.new (length node_labels.new) }
+    ensures queue { IsQueueOf node_labels.new queue.new }
 {
     let mut place = kept;
-    while let Some(u) = queue.first(visits) {
-        let _settled = settle_node(residual, visits, queue);
+    while let Some(u) = queue.first(node_labels) {
+        let _settled = settle_node(residual, node_labels, queue);
         place = note(order, place, u);
     }
 }
@@ -292,22 +290,22 @@ fn search_rest(
 /// Takes the labels of all nodes: keeps those that stand, and searches the others.
 pub fn search_labels(
     residual: Residual<'_>,
-    visits: &mut [Visit],
+    node_labels: &mut [NodeLabel],
     order: &mut [u32],
     queue: &mut Queue,
 )
     requires graph { IsGraphFor (length residual.potentials.now) residual.graph.now }
-    requires visits_in { length visits.old ≡ length residual.potentials.now }
+    requires node_labels_in { length node_labels.old ≡ length residual.potentials.now }
     requires sized { IsQueueFor (length residual.potentials.now) queue.old }
-    ensures search { IsSearch (seen residual.entry.side residual.entry.graph.now.rows.items) residual.entry.flow.now residual.entry.potentials.now visits.new }
-    ensures relaxed { AllRelaxed (seen residual.entry.side residual.entry.graph.now.rows.items) residual.entry.flow.now residual.entry.potentials.now visits.new }
-    ensures from_all { IsFromAll residual.entry.potentials.now visits.new }
-    ensures done { NoneOpen visits.new (length visits.new) }
+    ensures search { IsSearch (seen residual.entry.side residual.entry.graph.now.rows.items) residual.entry.flow.now residual.entry.potentials.now node_labels.new }
+    ensures relaxed { AllRelaxed (seen residual.entry.side residual.entry.graph.now.rows.items) residual.entry.flow.now residual.entry.potentials.now node_labels.new }
+    ensures from_all { IsFromAll residual.entry.potentials.now node_labels.new }
+    ensures done { NoneOpen node_labels.new (length node_labels.new) }
     ensures sized { IsQueueFor (length residual.entry.potentials.now) queue.new }
 {
-    unmark(visits);
-    let kept = keep(residual, visits, order);
-    queue.clear(visits);
-    enter(residual, visits, queue);
-    search_rest(residual, visits, order, queue, kept);
+    clear_states(node_labels);
+    let kept = keep(residual, node_labels, order);
+    queue.clear(node_labels);
+    enter(residual, node_labels, queue);
+    search_rest(residual, node_labels, order, queue, kept);
 }

@@ -4,9 +4,9 @@ ghost use Rattle.std.specs.Prelude.{◌≡◌, ◌↔◌, ℕ, ℤ, neg_ℤ, Lis
 ghost use Rattle.dimacs_text.specs.declared.problem.ArcRow.{ArcRow};
 ghost use Rattle.shortest_paths.specs.Cut.{IsParted};
 ghost use Rattle.shortest_paths.specs.Push.{ArePushes};
-ghost use Rattle.shortest_paths.specs.Residual.{IsFlow};
-ghost use Rattle.shortest_paths.specs.Side.{seen};
-ghost use Rattle.shortest_paths.specs.declared.side.Side.TheVariants.{Behind};
+ghost use Rattle.residual_graph.specs.Residual.{IsFlow};
+ghost use Rattle.residual_graph.specs.Side.{seen};
+ghost use Rattle.residual_graph.specs.declared.side.Side.TheVariants.{Behind};
 
 /// A law, with nothing to run: a flow within the bounds is one from either side.
 pub fn flow_turned()

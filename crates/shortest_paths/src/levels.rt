@@ -1,12 +1,11 @@
 //! What a search left for the walks back from nodes in deficit.
 
 ghost use Rattle.std.specs.Prelude.{length};
-ghost use Rattle.shortest_paths.specs.Limits.{potential_floor};
-ghost use Rattle.shortest_paths.specs.Residual.{ArePotentials};
+ghost use Rattle.residual_graph.specs.Limits.{potential_floor};
+ghost use Rattle.residual_graph.specs.Residual.{ArePotentials};
 
-use crate::graph::Graph;
-use crate::side::Side;
-use crate::visit::Visit;
+use crate::node_label::NodeLabel;
+use residual_graph::{Graph, Side};
 
 /// A network as it is seen from one side, potentials, and what a search knows of each node. A walk goes back along
 /// residual arcs that cost nothing under the potentials, one level lower at each step.
@@ -15,6 +14,6 @@ pub struct Levels<'a> {
     pub graph: &'a Graph,
     pub side: Side,
     pub potentials: &'a [i64],
-    pub visits: &'a [Visit],
-    ghost potentials_in: { ArePotentials (length visits.now) potential_floor potentials.now },
+    pub node_labels: &'a [NodeLabel],
+    ghost potentials_in: { ArePotentials (length node_labels.now) potential_floor potentials.now },
 }

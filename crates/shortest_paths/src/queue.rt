@@ -1,23 +1,23 @@
-//! The open nodes of a search, the one of the least key first.
+//! The open nodes of a search, the one of the least distance first.
 
-ghost use Rattle.shortest_paths.specs.Limits.{entry_limit};
+ghost use Rattle.residual_graph.specs.Limits.{entry_limit};
 ghost use Rattle.std.specs.Prelude.{◌≡◌, ℕ, pos, length, ◌<◌, ◌≤◌, ◌≤ℤ◌, slice_index, slice_set, MatchOption, IfOk, IfSome, IsTrue, ◌↔◌};
-ghost use Rattle.shortest_paths.specs.Search.{visit_at, key_at, Takes, IsLeastOpen, NoneOpen, settled_visit};
-ghost use Rattle.shortest_paths.specs.declared.visit.Mark.TheVariants.{Unreached, Open};
+ghost use Rattle.shortest_paths.specs.Search.{node_label_at, distance_at, Takes, IsLeastOpen, NoneOpen, settled_node_label};
+ghost use Rattle.shortest_paths.specs.declared.node_label.State.TheVariants.{Unreached, Open};
 
 use crate::heap;
-use crate::visit::{Mark, Visit};
+use crate::node_label::{NodeLabel, State};
 use std::alloc::{AllocError, Global};
 
-/// A first-in first-out line of the open nodes whose key is the present one, that of the node settled last, and behind
-/// it a binary heap of the others, over tables with one entry a node.
+/// The current nodes, which are open nodes at the present distance, that of the node settled last, first in and first out;
+/// and behind them a binary heap of the other open nodes. Each table has one entry a node.
 #[derive(Drop)]
 pub struct Queue {
-    /// The nodes in the line stand from place `next` to before place `end`.
-    pub line: Vec<u32>,
+    /// The current nodes stand from place `next` to before place `end`.
+    pub current: Vec<u32>,
     pub next: usize,
     pub end: usize,
-    /// The present key.
+    /// The present distance.
     pub present: i64,
     /// The heap: its first `len` places hold nodes.
     pub order: Vec<u32>,
@@ -36,11 +36,11 @@ impl Queue {
     pub fn new(alloc: Global, entries: usize) -> Result<Queue, AllocError>
         ensures { IfOk result (λ q. IsQueueFor entries q) }
     {
-        let line = vec![in alloc; 0; entries]?;
+        let current = vec![in alloc; 0; entries]?;
         let order = vec![in alloc; 0; entries]?;
         let place = vec![in alloc; 0; entries]?;
         Ok(Queue {
-            line,
+            current,
             next: 0,
             end: 0,
             present: 0,
@@ -50,45 +50,56 @@ impl Queue {
         })
     }
 
-    /// Whether a node that gets this key joins the line: it is new, the key is the present one, and there is room.
-    fn takes_in_line(&self, visit: &Visit, key: i64) -> bool
-        ensures { IsTrue result ↔ ((visit.now.mark ≡ Unreached) × (key ≡ self.now.present) × (self.now.end < length self.now.line.items)) }
+    /// Whether a node that gets this distance joins the current nodes: it is new, the distance is the present one, and there
+    /// is room.
+    fn joins_current(&self, node_label: &NodeLabel, distance: i64) -> bool
+        ensures { IsTrue result ↔ ((node_label.now.state ≡ Unreached) × (distance ≡ self.now.present) × (self.now.end < length self.now.current.items)) }
     {
-        matches!(visit.mark, Mark::Unreached) && key == self.present && self.end < self.line.len()
+        matches!(node_label.state, State::Unreached)
+            && distance == self.present
+            && self.end < self.current.len()
     }
 
-    /// Writes what is known of a node whose path got better. A new node with the present key joins the line at its end.
-    pub fn improve(&mut self, visits: &mut [Visit], v: usize, visit: Visit)
-        requires queue { IsQueueOf visits.old self.old }
-        requires few { length visits.old ≤ entry_limit }
-        requires v_in { v < length visits.old }
-        requires is_open { visit.mark ≡ Open }
-        requires better { Takes (visit_at visits.old v) visit.key }
-        requires not_nearer { self.old.present ≤ℤ visit.key }
-        ensures visits { visits.new ≡ slice_set visits.old v visit }
-        ensures queue { IsQueueOf visits.new self.new }
+    /// Writes what is known of a node whose path got better. A new node at the present distance
+    /// is the last of the current ones.
+    pub fn improve(&mut self, node_labels: &mut [NodeLabel], v: usize, node_label: NodeLabel)
+        requires queue { IsQueueOf node_labels.old self.old }
+        requires few { length node_labels.old ≤ entry_limit }
+        requires v_in { v < length node_labels.old }
+        requires is_open { node_label.state ≡ Open }
+        requires better { Takes (node_label_at node_labels.old v) node_label.distance }
+        requires not_nearer { self.old.present ≤ℤ node_label.distance }
+        ensures node_labels { node_labels.new ≡ slice_set node_labels.old v node_label }
+        ensures queue { IsQueueOf node_labels.new self.new }
         ensures present { self.new.present ≡ self.old.present }
         ensures next { self.new.next ≡ self.old.next }
-        ensures line { (i : ℕ) → i < self.old.end → slice_index self.new.line.items i ≡ slice_index self.old.line.items i }
+        ensures current { (i : ℕ) → i < self.old.end → slice_index self.new.current.items i ≡ slice_index self.old.current.items i }
     {
-        if self.takes_in_line(&visits[v], visit.key) {
-            visits[v] = visit;
-            self.line[self.end] = v as u32;
+        if self.joins_current(&node_labels[v], node_label.distance) {
+            node_labels[v] = node_label;
+            self.current[self.end] = v as u32;
             self.end += 1;
         } else {
-            self.len = heap::improve(visits, &mut self.order, &mut self.place, self.len, v, visit);
+            self.len = heap::improve(
+                node_labels,
+                &mut self.order,
+                &mut self.place,
+                self.len,
+                v,
+                node_label,
+            );
         }
     }
 
-    /// The open node of the least key, where there is one.
-    pub fn first(&self, visits: &[Visit]) -> Option<usize>
-        requires queue { IsQueueOf visits.now self.now }
-        ensures found { MatchOption result (NoneOpen visits.now (length visits.now)) (IsLeastOpen visits.now (length visits.now)) }
+    /// The open node of the least distance, where there is one.
+    pub fn first(&self, node_labels: &[NodeLabel]) -> Option<usize>
+        requires queue { IsQueueOf node_labels.now self.now }
+        ensures found { MatchOption result (NoneOpen node_labels.now (length node_labels.now)) (IsLeastOpen node_labels.now (length node_labels.now)) }
         ensures at { IfSome result (λ u. first_of self.now ≡ u) }
         ensures some { IfSome result (λ u. 0 < size self.now) }
     {
         if self.next < self.end {
-            Some(self.line[self.next] as usize)
+            Some(self.current[self.next] as usize)
         } else if self.len > 0 {
             Some(self.order[0] as usize)
         } else {
@@ -97,42 +108,42 @@ impl Queue {
     }
 
     /// Settles the first node.
-    pub fn settle_first(&mut self, visits: &mut [Visit]) -> usize
-        requires queue { IsQueueOf visits.old self.old }
-        requires few { length visits.old ≤ entry_limit }
+    pub fn settle_first(&mut self, node_labels: &mut [NodeLabel]) -> usize
+        requires queue { IsQueueOf node_labels.old self.old }
+        requires few { length node_labels.old ≤ entry_limit }
         requires some { 0 < size self.old }
         ensures first { first_of self.old ≡ result }
-        ensures least { IsLeastOpen visits.old (length visits.old) result }
-        ensures visits { visits.new ≡ slice_set visits.old result (settled_visit (visit_at visits.old result)) }
-        ensures queue { IsQueueOf visits.new self.new }
-        ensures present { self.new.present ≡ key_at visits.old result }
+        ensures least { IsLeastOpen node_labels.old (length node_labels.old) result }
+        ensures node_labels { node_labels.new ≡ slice_set node_labels.old result (settled_node_label (node_label_at node_labels.old result)) }
+        ensures queue { IsQueueOf node_labels.new self.new }
+        ensures present { self.new.present ≡ distance_at node_labels.old result }
     {
         if self.next < self.end {
-            let first = self.line[self.next] as usize;
-            visits[first].mark = Mark::Settled;
+            let first = self.current[self.next] as usize;
+            node_labels[first].state = State::Settled;
             self.next += 1;
             first
         } else {
             let (first, len) = heap::settle_first(
-                visits,
+                node_labels,
                 &mut self.order,
                 &mut self.place,
                 self.len,
             );
             self.len = len;
-            // The line is empty, so it can begin again.
+            // No current node is left, so the table can begin again.
             self.next = 0;
             self.end = 0;
-            self.present = key_of(&visits[first]);
+            self.present = distance_of(&node_labels[first]);
             first
         }
     }
 
     /// Empties the queue, where no node is open.
-    pub fn clear(&mut self, visits: &[Visit])
-        requires none_open { NoneOpen visits.now (length visits.now) }
-        requires sized { IsQueueFor (length visits.now) self.old }
-        ensures queue { IsQueueOf visits.now self.new }
+    pub fn clear(&mut self, node_labels: &[NodeLabel])
+        requires none_open { NoneOpen node_labels.now (length node_labels.now) }
+        requires sized { IsQueueFor (length node_labels.now) self.old }
+        ensures queue { IsQueueOf node_labels.now self.new }
         ensures present { self.new.present ≡ pos 0 }
     {
         self.next = 0;
@@ -143,8 +154,8 @@ impl Queue {
 }
 
 /// The length of the best path to a node.
-fn key_of(visit: &Visit) -> i64
-    ensures { result ≡ visit.now.key }
+fn distance_of(node_label: &NodeLabel) -> i64
+    ensures { result ≡ node_label.now.distance }
 {
-    visit.key
+    node_label.distance
 }

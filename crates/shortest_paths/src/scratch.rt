@@ -5,21 +5,21 @@ ghost use Rattle.shortest_paths.specs.Scratch.{IsScratchFor};
 
 use crate::blocking::Walks;
 use crate::labels::Labels;
+use crate::node_label::NodeLabel;
 use crate::queue::Queue;
-use crate::trail::Trail;
-use crate::visit::Visit;
+use crate::settled_order::SettledOrder;
 use std::alloc::{AllocError, Global};
 
 /// Tables with one entry a node. Between two calls nothing is known of them but their size, and that no node is marked
-/// as reached in `visits`. What `labels` holds of the last pass is a hint.
+/// as reached in `node_labels`. What `labels` holds of the last pass is a hint.
 #[derive(Drop)]
 pub struct Scratch {
-    pub visits: Vec<Visit>,
+    pub node_labels: Vec<NodeLabel>,
     /// Potentials while flow is pushed, as the side sees them from which the last search went.
     pub potentials: Vec<i64>,
     pub labels: Labels,
     pub queue: Queue,
-    pub trail: Trail,
+    pub settled_order: SettledOrder,
     pub walks: Walks,
 }
 
@@ -32,18 +32,18 @@ impl Scratch {
         ensures sized { IfOk result (λ s. IsScratchFor entries s) }
         ensures standing { IfOk result (λ s. s.labels.standing ≡ false) }
     {
-        let visits = vec![in alloc; Visit::unreached(); entries as usize]?;
+        let node_labels = vec![in alloc; NodeLabel::unreached(); entries as usize]?;
         let potentials = vec![in alloc; 0; entries as usize]?;
         let labels = Labels::new(alloc, entries)?;
         let queue = Queue::new(alloc, entries as usize)?;
-        let trail = Trail::new(alloc, entries as usize)?;
+        let settled_order = SettledOrder::new(alloc, entries as usize)?;
         let walks = Walks::new(alloc, entries as usize)?;
         Ok(Scratch {
-            visits,
+            node_labels,
             potentials,
             labels,
             queue,
-            trail,
+            settled_order,
             walks,
         })
     }

@@ -2,73 +2,83 @@
 
 ghost use Rattle.std.specs.Prelude.{◌≡◌, ℕ, pos, ◌≤ℤ◌, ◌+ℤ◌, ◌-ℤ◌, ◌<ℤ◌, ◌<◌, ◌≤◌, int_lt, length, neg_ℤ, MatchOption, ◌+◌};
 ghost use Rattle.std.specs.List.{count_by};
-ghost use Rattle.shortest_paths.specs.Limits.{entry_limit, key_limit, potential_floor};
-ghost use Rattle.shortest_paths.specs.Residual.{IsRow, IsFlow, IsCertified, ArePotentials, IsResidual, number_at, start_at, start_of, end_of, cost_at, cost_of};
-ghost use Rattle.shortest_paths.specs.Search.{IsSearch, IsLastSettled, Improves, Takes, reduced_at, IsRelaxed, IsRelaxedFrom, AllRelaxed, Settles, visit_at, mark_at, key_at, priced_key, source_visit, IsFromExcess, IsExhausted, HasFound};
-ghost use Rattle.shortest_paths.specs.Graph.{IsGraphFor};
+ghost use Rattle.residual_graph.specs.Limits.{entry_limit, potential_floor};
+ghost use Rattle.shortest_paths.specs.Limits.{distance_limit};
+ghost use Rattle.residual_graph.specs.Residual.{IsRow, IsFlow, IsCertified, ArePotentials, IsResidual, number_at, start_at, start_of, end_of, cost_at, cost_of};
+ghost use Rattle.shortest_paths.specs.Search.{IsSearch, IsLastSettled, Improves, Takes, reduced_at, IsRelaxed, IsRelaxedFrom, AllRelaxed, Settles, node_label_at, state_at, distance_at, priced_distance, source_node_label, IsFromExcess, IsExhausted, HasFound};
+ghost use Rattle.residual_graph.specs.Graph.{IsGraphFor};
 ghost use Rattle.shortest_paths.specs.Queue.{IsQueueOf, IsQueueFor, size, first_of};
-ghost use Rattle.shortest_paths.specs.Side.{IsLeading, leading, seen};
-ghost use Rattle.shortest_paths.specs.Trail.{IsFresh, IsTrailFor, IsTrailOf};
-ghost use Rattle.shortest_paths.specs.declared.visit.Mark.TheVariants.{Unreached};
+ghost use Rattle.residual_graph.specs.Side.{IsLeading, leading, seen};
+ghost use Rattle.shortest_paths.specs.SettledOrder.{IsFresh, IsSettledOrderFor, IsSettledOrderOf};
+ghost use Rattle.shortest_paths.specs.declared.node_label.State.TheVariants.{Unreached};
 
+use crate::node_label::{NodeLabel, State};
 use crate::queue::Queue;
-use crate::residual::{ResidualArc, Way};
-use crate::residual_network::Residual;
-use crate::trail::Trail;
-use crate::visit::{Mark, Visit};
-use crate::walk::{End, Walk};
+use crate::settled_order::SettledOrder;
 use dimacs_text::ArcRow;
+use residual_graph::{End, Residual, ResidualArc, Walk, Way};
 
 /// The length of the path to the end of a residual arc by way of its start.
-pub fn key_through(row: &ArcRow, way: Way, potentials: &[i64], visits: &[Visit]) -> i64
+pub fn distance_through(
+    row: &ArcRow,
+    way: Way,
+    potentials: &[i64],
+    node_labels: &[NodeLabel],
+) -> i64
     requires row { IsRow (length potentials.now) row.now }
-    requires visits_in { length visits.now ≡ length potentials.now }
+    requires node_labels_in { length node_labels.now ≡ length potentials.now }
     requires potentials_in { ArePotentials (length potentials.now) potential_floor potentials.now }
-    requires key_low { pos 0 ≤ℤ key_at visits.now (start_of row.now way) }
-    requires key_high { key_at visits.now (start_of row.now way) ≤ℤ pos key_limit }
-    ensures { result ≡ key_at visits.now (start_of row.now way) +ℤ ((cost_of row.now way +ℤ number_at potentials.now (start_of row.now way)) -ℤ number_at potentials.now (end_of row.now way)) }
+    requires distance_low { pos 0 ≤ℤ distance_at node_labels.now (start_of row.now way) }
+    requires distance_high { distance_at node_labels.now (start_of row.now way) ≤ℤ pos distance_limit }
+    ensures { result ≡ distance_at node_labels.now (start_of row.now way) +ℤ ((cost_of row.now way +ℤ number_at potentials.now (start_of row.now way)) -ℤ number_at potentials.now (end_of row.now way)) }
 {
     let start = way.start(row) as usize;
     let end = way.end(row) as usize;
-    visits[start].key + (way.unit_cost(row) + potentials[start] - potentials[end])
+    node_labels[start].distance + (way.unit_cost(row) + potentials[start] - potentials[end])
 }
 
 /// The length of the path that goes on from a settled node at this end. `from` is the length of the path to the node
 /// with the node's potential.
-fn key_beyond(residual: Residual<'_>, from: i64, end: End) -> i64
+fn distance_beyond(residual: Residual<'_>, from: i64, end: End) -> i64
     requires end { IsLeading residual.side (seen residual.side residual.graph.now.rows.items) end }
     requires low { neg_ℤ (pos potential_floor) ≤ℤ from }
-    requires high { from ≤ℤ pos key_limit }
+    requires high { from ≤ℤ pos distance_limit }
     ensures { result ≡ (from +ℤ cost_at (seen residual.entry.side residual.entry.graph.now.rows.items) (leading residual.entry.side end).arc (leading residual.entry.side end).way) -ℤ number_at residual.entry.potentials.now end.other }
 {
     from + residual.side.leading_cost(end) - residual.potentials[end.other]
 }
 
-/// Takes a better path to the other node at this end, which goes on from the node settled last. `key` is its length.
-fn take_path(residual: Residual<'_>, visits: &mut [Visit], queue: &mut Queue, key: i64, end: End)
-    requires search { IsSearch (seen residual.side residual.graph.now.rows.items) residual.flow.now residual.potentials.now visits.old }
-    requires queue { IsQueueOf visits.old queue.old }
+/// Takes a better path to the other node at this end, which goes on from the node settled last. `distance` is its length.
+fn take_path(
+    residual: Residual<'_>,
+    node_labels: &mut [NodeLabel],
+    queue: &mut Queue,
+    distance: i64,
+    end: End,
+)
+    requires search { IsSearch (seen residual.side residual.graph.now.rows.items) residual.flow.now residual.potentials.now node_labels.old }
+    requires queue { IsQueueOf node_labels.old queue.old }
     requires end { IsLeading residual.side (seen residual.side residual.graph.now.rows.items) end }
-    requires last { IsLastSettled visits.old (start_at (seen residual.side residual.graph.now.rows.items) (leading residual.side end).arc (leading residual.side end).way) }
+    requires last { IsLastSettled node_labels.old (start_at (seen residual.side residual.graph.now.rows.items) (leading residual.side end).arc (leading residual.side end).way) }
     requires residual { IsResidual (seen residual.side residual.graph.now.rows.items) residual.flow.now (leading residual.side end).arc (leading residual.side end).way }
-    requires key { key ≡ key_at visits.old (start_at (seen residual.side residual.graph.now.rows.items) (leading residual.side end).arc (leading residual.side end).way) +ℤ reduced_at (seen residual.side residual.graph.now.rows.items) residual.potentials.now (leading residual.side end).arc (leading residual.side end).way }
-    requires better { Takes (visit_at visits.old end.other) key }
-    ensures search { IsSearch (seen residual.entry.side residual.entry.graph.now.rows.items) residual.entry.flow.now residual.entry.potentials.now visits.new }
-    ensures queue { IsQueueOf visits.new queue.new }
-    ensures improves { Improves visits.old visits.new }
-    ensures relaxed { IsRelaxed (seen residual.entry.side residual.entry.graph.now.rows.items) residual.entry.potentials.now visits.new (leading residual.entry.side end).arc (leading residual.entry.side end).way }
+    requires distance { distance ≡ distance_at node_labels.old (start_at (seen residual.side residual.graph.now.rows.items) (leading residual.side end).arc (leading residual.side end).way) +ℤ reduced_at (seen residual.side residual.graph.now.rows.items) residual.potentials.now (leading residual.side end).arc (leading residual.side end).way }
+    requires better { Takes (node_label_at node_labels.old end.other) distance }
+    ensures search { IsSearch (seen residual.entry.side residual.entry.graph.now.rows.items) residual.entry.flow.now residual.entry.potentials.now node_labels.new }
+    ensures queue { IsQueueOf node_labels.new queue.new }
+    ensures improves { Improves node_labels.old node_labels.new }
+    ensures relaxed { IsRelaxed (seen residual.entry.side residual.entry.graph.now.rows.items) residual.entry.potentials.now node_labels.new (leading residual.entry.side end).arc (leading residual.entry.side end).way }
 {
     let arc = residual.side.leading(end);
     let start = residual
         .graph
         .start(residual.side, arc.arc as usize, arc.way);
-    let depth = visits[start].depth + 1;
+    let depth = node_labels[start].depth + 1;
     queue.improve(
-        visits,
+        node_labels,
         end.other,
-        Visit {
-            mark: Mark::Open,
-            key,
+        NodeLabel {
+            state: State::Open,
+            distance,
             depth,
             arc: arc.arc,
             way: arc.way,
@@ -78,91 +88,101 @@ fn take_path(residual: Residual<'_>, visits: &mut [Visit], queue: &mut Queue, ke
 
 /// Takes the residual arc that leads on from the node settled last at this end into account, where it is there. `from`
 /// is the length of the path to the node with the node's potential.
-fn relax(residual: Residual<'_>, visits: &mut [Visit], queue: &mut Queue, from: i64, end: End)
-    requires search { IsSearch (seen residual.side residual.graph.now.rows.items) residual.flow.now residual.potentials.now visits.old }
-    requires queue { IsQueueOf visits.old queue.old }
+fn relax(
+    residual: Residual<'_>,
+    node_labels: &mut [NodeLabel],
+    queue: &mut Queue,
+    from: i64,
+    end: End,
+)
+    requires search { IsSearch (seen residual.side residual.graph.now.rows.items) residual.flow.now residual.potentials.now node_labels.old }
+    requires queue { IsQueueOf node_labels.old queue.old }
     requires end { IsLeading residual.side (seen residual.side residual.graph.now.rows.items) end }
-    requires last { IsLastSettled visits.old (start_at (seen residual.side residual.graph.now.rows.items) (leading residual.side end).arc (leading residual.side end).way) }
-    requires from { from ≡ priced_key residual.potentials.now visits.old (start_at (seen residual.side residual.graph.now.rows.items) (leading residual.side end).arc (leading residual.side end).way) }
-    ensures search { IsSearch (seen residual.entry.side residual.entry.graph.now.rows.items) residual.entry.flow.now residual.entry.potentials.now visits.new }
-    ensures queue { IsQueueOf visits.new queue.new }
-    ensures improves { Improves visits.old visits.new }
-    ensures relaxed { IsResidual (seen residual.entry.side residual.entry.graph.now.rows.items) residual.entry.flow.now (leading residual.entry.side end).arc (leading residual.entry.side end).way → IsRelaxed (seen residual.entry.side residual.entry.graph.now.rows.items) residual.entry.potentials.now visits.new (leading residual.entry.side end).arc (leading residual.entry.side end).way }
+    requires last { IsLastSettled node_labels.old (start_at (seen residual.side residual.graph.now.rows.items) (leading residual.side end).arc (leading residual.side end).way) }
+    requires from { from ≡ priced_distance residual.potentials.now node_labels.old (start_at (seen residual.side residual.graph.now.rows.items) (leading residual.side end).arc (leading residual.side end).way) }
+    ensures search { IsSearch (seen residual.entry.side residual.entry.graph.now.rows.items) residual.entry.flow.now residual.entry.potentials.now node_labels.new }
+    ensures queue { IsQueueOf node_labels.new queue.new }
+    ensures improves { Improves node_labels.old node_labels.new }
+    ensures relaxed { IsResidual (seen residual.entry.side residual.entry.graph.now.rows.items) residual.entry.flow.now (leading residual.entry.side end).arc (leading residual.entry.side end).way → IsRelaxed (seen residual.entry.side residual.entry.graph.now.rows.items) residual.entry.potentials.now node_labels.new (leading residual.entry.side end).arc (leading residual.entry.side end).way }
 {
     // No path to a settled node gets better: not even its potential is read.
-    if visits[end.other].is_settled() {
+    if node_labels[end.other].is_settled() {
         return;
     }
-    let key = key_beyond(residual, from, end);
+    let distance = distance_beyond(residual, from, end);
     // No residual arc has a reduced cost below 0: none leads to where the path would be shorter than to a settled node.
-    if key < queue.present {
+    if distance < queue.present {
         return;
     }
     // Most ends lead to no better path, and then neither the arc nor its flow is read, which are far away in memory.
-    if !visits[end.other].takes(key) {
+    if !node_labels[end.other].takes(distance) {
         return;
     }
     let arc = residual.side.leading(end);
     if residual.graph.has_room(residual.flow, arc) {
-        take_path(residual, visits, queue, key, end);
+        take_path(residual, node_labels, queue, distance, end);
     }
 }
 
 /// Takes each residual arc from the node settled last into account.
-fn relax_all(residual: Residual<'_>, visits: &mut [Visit], queue: &mut Queue, u: usize)
+fn relax_all(residual: Residual<'_>, node_labels: &mut [NodeLabel], queue: &mut Queue, u: usize)
     requires graph { IsGraphFor (length residual.potentials.now) residual.graph.now }
-    requires search { IsSearch (seen residual.side residual.graph.now.rows.items) residual.flow.now residual.potentials.now visits.old }
-    requires queue { IsQueueOf visits.old queue.old }
-    requires last { IsLastSettled visits.old u }
-    ensures search { IsSearch (seen residual.entry.side residual.entry.graph.now.rows.items) residual.entry.flow.now residual.entry.potentials.now visits.new }
-    ensures queue { IsQueueOf visits.new queue.new }
-    ensures improves { Improves visits.old visits.new }
-    ensures relaxed { IsRelaxedFrom (seen residual.entry.side residual.entry.graph.now.rows.items) residual.entry.flow.now residual.entry.potentials.now visits.new u (length (seen residual.entry.side residual.entry.graph.now.rows.items)) }
+    requires search { IsSearch (seen residual.side residual.graph.now.rows.items) residual.flow.now residual.potentials.now node_labels.old }
+    requires queue { IsQueueOf node_labels.old queue.old }
+    requires last { IsLastSettled node_labels.old u }
+    ensures search { IsSearch (seen residual.entry.side residual.entry.graph.now.rows.items) residual.entry.flow.now residual.entry.potentials.now node_labels.new }
+    ensures queue { IsQueueOf node_labels.new queue.new }
+    ensures improves { Improves node_labels.old node_labels.new }
+    ensures relaxed { IsRelaxedFrom (seen residual.entry.side residual.entry.graph.now.rows.items) residual.entry.flow.now residual.entry.potentials.now node_labels.new u (length (seen residual.entry.side residual.entry.graph.now.rows.items)) }
 {
-    let from = visits[u].key + residual.potentials[u];
+    let from = node_labels[u].distance + residual.potentials[u];
     let mut walk = Walk::at(residual.graph, u as u32);
     while let Some(end) = walk.next(residual.graph) {
-        relax(residual, visits, queue, from, end);
+        relax(residual, node_labels, queue, from, end);
     }
 }
 
-/// Settles the open node of the least key.
-pub fn settle_node(residual: Residual<'_>, visits: &mut [Visit], queue: &mut Queue) -> usize
+/// Settles the open node of the least distance.
+pub fn settle_node(
+    residual: Residual<'_>,
+    node_labels: &mut [NodeLabel],
+    queue: &mut Queue,
+) -> usize
     requires graph { IsGraphFor (length residual.potentials.now) residual.graph.now }
-    requires search { IsSearch (seen residual.side residual.graph.now.rows.items) residual.flow.now residual.potentials.now visits.old }
-    requires queue { IsQueueOf visits.old queue.old }
-    requires relaxed { AllRelaxed (seen residual.side residual.graph.now.rows.items) residual.flow.now residual.potentials.now visits.old }
+    requires search { IsSearch (seen residual.side residual.graph.now.rows.items) residual.flow.now residual.potentials.now node_labels.old }
+    requires queue { IsQueueOf node_labels.old queue.old }
+    requires relaxed { AllRelaxed (seen residual.side residual.graph.now.rows.items) residual.flow.now residual.potentials.now node_labels.old }
     requires some { 0 < size queue.old }
-    ensures search { IsSearch (seen residual.entry.side residual.entry.graph.now.rows.items) residual.entry.flow.now residual.entry.potentials.now visits.new }
-    ensures queue { IsQueueOf visits.new queue.new }
-    ensures relaxed { AllRelaxed (seen residual.entry.side residual.entry.graph.now.rows.items) residual.entry.flow.now residual.entry.potentials.now visits.new }
+    ensures search { IsSearch (seen residual.entry.side residual.entry.graph.now.rows.items) residual.entry.flow.now residual.entry.potentials.now node_labels.new }
+    ensures queue { IsQueueOf node_labels.new queue.new }
+    ensures relaxed { AllRelaxed (seen residual.entry.side residual.entry.graph.now.rows.items) residual.entry.flow.now residual.entry.potentials.now node_labels.new }
     ensures first { first_of queue.old ≡ result }
-    ensures settles { Settles visits.old visits.new result }
+    ensures settles { Settles node_labels.old node_labels.new result }
 {
-    let first = queue.settle_first(visits);
-    relax_all(residual, visits, queue, first);
+    let first = queue.settle_first(node_labels);
+    relax_all(residual, node_labels, queue, first);
     first
 }
 
 /// Opens the nodes in excess.
-fn open_sources(excess: &[i64], visits: &mut [Visit], queue: &mut Queue)
-    requires queue { IsQueueOf visits.old queue.old }
+fn open_sources(excess: &[i64], node_labels: &mut [NodeLabel], queue: &mut Queue)
+    requires queue { IsQueueOf node_labels.old queue.old }
     requires present { queue.old.present ≡ pos 0 }
-    requires few { length visits.old ≤ entry_limit }
-    requires same_length { length visits.old ≡ length excess.now }
-    requires fresh { IsFresh visits.old }
-    ensures sources { (v : ℕ) → pos 0 <ℤ number_at excess.now v → visit_at visits.new v ≡ source_visit (number_at excess.now v) }
-    ensures others { (v : ℕ) → number_at excess.now v ≤ℤ pos 0 → mark_at visits.new v ≡ Unreached }
-    ensures queue { IsQueueOf visits.new queue.new }
+    requires few { length node_labels.old ≤ entry_limit }
+    requires same_length { length node_labels.old ≡ length excess.now }
+    requires fresh { IsFresh node_labels.old }
+    ensures sources { (v : ℕ) → pos 0 <ℤ number_at excess.now v → node_label_at node_labels.new v ≡ source_node_label (number_at excess.now v) }
+    ensures others { (v : ℕ) → number_at excess.now v ≤ℤ pos 0 → state_at node_labels.new v ≡ Unreached }
+    ensures queue { IsQueueOf node_labels.new queue.new }
 {
-    for v in 0..visits.len() {
+    for v in 0..node_labels.len() {
         if excess[v] > 0 {
             queue.improve(
-                visits,
+                node_labels,
                 v,
-                Visit {
-                    mark: Mark::Open,
-                    key: 0,
+                NodeLabel {
+                    state: State::Open,
+                    distance: 0,
                     depth: 0,
                     arc: 0,
                     way: Way::Forward,
@@ -181,37 +201,37 @@ fn wanted_deficits(excess: &[i64]) -> usize
 }
 
 /// Searches from the nodes in excess until all nodes in deficit are settled, or no node is open, and gives how far
-/// the search has come; nothing where no node in deficit can be reached. The trail lists the settled nodes.
+/// the search has come; nothing where no node in deficit can be reached. The settled order lists the settled nodes.
 pub fn find_deficits(
     residual: Residual<'_>,
     excess: &[i64],
-    visits: &mut [Visit],
+    node_labels: &mut [NodeLabel],
     queue: &mut Queue,
-    trail: &mut Trail,
+    settled_order: &mut SettledOrder,
 ) -> Option<i64>
     requires graph { IsGraphFor (length residual.potentials.now) residual.graph.now }
     requires excess_in { length excess.now ≡ length residual.potentials.now }
-    requires visits_in { length visits.old ≡ length residual.potentials.now }
-    requires fresh { IsFresh visits.old }
+    requires node_labels_in { length node_labels.old ≡ length residual.potentials.now }
+    requires fresh { IsFresh node_labels.old }
     requires sized { IsQueueFor (length residual.potentials.now) queue.old }
-    requires trail_in { IsTrailFor (length residual.potentials.now) trail.old }
-    ensures search { IsSearch (seen residual.entry.side residual.entry.graph.now.rows.items) residual.entry.flow.now residual.entry.potentials.now visits.new }
-    ensures relaxed { AllRelaxed (seen residual.entry.side residual.entry.graph.now.rows.items) residual.entry.flow.now residual.entry.potentials.now visits.new }
-    ensures from_excess { IsFromExcess excess.now visits.new }
-    ensures found { MatchOption result (IsExhausted excess.now visits.new) (HasFound excess.now visits.new) }
-    ensures queue { IsQueueOf visits.new queue.new }
-    ensures trail { IsTrailOf visits.new trail.new }
+    requires settled_order_in { IsSettledOrderFor (length residual.potentials.now) settled_order.old }
+    ensures search { IsSearch (seen residual.entry.side residual.entry.graph.now.rows.items) residual.entry.flow.now residual.entry.potentials.now node_labels.new }
+    ensures relaxed { AllRelaxed (seen residual.entry.side residual.entry.graph.now.rows.items) residual.entry.flow.now residual.entry.potentials.now node_labels.new }
+    ensures from_excess { IsFromExcess excess.now node_labels.new }
+    ensures found { MatchOption result (IsExhausted excess.now node_labels.new) (HasFound excess.now node_labels.new) }
+    ensures queue { IsQueueOf node_labels.new queue.new }
+    ensures settled_order { IsSettledOrderOf node_labels.new settled_order.new }
 {
-    queue.clear(visits);
-    trail.len = 0;
-    open_sources(excess, visits, queue);
+    queue.clear(node_labels);
+    settled_order.len = 0;
+    open_sources(excess, node_labels, queue);
     let wanted = wanted_deficits(excess);
     let mut found = 0;
     let mut reach = 0;
-    while let Some(u) = queue.first(visits) {
-        let _settled = settle_node(residual, visits, queue);
-        trail.note(u);
-        reach = visits[u].key;
+    while let Some(u) = queue.first(node_labels) {
+        let _settled = settle_node(residual, node_labels, queue);
+        settled_order.note(u);
+        reach = node_labels[u].distance;
         if excess[u] < 0 {
             found += 1;
             if found == wanted {

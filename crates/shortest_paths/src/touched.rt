@@ -1,7 +1,7 @@
 //! The places at which a table was written.
 
 ghost use Rattle.std.specs.Prelude.{◌≡◌, ◌≢◌, ℕ, ◌<◌, ◌≤◌, true, false, length, slice_set, All, AllPairs, Any, IfOk, replicate};
-ghost use Rattle.shortest_paths.specs.Limits.{row_limit};
+ghost use Rattle.residual_graph.specs.Limits.{row_limit};
 ghost use Rattle.shortest_paths.specs.Cut.{in_set};
 
 use std::alloc::{AllocError, Global};
@@ -17,14 +17,15 @@ pub struct Touched {
 
 impl Model for Touched {
     ghost use Rattle.std.specs.Prelude.{ℕ, ◌<◌, ◌≤◌, ◌≢◌, List, Bool, length};
-    ghost use Rattle.shortest_paths.specs.Limits.{row_limit};
-    ghost use Rattle.shortest_paths.specs.Cut.{IsLineOf, node_at};
+    ghost use Rattle.residual_graph.specs.Limits.{row_limit};
+    ghost use Rattle.shortest_paths.specs.Cut.{IsListOf};
+    ghost use Rattle.shortest_paths.specs.NodeLists.{node_at};
 
     ghost Value = { List Bool };
 
     ghost view = { λ t. t.marks.items };
 
-    ghost invariant = { λ t. IsLineOf t.marks.items t.places.items t.len × (length t.marks.items ≤ row_limit)
+    ghost invariant = { λ t. IsListOf t.marks.items t.places.items t.len × (length t.marks.items ≤ row_limit)
         × ((i j : ℕ) → i < j → j < t.len → node_at t.places.items i ≢ node_at t.places.items j) };
 }
 

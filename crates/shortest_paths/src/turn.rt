@@ -2,12 +2,13 @@
 
 ghost use Rattle.std.specs.Prelude.{◌≡◌, ℕ, ℤ, pos, neg_ℤ, ◌≤ℤ◌, List, length, map};
 ghost use Rattle.dimacs_text.specs.declared.problem.ArcRow.{ArcRow};
-ghost use Rattle.shortest_paths.specs.Limits.{potential_floor};
+ghost use Rattle.residual_graph.specs.Limits.{potential_floor};
 ghost use Rattle.shortest_paths.specs.Push.{AreSmall};
-ghost use Rattle.shortest_paths.specs.Residual.{ArePotentials, IsCertified, number_at};
+ghost use Rattle.residual_graph.specs.Residual.{ArePotentials, IsCertified, number_at};
 ghost use Rattle.shortest_paths.specs.Settle.{IsNear};
-ghost use Rattle.shortest_paths.specs.Side.{IsLeast, other_side, seen};
-ghost use Rattle.shortest_paths.specs.declared.side.Side.{Side};
+ghost use Rattle.shortest_paths.specs.Turn.{IsLeast};
+ghost use Rattle.residual_graph.specs.Side.{other_side, seen};
+ghost use Rattle.residual_graph.specs.declared.side.Side.{Side};
 
 /// Turns potentials round, for a search from the other side. Each comes to lie as far above the least of them as it lay
 /// below 0; so none is above 0, and none below that least one.

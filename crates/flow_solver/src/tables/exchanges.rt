@@ -6,7 +6,7 @@ ghost use Rattle.dimacs_text.specs.declared.problem.TheConstants.{SUPPLY_LIMIT};
 ghost use Rattle.dimacs_text.specs.declared.problem.Kind.TheVariants.{Min};
 ghost use Rattle.network.specs.Flow.{IsPotential};
 ghost use Rattle.network.specs.Instance.{kind_of, reduced, with_supply};
-ghost use Rattle.flow_solver.specs.Desk.{IsFlow, IsRowOf, HasEnds, flow_index, supplies_in};
+ghost use Rattle.flow_solver.specs.TablesView.{IsFlow, IsRowOf, HasEnds, flow_index, supplies_in};
 ghost use Rattle.flow_solver.specs.Moment.{TellsReturn, VerdictFits, with_verdict};
 
 use super::Tables;

@@ -1,7 +1,7 @@
 use Rattle.std.proofs.Common.{◌≡◌, ◌-ℤ◌, w64, to_z, of_z, ap, ◌+◌, ◌<◌, ◌^◌, ℤ, pos, neg_ℤ, arith, rules}
 use Rattle.std.proofs.lemmas.List.Sums.{sum_by_more_le}
 use Rattle.std.proofs.lemmas.Int.{ints}
-use Rattle.shortest_paths.specs.Residual.{number_at}
+use Rattle.residual_graph.specs.Residual.{number_at}
 use Rattle.shortest_paths.specs.Push.{positive_part}
 use Rattle.shortest_paths.proofs.SettleLemmas.{lack-small}
 use Rattle.flow_solver.proofs.answer.sum_deficit.Goals as goal

@@ -1,6 +1,6 @@
 use Rattle.std.proofs.Common.{◌-ℤ◌, SFits, arith, mod-lt, w64, rules}
 use Rattle.std.proofs.lemmas.Int.{wrapping_sub_is}
-use Rattle.shortest_paths.specs.Residual.{number_at}
+use Rattle.residual_graph.specs.Residual.{number_at}
 use Rattle.flow_solver.proofs.BalanceLemmas.{IsRaised-put, wrapped_onto}
 use Rattle.flow_solver.proofs.balance.add_difference.Goals as goal
 

@@ -1,7 +1,7 @@
 use Rattle.std.proofs.Common.{◌≡◌, ◌∙◌, ℤ, List, pos, ◌<◌, length, arith, subst, sym, slice_index_or, slice_set, w64, SFits, rules, to_z, of_z}
 use Rattle.std.proofs.lemmas.Int.{to_z-of_z}
 use Rattle.std.proofs.lemmas.List.{get_or_default}
-use Rattle.shortest_paths.specs.Residual.{arc_at, number_at}
+use Rattle.residual_graph.specs.Residual.{arc_at, number_at}
 use Rattle.flow_solver.specs.Balance.{IsCarried, IsWrappedExcess}
 use Rattle.flow_solver.proofs.BalanceLemmas.{excess_step, part_step, part_past, part_ends}
 use Rattle.flow_solver.proofs.balance.carry_back.Goals as goal
@@ -24,7 +24,7 @@ loop-j-preserved c =
           let entry_fits : SFits w64 w.index.result.now = search rules in
           let kept_fits : SFits w64 w.index-then-k-rows.result.now = search rules in
           let entry : to_z w64 (of_z w64 w.index.result.now) ≡ number_at entries place = to_z-of_z w64 w.index.result.now entry_fits ∙ w.index.ensures ∙ get_or_default entries place w.index.result.now (pos 0) (omega (arith, c.requires.as_many)) in
-          let was : to_z w64 (of_z w64 w.index-then-k-rows.result.now) ≡ number_at kept place = to_z-of_z w64 w.index-then-k-rows.result.now kept_fits ∙ w.index-then-k-rows.ensures ∙ get_or_default kept place w.index-then-k-rows.result.now (pos 0) (omega (arith, c.requires.as_many, c.requires.ledger.same_length)) in
+          let was : to_z w64 (of_z w64 w.index-then-k-rows.result.now) ≡ number_at kept place = to_z-of_z w64 w.index-then-k-rows.result.now kept_fits ∙ w.index-then-k-rows.ensures ∙ get_or_default kept place w.index-then-k-rows.result.now (pos 0) (omega (arith, c.requires.as_many, c.requires.tracked.same_length)) in
           let carried : IsCarried (arc_at rows place) (number_at entries place) (number_at kept place) c.loop-j.excess w.carry_over.new.excess =
           subst (λ (m : ℤ). IsCarried (arc_at rows place) (number_at entries place) m c.loop-j.excess w.carry_over.new.excess) was
           (subst (λ (m : ℤ). IsCarried (arc_at rows place) m (to_z w64 (of_z w64 w.index-then-k-rows.result.now)) c.loop-j.excess w.carry_over.new.excess) entry w.carry_over.ensures) in (
@@ -35,7 +35,7 @@ loop-j-preserved c =
           ))
       | else-k-rows w ↦ (
         z,
-        part_past places entries kept c.loop-j.j z (omega arith) apart part (omega (arith, c.requires.as_many)) c.requires.ledger.same_length,
+        part_past places entries kept c.loop-j.j z (omega arith) apart part (omega (arith, c.requires.as_many)) c.requires.tracked.same_length,
         λ supply is. subst (λ (e : List ℤ). IsWrappedExcess rows supply z e) (sym w.excess-is) (c.loop-j.invariant.2 supply is),
       )
     ]
@@ -46,5 +46,5 @@ returns c =
     let kept = c.args.flow.now.kept.items in
     let entries = c.args.flow.now.entries.items in
     λ supply is. subst (λ (x : List ℤ). IsWrappedExcess rows supply x c.loop-j.excess)
-    (part_ends c.args.flow.now.touched c.places-places.result.now entries kept c.loop-j.j c.loop-j.invariant.0 (omega arith) (omega arith) c.requires.ledger.same_length c.places-places.ensures.listed c.places-places.ensures.noted (λ k none. sym (c.requires.ledger.elsewhere k none (pos 0))) c.loop-j.invariant.1)
+    (part_ends c.args.flow.now.touched c.places-places.result.now entries kept c.loop-j.j c.loop-j.invariant.0 (omega arith) (omega arith) c.requires.tracked.same_length c.places-places.ensures.listed c.places-places.ensures.noted (λ k none. sym (c.requires.tracked.elsewhere k none (pos 0))) c.loop-j.invariant.1)
     (c.loop-j.invariant.2 supply is)

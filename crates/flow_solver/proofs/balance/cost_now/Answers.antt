@@ -2,7 +2,7 @@ use Rattle.std.proofs.Common.{◌≡◌, ◌∙◌, ◌-ℤ◌, ◌*ℤ◌, ◌+
 use Rattle.std.specs.Int.{int_wrap, w128}
 use Rattle.std.proofs.lemmas.Int.{to_z-of_z}
 use Rattle.std.proofs.lemmas.List.{get_or_default}
-use Rattle.shortest_paths.specs.Residual.{arc_at, number_at}
+use Rattle.residual_graph.specs.Residual.{arc_at, number_at}
 use Rattle.flow_solver.specs.Balance.{IsWrappedCost}
 use Rattle.flow_solver.proofs.BalanceLemmas.{cost_step, part_step, part_past, part_ends}
 use Rattle.flow_solver.proofs.balance.cost_now.Goals as goal
@@ -23,16 +23,16 @@ loop-j-preserved c =
           let kept_fits : SFits w64 w.index.result.now = search rules in
           let cost_fits : SFits w64 (arc_at c.args.rows.now place).cost = search rules in
           let entry : to_z w64 (of_z w64 w.index-then-k-rows.result.now) ≡ number_at entries place = to_z-of_z w64 w.index-then-k-rows.result.now entry_fits ∙ w.index-then-k-rows.ensures ∙ get_or_default entries place w.index-then-k-rows.result.now (pos 0) (omega (arith, c.requires.as_many)) in
-          let was : to_z w64 (of_z w64 w.index.result.now) ≡ number_at kept place = to_z-of_z w64 w.index.result.now kept_fits ∙ w.index.ensures ∙ get_or_default kept place w.index.result.now (pos 0) (omega (arith, c.requires.as_many, c.requires.ledger.same_length)) in
+          let was : to_z w64 (of_z w64 w.index.result.now) ≡ number_at kept place = to_z-of_z w64 w.index.result.now kept_fits ∙ w.index.ensures ∙ get_or_default kept place w.index.result.now (pos 0) (omega (arith, c.requires.as_many, c.requires.tracked.same_length)) in
           let price : to_z w64 (of_z w64 (arc_at c.args.rows.now place).cost) ≡ (arc_at c.args.rows.now place).cost = to_z-of_z w64 (arc_at c.args.rows.now place).cost cost_fits in
           let result_is : to_z w128 c.if-k-rows.now-bits ≡ int_wrap w128 (to_z w128 c.loop-j.now-bits +ℤ (number_at entries place -ℤ number_at kept place) *ℤ (arc_at c.args.rows.now place).cost) =
           w.now-is ∙ to_z-of_z w128 w.reprice-now.result (record { sfits = w.reprice-now.type_inv }) ∙ w.reprice-now.ensures
           ∙ (λ i. int_wrap w128 (to_z w128 c.loop-j.now-bits +ℤ (entry i -ℤ was i) *ℤ price i)) in (
             slice_set z (slice_index_or places c.loop-j.j 0) (number_at entries (slice_index_or places c.loop-j.j 0)),
-            part_step places kept entries c.loop-j.j z (omega arith) apart part (omega (arith, c.requires.as_many, c.requires.ledger.same_length)),
-            cost_step places kept entries c.loop-j.j z (omega arith) apart part c.args.rows.now (to_z w128 c.loop-j.now-bits) (to_z w128 c.if-k-rows.now-bits) (omega (arith, c.requires.as_many, c.requires.ledger.same_length)) place_in result_is c.loop-j.invariant.2,
+            part_step places kept entries c.loop-j.j z (omega arith) apart part (omega (arith, c.requires.as_many, c.requires.tracked.same_length)),
+            cost_step places kept entries c.loop-j.j z (omega arith) apart part c.args.rows.now (to_z w128 c.loop-j.now-bits) (to_z w128 c.if-k-rows.now-bits) (omega (arith, c.requires.as_many, c.requires.tracked.same_length)) place_in result_is c.loop-j.invariant.2,
           ))
-      | else-k-rows w ↦ (z, part_past places kept entries c.loop-j.j z (omega arith) apart part (omega (arith, c.requires.as_many, c.requires.ledger.same_length)) (sym c.requires.ledger.same_length), w.now-is ∙ c.loop-j.invariant.2)
+      | else-k-rows w ↦ (z, part_past places kept entries c.loop-j.j z (omega arith) apart part (omega (arith, c.requires.as_many, c.requires.tracked.same_length)) (sym c.requires.tracked.same_length), w.now-is ∙ c.loop-j.invariant.2)
     ]
 
 pub returns : goal.returns
@@ -41,5 +41,5 @@ returns c =
     let kept = c.args.flow.now.kept.items in
     let entries = c.args.flow.now.entries.items in
     subst (λ x. IsWrappedCost c.args.rows.now x (to_z w128 c.loop-j.now-bits))
-    (part_ends c.args.flow.now.touched places kept entries c.loop-j.j c.loop-j.invariant.0 (omega arith) (omega arith) (sym c.requires.ledger.same_length) c.places-places.ensures.listed c.places-places.ensures.noted (λ k none. c.requires.ledger.elsewhere k none (pos 0)) c.loop-j.invariant.1)
+    (part_ends c.args.flow.now.touched places kept entries c.loop-j.j c.loop-j.invariant.0 (omega arith) (omega arith) (sym c.requires.tracked.same_length) c.places-places.ensures.listed c.places-places.ensures.noted (λ k none. c.requires.tracked.elsewhere k none (pos 0)) c.loop-j.invariant.1)
     c.loop-j.invariant.2

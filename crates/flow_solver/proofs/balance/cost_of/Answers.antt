@@ -1,7 +1,7 @@
 use Rattle.std.proofs.Common.{◌≡◌, ◌∙◌, ◌+ℤ◌, ◌-ℤ◌, ◌*ℤ◌, pos, w64, SFits, rules, to_z, of_z}
 use Rattle.std.specs.Int.{int_wrap, w128}
 use Rattle.std.proofs.lemmas.Int.{to_z-of_z}
-use Rattle.shortest_paths.specs.Residual.{arc_at, number_at}
+use Rattle.residual_graph.specs.Residual.{arc_at, number_at}
 use Rattle.flow_solver.proofs.BalanceLemmas.{cost_more}
 use Rattle.flow_solver.proofs.balance.cost_of.Goals as goal
 

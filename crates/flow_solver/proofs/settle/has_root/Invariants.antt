@@ -1,6 +1,6 @@
 use Rattle.std.proofs.Common.{ℕ, ◌<◌}
-use Rattle.shortest_paths.specs.Residual.{number_at}
-use Rattle.shortest_paths.specs.Cut.{IsRoot}
+use Rattle.residual_graph.specs.Residual.{number_at}
+use Rattle.residual_graph.specs.Side.{IsRoot}
 use Rattle.flow_solver.proofs.settle.has_root.Given as goal
 
 abbrev pub invariant-loop-e : goal.invariant-loop-e

@@ -1,24 +1,24 @@
 use Rattle.std.proofs.Common.{◌≡◌, ◌∙◌, ◌+◌, ◌<◌, ◌^◌, ℕ, ℤ, pos, List, length, ap, sym, subst, arith, rules, w64, to_z, of_z, SFits}
 use Rattle.std.proofs.lemmas.Bool.{false≢true}
 use Rattle.std.proofs.lemmas.Int.{ints, to_z-of_z}
-use Rattle.shortest_paths.specs.declared.side.Side.{Side}
-use Rattle.shortest_paths.specs.declared.visit.Visit.{Visit}
+use Rattle.residual_graph.specs.declared.side.Side.{Side}
+use Rattle.shortest_paths.specs.declared.node_label.NodeLabel.{NodeLabel}
 use Rattle.shortest_paths.specs.Cut.{IsParted}
 use Rattle.shortest_paths.specs.Push.{ArePushes, left}
-use Rattle.shortest_paths.specs.Residual.{IsCertified, IsFlow}
+use Rattle.residual_graph.specs.Residual.{IsCertified, IsFlow}
 use Rattle.shortest_paths.specs.Scratch.{IsScratchFor}
 use Rattle.shortest_paths.specs.Search.{HasFound}
 use Rattle.shortest_paths.specs.Settle.{IsNear}
-use Rattle.shortest_paths.specs.Side.{other_side, seen}
+use Rattle.residual_graph.specs.Side.{other_side, seen}
 use Rattle.shortest_paths.proofs.SettleLemmas.{left-small, ArePushes-none, ArePushes-more}
 use Rattle.flow_solver.specs.Settle.{seen_excess}
-use Rattle.flow_solver.proofs.LedgerLemmas.{IsWritten-same, IsWritten-trans}
+use Rattle.flow_solver.proofs.TrackedLemmas.{IsWritten-same, IsWritten-trans}
 use Rattle.flow_solver.proofs.SideLaws.{parted_seen, parted_unless_both, pushes_seen}
 use Rattle.flow_solver.proofs.settle.push_all.Goals as goal
 use Rattle.flow_solver.proofs.settle.push_all.Goals.{After-push_within-pushes}
 
-reach_is : (reach : ℤ) (e : List ℤ) (visits : List Visit) → HasFound e visits reach → to_z w64 (of_z w64 reach) ≡ reach
-reach_is reach e visits found =
+reach_is : (reach : ℤ) (e : List ℤ) (node_labels : List NodeLabel) → HasFound e node_labels reach → to_z w64 (of_z w64 reach) ≡ reach
+reach_is reach e node_labels found =
     let fits : SFits w64 reach = omega (arith, ints, found.front.not_below_0, found.front.settled.not_far) in
     to_z-of_z w64 reach fits
 
@@ -36,7 +36,7 @@ loop-reach-init c =
       at_least = λ v. omega (arith, ints, c.requires.potentials_in.at_least v);
     } in
     record {
-      flow_written = IsWritten-same _ c.requires.flow_ledger;
+      flow_written = IsWritten-same _ c.requires.flow_tracked;
       certified = turn.ensures.certified _ _ c.requires.certified;
       small = turn.ensures.small;
       scratch = subst (λ (n : ℕ). IsScratchFor n turn.new.scratch) (sym turn.ensures.scratch.potentials_sized) turn.ensures.scratch;
@@ -64,7 +64,7 @@ pub keep_near-fallen-requires-clause-at_least : goal.keep_near-fallen-requires-c
 keep_near-fallen-requires-clause-at_least c = λ v.
     (let near = subst (λ (p : List ℤ). IsNear p (to_z w64 c.loop-reach.fallen-bits)) (sym c.search_on.ensures.kept) c.loop-reach.invariant.near in
     let found = c.in-Some.ensures.found.searched.found in
-    let same = reach_is c.in-Some.reach c.loop-reach.excess c.search_on.new.scratch.visits.items found in
+    let same = reach_is c.in-Some.reach c.loop-reach.excess c.search_on.new.scratch.node_labels.items found in
     let further = c.push_within-pushes.ensures.at_least (to_z w64 c.loop-reach.fallen-bits) near v in
     omega (arith, ints, further, found.front.settled.not_far, found.front.not_below_0, near.not_below_0, near.not_above, same))
 

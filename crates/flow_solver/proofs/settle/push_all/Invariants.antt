@@ -1,10 +1,10 @@
 use Rattle.std.proofs.Common.{length}
-use Rattle.shortest_paths.specs.Residual.{IsCertified}
+use Rattle.residual_graph.specs.Residual.{IsCertified}
 use Rattle.shortest_paths.specs.Push.{ArePushes, left, AreSmall}
 use Rattle.shortest_paths.specs.Scratch.{IsScratchFor}
 use Rattle.shortest_paths.specs.Settle.{IsNear}
-use Rattle.shortest_paths.specs.Side.{seen}
-use Rattle.flow_solver.specs.Ledger.{IsWritten}
+use Rattle.residual_graph.specs.Side.{seen}
+use Rattle.flow_solver.specs.Tracked.{IsWritten}
 use Rattle.flow_solver.specs.Settle.{seen_excess}
 use Rattle.flow_solver.proofs.settle.push_all.Given as goal
 

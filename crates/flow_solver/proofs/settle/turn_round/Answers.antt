@@ -1,5 +1,5 @@
 use Rattle.std.proofs.Common.{◌≡◌, sym, subst}
-use Rattle.shortest_paths.specs.declared.side.Side.{Side}
+use Rattle.residual_graph.specs.declared.side.Side.{Side}
 use Rattle.flow_solver.specs.Settle.{seen_excess}
 use Rattle.flow_solver.proofs.SideLaws.{excess_from_other}
 use Rattle.flow_solver.proofs.settle.turn_round.Goals as goal

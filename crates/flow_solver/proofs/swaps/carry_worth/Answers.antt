@@ -1,7 +1,7 @@
 use Rattle.std.proofs.Common.{◌≡◌, ◌∙◌, ◌<◌, pos, length, arith, refl, rules, sym, ap, w64, SFits, to_z, of_z}
 use Rattle.std.proofs.lemmas.Int.{to_z-of_z}
 use Rattle.std.proofs.lemmas.List.{get_or_default, with_items_is}
-use Rattle.shortest_paths.specs.Residual.{arc_at, number_at}
+use Rattle.residual_graph.specs.Residual.{arc_at, number_at}
 use Rattle.flow_solver.proofs.CarryLemmas.{balance_set, carried_as}
 use Rattle.flow_solver.proofs.swaps.carry_worth.Goals as goal
 

@@ -1,6 +1,6 @@
 use Rattle.std.proofs.Common.{ap, ◌-◌, arith}
 use Rattle.flow_solver.specs.declared.part.Part.TheVariants.{Supply}
-use Rattle.flow_solver.specs.Desk.{supplies_in}
+use Rattle.flow_solver.specs.TablesView.{supplies_in}
 use Rattle.session.proofs.Running.{supply_as_bits}
 use Rattle.session.proofs.swaps.swap_part.Goals as goal
 

@@ -1,11 +1,11 @@
 use Rattle.std.proofs.Common.{◌≡◌, ◌∙◌, ℕ, ◌-◌, ◌≤ℤ◌, sym, ap, subst, arith, rules, w64, to_z, of_z, SFits}
 use Rattle.std.proofs.lemmas.Int.{ints, to_z-of_z}
-use Rattle.shortest_paths.specs.declared.residual.ResidualArc.{ResidualArc}
+use Rattle.residual_graph.specs.declared.residual.ResidualArc.{ResidualArc}
 use Rattle.shortest_paths.specs.Blocking.{IsWay, head_at, hops_from, hops_of}
 use Rattle.shortest_paths.specs.Push.{HasRoom}
-use Rattle.shortest_paths.specs.Residual.{arc_at, end_at, number_at, room_of}
+use Rattle.residual_graph.specs.Residual.{arc_at, end_at, number_at, room_of}
 use Rattle.shortest_paths.specs.Search.{depth_at}
-use Rattle.shortest_paths.specs.Side.{seen}
+use Rattle.residual_graph.specs.Side.{seen}
 use Rattle.shortest_paths.proofs.BlockingLemmas.{hop_on, here_fits, more_fits}
 use Rattle.shortest_paths.proofs.augment.bottleneck.Goals as goal
 
@@ -13,7 +13,7 @@ pub loop-node-preserved : goal.loop-node-preserved
 loop-node-preserved c =
     let rows = (seen c.args.levels.side c.args.levels.graph.now.rows.items) in
     let x = c.args.flow.now in
-    let s = c.args.levels.visits.now in
+    let s = c.args.levels.node_labels.now in
     let w = c.args.walks.now in
     let t = c.args.path.target in
     let back = w.back.items in
@@ -40,7 +40,7 @@ loop-node-preserved c =
 pub loop-node-smaller : goal.loop-node-smaller
 loop-node-smaller c =
     let rows = (seen c.args.levels.side c.args.levels.graph.now.rows.items) in
-    let s = c.args.levels.visits.now in
+    let s = c.args.levels.node_labels.now in
     let w = c.args.walks.now in
     let on = hop_on rows c.args.flow.now s w c.args.path.target c.loop-node.node c.requires.flow (omega arith) c.loop-node.invariant.way in
     let at_node : c.end-node.result ≡ head_at rows w.back.items c.loop-node.node = c.end-node.ensures ∙ ap (λ (h : ResidualArc). end_at rows h.arc h.way) c.way_on-hop.ensures in
@@ -49,7 +49,7 @@ loop-node-smaller c =
 pub returns-clause-room : goal.returns-clause-room
 returns-clause-room c =
     let rows = (seen c.args.levels.side c.args.levels.graph.now.rows.items) in
-    let s = c.args.levels.visits.now in
+    let s = c.args.levels.node_labels.now in
     let back = c.args.walks.now.back.items in
     let last : depth_at s c.args.path.target - depth_at s c.loop-node.node ≡ 0 = omega (arith, c.loop-node-test.false) in
     c.loop-node.invariant.room_so_far (to_z w64 c.loop-node.room-bits) (omega (arith, ints))

@@ -3,15 +3,15 @@ use Rattle.std.proofs.lemmas.Int.{ints, to_z-of_z}
 use Rattle.std.specs.Prelude.{◌≤ℤ◌, pos, neg_ℤ}
 use Rattle.shortest_paths.specs.Blocking.{hops_from}
 use Rattle.shortest_paths.specs.Push.{IsUnderWay, ArePushes, IsTransfer, HasRoom}
-use Rattle.shortest_paths.specs.Residual.{number_at}
-use Rattle.shortest_paths.specs.Side.{seen}
+use Rattle.residual_graph.specs.Residual.{number_at}
+use Rattle.residual_graph.specs.Side.{seen}
 use Rattle.shortest_paths.proofs.BlockingLemmas.{IsAlong, along, along_more}
 use Rattle.shortest_paths.proofs.SettleLemmas.{state_after, one_push}
 use Rattle.shortest_paths.proofs.augment.push_on.Goals as goal
 use Rattle.shortest_paths.proofs.augment.push_on.Goals.{After-transfer}
 
 pub record IsPushed (c : After-transfer) : Type 0 where
-  pub state : IsUnderWay (length c.args.levels.visits.now) (seen c.args.levels.side c.args.levels.graph.now.rows.items) c.args.levels.potentials.now c.shift.new.flow c.transfer.new.excess
+  pub state : IsUnderWay (length c.args.levels.node_labels.now) (seen c.args.levels.side c.args.levels.graph.now.rows.items) c.args.levels.potentials.now c.shift.new.flow c.transfer.new.excess
   pub pushes : ArePushes (seen c.args.levels.side c.args.levels.graph.now.rows.items) 1 c.args.flow.now c.args.excess.now c.shift.new.flow c.transfer.new.excess
 
 is_pushed : (c : After-transfer) → IsPushed c
@@ -20,7 +20,7 @@ is_pushed c =
     let q = c.args.levels.potentials.now in
     let x = c.args.flow.now in
     let e = c.args.excess.now in
-    let s = c.args.levels.visits.now in
+    let s = c.args.levels.node_labels.now in
     let w = c.args.walks.now in
     let t = c.args.path.target in
     let root = c.args.path.root in

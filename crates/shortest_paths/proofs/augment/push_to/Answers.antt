@@ -3,11 +3,11 @@ use Rattle.std.proofs.Common.{◌+◌, ◌≤◌, ◌<◌, ◌^◌, List, ℤ, i
 use Rattle.std.specs.Prelude.{◌<ℤ◌, pos}
 use Rattle.std.proofs.lemmas.Bool.{cases_eq}
 use Rattle.std.proofs.lemmas.Int.{ints}
-use Rattle.shortest_paths.specs.Residual.{number_at}
+use Rattle.residual_graph.specs.Residual.{number_at}
 use Rattle.shortest_paths.specs.declared.blocking.Walks.{Walks}
 use Rattle.shortest_paths.specs.Blocking.{AreAlive}
 use Rattle.shortest_paths.specs.Push.{CanPush, left}
-use Rattle.shortest_paths.specs.Side.{seen}
+use Rattle.residual_graph.specs.Side.{seen}
 use Rattle.shortest_paths.proofs.SettleLemmas.{left-small, ArePushes-none, ArePushes-more}
 use Rattle.shortest_paths.proofs.TouchedLemmas.{AreNoted-none, AreNoted-trans}
 use Rattle.shortest_paths.proofs.augment.push_to.Goals as goal
@@ -33,7 +33,7 @@ loop-excess-init c = record {
 
 pub overflow_add-pushes : goal.overflow_add-pushes
 overflow_add-pushes c =
-    let small : left c.args.excess.now ≤ left_limit = left-small (length c.args.levels.visits.now) c.args.excess.now c.requires.state.small c.requires.state.excess_sized c.requires.state.flow.few_nodes in
+    let small : left c.args.excess.now ≤ left_limit = left-small (length c.args.levels.node_labels.now) c.args.excess.now c.requires.state.small c.requires.state.excess_sized c.requires.state.flow.few_nodes in
     let count = (ArePushes-more c.loop-excess.invariant.pushed c.push_on.ensures.push).count in
     let bound : c.loop-excess.pushes + 1 < 2 ^ 64 = omega (arith, small, count) in
     search (rules, bound)
@@ -63,7 +63,7 @@ returns-clause-kept c = elim c.loop-excess.invariant.kept [
 pub returns-in-None-clause-some : goal.returns-in-None-clause-some
 returns-in-None-clause-some c = λ paths can alive.
     (let rows = (seen c.args.levels.side c.args.levels.graph.now.rows.items) in
-    let s = c.args.levels.visits.now in
+    let s = c.args.levels.node_labels.now in
     let t = c.args.target in
     elim (cases_eq c.loop-excess.pushes 0) [
       | inr some ↦ omega (arith, some)

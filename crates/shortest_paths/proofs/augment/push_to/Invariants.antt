@@ -2,16 +2,16 @@ use Rattle.std.proofs.Common.{◌≡◌, ◌⊎◌, length, pos}
 use Rattle.std.specs.Prelude.{◌<ℤ◌}
 use Rattle.shortest_paths.specs.Blocking.{IsWalksFor}
 use Rattle.shortest_paths.specs.Push.{IsUnderWay, ArePushes, left}
-use Rattle.shortest_paths.specs.Residual.{number_at}
+use Rattle.residual_graph.specs.Residual.{number_at}
 use Rattle.shortest_paths.specs.Touched.{AreNoted}
-use Rattle.shortest_paths.specs.Side.{seen}
+use Rattle.residual_graph.specs.Side.{seen}
 use Rattle.shortest_paths.proofs.augment.push_to.Given as goal
 
 abbrev pub invariant-loop-excess : goal.invariant-loop-excess
 invariant-loop-excess l = record {
   noted : AreNoted l.initial.touched l.initial.flow l.touched l.flow;
-  state : IsUnderWay (length l.levels.visits.now) (seen l.levels.side l.levels.graph.now.rows.items) l.levels.potentials.now l.flow l.excess;
-  walks : IsWalksFor (length l.levels.visits.now) l.walks;
+  state : IsUnderWay (length l.levels.node_labels.now) (seen l.levels.side l.levels.graph.now.rows.items) l.levels.potentials.now l.flow l.excess;
+  walks : IsWalksFor (length l.levels.node_labels.now) l.walks;
   pushed : ArePushes (seen l.levels.side l.levels.graph.now.rows.items) l.pushes l.initial.flow l.initial.excess l.flow l.excess;
   first : l.pushes ≡ 0 → l.walks ≡ l.initial.walks;
   kept : (l.pushes ≡ 0) ⊎ (number_at l.initial.excess l.target <ℤ pos 0);

@@ -1,8 +1,8 @@
 use Rattle.std.proofs.Common.{◌≡◌, ◌∙◌, ℤ, ap, arith, rules, w64, to_z, of_z, SFits}
 use Rattle.std.proofs.lemmas.Int.{ints, clamps, to_z-of_z}
 use Rattle.dimacs_text.specs.declared.problem.ArcRow.{ArcRow}
-use Rattle.shortest_paths.specs.Residual.{arc_at, number_at, room_of}
-use Rattle.shortest_paths.specs.Side.{seen}
+use Rattle.residual_graph.specs.Residual.{arc_at, number_at, room_of}
+use Rattle.residual_graph.specs.Side.{seen}
 use Rattle.shortest_paths.proofs.augment.room_on.Goals as goal
 
 pub returns-clause-fits : goal.returns-clause-fits

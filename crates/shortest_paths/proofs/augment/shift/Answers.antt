@@ -1,11 +1,11 @@
 use Rattle.std.proofs.Common.{◌≡◌, ◌∙◌, ℕ, ℤ, List, length, pos, ◌-◌, ◌≤ℤ◌, sym, ap, subst, arith, rules, w64, to_z, of_z, slice_set}
 use Rattle.std.proofs.lemmas.Int.{ints}
-use Rattle.shortest_paths.specs.declared.residual.ResidualArc.{ResidualArc}
+use Rattle.residual_graph.specs.declared.residual.ResidualArc.{ResidualArc}
 use Rattle.shortest_paths.specs.Blocking.{IsWay, back_at, head_at, hops_from, hops_of}
-use Rattle.shortest_paths.specs.Residual.{IsFlow, arc_at, end_at, number_at, room_of}
+use Rattle.residual_graph.specs.Residual.{IsFlow, arc_at, end_at, number_at, room_of}
 use Rattle.shortest_paths.specs.Search.{depth_at}
 use Rattle.shortest_paths.specs.Push.{HasRoom, push_along, moved}
-use Rattle.shortest_paths.specs.Side.{seen}
+use Rattle.residual_graph.specs.Side.{seen}
 use Rattle.shortest_paths.proofs.BlockingLemmas.{hop_on, here_fits, shift_on}
 use Rattle.shortest_paths.proofs.TouchedLemmas.{AreNoted-none, AreNoted-trans}
 use Rattle.shortest_paths.proofs.augment.shift.Goals as goal
@@ -14,9 +14,9 @@ pub shift_on-requires-clause-fits : goal.shift_on-requires-clause-fits
 shift_on-requires-clause-fits c =
     let rows = (seen c.args.levels.side c.args.levels.graph.now.rows.items) in
     let known = c.loop-node.invariant in
-    let on = hop_on rows c.loop-node.flow c.args.levels.visits.now c.args.walks.now c.args.path.target c.loop-node.node known.flow (omega arith) known.way in
+    let on = hop_on rows c.loop-node.flow c.args.levels.node_labels.now c.args.walks.now c.args.path.target c.loop-node.node known.flow (omega arith) known.way in
     subst (λ (h : ResidualArc). to_z w64 (of_z w64 c.args.amount) ≤ℤ room_of (arc_at rows h.arc) (number_at c.loop-node.flow h.arc) h.way) (sym c.way_on-hop.ensures)
-    (here_fits rows c.loop-node.flow c.args.levels.visits.now c.args.walks.now _ c.args.path.target c.loop-node.node on known.room).0
+    (here_fits rows c.loop-node.flow c.args.levels.node_labels.now c.args.walks.now _ c.args.path.target c.loop-node.node on known.room).0
 
 pub loop-node-init : goal.loop-node-init
 loop-node-init c = record {
@@ -30,7 +30,7 @@ loop-node-init c = record {
 pub loop-node-smaller : goal.loop-node-smaller
 loop-node-smaller c =
     let rows = (seen c.args.levels.side c.args.levels.graph.now.rows.items) in
-    let s = c.args.levels.visits.now in
+    let s = c.args.levels.node_labels.now in
     let w = c.args.walks.now in
     let known = c.loop-node.invariant in
     let on = hop_on rows c.loop-node.flow s w c.args.path.target c.loop-node.node known.flow (omega arith) known.way in
@@ -40,7 +40,7 @@ loop-node-smaller c =
 pub loop-node-preserved : goal.loop-node-preserved
 loop-node-preserved c =
     let rows = (seen c.args.levels.side c.args.levels.graph.now.rows.items) in
-    let s = c.args.levels.visits.now in
+    let s = c.args.levels.node_labels.now in
     let w = c.args.walks.now in
     let t = c.args.path.target in
     let back = w.back.items in
@@ -65,7 +65,7 @@ loop-node-preserved c =
 pub returns-clause-flow : goal.returns-clause-flow
 returns-clause-flow c =
     let rows = (seen c.args.levels.side c.args.levels.graph.now.rows.items) in
-    let s = c.args.levels.visits.now in
+    let s = c.args.levels.node_labels.now in
     let back = c.args.walks.now.back.items in
     let last : depth_at s c.args.path.target - depth_at s c.loop-node.node ≡ 0 = omega (arith, c.loop-node-test.false) in
     ap (λ (d : ℕ). push_along (hops_of rows back d c.loop-node.node) (to_z w64 (of_z w64 c.args.amount)) c.loop-node.flow) (sym last) ∙ c.loop-node.invariant.rest ∙ search rules

@@ -1,7 +1,7 @@
 use Rattle.std.proofs.Common.{◌≡◌, ◌-ℤ◌, arith, pos, sym, w64, to_z, of_z, slice_set}
 use Rattle.std.proofs.lemmas.Int.{ints}
 use Rattle.std.proofs.lemmas.List.{get_or-set_other}
-use Rattle.shortest_paths.specs.Residual.{number_at}
+use Rattle.residual_graph.specs.Residual.{number_at}
 use Rattle.shortest_paths.proofs.PushLemmas.{IsTransfer-put}
 use Rattle.shortest_paths.proofs.augment.transfer.Goals as goal
 

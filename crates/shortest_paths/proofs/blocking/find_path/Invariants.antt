@@ -4,17 +4,17 @@ use Rattle.shortest_paths.specs.Cut.{in_set}
 use Rattle.shortest_paths.specs.Search.{depth_at}
 use Rattle.shortest_paths.specs.Push.{ArePaths, CanPush}
 use Rattle.shortest_paths.specs.Blocking.{AreAlive, IsOnWalk, IsWalksFor}
-use Rattle.shortest_paths.specs.Side.{seen}
+use Rattle.residual_graph.specs.Side.{seen}
 use Rattle.shortest_paths.proofs.FirstWalk.{IsFirstWalk}
 use Rattle.shortest_paths.proofs.blocking.find_path.Given as goal
 
 abbrev pub invariant-loop-node : goal.invariant-loop-node
 invariant-loop-node l = record {
-  walks : IsWalksFor (length l.levels.visits.now) l.walks;
+  walks : IsWalksFor (length l.levels.node_labels.now) l.walks;
   alive : in_set l.walks.dead.items l.node ≡ false;
-  on_walk : IsOnWalk (seen l.levels.side l.levels.graph.now.rows.items) l.levels.potentials.now l.flow l.levels.visits.now l.walks.dead.items l.walks.back.items (pos 1) l.target l.node;
-  first : ArePaths (seen l.levels.side l.levels.graph.now.rows.items) l.levels.potentials.now l.levels.visits.now → CanPush (seen l.levels.side l.levels.graph.now.rows.items) l.flow l.excess l.levels.visits.now l.target → AreAlive l.levels.visits.now l.initial.walks.dead.items → IsFirstWalk (seen l.levels.side l.levels.graph.now.rows.items) l.flow l.excess l.levels.visits.now l.walks.dead.items l.node;
+  on_walk : IsOnWalk (seen l.levels.side l.levels.graph.now.rows.items) l.levels.potentials.now l.flow l.levels.node_labels.now l.walks.dead.items l.walks.back.items (pos 1) l.target l.node;
+  first : ArePaths (seen l.levels.side l.levels.graph.now.rows.items) l.levels.potentials.now l.levels.node_labels.now → CanPush (seen l.levels.side l.levels.graph.now.rows.items) l.flow l.excess l.levels.node_labels.now l.target → AreAlive l.levels.node_labels.now l.initial.walks.dead.items → IsFirstWalk (seen l.levels.side l.levels.graph.now.rows.items) l.flow l.excess l.levels.node_labels.now l.walks.dead.items l.node;
 }
 
 abbrev pub decreases-loop-node : goal.decreases-loop-node
-decreases-loop-node l = 2 * count_by not l.walks.dead.items + depth_at l.levels.visits.now l.node
+decreases-loop-node l = 2 * count_by not l.walks.dead.items + depth_at l.levels.node_labels.now l.node

@@ -1,5 +1,5 @@
 use Rattle.std.proofs.Common.{◌≡◌}
-use Rattle.shortest_paths.specs.Ends.{IsWalk, left_of}
+use Rattle.residual_graph.specs.Ends.{IsWalk, left_of}
 use Rattle.shortest_paths.proofs.blocking.next_place.Given as goal
 
 abbrev pub invariant-loop-end : goal.invariant-loop-end

@@ -1,6 +1,6 @@
 use Rattle.std.proofs.Common.{arith}
 use Rattle.std.proofs.lemmas.Int.{ints}
-use Rattle.shortest_paths.proofs.SearchLemmas.{cost_of-bounds}
+use Rattle.residual_graph.proofs.RowLemmas.{cost_of-bounds}
 use Rattle.shortest_paths.proofs.blocking.reduced_cost.Goals as goal
 
 pub returns : goal.returns

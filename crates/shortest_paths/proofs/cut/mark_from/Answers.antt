@@ -1,13 +1,13 @@
 use Rattle.std.proofs.Common.{◌≡◌, ◌∙◌, ◌+◌, ◌<◌, ℕ, Bool, List, ap, arith, false, length, slice_set, subst, sym, true}
 use Rattle.std.proofs.lemmas.List.{get_or-set_same}
-use Rattle.shortest_paths.specs.Ends.{leaving}
-use Rattle.shortest_paths.specs.declared.residual.ResidualArc.{ResidualArc}
+use Rattle.residual_graph.specs.Ends.{leaving}
+use Rattle.residual_graph.specs.declared.residual.ResidualArc.{ResidualArc}
 use Rattle.shortest_paths.specs.Cut.{IsFarIn, IsGrown, far_at, in_set, near_at}
-use Rattle.shortest_paths.specs.Residual.{IsResidual, arc_at}
-use Rattle.shortest_paths.specs.Side.{IsLeadingAt, leading, seen}
+use Rattle.residual_graph.specs.Residual.{IsResidual, arc_at}
+use Rattle.residual_graph.specs.Side.{IsLeadingAt, leading, seen}
 use Rattle.shortest_paths.proofs.CutLemmas.{IsGrown-put, IsGrown-refl, IsGrown-trans, far_seen, marked_in, near_seen}
-use Rattle.shortest_paths.proofs.SearchLemmas.{end_of-in}
-use Rattle.shortest_paths.proofs.SideLemmas.{all_seen_met, all_seen_to_come, leading_at, one_seen_more, seen_length}
+use Rattle.residual_graph.proofs.RowLemmas.{end_of-in}
+use Rattle.residual_graph.proofs.SideLemmas.{all_seen_met, all_seen_to_come, leading_at, one_seen_more, seen_length}
 use Rattle.shortest_paths.proofs.cut.mark_from.Goals as goal
 use Rattle.shortest_paths.proofs.cut.mark_from.Goals.{In-Some, Then-has_room}
 
@@ -16,8 +16,8 @@ at-walk-requires c = record { node = record { entries = length c.args.cut.now; g
 
 pub loop-end-init : goal.loop-end-init
 loop-end-init c = record {
-  line = c.requires.line;
-  grown = IsGrown-refl c.args.on.side c.args.on.graph.now.rows.items c.args.on.flow.now c.args.cut.now c.args.line.now c.args.len;
+  worklist = c.requires.worklist;
+  grown = IsGrown-refl c.args.on.side c.args.on.graph.now.rows.items c.args.on.flow.now c.args.cut.now c.args.worklist.now c.args.len;
   walk = c.at-walk.ensures.walk;
   node = c.at-walk.ensures.node;
   done = all_seen_to_come c.args.on.side c.args.on.graph.now c.at-walk.result c.args.node (IsFarIn c.args.on.side c.args.on.graph.now.rows.items c.args.on.flow.now c.args.cut.now) c.at-walk.ensures.all c.at-walk.ensures.node;
@@ -36,7 +36,7 @@ pub loop-end-preserved-then-cut-far : goal.loop-end-preserved-then-cut-far
 loop-end-preserved-then-cut-far c =
     let P = IsFarIn c.args.on.side c.args.on.graph.now.rows.items c.args.on.flow.now c.loop-end.cut in
     record {
-      line = c.loop-end.invariant.line;
+      worklist = c.loop-end.invariant.worklist;
       grown = c.loop-end.invariant.grown;
       walk = c.next.ensures.walk;
       node = c.next.ensures.node ∙ c.loop-end.invariant.node;
@@ -49,7 +49,7 @@ pub loop-end-preserved : goal.loop-end-preserved
 loop-end-preserved c =
     let P = IsFarIn c.args.on.side c.args.on.graph.now.rows.items c.args.on.flow.now c.loop-end.cut in
     record {
-      line = c.loop-end.invariant.line;
+      worklist = c.loop-end.invariant.worklist;
       grown = c.loop-end.invariant.grown;
       walk = c.next.ensures.walk;
       node = c.next.ensures.node ∙ c.loop-end.invariant.node;
@@ -63,7 +63,7 @@ other_in c =
     (rw c.loop-end.auto.cut (end_of-in (length c.args.cut.now) (arc_at c.args.on.graph.now.rows.items (leaving c.in-Some.end).arc) (leaving c.in-Some.end).way (c.requires.flow.rows (leaving c.in-Some.end).arc c.in-Some.ensures.end.is_arc)))
 
 -- the node is marked
-marks : (c : Then-has_room) → IsGrown c.args.on.side c.args.on.graph.now.rows.items c.args.on.flow.now c.loop-end.cut c.loop-end.line c.loop-end.longer (slice_set c.loop-end.cut c.in-Some.end.other true) (slice_set c.loop-end.line c.loop-end.longer c.in-Some.end.other) (c.loop-end.longer + 1)
+marks : (c : Then-has_room) → IsGrown c.args.on.side c.args.on.graph.now.rows.items c.args.on.flow.now c.loop-end.cut c.loop-end.worklist c.loop-end.longer (slice_set c.loop-end.cut c.in-Some.end.other true) (slice_set c.loop-end.worklist c.loop-end.longer c.in-Some.end.other) (c.loop-end.longer + 1)
 marks c =
     let rows = c.args.on.graph.now.rows.items in
     let arc = (leading c.args.on.side c.in-Some.end).arc in
@@ -71,7 +71,7 @@ marks c =
     let leads = leading_at c.args.on.side rows c.loop-end.walk.node c.in-Some.end c.in-Some.ensures.end in
     let residual : IsResidual rows c.args.on.flow.now arc way = subst (λ (a : ResidualArc). IsResidual rows c.args.on.flow.now a.arc a.way) c.leading.ensures (c.has_room.ensures.here.0 c.if-has_room.true) in
     let near : near_at c.args.on.side rows arc way ≡ c.args.node = sym (near_seen c.args.on.side rows arc way) ∙ leads.starts ∙ c.loop-end.invariant.node in
-    IsGrown-put c.args.on.side rows c.args.on.flow.now c.loop-end.cut c.loop-end.line c.loop-end.longer c.in-Some.end.other arc way c.loop-end.invariant.line residual
+    IsGrown-put c.args.on.side rows c.args.on.flow.now c.loop-end.cut c.loop-end.worklist c.loop-end.longer c.in-Some.end.other arc way c.loop-end.invariant.worklist residual
     (ap (in_set c.loop-end.cut) near ∙ c.loop-end.invariant.grown.kept c.args.node c.requires.marked)
     (sym (far_seen c.args.on.side rows arc way) ∙ leads.ends) (other_in c) c.if-cut-far.false
 
@@ -84,12 +84,12 @@ loop-end-preserved-then-has_room c =
     let v = c.in-Some.end.other in
     let P = IsFarIn side rows flow c.loop-end.cut in
     let Q = IsFarIn side rows flow c.mark-longer.new.cut in
-    let grown : IsGrown side rows flow c.loop-end.cut c.loop-end.line c.loop-end.longer c.mark-longer.new.cut c.mark-longer.new.line c.mark-longer.result =
-    subst (λ (n : ℕ). IsGrown side rows flow c.loop-end.cut c.loop-end.line c.loop-end.longer c.mark-longer.new.cut c.mark-longer.new.line n) (sym c.mark-longer.ensures.length)
-    (subst (λ (line : List ℕ). IsGrown side rows flow c.loop-end.cut c.loop-end.line c.loop-end.longer c.mark-longer.new.cut line (c.loop-end.longer + 1)) (sym c.mark-longer.ensures.put)
-    (subst (λ (set : List Bool). IsGrown side rows flow c.loop-end.cut c.loop-end.line c.loop-end.longer set (slice_set c.loop-end.line c.loop-end.longer v) (c.loop-end.longer + 1)) (sym c.mark-longer.ensures.cut) (marks at))) in
+    let grown : IsGrown side rows flow c.loop-end.cut c.loop-end.worklist c.loop-end.longer c.mark-longer.new.cut c.mark-longer.new.worklist c.mark-longer.result =
+    subst (λ (n : ℕ). IsGrown side rows flow c.loop-end.cut c.loop-end.worklist c.loop-end.longer c.mark-longer.new.cut c.mark-longer.new.worklist n) (sym c.mark-longer.ensures.length)
+    (subst (λ (worklist : List ℕ). IsGrown side rows flow c.loop-end.cut c.loop-end.worklist c.loop-end.longer c.mark-longer.new.cut worklist (c.loop-end.longer + 1)) (sym c.mark-longer.ensures.put)
+    (subst (λ (set : List Bool). IsGrown side rows flow c.loop-end.cut c.loop-end.worklist c.loop-end.longer set (slice_set c.loop-end.worklist c.loop-end.longer v) (c.loop-end.longer + 1)) (sym c.mark-longer.ensures.cut) (marks at))) in
     record {
-      line = c.mark-longer.ensures.line;
+      worklist = c.mark-longer.ensures.worklist;
       grown = IsGrown-trans c.loop-end.invariant.grown grown;
       walk = c.next.ensures.walk;
       node = c.next.ensures.node ∙ c.loop-end.invariant.node;

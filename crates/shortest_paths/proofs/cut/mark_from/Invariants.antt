@@ -1,13 +1,13 @@
 use Rattle.std.proofs.Common.{◌≡◌}
-use Rattle.shortest_paths.specs.Cut.{IsFarIn, IsGrown, IsLineOf}
-use Rattle.shortest_paths.specs.Ends.{IsWalk, left_of}
-use Rattle.shortest_paths.proofs.SideLemmas.{AllSeenOrCome}
+use Rattle.shortest_paths.specs.Cut.{IsFarIn, IsGrown, IsListOf}
+use Rattle.residual_graph.specs.Ends.{IsWalk, left_of}
+use Rattle.residual_graph.proofs.SideLemmas.{AllSeenOrCome}
 use Rattle.shortest_paths.proofs.cut.mark_from.Given as goal
 
 abbrev pub invariant-loop-end : goal.invariant-loop-end
 invariant-loop-end l = record {
-  line : IsLineOf l.cut l.line l.longer;
-  grown : IsGrown l.on.side l.on.graph.now.rows.items l.on.flow.now l.initial.cut l.initial.line l.len l.cut l.line l.longer;
+  worklist : IsListOf l.cut l.worklist l.longer;
+  grown : IsGrown l.on.side l.on.graph.now.rows.items l.on.flow.now l.initial.cut l.initial.worklist l.len l.cut l.worklist l.longer;
   walk : IsWalk l.on.graph.now l.walk;
   node : l.walk.node ≡ l.node;
   done : AllSeenOrCome l.on.side l.on.graph.now l.walk l.node (IsFarIn l.on.side l.on.graph.now.rows.items l.on.flow.now l.cut);

@@ -1,5 +1,5 @@
 use Rattle.std.proofs.Common.{arith}
-use Rattle.shortest_paths.specs.Side.{seen}
+use Rattle.residual_graph.specs.Side.{seen}
 use Rattle.shortest_paths.proofs.SearchLemmas.{IsPut-set}
 use Rattle.shortest_paths.proofs.LabelLemmas.{IsForest-stands, NothingOpen-stands}
 use Rattle.shortest_paths.proofs.labels.keep_node.Goals as goal
@@ -7,9 +7,9 @@ use Rattle.shortest_paths.proofs.labels.keep_node.Goals as goal
 pub returns-in-Some-clause-forest : goal.returns-in-Some-clause-forest
 returns-in-Some-clause-forest c =
     let stands = c.in-Some.ensures in
-    IsForest-stands (seen c.args.residual.side c.args.residual.graph.now.rows.items) c.args.residual.flow.now c.args.residual.potentials.now c.args.visits.now _ c.args.v c.in-Some.visit c.args.residual.certified c.requires.forest c.requires.closed
-    (λ h. cc (c.is_settled.ensures.1 h)) (IsPut-set c.args.visits.now c.args.v c.in-Some.visit (omega (arith, c.if-v-visits.false))) stands.settled stands.kept stands.reaches
+    IsForest-stands (seen c.args.residual.side c.args.residual.graph.now.rows.items) c.args.residual.flow.now c.args.residual.potentials.now c.args.node_labels.now _ c.args.v c.in-Some.node_label c.args.residual.certified c.requires.forest c.requires.closed
+    (λ h. cc (c.is_settled.ensures.1 h)) (IsPut-set c.args.node_labels.now c.args.v c.in-Some.node_label (omega (arith, c.if-v-node_labels.false))) stands.settled stands.kept stands.reaches
 
 pub returns-in-Some-clause-closed : goal.returns-in-Some-clause-closed
 returns-in-Some-clause-closed c =
-    NothingOpen-stands c.args.visits.now _ c.args.v c.in-Some.visit c.requires.closed (IsPut-set c.args.visits.now c.args.v c.in-Some.visit (omega (arith, c.if-v-visits.false))) c.in-Some.ensures.settled
+    NothingOpen-stands c.args.node_labels.now _ c.args.v c.in-Some.node_label c.requires.closed (IsPut-set c.args.node_labels.now c.args.v c.in-Some.node_label (omega (arith, c.if-v-node_labels.false))) c.in-Some.ensures.settled

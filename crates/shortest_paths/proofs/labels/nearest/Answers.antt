@@ -1,16 +1,16 @@
 use Rattle.std.proofs.Common.{◌≡◌, ◌∙◌, ◌<◌, ℕ, ap, arith, length, subst, sym}
 use Rattle.std.proofs.lemmas.Int.{ints}
-use Rattle.shortest_paths.specs.declared.residual.ResidualArc.{ResidualArc}
-use Rattle.shortest_paths.specs.declared.residual.Way.{Way}
-use Rattle.shortest_paths.specs.declared.visit.Mark.TheVariants.{Settled}
+use Rattle.residual_graph.specs.declared.residual.ResidualArc.{ResidualArc}
+use Rattle.residual_graph.specs.declared.residual.Way.{Way}
+use Rattle.shortest_paths.specs.declared.node_label.State.TheVariants.{Settled}
 use Rattle.shortest_paths.specs.Labels.{IsNoDearer, Opens}
-use Rattle.shortest_paths.specs.Residual.{arc_at, other_way, turned}
-use Rattle.shortest_paths.specs.Search.{mark_at}
-use Rattle.shortest_paths.specs.Side.{IsLeadingAt, leading, seen}
-use Rattle.shortest_paths.proofs.EndLemmas.{starts_other}
+use Rattle.residual_graph.specs.Residual.{arc_at, other_way, turned}
+use Rattle.shortest_paths.specs.Search.{state_at}
+use Rattle.residual_graph.specs.Side.{IsLeadingAt, leading, seen}
+use Rattle.residual_graph.proofs.EndLemmas.{starts_other}
 use Rattle.shortest_paths.proofs.LabelLemmas.{IsFound, nearer_opens, nearer_than, root_opens}
-use Rattle.shortest_paths.proofs.SearchLemmas.{end_of-in}
-use Rattle.shortest_paths.proofs.SideLemmas.{all_seen_entering, all_seen_to_come, leading_at, one_seen_more}
+use Rattle.residual_graph.proofs.RowLemmas.{end_of-in}
+use Rattle.residual_graph.proofs.SideLemmas.{all_seen_entering, all_seen_to_come, leading_at, one_seen_more}
 use Rattle.shortest_paths.proofs.labels.nearest.Goals as goal
 use Rattle.shortest_paths.proofs.labels.nearest.Goals.{In-Some}
 
@@ -19,11 +19,11 @@ at-walk-requires c = record { node = record { entries = length c.args.residual.p
 
 pub loop-end-init : goal.loop-end-init
 loop-end-init c = record {
-  opens = subst (Opens (seen c.args.residual.side c.args.residual.graph.now.rows.items) c.args.residual.flow.now c.args.residual.potentials.now c.args.visits.now c.args.v) (sym c.root-best.ensures) (root_opens (seen c.args.residual.side c.args.residual.graph.now.rows.items) c.args.residual.flow.now c.args.residual.potentials.now c.args.visits.now c.args.v);
+  opens = subst (Opens (seen c.args.residual.side c.args.residual.graph.now.rows.items) c.args.residual.flow.now c.args.residual.potentials.now c.args.node_labels.now c.args.v) (sym c.root-best.ensures) (root_opens (seen c.args.residual.side c.args.residual.graph.now.rows.items) c.args.residual.flow.now c.args.residual.potentials.now c.args.node_labels.now c.args.v);
   walk = c.at-walk.ensures.walk;
   node = c.at-walk.ensures.node;
   done = all_seen_to_come c.args.residual.side c.args.residual.graph.now c.at-walk.result c.args.v
-      (λ k way. IsNoDearer (seen c.args.residual.side c.args.residual.graph.now.rows.items) c.args.residual.flow.now c.args.residual.potentials.now c.args.visits.now c.args.v c.root-best.result k (other_way way))
+      (λ k way. IsNoDearer (seen c.args.residual.side c.args.residual.graph.now.rows.items) c.args.residual.flow.now c.args.residual.potentials.now c.args.node_labels.now c.args.v c.root-best.result k (other_way way))
       c.at-walk.ensures.all c.at-walk.ensures.node;
 }
 
@@ -35,53 +35,53 @@ leads_on c = leading_at c.args.residual.side c.args.residual.graph.now.rows.item
 pub loop-end-preserved : goal.loop-end-preserved
 loop-end-preserved c =
     let rows = (seen c.args.residual.side c.args.residual.graph.now.rows.items) in
-    let P : ℕ → Way → Type 0 = λ k way. IsNoDearer rows c.args.residual.flow.now c.args.residual.potentials.now c.args.visits.now c.args.v c.loop-end.best k (other_way way) in
+    let P : ℕ → Way → Type 0 = λ k way. IsNoDearer rows c.args.residual.flow.now c.args.residual.potentials.now c.args.node_labels.now c.args.v c.loop-end.best k (other_way way) in
     record {
       opens = c.loop-end.invariant.opens;
       walk = c.next.ensures.walk;
       node = c.next.ensures.node ∙ c.loop-end.invariant.node;
       done = one_seen_more c.args.residual.side c.args.residual.graph.now c.loop-end.walk c.next.new.self c.args.v c.in-Some.end P P c.loop-end.invariant.done c.in-Some.ensures.rest (λ k way done. done)
-          (λ hop. (let settled : mark_at c.args.visits.now c.in-Some.end.other ≡ Settled = ap (mark_at c.args.visits.now) (sym (starts_other rows (leading c.args.residual.side c.in-Some.end).arc (leading c.args.residual.side c.in-Some.end).way ∙ (leads_on (goal.at.loop-end-preserved c).In-Some).ends)) ∙ hop.settled in
+          (λ hop. (let settled : state_at c.args.node_labels.now c.in-Some.end.other ≡ Settled = ap (state_at c.args.node_labels.now) (sym (starts_other rows (leading c.args.residual.side c.in-Some.end).arc (leading c.args.residual.side c.in-Some.end).way ∙ (leads_on (goal.at.loop-end-preserved c).In-Some).ends)) ∙ hop.settled in
           cc (c.is_settled.ensures.1 settled)));
     }
 
-other_in : (c : In-Some) → c.in-Some.end.other < length c.args.visits.now
+other_in : (c : In-Some) → c.in-Some.end.other < length c.args.node_labels.now
 other_in c =
-    subst (λ (v : ℕ). v < length c.args.visits.now) (leads_on c).ends
+    subst (λ (v : ℕ). v < length c.args.node_labels.now) (leads_on c).ends
     (rw c.requires.forest.known.sized (end_of-in (length c.args.residual.potentials.now) (arc_at (seen c.args.residual.side c.args.residual.graph.now.rows.items) (leading c.args.residual.side c.in-Some.end).arc) (leading c.args.residual.side c.in-Some.end).way (c.args.residual.certified.flow.rows (leading c.args.residual.side c.in-Some.end).arc (leads_on c).is_arc)))
 
-pub offset_bounds-visits-end : goal.offset_bounds-visits-end
-offset_bounds-visits-end c = omega (arith, other_in (goal.at.offset_bounds-visits-end c).In-Some, c.requires.forest.known.sized, c.args.residual.certified.flow.few_nodes)
+pub offset_bounds-node_labels-end : goal.offset_bounds-node_labels-end
+offset_bounds-node_labels-end c = omega (arith, other_in (goal.at.offset_bounds-node_labels-end c).In-Some, c.requires.forest.known.sized, c.args.residual.certified.flow.few_nodes)
 
-pub bounds-visits-end : goal.bounds-visits-end
-bounds-visits-end c = other_in (goal.at.bounds-visits-end c).In-Some
+pub bounds-node_labels-end : goal.bounds-node_labels-end
+bounds-node_labels-end c = other_in (goal.at.bounds-node_labels-end c).In-Some
 
-pub visit_through-visit-requires-clause-arc_in : goal.visit_through-visit-requires-clause-arc_in
-visit_through-visit-requires-clause-arc_in c = omega (arith, (leads_on (goal.at.visit_through-visit-requires-clause-arc_in c).In-Some).is_arc, ap (λ (a : ResidualArc). a.arc) c.trailing-arc.ensures)
+pub node_label_through-node_label-requires-clause-arc_in : goal.node_label_through-node_label-requires-clause-arc_in
+node_label_through-node_label-requires-clause-arc_in c = omega (arith, (leads_on (goal.at.node_label_through-node_label-requires-clause-arc_in c).In-Some).is_arc, ap (λ (a : ResidualArc). a.arc) c.trailing-arc.ensures)
 
--- the other node is settled: the nearer of two visits that open the node opens it
+-- the other node is settled: the nearer of two node labels that open the node opens it
 pub loop-end-preserved-then-is_settled : goal.loop-end-preserved-then-is_settled
 loop-end-preserved-then-is_settled c =
     let rows = (seen c.args.residual.side c.args.residual.graph.now.rows.items) in
     let x = c.args.residual.flow.now in
     let p = c.args.residual.potentials.now in
-    let s = c.args.visits.now in
+    let s = c.args.node_labels.now in
     let v = c.args.v in
     let along = leading c.args.residual.side c.in-Some.end in
     let P : ℕ → Way → Type 0 = λ k way. IsNoDearer rows x p s v c.loop-end.best k (other_way way) in
     let Q : ℕ → Way → Type 0 = λ k way. IsNoDearer rows x p s v c.nearer-best.result k (other_way way) in
-    let through : IsFound rows x p s v c.trailing-arc.result c.visit_through-visit.result =
-    record { none = c.visit_through-visit.ensures.none; through = c.visit_through-visit.ensures.through; is_open = c.visit_through-visit.ensures.is_open; along = c.visit_through-visit.ensures.along } in
-    let found = subst (λ (a : ResidualArc). IsFound rows x p s v a c.visit_through-visit.result) c.trailing-arc.ensures through in
+    let through : IsFound rows x p s v c.trailing-arc.result c.node_label_through-node_label.result =
+    record { none = c.node_label_through-node_label.ensures.none; through = c.node_label_through-node_label.ensures.through; is_open = c.node_label_through-node_label.ensures.is_open; along = c.node_label_through-node_label.ensures.along } in
+    let found = subst (λ (a : ResidualArc). IsFound rows x p s v a c.node_label_through-node_label.result) c.trailing-arc.ensures through in
     record {
-      opens = nearer_opens rows x p s v (turned along) c.loop-end.best c.nearer-best.result c.visit_through-visit.result found c.loop-end.invariant.opens c.nearer-best.ensures.falls c.nearer-best.ensures.one;
+      opens = nearer_opens rows x p s v (turned along) c.loop-end.best c.nearer-best.result c.node_label_through-node_label.result found c.loop-end.invariant.opens c.nearer-best.ensures.falls c.nearer-best.ensures.one;
       walk = c.next.ensures.walk;
       node = c.next.ensures.node ∙ c.loop-end.invariant.node;
       done = one_seen_more c.args.residual.side c.args.residual.graph.now c.loop-end.walk c.next.new.self v c.in-Some.end P Q c.loop-end.invariant.done c.in-Some.ensures.rest (λ k way done hop. omega (arith, ints, c.nearer-best.ensures.falls, done hop))
-          (nearer_than rows x p s v (turned along) c.nearer-best.result c.visit_through-visit.result found c.nearer-best.ensures.no_dearer);
+          (nearer_than rows x p s v (turned along) c.nearer-best.result c.node_label_through-node_label.result found c.nearer-best.ensures.no_dearer);
     }
 
 pub returns-clause-nearest : goal.returns-clause-nearest
 returns-clause-nearest c = λ k way hop.
-    (let P : ℕ → Way → Type 0 = λ k way. IsNoDearer (seen c.args.residual.side c.args.residual.graph.now.rows.items) c.args.residual.flow.now c.args.residual.potentials.now c.args.visits.now c.args.v c.loop-end.best k way in
+    (let P : ℕ → Way → Type 0 = λ k way. IsNoDearer (seen c.args.residual.side c.args.residual.graph.now.rows.items) c.args.residual.flow.now c.args.residual.potentials.now c.args.node_labels.now c.args.v c.loop-end.best k way in
     all_seen_entering c.args.residual.side c.args.residual.graph.now c.loop-end.walk c.args.v P c.loop-end.invariant.done c.in_default.ensures.rest k way hop.residual.is_arc hop.ends hop)

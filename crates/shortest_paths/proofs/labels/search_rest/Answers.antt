@@ -8,6 +8,6 @@ loop-u-preserved c = record {
   queue = c.settle_node-settled.ensures.queue;
   known = c.settle_node-settled.ensures.search;
   relaxed = c.settle_node-settled.ensures.relaxed;
-  from_all = IsFromAll-settles c.loop-u.invariant.from_all c.settle_node-settled.ensures.settles (λ v r. omega (arith, in_range c.settle_node-settled.new.visits v r, c.settle_node-settled.ensures.search.sized));
+  from_all = IsFromAll-settles c.loop-u.invariant.from_all c.settle_node-settled.ensures.settles (λ v r. omega (arith, in_range c.settle_node-settled.new.node_labels v r, c.settle_node-settled.ensures.search.sized));
   place = c.note-place.ensures;
 }

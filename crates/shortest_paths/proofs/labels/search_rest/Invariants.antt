@@ -1,17 +1,17 @@
 use Rattle.std.proofs.Common.{◌≤◌, length}
 use Rattle.shortest_paths.specs.Queue.{IsQueueOf}
 use Rattle.shortest_paths.specs.Search.{IsSearch, AllRelaxed, IsFromAll, unsettled}
-use Rattle.shortest_paths.specs.Side.{seen}
+use Rattle.residual_graph.specs.Side.{seen}
 use Rattle.shortest_paths.proofs.labels.search_rest.Given as goal
 
 abbrev pub invariant-loop-u : goal.invariant-loop-u
 invariant-loop-u l = record {
-  queue : IsQueueOf l.visits l.queue;
-  known : IsSearch (seen l.residual.side l.residual.graph.now.rows.items) l.residual.flow.now l.residual.potentials.now l.visits;
-  relaxed : AllRelaxed (seen l.residual.side l.residual.graph.now.rows.items) l.residual.flow.now l.residual.potentials.now l.visits;
-  from_all : IsFromAll l.residual.potentials.now l.visits;
+  queue : IsQueueOf l.node_labels l.queue;
+  known : IsSearch (seen l.residual.side l.residual.graph.now.rows.items) l.residual.flow.now l.residual.potentials.now l.node_labels;
+  relaxed : AllRelaxed (seen l.residual.side l.residual.graph.now.rows.items) l.residual.flow.now l.residual.potentials.now l.node_labels;
+  from_all : IsFromAll l.residual.potentials.now l.node_labels;
   place : l.place ≤ length l.order;
 }
 
 abbrev pub decreases-loop-u : goal.decreases-loop-u
-decreases-loop-u l = unsettled l.visits
+decreases-loop-u l = unsettled l.node_labels

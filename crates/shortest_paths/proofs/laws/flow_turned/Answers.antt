@@ -1,4 +1,4 @@
-use Rattle.shortest_paths.proofs.TurnLemmas.{flow_both}
+use Rattle.residual_graph.proofs.TurnedRows.{flow_both}
 use Rattle.shortest_paths.proofs.laws.flow_turned.Goals as goal
 
 pub returns : goal.returns

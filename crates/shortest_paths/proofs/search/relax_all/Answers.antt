@@ -1,29 +1,29 @@
 use Rattle.std.proofs.Common.{◌≡◌, ◌∙◌, ℕ, ap, arith, length, subst, sym}
 use Rattle.std.proofs.lemmas.Int.{ints}
-use Rattle.shortest_paths.specs.declared.residual.Way.{Way}
-use Rattle.shortest_paths.specs.declared.visit.Visit.{Visit}
-use Rattle.shortest_paths.specs.Residual.{IsResidual, number_at, start_at}
-use Rattle.shortest_paths.specs.Search.{IsLastSettled, IsRelaxed, key_at, mark_at}
-use Rattle.shortest_paths.specs.Side.{IsLeadingAt, seen}
+use Rattle.residual_graph.specs.declared.residual.Way.{Way}
+use Rattle.shortest_paths.specs.declared.node_label.NodeLabel.{NodeLabel}
+use Rattle.residual_graph.specs.Residual.{IsResidual, number_at, start_at}
+use Rattle.shortest_paths.specs.Search.{IsLastSettled, IsRelaxed, distance_at, state_at}
+use Rattle.residual_graph.specs.Side.{IsLeadingAt, seen}
 use Rattle.shortest_paths.proofs.SearchLemmas.{Improves-refl, Improves-trans, IsLastSettled-improves, IsRelaxed-improves, in_range, last_bounds, settled_is_reached}
-use Rattle.shortest_paths.proofs.SideLemmas.{all_seen_met, all_seen_to_come, is_leading, leading_at, one_seen_more}
+use Rattle.residual_graph.proofs.SideLemmas.{all_seen_met, all_seen_to_come, is_leading, leading_at, one_seen_more}
 use Rattle.shortest_paths.proofs.search.relax_all.Goals as goal
 use Rattle.shortest_paths.proofs.search.relax_all.Goals.{In-Some}
 
 pub at-walk-requires : goal.at-walk-requires
 at-walk-requires c =
-    let below = in_range c.args.visits.now c.args.u (settled_is_reached c.args.visits.now c.args.u c.requires.last.settled) in
+    let below = in_range c.args.node_labels.now c.args.u (settled_is_reached c.args.node_labels.now c.args.u c.requires.last.settled) in
     record { node = record { entries = length c.args.residual.potentials.now; graph = c.requires.graph; node = omega (arith, below, c.requires.search.sized) } }
 
 pub loop-end-init : goal.loop-end-init
 loop-end-init c = record {
   search = c.requires.search;
   queue = c.requires.queue;
-  improves = Improves-refl c.args.visits.now;
+  improves = Improves-refl c.args.node_labels.now;
   walk = c.at-walk.ensures.walk;
   node = c.at-walk.ensures.node;
   done = all_seen_to_come c.args.residual.side c.args.residual.graph.now c.at-walk.result c.args.u
-      (λ k way. start_at (seen c.args.residual.side c.args.residual.graph.now.rows.items) k way ≡ c.args.u → IsResidual (seen c.args.residual.side c.args.residual.graph.now.rows.items) c.args.residual.flow.now k way → IsRelaxed (seen c.args.residual.side c.args.residual.graph.now.rows.items) c.args.residual.potentials.now c.args.visits.now k way)
+      (λ k way. start_at (seen c.args.residual.side c.args.residual.graph.now.rows.items) k way ≡ c.args.u → IsResidual (seen c.args.residual.side c.args.residual.graph.now.rows.items) c.args.residual.flow.now k way → IsRelaxed (seen c.args.residual.side c.args.residual.graph.now.rows.items) c.args.residual.potentials.now c.args.node_labels.now k way)
       c.at-walk.ensures.all c.at-walk.ensures.node;
 }
 
@@ -37,7 +37,7 @@ relax-requires-clause-end c =
 
 pub relax-requires-clause-last : goal.relax-requires-clause-last
 relax-requires-clause-last c =
-    subst (IsLastSettled c.loop-end.visits) (sym ((leads_on (goal.at.relax-requires-clause-last c).In-Some).starts ∙ c.loop-end.invariant.node)) (IsLastSettled-improves c.requires.last c.loop-end.invariant.improves)
+    subst (IsLastSettled c.loop-end.node_labels) (sym ((leads_on (goal.at.relax-requires-clause-last c).In-Some).starts ∙ c.loop-end.invariant.node)) (IsLastSettled-improves c.requires.last c.loop-end.invariant.improves)
 
 pub relax-requires-clause-from : goal.relax-requires-clause-from
 relax-requires-clause-from c =
@@ -45,8 +45,8 @@ relax-requires-clause-from c =
     let u = c.args.u in
     let bounds = last_bounds c.args.residual.certified c.requires.search c.requires.last in
     let starts = (leads_on (goal.at.relax-requires-clause-from c).In-Some).starts ∙ c.loop-end.invariant.node in
-    let kept = ap (λ (e : Visit). e.key) (c.loop-end.invariant.improves.settled_kept u c.requires.last.settled) in
-    omega (arith, ints, ap (key_at c.loop-end.visits) starts, ap (number_at p) starts, kept, bounds.low, bounds.high, c.args.residual.certified.potentials.at_least u, c.args.residual.certified.potentials.at_most_0 u)
+    let kept = ap (λ (e : NodeLabel). e.distance) (c.loop-end.invariant.improves.settled_kept u c.requires.last.settled) in
+    omega (arith, ints, ap (distance_at c.loop-end.node_labels) starts, ap (number_at p) starts, kept, bounds.low, bounds.high, c.args.residual.certified.potentials.at_least u, c.args.residual.certified.potentials.at_most_0 u)
 
 pub loop-end-preserved : goal.loop-end-preserved
 loop-end-preserved c =
@@ -55,8 +55,8 @@ loop-end-preserved c =
     let p = c.args.residual.potentials.now in
     let u = c.args.u in
     let last = IsLastSettled-improves c.requires.last c.loop-end.invariant.improves in
-    let P : ℕ → Way → Type 0 = λ k way. start_at rows k way ≡ u → IsResidual rows flow k way → IsRelaxed rows p c.loop-end.visits k way in
-    let Q : ℕ → Way → Type 0 = λ k way. start_at rows k way ≡ u → IsResidual rows flow k way → IsRelaxed rows p c.relax.new.visits k way in
+    let P : ℕ → Way → Type 0 = λ k way. start_at rows k way ≡ u → IsResidual rows flow k way → IsRelaxed rows p c.loop-end.node_labels k way in
+    let Q : ℕ → Way → Type 0 = λ k way. start_at rows k way ≡ u → IsResidual rows flow k way → IsRelaxed rows p c.relax.new.node_labels k way in
     record {
       search = c.relax.ensures.search;
       queue = c.relax.ensures.queue;
@@ -64,11 +64,11 @@ loop-end-preserved c =
       walk = c.next.ensures.walk;
       node = c.next.ensures.node ∙ c.loop-end.invariant.node;
       done = one_seen_more c.args.residual.side c.args.residual.graph.now c.loop-end.walk c.next.new.self u c.in-Some.end P Q c.loop-end.invariant.done c.in-Some.ensures.rest
-          (λ k way done starts residual. IsRelaxed-improves (ap (mark_at c.loop-end.visits) starts ∙ last.settled) c.relax.ensures.improves (done starts residual)) (λ starts residual. c.relax.ensures.relaxed residual);
+          (λ k way done starts residual. IsRelaxed-improves (ap (state_at c.loop-end.node_labels) starts ∙ last.settled) c.relax.ensures.improves (done starts residual)) (λ starts residual. c.relax.ensures.relaxed residual);
     }
 
 pub returns-clause-relaxed : goal.returns-clause-relaxed
 returns-clause-relaxed c = λ k way lt residual starts.
     (let rows = (seen c.args.residual.side c.args.residual.graph.now.rows.items) in
-    let P : ℕ → Way → Type 0 = λ k way. start_at rows k way ≡ c.args.u → IsResidual rows c.args.residual.flow.now k way → IsRelaxed rows c.args.residual.potentials.now c.loop-end.visits k way in
+    let P : ℕ → Way → Type 0 = λ k way. start_at rows k way ≡ c.args.u → IsResidual rows c.args.residual.flow.now k way → IsRelaxed rows c.args.residual.potentials.now c.loop-end.node_labels k way in
     all_seen_met c.args.residual.side c.args.residual.graph.now c.loop-end.walk c.args.u P c.loop-end.invariant.done c.in_default.ensures.rest k way lt starts starts residual)

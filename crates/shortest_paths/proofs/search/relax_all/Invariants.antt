@@ -1,20 +1,20 @@
 use Rattle.std.proofs.Common.{◌≡◌}
-use Rattle.shortest_paths.specs.Ends.{IsWalk, left_of}
+use Rattle.residual_graph.specs.Ends.{IsWalk, left_of}
 use Rattle.shortest_paths.specs.Queue.{IsQueueOf}
-use Rattle.shortest_paths.specs.Residual.{IsResidual, start_at}
+use Rattle.residual_graph.specs.Residual.{IsResidual, start_at}
 use Rattle.shortest_paths.specs.Search.{Improves, IsRelaxed, IsSearch}
-use Rattle.shortest_paths.specs.Side.{seen}
-use Rattle.shortest_paths.proofs.SideLemmas.{AllSeenOrCome}
+use Rattle.residual_graph.specs.Side.{seen}
+use Rattle.residual_graph.proofs.SideLemmas.{AllSeenOrCome}
 use Rattle.shortest_paths.proofs.search.relax_all.Given as goal
 
 abbrev pub invariant-loop-end : goal.invariant-loop-end
 invariant-loop-end l = record {
-  search : IsSearch (seen l.residual.side l.residual.graph.now.rows.items) l.residual.flow.now l.residual.potentials.now l.visits;
-  queue : IsQueueOf l.visits l.queue;
-  improves : Improves l.initial.visits l.visits;
+  search : IsSearch (seen l.residual.side l.residual.graph.now.rows.items) l.residual.flow.now l.residual.potentials.now l.node_labels;
+  queue : IsQueueOf l.node_labels l.queue;
+  improves : Improves l.initial.node_labels l.node_labels;
   walk : IsWalk l.residual.graph.now l.walk;
   node : l.walk.node ≡ l.u;
-  done : AllSeenOrCome l.residual.side l.residual.graph.now l.walk l.u (λ k way. start_at (seen l.residual.side l.residual.graph.now.rows.items) k way ≡ l.u → IsResidual (seen l.residual.side l.residual.graph.now.rows.items) l.residual.flow.now k way → IsRelaxed (seen l.residual.side l.residual.graph.now.rows.items) l.residual.potentials.now l.visits k way);
+  done : AllSeenOrCome l.residual.side l.residual.graph.now l.walk l.u (λ k way. start_at (seen l.residual.side l.residual.graph.now.rows.items) k way ≡ l.u → IsResidual (seen l.residual.side l.residual.graph.now.rows.items) l.residual.flow.now k way → IsRelaxed (seen l.residual.side l.residual.graph.now.rows.items) l.residual.potentials.now l.node_labels k way);
 }
 
 abbrev pub decreases-loop-end : goal.decreases-loop-end

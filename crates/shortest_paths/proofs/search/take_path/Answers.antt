@@ -1,17 +1,18 @@
 use Rattle.std.proofs.Common.{ℕ, List, ap, sym, subst, rules, arith, ◌≡◌, ◌+◌, ◌≤ℤ◌, ◌≤◌, ◌<◌, length, refl, ◌∙◌, slice_set, w64, to_z, of_z}
 use Rattle.std.proofs.lemmas.Int.{ints, to_z-of_z}
-use Rattle.shortest_paths.specs.declared.visit.Visit.{Visit}
-use Rattle.shortest_paths.specs.declared.visit.Mark.TheVariants.{Open}
-use Rattle.shortest_paths.specs.declared.residual.ResidualArc.{ResidualArc}
-use Rattle.shortest_paths.specs.Limits.{entry_limit}
-use Rattle.shortest_paths.specs.Residual.{arc_at, start_at}
-use Rattle.shortest_paths.specs.Search.{IsSearch, Improves, IsRelaxed, depth_at, key_at}
-use Rattle.shortest_paths.specs.Side.{leading, seen}
-use Rattle.shortest_paths.proofs.SearchLemmas.{IsStep, IsStep-put, end_of-in, last_bounds}
+use Rattle.shortest_paths.specs.declared.node_label.NodeLabel.{NodeLabel}
+use Rattle.shortest_paths.specs.declared.node_label.State.TheVariants.{Open}
+use Rattle.residual_graph.specs.declared.residual.ResidualArc.{ResidualArc}
+use Rattle.residual_graph.specs.Limits.{entry_limit}
+use Rattle.residual_graph.specs.Residual.{arc_at, start_at}
+use Rattle.shortest_paths.specs.Search.{IsSearch, Improves, IsRelaxed, depth_at, distance_at}
+use Rattle.residual_graph.specs.Side.{leading, seen}
+use Rattle.shortest_paths.proofs.SearchLemmas.{IsStep, IsStep-put, last_bounds}
+use Rattle.residual_graph.proofs.RowLemmas.{end_of-in}
 use Rattle.shortest_paths.proofs.search.take_path.Goals as goal
 use Rattle.shortest_paths.proofs.search.take_path.Goals.{After-start-start, Start}
 
-other_in : (c : Start) → c.args.end.other < length c.args.visits.now
+other_in : (c : Start) → c.args.end.other < length c.args.node_labels.now
 other_in c =
     rw (← c.requires.end.ends, c.requires.search.sized) (end_of-in (length c.args.residual.potentials.now) (arc_at (seen c.args.residual.side c.args.residual.graph.now.rows.items) (leading c.args.residual.side c.args.end).arc) (leading c.args.residual.side c.args.end).way (c.args.residual.certified.flow.rows (leading c.args.residual.side c.args.end).arc c.requires.end.is_arc))
 
@@ -21,7 +22,7 @@ start_is c = c.start-start.ensures ∙ ap (λ (a : ResidualArc). start_at (seen 
 pub overflow_add-depth : goal.overflow_add-depth
 overflow_add-depth c =
     let small = last_bounds c.args.residual.certified c.requires.search c.requires.last in
-    let shallow = subst (λ (v : ℕ). depth_at c.args.visits.now v ≤ entry_limit) (sym (start_is (goal.at.overflow_add-depth c).After-start-start)) small.shallow in
+    let shallow = subst (λ (v : ℕ). depth_at c.args.node_labels.now v ≤ entry_limit) (sym (start_is (goal.at.overflow_add-depth c).After-start-start)) small.shallow in
     search (rules, shallow)
 
 pub improve-requires-clause-v_in : goal.improve-requires-clause-v_in
@@ -30,28 +31,28 @@ improve-requires-clause-v_in c = other_in (goal.at.improve-requires-clause-v_in 
 -- the path to the end is no shorter than that to the node settled last, and so no shorter than those to the other settled nodes
 pub improve-requires-clause-not_nearer : goal.improve-requires-clause-not_nearer
 improve-requires-clause-not_nearer c =
-    let same : to_z w64 (of_z w64 c.args.key) ≡ c.args.key = to_z-of_z w64 c.args.key c.ranges.key in
-    let no_shorter : key_at c.args.visits.now (start_at (seen c.args.residual.side c.args.residual.graph.now.rows.items) (leading c.args.residual.side c.args.end).arc (leading c.args.residual.side c.args.end).way) ≤ℤ c.args.key = omega (arith, ints, c.args.residual.certified.none_below (leading c.args.residual.side c.args.end).arc (leading c.args.residual.side c.args.end).way c.requires.residual, c.requires.key) in
-    rw same (c.requires.queue.passed c.args.key
+    let same : to_z w64 (of_z w64 c.args.distance) ≡ c.args.distance = to_z-of_z w64 c.args.distance c.ranges.distance in
+    let no_shorter : distance_at c.args.node_labels.now (start_at (seen c.args.residual.side c.args.residual.graph.now.rows.items) (leading c.args.residual.side c.args.end).arc (leading c.args.residual.side c.args.end).way) ≤ℤ c.args.distance = omega (arith, ints, c.args.residual.certified.none_below (leading c.args.residual.side c.args.end).arc (leading c.args.residual.side c.args.end).way c.requires.residual, c.requires.distance) in
+    rw same (c.requires.queue.passed c.args.distance
     (omega (arith, ints, no_shorter, (last_bounds c.args.residual.certified c.requires.search c.requires.last).low))
     (λ v m. omega (arith, ints, no_shorter, c.requires.last.furthest v m)))
 
-step : (c : After-start-start) → IsStep (seen c.args.residual.side c.args.residual.graph.now.rows.items) c.args.residual.flow.now c.args.residual.potentials.now c.args.visits.now (slice_set c.args.visits.now c.args.end.other (record { mark = Open; key = to_z w64 (of_z w64 c.args.key); depth = depth_at c.args.visits.now c.start-start.result + 1; arc = c.leading-arc.result.arc; way = c.leading-arc.result.way })) (leading c.args.residual.side c.args.end).arc (leading c.args.residual.side c.args.end).way
+step : (c : After-start-start) → IsStep (seen c.args.residual.side c.args.residual.graph.now.rows.items) c.args.residual.flow.now c.args.residual.potentials.now c.args.node_labels.now (slice_set c.args.node_labels.now c.args.end.other (record { state = Open; distance = to_z w64 (of_z w64 c.args.distance); depth = depth_at c.args.node_labels.now c.start-start.result + 1; arc = c.leading-arc.result.arc; way = c.leading-arc.result.way })) (leading c.args.residual.side c.args.end).arc (leading c.args.residual.side c.args.end).way
 step c =
-    let same : to_z w64 (of_z w64 c.args.key) ≡ c.args.key = to_z-of_z w64 c.args.key c.ranges.key in
-    IsStep-put (seen c.args.residual.side c.args.residual.graph.now.rows.items) c.args.residual.flow.now c.args.residual.potentials.now c.args.visits.now (start_at (seen c.args.residual.side c.args.residual.graph.now.rows.items) (leading c.args.residual.side c.args.end).arc (leading c.args.residual.side c.args.end).way) (leading c.args.residual.side c.args.end).arc (leading c.args.residual.side c.args.end).way c.args.end.other
-    (record { mark = Open; key = to_z w64 (of_z w64 c.args.key); depth = depth_at c.args.visits.now c.start-start.result + 1; arc = c.leading-arc.result.arc; way = c.leading-arc.result.way })
+    let same : to_z w64 (of_z w64 c.args.distance) ≡ c.args.distance = to_z-of_z w64 c.args.distance c.ranges.distance in
+    IsStep-put (seen c.args.residual.side c.args.residual.graph.now.rows.items) c.args.residual.flow.now c.args.residual.potentials.now c.args.node_labels.now (start_at (seen c.args.residual.side c.args.residual.graph.now.rows.items) (leading c.args.residual.side c.args.end).arc (leading c.args.residual.side c.args.end).way) (leading c.args.residual.side c.args.end).arc (leading c.args.residual.side c.args.end).way c.args.end.other
+    (record { state = Open; distance = to_z w64 (of_z w64 c.args.distance); depth = depth_at c.args.node_labels.now c.start-start.result + 1; arc = c.leading-arc.result.arc; way = c.leading-arc.result.way })
     c.args.residual.certified c.requires.search c.requires.last c.requires.residual refl (sym c.requires.end.ends) refl
-    (same ∙ c.requires.key) (ap (λ (v : ℕ). depth_at c.args.visits.now v + 1) (start_is c)) (ap (λ (a : ResidualArc). a.arc) c.leading-arc.ensures) (ap (λ (a : ResidualArc). a.way) c.leading-arc.ensures) (rw same c.requires.better)
+    (same ∙ c.requires.distance) (ap (λ (v : ℕ). depth_at c.args.node_labels.now v + 1) (start_is c)) (ap (λ (a : ResidualArc). a.arc) c.leading-arc.ensures) (ap (λ (a : ResidualArc). a.way) c.leading-arc.ensures) (rw same c.requires.better)
 
 pub returns-clause-search : goal.returns-clause-search
 returns-clause-search c =
-    subst (λ (t : List Visit). IsSearch (seen c.args.residual.side c.args.residual.graph.now.rows.items) c.args.residual.flow.now c.args.residual.potentials.now t) (sym c.improve.ensures.visits) (step (goal.at.returns-clause-search c).After-start-start).known
+    subst (λ (t : List NodeLabel). IsSearch (seen c.args.residual.side c.args.residual.graph.now.rows.items) c.args.residual.flow.now c.args.residual.potentials.now t) (sym c.improve.ensures.node_labels) (step (goal.at.returns-clause-search c).After-start-start).known
 
 pub returns-clause-improves : goal.returns-clause-improves
 returns-clause-improves c =
-    subst (λ (t : List Visit). Improves c.args.visits.now t) (sym c.improve.ensures.visits) (step (goal.at.returns-clause-improves c).After-start-start).better
+    subst (λ (t : List NodeLabel). Improves c.args.node_labels.now t) (sym c.improve.ensures.node_labels) (step (goal.at.returns-clause-improves c).After-start-start).better
 
 pub returns-clause-relaxed : goal.returns-clause-relaxed
 returns-clause-relaxed c =
-    subst (λ (t : List Visit). IsRelaxed (seen c.args.residual.side c.args.residual.graph.now.rows.items) c.args.residual.potentials.now t (leading c.args.residual.side c.args.end).arc (leading c.args.residual.side c.args.end).way) (sym c.improve.ensures.visits) (step (goal.at.returns-clause-relaxed c).After-start-start).done
+    subst (λ (t : List NodeLabel). IsRelaxed (seen c.args.residual.side c.args.residual.graph.now.rows.items) c.args.residual.potentials.now t (leading c.args.residual.side c.args.end).arc (leading c.args.residual.side c.args.end).way) (sym c.improve.ensures.node_labels) (step (goal.at.returns-clause-relaxed c).After-start-start).done

@@ -1,5 +1,5 @@
 use Rattle.std.proofs.Common.{◌≡◌, ◌⊎◌, ℕ, ◌<◌, pos, ◌≤ℤ◌}
-use Rattle.shortest_paths.specs.Residual.{number_at}
+use Rattle.residual_graph.specs.Residual.{number_at}
 use Rattle.shortest_paths.proofs.turn.least_of.Given as goal
 
 abbrev pub invariant-loop-p : goal.invariant-loop-p

@@ -1,5 +1,5 @@
 use Rattle.std.proofs.Common.{◌≡◌, ℕ, ◌<◌, ◌≤◌, neg_ℤ}
-use Rattle.shortest_paths.specs.Residual.{number_at}
+use Rattle.residual_graph.specs.Residual.{number_at}
 use Rattle.shortest_paths.proofs.turn.turn_excess.Given as goal
 
 abbrev pub invariant-loop-v : goal.invariant-loop-v

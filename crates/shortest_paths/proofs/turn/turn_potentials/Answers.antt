@@ -2,9 +2,9 @@ use Rattle.std.proofs.Common.{◌≡◌, ℕ, ℤ, pos, neg_ℤ, ◌-ℤ◌, ◌
 use Rattle.std.proofs.lemmas.Bool.{cases_eq}
 use Rattle.std.proofs.lemmas.Int.{ints, to_z-of_z}
 use Rattle.std.proofs.lemmas.List.{get_or-set_same, get_or-set_other}
-use Rattle.shortest_paths.specs.Limits.{potential_floor}
-use Rattle.shortest_paths.specs.Residual.{number_at}
-use Rattle.shortest_paths.specs.Side.{AreOpposite}
+use Rattle.residual_graph.specs.Limits.{potential_floor}
+use Rattle.residual_graph.specs.Residual.{number_at}
+use Rattle.shortest_paths.specs.Turn.{AreOpposite}
 use Rattle.shortest_paths.proofs.TurnLemmas.{certified_from_other, least_at_least}
 use Rattle.shortest_paths.proofs.turn.turn_potentials.Goals as goal
 use Rattle.shortest_paths.proofs.turn.turn_potentials.Goals.{After-least_of-least, After-loop-v}

@@ -4,12 +4,12 @@ use Rattle.network.specs.Flow.{total_excess}
 use Rattle.network.specs.Instance.{Instance, at_node, reduced}
 use Rattle.shortest_paths.specs.Push.{Pushes}
 use Rattle.flow_solver.specs.declared.part.Part.{Part}
-use Rattle.flow_solver.specs.Desk.{Desk}
+use Rattle.flow_solver.specs.TablesView.{TablesView}
 use Rattle.flow_solver.specs.Edit.{AreChanges, AreMade}
-use Rattle.flow_solver.specs.Moment.{IsSized, Kept, Moment, kept_of}
+use Rattle.flow_solver.specs.Moment.{IsSized, Snapshot, Moment, kept_of}
 use Rattle.flow_solver.specs.Part.{LeadsBack, before_all}
 use Rattle.flow_solver.specs.Tables.{kept_by}
-use Rattle.flow_solver.proofs.DeskLemmas.{moment_kept}
+use Rattle.flow_solver.proofs.TablesViewLemmas.{moment_kept}
 use Rattle.flow_solver.proofs.GroupLemmas.{grown_all, made_leads}
 use Rattle.flow_solver.proofs.tables.Tables.change_all.Goals as goal
 use Rattle.flow_solver.proofs.tables.Tables.change_all.Goals.{After-self-1}
@@ -24,8 +24,8 @@ made c =
 -- what is logged leads back
 back : (c : After-self-1) → LeadsBack c.self-2.inside.before.log.items c.args.self.now.moment.instance c.self-2.inside.graph.net
 back c =
-    let log = ap (λ (d : Desk). d.kept.log) c.self-2.view_is ∙ ap (λ (k : Kept). k.log) c.settle-pushes.ensures.kept in
-    let here = ap (λ (d : Desk). d.moment.instance) c.self-2.view_is ∙ c.settle-pushes.ensures.instance in
+    let log = ap (λ (d : TablesView). d.kept.log) c.self-2.view_is ∙ ap (λ (k : Snapshot). k.log) c.settle-pushes.ensures.kept in
+    let here = ap (λ (d : TablesView). d.moment.instance) c.self-2.view_is ∙ c.settle-pushes.ensures.instance in
     subst (λ (m : Moment). LeadsBack c.self-2.inside.before.log.items m.instance c.self-2.inside.graph.net) c.snapshot.ensures.moment
     (subst (λ (J : Instance). LeadsBack c.self-2.inside.before.log.items c.snapshot.new.self.moment.instance J) (sym here)
     (subst (λ (ps : List Part). LeadsBack ps c.snapshot.new.self.moment.instance c.make_all.new.tables.moment.instance) (sym log) c.make_all.ensures.back))
@@ -33,8 +33,8 @@ back c =
 -- what was kept is kept still
 kept_is : (c : After-self-1) → kept_by c.self-2.inside.flow c.self-2.inside.potentials c.self-2.inside.cut c.self-2.inside.before.log.items ≡ record (kept_of c.args.self.now.moment) { log = c.self-2.inside.before.log.items }
 kept_is c =
-    let all = ap (λ (d : Desk). d.kept) c.self-2.view_is ∙ c.settle-pushes.ensures.kept ∙ c.make_all.ensures.kept in
-    ap (λ (k : Kept). record k { log = c.self-2.inside.before.log.items }) (all ∙ ap (λ (k : Kept). record k { log = c.make_all.new.tables.kept.log }) c.snapshot.ensures.kept)
+    let all = ap (λ (d : TablesView). d.kept) c.self-2.view_is ∙ c.settle-pushes.ensures.kept ∙ c.make_all.ensures.kept in
+    ap (λ (k : Snapshot). record k { log = c.self-2.inside.before.log.items }) (all ∙ ap (λ (k : Snapshot). record k { log = c.make_all.new.tables.kept.log }) c.snapshot.ensures.kept)
 
 pub invariant_of-self : goal.invariant_of-self
 invariant_of-self c =
@@ -43,7 +43,7 @@ invariant_of-self c =
     let leads = back c in
     record {
       graph = inv.graph;
-      flow_ledger = inv.flow_ledger;
+      flow_tracked = inv.flow_tracked;
       flow_in = inv.flow_in;
       flow_fits = inv.flow_fits;
       potentials_in = inv.potentials_in;
@@ -57,7 +57,7 @@ invariant_of-self c =
       log_fits = inv.log_fits;
       before_is = (
         leads.can,
-        ap (λ (k : Kept). length k.flow) (kept_is c) ∙ sized.one_flow ∙ ap (λ (I : Instance). length (reduced I).arcs) (sym leads.back),
+        ap (λ (k : Snapshot). length k.flow) (kept_is c) ∙ sized.one_flow ∙ ap (λ (I : Instance). length (reduced I).arcs) (sym leads.back),
       );
     }
 
@@ -65,12 +65,12 @@ pub returns-clause-instance : goal.returns-clause-instance
 returns-clause-instance c =
     let m = c.args.self.now.moment in
     made_leads m.instance c.settle-pushes.new.self.moment.instance c.args.edits.now (at_node m.potentials) m.flow c.make_all.new.tables.moment.flow (made c)
-    ∙ ap (λ (d : Desk). Ok d.moment.instance) (sym c.self-2.view_is)
+    ∙ ap (λ (d : TablesView). Ok d.moment.instance) (sym c.self-2.view_is)
 
 pub returns-clause-before : goal.returns-clause-before
 returns-clause-before c =
     let t = c.self-2.inside in
-    let told = ap (λ (d : Desk). d.moment.verdict) c.self.view_is in
+    let told = ap (λ (d : TablesView). d.moment.verdict) c.self.view_is in
     ap Some (moment_kept (before_all t.before.log.items t.graph.net) (kept_by t.flow t.potentials t.cut t.before.log.items) c.self.inside.verdict c.args.self.now.moment (back c).back (kept_is c) told)
 
 pub returns-clause-changed : goal.returns-clause-changed
@@ -88,4 +88,4 @@ returns-clause-changed c =
       pushes = subst (λ (J : Instance). Pushes (reduced J).arcs (reduced J).supply c.settle-pushes.result start end.flow) (sym c.settle-pushes.ensures.instance) c.settle-pushes.ensures.pushes;
       count = omega (arith, ints, left, grown);
     } in
-    subst (λ (d : Desk). AreChanges m.instance d.moment.instance edits (at_node m.potentials) m.flow d.moment.flow c.settle-pushes.result) (sym c.self-2.view_is) changes
+    subst (λ (d : TablesView). AreChanges m.instance d.moment.instance edits (at_node m.potentials) m.flow d.moment.flow c.settle-pushes.result) (sym c.self-2.view_is) changes

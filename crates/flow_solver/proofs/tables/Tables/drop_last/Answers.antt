@@ -5,13 +5,13 @@ use Rattle.std.proofs.lemmas.Int.{to_z-of_z}
 use Rattle.std.proofs.lemmas.List.{get_or_default, length-append, with_items_is}
 use Rattle.dimacs_text.specs.declared.problem.ArcRow.{ArcRow}
 use Rattle.network.specs.Instance.{Instance}
-use Rattle.flow_solver.specs.Desk.{Desk}
-use Rattle.shortest_paths.specs.Residual.{arc_at, number_at}
-use Rattle.shortest_paths.specs.Star.{Covers}
-use Rattle.flow_solver.specs.Ledger.{kept_in}
+use Rattle.flow_solver.specs.TablesView.{TablesView}
+use Rattle.residual_graph.specs.Residual.{arc_at, number_at}
+use Rattle.residual_graph.specs.Star.{Covers}
+use Rattle.flow_solver.specs.Tracked.{kept_in}
 use Rattle.flow_solver.proofs.CarryLemmas.{arcs_in, balance_dropped, carried_as, ends_in}
-use Rattle.flow_solver.proofs.DeskLemmas.{length_kept, tables_with_arcs}
-use Rattle.shortest_paths.proofs.StarLemmas.{covers_dropped}
+use Rattle.flow_solver.proofs.TablesViewLemmas.{length_kept, tables_with_arcs}
+use Rattle.residual_graph.proofs.StarLemmas.{covers_dropped}
 use Rattle.flow_solver.proofs.StandingLemmas.{scratch_told}
 use Rattle.flow_solver.proofs.tables.Tables.drop_last.Goals as goal
 use Rattle.flow_solver.proofs.tables.Tables.drop_last.Goals.{After-len-last}
@@ -19,7 +19,7 @@ use Rattle.flow_solver.proofs.tables.Tables.drop_last.Goals.{After-len-last}
 last_place : (c : After-len-last) → c.len-last.result - 1 < length c.self.inside.graph.rows.items
 last_place c =
     let many : c.len-last.result ≡ length c.self.inside.graph.rows.items = search rules in
-    let some = subst (λ (b : Desk). 0 < length b.moment.instance.arcs) (sym c.self.view_is) c.requires in
+    let some = subst (λ (b : TablesView). 0 < length b.moment.instance.arcs) (sym c.self.view_is) c.requires in
     let arcs = arcs_in c.self.inside.graph.net in
     omega (arith, many, some, ap (λ (r : List ArcRow). length r) c.self.invariant.graph.rows.rows_are, arcs)
 
@@ -58,7 +58,7 @@ invariant_of-self c =
     let price_fits : SFits w64 c.index.result.now.cost = search rules in
     let old_fits : SFits w128 c.self.inside.balance.cost = search rules in
     let entry : to_z w64 (of_z w64 c.index-2.result.now) ≡ number_at t.flow.entries.items last = to_z-of_z w64 c.index-2.result.now entry_fits ∙ c.index-2.ensures ∙ get_or_default t.flow.entries.items last c.index-2.result.now (pos 0) (omega (arith, there, inv.flow_in)) in
-    let was : to_z w64 (of_z w64 c.index-3.result.now) ≡ number_at t.flow.kept.items last = to_z-of_z w64 c.index-3.result.now kept_fits ∙ c.index-3.ensures ∙ get_or_default t.flow.kept.items last c.index-3.result.now (pos 0) (omega (arith, there, inv.flow_in, inv.flow_ledger.same_length)) in
+    let was : to_z w64 (of_z w64 c.index-3.result.now) ≡ number_at t.flow.kept.items last = to_z-of_z w64 c.index-3.result.now kept_fits ∙ c.index-3.ensures ∙ get_or_default t.flow.kept.items last c.index-3.result.now (pos 0) (omega (arith, there, inv.flow_in, inv.flow_tracked.same_length)) in
     let price : to_z w64 (of_z w64 c.index.result.now.cost) ≡ (arc_at t.graph.rows.items last).cost = to_z-of_z w64 c.index.result.now.cost price_fits ∙ ap (λ a. a.cost) row in
     let old = to_z-of_z w128 t.balance.cost old_fits in
     let cost : to_z w128 (of_z w128 c.reprice-self-inside.result) ≡ int_wrap w128 (t.balance.cost +ℤ (pos 0 -ℤ number_at t.flow.kept.items last) *ℤ (arc_at t.graph.rows.items last).cost) =
@@ -67,11 +67,11 @@ invariant_of-self c =
     let excess = with_items_is t.balance.excess c.carry_over.new.excess (c.carry_over.auto.excess ∙ c.deref_mut.ensures.len) in
     let carried = carried_as (arc_at t.graph.rows.items last) _ (number_at t.flow.entries.items last) _ (pos 0) _ t.balance.excess.items _ now.excess.items _ row entry refl c.deref_mut.ensures.value (sym excess) c.carry_over.ensures in
     let balance = balance_dropped I J t.graph.rows.items c.drop_row-row.new.rows.items t.flow c.pop-flow.new.self t.balance now c.drop_row-row.result c.pop-flow.result last
-    inv.graph.rows.rows_are c.drop_row-row.ensures.rows.rows_are c.drop_row-row.ensures.net c.pop-flow.ensures.ledger inv.flow_in (inv.flow_ledger.same_length ∙ inv.flow_in) c.pop-flow.ensures.entries c.pop-flow.ensures.whole
+    inv.graph.rows.rows_are c.drop_row-row.ensures.rows.rows_are c.drop_row-row.ensures.net c.pop-flow.ensures.tracked inv.flow_in (inv.flow_tracked.same_length ∙ inv.flow_in) c.pop-flow.ensures.entries c.pop-flow.ensures.whole
     (ap (λ (n : ℕ). n - 1) many) carried cost inv.balance_is in
     tables_with_arcs t.graph (record { net = J; star = c.keep.new.self; rows = c.drop_row-row.new.rows }) t.flow c.pop-flow.new.self t.potentials t.balance now t.cut t.scratch _ t.before
     inv (sym (ap (λ (K : Instance). K.nodes) c.drop_row-row.ensures.net)) (sym (ap (λ (K : Instance). K.room) c.drop_row-row.ensures.net)) (record { rows = c.drop_row-row.ensures.rows; star = covers }) c.drop_row-row.ensures.room
-    c.pop-flow.ensures.ledger
+    c.pop-flow.ensures.tracked
     (omega (arith, ap (λ (xs : List ℤ). length xs) c.pop-flow.ensures.entries, length-append c.pop-flow.new.self.entries.items (c.pop-flow.result ∷ []), inv.flow_in, c.drop_row-row.ensures.one_less))
     c.pop-flow.ensures.room balance (scratch_told _ t.scratch false inv.scratch_in) (λ none. cc)
 
@@ -79,7 +79,7 @@ pub returns-clause-kept : goal.returns-clause-kept
 returns-clause-kept c asked =
     let t = c.self.inside in
     let inv = c.self.invariant in
-    let view = ap (λ (b : Desk). length b.kept.flow) c.self.view_is in
-    let less : t.flow.size < length t.flow.entries.items = omega (arith, asked, view, length_kept t.flow inv.flow_ledger, ap (λ (r : List ArcRow). length r) c.drop_row-row.ensures.rows.rows_are, c.drop_row-row.ensures.one_less, inv.flow_in) in
+    let view = ap (λ (b : TablesView). length b.kept.flow) c.self.view_is in
+    let less : t.flow.size < length t.flow.entries.items = omega (arith, asked, view, length_kept t.flow inv.flow_tracked, ap (λ (r : List ArcRow). length r) c.drop_row-row.ensures.rows.rows_are, c.drop_row-row.ensures.one_less, inv.flow_in) in
     ap (λ (x : List ℤ). record { flow = x; potentials = drop 1 (kept_in t.potentials); cut = drop 1 (kept_in t.cut); log = t.before.log.items }) (c.pop-flow.ensures.kept less)
-    ∙ ap (λ (b : Desk). b.kept) c.self.view_is
+    ∙ ap (λ (b : TablesView). b.kept) c.self.view_is

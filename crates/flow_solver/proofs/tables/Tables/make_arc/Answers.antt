@@ -5,7 +5,7 @@ use Rattle.network.specs.Instance.{IsLawful, at_node, reduced}
 use Rattle.flow_solver.specs.Answer.{AreGreatestPotentials}
 use Rattle.flow_solver.specs.Edit.{IsAddEdit, IsMade, IsNearest}
 use Rattle.flow_solver.specs.Moment.{Moment}
-use Rattle.flow_solver.specs.Desk.{Desk}
+use Rattle.flow_solver.specs.TablesView.{TablesView}
 use Rattle.flow_solver.proofs.ChangeLemmas.{certified_more, with_last}
 use Rattle.flow_solver.proofs.EditRows.{add_made}
 use Rattle.flow_solver.proofs.StandingLemmas.{greatest_more, tables_told}
@@ -37,19 +37,19 @@ invariant_of-self c =
     let m = c.args.self.now.moment in
     let t = c.self-2.inside in
     let s = (goal.at.invariant_of-self c).After-put_last in
-    let now = ap (λ (d : Desk). d.moment) c.self-2.view_is ∙ moment_is s in
+    let now = ap (λ (d : TablesView). d.moment) c.self-2.view_is ∙ moment_is s in
     tables_told t.graph t.flow t.potentials t.balance t.cut t.scratch t.before _ c.self-2.invariant (λ stood.
     subst (λ (n : Moment). AreGreatestPotentials (reduced n.instance) n.flow (at_node n.potentials)) (sym now)
     (greatest_more m.instance c.added_row-row.result (at_node m.potentials) m.flow (after s) c.requires.certified
-    (subst (λ (b : Desk). AreGreatestPotentials (reduced b.moment.instance) b.moment.flow (at_node b.moment.potentials)) c.self.view_is (c.self.invariant.standing stood))))
+    (subst (λ (b : TablesView). AreGreatestPotentials (reduced b.moment.instance) b.moment.flow (at_node b.moment.potentials)) c.self.view_is (c.self.invariant.standing stood))))
 
 pub returns-clause-made : goal.returns-clause-made
 returns-clause-made c =
     let m = c.args.self.now.moment in
     let s = (goal.at.returns-clause-made c).After-put_last in
-    let now = ap (λ (d : Desk). d.moment) c.self-2.view_is ∙ moment_is s in
-    let lawful = subst (λ (b : Desk). IsLawful b.moment.instance) c.self.view_is c.self.invariant.graph.rows.lawful in
-    let edit = subst (λ (b : Desk). IsAddEdit b.moment.instance c.args.edit.now c.added_row-row.result) c.self.view_is c.added_row-row.ensures in
+    let now = ap (λ (d : TablesView). d.moment) c.self-2.view_is ∙ moment_is s in
+    let lawful = subst (λ (b : TablesView). IsLawful b.moment.instance) c.self.view_is c.self.invariant.graph.rows.lawful in
+    let edit = subst (λ (b : TablesView). IsAddEdit b.moment.instance c.args.edit.now c.added_row-row.result) c.self.view_is c.added_row-row.ensures in
     subst (λ (n : Moment). IsMade m.instance n.instance c.args.edit.now (at_node m.potentials) m.flow n.flow) (sym now)
     (add_made m.instance c.args.edit.now c.added_row-row.result (at_node m.potentials) m.flow (after s) lawful c.requires.certified edit (near s))
 
@@ -57,6 +57,6 @@ pub returns-clause-certified : goal.returns-clause-certified
 returns-clause-certified c =
     let m = c.args.self.now.moment in
     let s = (goal.at.returns-clause-certified c).After-put_last in
-    let now = ap (λ (d : Desk). d.moment) c.self-2.view_is ∙ moment_is s in
+    let now = ap (λ (d : TablesView). d.moment) c.self-2.view_is ∙ moment_is s in
     subst (λ (n : Moment). IsCertifiedFlow (reduced n.instance) n.flow (at_node n.potentials)) (sym now)
     (certified_more m.instance c.added_row-row.result (at_node m.potentials) m.flow (after s) c.requires.certified (near s))

@@ -2,8 +2,8 @@ use Rattle.std.proofs.Common.{◌≡◌, ◌∙◌, ◌-◌, ℤ, List, pos, Boo
 use Rattle.std.proofs.lemmas.Int.{to_z-of_z}
 use Rattle.network.specs.Flow.{IsCertifiedFlow, reduced_cost}
 use Rattle.network.specs.Instance.{IsLawful, at_node, reduced}
-use Rattle.shortest_paths.specs.Residual.{number_at}
-use Rattle.flow_solver.specs.Desk.{Desk, flow_index}
+use Rattle.residual_graph.specs.Residual.{number_at}
+use Rattle.flow_solver.specs.TablesView.{TablesView, flow_index}
 use Rattle.flow_solver.specs.Answer.{AreGreatestPotentials}
 use Rattle.flow_solver.specs.Edit.{IsMade, IsNearest, IsRowEdit}
 use Rattle.flow_solver.specs.Moment.{Moment}
@@ -14,7 +14,7 @@ use Rattle.flow_solver.proofs.tables.Tables.make_row.Goals as goal
 use Rattle.flow_solver.proofs.tables.Tables.make_row.Goals.{After-swap_flow, then-self, else-self}
 
 edit_is : (c : After-swap_flow) → IsRowEdit c.args.self.now.moment.instance c.args.edit.now c.edited_row-k.result.0 c.edited_row-k.result.1
-edit_is c = subst (λ (b : Desk). IsRowEdit b.moment.instance c.args.edit.now c.edited_row-k.result.0 c.edited_row-k.result.1) c.self.view_is c.edited_row-k.ensures
+edit_is c = subst (λ (b : TablesView). IsRowEdit b.moment.instance c.args.edit.now c.edited_row-k.result.0 c.edited_row-k.result.1) c.self.view_is c.edited_row-k.ensures
 
 -- the flow that the arc gets
 abbrev after : After-swap_flow → ℤ
@@ -55,13 +55,13 @@ invariant_of-self c =
     let m = c.args.self.now.moment in
     let t = c.self-2.inside in
     let s = (goal.at.invariant_of-self c).After-swap_flow in
-    let now = ap (λ (d : Desk). d.moment) c.self-2.view_is ∙ moment_is s in
+    let now = ap (λ (d : TablesView). d.moment) c.self-2.view_is ∙ moment_is s in
     tables_told t.graph t.flow t.potentials t.balance t.cut t.scratch t.before c.if-self.stands c.self-2.invariant (λ stands.
     elim c.if-self.branch [
       | then-self w ↦ subst (λ (n : Moment). AreGreatestPotentials (reduced n.instance) n.flow (at_node n.potentials)) (sym now)
           (greatest_changed m.instance c.edited_row-k.result.0 c.edited_row-k.result.1 (at_node m.potentials) m.flow (after s) (edit_is s).arc.0
           (λ tight. not_both w.is_tight.result c.if-self.stands w.stands-is stands (w.is_tight.ensures.1 tight)) c.requires.certified
-          (subst (λ (b : Desk). AreGreatestPotentials (reduced b.moment.instance) b.moment.flow (at_node b.moment.potentials)) c.self.view_is (c.self.invariant.standing w.if-self.true)))
+          (subst (λ (b : TablesView). AreGreatestPotentials (reduced b.moment.instance) b.moment.flow (at_node b.moment.potentials)) c.self.view_is (c.self.invariant.standing w.if-self.true)))
       | else-self w ↦ (let wrong : false ≡ true = sym w.if-self.false ∙ sym w.stands-is ∙ stands in cc)
     ])
 
@@ -69,8 +69,8 @@ pub returns-clause-made : goal.returns-clause-made
 returns-clause-made c =
     let m = c.args.self.now.moment in
     let s = (goal.at.returns-clause-made c).After-swap_flow in
-    let now = ap (λ (d : Desk). d.moment) c.self-2.view_is ∙ moment_is s in
-    let lawful = subst (λ (b : Desk). IsLawful b.moment.instance) c.self.view_is c.self.invariant.graph.rows.lawful in
+    let now = ap (λ (d : TablesView). d.moment) c.self-2.view_is ∙ moment_is s in
+    let lawful = subst (λ (b : TablesView). IsLawful b.moment.instance) c.self.view_is c.self.invariant.graph.rows.lawful in
     subst (λ (n : Moment). IsMade m.instance n.instance c.args.edit.now (at_node m.potentials) m.flow n.flow) (sym now)
     (row_made m.instance c.args.edit.now c.edited_row-k.result.0 c.edited_row-k.result.1 (at_node m.potentials) m.flow (after s) lawful c.requires.certified (edit_is s) (near s))
 
@@ -78,6 +78,6 @@ pub returns-clause-certified : goal.returns-clause-certified
 returns-clause-certified c =
     let m = c.args.self.now.moment in
     let s = (goal.at.returns-clause-certified c).After-swap_flow in
-    let now = ap (λ (d : Desk). d.moment) c.self-2.view_is ∙ moment_is s in
+    let now = ap (λ (d : TablesView). d.moment) c.self-2.view_is ∙ moment_is s in
     subst (λ (n : Moment). IsCertifiedFlow (reduced n.instance) n.flow (at_node n.potentials)) (sym now)
     (certified_changed m.instance c.edited_row-k.result.0 c.edited_row-k.result.1 (at_node m.potentials) m.flow (after s) (edit_is s).arc.0 c.requires.certified (near s))

@@ -3,7 +3,7 @@ use Rattle.std.proofs.lemmas.Int.{to_z-of_z}
 use Rattle.network.specs.Instance.{IsLawful, at_node}
 use Rattle.flow_solver.specs.Edit.{IsMade, IsSupplyEdit}
 use Rattle.flow_solver.specs.Moment.{Moment}
-use Rattle.flow_solver.specs.Desk.{Desk}
+use Rattle.flow_solver.specs.TablesView.{TablesView}
 use Rattle.flow_solver.proofs.ChangeLemmas.{supplied}
 use Rattle.flow_solver.proofs.EditRows.{supply_made}
 use Rattle.flow_solver.proofs.tables.Tables.make_supply.Goals as goal
@@ -11,8 +11,8 @@ use Rattle.flow_solver.proofs.tables.Tables.make_supply.Goals as goal
 pub returns-clause-made : goal.returns-clause-made
 returns-clause-made c =
     let m = c.args.self.now.moment in
-    let lawful = subst (λ (b : Desk). IsLawful b.moment.instance) c.self.view_is c.self.invariant.graph.rows.lawful in
-    let edit = subst (λ (b : Desk). IsSupplyEdit b.moment.instance c.args.edit.now c.edited_supply-id.result.0 c.edited_supply-id.result.1) c.self.view_is c.edited_supply-id.ensures in
+    let lawful = subst (λ (b : TablesView). IsLawful b.moment.instance) c.self.view_is c.self.invariant.graph.rows.lawful in
+    let edit = subst (λ (b : TablesView). IsSupplyEdit b.moment.instance c.args.edit.now c.edited_supply-id.result.0 c.edited_supply-id.result.1) c.self.view_is c.edited_supply-id.ensures in
     let id = c.edited_supply-id.result.0 in
     let value = c.edited_supply-id.result.1 in
     let fits : SFits w64 value = search rules in

@@ -6,11 +6,11 @@ use Rattle.network.specs.Instance.{Instance, at_node, reduced}
 use Rattle.dimacs_text.specs.declared.problem.ArcRow.{ArcRow}
 use Rattle.flow_solver.specs.Balance.{IsWrappedCost, IsWrappedExcess}
 use Rattle.flow_solver.specs.Moment.{start}
-use Rattle.flow_solver.specs.Ledger.{kept_in}
+use Rattle.flow_solver.specs.Tracked.{kept_in}
 use Rattle.shortest_paths.specs.Nodes.{IsIdleEntry}
-use Rattle.shortest_paths.specs.Residual.{number_at}
+use Rattle.residual_graph.specs.Residual.{number_at}
 use Rattle.flow_solver.proofs.CarryLemmas.{ends_of_rows, sends}
-use Rattle.flow_solver.proofs.DeskLemmas.{nodes_alike}
+use Rattle.flow_solver.proofs.TablesViewLemmas.{nodes_alike}
 use Rattle.flow_solver.proofs.InstanceLemmas.{start_certified, zero_entries}
 use Rattle.flow_solver.proofs.tables.Tables.new.Goals as goal
 
@@ -35,10 +35,10 @@ invariant_of-result c =
     let kept_unmarked : kept_in cut ≡ replicate (c.nodes.result + 1) false = search rules in
     record {
       graph = search rules;
-      flow_ledger = search rules;
+      flow_tracked = search rules;
       flow_in = ap (λ (xs : List ℤ). length xs) (c.in_ok-flow.ensures.entries ∙ c.in_ok-start_flow.ensures.flow ∙ ap (map start) c.deref.ensures.value) ∙ length-map c.in_ok-graph.graph.rows.items start;
       flow_fits = search rules;
-      potentials_in = nodes_alike c.in_ok-graph.graph.net.nodes potentials (replicate (c.nodes.result + 1) (pos 0)) (replicate (c.nodes.result + 1) (pos 0)) c.in_ok-potentials.ensures.ledger zeros kept_zeros (search rules) (search rules);
+      potentials_in = nodes_alike c.in_ok-graph.graph.net.nodes potentials (replicate (c.nodes.result + 1) (pos 0)) (replicate (c.nodes.result + 1) (pos 0)) c.in_ok-potentials.ensures.tracked zeros kept_zeros (search rules) (search rules);
       idle = subst IsIdleEntry (sym zeros) (idle_zeros c.nodes.result);
       kept_idle = subst IsIdleEntry (sym kept_zeros) (idle_zeros c.nodes.result);
       balance_is = record {
@@ -48,7 +48,7 @@ invariant_of-result c =
         cost = subst (λ (r : List ArcRow). IsWrappedCost r flow.kept.items balance.cost) c.deref-2.ensures.value
             (subst (λ (x : List ℤ). IsWrappedCost c.deref-2.result.now x balance.cost) (c.deref-3.ensures.value ∙ c.in_ok-flow.ensures.entries ∙ sym c.in_ok-flow.ensures.whole) c.in_ok-balance.ensures.cost);
       };
-      cut_in = nodes_alike c.in_ok-graph.graph.net.nodes cut (replicate (c.nodes.result + 1) false) (replicate (c.nodes.result + 1) false) c.in_ok-cut.ensures.ledger unmarked kept_unmarked (search rules) (search rules);
+      cut_in = nodes_alike c.in_ok-graph.graph.net.nodes cut (replicate (c.nodes.result + 1) false) (replicate (c.nodes.result + 1) false) c.in_ok-cut.ensures.tracked unmarked kept_unmarked (search rules) (search rules);
       scratch_in = search rules;
       standing = λ stood. (let wrong : false ≡ true = sym c.in_ok-scratch.ensures.standing ∙ stood in cc);
       rows_fit = search rules;

@@ -4,10 +4,10 @@ use Rattle.std.specs.Vec.{with_items}
 use Rattle.std.proofs.lemmas.Int.{to_z-of_z}
 use Rattle.std.proofs.lemmas.List.{length-append, with_items_is}
 use Rattle.network.specs.Instance.{Instance}
-use Rattle.shortest_paths.specs.Star.{Covers}
+use Rattle.residual_graph.specs.Star.{Covers}
 use Rattle.flow_solver.proofs.CarryLemmas.{balance_put, carried_as}
-use Rattle.flow_solver.proofs.DeskLemmas.{tables_with_arcs}
-use Rattle.shortest_paths.proofs.StarLemmas.{covers_added}
+use Rattle.flow_solver.proofs.TablesViewLemmas.{tables_with_arcs}
+use Rattle.residual_graph.proofs.StarLemmas.{covers_added}
 use Rattle.flow_solver.proofs.StandingLemmas.{scratch_told}
 use Rattle.flow_solver.proofs.tables.Tables.put_last.Goals as goal
 
@@ -33,9 +33,9 @@ invariant_of-self c =
     to_z-of_z w128 c.reprice-self-inside.result (record { sfits = c.reprice-self-inside.type_inv }) ∙ c.reprice-self-inside.ensures ∙ (λ i. int_wrap w128 (old i +ℤ (flow i -ℤ pos 0) *ℤ price i)) in
     let carried = carried_as c.args.row _ (pos 0) _ c.args.flow _ t.balance.excess.items _ now.excess.items _ refl refl flow c.deref_mut.ensures.value (sym excess) c.carry_over.ensures in
     let balance = balance_put I J t.graph.rows.items c.put_row.new.rows.items t.flow c.push.new.self t.balance now c.args.row c.args.flow inv.graph.rows.rows_are c.put_row.ensures.rows.rows_are c.put_row.ensures.net
-    inv.flow_in (inv.flow_ledger.same_length ∙ inv.flow_in) (c.push.ensures.entries ∙ ap (λ (y : ℤ). t.flow.entries.items ++ y ∷ []) flow) (c.push.ensures.whole ∙ ap (λ (y : ℤ). t.flow.kept.items ++ y ∷ []) flow) carried cost inv.balance_is in
+    inv.flow_in (inv.flow_tracked.same_length ∙ inv.flow_in) (c.push.ensures.entries ∙ ap (λ (y : ℤ). t.flow.entries.items ++ y ∷ []) flow) (c.push.ensures.whole ∙ ap (λ (y : ℤ). t.flow.kept.items ++ y ∷ []) flow) carried cost inv.balance_is in
     tables_with_arcs t.graph (record t.graph { net = J; rows = c.put_row.new.rows }) t.flow c.push.new.self t.potentials t.balance now t.cut t.scratch _ t.before
     inv (ap (λ (K : Instance). K.nodes) c.put_row.ensures.net) (ap (λ (K : Instance). K.room) c.put_row.ensures.net) (record { rows = c.put_row.ensures.rows; star = covers }) c.put_row.ensures.capacity
-    c.push.ensures.ledger
+    c.push.ensures.tracked
     (omega (arith, many, inv.flow_in, c.put_row.ensures.one_more))
     c.push.ensures.room balance (scratch_told _ t.scratch false inv.scratch_in) (λ none. cc)

@@ -6,16 +6,17 @@ use Rattle.dimacs_text.specs.declared.problem.ArcRow.{ArcRow}
 use Rattle.network.specs.Flow.{AllWithinBounds, IsCertifiedFlow, total_excess}
 use Rattle.network.specs.Instance.{at_node, reduced}
 use Rattle.network.proofs.Reduction.{reduced_ends}
-use Rattle.shortest_paths.specs.Limits.{cap_sum_limit, entry_limit}
-use Rattle.shortest_paths.specs.Residual.{IsCertified}
+use Rattle.shortest_paths.specs.Limits.{cap_sum_limit}
+use Rattle.residual_graph.specs.Limits.{entry_limit}
+use Rattle.residual_graph.specs.Residual.{IsCertified}
 use Rattle.shortest_paths.specs.Push.{AreSmall, IsExcess, Pushes, cap_total, left}
 use Rattle.shortest_paths.specs.Cut.{lack}
 use Rattle.flow_solver.specs.Balance.{IsBalanceOf, IsWrappedCost, IsWrappedExcess}
 use Rattle.flow_solver.specs.Answer.{IsJudged, worth_by}
 use Rattle.shortest_paths.specs.Nodes.{held}
 use Rattle.shortest_paths.specs.Scratch.{IsScratchFor}
-use Rattle.flow_solver.specs.Desk.{Desk}
-use Rattle.flow_solver.proofs.DeskLemmas.{sized_written, tables_written}
+use Rattle.flow_solver.specs.TablesView.{TablesView}
+use Rattle.flow_solver.proofs.TablesViewLemmas.{sized_written, tables_written}
 use Rattle.flow_solver.proofs.FlowLaws.{bounds_from}
 use Rattle.flow_solver.proofs.PushLaws.{pushes_of, left_is}
 use Rattle.flow_solver.proofs.InstanceLemmas.{few_entries, potentials_of, certified_of, supplies_of_instance, caps_of_instance}
@@ -26,20 +27,20 @@ use Rattle.flow_solver.proofs.tables.Tables.settle.Goals.{After-settle-pushes, A
 pub settle-pushes-requires-clause-certified : goal.settle-pushes-requires-clause-certified
 settle-pushes-requires-clause-certified c =
     subst (λ (r : List ArcRow). IsCertified r c.self.inside.flow.entries.items c.self.inside.potentials.entries.items) (sym c.self.invariant.graph.rows.rows_are)
-    (certified_of c.self.inside.graph.net c.self.inside.flow.entries.items c.self.inside.potentials.entries.items c.self.invariant.graph.rows.lawful c.self.invariant.potentials_in.entries_in c.self.invariant.idle (certified_at c.self.inside.graph.net c.self.inside.flow.entries.items c.self.inside.potentials.entries.items c.self.invariant.graph.rows.lawful (subst (λ (b : Desk). IsCertifiedFlow (reduced b.moment.instance) b.moment.flow (at_node b.moment.potentials)) (sym c.self.view_is) c.requires)))
+    (certified_of c.self.inside.graph.net c.self.inside.flow.entries.items c.self.inside.potentials.entries.items c.self.invariant.graph.rows.lawful c.self.invariant.potentials_in.entries_in c.self.invariant.idle (certified_at c.self.inside.graph.net c.self.inside.flow.entries.items c.self.inside.potentials.entries.items c.self.invariant.graph.rows.lawful (subst (λ (b : TablesView). IsCertifiedFlow (reduced b.moment.instance) b.moment.flow (at_node b.moment.potentials)) (sym c.self.view_is) c.requires)))
 
 pub settle-pushes-requires-clause-potentials_in : goal.settle-pushes-requires-clause-potentials_in
 settle-pushes-requires-clause-potentials_in c =
-    potentials_of c.self.inside.graph.net.nodes c.self.inside.potentials.entries.items c.self.invariant.potentials_in.entries_in c.self.invariant.idle (certified_at c.self.inside.graph.net c.self.inside.flow.entries.items c.self.inside.potentials.entries.items c.self.invariant.graph.rows.lawful (subst (λ (b : Desk). IsCertifiedFlow (reduced b.moment.instance) b.moment.flow (at_node b.moment.potentials)) (sym c.self.view_is) c.requires)).range
+    potentials_of c.self.inside.graph.net.nodes c.self.inside.potentials.entries.items c.self.invariant.potentials_in.entries_in c.self.invariant.idle (certified_at c.self.inside.graph.net c.self.inside.flow.entries.items c.self.inside.potentials.entries.items c.self.invariant.graph.rows.lawful (subst (λ (b : TablesView). IsCertifiedFlow (reduced b.moment.instance) b.moment.flow (at_node b.moment.potentials)) (sym c.self.view_is) c.requires)).range
 
 pub settle-pushes-requires-clause-small : goal.settle-pushes-requires-clause-small
 settle-pushes-requires-clause-small c =
     subst AreSmall (sym c.deref_mut.ensures.value)
-    (exact_of_certified c.self.inside.graph.net c.self.inside.graph.rows.items c.self.inside.flow.entries.items c.self.inside.balance.excess.items (at_node (drop 1 c.self.inside.potentials.entries.items)) c.self.invariant.graph.rows.lawful c.self.invariant.graph.rows.rows_are (subst (λ (b : Desk). IsCertifiedFlow (reduced b.moment.instance) b.moment.flow (at_node b.moment.potentials)) (sym c.self.view_is) c.requires) c.self.invariant.balance_is.excess).small
+    (exact_of_certified c.self.inside.graph.net c.self.inside.graph.rows.items c.self.inside.flow.entries.items c.self.inside.balance.excess.items (at_node (drop 1 c.self.inside.potentials.entries.items)) c.self.invariant.graph.rows.lawful c.self.invariant.graph.rows.rows_are (subst (λ (b : TablesView). IsCertifiedFlow (reduced b.moment.instance) b.moment.flow (at_node b.moment.potentials)) (sym c.self.view_is) c.requires) c.self.invariant.balance_is.excess).small
 
 -- the flow is certified before
 certified_in : (c : After-settle-pushes) → IsCertifiedFlow (reduced c.self.inside.graph.net) c.self.inside.flow.entries.items (at_node (drop 1 c.self.inside.potentials.entries.items))
-certified_in c = subst (λ (b : Desk). IsCertifiedFlow (reduced b.moment.instance) b.moment.flow (at_node b.moment.potentials)) (sym c.self.view_is) c.requires
+certified_in c = subst (λ (b : TablesView). IsCertifiedFlow (reduced b.moment.instance) b.moment.flow (at_node b.moment.potentials)) (sym c.self.view_is) c.requires
 
 -- what lay in excess before
 excess_before : (c : After-settle-pushes) → IsExcess c.self.inside.graph.rows.items (held c.self.inside.graph.net.nodes (reduced c.self.inside.graph.net).supply) c.self.inside.flow.entries.items c.deref_mut.result.now
@@ -150,7 +151,7 @@ returns-clause-pushes c =
     let supply = held I.nodes (reduced I).supply in
     let y = c.settle-pushes.new.flow.entries.items in
     let made = subst (λ (r : List ArcRow). Pushes r supply c.settle-pushes.result t.flow.entries.items y) c.self.invariant.graph.rows.rows_are (c.settle-pushes.ensures.pushes supply (excess_before s)) in
-    subst (λ (b : Desk). Pushes (reduced b.moment.instance).arcs (reduced b.moment.instance).supply c.settle-pushes.result b.moment.flow y) c.self.view_is
+    subst (λ (b : TablesView). Pushes (reduced b.moment.instance).arcs (reduced b.moment.instance).supply c.settle-pushes.result b.moment.flow y) c.self.view_is
     (pushes_of I.nodes (reduced I).arcs (reduced I).supply (reduced_ends I c.self.invariant.graph.rows.lawful) c.settle-pushes.result t.flow.entries.items y made)
 
 pub returns-clause-count : goal.returns-clause-count
@@ -163,4 +164,4 @@ returns-clause-count c =
     let before = subst (λ (r : List ArcRow). IsExcess r supply t.flow.entries.items e) c.self.invariant.graph.rows.rows_are (excess_before s) in
     let all = left_is (reduced I) t.flow.entries.items e (reduced_ends I c.self.invariant.graph.rows.lawful) before (omega (arith, ap length c.deref_mut.ensures.value, c.self.invariant.balance_is.sized)) in
     let most : pos c.settle-pushes.result ≤ℤ total_excess (reduced I) t.flow.entries.items = omega (arith, ints, all, c.settle-pushes.ensures.count) in
-    subst (λ (b : Desk). pos c.settle-pushes.result ≤ℤ total_excess (reduced b.moment.instance) b.moment.flow) c.self.view_is most
+    subst (λ (b : TablesView). pos c.settle-pushes.result ≤ℤ total_excess (reduced b.moment.instance) b.moment.flow) c.self.view_is most

@@ -7,7 +7,7 @@ use Rattle.flow_solver.specs.Answer.{AreGreatestPotentials}
 use Rattle.flow_solver.specs.Balance.{IsWrappedCost}
 use Rattle.shortest_paths.specs.Nodes.{IsIdleEntry}
 use Rattle.flow_solver.proofs.CarryLemmas.{balance_kept}
-use Rattle.flow_solver.proofs.DeskLemmas.{nodes_alike}
+use Rattle.flow_solver.proofs.TablesViewLemmas.{nodes_alike}
 use Rattle.flow_solver.proofs.tables.Tables.snapshot.Goals as goal
 
 pub invariant_of-self : goal.invariant_of-self
@@ -19,14 +19,14 @@ invariant_of-self c =
     ∙ subst (λ (r : List ArcRow). IsWrappedCost r t.flow.entries.items result) c.deref.ensures.value c.cost_now-self-inside.ensures in
     record {
       graph = inv.graph;
-      flow_ledger = c.snapshot.ensures.ledger;
+      flow_tracked = c.snapshot.ensures.tracked;
       flow_in = ap length c.snapshot.ensures.entries ∙ inv.flow_in;
       flow_fits = omega (arith, inv.flow_fits, c.snapshot.ensures.room);
-      potentials_in = nodes_alike t.graph.net.nodes c.snapshot-2.new.self t.potentials.entries.items t.potentials.entries.items c.snapshot-2.ensures.ledger c.snapshot-2.ensures.entries c.snapshot-2.ensures.kept inv.potentials_in.entries_in inv.potentials_in.entries_in;
+      potentials_in = nodes_alike t.graph.net.nodes c.snapshot-2.new.self t.potentials.entries.items t.potentials.entries.items c.snapshot-2.ensures.tracked c.snapshot-2.ensures.entries c.snapshot-2.ensures.kept inv.potentials_in.entries_in inv.potentials_in.entries_in;
       idle = subst IsIdleEntry (sym c.snapshot-2.ensures.entries) inv.idle;
       kept_idle = subst IsIdleEntry (sym c.snapshot-2.ensures.kept) inv.idle;
       balance_is = balance_kept t.graph.net t.graph.rows.items t.flow c.snapshot.new.self t.balance _ c.snapshot.ensures.entries c.snapshot.ensures.whole refl cost inv.balance_is;
-      cut_in = nodes_alike t.graph.net.nodes c.snapshot-3.new.self t.cut.entries.items t.cut.entries.items c.snapshot-3.ensures.ledger c.snapshot-3.ensures.entries c.snapshot-3.ensures.kept inv.cut_in.entries_in inv.cut_in.entries_in;
+      cut_in = nodes_alike t.graph.net.nodes c.snapshot-3.new.self t.cut.entries.items t.cut.entries.items c.snapshot-3.ensures.tracked c.snapshot-3.ensures.entries c.snapshot-3.ensures.kept inv.cut_in.entries_in inv.cut_in.entries_in;
       scratch_in = inv.scratch_in;
       standing = λ stood.
           subst (λ (p : List ℤ). AreGreatestPotentials (reduced t.graph.net) c.snapshot.new.self.entries.items (at_node (drop 1 p))) (sym c.snapshot-2.ensures.entries)

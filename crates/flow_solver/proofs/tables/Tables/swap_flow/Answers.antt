@@ -2,11 +2,11 @@ use Rattle.std.proofs.Common.{◌≡◌, ◌∙◌, ◌≤◌, ◌-◌, ◌+◌,
 use Rattle.std.specs.Prelude.{slice_index_or}
 use Rattle.std.proofs.lemmas.Int.{to_z-of_z}
 use Rattle.std.proofs.lemmas.List.{get_or_default, with_items_is}
-use Rattle.flow_solver.specs.Desk.{Desk, flow_index}
-use Rattle.shortest_paths.specs.Residual.{arc_at, number_at}
+use Rattle.flow_solver.specs.TablesView.{TablesView, flow_index}
+use Rattle.residual_graph.specs.Residual.{arc_at, number_at}
 use Rattle.flow_solver.proofs.CarryLemmas.{IsPlace, balance_set, carried_as, ends_in, place_is}
-use Rattle.flow_solver.proofs.DeskLemmas.{tables_written}
-use Rattle.flow_solver.proofs.LedgerLemmas.{IsWritten-same}
+use Rattle.flow_solver.proofs.TablesViewLemmas.{tables_written}
+use Rattle.flow_solver.proofs.TrackedLemmas.{IsWritten-same}
 use Rattle.flow_solver.proofs.StandingLemmas.{scratch_told}
 use Rattle.flow_solver.proofs.tables.Tables.swap_flow.Goals as goal
 use Rattle.flow_solver.proofs.tables.Tables.swap_flow.Goals.{After-first_row}
@@ -17,7 +17,7 @@ place_in_rows c = c.first_row.result + (c.args.k - 1)
 place_there : (c : After-first_row) → IsPlace c.self.inside.graph.net c.self.inside.graph.rows.items c.args.k (place_in_rows c)
 place_there c =
     let I = c.self.inside.graph.net in
-    let at = subst (λ (b : Desk). (1 ≤ c.args.k) × (c.args.k ≤ length b.moment.instance.arcs)) (sym c.self.view_is) c.requires.there in
+    let at = subst (λ (b : TablesView). (1 ≤ c.args.k) × (c.args.k ≤ length b.moment.instance.arcs)) (sym c.self.view_is) c.requires.there in
     place_is I c.self.inside.graph.rows.items c.args.k (place_in_rows c) c.self.invariant.graph.rows.rows_are at
     (omega (arith, c.first_row.ensures))
 
@@ -57,8 +57,8 @@ invariant_of-self c =
     let carried = carried_as (arc_at t.graph.rows.items place) _ (number_at t.flow.entries.items place) _ c.args.value.now _ t.balance.excess.items _ _ _ row entry value c.deref_mut.ensures.value (sym excess) c.carry_over.ensures in
     let balance = balance_set t.graph.net t.graph.rows.items t.flow c.exchange.new.self t.balance _ place c.args.value.now there inv.flow_in carried refl c.exchange.ensures.entries c.exchange.ensures.written.kept inv.balance_is in
     tables_written t.graph t.graph t.flow c.exchange.new.self t.potentials t.potentials t.balance _ t.cut t.cut t.scratch _ t.before
-    inv refl refl inv.graph refl (omega arith) c.exchange.ensures.written (IsWritten-same t.potentials inv.potentials_in.ledger)
-    inv.idle balance (IsWritten-same t.cut inv.cut_in.ledger)
+    inv refl refl inv.graph refl (omega arith) c.exchange.ensures.written (IsWritten-same t.potentials inv.potentials_in.tracked)
+    inv.idle balance (IsWritten-same t.cut inv.cut_in.tracked)
     (scratch_told _ t.scratch false inv.scratch_in) (λ none. cc)
 
 pub returns-clause-moment : goal.returns-clause-moment
@@ -67,7 +67,7 @@ returns-clause-moment c =
     let index = (place_there (goal.at.returns-clause-moment c).After-first_row).index_is in
     ap (λ (x : List ℤ). record { instance = t.graph.net; flow = x; potentials = drop 1 t.potentials.entries.items; verdict = t.verdict; cut = drop 1 t.cut.entries.items })
     (c.exchange.ensures.entries ∙ ap (λ (n : ℕ). slice_set t.flow.entries.items n c.args.value.now) index)
-    ∙ ap (λ (b : Desk). record b.moment { flow = slice_set b.moment.flow (flow_index b.moment.instance.demand c.args.k) c.args.value.now }) c.self.view_is
+    ∙ ap (λ (b : TablesView). record b.moment { flow = slice_set b.moment.flow (flow_index b.moment.instance.demand c.args.k) c.args.value.now }) c.self.view_is
 
 pub returns-clause-value : goal.returns-clause-value
 returns-clause-value c =
@@ -75,4 +75,4 @@ returns-clause-value c =
     let index = (place_there (goal.at.returns-clause-value c).After-first_row).index_is in
     c.exchange.ensures.value
     ∙ ap (λ (n : ℕ). slice_index_or t.flow.entries.items n c.args.value.now) index
-    ∙ ap (λ (b : Desk). slice_index_or b.moment.flow (flow_index b.moment.instance.demand c.args.k) c.args.value.now) c.self.view_is
+    ∙ ap (λ (b : TablesView). slice_index_or b.moment.flow (flow_index b.moment.instance.demand c.args.k) c.args.value.now) c.self.view_is

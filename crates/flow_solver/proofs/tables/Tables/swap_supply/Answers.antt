@@ -7,15 +7,15 @@ use Rattle.dimacs_text.specs.declared.problem.Kind.TheVariants.{Min}
 use Rattle.network.specs.Instance.{Instance, at_node, kind_of, reduced}
 use Rattle.flow_solver.specs.Answer.{AreGreatestPotentials}
 use Rattle.flow_solver.specs.Balance.{IsBalanceOf}
-use Rattle.shortest_paths.specs.Graph.{IsGraphFor}
-use Rattle.flow_solver.specs.Desk.{Desk}
+use Rattle.residual_graph.specs.Graph.{IsGraphFor}
+use Rattle.flow_solver.specs.TablesView.{TablesView}
 use Rattle.shortest_paths.specs.Scratch.{IsScratchFor}
-use Rattle.shortest_paths.specs.Star.{Covers}
-use Rattle.shortest_paths.specs.Walk.{AreRowsOf}
+use Rattle.residual_graph.specs.Star.{Covers}
+use Rattle.residual_graph.specs.Walk.{AreRowsOf}
 use Rattle.flow_solver.proofs.CarryLemmas.{balance_supplied, raised_as}
-use Rattle.flow_solver.proofs.DeskLemmas.{tables_written}
+use Rattle.flow_solver.proofs.TablesViewLemmas.{tables_written}
 use Rattle.shortest_paths.proofs.NodeLemmas.{held_node}
-use Rattle.flow_solver.proofs.LedgerLemmas.{IsWritten-same}
+use Rattle.flow_solver.proofs.TrackedLemmas.{IsWritten-same}
 use Rattle.flow_solver.proofs.StandingLemmas.{greatest_supplied}
 use Rattle.flow_solver.proofs.tables.Tables.swap_supply.Goals as goal
 
@@ -26,8 +26,8 @@ invariant_of-self c =
     let J = c.swap_supply.new.net in
     let inv = c.self.invariant in
     let net = c.swap_supply.ensures.net in
-    let kind = subst (λ (b : Desk). kind_of b.moment.instance.demand ≡ Min) (sym c.self.view_is) c.requires.kind in
-    let node = subst (λ (b : Desk). IsNode b.moment.instance.nodes c.args.id) (sym c.self.view_is) c.requires.node in
+    let kind = subst (λ (b : TablesView). kind_of b.moment.instance.demand ≡ Min) (sym c.self.view_is) c.requires.kind in
+    let node = subst (λ (b : TablesView). IsNode b.moment.instance.nodes c.args.id) (sym c.self.view_is) c.requires.node in
     let before_fits : SFits w64 c.supply_at.result = search rules in
     let before = to_z-of_z w64 c.supply_at.result before_fits ∙ c.supply_at.ensures ∙ held_node I.nodes (reduced I).supply c.args.id node in
     let after_fits : SFits w64 c.args.value.now = search rules in
@@ -41,7 +41,7 @@ invariant_of-self c =
       star = subst (λ (K : Instance). Covers (K.nodes + 1) K.arcs t.graph.star) (sym net) inv.graph.star;
     } in
     tables_written t.graph (record t.graph { net = J }) t.flow t.flow t.potentials t.potentials t.balance now t.cut t.cut t.scratch t.scratch t.before
-    inv (ap (λ (K : Instance). K.nodes) net) (ap (λ (K : Instance). K.room) net) graph refl (omega arith) (IsWritten-same t.flow inv.flow_ledger) (IsWritten-same t.potentials inv.potentials_in.ledger)
-    inv.idle balance (IsWritten-same t.cut inv.cut_in.ledger) (subst (λ (K : Instance). IsScratchFor (K.nodes + 1) t.scratch) (sym net) inv.scratch_in)
+    inv (ap (λ (K : Instance). K.nodes) net) (ap (λ (K : Instance). K.room) net) graph refl (omega arith) (IsWritten-same t.flow inv.flow_tracked) (IsWritten-same t.potentials inv.potentials_in.tracked)
+    inv.idle balance (IsWritten-same t.cut inv.cut_in.tracked) (subst (λ (K : Instance). IsScratchFor (K.nodes + 1) t.scratch) (sym net) inv.scratch_in)
     (λ stood. subst (λ (K : Instance). AreGreatestPotentials (reduced K) t.flow.entries.items (at_node (drop 1 t.potentials.entries.items))) (sym net)
     (greatest_supplied I c.args.id c.args.value.now (at_node (drop 1 t.potentials.entries.items)) t.flow.entries.items (inv.standing stood)))

@@ -1,15 +1,15 @@
 use Rattle.std.proofs.Common.{drop, subst}
 use Rattle.std.specs.Prelude.{IfSome}
-use Rattle.flow_solver.specs.Desk.{Desk, NameChanges}
+use Rattle.flow_solver.specs.TablesView.{TablesView, NameChanges}
 use Rattle.flow_solver.specs.Tables.{kept_by}
-use Rattle.flow_solver.proofs.LedgerLemmas.{kept_named_after_first}
-use Rattle.flow_solver.proofs.DeskLemmas.{cut_since}
+use Rattle.flow_solver.proofs.TrackedLemmas.{kept_named_after_first}
+use Rattle.flow_solver.proofs.TablesViewLemmas.{cut_since}
 use Rattle.flow_solver.proofs.tables.Tables.touched_cut.Goals as goal
 
 pub returns-clause-named : goal.returns-clause-named
 returns-clause-named c =
     let t = c.self.inside in
     let places = c.places.result.now in
-    subst (λ (d : Desk). IfSome d.before (λ old. NameChanges 1 places old.cut d.moment.cut)) c.self.view_is
+    subst (λ (d : TablesView). IfSome d.before (λ old. NameChanges 1 places old.cut d.moment.cut)) c.self.view_is
     (cut_since t.before.verdict t.graph.net (kept_by t.flow t.potentials t.cut t.before.log.items) places (drop 1 t.cut.entries.items)
-    (kept_named_after_first t.cut places c.self.invariant.cut_in.ledger c.places.ensures.listed))
+    (kept_named_after_first t.cut places c.self.invariant.cut_in.tracked c.places.ensures.listed))

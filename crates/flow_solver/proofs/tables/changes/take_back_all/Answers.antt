@@ -1,5 +1,5 @@
 use Rattle.std.proofs.Common.{ap, arith, ◌∷◌, [], length, length-append}
-use Rattle.flow_solver.specs.Moment.{Kept}
+use Rattle.flow_solver.specs.Moment.{Snapshot}
 use Rattle.flow_solver.proofs.GroupLemmas.{popped, popped_fits, taken_back}
 use Rattle.flow_solver.proofs.tables.changes.take_back_all.Goals as goal
 
@@ -15,6 +15,6 @@ loop-part-preserved c =
 
 pub loop-part-smaller : goal.loop-part-smaller
 loop-part-smaller c =
-    let was = ap (λ (k : Kept). length k.log) (c.pop_part.ensures.some c.in-Some.part c.in-Some.is) in
-    let now = ap (λ (k : Kept). length k.log) c.take_back.ensures.kept in
+    let was = ap (λ (k : Snapshot). length k.log) (c.pop_part.ensures.some c.in-Some.part c.in-Some.is) in
+    let now = ap (λ (k : Snapshot). length k.log) c.take_back.ensures.kept in
     omega (arith, was, now, length-append c.pop_part.new.self.kept.log (c.in-Some.part ∷ []))

@@ -7,5 +7,5 @@ invariant-loop-j l = record {
   back : l.self.back ≡ l.initial.self.back;
   dead_sized : length l.self.dead.items ≡ length l.initial.self.dead.items;
   current_sized : length l.self.current.items ≡ length l.initial.self.current.items;
-  alive : (i : ℕ) → i < l.j → in_set l.self.dead.items (slice_index l.trail.nodes.items i) ≡ false;
+  alive : (i : ℕ) → i < l.j → in_set l.self.dead.items (slice_index l.settled_order.nodes.items i) ≡ false;
 }

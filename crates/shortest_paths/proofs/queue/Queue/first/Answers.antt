@@ -1,19 +1,19 @@
 use Rattle.std.proofs.Common.{◌<◌, arith, subst, sym, length}
 use Rattle.std.proofs.lemmas.List.{get_or_read}
 use Rattle.shortest_paths.specs.Search.{IsLeastOpen}
-use Rattle.shortest_paths.proofs.QueueLemmas.{line_first, heap_first}
+use Rattle.shortest_paths.proofs.QueueLemmas.{current_first, heap_first}
 use Rattle.shortest_paths.proofs.queue.Queue.first.Goals as goal
 
 pub returns-then-self-clause-found : goal.returns-then-self-clause-found
 returns-then-self-clause-found c =
-    subst (IsLeastOpen c.args.visits.now (length c.args.visits.now))
-    (sym (get_or_read c.args.self.now.line.items c.args.self.now.next c.index.result.now (omega (arith, c.if-self.true, c.requires.queue.line.ends)) c.index.ensures 0))
-    (line_first c.args.visits.now c.args.self.now c.requires.queue c.if-self.true)
+    subst (IsLeastOpen c.args.node_labels.now (length c.args.node_labels.now))
+    (sym (get_or_read c.args.self.now.current.items c.args.self.now.next c.index.result.now (omega (arith, c.if-self.true, c.requires.queue.current.ends)) c.index.ensures 0))
+    (current_first c.args.node_labels.now c.args.self.now c.requires.queue c.if-self.true)
 
 pub returns-then-self-gt0-clause-found : goal.returns-then-self-gt0-clause-found
 returns-then-self-gt0-clause-found c =
     let heap = c.requires.queue.heap in
     let some : 0 < c.args.self.now.len = omega arith in
-    subst (IsLeastOpen c.args.visits.now (length c.args.visits.now))
+    subst (IsLeastOpen c.args.node_labels.now (length c.args.node_labels.now))
     (sym (get_or_read c.args.self.now.order.items 0 c.index-then-self-gt0.result.now (omega (arith, heap.index.order_sized, heap.index.len_in)) c.index-then-self-gt0.ensures 0))
-    (heap_first c.args.visits.now c.args.self.now c.requires.queue (λ h. omega (arith, h, c.if-self.false)) some)
+    (heap_first c.args.node_labels.now c.args.self.now c.requires.queue (λ h. omega (arith, h, c.if-self.false)) some)

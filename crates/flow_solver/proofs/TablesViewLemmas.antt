@@ -1,0 +1,167 @@
+-- What the tables of a solver keep where entries are written, and what was kept of them.
+use Rattle.std.proofs.Common.{◌≡◌, ℕ, ◌+◌, ◌≤◌, ℤ, Bool, true, List, [], ◌∷◌, length, take, drop, refl, sym, ap, subst, ◌∙◌, arith, Option, None, Some}
+use Rattle.std.specs.Prelude.{IfSome, vec_capacity}
+use Rattle.std.proofs.lemmas.List.{length-take-le, length-drop}
+use Rattle.dimacs_text.specs.declared.problem.ArcRow.{ArcRow}
+use Rattle.network.specs.Instance.{Demand, Supplies, Terminals, Sides, Instance, at_node, numbered_flow, reduced, with_supply}
+use Rattle.flow_solver.specs.declared.balance.Balance.{Balance}
+use Rattle.residual_graph.specs.declared.graph.Graph.{Graph}
+use Rattle.flow_solver.specs.declared.tracked.Tracked.{Tracked}
+use Rattle.flow_solver.specs.declared.part.Before.{Before}
+use Rattle.flow_solver.specs.declared.part.Part.{Part}
+use Rattle.flow_solver.specs.declared.part.Part.TheVariants.{Arc, Supply, Last, Gone}
+use Rattle.shortest_paths.specs.declared.scratch.Scratch.{Scratch}
+use Rattle.flow_solver.specs.declared.verdict.Verdict.{Verdict}
+use Rattle.flow_solver.specs.Answer.{AreGreatestPotentials}
+use Rattle.flow_solver.specs.Balance.{IsBalanceOf}
+use Rattle.flow_solver.specs.TablesView.{NameChanges}
+use Rattle.flow_solver.specs.Moment.{IsSized, Snapshot, Moment, kept_of}
+use Rattle.flow_solver.specs.Tables.{AreTables, IsOfNodes}
+use Rattle.residual_graph.specs.Graph.{IsGraphFor}
+use Rattle.shortest_paths.specs.Nodes.{IsIdleEntry}
+use Rattle.flow_solver.specs.Part.{before_all, before_of, return_count}
+use Rattle.shortest_paths.specs.Scratch.{IsScratchFor}
+use Rattle.flow_solver.specs.Tracked.{IsTracked, IsWritten, kept_in}
+use Rattle.residual_graph.specs.Walk.{AreRowsOf}
+use Rattle.flow_solver.proofs.TrackedLemmas.{named_after_first}
+
+module _ {T : Type 0} where
+  -- a write leaves what was kept
+  pub kept_written : (l m : Tracked T) → IsWritten l m → kept_in m ≡ kept_in l
+  kept_written l m written = ap (λ (n : ℕ). take n m.kept.items) written.size ∙ ap (λ v. take l.size v.items) written.kept
+
+  pub length_kept : (l : Tracked T) → IsTracked l → length (kept_in l) ≡ l.size
+  length_kept l tracked = length-take-le l.size l.kept.items (omega (arith, tracked.size_in, tracked.same_length))
+
+  pub nodes_written : (nodes : ℕ) (l m : Tracked T) → IsOfNodes nodes l → IsWritten l m → IsOfNodes nodes m
+  nodes_written nodes l m of written = record {
+    tracked = written.tracked;
+    entries_in = written.same_length ∙ of.entries_in;
+    size_is = written.size ∙ of.size_is;
+  }
+
+  -- a tracked of nodes is one still where its entries and what was kept are as many
+  pub nodes_alike : (nodes : ℕ) (m : Tracked T) (entries kept : List T) → IsTracked m → m.entries.items ≡ entries → kept_in m ≡ kept → length entries ≡ nodes + 1 → length kept ≡ nodes + 1 → IsOfNodes nodes m
+  nodes_alike nodes m entries kept tracked entries_are kept_is many as_many = record {
+    tracked = tracked;
+    entries_in = ap (λ (xs : List T). length xs) entries_are ∙ many;
+    size_is = sym (length_kept m tracked) ∙ ap (λ (xs : List T). length xs) kept_is ∙ as_many;
+  }
+
+pub idle_kept : (l m : Tracked ℤ) → IsWritten l m → IsIdleEntry (kept_in l) → IsIdleEntry (kept_in m)
+idle_kept l m written idle = subst IsIdleEntry (sym (kept_written l m written)) idle
+
+-- the tables of an instance stay tables where they are written, and fit an instance of as many arcs and nodes
+pub tables_written : (g h : Graph) (flow flow' potentials potentials' : Tracked ℤ) (balance balance' : Balance) (cut cut' : Tracked Bool) (scratch scratch' : Scratch) (before : Before) →
+    AreTables g flow potentials balance cut scratch before → h.net.nodes ≡ g.net.nodes → h.net.room ≡ g.net.room → IsGraphFor (h.net.nodes + 1) h → length h.rows.items ≡ length g.rows.items → vec_capacity g.rows ≤ vec_capacity h.rows →
+    IsWritten flow flow' → IsWritten potentials potentials' → IsIdleEntry potentials'.entries.items → IsBalanceOf h.net h.rows.items flow' balance' → IsWritten cut cut' → IsScratchFor (h.net.nodes + 1) scratch' →
+    (scratch'.labels.standing ≡ true → AreGreatestPotentials (reduced h.net) flow'.entries.items (at_node (drop 1 potentials'.entries.items))) →
+    AreTables h flow' potentials' balance' cut' scratch' (record before { verdict = None })
+tables_written g h flow flow' potentials potentials' balance balance' cut cut' scratch scratch' before t nodes room_is graph many more flow_written potentials_written idle balance_is cut_written scratch_in standing = record {
+  graph = graph;
+  flow_tracked = flow_written.tracked;
+  flow_in = flow_written.same_length ∙ t.flow_in ∙ sym many;
+  flow_fits = omega (arith, t.flow_fits, room_is, flow_written.same_room);
+  potentials_in = subst (λ (n : ℕ). IsOfNodes n potentials') (sym nodes) (nodes_written g.net.nodes potentials potentials' t.potentials_in potentials_written);
+  idle = idle;
+  kept_idle = idle_kept potentials potentials' potentials_written t.kept_idle;
+  balance_is = balance_is;
+  cut_in = subst (λ (n : ℕ). IsOfNodes n cut') (sym nodes) (nodes_written g.net.nodes cut cut' t.cut_in cut_written);
+  scratch_in = scratch_in;
+  standing = standing;
+  rows_fit = omega (arith, t.rows_fit, room_is, more);
+  log_fits = t.log_fits;
+  before_is = tt;
+}
+
+-- so their moment has its sizes
+pub sized_written : (g h : Graph) (flow flow' potentials potentials' : Tracked ℤ) (balance : Balance) (cut cut' : Tracked Bool) (scratch : Scratch) (before : Before) (verdict : Verdict) →
+    AreTables g flow potentials balance cut scratch before → h.net.nodes ≡ g.net.nodes → AreRowsOf h.net h.rows.items → length h.rows.items ≡ length g.rows.items →
+    IsWritten flow flow' → IsWritten potentials potentials' → IsWritten cut cut' →
+    IsSized (record { instance = h.net; flow = flow'.entries.items; potentials = drop 1 potentials'.entries.items; verdict = verdict; cut = drop 1 cut'.entries.items })
+sized_written g h flow flow' potentials potentials' balance cut cut' scratch before verdict t nodes of many flow_written potentials_written cut_written = record {
+  lawful = of.lawful;
+  one_flow = flow_written.same_length ∙ t.flow_in ∙ sym many ∙ ap (λ (xs : List ArcRow). length xs) of.rows_are;
+  one_potential = omega (arith, length-drop 1 potentials'.entries.items, potentials_written.same_length, t.potentials_in.entries_in, nodes);
+  one_mark = omega (arith, length-drop 1 cut'.entries.items, cut_written.same_length, t.cut_in.entries_in, nodes);
+}
+
+-- the tables stay tables where the arcs become others, with as many flows
+pub tables_with_arcs : (g h : Graph) (flow flow' potentials : Tracked ℤ) (balance balance' : Balance) (cut : Tracked Bool) (scratch scratch' : Scratch) (before : Before) →
+    AreTables g flow potentials balance cut scratch before → h.net.nodes ≡ g.net.nodes → h.net.room ≡ g.net.room → IsGraphFor (h.net.nodes + 1) h → vec_capacity g.rows ≤ vec_capacity h.rows →
+    IsTracked flow' → length flow'.entries.items ≡ length h.rows.items → length flow'.touched ≡ length flow.touched → IsBalanceOf h.net h.rows.items flow' balance' → IsScratchFor (g.net.nodes + 1) scratch' →
+    (scratch'.labels.standing ≡ true → AreGreatestPotentials (reduced h.net) flow'.entries.items (at_node (drop 1 potentials.entries.items))) →
+    AreTables h flow' potentials balance' cut scratch' (record before { verdict = None })
+tables_with_arcs g h flow flow' potentials balance balance' cut scratch scratch' before t nodes room_is graph more tracked flow_in same_room balance_is scratch_in standing = record {
+  graph = graph;
+  flow_tracked = tracked;
+  flow_in = flow_in;
+  flow_fits = omega (arith, t.flow_fits, room_is, same_room);
+  potentials_in = subst (λ (n : ℕ). IsOfNodes n potentials) (sym nodes) t.potentials_in;
+  idle = t.idle;
+  kept_idle = t.kept_idle;
+  balance_is = balance_is;
+  cut_in = subst (λ (n : ℕ). IsOfNodes n cut) (sym nodes) t.cut_in;
+  scratch_in = subst (λ (n : ℕ). IsScratchFor (n + 1) scratch') (sym nodes) scratch_in;
+  standing = standing;
+  rows_fit = omega (arith, t.rows_fit, room_is, more);
+  log_fits = t.log_fits;
+  before_is = tt;
+}
+
+-- places that name what is changed of a flow name what is changed of the numbered arcs
+pub named_numbered : (D : Demand) (places : List ℕ) (xs ys : List ℤ) → NameChanges 0 places xs ys → NameChanges (return_count D) places (numbered_flow D xs) (numbered_flow D ys)
+named_numbered (Supplies supplies) places xs ys named = named
+named_numbered (Terminals source sink) places xs ys named = named_after_first places xs ys named
+named_numbered (Sides marks) places xs ys named = named
+
+-- the numbered arcs of a flow, and how many come before them, are the same before a change
+pub numbered_before : (log : List Part) (I : Instance) (xs : List ℤ) → numbered_flow (before_all log I).demand xs ≡ numbered_flow I.demand xs
+numbered_before [] I xs = refl
+numbered_before (Arc k row ∷ log) I xs = numbered_before log I xs
+numbered_before (Supply v value ∷ log) I xs = of (before_all log I).demand ∙ numbered_before log I xs
+  where
+    of : (D : Demand) → numbered_flow (with_supply D v value) xs ≡ numbered_flow D xs
+    of (Supplies supplies) = refl
+    of (Terminals source sink) = refl
+    of (Sides marks) = refl
+numbered_before (Last ∷ log) I xs = numbered_before log I xs
+numbered_before (Gone row flow ∷ log) I xs = numbered_before log I xs
+
+pub return_count_before : (log : List Part) (I : Instance) → return_count (before_all log I).demand ≡ return_count I.demand
+return_count_before [] I = refl
+return_count_before (Arc k row ∷ log) I = return_count_before log I
+return_count_before (Supply v value ∷ log) I = of (before_all log I).demand ∙ return_count_before log I
+  where
+    of : (D : Demand) → return_count (with_supply D v value) ≡ return_count D
+    of (Supplies supplies) = refl
+    of (Terminals source sink) = refl
+    of (Sides marks) = refl
+return_count_before (Last ∷ log) I = return_count_before log I
+return_count_before (Gone row flow ∷ log) I = return_count_before log I
+
+-- the same where the first flow is of the instance before a change
+pub named_before : (log : List Part) (I : Instance) (places : List ℕ) (xs ys : List ℤ) → NameChanges 0 places xs ys → NameChanges (return_count (before_all log I).demand) places (numbered_flow (before_all log I).demand xs) (numbered_flow I.demand ys)
+named_before log I places xs ys named =
+    subst (λ (n : ℕ). NameChanges n places (numbered_flow (before_all log I).demand xs) (numbered_flow I.demand ys)) (sym (return_count_before log I))
+    (subst (λ (zs : List ℤ). NameChanges (return_count I.demand) places zs (numbered_flow I.demand ys)) (sym (numbered_before log I xs)) (named_numbered I.demand places xs ys named))
+
+-- the places name what is changed since the moment before, where there is one
+pub named_since : (before : Option Verdict) (I : Instance) (kept : Snapshot) (places : List ℕ) (ys : List ℤ) → NameChanges 0 places kept.flow ys → IfSome (before_of before I kept) (λ old. NameChanges (return_count old.instance.demand) places (numbered_flow old.instance.demand old.flow) (numbered_flow I.demand ys))
+named_since None I kept places ys named = tt
+named_since (Some told) I kept places ys named = named_before kept.log I places kept.flow ys named
+
+-- what is kept of a moment, with its instance and verdict, is that moment
+pub moment_kept : (I : Instance) (kept : Snapshot) (verdict : Verdict) (m : Moment) → I ≡ m.instance → kept ≡ record (kept_of m) { log = kept.log } → verdict ≡ m.verdict → record { instance = I; flow = kept.flow; potentials = kept.potentials; verdict = verdict; cut = kept.cut } ≡ m
+moment_kept I kept verdict m one two three =
+    ap (λ (J : Instance). record { instance = J; flow = kept.flow; potentials = kept.potentials; verdict = verdict; cut = kept.cut }) one
+    ∙ ap (λ (k : Snapshot). record { instance = m.instance; flow = k.flow; potentials = k.potentials; verdict = verdict; cut = k.cut }) two
+    ∙ ap (λ (v : Verdict). record { instance = m.instance; flow = m.flow; potentials = m.potentials; verdict = v; cut = m.cut }) three
+
+pub potentials_since : (before : Option Verdict) (I : Instance) (kept : Snapshot) (places : List ℕ) (ys : List ℤ) → NameChanges 1 places kept.potentials ys → IfSome (before_of before I kept) (λ old. NameChanges 1 places old.potentials ys)
+potentials_since None I kept places ys named = tt
+potentials_since (Some told) I kept places ys named = named
+
+pub cut_since : (before : Option Verdict) (I : Instance) (kept : Snapshot) (places : List ℕ) (ys : List Bool) → NameChanges 1 places kept.cut ys → IfSome (before_of before I kept) (λ old. NameChanges 1 places old.cut ys)
+cut_since None I kept places ys named = tt
+cut_since (Some told) I kept places ys named = named

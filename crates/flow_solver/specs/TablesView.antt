@@ -1,0 +1,42 @@
+-- What contracts see of the tables: the moment that they hold, and after a change the one that stood before it.
+use Rattle.std.specs.Prelude.{◌≡◌, ℕ, ◌+◌, ◌-◌, ◌<◌, ◌≤◌, ◌⊎◌, Any, ℤ, pos, ◌≤ℤ◌, List, [], length, Option, slice_index_or}
+use Rattle.dimacs_text.specs.declared.problem.ArcRow.{ArcRow}
+use Rattle.dimacs_text.specs.declared.problem.TheConstants.{CAP_LIMIT}
+use Rattle.dimacs_text.specs.Lawful.{IsLawfulRow}
+use Rattle.network.specs.Instance.{Demand, Supplies, Terminals, Sides, Instance, ArcFits}
+use Rattle.flow_solver.specs.Moment.{Snapshot, Moment}
+use Rattle.shortest_paths.specs.Touched.{AgreeAt}
+
+pub record TablesView : Type 0 where
+  pub moment : Moment
+  -- what the last snapshot kept
+  pub kept : Snapshot
+  pub before : Option Moment
+
+-- a flow within the limits
+abbrev pub IsFlow : ℤ → Type 0
+IsFlow x = (pos 0 ≤ℤ x) × (x ≤ℤ pos CAP_LIMIT)
+
+-- an arc that the instance may have
+abbrev pub IsRowOf : Instance → ArcRow → Type 0
+IsRowOf I arc = IsLawfulRow I.nodes arc × ArcFits I.demand arc
+
+-- an arc is there, and has the ends of this row
+abbrev pub HasEnds : List ArcRow → ℕ → ArcRow → Type 0
+HasEnds arcs k row =
+    (1 ≤ k) × (k ≤ length arcs) × (row.tail ≡ (slice_index_or arcs (k - 1) row).tail) × (row.head ≡ (slice_index_or arcs (k - 1) row).head)
+
+-- where the flow of arc k stands in a flow of the reduced instance, in which the return arc comes first
+abbrev pub flow_index : Demand → ℕ → ℕ
+flow_index (Supplies supplies) k = k - 1
+flow_index (Terminals source sink) k = k
+flow_index (Sides marks) k = k - 1
+
+abbrev pub supplies_in : Demand → List ℤ
+supplies_in (Supplies supplies) = supplies
+supplies_in (Terminals source sink) = []
+supplies_in (Sides marks) = []
+
+-- the places name each one at which the lists differ, of those that the first list has; its first entry has place `first`
+abbrev pub NameChanges : {T : Type 0} → ℕ → List ℕ → List T → List T → Type 0
+NameChanges first places xs ys = (k : ℕ) → k < length xs → Any (λ p. p ≡ k + first) places ⊎ AgreeAt xs ys k

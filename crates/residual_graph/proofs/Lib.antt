@@ -1,0 +1,7 @@
+pub mod NodeNumbers
+pub mod RowLemmas
+pub mod WalkLemmas
+pub mod StarLemmas
+pub mod EndLemmas
+pub mod TurnedRows
+pub mod SideLemmas

@@ -1,0 +1,73 @@
+use Rattle.std.proofs.Common.{◌≡◌, ◌∙◌, ◌+◌, ◌+ℤ◌, ◌-ℤ◌, ℕ, ℤ, pos, rules, arith, sym, subst, ap, w64, to_z, of_z, SFits}
+use Rattle.std.proofs.lemmas.Int.{ints, to_z-of_z}
+use Rattle.dimacs_text.specs.declared.problem.ArcRow.{ArcRow}
+use Rattle.shortest_paths.specs.declared.node_label.State.TheVariants.{Settled}
+use Rattle.residual_graph.specs.Residual.{arc_at, cost_of, end_of, number_at, room_of, start_at, start_of}
+use Rattle.shortest_paths.specs.Search.{state_at, distance_at, depth_at, reduced_at}
+use Rattle.residual_graph.specs.Side.{seen}
+use Rattle.residual_graph.proofs.RowLemmas.{start_of-in}
+use Rattle.shortest_paths.proofs.SearchLemmas.{settled_is_reached, depth_small}
+use Rattle.shortest_paths.proofs.LabelLemmas.{room_fits, flow_fits}
+use Rattle.shortest_paths.proofs.labels.node_label_through.Goals as goal
+use Rattle.shortest_paths.proofs.labels.node_label_through.Goals.{After-room}
+
+pub bounds-node_labels-start : goal.bounds-node_labels-start
+bounds-node_labels-start c =
+    rw (c.start-start.ensures, c.row-row.ensures) (rw c.requires.forest.known.sized (start_of-in _ _ c.args.arc.way (c.args.residual.certified.flow.rows c.args.arc.arc c.requires.arc_in)))
+
+pub distance_through-requires-clause-row : goal.distance_through-requires-clause-row
+distance_through-requires-clause-row c = rw c.row-row.ensures (c.args.residual.certified.flow.rows c.args.arc.arc c.requires.arc_in)
+
+pub room-requires : goal.room-requires
+room-requires c =
+    rw (c.row-row.ensures, flow_fits c.args.arc.arc c.args.residual.certified c.requires.arc_in) (room_fits _ _ _ c.args.arc.way (c.args.residual.certified.flow.rows c.args.arc.arc c.requires.arc_in) (c.args.residual.certified.flow.within c.args.arc.arc c.requires.arc_in))
+
+room_is : (c : After-room) → c.room.result ≡ room_of (arc_at (seen c.args.residual.side c.args.residual.graph.now.rows.items) c.args.arc.arc) (number_at c.args.residual.flow.now c.args.arc.arc) c.args.arc.way
+room_is c =
+    c.room.ensures ∙ ap (λ (a : ArcRow). room_of a (to_z w64 (of_z w64 (number_at c.args.residual.flow.now c.args.arc.arc))) c.args.arc.way) c.row-row.ensures
+    ∙ ap (λ (x : ℤ). room_of (arc_at (seen c.args.residual.side c.args.residual.graph.now.rows.items) c.args.arc.arc) x c.args.arc.way) (flow_fits c.args.arc.arc c.args.residual.certified c.requires.arc_in)
+
+pub returns-then-room-le0-clause-none : goal.returns-then-room-le0-clause-none
+returns-then-room-le0-clause-none c = λ none hop.
+    (let room = room_is (goal.at.returns-then-room-le0-clause-none c).After-room in
+    absurd (omega (arith, ints, room, hop.residual.has_room, c.room.type_inv, c.if-room-le0.true)))
+
+-- the arc starts at a settled node
+start_is : (c : After-room) → c.start-start.result ≡ start_at (seen c.args.residual.side c.args.residual.graph.now.rows.items) c.args.arc.arc c.args.arc.way
+start_is c = c.start-start.ensures ∙ ap (λ (a : ArcRow). start_of a c.args.arc.way) c.row-row.ensures
+
+start_settled : (c : After-room) → state_at c.args.node_labels.now (start_at (seen c.args.residual.side c.args.residual.graph.now.rows.items) c.args.arc.arc c.args.arc.way) ≡ Settled
+start_settled c = subst (λ (u : ℕ). state_at c.args.node_labels.now u ≡ Settled) (start_is c) (c.is_settled.ensures.0 c.if-not-is_settled.false)
+
+start_distance : (c : After-room) → distance_at c.args.node_labels.now (start_at (seen c.args.residual.side c.args.residual.graph.now.rows.items) c.args.arc.arc c.args.arc.way) ≡ pos 0
+start_distance c = c.requires.forest.kept (start_at (seen c.args.residual.side c.args.residual.graph.now.rows.items) c.args.arc.arc c.args.arc.way) (start_settled c)
+
+pub distance_through-requires-clause-distance_low : goal.distance_through-requires-clause-distance_low
+distance_through-requires-clause-distance_low c = rw c.row-row.ensures (omega (arith, ints, start_distance (goal.at.distance_through-requires-clause-distance_low c).After-room))
+
+pub distance_through-requires-clause-distance_high : goal.distance_through-requires-clause-distance_high
+distance_through-requires-clause-distance_high c = rw c.row-row.ensures (omega (arith, ints, start_distance (goal.at.distance_through-requires-clause-distance_high c).After-room))
+
+pub overflow_add-result : goal.overflow_add-result
+overflow_add-result c =
+    let reached = settled_is_reached c.args.node_labels.now c.start-start.result (c.is_settled.ensures.0 c.if-not-is_settled.false) in
+    let shallow = depth_small (seen c.args.residual.side c.args.residual.graph.now.rows.items) c.args.residual.flow.now c.args.residual.potentials.now c.args.node_labels.now c.start-start.result c.args.residual.certified c.requires.forest.known reached in
+    search (rules, shallow)
+
+pub returns-clause-through : goal.returns-clause-through
+returns-clause-through c =
+    let at = (goal.at.returns-clause-through c).After-room in
+    let room = room_is (goal.at.returns-clause-through c).After-room in
+    let fits : SFits w64 c.distance_through.result = search rules in
+    let same : to_z w64 (of_z w64 c.distance_through.result) ≡ c.distance_through.result = to_z-of_z w64 c.distance_through.result fits in
+    let distance_is : c.distance_through.result ≡ distance_at c.args.node_labels.now (start_at (seen c.args.residual.side c.args.residual.graph.now.rows.items) c.args.arc.arc c.args.arc.way) +ℤ reduced_at (seen c.args.residual.side c.args.residual.graph.now.rows.items) c.args.residual.potentials.now c.args.arc.arc c.args.arc.way =
+    c.distance_through.ensures ∙ ap (λ (a : ArcRow). distance_at c.args.node_labels.now (start_of a c.args.arc.way) +ℤ ((cost_of a c.args.arc.way +ℤ number_at c.args.residual.potentials.now (start_of a c.args.arc.way)) -ℤ number_at c.args.residual.potentials.now (end_of a c.args.arc.way))) c.row-row.ensures in
+    record {
+      hop = record {
+        residual = record { is_arc = c.requires.arc_in; has_room = omega (arith, ints, room, c.room.type_inv, c.if-room-le0.false) };
+        ends = sym (c.end.ensures ∙ ap (λ (a : ArcRow). end_of a c.args.arc.way) c.row-row.ensures) ∙ c.if-end-v.false;
+        settled = start_settled at;
+      };
+      deeper = ap (λ (u : ℕ). depth_at c.args.node_labels.now u + 1) (start_is at);
+      distance = omega (arith, ints, same, distance_is, start_distance at);
+    }

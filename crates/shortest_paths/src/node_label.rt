@@ -1,0 +1,79 @@
+//! What a search knows of each node.
+
+ghost use Rattle.std.specs.Prelude.{◌≡◌, pos, neg_ℤ, ◌≤ℤ◌, IsTrue, ◌↔◌};
+ghost use Rattle.shortest_paths.specs.Limits.{distance_limit};
+ghost use Rattle.residual_graph.specs.Limits.{potential_floor};
+ghost use Rattle.shortest_paths.specs.Search.{Takes, lowered, source_node_label};
+ghost use Rattle.shortest_paths.specs.declared.node_label.State.TheVariants.{Settled};
+
+use residual_graph::Way;
+
+/// How far the search has come with a node.
+#[derive(Clone, Copy)]
+pub enum State {
+    /// No path to it is known.
+    Unreached,
+    /// A path is known, and a better one may be found.
+    Open,
+    /// A best path is known.
+    Settled,
+}
+
+/// What the search knows of a node: the length of the best path to it over reduced costs, how many arcs
+/// it has, and its last arc.
+#[derive(Clone, Copy)]
+pub struct NodeLabel {
+    pub state: State,
+    pub distance: i64,
+    pub depth: u32,
+    /// The row of the last arc, where there is one.
+    pub arc: u32,
+    pub way: Way,
+}
+
+impl NodeLabel {
+    /// A node that no search has reached.
+    pub fn unreached() -> Self
+        ensures { result ≡ source_node_label (pos 0) }
+    {
+        NodeLabel {
+            state: State::Unreached,
+            distance: 0,
+            depth: 0,
+            arc: 0,
+            way: Way::Forward,
+        }
+    }
+
+    /// Whether a path of this length is better than what is known.
+    pub fn takes(&self, distance: i64) -> bool
+        ensures { IsTrue result ↔ Takes self.now distance }
+    {
+        match self.state {
+            State::Unreached => true,
+            State::Open => distance < self.distance,
+            State::Settled => false,
+        }
+    }
+
+    /// Whether the node is settled.
+    pub fn is_settled(&self) -> bool
+        ensures { IsTrue result ↔ (self.now.state ≡ Settled) }
+    {
+        matches!(self.state, State::Settled)
+    }
+
+    /// A potential after the search: lowered by what the node is nearer than `reach`, where it is settled.
+    pub fn lowered(&self, potential: i64, reach: i64) -> i64
+        requires distance_low { self.now.state ≡ Settled → pos 0 ≤ℤ self.now.distance }
+        requires distance_high { self.now.state ≡ Settled → self.now.distance ≤ℤ reach }
+        requires not_far { reach ≤ℤ pos distance_limit }
+        requires potential_low { neg_ℤ (pos potential_floor) ≤ℤ potential }
+        ensures { result ≡ lowered potential self.now reach }
+    {
+        match self.state {
+            State::Settled => potential - (reach - self.distance),
+            _ => potential,
+        }
+    }
+}
