@@ -1,11 +1,11 @@
 -- Where potentials that are the greatest stay the greatest, though arcs and flows change.
-use Rattle.std.proofs.Common.{◌≡◌, ℕ, zero, suc, ◌+◌, ◌-◌, ◌<◌, ◌≤◌, ℤ, pos, ◌-ℤ◌, ◌+ℤ◌, ◌<ℤ◌, ◌≤ℤ◌, List, [], ◌∷◌, ◌++◌, length, drop, Some, refl, sym, subst, ◌∙◌, ◌⊎◌, inl, inr, arith, Bool, true, false, cond, slice_set}
+use Rattle.std.proofs.Common.{◌≡◌, ℕ, zero, suc, ◌+◌, ◌-◌, ◌<◌, ◌≤◌, ℤ, pos, ◌-ℤ◌, ◌+ℤ◌, ◌<ℤ◌, ◌≤ℤ◌, List, [], ◌∷◌, ◌++◌, length, drop, Some, refl, sym, subst, ◌∙◌, ◌⊎◌, inl, inr, arith, Bool, true, false, cond, ap, slice_index_or, slice_set}
 use Rattle.std.specs.Prelude.{int_lt}
 use Rattle.std.specs.List.{AllZip}
 use Rattle.std.proofs.lemmas.Int.{ints, by_lt_z}
 use Rattle.std.proofs.lemmas.Bool.{cases_eq}
 use Rattle.std.proofs.lemmas.Option.{slice_get-get_or}
-use Rattle.std.proofs.lemmas.List.{get_or_append_left, get_or-set_other, length-append, length-set}
+use Rattle.std.proofs.lemmas.List.{get_or_append_left, get_or-set_other, get_or-set_same, length-append, length-set}
 use Rattle.dimacs_text.specs.declared.problem.ArcRow.{ArcRow}
 use Rattle.dimacs_text.specs.Lawful.{IsLawfulRow}
 use Rattle.network.specs.Flow.{MinCost, AllWithinBounds, FollowsSign, IsCertifiedFlow, IsGreatestPotential, IsPotential, reduced_cost}
@@ -13,19 +13,22 @@ use Rattle.network.specs.Instance.{ArcFits, Instance, IsLawful, arc_at as number
 use Rattle.network.proofs.Reduction.{reduced_ends}
 use Rattle.residual_graph.specs.declared.graph.Graph.{Graph}
 use Rattle.shortest_paths.specs.declared.scratch.Scratch.{Scratch}
-use Rattle.residual_graph.specs.Residual.{AreGreatest, number_at, arc_at}
+use Rattle.residual_graph.specs.Residual.{AreGreatest, IsWithin, number_at, arc_at, room_of}
+use Rattle.residual_graph.specs.declared.residual.Way.{Way}
+use Rattle.residual_graph.specs.declared.residual.Way.TheVariants.{Backward, Forward}
 use Rattle.shortest_paths.specs.Scratch.{IsScratchFor}
 use Rattle.residual_graph.specs.Walk.{AreRowsOf}
 use Rattle.flow_solver.specs.Answer.{AreGreatestPotentials}
 use Rattle.flow_solver.specs.declared.balance.Balance.{Balance}
 use Rattle.flow_solver.specs.declared.tracked.Tracked.{Tracked}
 use Rattle.flow_solver.specs.declared.part.Before.{Before}
+use Rattle.flow_solver.specs.Edit.{KeepsResidualArcs}
 use Rattle.flow_solver.specs.TablesView.{flow_index}
 use Rattle.flow_solver.specs.Tables.{AreTables}
 use Rattle.flow_solver.proofs.AnswerLemmas.{agrees_at}
 use Rattle.flow_solver.proofs.ChangeLemmas.{with_row, with_last, supplied, row_is, rows_changed, rows_more, rows_kept}
 use Rattle.flow_solver.proofs.EditRows.{row_there}
-use Rattle.flow_solver.proofs.FlowLaws.{bounds_length, greatest_flow, signs_at}
+use Rattle.flow_solver.proofs.FlowLaws.{bounds_at, bounds_length, greatest_flow, signs_at}
 
 -- ---- a step up, where other potentials lie higher
 
@@ -108,24 +111,76 @@ greatest_labels I rows x p of greatest = record {
   none_above = greatest_flow (reduced I) x p (at_node (drop 1 p)) (reduced_ends I of.lawful) (agrees_at I.nodes p) (subst (λ (r : List ArcRow). AreGreatest r x p) of.rows_are greatest);
 }
 
--- potentials that are the greatest are so still where an arc changed that was not tight
-pub greatest_changed : (I : Instance) (k : ℕ) (row : ArcRow) (p : ℕ → ℤ) (x : List ℤ) (z : ℤ) → 1 ≤ k → (reduced_cost p (arc_at (reduced I).arcs (flow_index I.demand k)) ≡ pos 0 → ⊥)
+-- ---- an arc that changes and keeps its residual arcs
+
+module _ (a b : ArcRow) (x y : ℤ) where
+  -- it does so if it costs the same, and has room up to its bounds where it had
+  pub kept_by_room : b.cost ≡ a.cost → (x <ℤ a.cap → y <ℤ b.cap) → (a.low <ℤ x → b.low <ℤ y) → KeepsResidualArcs a x b y
+  kept_by_room cost ahead behind = record { same_cost = cost; has_room = room }
+    where
+      room : (way : Way) → pos 0 <ℤ room_of a x way → pos 0 <ℤ room_of b y way
+      room Forward there_was = (let is = ahead (omega (arith, ints, there_was)) in omega (arith, ints, is))
+      room Backward there_was = (let is = behind (omega (arith, ints, there_was)) in omega (arith, ints, is))
+
+  -- and only so
+  pub room_ahead : KeepsResidualArcs a x b y → x <ℤ a.cap → y <ℤ b.cap
+  room_ahead kept there_was = (let is = kept.has_room Forward (omega (arith, ints, there_was)) in omega (arith, ints, is))
+
+  pub room_behind : KeepsResidualArcs a x b y → a.low <ℤ x → b.low <ℤ y
+  room_behind kept there_was = (let is = kept.has_room Backward (omega (arith, ints, there_was)) in omega (arith, ints, is))
+
+-- a flow that is certified after an arc kept its residual arcs follows the rule of signs of the arc before
+sign_kept : (q : ℕ → ℤ) (a b : ArcRow) (x y : ℤ) → b.tail ≡ a.tail → b.head ≡ a.head → KeepsResidualArcs a x b y → IsWithin a x → FollowsSign q b y → FollowsSign q a x
+sign_kept q a b x y tail head kept within sign = record {
+  dear = λ dear. by_lt_z (a.low) x
+      (λ there_was. (let room = kept.has_room Backward (omega (arith, ints, there_was)) in
+      absurd (omega (arith, ints, room, sign.dear (subst (λ (r : ℤ). pos 0 <ℤ r) (sym same) dear)))))
+      (λ closed. omega (arith, ints, closed, within.low_kept));
+  cheap = λ cheap. by_lt_z x (a.cap)
+      (λ there_was. (let room = kept.has_room Forward (omega (arith, ints, there_was)) in
+      absurd (omega (arith, ints, room, sign.cheap (subst (λ (r : ℤ). r <ℤ pos 0) (sym same) cheap)))))
+      (λ closed. omega (arith, ints, closed, within.cap_kept));
+}
+  where
+    same : reduced_cost q b ≡ reduced_cost q a
+    same i = (kept.same_cost i +ℤ q (tail i)) -ℤ q (head i)
+
+-- potentials that are the greatest are so still where an arc changed that was not tight, or kept its residual arcs
+pub greatest_changed : (I : Instance) (k : ℕ) (row : ArcRow) (p : ℕ → ℤ) (x : List ℤ) (z : ℤ) → (1 ≤ k) × (k ≤ length I.arcs)
+    → row.tail ≡ (slice_index_or I.arcs (k - 1) row).tail → row.head ≡ (slice_index_or I.arcs (k - 1) row).head
+    → (reduced_cost p (arc_at (reduced I).arcs (flow_index I.demand k)) ≡ pos 0 → KeepsResidualArcs (arc_at (reduced I).arcs (flow_index I.demand k)) (number_at x (flow_index I.demand k)) row z)
     → IsCertifiedFlow (reduced I) x p → AreGreatestPotentials (reduced I) x p → AreGreatestPotentials (reduced (with_row I (k - 1) row)) (slice_set x (flow_index I.demand k) z) p
-greatest_changed I k row p x z one loose certified greatest = record {
+greatest_changed I k row p x z at tail head kept certified greatest = record {
   none_above = greatest_still (reduced I) (reduced (with_row I (k - 1) row)) x (slice_set x place z) p refl certified greatest.none_above keeps;
 }
   where
     place : ℕ
     place = flow_index I.demand k
 
+    before : arc_at (reduced I).arcs place ≡ slice_index_or I.arcs (k - 1) row
+    before = row_is I k row at
+
+    -- the rule of signs at each arc after the change
+    after : (q : ℕ → ℤ) → IsCertifiedFlow (reduced (with_row I (k - 1) row)) (slice_set x place z) q → (j : ℕ) → j < length (reduced I).arcs → FollowsSign q (arc_at (slice_set (reduced I).arcs place row) j) (number_at (slice_set x place z) j)
+    after q other j lt =
+        let signs = subst (λ (arcs : List ArcRow). AllZip (FollowsSign q) arcs (slice_set x place z)) (sym (rows_changed I k row at.0)) other.signs in
+        signs_at q (slice_set (reduced I).arcs place row) (slice_set x place z) signs j (omega (arith, lt, length-set (reduced I).arcs place row))
+
+    -- at the changed arc
+    keeps_here : (q : ℕ → ℤ) → IsCertifiedFlow (reduced (with_row I (k - 1) row)) (slice_set x place z) q → place < length (reduced I).arcs → reduced_cost p (arc_at (reduced I).arcs place) ≡ pos 0 → FollowsSign q (arc_at (reduced I).arcs place) (number_at x place)
+    keeps_here q other lt tight =
+        let many = bounds_length (reduced I).arcs x certified.bounds in
+        let there = subst (λ (a : ArcRow). FollowsSign q a (number_at (slice_set x place z) place)) (get_or-set_same (reduced I).arcs place row _ lt) (after q other place lt) in
+        sign_kept q (arc_at (reduced I).arcs place) row (number_at x place) z (tail ∙ ap (λ (a : ArcRow). a.tail) (sym before)) (head ∙ ap (λ (a : ArcRow). a.head) (sym before))
+        (kept tight) (bounds_at (reduced I).arcs x certified.bounds place lt)
+        (subst (λ (y : ℤ). FollowsSign q row y) (get_or-set_same x place z (pos 0) (omega (arith, lt, many))) there)
+
     keeps : (q : ℕ → ℤ) → IsCertifiedFlow (reduced (with_row I (k - 1) row)) (slice_set x place z) q → (j : ℕ) → j < length (reduced I).arcs → reduced_cost p (arc_at (reduced I).arcs j) ≡ pos 0 → FollowsSign q (arc_at (reduced I).arcs j) (number_at x j)
     keeps q other j lt tight = elim (cases_eq j place) [
-      | inl here ↦ absurd (loose (subst (λ (i : ℕ). reduced_cost p (arc_at (reduced I).arcs i) ≡ pos 0) here tight))
-      | inr elsewhere ↦ (let signs = subst (λ (arcs : List ArcRow). AllZip (FollowsSign q) arcs (slice_set x place z)) (sym (rows_changed I k row one)) other.signs in
-          let many = length-set (reduced I).arcs place row in
-          let there = signs_at q (slice_set (reduced I).arcs place row) (slice_set x place z) signs j (omega (arith, lt, many)) in
-          subst (λ (a : ArcRow). FollowsSign q a (number_at x j)) (get_or-set_other (reduced I).arcs place j row _ elsewhere)
-          (subst (λ (y : ℤ). FollowsSign q (arc_at (slice_set (reduced I).arcs place row) j) y) (get_or-set_other x place j z (pos 0) elsewhere) there))
+      | inl here ↦ subst (λ (i : ℕ). FollowsSign q (arc_at (reduced I).arcs i) (number_at x i)) (sym here)
+          (keeps_here q other (subst (λ (i : ℕ). i < length (reduced I).arcs) here lt) (subst (λ (i : ℕ). reduced_cost p (arc_at (reduced I).arcs i) ≡ pos 0) here tight))
+      | inr elsewhere ↦ subst (λ (a : ArcRow). FollowsSign q a (number_at x j)) (get_or-set_other (reduced I).arcs place j row _ elsewhere)
+          (subst (λ (y : ℤ). FollowsSign q (arc_at (slice_set (reduced I).arcs place row) j) y) (get_or-set_other x place j z (pos 0) elsewhere) (after q other j lt))
     ]
 
 -- where an arc is more, whatever its flow

@@ -1,16 +1,16 @@
 //! Changes: an edit is made by exchanges, and then the flow is settled. What stood before can be restored.
 
-ghost use Rattle.std.specs.Prelude.{◌≡◌, ℕ, pos, ◌<◌, ◌≤◌, ◌≤ℤ◌, ◌++◌, ◌∷◌, [], ◌↔◌, IsTrue, IsOk, IsSome, None, Ok, Some, length};
+ghost use Rattle.std.specs.Prelude.{◌≡◌, ℕ, pos, ◌<◌, ◌≤◌, ◌<ℤ◌, ◌≤ℤ◌, ◌++◌, ◌∷◌, [], ◌↔◌, IsTrue, IsOk, IsSome, None, Ok, Some, length};
 ghost use Rattle.network.specs.Edited.{edited, edited_all};
 ghost use Rattle.flow_solver.specs.declared.part.Part.{Part};
 ghost use Rattle.dimacs_text.specs.Lawful.{IsNode};
 ghost use Rattle.network.specs.Flow.{IsCertifiedFlow, IsPotential, reduced_cost, total_excess};
 ghost use Rattle.network.specs.Instance.{at_node, reduced};
 ghost use Rattle.shortest_paths.specs.Push.{Pushes};
-ghost use Rattle.residual_graph.specs.Residual.{arc_at as row_at};
+ghost use Rattle.residual_graph.specs.Residual.{arc_at as row_at, number_at};
 ghost use Rattle.flow_solver.specs.Answer.{IsAnswered};
 ghost use Rattle.flow_solver.specs.TablesView.{flow_index};
-ghost use Rattle.flow_solver.specs.Edit.{AreChanges, AreMade, IsChange, IsMade, IsOfAdd, IsOfArc, IsOfSupply};
+ghost use Rattle.flow_solver.specs.Edit.{AreChanges, AreMade, IsChange, IsMade, IsOfAdd, IsOfArc, IsOfSupply, KeepsResidualArcs};
 ghost use Rattle.flow_solver.specs.Moment.{IsSized, kept_of};
 ghost use Rattle.flow_solver.specs.Part.{before_all, before_part, CanTakeBack, CanTakeBackAll, IsLogged, LeadsBack};
 
@@ -21,7 +21,7 @@ use crate::edit::{added_row, arc_of, edited_row, edited_supply, nearest, reduced
 use crate::part::{Part, part_of};
 use crate::settle::settle;
 use crate::verdict::Verdict;
-use dimacs_text::{Edit, GROUP_LIMIT};
+use dimacs_text::{ArcRow, Edit, GROUP_LIMIT};
 
 impl Tables {
     /// Makes the flow a best one, or marks the cut that shows why no flow is legal, and gives the number of pushes.
@@ -122,13 +122,32 @@ impl Tables {
         ensures kept { self.new.kept ≡ self.old.kept }
     {
         let (k, mut row) = edited_row(&self.graph.net, edit);
-        // Tight arcs alone keep potentials from being greater.
-        let stands = self.scratch.labels.standing && !self.is_tight(k);
         let before = self.flow()[k as usize - 1];
         let mut flow = nearest(&row, reduced_cost(&row, self.potentials()), before);
+        // Tight arcs alone keep potentials from being greater, by the residual arcs along them.
+        let stands = self.scratch.labels.standing && self.keeps_greatest(k, &row, flow);
         self.swap_row(k, &mut row);
         self.swap_flow(k, &mut flow);
         self.scratch.labels.standing = stands;
+    }
+
+    /// Whether no potentials can be greater than before once an arc has this row and this flow: it is not tight, or keeps
+    /// its residual arcs.
+    fn keeps_greatest(&self, k: u32, row: &ArcRow, flow: i64) -> bool
+        requires arc { (1 ≤ k) × (k ≤ length self.now.moment.instance.arcs) }
+        requires range { (v : ℕ) → IsNode self.now.moment.instance.nodes v → IsPotential (at_node self.now.moment.potentials v) }
+        ensures { IsTrue result → reduced_cost (at_node self.now.moment.potentials) (row_at (reduced self.now.moment.instance).arcs (flow_index self.now.moment.instance.demand k)) ≡ pos 0 → KeepsResidualArcs (row_at (reduced self.now.moment.instance).arcs (flow_index self.now.moment.instance.demand k)) (number_at self.now.moment.flow (flow_index self.now.moment.instance.demand k)) row.now flow }
+    {
+        !self.is_tight(k) || self.keeps_residual_arcs_along(k, row, flow)
+    }
+
+    /// Whether an arc keeps its residual arcs once it has this row and this flow.
+    fn keeps_residual_arcs_along(&self, k: u32, row: &ArcRow, flow: i64) -> bool
+        requires arc { (1 ≤ k) × (k ≤ length self.now.moment.instance.arcs) }
+        ensures { IsTrue result ↔ KeepsResidualArcs (row_at (reduced self.now.moment.instance).arcs (flow_index self.now.moment.instance.demand k)) (number_at self.now.moment.flow (flow_index self.now.moment.instance.demand k)) row.now flow }
+    {
+        let old = arc_of(&self.graph.net, u64::from(k));
+        keeps_residual_arcs(&old, self.flow()[k as usize - 1], row, flow)
     }
 
     /// Whether the reduced cost of an arc is 0 under the potentials that stand.
@@ -248,6 +267,22 @@ impl Tables {
         self.cut.bring_back();
         self.verdict = verdict;
     }
+}
+
+/// Whether each residual arc along an arc stays, at its cost, once the arc has another row and another flow.
+fn keeps_residual_arcs(old: &ArcRow, before: i64, row: &ArcRow, flow: i64) -> bool
+    ensures { IsTrue result ↔ KeepsResidualArcs old.now before row.now flow }
+{
+    row.cost == old.cost
+        && keeps_room(before, old.cap, flow, row.cap)
+        && keeps_room(old.low, before, row.low, flow)
+}
+
+/// Whether there is room between two new numbers if there was between the old ones.
+fn keeps_room(from: i64, to: i64, new_from: i64, new_to: i64) -> bool
+    ensures { IsTrue result ↔ (from <ℤ to → new_from <ℤ new_to) }
+{
+    to <= from || new_from < new_to
 }
 
 /// Makes edits that the instance accepts, one after the other, each once what it replaces is logged.

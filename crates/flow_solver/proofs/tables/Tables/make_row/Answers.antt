@@ -1,11 +1,11 @@
-use Rattle.std.proofs.Common.{◌≡◌, ◌∙◌, ◌-◌, ℤ, List, pos, Bool, true, false, not, IsTrue, ap, subst, sym, rules, slice_set, slice_index_or, w64, SFits, to_z, of_z}
+use Rattle.std.proofs.Common.{◌≡◌, ◌∙◌, ◌-◌, ℤ, List, pos, true, false, ap, subst, sym, rules, slice_set, slice_index_or, w64, SFits, to_z, of_z}
 use Rattle.std.proofs.lemmas.Int.{to_z-of_z}
 use Rattle.network.specs.Flow.{IsCertifiedFlow, reduced_cost}
 use Rattle.network.specs.Instance.{IsLawful, at_node, reduced}
-use Rattle.residual_graph.specs.Residual.{number_at}
+use Rattle.residual_graph.specs.Residual.{arc_at, number_at}
 use Rattle.flow_solver.specs.TablesView.{TablesView, flow_index}
 use Rattle.flow_solver.specs.Answer.{AreGreatestPotentials}
-use Rattle.flow_solver.specs.Edit.{IsMade, IsNearest, IsRowEdit}
+use Rattle.flow_solver.specs.Edit.{IsMade, IsNearest, IsRowEdit, KeepsResidualArcs}
 use Rattle.flow_solver.specs.Moment.{Moment}
 use Rattle.flow_solver.proofs.ChangeLemmas.{certified_changed, flow_at, with_row}
 use Rattle.flow_solver.proofs.EditRows.{row_made}
@@ -46,21 +46,19 @@ moment_is c =
     ∙ ap (λ (n : Moment). record n { flow = slice_set n.flow (flow_index n.instance.demand k) (to_z w64 (of_z w64 (after c))) }) c.swap_row.ensures.moment
     ∙ ap (λ (z : ℤ). record m { instance = J; flow = slice_set m.flow (flow_index m.instance.demand k) z }) flow
 
-not_both : (b told : Bool) → told ≡ not b → told ≡ true → IsTrue b → ⊥
-not_both true told same stands tight = (let wrong : false ≡ true = sym same ∙ stands in cc)
-not_both false told same stands tight = cc
-
 pub invariant_of-self : goal.invariant_of-self
 invariant_of-self c =
     let m = c.args.self.now.moment in
     let t = c.self-2.inside in
     let s = (goal.at.invariant_of-self c).After-swap_flow in
+    let after_fits : SFits w64 (after s) = search rules in
     let now = ap (λ (d : TablesView). d.moment) c.self-2.view_is ∙ moment_is s in
     tables_told t.graph t.flow t.potentials t.balance t.cut t.scratch t.before c.if-self.stands c.self-2.invariant (λ stands.
     elim c.if-self.branch [
       | then-self w ↦ subst (λ (n : Moment). AreGreatestPotentials (reduced n.instance) n.flow (at_node n.potentials)) (sym now)
-          (greatest_changed m.instance c.edited_row-k.result.0 c.edited_row-k.result.1 (at_node m.potentials) m.flow (after s) (edit_is s).arc.0
-          (λ tight. not_both w.is_tight.result c.if-self.stands w.stands-is stands (w.is_tight.ensures.1 tight)) c.requires.certified
+          (greatest_changed m.instance c.edited_row-k.result.0 c.edited_row-k.result.1 (at_node m.potentials) m.flow (after s) (edit_is s).arc (edit_is s).tail (edit_is s).head
+          (λ tight. subst (λ (y : ℤ). KeepsResidualArcs (arc_at (reduced m.instance).arcs (flow_index m.instance.demand c.edited_row-k.result.0)) (number_at m.flow (flow_index m.instance.demand c.edited_row-k.result.0)) c.edited_row-k.result.1 y)
+          (to_z-of_z w64 (after s) after_fits) (w.keeps_greatest-stands.ensures (sym w.stands-is ∙ stands) tight)) c.requires.certified
           (subst (λ (b : TablesView). AreGreatestPotentials (reduced b.moment.instance) b.moment.flow (at_node b.moment.potentials)) c.self.view_is (c.self.invariant.standing w.if-self.true)))
       | else-self w ↦ (let wrong : false ≡ true = sym w.if-self.false ∙ sym w.stands-is ∙ stands in cc)
     ])
