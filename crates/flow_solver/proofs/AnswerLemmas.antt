@@ -16,12 +16,13 @@ use Rattle.network.proofs.Reduction.{made, rows_of, reduced_ends, certified_is_b
 use Rattle.network.proofs.Surplus.{surplus_at_most}
 use Rattle.flow_solver.specs.declared.verdict.Verdict.{Verdict}
 use Rattle.flow_solver.specs.declared.verdict.Verdict.TheVariants.{Best, Infeasible}
-use Rattle.shortest_paths.specs.Limits.{supply_limit, cap_sum_limit, label_floor}
+use Rattle.augmentation.specs.Limits.{supply_limit, cap_sum_limit}
+use Rattle.shortest_paths.specs.Limits.{label_floor}
 use Rattle.residual_graph.specs.Limits.{entry_limit}
 use Rattle.residual_graph.specs.Residual.{IsCertified, ArePotentials, number_at, arc_at}
-use Rattle.shortest_paths.specs.Push.{AreSmall, IsExcess, AreSupplies, positive_part, left, cap_total}
-use Rattle.shortest_paths.specs.Cut.{in_set, sum_in, sum_leaving, sum_entering, lack, IsChosenSet}
-use Rattle.shortest_paths.specs.Nodes.{held}
+use Rattle.augmentation.specs.Push.{AreSmall, IsExcess, AreSupplies, positive_part, left, cap_total}
+use Rattle.augmentation.specs.Cut.{in_set, sum_in, sum_leaving, sum_entering, lack, IsChosenSet}
+use Rattle.augmentation.specs.Nodes.{held}
 use Rattle.flow_solver.specs.Answer.{IsBestMoment, IsInfeasibleMoment, IsVerdict, IsChosenBreach, IsChosenCut, IsJudged, worth_by, IsAnswered}
 use Rattle.flow_solver.specs.Balance.{IsWrappedExcess}
 use Rattle.flow_solver.specs.TablesView.{IsFlow}

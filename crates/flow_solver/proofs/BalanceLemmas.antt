@@ -15,15 +15,15 @@ use Rattle.network.specs.Flow.{flow_sum, net, total_cost, AllWithinBounds}
 use Rattle.network.specs.Instance.{Instance, IsLawful, reduced}
 use Rattle.network.proofs.IntegerAlgebra.{linear, mul-sub, neg-mul, sub-mul}
 use Rattle.network.proofs.RunningSums.{abs-add}
-use Rattle.shortest_paths.specs.Limits.{cap_sum_limit}
+use Rattle.augmentation.specs.Limits.{cap_sum_limit}
 use Rattle.residual_graph.specs.Residual.{IsFlow, IsRow, IsWithin, arc_at, number_at}
-use Rattle.shortest_paths.specs.Nodes.{held}
-use Rattle.shortest_paths.specs.Cut.{in_set}
-use Rattle.shortest_paths.specs.Push.{AreSmall, AreSupplies, IsExcess, at_node, cap_total}
+use Rattle.augmentation.specs.Nodes.{held}
+use Rattle.augmentation.specs.Cut.{in_set}
+use Rattle.augmentation.specs.Push.{AreSmall, AreSupplies, IsExcess, at_node, cap_total}
 use Rattle.flow_solver.specs.Balance.{IsCarried, IsRaised, IsWrappedCost, IsWrappedExcess, gain}
 use Rattle.flow_solver.proofs.ExcessLemmas.{AreWithinCaps, caps_of_flow, flow_in-bounds, flow_in-more, flow_out-bounds, flow_out-more, small_within}
 use Rattle.flow_solver.proofs.InstanceLemmas.{caps_of_instance, flow_of_instance, supplies_of_instance}
-use Rattle.shortest_paths.proofs.PushLemmas.{at_same, at_other}
+use Rattle.augmentation.proofs.PushLemmas.{at_same, at_other}
 
 -- ---- the table
 

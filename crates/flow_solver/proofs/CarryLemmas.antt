@@ -8,19 +8,19 @@ use Rattle.dimacs_text.specs.declared.problem.Kind.TheVariants.{Min}
 use Rattle.network.specs.Flow.{total_cost}
 use Rattle.network.specs.Instance.{Demand, Supplies, Terminals, Sides, Instance, IsLawful, kind_of, reduced, reduced_arcs, reduced_supply}
 use Rattle.flow_solver.specs.declared.balance.Balance.{Balance}
-use Rattle.flow_solver.specs.declared.tracked.Tracked.{Tracked}
+use Rattle.augmentation.specs.declared.tracked.Tracked.{Tracked}
 use Rattle.flow_solver.specs.Balance.{AreEndsIn, IsBalanceOf, IsCarried, IsRaised, IsWrappedCost, IsWrappedExcess}
-use Rattle.shortest_paths.specs.Nodes.{held}
-use Rattle.shortest_paths.specs.Push.{at_node}
+use Rattle.augmentation.specs.Nodes.{held}
+use Rattle.augmentation.specs.Push.{at_node}
 use Rattle.residual_graph.specs.Residual.{IsRow, arc_at, number_at}
 use Rattle.flow_solver.specs.TablesView.{flow_index}
-use Rattle.flow_solver.specs.Tracked.{IsTracked, kept_in}
+use Rattle.augmentation.specs.Tracked.{IsTracked, kept_in}
 use Rattle.flow_solver.proofs.BalanceLemmas.{cost_first, cost_last, cost_row, excess_first, excess_last, excess_row, excess_set, excess_supplied}
 use Rattle.flow_solver.proofs.ChangeLemmas.{place_in, row_is, rows_changed, rows_more, supplied, supply_at, with_last, with_row}
 use Rattle.flow_solver.proofs.InstanceLemmas.{rows_of_instance}
 use Rattle.residual_graph.proofs.NodeNumbers.{IsNodeOf, is_node_or_not}
-use Rattle.shortest_paths.proofs.NodeLemmas.{held_node, held_other}
-use Rattle.shortest_paths.proofs.PushLemmas.{at_other}
+use Rattle.augmentation.proofs.NodeLemmas.{held_node, held_other}
+use Rattle.augmentation.proofs.PushLemmas.{at_other}
 
 -- what each node of an instance has to send out
 abbrev pub sends : Instance → ℕ → ℤ

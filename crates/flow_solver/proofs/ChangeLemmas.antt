@@ -14,13 +14,13 @@ use Rattle.network.specs.Flow.{MinCost, AllEndsAreNodes, AllWithinBounds, Follow
 use Rattle.network.specs.Instance.{Demand, Supplies, Terminals, Sides, Instance, IsLawful, ArcFits, DemandFits, at_node, kind_of, numbered_flow, reduced, reduced_arcs, reduced_supply, with_supply}
 use Rattle.network.proofs.Reduction.{reduced_ends}
 use Rattle.residual_graph.specs.Residual.{number_at, arc_at}
-use Rattle.shortest_paths.specs.Push.{IsExcess, IsTransfer, at_node as at_one, left}
-use Rattle.shortest_paths.specs.Nodes.{table, held}
+use Rattle.augmentation.specs.Push.{IsExcess, IsTransfer, at_node as at_one, left}
+use Rattle.augmentation.specs.Nodes.{table, held}
 use Rattle.flow_solver.specs.Edit.{IsNearest}
 use Rattle.flow_solver.specs.TablesView.{flow_index, supplies_in}
 use Rattle.residual_graph.proofs.NodeNumbers.{IsNodeOf, is_node_or_not}
-use Rattle.shortest_paths.proofs.NodeLemmas.{length-table, table_at, held_node, held_other, net-none}
-use Rattle.shortest_paths.proofs.PushLemmas.{at_same, at_other}
+use Rattle.augmentation.proofs.NodeLemmas.{length-table, table_at, held_node, held_other, net-none}
+use Rattle.augmentation.proofs.PushLemmas.{at_same, at_other}
 use Rattle.flow_solver.proofs.ExcessLemmas.{left-gain, at_node_bounds}
 use Rattle.flow_solver.proofs.BalanceLemmas.{net-push, net-set, net-set_row}
 use Rattle.flow_solver.proofs.PushLaws.{left_is}

@@ -4,10 +4,10 @@ use Rattle.std.proofs.lemmas.Int.{ints}
 use Rattle.dimacs_text.specs.declared.problem.ArcRow.{ArcRow}
 use Rattle.network.specs.Flow.{MinCost, IsNode, AllEndsAreNodes, nodes_sum, arcs_sum, supply_of, crosses, outside, surplus_of, shortfall_of, IsLeastGreatestSurplus, IsLeastGreatestShortfall}
 use Rattle.network.proofs.Sums.{nodes_sum-same}
-use Rattle.shortest_paths.specs.Cut.{in_set, sum_in, sum_leaving, sum_entering, surplus, shortfall, IsLeastSet}
-use Rattle.shortest_paths.specs.Nodes.{table, held}
+use Rattle.augmentation.specs.Cut.{in_set, sum_in, sum_leaving, sum_entering, surplus, shortfall, IsLeastSet}
+use Rattle.augmentation.specs.Nodes.{table, held}
 use Rattle.residual_graph.proofs.NodeNumbers.{AllEndsIn}
-use Rattle.shortest_paths.proofs.NodeLemmas.{length-table, table_at, held_node, sum_in-marked}
+use Rattle.augmentation.proofs.NodeLemmas.{length-table, table_at, held_node, sum_in-marked}
 
 leaving_is : (set : List Bool) (f : ArcRow → ℤ) (arcs : List ArcRow) → sum_leaving set f arcs ≡ arcs_sum (λ arc. cond (crosses (in_set set) (outside (in_set set)) arc) (f arc) (pos 0)) arcs
 leaving_is set f [] = refl

@@ -1,5 +1,5 @@
 -- How large an excess can be, and how it follows from the flow arc by arc.
-use Rattle.shortest_paths.specs.Limits.{cap_sum_limit}
+use Rattle.augmentation.specs.Limits.{cap_sum_limit}
 use Rattle.std.proofs.Common.{◌≡◌, ℕ, zero, suc, ◌+◌, ◌<◌, ◌≤◌, ℤ, pos, negsuc, ◌+ℤ◌, ◌≤ℤ◌, List, [], ◌∷◌, length, take, add-one, refl, sym, subst, ◌∙◌, inl, inr, arith, Bool, true, false, cond, eqb}
 use Rattle.std.proofs.lemmas.Int.{ints}
 use Rattle.std.proofs.lemmas.Bool.{cases_eq}
@@ -7,8 +7,8 @@ use Rattle.std.proofs.lemmas.List.Sums.{sum_by-cons}
 use Rattle.dimacs_text.specs.declared.problem.ArcRow.{ArcRow}
 use Rattle.residual_graph.specs.Residual.{IsFlow, number_at, arc_at}
 use Rattle.network.specs.Flow.{outflow, inflow}
-use Rattle.shortest_paths.specs.Push.{IsExcess, at_node, AreSmall, positive_part, left, cap_total, AreSupplies}
-use Rattle.shortest_paths.proofs.PushLemmas.{at_same, at_other}
+use Rattle.augmentation.specs.Push.{IsExcess, at_node, AreSmall, positive_part, left, cap_total, AreSupplies}
+use Rattle.augmentation.proofs.PushLemmas.{at_same, at_other}
 
 pub at_node_bounds : (u : ℕ) (m : ℤ) (v : ℕ) → pos 0 ≤ℤ m → (pos 0 ≤ℤ at_node u m v) × (at_node u m v ≤ℤ m)
 at_node_bounds u m v h = by_test (eqb u v)

@@ -6,8 +6,8 @@ use Rattle.dimacs_text.specs.declared.problem.ArcRow.{ArcRow}
 use Rattle.network.specs.Flow.{MinCost, IsNode, AllEndsAreNodes, AllWithinBounds, FollowsSign, IsCertifiedFlow, IsGreatestPotential, IsPotential, reduced_cost}
 use Rattle.residual_graph.specs.declared.residual.Way.TheVariants.{Forward, Backward}
 use Rattle.residual_graph.specs.Residual.{IsWithin, NoneBelowBy, IsCertified, KeepsSigns, AreGreatest, number_at, arc_at}
-use Rattle.shortest_paths.specs.Nodes.{held}
-use Rattle.shortest_paths.proofs.NodeLemmas.{held_node, held_at_most_0}
+use Rattle.augmentation.specs.Nodes.{held}
+use Rattle.augmentation.proofs.NodeLemmas.{held_node, held_at_most_0}
 use Rattle.flow_solver.proofs.SignLemmas.{signs_from_none_below}
 
 pub bounds_from : (arcs : List ArcRow) (x : List ℤ) → length x ≡ length arcs → ((k : ℕ) → k < length arcs → IsWithin (arc_at arcs k) (number_at x k)) → AllWithinBounds arcs x

@@ -14,12 +14,13 @@ use Rattle.flow_solver.specs.Moment.{start}
 use Rattle.network.specs.Instance.{Demand, Supplies, Terminals, Sides, Instance, IsLawful, ArcFits, DemandFits, at_node, is_marked, return_arc, reduced, reduced_arcs, reduced_supply}
 use Rattle.network.proofs.Reduction.{rows_of, reduced_ends}
 use Rattle.residual_graph.specs.Limits.{entry_limit, row_limit}
-use Rattle.shortest_paths.specs.Limits.{cap_sum_limit, supply_limit, label_floor}
+use Rattle.augmentation.specs.Limits.{cap_sum_limit, supply_limit}
+use Rattle.shortest_paths.specs.Limits.{label_floor}
 use Rattle.residual_graph.specs.Residual.{IsRow, IsFlow, IsCertified, ArePotentials, number_at, arc_at}
-use Rattle.shortest_paths.specs.Push.{AreSupplies, positive_part, cap_total}
-use Rattle.shortest_paths.specs.Nodes.{held, IsIdleEntry}
+use Rattle.augmentation.specs.Push.{AreSupplies, positive_part, cap_total}
+use Rattle.augmentation.specs.Nodes.{held, IsIdleEntry}
 use Rattle.residual_graph.proofs.NodeNumbers.{IsNodeOf, is_node_or_not}
-use Rattle.shortest_paths.proofs.NodeLemmas.{held_node, held_other}
+use Rattle.augmentation.proofs.NodeLemmas.{held_node, held_other}
 use Rattle.flow_solver.proofs.FlowLaws.{bounds_length, bounds_at, none_below_of}
 
 -- an arc of the instance is a row of the tables

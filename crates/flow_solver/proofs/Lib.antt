@@ -1,5 +1,4 @@
 pub mod ExcessLemmas
-pub mod SideLaws
 pub mod SignLemmas
 pub mod FlowLaws
 pub mod CutLaws
@@ -9,12 +8,9 @@ pub mod AnswerLemmas
 pub mod ChangeLemmas
 pub mod EditRows
 pub mod PartLemmas
-pub mod NotedLemmas
 pub mod TablesViewLemmas
 pub mod BalanceLemmas
 pub mod CarryLemmas
-pub mod LabelLaws
-pub mod TrackedLemmas
 pub mod GroupLemmas
 pub mod LogLemmas
 pub mod StandingLemmas

@@ -6,12 +6,12 @@ use Rattle.dimacs_text.specs.declared.problem.ArcRow.{ArcRow}
 use Rattle.network.specs.Flow.{MinCost, IsNode, AllEndsAreNodes, IsLegalFlow, AllWithinBounds, nodes_sum, net, excess, total_excess}
 use Rattle.network.specs.Flow as flow
 use Rattle.residual_graph.specs.Residual.{number_at}
-use Rattle.shortest_paths.specs.Push.{IsExcess, IsPush, Pushes, positive_part, left}
-use Rattle.shortest_paths.specs.Cut.{lack}
-use Rattle.shortest_paths.specs.Nodes.{held}
-use Rattle.shortest_paths.proofs.CutLemmas.{none_above, lack-none}
+use Rattle.augmentation.specs.Push.{IsExcess, IsPush, Pushes, positive_part, left}
+use Rattle.augmentation.specs.Cut.{lack}
+use Rattle.augmentation.specs.Nodes.{held}
+use Rattle.augmentation.proofs.CutLemmas.{none_above, lack-none}
 use Rattle.residual_graph.proofs.NodeNumbers.{AllEndsIn, is_node_or_not}
-use Rattle.shortest_paths.proofs.NodeLemmas.{held_node, held_other, net-none, nodes_sum-first}
+use Rattle.augmentation.proofs.NodeLemmas.{held_node, held_other, net-none, nodes_sum-first}
 
 -- ---- pushes
 

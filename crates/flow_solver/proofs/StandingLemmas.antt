@@ -12,15 +12,15 @@ use Rattle.network.specs.Flow.{MinCost, AllWithinBounds, FollowsSign, IsCertifie
 use Rattle.network.specs.Instance.{ArcFits, Instance, IsLawful, arc_at as number_at_arc, at_node, reduced}
 use Rattle.network.proofs.Reduction.{reduced_ends}
 use Rattle.residual_graph.specs.declared.graph.Graph.{Graph}
-use Rattle.shortest_paths.specs.declared.scratch.Scratch.{Scratch}
+use Rattle.augmentation.specs.declared.scratch.Scratch.{Scratch}
 use Rattle.residual_graph.specs.Residual.{AreGreatest, IsWithin, number_at, arc_at, room_of}
 use Rattle.residual_graph.specs.declared.residual.Way.{Way}
 use Rattle.residual_graph.specs.declared.residual.Way.TheVariants.{Backward, Forward}
-use Rattle.shortest_paths.specs.Scratch.{IsScratchFor}
+use Rattle.augmentation.specs.Scratch.{IsScratchFor}
 use Rattle.residual_graph.specs.Walk.{AreRowsOf}
 use Rattle.flow_solver.specs.Answer.{AreGreatestPotentials}
 use Rattle.flow_solver.specs.declared.balance.Balance.{Balance}
-use Rattle.flow_solver.specs.declared.tracked.Tracked.{Tracked}
+use Rattle.augmentation.specs.declared.tracked.Tracked.{Tracked}
 use Rattle.flow_solver.specs.declared.part.Before.{Before}
 use Rattle.flow_solver.specs.Edit.{KeepsResidualArcs}
 use Rattle.flow_solver.specs.TablesView.{flow_index}

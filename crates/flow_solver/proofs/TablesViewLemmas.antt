@@ -6,24 +6,24 @@ use Rattle.dimacs_text.specs.declared.problem.ArcRow.{ArcRow}
 use Rattle.network.specs.Instance.{Demand, Supplies, Terminals, Sides, Instance, at_node, numbered_flow, reduced, with_supply}
 use Rattle.flow_solver.specs.declared.balance.Balance.{Balance}
 use Rattle.residual_graph.specs.declared.graph.Graph.{Graph}
-use Rattle.flow_solver.specs.declared.tracked.Tracked.{Tracked}
+use Rattle.augmentation.specs.declared.tracked.Tracked.{Tracked}
 use Rattle.flow_solver.specs.declared.part.Before.{Before}
 use Rattle.flow_solver.specs.declared.part.Part.{Part}
 use Rattle.flow_solver.specs.declared.part.Part.TheVariants.{Arc, Supply, Last, Gone}
-use Rattle.shortest_paths.specs.declared.scratch.Scratch.{Scratch}
+use Rattle.augmentation.specs.declared.scratch.Scratch.{Scratch}
 use Rattle.flow_solver.specs.declared.verdict.Verdict.{Verdict}
 use Rattle.flow_solver.specs.Answer.{AreGreatestPotentials}
 use Rattle.flow_solver.specs.Balance.{IsBalanceOf}
-use Rattle.flow_solver.specs.TablesView.{NameChanges}
+use Rattle.augmentation.specs.Touched.{NameChanges}
 use Rattle.flow_solver.specs.Moment.{IsSized, Snapshot, Moment, kept_of}
 use Rattle.flow_solver.specs.Tables.{AreTables, IsOfNodes}
 use Rattle.residual_graph.specs.Graph.{IsGraphFor}
-use Rattle.shortest_paths.specs.Nodes.{IsIdleEntry}
+use Rattle.augmentation.specs.Nodes.{IsIdleEntry}
 use Rattle.flow_solver.specs.Part.{before_all, before_of, return_count}
-use Rattle.shortest_paths.specs.Scratch.{IsScratchFor}
-use Rattle.flow_solver.specs.Tracked.{IsTracked, IsWritten, kept_in}
+use Rattle.augmentation.specs.Scratch.{IsScratchFor}
+use Rattle.augmentation.specs.Tracked.{IsTracked, IsWritten, kept_in}
 use Rattle.residual_graph.specs.Walk.{AreRowsOf}
-use Rattle.flow_solver.proofs.TrackedLemmas.{named_after_first}
+use Rattle.augmentation.proofs.TrackedLemmas.{named_after_first}
 
 module _ {T : Type 0} where
   -- a write leaves what was kept

@@ -7,8 +7,8 @@ use Rattle.flow_solver.specs.declared.verdict.Verdict.{Verdict}
 use Rattle.flow_solver.specs.declared.verdict.Verdict.TheVariants.{Best, Infeasible}
 use Rattle.flow_solver.specs.Moment.{IsSized, Moment}
 use Rattle.residual_graph.specs.Residual.{number_at}
-use Rattle.shortest_paths.specs.Push.{left}
-use Rattle.shortest_paths.specs.Cut.{lack}
+use Rattle.augmentation.specs.Push.{left}
+use Rattle.augmentation.specs.Cut.{lack}
 
 -- the numbered arcs of a flow of the reduced instance carry a best flow of this worth, the return arc what the source sends out, and no node is marked
 pub record IsBestMoment (I : Instance) (flow : List ℤ) (set : ℕ → Bool) (w : ℤ) : Type 0 where

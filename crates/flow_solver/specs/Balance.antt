@@ -6,9 +6,9 @@ use Rattle.network.specs.Flow.{net, total_cost}
 use Rattle.residual_graph.specs.Residual.{arc_at, number_at}
 use Rattle.network.specs.Instance.{Instance, reduced}
 use Rattle.flow_solver.specs.declared.balance.Balance.{Balance}
-use Rattle.flow_solver.specs.declared.tracked.Tracked.{Tracked}
-use Rattle.shortest_paths.specs.Nodes.{held}
-use Rattle.shortest_paths.specs.Push.{at_node}
+use Rattle.augmentation.specs.declared.tracked.Tracked.{Tracked}
+use Rattle.augmentation.specs.Nodes.{held}
+use Rattle.augmentation.specs.Push.{at_node}
 
 -- e holds the numbers as they wrap
 abbrev pub AreWrapped : (ℕ → ℤ) → List ℤ → Type 0

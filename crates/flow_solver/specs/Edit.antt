@@ -11,7 +11,7 @@ use Rattle.dimacs_text.specs.declared.command.Edit.{Edit}
 use Rattle.dimacs_text.specs.declared.command.Edit.TheVariants.{Cap, Low, Cost, Supply, Add, Close}
 use Rattle.residual_graph.specs.Residual.{number_at, room_of, IsWithin}
 use Rattle.residual_graph.specs.declared.residual.Way.{Way}
-use Rattle.shortest_paths.specs.Push.{Pushes}
+use Rattle.augmentation.specs.Push.{Pushes}
 use Rattle.flow_solver.specs.TablesView.{flow_index}
 
 -- z is the flow nearest to x that the bounds of the arc and the sign of its reduced cost allow

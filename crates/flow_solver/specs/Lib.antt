@@ -5,7 +5,5 @@ pub mod TablesView
 pub mod Part
 pub mod Tables
 pub mod Balance
-pub mod Tracked
-pub mod Settle
-pub use Rattle.shortest_paths.specs.Push
-pub use Rattle.shortest_paths.specs.Touched
+pub use Rattle.augmentation.specs.Push
+pub use Rattle.augmentation.specs.Touched

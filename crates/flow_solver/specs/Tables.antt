@@ -3,17 +3,17 @@ use Rattle.std.specs.Prelude.{◌≡◌, ℕ, ◌+◌, ◌≤◌, ℤ, Bool, tru
 use Rattle.dimacs_text.specs.declared.group.TheConstants.{GROUP_LIMIT}
 use Rattle.network.specs.Instance.{at_node, reduced}
 use Rattle.residual_graph.specs.declared.graph.Graph.{Graph}
-use Rattle.shortest_paths.specs.declared.scratch.Scratch.{Scratch}
+use Rattle.augmentation.specs.declared.scratch.Scratch.{Scratch}
 use Rattle.residual_graph.specs.Graph.{IsGraphFor}
-use Rattle.shortest_paths.specs.Nodes.{IsIdleEntry}
-use Rattle.shortest_paths.specs.Scratch.{IsScratchFor}
+use Rattle.augmentation.specs.Nodes.{IsIdleEntry}
+use Rattle.augmentation.specs.Scratch.{IsScratchFor}
 use Rattle.flow_solver.specs.declared.balance.Balance.{Balance}
-use Rattle.flow_solver.specs.declared.tracked.Tracked.{Tracked}
+use Rattle.augmentation.specs.declared.tracked.Tracked.{Tracked}
 use Rattle.flow_solver.specs.declared.part.Before.{Before}
 use Rattle.flow_solver.specs.declared.part.Part.{Part}
 use Rattle.flow_solver.specs.Answer.{AreGreatestPotentials}
 use Rattle.flow_solver.specs.Balance.{IsBalanceOf}
-use Rattle.flow_solver.specs.Tracked.{IsTracked, kept_in}
+use Rattle.augmentation.specs.Tracked.{IsTracked, kept_in}
 use Rattle.flow_solver.specs.Moment.{Snapshot}
 use Rattle.flow_solver.specs.Part.{IsKept}
 

@@ -1,11 +1,10 @@
 -- What contracts see of the tables: the moment that they hold, and after a change the one that stood before it.
-use Rattle.std.specs.Prelude.{◌≡◌, ℕ, ◌+◌, ◌-◌, ◌<◌, ◌≤◌, ◌⊎◌, Any, ℤ, pos, ◌≤ℤ◌, List, [], length, Option, slice_index_or}
+use Rattle.std.specs.Prelude.{◌≡◌, ℕ, ◌-◌, ◌≤◌, ℤ, pos, ◌≤ℤ◌, List, [], length, Option, slice_index_or}
 use Rattle.dimacs_text.specs.declared.problem.ArcRow.{ArcRow}
 use Rattle.dimacs_text.specs.declared.problem.TheConstants.{CAP_LIMIT}
 use Rattle.dimacs_text.specs.Lawful.{IsLawfulRow}
 use Rattle.network.specs.Instance.{Demand, Supplies, Terminals, Sides, Instance, ArcFits}
 use Rattle.flow_solver.specs.Moment.{Snapshot, Moment}
-use Rattle.shortest_paths.specs.Touched.{AgreeAt}
 
 pub record TablesView : Type 0 where
   pub moment : Moment
@@ -36,7 +35,3 @@ abbrev pub supplies_in : Demand → List ℤ
 supplies_in (Supplies supplies) = supplies
 supplies_in (Terminals source sink) = []
 supplies_in (Sides marks) = []
-
--- the places name each one at which the lists differ, of those that the first list has; its first entry has place `first`
-abbrev pub NameChanges : {T : Type 0} → ℕ → List ℕ → List T → List T → Type 0
-NameChanges first places xs ys = (k : ℕ) → k < length xs → Any (λ p. p ≡ k + first) places ⊎ AgreeAt xs ys k

@@ -4,16 +4,16 @@ ghost use Rattle.std.specs.Prelude.{◌≡◌, ◌^◌, ◌<◌, ◌≤◌, leng
 ghost use Rattle.network.specs.Flow.{AllWithinBounds};
 ghost use Rattle.network.specs.Instance.{reduced, IsLawful};
 ghost use Rattle.residual_graph.specs.Limits.{entry_limit};
-ghost use Rattle.shortest_paths.specs.Push.{AreSmall, left, positive_part};
-ghost use Rattle.shortest_paths.specs.Cut.{lack};
-ghost use Rattle.shortest_paths.specs.Nodes.{held};
-ghost use Rattle.flow_solver.specs.Tracked.{IsTracked};
+ghost use Rattle.augmentation.specs.Push.{AreSmall, left, positive_part};
+ghost use Rattle.augmentation.specs.Cut.{lack};
+ghost use Rattle.augmentation.specs.Nodes.{held};
+ghost use Rattle.augmentation.specs.Tracked.{IsTracked};
 ghost use Rattle.flow_solver.specs.Balance.{IsWrappedCost};
 ghost use Rattle.flow_solver.specs.Answer.{IsJudged, worth_by};
 
 use crate::balance::{Balance, cost_now};
-use crate::tracked::Tracked;
 use crate::verdict::Verdict;
+use augmentation::Tracked;
 use dimacs_text::ArcRow;
 use network::Network;
 

@@ -5,12 +5,12 @@ ghost use Rattle.std.specs.Int.{int_wrap, w128};
 ghost use Rattle.network.specs.Instance.{reduced};
 ghost use Rattle.residual_graph.specs.Limits.{entry_limit};
 ghost use Rattle.residual_graph.specs.Residual.{arc_at, number_at};
-ghost use Rattle.shortest_paths.specs.Nodes.{held};
-ghost use Rattle.flow_solver.specs.Tracked.{IsTracked};
+ghost use Rattle.augmentation.specs.Nodes.{held};
+ghost use Rattle.augmentation.specs.Tracked.{IsTracked};
 ghost use Rattle.flow_solver.specs.Balance.{AreEndsIn, AreWrapped, IsCarried, IsRaised, IsWrappedCost, IsWrappedExcess};
 
 use crate::answer::supply_at;
-use crate::tracked::Tracked;
+use augmentation::Tracked;
 use dimacs_text::ArcRow;
 use network::Network;
 use std::alloc::{AllocError, Global};

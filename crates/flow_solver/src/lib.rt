@@ -6,12 +6,10 @@ mod answer;
 mod balance;
 mod edit;
 mod part;
-mod potentials;
 mod settle;
 mod start;
 mod swaps;
 mod tables;
-mod tracked;
 mod verdict;
 
 pub use part::Part;

@@ -4,11 +4,11 @@ ghost use Rattle.std.specs.Prelude.{◌≡◌, ◌-◌, ◌<◌, ◌≤◌, drop
 ghost use Rattle.network.specs.Instance.{IsLawful, reduced};
 ghost use Rattle.flow_solver.specs.Balance.{IsBalanceOf};
 ghost use Rattle.flow_solver.specs.Moment.{VerdictFits, with_return};
-ghost use Rattle.flow_solver.specs.Tracked.{IsTracked, IsWritten};
+ghost use Rattle.augmentation.specs.Tracked.{IsTracked, IsWritten};
 
 use crate::balance::{Balance, carry_over};
-use crate::tracked::Tracked;
 use crate::verdict::Verdict;
+use augmentation::Tracked;
 use dimacs_text::ArcRow;
 use network::Network;
 

@@ -7,19 +7,18 @@ ghost use Rattle.std.specs.Prelude.{◌≡◌, ◌≢◌, AllPairs, ◌≤◌, I
 ghost use Rattle.dimacs_text.specs.Lawful.{IsNode};
 ghost use Rattle.network.specs.Flow.{IsCertifiedFlow};
 ghost use Rattle.network.specs.Instance.{arc_at, at_node, numbered_flow, reduced, reduced_supply};
-ghost use Rattle.flow_solver.specs.TablesView.{NameChanges};
+ghost use Rattle.augmentation.specs.Touched.{NameChanges};
 ghost use Rattle.flow_solver.specs.Moment.{IsStart};
 ghost use Rattle.flow_solver.specs.Part.{return_count};
 
 use crate::balance::Balance;
 use crate::part::{Before, return_count, row_before, supply_before};
 use crate::start::start_flow;
-use crate::tracked::Tracked;
 use crate::verdict::Verdict;
+use augmentation::{Scratch, Tracked};
 use dimacs_text::{ArcRow, GROUP_LIMIT, NODE_LIMIT};
 use network::Network;
 use residual_graph::Graph;
-use shortest_paths::Scratch;
 use std::alloc::{AllocError, Global};
 use std::marker::Model;
 

@@ -12,8 +12,7 @@ use Rattle.std.proofs.lemmas.List.Quantifiers.{Any-push, all_pairs_push}
 use Rattle.std.proofs.lemmas.List.Sorted.{All-permutation, Contains-permutation, IsNonDecreasingBy-from_sort}
 use Rattle.std.proofs.lemmas.Map.Keys.{IsDistinct-IsPermutation, IsStrictlyIncreasing-from_distinct}
 use Rattle.std.proofs.lemmas.Map.Made.{IsDistinct-from_AllPairs}
-use Rattle.flow_solver.specs.TablesView.{NameChanges}
-use Rattle.flow_solver.specs.Touched.{AgreeAt}
+use Rattle.flow_solver.specs.Touched.{NameChanges, AgreeAt}
 use Rattle.session.specs.Places.{AreFound, DifferAt}
 use Rattle.session.proofs.Found.{found_to, found_more}
 

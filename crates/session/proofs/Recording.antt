@@ -11,7 +11,8 @@ use Rattle.network.proofs.Answering.{potentials_from}
 use Rattle.flow_solver.specs.declared.verdict.Verdict.{Verdict}
 use Rattle.flow_solver.specs.Moment.{Moment, VerdictFits, returned}
 use Rattle.flow_solver.specs.Answer.{IsAnswered}
-use Rattle.flow_solver.specs.TablesView.{IsFlow, NameChanges, supplies_in}
+use Rattle.flow_solver.specs.Touched.{NameChanges}
+use Rattle.flow_solver.specs.TablesView.{IsFlow, supplies_in}
 use Rattle.flow_solver.specs.Part.{return_count}
 use Rattle.flow_solver.proofs.AnswerLemmas.{verdict_fits, flow_told, flows_within}
 use Rattle.flow_solver.specs.declared.part.Part.{Part}

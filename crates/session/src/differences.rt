@@ -2,8 +2,7 @@
 
 ghost use Rattle.std.specs.Prelude.{◌≡◌, ◌≢◌, ℕ, ◌+◌, ◌<◌, ◌≤◌, ◌^◌, All, AllPairs, IfOk, MatchOption, length};
 ghost use Rattle.std.specs.Bool.{Decides};
-ghost use Rattle.flow_solver.specs.TablesView.{NameChanges};
-ghost use Rattle.flow_solver.specs.Touched.{AgreeAt};
+ghost use Rattle.flow_solver.specs.Touched.{NameChanges, AgreeAt};
 ghost use Rattle.session.specs.Places.{AreFound, DifferAt};
 
 use std::alloc::{AllocError, Allocator};

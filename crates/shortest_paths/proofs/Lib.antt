@@ -1,15 +1,6 @@
 pub mod SearchLemmas
 pub mod RunLemmas
-pub mod PushLemmas
-pub mod BlockingLemmas
-pub mod FirstWalk
-pub mod SettleLemmas
-pub mod CutLemmas
 pub mod HeapLemmas
 pub mod QueueLemmas
-pub mod NodeLemmas
 pub mod LabelLemmas
 pub mod SettledOrderLemmas
-pub mod TouchedLemmas
-pub mod ApartLemmas
-pub mod TurnLemmas

@@ -1,15 +1,7 @@
 pub mod Limits
-pub mod Nodes
 pub mod Search
-pub mod Push
-pub mod Settle
-pub mod Cut
-pub mod Touched
 pub mod Heap
 pub mod Queue
+pub mod NodeLists
 pub mod SettledOrder
 pub mod Labels
-pub mod Scratch
-pub mod Blocking
-pub mod NodeLists
-pub mod Turn

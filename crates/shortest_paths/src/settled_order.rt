@@ -1,6 +1,6 @@
 //! The nodes that a search settled, and how it forgets those that it reached.
 
-ghost use Rattle.std.specs.Prelude.{◌≡◌, ℕ, ◌<◌, ◌+◌, false, length, IfOk};
+ghost use Rattle.std.specs.Prelude.{◌≡◌, ℕ, ◌<◌, ◌+◌, false, length, IfOk, ◌≤◌, slice_index, slice_set};
 ghost use Rattle.residual_graph.specs.Limits.{entry_limit};
 
 use crate::node_label::{NodeLabel, State};
@@ -40,7 +40,6 @@ impl SettledOrder {
     }
 }
 
-ghost use Rattle.std.specs.Prelude.{◌≤◌, slice_index, slice_set};
 ghost use Rattle.shortest_paths.specs.SettledOrder.{HoldReached, IsFresh};
 
 /// Forgets each node that a search reached: the settled ones, which the settled order lists, and the open ones, which are in

@@ -1,5 +1,5 @@
 use Rattle.std.proofs.Common.{◌≡◌, take}
-use Rattle.shortest_paths.specs.Cut.{lack}
+use Rattle.augmentation.specs.Cut.{lack}
 use Rattle.flow_solver.proofs.answer.sum_deficit.Given as goal
 
 abbrev pub invariant-loop-e : goal.invariant-loop-e

@@ -2,8 +2,8 @@ use Rattle.std.proofs.Common.{◌≡◌, w64, to_z, of_z, ap, ◌+◌, ◌<◌, 
 use Rattle.std.proofs.lemmas.List.Sums.{sum_by_more_le}
 use Rattle.std.proofs.lemmas.Int.{ints}
 use Rattle.residual_graph.specs.Residual.{number_at}
-use Rattle.shortest_paths.specs.Push.{positive_part}
-use Rattle.shortest_paths.proofs.SettleLemmas.{left-small}
+use Rattle.augmentation.specs.Push.{positive_part}
+use Rattle.augmentation.proofs.SettleLemmas.{left-small}
 use Rattle.flow_solver.proofs.answer.sum_excess.Goals as goal
 
 pub overflow_add-sum : goal.overflow_add-sum

@@ -1,5 +1,5 @@
 use Rattle.std.proofs.Common.{◌≡◌, take}
-use Rattle.shortest_paths.specs.Push.{left}
+use Rattle.augmentation.specs.Push.{left}
 use Rattle.flow_solver.proofs.answer.sum_excess.Given as goal
 
 abbrev pub invariant-loop-e : goal.invariant-loop-e

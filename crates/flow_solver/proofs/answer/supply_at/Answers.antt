@@ -2,7 +2,7 @@ use Rattle.std.proofs.Common.{◌∙◌, inl, inr, sym, rules, w64, SFits}
 use Rattle.std.proofs.lemmas.Int.{to_z-of_z}
 use Rattle.network.specs.Instance.{reduced}
 use Rattle.residual_graph.proofs.NodeNumbers.{is_node_or_not}
-use Rattle.shortest_paths.proofs.NodeLemmas.{held_node, held_other}
+use Rattle.augmentation.proofs.NodeLemmas.{held_node, held_other}
 use Rattle.flow_solver.proofs.answer.supply_at.Goals as goal
 
 pub returns-in-Some : goal.returns-in-Some

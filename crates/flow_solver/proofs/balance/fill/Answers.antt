@@ -2,7 +2,7 @@ use Rattle.std.proofs.Common.{ℤ, pos, subst, w64, SFits, rules}
 use Rattle.std.proofs.lemmas.Int.{to_z-of_z}
 use Rattle.network.specs.Instance.{reduced}
 use Rattle.residual_graph.specs.Residual.{arc_at, number_at}
-use Rattle.shortest_paths.specs.Nodes.{held}
+use Rattle.augmentation.specs.Nodes.{held}
 use Rattle.flow_solver.specs.Balance.{IsCarried}
 use Rattle.flow_solver.proofs.BalanceLemmas.{wrapped_excess_more}
 use Rattle.flow_solver.proofs.balance.fill.Goals as goal

@@ -1,6 +1,6 @@
 use Rattle.std.proofs.Common.{take}
 use Rattle.network.specs.Instance.{reduced}
-use Rattle.shortest_paths.specs.Nodes.{held}
+use Rattle.augmentation.specs.Nodes.{held}
 use Rattle.flow_solver.specs.Balance.{IsWrappedExcess}
 use Rattle.flow_solver.proofs.balance.fill.Given as goal
 

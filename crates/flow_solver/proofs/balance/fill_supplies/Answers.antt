@@ -4,7 +4,7 @@ use Rattle.std.proofs.lemmas.Int.{int_wrap_fits}
 use Rattle.std.proofs.lemmas.Bool.{cases_lt}
 use Rattle.std.proofs.lemmas.List.{get_or_past}
 use Rattle.network.specs.Instance.{reduced}
-use Rattle.shortest_paths.proofs.NodeLemmas.{held_other}
+use Rattle.augmentation.proofs.NodeLemmas.{held_other}
 use Rattle.flow_solver.proofs.balance.fill_supplies.Goals as goal
 
 pub returns : goal.returns

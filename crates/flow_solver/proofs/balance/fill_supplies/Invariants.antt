@@ -2,7 +2,7 @@ use Rattle.std.proofs.Common.{◌≡◌, ℕ, ◌<◌, w64}
 use Rattle.std.specs.Int.{int_wrap}
 use Rattle.network.specs.Instance.{reduced}
 use Rattle.residual_graph.specs.Residual.{number_at}
-use Rattle.shortest_paths.specs.Nodes.{held}
+use Rattle.augmentation.specs.Nodes.{held}
 use Rattle.flow_solver.proofs.balance.fill_supplies.Given as goal
 
 abbrev pub invariant-loop-v : goal.invariant-loop-v

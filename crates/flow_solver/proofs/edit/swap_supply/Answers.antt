@@ -1,7 +1,7 @@
 use Rattle.std.proofs.Common.{◌∙◌, w64, SFits, rules}
 use Rattle.std.proofs.lemmas.Int.{to_z-of_z}
 use Rattle.network.specs.Instance.{reduced}
-use Rattle.shortest_paths.proofs.NodeLemmas.{held_node}
+use Rattle.augmentation.proofs.NodeLemmas.{held_node}
 use Rattle.flow_solver.proofs.ChangeLemmas.{supply_entry}
 use Rattle.flow_solver.proofs.edit.swap_supply.Goals as goal
 

@@ -6,7 +6,7 @@ use Rattle.network.specs.Edited.{edited}
 use Rattle.network.specs.Instance.{arc_at, reduced}
 use Rattle.flow_solver.specs.declared.part.Part.TheVariants.{Last}
 use Rattle.flow_solver.specs.Part.{TakesBack}
-use Rattle.shortest_paths.proofs.NodeLemmas.{held_node}
+use Rattle.augmentation.proofs.NodeLemmas.{held_node}
 use Rattle.flow_solver.proofs.EditRows.{add_edit}
 use Rattle.flow_solver.proofs.PartLemmas.{row_back, supply_back, add_back}
 use Rattle.flow_solver.proofs.part.part_of.Goals as goal

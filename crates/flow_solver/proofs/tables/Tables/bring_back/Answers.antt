@@ -4,8 +4,8 @@ use Rattle.dimacs_text.specs.declared.problem.ArcRow.{ArcRow}
 use Rattle.network.specs.Instance.{reduced}
 use Rattle.flow_solver.specs.Balance.{IsWrappedExcess}
 use Rattle.flow_solver.specs.TablesView.{TablesView}
-use Rattle.shortest_paths.specs.Nodes.{IsIdleEntry}
-use Rattle.flow_solver.specs.Tracked.{kept_in}
+use Rattle.augmentation.specs.Nodes.{IsIdleEntry}
+use Rattle.augmentation.specs.Tracked.{kept_in}
 use Rattle.flow_solver.proofs.CarryLemmas.{balance_back, sends}
 use Rattle.flow_solver.proofs.TablesViewLemmas.{length_kept, nodes_alike}
 use Rattle.flow_solver.proofs.StandingLemmas.{scratch_told}

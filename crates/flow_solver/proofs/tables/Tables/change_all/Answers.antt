@@ -2,7 +2,7 @@ use Rattle.std.proofs.Common.{◌≡◌, ◌∙◌, length, sym, ap, arith, subs
 use Rattle.std.proofs.lemmas.Int.{ints}
 use Rattle.network.specs.Flow.{total_excess}
 use Rattle.network.specs.Instance.{Instance, at_node, reduced}
-use Rattle.shortest_paths.specs.Push.{Pushes}
+use Rattle.augmentation.specs.Push.{Pushes}
 use Rattle.flow_solver.specs.declared.part.Part.{Part}
 use Rattle.flow_solver.specs.TablesView.{TablesView}
 use Rattle.flow_solver.specs.Edit.{AreChanges, AreMade}

@@ -8,7 +8,7 @@ use Rattle.network.specs.Instance.{Instance}
 use Rattle.flow_solver.specs.TablesView.{TablesView}
 use Rattle.residual_graph.specs.Residual.{arc_at, number_at}
 use Rattle.residual_graph.specs.Star.{Covers}
-use Rattle.flow_solver.specs.Tracked.{kept_in}
+use Rattle.augmentation.specs.Tracked.{kept_in}
 use Rattle.flow_solver.proofs.CarryLemmas.{arcs_in, balance_dropped, carried_as, ends_in}
 use Rattle.flow_solver.proofs.TablesViewLemmas.{length_kept, tables_with_arcs}
 use Rattle.residual_graph.proofs.StarLemmas.{covers_dropped}

@@ -6,8 +6,8 @@ use Rattle.network.specs.Instance.{Instance, at_node, reduced}
 use Rattle.dimacs_text.specs.declared.problem.ArcRow.{ArcRow}
 use Rattle.flow_solver.specs.Balance.{IsWrappedCost, IsWrappedExcess}
 use Rattle.flow_solver.specs.Moment.{start}
-use Rattle.flow_solver.specs.Tracked.{kept_in}
-use Rattle.shortest_paths.specs.Nodes.{IsIdleEntry}
+use Rattle.augmentation.specs.Tracked.{kept_in}
+use Rattle.augmentation.specs.Nodes.{IsIdleEntry}
 use Rattle.residual_graph.specs.Residual.{number_at}
 use Rattle.flow_solver.proofs.CarryLemmas.{ends_of_rows, sends}
 use Rattle.flow_solver.proofs.TablesViewLemmas.{nodes_alike}

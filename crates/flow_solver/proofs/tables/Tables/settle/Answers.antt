@@ -6,15 +6,15 @@ use Rattle.dimacs_text.specs.declared.problem.ArcRow.{ArcRow}
 use Rattle.network.specs.Flow.{AllWithinBounds, IsCertifiedFlow, total_excess}
 use Rattle.network.specs.Instance.{at_node, reduced}
 use Rattle.network.proofs.Reduction.{reduced_ends}
-use Rattle.shortest_paths.specs.Limits.{cap_sum_limit}
+use Rattle.augmentation.specs.Limits.{cap_sum_limit}
 use Rattle.residual_graph.specs.Limits.{entry_limit}
 use Rattle.residual_graph.specs.Residual.{IsCertified}
-use Rattle.shortest_paths.specs.Push.{AreSmall, IsExcess, Pushes, cap_total, left}
-use Rattle.shortest_paths.specs.Cut.{lack}
+use Rattle.augmentation.specs.Push.{AreSmall, IsExcess, Pushes, cap_total, left}
+use Rattle.augmentation.specs.Cut.{lack}
 use Rattle.flow_solver.specs.Balance.{IsBalanceOf, IsWrappedCost, IsWrappedExcess}
 use Rattle.flow_solver.specs.Answer.{IsJudged, worth_by}
-use Rattle.shortest_paths.specs.Nodes.{held}
-use Rattle.shortest_paths.specs.Scratch.{IsScratchFor}
+use Rattle.augmentation.specs.Nodes.{held}
+use Rattle.augmentation.specs.Scratch.{IsScratchFor}
 use Rattle.flow_solver.specs.TablesView.{TablesView}
 use Rattle.flow_solver.proofs.TablesViewLemmas.{sized_written, tables_written}
 use Rattle.flow_solver.proofs.FlowLaws.{bounds_from}

@@ -5,7 +5,7 @@ use Rattle.dimacs_text.specs.declared.problem.ArcRow.{ArcRow}
 use Rattle.network.specs.Instance.{at_node, reduced}
 use Rattle.flow_solver.specs.Answer.{AreGreatestPotentials}
 use Rattle.flow_solver.specs.Balance.{IsWrappedCost}
-use Rattle.shortest_paths.specs.Nodes.{IsIdleEntry}
+use Rattle.augmentation.specs.Nodes.{IsIdleEntry}
 use Rattle.flow_solver.proofs.CarryLemmas.{balance_kept}
 use Rattle.flow_solver.proofs.TablesViewLemmas.{nodes_alike}
 use Rattle.flow_solver.proofs.tables.Tables.snapshot.Goals as goal

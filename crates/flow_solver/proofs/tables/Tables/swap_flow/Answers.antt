@@ -6,7 +6,7 @@ use Rattle.flow_solver.specs.TablesView.{TablesView, flow_index}
 use Rattle.residual_graph.specs.Residual.{arc_at, number_at}
 use Rattle.flow_solver.proofs.CarryLemmas.{IsPlace, balance_set, carried_as, ends_in, place_is}
 use Rattle.flow_solver.proofs.TablesViewLemmas.{tables_written}
-use Rattle.flow_solver.proofs.TrackedLemmas.{IsWritten-same}
+use Rattle.augmentation.proofs.TrackedLemmas.{IsWritten-same}
 use Rattle.flow_solver.proofs.StandingLemmas.{scratch_told}
 use Rattle.flow_solver.proofs.tables.Tables.swap_flow.Goals as goal
 use Rattle.flow_solver.proofs.tables.Tables.swap_flow.Goals.{After-first_row}

@@ -3,7 +3,7 @@ use Rattle.std.specs.Prelude.{◌≤ℤ◌, neg_ℤ}
 use Rattle.shortest_paths.specs.Limits.{label_floor}
 use Rattle.residual_graph.specs.Residual.{number_at}
 use Rattle.flow_solver.proofs.TablesViewLemmas.{tables_written}
-use Rattle.flow_solver.proofs.TrackedLemmas.{IsWritten-same}
+use Rattle.augmentation.proofs.TrackedLemmas.{IsWritten-same}
 use Rattle.flow_solver.proofs.StandingLemmas.{scratch_told}
 use Rattle.flow_solver.proofs.tables.Tables.swap_potential.Goals as goal
 

@@ -9,13 +9,13 @@ use Rattle.flow_solver.specs.Balance.{IsBalanceOf}
 use Rattle.residual_graph.specs.Graph.{IsGraphFor}
 use Rattle.flow_solver.specs.TablesView.{TablesView}
 use Rattle.residual_graph.specs.Residual.{arc_at, number_at}
-use Rattle.shortest_paths.specs.Scratch.{IsScratchFor}
+use Rattle.augmentation.specs.Scratch.{IsScratchFor}
 use Rattle.residual_graph.specs.Star.{Covers, with_cost}
 use Rattle.residual_graph.specs.Walk.{AreRowsOf}
 use Rattle.flow_solver.proofs.CarryLemmas.{balance_swapped, place_is}
 use Rattle.flow_solver.proofs.TablesViewLemmas.{tables_written}
 use Rattle.residual_graph.proofs.StarLemmas.{covers_set}
-use Rattle.flow_solver.proofs.TrackedLemmas.{IsWritten-same}
+use Rattle.augmentation.proofs.TrackedLemmas.{IsWritten-same}
 use Rattle.flow_solver.proofs.StandingLemmas.{scratch_told}
 use Rattle.flow_solver.proofs.tables.Tables.swap_row.Goals as goal
 

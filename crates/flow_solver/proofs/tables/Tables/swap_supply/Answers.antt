@@ -9,13 +9,13 @@ use Rattle.flow_solver.specs.Answer.{AreGreatestPotentials}
 use Rattle.flow_solver.specs.Balance.{IsBalanceOf}
 use Rattle.residual_graph.specs.Graph.{IsGraphFor}
 use Rattle.flow_solver.specs.TablesView.{TablesView}
-use Rattle.shortest_paths.specs.Scratch.{IsScratchFor}
+use Rattle.augmentation.specs.Scratch.{IsScratchFor}
 use Rattle.residual_graph.specs.Star.{Covers}
 use Rattle.residual_graph.specs.Walk.{AreRowsOf}
 use Rattle.flow_solver.proofs.CarryLemmas.{balance_supplied, raised_as}
 use Rattle.flow_solver.proofs.TablesViewLemmas.{tables_written}
-use Rattle.shortest_paths.proofs.NodeLemmas.{held_node}
-use Rattle.flow_solver.proofs.TrackedLemmas.{IsWritten-same}
+use Rattle.augmentation.proofs.NodeLemmas.{held_node}
+use Rattle.augmentation.proofs.TrackedLemmas.{IsWritten-same}
 use Rattle.flow_solver.proofs.StandingLemmas.{greatest_supplied}
 use Rattle.flow_solver.proofs.tables.Tables.swap_supply.Goals as goal
 

@@ -1,8 +1,9 @@
 use Rattle.std.proofs.Common.{drop, subst}
 use Rattle.std.specs.Prelude.{IfSome}
-use Rattle.flow_solver.specs.TablesView.{TablesView, NameChanges}
+use Rattle.augmentation.specs.Touched.{NameChanges}
+use Rattle.flow_solver.specs.TablesView.{TablesView}
 use Rattle.flow_solver.specs.Tables.{kept_by}
-use Rattle.flow_solver.proofs.TrackedLemmas.{kept_named_after_first}
+use Rattle.augmentation.proofs.TrackedLemmas.{kept_named_after_first}
 use Rattle.flow_solver.proofs.TablesViewLemmas.{cut_since}
 use Rattle.flow_solver.proofs.tables.Tables.touched_cut.Goals as goal
 

@@ -1,10 +1,11 @@
 use Rattle.std.proofs.Common.{subst}
 use Rattle.std.specs.Prelude.{IfSome}
 use Rattle.network.specs.Instance.{numbered_flow}
-use Rattle.flow_solver.specs.TablesView.{TablesView, NameChanges}
+use Rattle.augmentation.specs.Touched.{NameChanges}
+use Rattle.flow_solver.specs.TablesView.{TablesView}
 use Rattle.flow_solver.specs.Part.{return_count}
 use Rattle.flow_solver.specs.Tables.{kept_by}
-use Rattle.flow_solver.proofs.TrackedLemmas.{kept_named}
+use Rattle.augmentation.proofs.TrackedLemmas.{kept_named}
 use Rattle.flow_solver.proofs.TablesViewLemmas.{named_since}
 use Rattle.flow_solver.proofs.tables.Tables.touched_flow.Goals as goal
 

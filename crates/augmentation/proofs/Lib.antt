@@ -1,0 +1,13 @@
+pub mod PushLemmas
+pub mod BlockingLemmas
+pub mod FirstWalk
+pub mod SettleLemmas
+pub mod CutLemmas
+pub mod NodeLemmas
+pub mod TouchedLemmas
+pub mod ApartLemmas
+pub mod TurnLemmas
+pub mod TrackedLemmas
+pub mod NotedLemmas
+pub mod LabelLaws
+pub mod SideLaws

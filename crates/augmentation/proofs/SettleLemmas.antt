@@ -1,0 +1,269 @@
+-- What one search, one change of potentials and the pushes after it keep.
+use Rattle.residual_graph.specs.Limits.{potential_floor, entry_limit}
+use Rattle.augmentation.specs.Limits.{left_limit, excess_limit}
+use Rattle.shortest_paths.specs.Limits.{label_floor}
+use Rattle.std.proofs.Common.{◌≡◌, ℕ, zero, suc, ◌+◌, ◌<◌, ◌≤◌, ℤ, pos, negsuc, neg_ℤ, ◌-ℤ◌, ◌+ℤ◌, ◌≤ℤ◌, List, [], ◌∷◌, length, map, refl, sym, ap, subst, ◌∙◌, inl, inr, arith}
+use Rattle.std.specs.Prelude.{◌<ℤ◌, slice_index_or}
+use Rattle.std.proofs.lemmas.Int.{ints}
+use Rattle.std.proofs.lemmas.Bool.{cases_eq, cases_lt}
+use Rattle.std.proofs.lemmas.List.{get_or_default, get_or_past, length-map}
+use Rattle.std.proofs.lemmas.List.Sums.{sum_by-cons, sum_by-le}
+use Rattle.dimacs_text.specs.declared.problem.ArcRow.{ArcRow}
+use Rattle.shortest_paths.specs.declared.node_label.State.{State}
+use Rattle.shortest_paths.specs.declared.node_label.State.TheVariants.{Unreached, Open, Settled}
+use Rattle.shortest_paths.specs.declared.node_label.NodeLabel.{NodeLabel}
+use Rattle.residual_graph.specs.Residual.{IsCertified, ArePotentials, NoneBelow, number_at, end_at}
+use Rattle.shortest_paths.specs.Search.{state_at, distance_at, depth_at, IsSearch, AllRelaxed, IsFromExcess, IsFoundDeficit, IsFront, IsLowered, lowered_by}
+use Rattle.network.specs.Flow.{net}
+use Rattle.augmentation.specs.Push.{IsExcess, IsPush, Pushes, path_of, root_to, HavePaths, ArePathsTight, HasRoom, IsTransfer, IsUnderWay, ArePushes, CanPush, push_along, at_node, AreSmall, positive_part, left, lack}
+use Rattle.residual_graph.specs.declared.residual.ResidualArc.{ResidualArc}
+use Rattle.augmentation.specs.Settle.{IsNear}
+use Rattle.shortest_paths.proofs.SearchLemmas.{settled_is_reached}
+use Rattle.shortest_paths.proofs.RunLemmas.{lowered_none_below}
+use Rattle.augmentation.proofs.TurnLemmas.{number_at-neg, left-neg}
+use Rattle.augmentation.proofs.BlockingLemmas.{IsAlong}
+use Rattle.augmentation.proofs.PushLemmas.{arc_to, way_to, before, root_reached, IsShift-along, IsFlow-along, NoneBelow-along, net-along, at_same, at_other}
+
+-- the paths behind the nodes that the search settled
+pub paths_of_search : {arcs : List ArcRow} {x p : List ℤ} {s : List NodeLabel} → IsSearch arcs x p s → HavePaths arcs s
+paths_of_search {arcs} {x} {p} {s} known v settled deep =
+    let traced = known.traced v (settled_is_reached s v settled) deep in
+    record {
+      is_arc = traced.residual.is_arc;
+      ends = traced.ends;
+      before = traced.settled;
+      deeper = traced.deeper;
+    }
+
+pub positive_part-mono : (a b : ℤ) → (pos 0 <ℤ a → a ≤ℤ b) → positive_part a ≤ positive_part b
+positive_part-mono (pos zero) b h = omega arith
+positive_part-mono (pos (suc n)) (pos m) h = omega (arith, ints, h (omega (arith, ints)))
+positive_part-mono (pos (suc n)) (negsuc m) h = omega (arith, ints, h (omega (arith, ints)))
+positive_part-mono (negsuc n) b h = omega arith
+
+pub positive_part-less : (a b : ℤ) → pos 0 <ℤ b → a <ℤ b → positive_part a < positive_part b
+positive_part-less (pos n) (pos m) h g = omega (arith, ints)
+positive_part-less (negsuc n) (pos m) h g = omega (arith, ints)
+positive_part-less a (negsuc m) h g = absurd (omega (arith, ints))
+
+pub left-mono : (e f : List ℤ) → length f ≡ length e → ((v : ℕ) → positive_part (number_at f v) ≤ positive_part (number_at e v)) → left f ≤ left e
+left-mono [] [] sized le = omega arith
+left-mono [] (y ∷ f) sized le = absurd (omega arith)
+left-mono (x ∷ e) [] sized le = absurd (omega arith)
+left-mono (x ∷ e) (y ∷ f) sized le =
+    omega (arith, sum_by-cons positive_part x e, sum_by-cons positive_part y f, le 0, left-mono e f (omega arith) (λ v. le (suc v)))
+
+pub left-less : (e f : List ℤ) (u : ℕ) → length f ≡ length e → u < length e → ((v : ℕ) → positive_part (number_at f v) ≤ positive_part (number_at e v)) → positive_part (number_at f u) < positive_part (number_at e u) → left f < left e
+left-less [] f u sized lt le less = absurd (omega arith)
+left-less (x ∷ e) [] u sized lt le less = absurd (omega arith)
+left-less (x ∷ e) (y ∷ f) zero sized lt le less =
+    omega (arith, sum_by-cons positive_part x e, sum_by-cons positive_part y f, less, left-mono e f (omega arith) (λ v. le (suc v)))
+left-less (x ∷ e) (y ∷ f) (suc u) sized lt le less =
+    omega (arith, sum_by-cons positive_part x e, sum_by-cons positive_part y f, le 0, left-less e f u (omega arith) (omega arith) (λ v. le (suc v)) less)
+
+pub left-small : (nodes : ℕ) (e : List ℤ) → AreSmall e → length e ≡ nodes → nodes ≤ entry_limit → left e ≤ left_limit
+left-small nodes e small sized few =
+    omega (arith, sum_by-le positive_part excess_limit e (λ k d lt. part_small (slice_index_or e k d) (rw (get_or_default e k d (pos 0) lt) (small.high k))))
+  where
+    part_small : (z : ℤ) → z ≤ℤ pos excess_limit → positive_part z ≤ excess_limit
+    part_small (pos n) h = omega (arith, ints)
+    part_small (negsuc n) h = omega arith
+
+pub lack-small : (e : List ℤ) → AreSmall e → length e ≤ entry_limit → lack e ≤ left_limit
+lack-small e small few =
+    omega (arith, sum_by-le (λ (z : ℤ). positive_part (neg_ℤ z)) excess_limit e (λ k d lt. part_small (slice_index_or e k d) (rw (get_or_default e k d (pos 0) lt) (small.low k))))
+  where
+    part_small : (z : ℤ) → neg_ℤ (pos excess_limit) ≤ℤ z → positive_part (neg_ℤ z) ≤ excess_limit
+    part_small (pos zero) h = omega arith
+    part_small (pos (suc n)) h = omega arith
+    part_small (negsuc n) h = omega (arith, ints)
+
+-- the potentials lowered after a search that came as far as `reach`
+module _ (arcs : List ArcRow) (x p q : List ℤ) (s : List NodeLabel) (reach fallen : ℤ)
+    (certified : IsCertified arcs x p) (known : IsSearch arcs x p s) (all : AllRelaxed arcs x p s) (front : IsFront s reach)
+    (low : IsLowered p q s reach) (near : IsNear p fallen)
+  where
+    falls_at : (v : ℕ) (m : State) → state_at s v ≡ m → number_at q v ≡ lowered_by m (number_at p v) (distance_at s v) reach
+    falls_at v m h = low v ∙ ap (λ (n : State). lowered_by n (number_at p v) (distance_at s v) reach) h
+
+    pub paths_tight : ArePathsTight arcs q s
+    paths_tight v settled deep =
+        let traced = known.traced v (settled_is_reached s v settled) deep in
+        let k = arc_to s v in
+        let way = way_to s v in
+        let p_end : number_at p (end_at arcs k way) ≡ number_at p v = ap (number_at p) traced.ends in
+        let q_end : number_at q (end_at arcs k way) ≡ number_at q v = ap (number_at q) traced.ends in
+        omega (arith, ints, falls_at v Settled settled, falls_at (before arcs s v) Settled traced.settled, traced.tight, p_end, q_end)
+
+    not_raised : (v : ℕ) (m : State) → state_at s v ≡ m → (number_at q v ≤ℤ number_at p v) × ((number_at p v -ℤ reach) ≤ℤ number_at q v)
+    not_raised v Unreached m = (omega (arith, ints, falls_at v Unreached m), omega (arith, ints, falls_at v Unreached m, front.not_below_0))
+    not_raised v Open m = (omega (arith, ints, falls_at v Open m), omega (arith, ints, falls_at v Open m, front.not_below_0))
+    not_raised v Settled m =
+        let within = front.settled.within v m in
+        (omega (arith, ints, falls_at v Settled m, within.1), omega (arith, ints, falls_at v Settled m, within.0))
+
+    settled_distance : (v : ℕ) → state_at s v ≡ Settled → distance_at s v ≤ℤ (pos (label_floor + label_floor) +ℤ fallen)
+    settled_distance v m =
+        omega (arith, ints, known.label_high v (settled_is_reached s v m), known.settled_depth v m, known.sized, certified.flow.few_nodes, near.at_least v)
+
+    pub reach_high : reach ≤ℤ (pos (label_floor + label_floor) +ℤ fallen)
+    reach_high = front.no_further _ (omega (arith, ints, near.not_below_0)) settled_distance
+
+    pub fallen_further : (v : ℕ) → (neg_ℤ (pos label_floor) -ℤ (fallen +ℤ reach)) ≤ℤ number_at q v
+    fallen_further v = omega (arith, ints, (not_raised v (state_at s v) refl).1, near.at_least v)
+
+    pub none_below_after : NoneBelow arcs x q
+    none_below_after = lowered_none_below arcs x p q s reach certified known all front.settled front.beyond low
+
+    pub potentials_after : ArePotentials (length q) potential_floor q
+    potentials_after = record {
+      sized = refl;
+      at_most_0 = λ v. omega (arith, ints, (not_raised v (state_at s v) refl).0, certified.potentials.at_most_0 v);
+      at_least = λ v. omega (arith, ints, fallen_further v, reach_high, near.not_above);
+    }
+
+-- what was found can be pushed to, at first
+module _ (arcs : List ArcRow) (x p e : List ℤ) (s : List NodeLabel) (t : ℕ)
+    (known : IsSearch arcs x p s) (from : IsFromExcess e s) (found : IsFoundDeficit e s t)
+  where
+    path_room : (d v : ℕ) → state_at s v ≡ Settled → depth_at s v ≡ d → HasRoom arcs x (pos 1) (path_of arcs s d v)
+    path_room zero v settled deep = tt
+    path_room (suc d) v settled deep =
+        let traced = known.traced v (settled_is_reached s v settled) (omega arith) in
+        (omega (arith, ints, traced.residual.has_room), path_room d (before arcs s v) traced.settled (omega (arith, traced.deeper)))
+
+    pub can_push : CanPush arcs x e s t
+    can_push =
+        let root = root_reached arcs s (paths_of_search known) (depth_at s t) t found.settled refl in
+        record {
+          found = found;
+          room = path_room (depth_at s t) t found.settled refl;
+          in_excess = (from.roots (root_to arcs s t) (settled_is_reached s _ root.0) root.1).0;
+        }
+
+-- flow moved along a path from a node in excess to a node in deficit
+module _ (nodes : ℕ) (arcs : List ArcRow) (q x e : List ℤ) (hops : List ResidualArc) (root t : ℕ) (m : ℤ) (f : List ℤ)
+    (state : IsUnderWay nodes arcs q x e) (is : IsAlong arcs q x m hops root t)
+    (at_least_1 : pos 1 ≤ℤ m) (root_in : root < nodes) (in_excess : m ≤ℤ number_at e root) (in_deficit : number_at e t ≤ℤ neg_ℤ m)
+    (transfer : IsTransfer root t m e f)
+  where
+    apart : root ≡ t → ⊥
+    apart same = (let equal : number_at e root ≡ number_at e t = ap (number_at e) same in omega (arith, ints, in_excess, at_least_1, in_deficit, equal))
+
+    f_root : number_at f root ≡ number_at e root -ℤ m
+    f_root = omega (arith, ints, transfer.by_node root, at_same root m, at_other t m root apart)
+
+    f_target : number_at f t ≡ number_at e t +ℤ m
+    f_target = omega (arith, ints, transfer.by_node t, at_same t m, at_other root m t (λ h. apart (sym h)))
+
+    f_other : (v : ℕ) → (v ≡ root → ⊥) → (v ≡ t → ⊥) → number_at f v ≡ number_at e v
+    f_other v not_root not_target = omega (arith, ints, transfer.by_node v, at_other root m v not_root, at_other t m v not_target)
+
+    by_three : (P : ℕ → Type 0) → P root → P t → ((v : ℕ) → number_at f v ≡ number_at e v → P v) → (v : ℕ) → P v
+    by_three P at_root at_target elsewhere v = elim (cases_eq v root) [
+      | inl same ↦ subst P (sym same) at_root
+      | inr not_root ↦ (elim (cases_eq v t) [
+        | inl same ↦ subst P (sym same) at_target
+        | inr not_target ↦ elsewhere v (f_other v not_root not_target)
+      ])
+    ]
+
+    small_after : AreSmall f
+    small_after = record {
+      low = by_three (λ v. neg_ℤ (pos excess_limit) ≤ℤ number_at f v) (omega (arith, ints, f_root, in_excess)) (omega (arith, ints, f_target, state.small.low t, at_least_1)) (λ v same. omega (arith, ints, same, state.small.low v));
+      high = by_three (λ v. number_at f v ≤ℤ pos excess_limit) (omega (arith, ints, f_root, state.small.high root, at_least_1)) (omega (arith, ints, f_target, in_deficit)) (λ v same. omega (arith, ints, same, state.small.high v));
+    }
+
+    left_falls : left f < left e
+    left_falls =
+        left-less e f root transfer.same_length (omega (arith, root_in, state.excess_sized))
+        (by_three (λ v. positive_part (number_at f v) ≤ positive_part (number_at e v))
+        (positive_part-mono (number_at f root) (number_at e root) (λ h. omega (arith, ints, f_root, at_least_1)))
+        (positive_part-mono (number_at f t) (number_at e t) (λ h. absurd (omega (arith, ints, h, f_target, in_deficit))))
+        (λ v same. positive_part-mono (number_at f v) (number_at e v) (λ h. omega (arith, ints, same))))
+        (positive_part-less (number_at f root) (number_at e root) (omega (arith, ints, in_excess, at_least_1)) (omega (arith, ints, f_root, at_least_1)))
+
+    -- the target is in deficit, so it is one of the nodes
+    target_in : t < length e
+    target_in = elim (cases_lt t (length e)) [
+      | inl lt ↦ lt
+      | inr past ↦ absurd (let nothing : number_at e t ≡ pos 0 = get_or_past e t (pos 0) past in omega (arith, ints, nothing, in_deficit, at_least_1))
+    ]
+
+    lack_falls : lack f < lack e
+    lack_falls =
+        let lower = left-less (map neg_ℤ e) (map neg_ℤ f) t (omega (arith, length-map e neg_ℤ, length-map f neg_ℤ, transfer.same_length)) (omega (arith, length-map e neg_ℤ, target_in))
+        (by_three (λ v. positive_part (number_at (map neg_ℤ f) v) ≤ positive_part (number_at (map neg_ℤ e) v))
+        (positive_part-mono (number_at (map neg_ℤ f) root) (number_at (map neg_ℤ e) root) (λ h. absurd (omega (arith, ints, h, number_at-neg f root, f_root, in_excess))))
+        (positive_part-mono (number_at (map neg_ℤ f) t) (number_at (map neg_ℤ e) t) (λ h. omega (arith, ints, number_at-neg f t, number_at-neg e t, f_target, at_least_1)))
+        (λ v same. positive_part-mono (number_at (map neg_ℤ f) v) (number_at (map neg_ℤ e) v) (λ h. omega (arith, ints, number_at-neg f v, number_at-neg e v, same))))
+        (positive_part-less (number_at (map neg_ℤ f) t) (number_at (map neg_ℤ e) t) (omega (arith, ints, number_at-neg e t, in_deficit, at_least_1)) (omega (arith, ints, number_at-neg f t, number_at-neg e t, f_target, at_least_1))) in
+        omega (arith, lower, left-neg e, left-neg f)
+
+    net_after : (v : ℕ) → net arcs (push_along hops m x) v ≡ (net arcs x v +ℤ at_node root m v) -ℤ at_node t m v
+    net_after v = net-along arcs hops m x root t v is.leads is.apart state.flow.same_length
+
+    pub state_after : IsUnderWay nodes arcs q (push_along hops m x) f
+    state_after = record {
+      flow = IsFlow-along nodes arcs hops m x state.flow at_least_1 is.apart is.room;
+      none_below = NoneBelow-along arcs q hops m x state.none_below is.tight;
+      excess_sized = transfer.same_length ∙ state.excess_sized;
+      small = small_after;
+    }
+
+    is_push : (supply : ℕ → ℤ) → IsExcess arcs supply x e → IsPush arcs supply x (push_along hops m x)
+    is_push supply known = record {
+      amount = m;
+      hops = hops;
+      source = root;
+      target = t;
+      at_least_1 = at_least_1;
+      path = is.leads;
+      simple = is.simple;
+      shift = IsShift-along arcs hops m x state.flow.same_length is.apart;
+      in_excess = rw (← known root) in_excess;
+      in_deficit = rw (← known t) in_deficit;
+    }
+
+    pub one_push : ArePushes arcs 1 x e (push_along hops m x) f
+    one_push = record {
+      excess = λ supply known v. omega (arith, ints, known v, net_after v, transfer.by_node v);
+      pushes = λ supply known. (x, refl, is_push supply known);
+      count = omega (arith, left_falls);
+      lacking = omega (arith, lack_falls);
+      none = λ h. absurd (omega (arith, h));
+    }
+
+-- ---- pushes one after the other
+
+pub ArePushes-none : (arcs : List ArcRow) (x e : List ℤ) → ArePushes arcs 0 x e x e
+ArePushes-none arcs x e = record {
+  excess = λ supply is. is;
+  pushes = λ supply is. refl;
+  count = omega arith;
+  lacking = omega arith;
+  none = λ h. (refl, refl);
+}
+
+Pushes-more : (arcs : List ArcRow) (supply : ℕ → ℤ) (m n : ℕ) (x y z : List ℤ) → Pushes arcs supply m x y → Pushes arcs supply n y z → Pushes arcs supply (n + m) x z
+Pushes-more arcs supply m zero x y z first rest =
+    let same : m ≡ zero + m = omega arith in
+    subst (λ (k : ℕ). Pushes arcs supply k x z) same (subst (λ (w : List ℤ). Pushes arcs supply m x w) rest first)
+Pushes-more arcs supply m (suc n) x y z first rest =
+    let same : suc (n + m) ≡ suc n + m = omega arith in
+    let more : Pushes arcs supply (suc (n + m)) x z = (rest.0, Pushes-more arcs supply m n x y rest.0 first rest.1, rest.2) in
+    subst (λ (k : ℕ). Pushes arcs supply k x z) same more
+
+pub ArePushes-more : {arcs : List ArcRow} {m n : ℕ} {x e y f z g : List ℤ} → ArePushes arcs m x e y f → ArePushes arcs n y f z g → ArePushes arcs (m + n) x e z g
+ArePushes-more {arcs} {m} {n} {x} {e} {y} {f} {z} {g} first rest =
+    let turned : n + m ≡ m + n = omega arith in
+    record {
+      excess = λ supply is. rest.excess supply (first.excess supply is);
+      pushes = λ supply is. subst (λ (k : ℕ). Pushes arcs supply k x z) turned (Pushes-more arcs supply m n x y z (first.pushes supply is) (rest.pushes supply (first.excess supply is)));
+      count = omega (arith, first.count, rest.count);
+      lacking = omega (arith, first.lacking, rest.lacking);
+      none = λ h.
+          (let kept = first.none (omega arith) in
+          let still = rest.none (omega arith) in
+          (kept.0 ∙ still.0, kept.1 ∙ still.1));
+    }

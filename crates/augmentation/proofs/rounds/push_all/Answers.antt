@@ -1,0 +1,112 @@
+use Rattle.std.proofs.Common.{◌≡◌, ◌∙◌, ◌+◌, ◌<◌, ◌^◌, ℕ, ℤ, pos, List, length, ap, sym, subst, arith, rules, w64, to_z, of_z, SFits}
+use Rattle.std.proofs.lemmas.Bool.{false≢true}
+use Rattle.std.proofs.lemmas.Int.{ints, to_z-of_z}
+use Rattle.residual_graph.specs.declared.side.Side.{Side}
+use Rattle.shortest_paths.specs.declared.node_label.NodeLabel.{NodeLabel}
+use Rattle.augmentation.specs.Cut.{IsParted}
+use Rattle.augmentation.specs.Push.{ArePushes, left}
+use Rattle.residual_graph.specs.Residual.{IsCertified, IsFlow}
+use Rattle.augmentation.specs.Scratch.{IsScratchFor}
+use Rattle.shortest_paths.specs.Search.{HasFound}
+use Rattle.augmentation.specs.Settle.{IsNear}
+use Rattle.residual_graph.specs.Side.{other_side, seen}
+use Rattle.augmentation.proofs.SettleLemmas.{left-small, ArePushes-none, ArePushes-more}
+use Rattle.augmentation.specs.Rounds.{seen_excess}
+use Rattle.augmentation.proofs.TrackedLemmas.{IsWritten-same, IsWritten-trans}
+use Rattle.augmentation.proofs.SideLaws.{parted_seen, parted_unless_both, pushes_seen}
+use Rattle.augmentation.proofs.rounds.push_all.Goals as goal
+use Rattle.augmentation.proofs.rounds.push_all.Goals.{After-push_within-pushes}
+
+reach_is : (reach : ℤ) (e : List ℤ) (node_labels : List NodeLabel) → HasFound e node_labels reach → to_z w64 (of_z w64 reach) ≡ reach
+reach_is reach e node_labels found =
+    let fits : SFits w64 reach = omega (arith, ints, found.front.not_below_0, found.front.settled.not_far) in
+    to_z-of_z w64 reach fits
+
+pub returns-then-not-has_both-clause-parted : goal.returns-then-not-has_both-clause-parted
+returns-then-not-has_both-clause-parted c =
+    parted_unless_both c.args.graph.now.rows.items c.args.flow.now.entries.items c.args.excess.now
+    (rw c.requires.excess_in c.requires.certified.flow) (λ both. false≢true (sym c.if-not-has_both.true ∙ c.has_both.ensures.1 both))
+
+pub loop-reach-init : goal.loop-reach-init
+loop-reach-init c =
+    let turn = c.turn_round-side in
+    let near : IsNear c.args.scratch.now.potentials.items (pos 0) = record {
+      not_below_0 = omega (arith, ints);
+      not_above = omega (arith, ints);
+      at_least = λ v. omega (arith, ints, c.requires.potentials_in.at_least v);
+    } in
+    record {
+      flow_written = IsWritten-same _ c.requires.flow_tracked;
+      certified = turn.ensures.certified _ _ c.requires.certified;
+      small = turn.ensures.small;
+      scratch = subst (λ (n : ℕ). IsScratchFor n turn.new.scratch) (sym turn.ensures.scratch.potentials_sized) turn.ensures.scratch;
+      near = turn.ensures.near (pos 0) near;
+      pushed = ArePushes-none _ _ _;
+    }
+
+pub push_within-pushes-requires-clause-near : goal.push_within-pushes-requires-clause-near
+push_within-pushes-requires-clause-near c =
+    (to_z w64 c.loop-reach.fallen-bits, subst (λ (p : List ℤ). IsNear p (to_z w64 c.loop-reach.fallen-bits)) (sym c.search_on.ensures.kept) c.loop-reach.invariant.near)
+
+-- the pushes of one search, ahead
+pushed : (c : After-push_within-pushes) → ArePushes c.args.graph.now.rows.items c.push_within-pushes.result c.loop-reach.flow.entries.items (seen_excess c.loop-reach.side c.loop-reach.excess) c.push_within-pushes.new.flow.entries.items (seen_excess c.loop-reach.side c.push_within-pushes.new.excess)
+pushed c = pushes_seen c.loop-reach.side c.args.graph.now.rows.items c.push_within-pushes.result c.loop-reach.flow.entries.items c.loop-reach.excess c.push_within-pushes.new.flow.entries.items c.push_within-pushes.new.excess c.push_within-pushes.ensures.pushed
+
+pub overflow_add-pushes : goal.overflow_add-pushes
+overflow_add-pushes c =
+    let small = left-small (length c.args.scratch.now.potentials.items) c.args.excess.now c.requires.small c.requires.excess_in c.requires.certified.flow.few_nodes in
+    let before : left (seen_excess c.turn_round-side.result c.turn_round-side.new.excess) ≡ left c.args.excess.now = ap left c.turn_round-side.ensures.excess in
+    let count = (ArePushes-more c.loop-reach.invariant.pushed (pushed (goal.at.overflow_add-pushes c).After-push_within-pushes)).count in
+    let bound : c.loop-reach.pushes + c.push_within-pushes.result < 2 ^ 64 = omega (arith, small, before, count) in
+    search (rules, bound)
+
+pub keep_near-fallen-requires-clause-at_least : goal.keep_near-fallen-requires-clause-at_least
+keep_near-fallen-requires-clause-at_least c = λ v.
+    (let near = subst (λ (p : List ℤ). IsNear p (to_z w64 c.loop-reach.fallen-bits)) (sym c.search_on.ensures.kept) c.loop-reach.invariant.near in
+    let found = c.in-Some.ensures.found.searched.found in
+    let same = reach_is c.in-Some.reach c.loop-reach.excess c.search_on.new.scratch.node_labels.items found in
+    let further = c.push_within-pushes.ensures.at_least (to_z w64 c.loop-reach.fallen-bits) near v in
+    omega (arith, ints, further, found.front.settled.not_far, found.front.not_below_0, near.not_below_0, near.not_above, same))
+
+pub loop-reach-preserved : goal.loop-reach-preserved
+loop-reach-preserved c =
+    let fits : SFits w64 c.keep_near-fallen.result = search rules in
+    let same : to_z w64 (of_z w64 c.keep_near-fallen.result) ≡ c.keep_near-fallen.result = to_z-of_z w64 c.keep_near-fallen.result fits in
+    let rows = c.args.graph.now.rows.items in
+    let inv = c.loop-reach.invariant in
+    let call = c.push_within-pushes in
+    let turn = c.turn_round-side-in-Some in
+    record {
+      flow_written = IsWritten-trans _ _ _ inv.flow_written call.ensures.flow_written;
+      certified = turn.ensures.certified rows call.new.flow.entries.items c.keep_near-fallen.ensures.certified;
+      small = turn.ensures.small;
+      scratch = subst (λ (n : ℕ). IsScratchFor n turn.new.scratch) (c.keep_near-fallen.ensures.scratch.potentials_sized ∙ call.ensures.scratch.potentials_sized ∙ ap length c.search_on.ensures.kept ∙ inv.scratch.potentials_sized) turn.ensures.scratch;
+      near = rw same (turn.ensures.near c.keep_near-fallen.result c.keep_near-fallen.ensures.near);
+      pushed = subst (ArePushes rows _ _ _ _) (sym turn.ensures.excess) (ArePushes-more inv.pushed (pushed (goal.at.loop-reach-preserved c).After-push_within-pushes));
+    }
+
+pub loop-reach-smaller : goal.loop-reach-smaller
+loop-reach-smaller c =
+    let count = (pushed (goal.at.loop-reach-smaller c).After-push_within-pushes).count in
+    let same : left (seen_excess c.turn_round-side-in-Some.result c.turn_round-side-in-Some.new.excess) ≡ left (seen_excess c.loop-reach.side c.push_within-pushes.new.excess) = ap left c.turn_round-side-in-Some.ensures.excess in
+    omega (arith, count, same, c.push_within-pushes.ensures.some)
+
+pub returns-in-Behind-clause-certified : goal.returns-in-Behind-clause-certified
+returns-in-Behind-clause-certified c =
+    let rows = c.args.graph.now.rows.items in
+    let x = c.loop-reach.flow.entries.items in
+    let turn = c.turn_round-ahead in
+    subst (λ (side : Side). IsCertified (seen side rows) x turn.new.scratch.potentials.items) (turn.ensures.other ∙ ap other_side c.in-Behind.is)
+    (turn.ensures.certified rows x (subst (λ (p : List ℤ). IsCertified (seen c.loop-reach.side rows) x p) (sym c.search_on.ensures.kept) c.loop-reach.invariant.certified))
+
+pub returns-in-Behind-clause-parted : goal.returns-in-Behind-clause-parted
+returns-in-Behind-clause-parted c =
+    let rows = c.args.graph.now.rows.items in
+    let x = c.loop-reach.flow.entries.items in
+    let e = c.loop-reach.excess in
+    let turn = c.turn_round-ahead in
+    let sized : length c.loop-reach.scratch.potentials.items ≡ length e = omega (arith, c.loop-reach.invariant.scratch.potentials_sized, c.turn_round-side.ensures.scratch.potentials_sized, c.loop-reach.auto.excess, c.turn_round-side.auto.excess, c.requires.excess_in) in
+    let ahead : turn.new.excess ≡ seen_excess c.loop-reach.side e =
+    subst (λ (side : Side). seen_excess side turn.new.excess ≡ seen_excess c.loop-reach.side e) (turn.ensures.other ∙ ap other_side c.in-Behind.is) turn.ensures.excess in
+    subst (IsParted rows x) (sym ahead)
+    (parted_seen c.loop-reach.side rows x e (subst (λ (n : ℕ). IsFlow n (seen c.loop-reach.side rows) x) sized c.loop-reach.invariant.certified.flow) c.in_default.ensures.found)

@@ -1,0 +1,22 @@
+use Rattle.std.proofs.Common.{length}
+use Rattle.residual_graph.specs.Residual.{IsCertified}
+use Rattle.augmentation.specs.Push.{ArePushes, left, AreSmall}
+use Rattle.augmentation.specs.Scratch.{IsScratchFor}
+use Rattle.augmentation.specs.Settle.{IsNear}
+use Rattle.residual_graph.specs.Side.{seen}
+use Rattle.augmentation.specs.Tracked.{IsWritten}
+use Rattle.augmentation.specs.Rounds.{seen_excess}
+use Rattle.augmentation.proofs.rounds.push_all.Given as goal
+
+abbrev pub invariant-loop-reach : goal.invariant-loop-reach
+invariant-loop-reach l = record {
+  flow_written : IsWritten l.initial.flow l.flow;
+  certified : IsCertified (seen l.side l.graph.rows.items) l.flow.entries.items l.scratch.potentials.items;
+  small : AreSmall l.excess;
+  scratch : IsScratchFor (length l.initial.scratch.potentials.items) l.scratch;
+  near : IsNear l.scratch.potentials.items l.fallen;
+  pushed : ArePushes l.graph.rows.items l.pushes l.initial.flow.entries.items (seen_excess l.initial.side l.initial.excess) l.flow.entries.items (seen_excess l.side l.excess);
+}
+
+abbrev pub decreases-loop-reach : goal.decreases-loop-reach
+decreases-loop-reach l = left (seen_excess l.side l.excess)

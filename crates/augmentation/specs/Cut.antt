@@ -1,0 +1,118 @@
+-- Sets of nodes whose supply cannot leave, or whose demand cannot be met
+-- (Ahuja, Magnanti, Orlin, "Network Flows": feasibility of flows, cuts).
+use Rattle.std.specs.Prelude.{◌≡◌, ℕ, suc, ◌+◌, ◌<◌, ◌≤◌, ℤ, pos, ◌-ℤ◌, ◌+ℤ◌, ◌≤ℤ◌, List, [], ◌∷◌, length, slice_index_or, Bool, true, false, if◌then◌else◌, ◌&&◌, not, IsTrue, ◌<ℤ◌}
+use Rattle.dimacs_text.specs.declared.problem.ArcRow.{ArcRow}
+use Rattle.std.specs.List.{count_by}
+use Rattle.residual_graph.specs.declared.residual.Way.{Way}
+use Rattle.residual_graph.specs.declared.side.Side.{Side}
+use Rattle.residual_graph.specs.declared.side.Side.TheVariants.{Ahead, Behind}
+use Rattle.augmentation.specs.Push.{left}
+pub use Rattle.augmentation.specs.Push.{lack}
+use Rattle.residual_graph.specs.Residual.{number_at, arc_at, start_of, end_of, IsResidual}
+use Rattle.residual_graph.specs.Side.{IsRoot}
+use Rattle.shortest_paths.specs.NodeLists.{IsListed, node_at}
+
+-- whether node v is in the set
+abbrev pub in_set : List Bool → ℕ → Bool
+in_set set v = slice_index_or set v false
+
+-- the sum of f over the nodes of a set
+abbrev pub sum_in : List Bool → (ℕ → ℤ) → ℤ
+sum_in [] f = pos 0
+sum_in (b ∷ set) f = (if b then f 0 else pos 0) +ℤ sum_in set (λ v. f (suc v))
+
+-- the sum of f over the arcs out of a set
+abbrev pub sum_leaving : List Bool → (ArcRow → ℤ) → List ArcRow → ℤ
+sum_leaving set f [] = pos 0
+sum_leaving set f (a ∷ arcs) = (if in_set set a.tail && not (in_set set a.head) then f a else pos 0) +ℤ sum_leaving set f arcs
+
+-- the sum of f over the arcs into a set
+abbrev pub sum_entering : List Bool → (ArcRow → ℤ) → List ArcRow → ℤ
+sum_entering set f [] = pos 0
+sum_entering set f (a ∷ arcs) = (if in_set set a.head && not (in_set set a.tail) then f a else pos 0) +ℤ sum_entering set f arcs
+
+-- what the supply of a set exceeds all that can leave it by
+abbrev pub surplus : List ArcRow → (ℕ → ℤ) → List Bool → ℤ
+surplus arcs supply set =
+    (sum_in set supply -ℤ sum_leaving set (λ a. a.cap) arcs) +ℤ sum_entering set (λ a. a.low) arcs
+
+-- what the demand of a set exceeds all that can enter it by
+abbrev pub shortfall : List ArcRow → (ℕ → ℤ) → List Bool → ℤ
+shortfall arcs supply set =
+    (sum_leaving set (λ a. a.low) arcs -ℤ sum_entering set (λ a. a.cap) arcs) -ℤ sum_in set supply
+
+-- d is the greatest value of a set of nodes, and `set` the smallest set that has it
+pub record IsLeastSet (value : List Bool → ℤ) (set : List Bool) (d : ℤ) : Type 0 where
+  pub value_is : value set ≡ d
+  pub greatest : (other : List Bool) → length other ≡ length set → value other ≤ℤ d
+  pub smallest : (other : List Bool) → length other ≡ length set → value other ≡ d → (v : ℕ) → IsTrue (in_set set v) → IsTrue (in_set other v)
+
+-- what lies at the roots of a side
+abbrev pub amount : Side → List ℤ → ℕ
+amount Ahead e = left e
+amount Behind e = lack e
+
+-- the end of a residual arc that is nearer to the roots: it leads on ahead from its start, and on behind from its end
+abbrev pub near_of : Side → ArcRow → Way → ℕ
+near_of Ahead a way = start_of a way
+near_of Behind a way = end_of a way
+
+-- the other end
+abbrev pub far_of : Side → ArcRow → Way → ℕ
+far_of Ahead a way = end_of a way
+far_of Behind a way = start_of a way
+
+abbrev pub near_at : Side → List ArcRow → ℕ → Way → ℕ
+near_at side arcs k way = near_of side (arc_at arcs k) way
+
+abbrev pub far_at : Side → List ArcRow → ℕ → Way → ℕ
+far_at side arcs k way = far_of side (arc_at arcs k) way
+
+-- no residual arc leads on out of the set: ahead none leaves it, and behind none enters it
+abbrev pub IsClosed : Side → List ArcRow → List ℤ → List Bool → Type 0
+IsClosed side arcs x set = (k : ℕ) (way : Way) → IsResidual arcs x k way → in_set set (near_at side arcs k way) ≡ true → in_set set (far_at side arcs k way) ≡ true
+
+-- the set holds each root of the side
+abbrev pub HoldsRoots : Side → List ℤ → List Bool → Type 0
+HoldsRoots side e set = (v : ℕ) → IsRoot side (number_at e v) → in_set set v ≡ true
+
+-- the nodes that those in excess reach, or those that reach a node in deficit
+pub record IsSide (side : Side) (arcs : List ArcRow) (x e : List ℤ) (set : List Bool) : Type 0 where
+  pub closed : IsClosed side arcs x set
+  pub holds : HoldsRoots side e set
+  pub least : (other : List Bool) → IsClosed side arcs x other → HoldsRoots side e other → (v : ℕ) → in_set set v ≡ true → in_set other v ≡ true
+
+-- no node in excess reaches a node in deficit: some set that no residual arc leaves holds all the former and none of the latter
+pub record IsParted (arcs : List ArcRow) (x e : List ℤ) : Type 0 where
+  pub set : List Bool
+  pub closed : IsClosed Ahead arcs x set
+  pub holds : HoldsRoots Ahead e set
+  pub no_deficit : (v : ℕ) → in_set set v ≡ true → pos 0 ≤ℤ number_at e v
+
+-- the residual arc along arc k, where it is there, has its far node in the set
+abbrev pub IsFarIn : Side → List ArcRow → List ℤ → List Bool → ℕ → Way → Type 0
+IsFarIn side arcs x set k way = IsResidual arcs x k way → in_set set (far_at side arcs k way) ≡ true
+
+-- so has each residual arc that leads on from node v
+abbrev pub AreFarIn : Side → List ArcRow → List ℤ → List Bool → ℕ → Type 0
+AreFarIn side arcs x set v = (k : ℕ) (way : Way) → near_at side arcs k way ≡ v → IsFarIn side arcs x set k way
+
+-- the first `len` in the list are the nodes of the set, each once; so a node outside finds room
+pub record IsListOf (set : List Bool) (list : List ℕ) (len : ℕ) : Type 0 where
+  pub one_a_node : length list ≡ length set
+  pub inside : (j : ℕ) → j < len → in_set set (node_at list j) ≡ true
+  pub listed : (v : ℕ) → in_set set v ≡ true → IsListed list len v
+  pub room : len + count_by not set ≡ length set
+
+-- set and list have grown, or are the same: whatever holds the set, and has no residual arc that leads on out of it, holds the new one too
+pub record IsGrown (side : Side) (arcs : List ArcRow) (x : List ℤ) (set : List Bool) (list : List ℕ) (len : ℕ) (set' : List Bool) (list' : List ℕ) (len' : ℕ) : Type 0 where
+  pub kept : (v : ℕ) → in_set set v ≡ true → in_set set' v ≡ true
+  pub least : (other : List Bool) → IsClosed side arcs x other → ((v : ℕ) → in_set set v ≡ true → in_set other v ≡ true) → (v : ℕ) → in_set set' v ≡ true → in_set other v ≡ true
+  pub no_shorter : len ≤ len'
+  pub same_before : (j : ℕ) → j < len → node_at list' j ≡ node_at list j
+
+-- the set that tells why there is no legal flow: where something lies in excess the smallest set of the greatest surplus, else where something lies in deficit that of the greatest shortfall, else none
+pub record IsChosenSet (arcs : List ArcRow) (supply : ℕ → ℤ) (e : List ℤ) (set : List Bool) : Type 0 where
+  pub in_excess : 0 < left e → IsLeastSet (surplus arcs supply) set (pos (left e))
+  pub in_deficit : left e ≡ 0 → 0 < lack e → IsLeastSet (shortfall arcs supply) set (pos (lack e))
+  pub in_neither : left e ≡ 0 → lack e ≡ 0 → (v : ℕ) → in_set set v ≡ false

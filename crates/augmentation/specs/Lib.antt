@@ -1,0 +1,11 @@
+pub mod Limits
+pub mod Nodes
+pub mod Push
+pub mod Settle
+pub mod Cut
+pub mod Touched
+pub mod Tracked
+pub mod Blocking
+pub mod Scratch
+pub mod Turn
+pub mod Rounds

@@ -1,0 +1,177 @@
+-- Flow that is pushed along a path of arcs, from a node in excess to a node in deficit
+-- (Ahuja, Magnanti, Orlin, "Network Flows": augmenting paths; excess, deficit and pseudoflow).
+use Rattle.network.specs.Flow.{net}
+use Rattle.augmentation.specs.Limits.{excess_limit, supply_limit}
+use Rattle.std.specs.Prelude.{◌≡◌, ◌≢◌, ℕ, zero, suc, ◌+◌, ◌<◌, ◌≤◌, ℤ, pos, negsuc, neg_ℤ, ◌-ℤ◌, ◌+ℤ◌, ◌≤ℤ◌, ◌<ℤ◌, List, [], ◌∷◌, length, slice_set, if◌then◌else◌, ◌==◌}
+use Rattle.std.specs.List.{All, AllPairs, sum_by}
+use Rattle.dimacs_text.specs.declared.problem.ArcRow.{ArcRow}
+use Rattle.residual_graph.specs.declared.residual.ResidualArc.{ResidualArc}
+use Rattle.residual_graph.specs.declared.residual.Way.{Way}
+use Rattle.residual_graph.specs.declared.residual.Way.TheVariants.{Forward, Backward}
+use Rattle.shortest_paths.specs.declared.node_label.NodeLabel.{NodeLabel}
+use Rattle.shortest_paths.specs.declared.node_label.State.TheVariants.{Settled}
+use Rattle.residual_graph.specs.Residual.{IsFlow, NoneBelow, number_at, arc_at, start_at, end_at, cost_at, room_of, IsResidual}
+use Rattle.shortest_paths.specs.Search.{node_label_at, state_at, depth_at, IsFoundDeficit}
+
+-- e is what each node's supply exceeds the flow out of it by
+abbrev pub IsExcess : List ArcRow → (ℕ → ℤ) → List ℤ → List ℤ → Type 0
+IsExcess arcs supply x e = (v : ℕ) → number_at e v ≡ supply v -ℤ net arcs x v
+
+-- the hops, the first one first, lead from node u to node w
+abbrev pub IsPath : List ArcRow → List ResidualArc → ℕ → ℕ → Type 0
+IsPath arcs [] u w = u ≡ w
+IsPath arcs (h ∷ hops) u w = (start_at arcs h.arc h.way ≡ u) × IsPath arcs hops (end_at arcs h.arc h.way) w
+
+-- the nodes of a path from u
+abbrev pub nodes_on : List ArcRow → List ResidualArc → ℕ → List ℕ
+nodes_on arcs [] u = u ∷ []
+nodes_on arcs (h ∷ hops) u = u ∷ nodes_on arcs hops (end_at arcs h.arc h.way)
+
+-- a flow with m more in a direction
+abbrev pub moved : Way → ℤ → ℤ → ℤ
+moved Forward x m = x +ℤ m
+moved Backward x m = x -ℤ m
+
+-- y is x with m more on each hop, in its direction
+pub record IsShift (hops : List ResidualArc) (m : ℤ) (x y : List ℤ) : Type 0 where
+  pub same_length : length y ≡ length x
+  pub on_path : All (λ h. number_at y h.arc ≡ moved h.way (number_at x h.arc) m) hops
+  pub elsewhere : (k : ℕ) → All (λ h. h.arc ≢ k) hops → number_at y k ≡ number_at x k
+
+-- y is one push from x: m units or more lie in excess at the source and lack at the target, and m units are moved along a path between the two that meets no node twice
+pub record IsPush (arcs : List ArcRow) (supply : ℕ → ℤ) (x y : List ℤ) : Type 0 where
+  pub amount : ℤ
+  pub hops : List ResidualArc
+  pub source : ℕ
+  pub target : ℕ
+  pub at_least_1 : pos 1 ≤ℤ amount
+  pub path : IsPath arcs hops source target
+  pub simple : AllPairs ◌≢◌ (nodes_on arcs hops source)
+  pub shift : IsShift hops amount x y
+  pub in_excess : amount ≤ℤ (supply source -ℤ net arcs x source)
+  pub in_deficit : (supply target -ℤ net arcs x target) ≤ℤ neg_ℤ amount
+
+-- y is reached from x by n pushes
+abbrev pub Pushes : List ArcRow → (ℕ → ℤ) → ℕ → List ℤ → List ℤ → Type 0
+Pushes arcs supply zero x y = x ≡ y
+Pushes arcs supply (suc n) x y = (z : List ℤ) × Pushes arcs supply n x z × IsPush arcs supply z y
+
+-- the part of a number above 0
+abbrev pub positive_part : ℤ → ℕ
+positive_part (pos n) = n
+positive_part (negsuc n) = 0
+
+-- the sum of what lies in excess
+abbrev pub left : List ℤ → ℕ
+left excess = sum_by positive_part excess
+
+-- the sum of what lies in deficit
+abbrev pub lack : List ℤ → ℕ
+lack e = sum_by (λ z. positive_part (neg_ℤ z)) e
+
+-- the path by which the search came to v, which has d hops
+abbrev pub path_of : List ArcRow → List NodeLabel → ℕ → ℕ → List ResidualArc
+path_of arcs s zero v = []
+path_of arcs s (suc d) v =
+    record { arc = (node_label_at s v).arc; way = (node_label_at s v).way } ∷ path_of arcs s d (start_at arcs (node_label_at s v).arc (node_label_at s v).way)
+
+-- where that path begins
+abbrev pub root_of : List ArcRow → List NodeLabel → ℕ → ℕ → ℕ
+root_of arcs s zero v = v
+root_of arcs s (suc d) v = root_of arcs s d (start_at arcs (node_label_at s v).arc (node_label_at s v).way)
+
+abbrev pub path_to : List ArcRow → List NodeLabel → ℕ → List ResidualArc
+path_to arcs s v = path_of arcs s (depth_at s v) v
+
+-- the search came to v along an arc from a settled node that is one hop nearer to the beginning
+pub record IsCameBy (arcs : List ArcRow) (s : List NodeLabel) (v k : ℕ) (way : Way) : Type 0 where
+  pub is_arc : k < length arcs
+  pub ends : end_at arcs k way ≡ v
+  pub before : state_at s (start_at arcs k way) ≡ Settled
+  pub deeper : depth_at s v ≡ depth_at s (start_at arcs k way) + 1
+
+-- behind each settled node lies a path of arcs
+abbrev pub HavePaths : List ArcRow → List NodeLabel → Type 0
+HavePaths arcs s = (v : ℕ) → state_at s v ≡ Settled → 0 < depth_at s v → IsCameBy arcs s v (node_label_at s v).arc (node_label_at s v).way
+
+-- m more fits on each hop
+abbrev pub HasRoom : List ArcRow → List ℤ → ℤ → List ResidualArc → Type 0
+HasRoom arcs x m [] = Unit {0}
+HasRoom arcs x m (h ∷ hops) = (m ≤ℤ room_of (arc_at arcs h.arc) (number_at x h.arc) h.way) × HasRoom arcs x m hops
+
+-- the flow after m more on each hop, one after the other
+abbrev pub push_along : List ResidualArc → ℤ → List ℤ → List ℤ
+push_along [] m x = x
+push_along (h ∷ hops) m x = push_along hops m (slice_set x h.arc (moved h.way (number_at x h.arc) m))
+
+-- the residual arc along arc k costs nothing under the potentials q
+abbrev pub IsTightArc : List ArcRow → List ℤ → ℕ → Way → Type 0
+IsTightArc arcs q k way = number_at q (end_at arcs k way) ≡ cost_at arcs k way +ℤ number_at q (start_at arcs k way)
+
+-- nor does any arc by which the search came to a settled node
+abbrev pub ArePathsTight : List ArcRow → List ℤ → List NodeLabel → Type 0
+ArePathsTight arcs q s = (v : ℕ) → state_at s v ≡ Settled → 0 < depth_at s v → IsTightArc arcs q (node_label_at s v).arc (node_label_at s v).way
+
+-- behind each settled node lies a path of arcs that cost nothing under the potentials q
+pub record ArePaths (arcs : List ArcRow) (q : List ℤ) (s : List NodeLabel) : Type 0 where
+  pub paths : HavePaths arcs s
+  pub tight : ArePathsTight arcs q s
+
+-- a path to node v can take the residual arc along arc k as its last hop
+pub record IsHopTo (arcs : List ArcRow) (q x : List ℤ) (s : List NodeLabel) (v k : ℕ) (way : Way) : Type 0 where
+  pub residual : IsResidual arcs x k way
+  pub came : IsCameBy arcs s v k way
+  pub tight : IsTightArc arcs q k way
+
+-- no hop of the path costs anything under the potentials q
+abbrev pub IsTight : List ArcRow → List ℤ → List ResidualArc → Type 0
+IsTight arcs q [] = Unit {0}
+IsTight arcs q (h ∷ hops) =
+    IsTightArc arcs q h.arc h.way × IsTight arcs q hops
+
+-- m at node u, and nothing at another node
+abbrev pub at_node : ℕ → ℤ → ℕ → ℤ
+at_node u m v = if u == v then m else pos 0
+
+-- no excess and no deficit is above the limit
+pub record AreSmall (e : List ℤ) : Type 0 where
+  pub low : (v : ℕ) → neg_ℤ (pos excess_limit) ≤ℤ number_at e v
+  pub high : (v : ℕ) → number_at e v ≤ℤ pos excess_limit
+
+-- f is e with m moved from the excess of u to the deficit of w
+pub record IsTransfer (u w : ℕ) (m : ℤ) (e f : List ℤ) : Type 0 where
+  pub same_length : length f ≡ length e
+  pub by_node : (v : ℕ) → number_at f v ≡ (number_at e v -ℤ at_node u m v) +ℤ at_node w m v
+
+abbrev pub root_to : List ArcRow → List NodeLabel → ℕ → ℕ
+root_to arcs s v = root_of arcs s (depth_at s v) v
+
+-- a flow within the bounds, under which no residual arc has a reduced cost below 0 under the potentials q, and what lies in excess
+pub record IsUnderWay (nodes : ℕ) (arcs : List ArcRow) (q x e : List ℤ) : Type 0 where
+  pub flow : IsFlow nodes arcs x
+  pub none_below : NoneBelow arcs x q
+  pub excess_sized : length e ≡ nodes
+  pub small : AreSmall e
+
+-- n pushes lead from a flow x with excesses e to a flow y with excesses f
+pub record ArePushes (arcs : List ArcRow) (n : ℕ) (x e y f : List ℤ) : Type 0 where
+  pub excess : (supply : ℕ → ℤ) → IsExcess arcs supply x e → IsExcess arcs supply y f
+  pub pushes : (supply : ℕ → ℤ) → IsExcess arcs supply x e → Pushes arcs supply n x y
+  pub count : n + left f ≤ left e
+  pub lacking : n + lack f ≤ lack e
+  pub none : n ≡ 0 → (x ≡ y) × (e ≡ f)
+
+-- node t lacks something that can be pushed along its path
+pub record CanPush (arcs : List ArcRow) (x e : List ℤ) (s : List NodeLabel) (t : ℕ) : Type 0 where
+  pub found : IsFoundDeficit e s t
+  pub room : HasRoom arcs x (pos 1) (path_to arcs s t)
+  pub in_excess : pos 0 <ℤ number_at e (root_to arcs s t)
+
+-- the sum of all capacities
+abbrev pub cap_total : List ArcRow → ℕ
+cap_total arcs = sum_by (λ a. positive_part a.cap) arcs
+
+-- each supply is within its limit either way
+pub record AreSupplies (supply : ℕ → ℤ) : Type 0 where
+  pub low : (v : ℕ) → neg_ℤ (pos supply_limit) ≤ℤ supply v
+  pub high : (v : ℕ) → supply v ≤ℤ pos supply_limit

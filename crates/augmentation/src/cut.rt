@@ -1,0 +1,118 @@
+//! The nodes that show why supply is left over or demand is not met.
+
+ghost use Rattle.std.specs.Prelude.{◌≡◌, ℕ, length, ◌<◌, ◌≤◌, ◌+◌, IsTrue, ◌↔◌, true, false, slice_set};
+ghost use Rattle.residual_graph.specs.Limits.{entry_limit};
+ghost use Rattle.residual_graph.specs.Residual.{IsFlow, number_at};
+ghost use Rattle.residual_graph.specs.Graph.{IsGraphFor};
+ghost use Rattle.augmentation.specs.Cut.{in_set, IsSide, IsListOf, IsGrown, AreFarIn};
+ghost use Rattle.residual_graph.specs.Side.{IsRoot, leading};
+ghost use Rattle.augmentation.specs.Touched.{AreNoted};
+
+use crate::touched::Touched;
+use residual_graph::{Graph, Side, Walk};
+
+/// What leads on from the marked nodes of a side.
+#[derive(Clone, Copy)]
+struct OnSide<'a> {
+    side: Side,
+    graph: &'a Graph,
+    flow: &'a [i64],
+}
+
+/// Marks the nodes of a side. `worklist` is a table to list them in.
+pub fn mark_side(
+    side: Side,
+    graph: &Graph,
+    flow: &[i64],
+    excess: &[i64],
+    cut: &mut [bool],
+    worklist: &mut [u32],
+)
+    requires graph { IsGraphFor (length excess.now) graph.now }
+    requires flow { IsFlow (length excess.now) graph.now.rows.items flow.now }
+    requires cut_in { length cut.old ≡ length excess.now }
+    requires worklist_in { length worklist.old ≡ length excess.now }
+    ensures { IsSide side graph.now.rows.items flow.now excess.now cut.new }
+{
+    let mut len = mark_roots(side, excess, cut, worklist);
+    let mut next = 0;
+    while next < len {
+        let node = worklist[next];
+        len = mark_from(OnSide { side, graph, flow }, cut, worklist, len, node);
+        next += 1;
+    }
+}
+
+/// Marks the roots, lists them, and gives how many there are.
+fn mark_roots(side: Side, excess: &[i64], cut: &mut [bool], worklist: &mut [u32]) -> usize
+    requires few { length excess.now ≤ entry_limit }
+    requires cut_in { length cut.old ≡ length excess.now }
+    requires worklist_in { length worklist.old ≡ length excess.now }
+    ensures marked { (v : ℕ) → IsTrue (in_set cut.new v) ↔ IsRoot side (number_at excess.now v) }
+    ensures worklist { IsListOf cut.new worklist.new result }
+{
+    cut.fill(false);
+    let mut len = 0;
+    for v in 0..cut.len() {
+        if side.is_root(excess[v]) {
+            len = mark(cut, worklist, len, v);
+        }
+    }
+    len
+}
+
+/// Marks a node, puts it at the end of the worklist of marked nodes, and gives the length of the worklist.
+fn mark(cut: &mut [bool], worklist: &mut [u32], len: usize, node: usize) -> usize
+    requires worklist { IsListOf cut.old worklist.old len }
+    requires few { length cut.old ≤ entry_limit }
+    requires node_in { node < length cut.old }
+    requires unmarked { in_set cut.old node ≡ false }
+    ensures cut { cut.new ≡ slice_set cut.old node true }
+    ensures put { worklist.new ≡ slice_set worklist.old len node }
+    ensures length { result ≡ len + 1 }
+    ensures worklist { IsListOf cut.new worklist.new result }
+{
+    cut[node] = true;
+    worklist[len] = node as u32;
+    len + 1
+}
+
+/// Marks the nodes to which residual arcs lead on from a marked node, and gives the length of the worklist.
+fn mark_from(on: OnSide<'_>, cut: &mut [bool], worklist: &mut [u32], len: usize, node: u32) -> usize
+    requires graph { IsGraphFor (length cut.old) on.graph.now }
+    requires flow { IsFlow (length cut.old) on.graph.now.rows.items on.flow.now }
+    requires worklist { IsListOf cut.old worklist.old len }
+    requires marked { in_set cut.old node ≡ true }
+    ensures worklist { IsListOf cut.new worklist.new result }
+    ensures grown { IsGrown on.entry.side on.entry.graph.now.rows.items on.entry.flow.now cut.old worklist.old len cut.new worklist.new result }
+    ensures far { AreFarIn on.entry.side on.entry.graph.now.rows.items on.entry.flow.now cut.new node }
+{
+    let mut longer = len;
+    let mut walk = Walk::at(on.graph, node);
+    while let Some(end) = walk.next(on.graph) {
+        let far = end.other;
+        // Most nodes are marked already: neither the arc nor its flow is read.
+        if cut[far] {
+            continue;
+        }
+        if on.graph.has_room(on.flow, on.side.leading(end)) {
+            longer = mark(cut, worklist, longer, far);
+        }
+    }
+    longer
+}
+
+/// Makes these marks those of a table, which notes the nodes whose mark changes.
+pub fn take_marks(cut: &mut [bool], touched: &mut Touched, marks: &[bool])
+    requires touched_in { length cut.old ≤ length touched.old }
+    requires same_length { length marks.now ≡ length cut.old }
+    ensures cut { cut.new ≡ marks.now }
+    ensures noted { AreNoted touched.old cut.old touched.new cut.new }
+{
+    for v in 0..cut.len() {
+        if cut[v] != marks[v] {
+            cut[v] = marks[v];
+            touched.note(v);
+        }
+    }
+}

@@ -1,0 +1,136 @@
+//! Potentials that are lowered after a search, and raised to the shortest labels at the end.
+
+ghost use Rattle.std.specs.Prelude.{◌≡◌, ℕ, length, ◌≤◌, ◌+ℤ◌, FitsSigned};
+ghost use Rattle.std.specs.Int.{w64};
+ghost use Rattle.residual_graph.specs.Graph.{IsGraphFor};
+ghost use Rattle.shortest_paths.specs.Limits.{label_floor};
+ghost use Rattle.residual_graph.specs.Limits.{potential_floor};
+ghost use Rattle.residual_graph.specs.Residual.{AreGreatest, IsCertified, ArePotentials, number_at};
+ghost use Rattle.shortest_paths.specs.Search.{distance_at, AreLabels, IsReach, lowered, IsLowered};
+ghost use Rattle.augmentation.specs.Scratch.{IsScratchFor};
+ghost use Rattle.residual_graph.specs.Side.{seen};
+ghost use Rattle.augmentation.specs.Touched.{AreNoted};
+ghost use Rattle.shortest_paths.specs.SettledOrder.{IsSettledOrderOf};
+ghost use Rattle.augmentation.specs.Tracked.{IsTracked, IsWritten};
+ghost use Rattle.augmentation.specs.Rounds.{AreLabelled};
+
+use crate::scratch::Scratch;
+use crate::touched::Touched;
+use crate::tracked::Tracked;
+use residual_graph::{Graph, Residual, Side};
+use shortest_paths::{NodeLabel, SettledOrder, search_labels};
+
+/// Searches the labels of all nodes over the potentials in the scratch, as they are seen from a side.
+fn find_labels(graph: &Graph, side: Side, flow: &Tracked<i64>, scratch: &mut Scratch)
+    requires graph { IsGraphFor (length scratch.old.potentials.items) graph.now }
+    requires certified { IsCertified (seen side graph.now.rows.items) flow.now.entries.items scratch.old.potentials.items }
+    requires scratch { IsScratchFor (length scratch.old.potentials.items) scratch.old }
+    ensures labels { AreLabelled (seen side graph.now.rows.items) flow.now.entries.items scratch.new.potentials.items scratch.new.labels.node_labels.items }
+    ensures kept { scratch.new.potentials.items ≡ scratch.old.potentials.items }
+    ensures scratch { IsScratchFor (length scratch.old.potentials.items) scratch.new }
+{
+    search_labels(
+        Residual {
+            graph,
+            side,
+            flow: &flow.entries,
+            potentials: &scratch.potentials,
+        },
+        &mut scratch.labels.node_labels,
+        &mut scratch.labels.order,
+        &mut scratch.queue,
+    );
+}
+
+/// Makes each label a potential.
+fn take_labels(potentials: &mut [i64], node_labels: &[NodeLabel])
+    requires same_length { length node_labels.now ≡ length potentials.old }
+    requires fits { (v : ℕ) → FitsSigned w64 (number_at potentials.old v +ℤ distance_at node_labels.now v) }
+    ensures labels { AreLabels potentials.old potentials.new node_labels.now }
+{
+    for v in 0..potentials.len() {
+        potentials[v] += node_labels[v].distance;
+    }
+}
+
+/// Raises the potentials in the scratch to the shortest labels that are seen from a side.
+pub fn raise(graph: &Graph, side: Side, flow: &Tracked<i64>, scratch: &mut Scratch)
+    requires graph { IsGraphFor (length scratch.old.potentials.items) graph.now }
+    requires certified { IsCertified (seen side graph.now.rows.items) flow.now.entries.items scratch.old.potentials.items }
+    requires scratch { IsScratchFor (length scratch.old.potentials.items) scratch.old }
+    ensures certified { IsCertified (seen side graph.now.rows.items) flow.now.entries.items scratch.new.potentials.items }
+    ensures within { ArePotentials (length scratch.new.potentials.items) label_floor scratch.new.potentials.items }
+    ensures scratch { IsScratchFor (length scratch.old.potentials.items) scratch.new }
+{
+    find_labels(graph, side, flow, scratch);
+    take_labels(&mut scratch.potentials, &scratch.labels.node_labels);
+}
+
+/// Writes each label into a table where another number stands.
+fn write_labels(
+    table: &mut [i64],
+    touched: &mut Touched,
+    potentials: &[i64],
+    node_labels: &[NodeLabel],
+)
+    requires touched_in { length table.old ≤ length touched.old }
+    requires same_length { length potentials.now ≡ length table.old }
+    requires node_labels_in { length node_labels.now ≡ length table.old }
+    requires fits { (v : ℕ) → FitsSigned w64 (number_at potentials.now v +ℤ distance_at node_labels.now v) }
+    ensures labels { AreLabels potentials.now table.new node_labels.now }
+    ensures noted { AreNoted touched.old table.old touched.new table.new }
+{
+    for v in 0..table.len() {
+        let label = potentials[v] + node_labels[v].distance;
+        if label != table[v] {
+            table[v] = label;
+            touched.note(v);
+        }
+    }
+}
+
+/// Writes the shortest labels into the tracked: the greatest potentials that certify the flow, as those in the scratch do.
+pub fn write_potentials(
+    graph: &Graph,
+    flow: &Tracked<i64>,
+    potentials: &mut Tracked<i64>,
+    scratch: &mut Scratch,
+)
+    requires tracked { IsTracked potentials.old }
+    requires same_length { length potentials.old.entries.items ≡ length scratch.old.potentials.items }
+    requires graph { IsGraphFor (length scratch.old.potentials.items) graph.now }
+    requires certified { IsCertified graph.now.rows.items flow.now.entries.items scratch.old.potentials.items }
+    requires scratch { IsScratchFor (length scratch.old.potentials.items) scratch.old }
+    ensures written { IsWritten potentials.old potentials.new }
+    ensures certified { IsCertified graph.now.rows.items flow.now.entries.items potentials.new.entries.items }
+    ensures within { ArePotentials (length potentials.new.entries.items) label_floor potentials.new.entries.items }
+    ensures greatest { AreGreatest graph.now.rows.items flow.now.entries.items potentials.new.entries.items }
+    ensures scratch { IsScratchFor (length scratch.old.potentials.items) scratch.new }
+{
+    find_labels(graph, Side::Ahead, flow, scratch);
+    write_labels(
+        &mut potentials.entries,
+        &mut potentials.touched,
+        &scratch.potentials,
+        &scratch.labels.node_labels,
+    );
+}
+
+/// Lowers the potential of each settled node by what it is nearer than `reach`.
+pub fn lower(
+    potentials: &mut [i64],
+    node_labels: &[NodeLabel],
+    settled_order: &SettledOrder,
+    reach: i64,
+)
+    requires same_length { length node_labels.now ≡ length potentials.old }
+    requires settled_order { IsSettledOrderOf node_labels.now settled_order.now }
+    requires reach { IsReach node_labels.now reach }
+    requires potentials_in { ArePotentials (length potentials.old) potential_floor potentials.old }
+    ensures { IsLowered potentials.old potentials.new node_labels.now reach }
+{
+    for j in 0..settled_order.len {
+        let v = settled_order.nodes[j] as usize;
+        potentials[v] = node_labels[v].lowered(potentials[v], reach);
+    }
+}

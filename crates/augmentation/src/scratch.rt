@@ -1,0 +1,47 @@
+//! The tables that searches write in.
+
+ghost use Rattle.std.specs.Prelude.{◌≡◌, false, IfOk};
+ghost use Rattle.augmentation.specs.Scratch.{IsScratchFor};
+
+use crate::blocking::Walks;
+use shortest_paths::{Labels, NodeLabel, Queue, SettledOrder};
+use std::alloc::{AllocError, Global};
+
+/// Tables with one entry a node. Between two calls nothing is known of them but their size, and that no node is marked
+/// as reached in `node_labels`. What `labels` holds of the last pass is a hint.
+#[derive(Drop)]
+pub struct Scratch {
+    pub node_labels: Vec<NodeLabel>,
+    /// Potentials while flow is pushed, as the side sees them from which the last search went.
+    pub potentials: Vec<i64>,
+    pub labels: Labels,
+    pub queue: Queue,
+    pub settled_order: SettledOrder,
+    pub walks: Walks,
+}
+
+impl Scratch {
+    /// Tables for so many entries.
+    ///
+    /// # Errors
+    /// Memory for a table was refused.
+    pub fn new(alloc: Global, entries: u32) -> Result<Scratch, AllocError>
+        ensures sized { IfOk result (λ s. IsScratchFor entries s) }
+        ensures standing { IfOk result (λ s. s.labels.standing ≡ false) }
+    {
+        let node_labels = vec![in alloc; NodeLabel::unreached(); entries as usize]?;
+        let potentials = vec![in alloc; 0; entries as usize]?;
+        let labels = Labels::new(alloc, entries)?;
+        let queue = Queue::new(alloc, entries as usize)?;
+        let settled_order = SettledOrder::new(alloc, entries as usize)?;
+        let walks = Walks::new(alloc, entries as usize)?;
+        Ok(Scratch {
+            node_labels,
+            potentials,
+            labels,
+            queue,
+            settled_order,
+            walks,
+        })
+    }
+}
