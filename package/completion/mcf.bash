@@ -11,11 +11,11 @@ _mcf() {
     done
     local words=""
     case $command in
-    "") words="solve session check help --help --version" ;;
+    "") words="solve session check help -h --help -V --version" ;;
     help) words="solve session check help" ;;
-    solve) words="--proof --help" ;;
-    session) words="--extra --help" ;;
-    check) words="--help" ;;
+    solve) words="--proof -h --help" ;;
+    session) words="--extra -h --help" ;;
+    check) words="-h --help" ;;
     esac
     COMPREPLY=()
     # The number of --extra is for the user to say.
