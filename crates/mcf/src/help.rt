@@ -65,7 +65,7 @@ group only 'end' does, with the number of its first refused line:
    3  wrong number of fields             26  nothing to redo
    4  not a number                       27  asn: not from the source side to the sink side
    5  a value out of range               28  no mark of this name
-  20  no such arc                        29  'end' without 'group', or no edit in a group
+  20  no such arc                        29  'end' without 'group', or in a group no edit
   21  no such node                       30  not enough memory for this edit or group
   22  the lower bound would be above     31  more than 1,000 edits in a group
       the capacity                       32  not a name
