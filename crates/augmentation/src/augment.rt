@@ -3,6 +3,7 @@
 ghost use Rattle.std.specs.Prelude.{◌≡◌, ◌≢◌, ℕ, ℤ, length, slice_set, pos, neg_ℤ, ◌≤ℤ◌, ◌<ℤ◌, ◌<◌, ◌≤◌, ◌⊎◌, List};
 ghost use Rattle.augmentation.specs.Blocking.{AreAlive, IsDone, IsFound, IsWalksFor, IsWay, hops_from};
 ghost use Rattle.residual_graph.specs.Graph.{IsGraphFor};
+ghost use Rattle.residual_graph.specs.Rooms.{AreRooms};
 ghost use Rattle.residual_graph.specs.Side.{seen};
 ghost use Rattle.residual_graph.specs.Limits.{potential_floor};
 ghost use Rattle.residual_graph.specs.Residual.{IsRow, IsWithin, IsFlow, ArePotentials, number_at, arc_at, room_of};
@@ -15,7 +16,7 @@ use crate::blocking::{Walks, find_path};
 use crate::levels::Levels;
 use crate::touched::Touched;
 use dimacs_text::ArcRow;
-use residual_graph::{ResidualArc, Way};
+use residual_graph::{ResidualArc, Way, note_room};
 use shortest_paths::SettledOrder;
 
 /// The path on which a walk came from `target`, a node in deficit, to `root`, one in excess.
@@ -90,24 +91,26 @@ fn shift(
     levels: Levels<'_>,
     flow: &mut [i64],
     touched: &mut Touched,
-    walks: &Walks,
+    walks: &mut Walks,
     path: FoundPath,
     amount: i64,
 )
     requires touched_in { length flow.old ≤ length touched.old }
     requires flow { IsFlow (length levels.node_labels.now) (seen levels.side levels.graph.now.rows.items) flow.old }
-    requires walks { IsWalksFor (length levels.node_labels.now) walks.now }
+    requires walks { IsWalksFor (length levels.node_labels.now) walks.old }
     requires target_in { path.target < length levels.node_labels.now }
-    requires way { IsWay (seen levels.side levels.graph.now.rows.items) flow.old levels.node_labels.now walks.now path.target path.root }
+    requires way { IsWay (seen levels.side levels.graph.now.rows.items) flow.old levels.node_labels.now walks.old path.target path.root }
     requires amount { pos 1 ≤ℤ amount }
-    requires room { HasRoom (seen levels.side levels.graph.now.rows.items) flow.old amount (hops_from (seen levels.side levels.graph.now.rows.items) levels.node_labels.now walks.now.back.items path.target path.root) }
-    ensures flow { flow.new ≡ push_along (hops_from (seen levels.entry.side levels.entry.graph.now.rows.items) levels.entry.node_labels.now walks.now.back.items path.target path.root) amount flow.old }
+    requires room { HasRoom (seen levels.side levels.graph.now.rows.items) flow.old amount (hops_from (seen levels.side levels.graph.now.rows.items) levels.node_labels.now walks.old.back.items path.target path.root) }
+    ensures flow { flow.new ≡ push_along (hops_from (seen levels.entry.side levels.entry.graph.now.rows.items) levels.entry.node_labels.now walks.old.back.items path.target path.root) amount flow.old }
     ensures noted { AreNoted touched.old flow.old touched.new flow.new }
+    ensures rooms { AreRooms levels.entry.graph.now.rows.items flow.old walks.old.rooms.items → AreRooms levels.entry.graph.now.rows.items flow.new walks.new.rooms.items }
+    ensures tables { walks.new ≡ record walks.old { rooms = walks.new.rooms } }
 {
     let mut node = path.root;
     while levels.node_labels[node].depth < levels.node_labels[path.target].depth {
         let hop = walks.way_on(node);
-        shift_on(levels, flow, touched, hop, amount);
+        shift_on(levels, flow, touched, &mut walks.rooms, hop, amount);
         node = levels.graph.end(levels.side, hop.arc as usize, hop.way);
     }
 }
@@ -117,6 +120,7 @@ fn shift_on(
     levels: Levels<'_>,
     flow: &mut [i64],
     touched: &mut Touched,
+    rooms: &mut [bool],
     hop: ResidualArc,
     amount: i64,
 )
@@ -127,10 +131,12 @@ fn shift_on(
     requires fits { amount ≤ℤ room_of (arc_at (seen levels.side levels.graph.now.rows.items) hop.arc) (number_at flow.old hop.arc) hop.way }
     ensures flow { flow.new ≡ slice_set flow.old hop.arc (moved hop.way (number_at flow.old hop.arc) amount) }
     ensures noted { AreNoted touched.old flow.old touched.new flow.new }
+    ensures rooms { AreRooms levels.entry.graph.now.rows.items flow.old rooms.old → AreRooms levels.entry.graph.now.rows.items flow.new rooms.new }
 {
     let arc = hop.arc as usize;
     let row = levels.graph.row(levels.side, arc);
     flow[arc] = shifted(&row, flow[arc], hop.way, amount);
+    note_room(rooms, hop.arc, &row, flow[arc]);
     touched.note(arc);
 }
 
@@ -169,16 +175,18 @@ fn push_on(
     flow: &mut [i64],
     touched: &mut Touched,
     excess: &mut [i64],
-    walks: &Walks,
+    walks: &mut Walks,
     path: FoundPath,
 )
     requires touched_in { length flow.old ≤ length touched.old }
     requires state { IsUnderWay (length levels.node_labels.now) (seen levels.side levels.graph.now.rows.items) levels.potentials.now flow.old excess.old }
-    requires walks { IsWalksFor (length levels.node_labels.now) walks.now }
+    requires walks { IsWalksFor (length levels.node_labels.now) walks.old }
     requires target_in { path.target < length levels.node_labels.now }
     requires some_deficit { number_at excess.old path.target <ℤ pos 0 }
-    requires found { IsFound (seen levels.side levels.graph.now.rows.items) levels.potentials.now flow.old excess.old levels.node_labels.now walks.now path.target path.root }
+    requires found { IsFound (seen levels.side levels.graph.now.rows.items) levels.potentials.now flow.old excess.old levels.node_labels.now walks.old path.target path.root }
     ensures noted { AreNoted touched.old flow.old touched.new flow.new }
+    ensures rooms { AreRooms levels.entry.graph.now.rows.items flow.old walks.old.rooms.items → AreRooms levels.entry.graph.now.rows.items flow.new walks.new.rooms.items }
+    ensures tables { walks.new ≡ record walks.old { rooms = walks.new.rooms } }
     ensures state { IsUnderWay (length levels.entry.node_labels.now) (seen levels.entry.side levels.entry.graph.now.rows.items) levels.entry.potentials.now flow.new excess.new }
     ensures push { ArePushes (seen levels.entry.side levels.entry.graph.now.rows.items) 1 flow.old excess.old flow.new excess.new }
 {
@@ -205,6 +213,7 @@ fn push_to(
     ensures state { IsUnderWay (length levels.entry.node_labels.now) (seen levels.entry.side levels.entry.graph.now.rows.items) levels.entry.potentials.now flow.new excess.new }
     ensures walks { IsWalksFor (length levels.entry.node_labels.now) walks.new }
     ensures pushes { ArePushes (seen levels.entry.side levels.entry.graph.now.rows.items) result flow.old excess.old flow.new excess.new }
+    ensures rooms { AreRooms levels.entry.graph.now.rows.items flow.old walks.old.rooms.items → AreRooms levels.entry.graph.now.rows.items flow.new walks.new.rooms.items }
     ensures done { IsDone excess.new walks.new target }
     ensures some { ArePaths (seen levels.entry.side levels.entry.graph.now.rows.items) levels.entry.potentials.now levels.entry.node_labels.now → CanPush (seen levels.entry.side levels.entry.graph.now.rows.items) flow.old excess.old levels.entry.node_labels.now target → AreAlive levels.entry.node_labels.now walks.old.dead.items → 0 < result }
     ensures kept { (number_at excess.old target <ℤ pos 0) ⊎ (walks.new ≡ walks.old) }
@@ -250,6 +259,7 @@ pub fn push_found(
     ensures walks { IsWalksFor (length levels.entry.node_labels.now) walks.new }
     ensures pushes { ArePushes (seen levels.entry.side levels.entry.graph.now.rows.items) result flow.old excess.old flow.new excess.new }
     ensures some { (t : ℕ) → IsFoundDeficit excess.old levels.entry.node_labels.now t → 0 < result }
+    ensures rooms { AreRooms levels.entry.graph.now.rows.items flow.old walks.old.rooms.items → AreRooms levels.entry.graph.now.rows.items flow.new walks.new.rooms.items }
 {
     walks.refresh(settled_order);
     let mut pushes = 0;

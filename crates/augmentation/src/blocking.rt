@@ -16,8 +16,8 @@ use residual_graph::{Place, ResidualArc, Walk, Way};
 use shortest_paths::SettledOrder;
 use std::alloc::{AllocError, Global};
 
-/// What the walks after one search share. Each table has one entry a node, and what it holds of an earlier search is of
-/// no account.
+/// What the walks after one search share. Each table but the last has one entry a node, and what it holds of an earlier
+/// search is of no account.
 #[derive(Drop)]
 pub struct Walks {
     /// Whether nothing more is to be had from the node: no walk comes to it again.
@@ -26,11 +26,13 @@ pub struct Walks {
     pub current: Vec<Place>,
     /// The residual arc by which a walk came to the node: it leads on towards the target.
     pub back: Vec<ResidualArc>,
+    /// Which residual arcs have room, as pushes leave it, or nothing: searches ask it too, from one to the next.
+    pub rooms: Vec<bool>,
 }
 
 impl Walks {
-    /// Tables for so many entries.
-    pub fn new(alloc: Global, entries: usize) -> Result<Walks, AllocError>
+    /// Tables for so many entries, and for the rooms of so many residual arcs.
+    pub fn new(alloc: Global, entries: usize, arcs: usize) -> Result<Walks, AllocError>
         ensures { IfOk result (λ w. IsWalksFor entries w) }
     {
         let dead = vec![in alloc; false; entries]?;
@@ -40,10 +42,12 @@ impl Walks {
             way: Way::Forward,
         };
         let back = vec![in alloc; no_arc; entries]?;
+        let rooms = Vec::with_capacity(alloc, arcs)?;
         Ok(Walks {
             dead,
             current,
             back,
+            rooms,
         })
     }
 
@@ -55,6 +59,7 @@ impl Walks {
         ensures dead_sized { length self.new.dead.items ≡ length self.old.dead.items }
         ensures current_sized { length self.new.current.items ≡ length self.old.current.items }
         ensures back { self.new.back ≡ self.old.back }
+        ensures rooms { self.new.rooms ≡ self.old.rooms }
         ensures alive { (j : ℕ) → j < settled_order.now.len → in_set self.new.dead.items (slice_index settled_order.now.nodes.items j) ≡ false }
     {
         for j in 0..settled_order.len {
@@ -180,6 +185,7 @@ fn step_back(levels: Levels<'_>, flow: &[i64], walks: &mut Walks, node: usize) -
     requires walks { IsWalksFor (length levels.node_labels.now) walks.old }
     ensures walks { IsWalksFor (length levels.entry.node_labels.now) walks.new }
     ensures dead { walks.new.dead ≡ walks.old.dead }
+    ensures rooms { walks.new.rooms ≡ walks.old.rooms }
     ensures some { IfSome result (IsSteppedTo (seen levels.entry.side levels.entry.graph.now.rows.items) levels.entry.potentials.now flow.now levels.entry.node_labels.now walks.old walks.new node) }
     ensures none { IfNone result (walks.new ≡ walks.old) }
     // The arc by which the search came to the node is tried first.
@@ -223,6 +229,7 @@ pub fn find_path(
     requires walks { IsWalksFor (length levels.node_labels.now) walks.old }
     ensures walks { IsWalksFor (length levels.entry.node_labels.now) walks.new }
     ensures some { IfSome result (IsFound (seen levels.entry.side levels.entry.graph.now.rows.items) levels.entry.potentials.now flow.now excess.now levels.entry.node_labels.now walks.new target) }
+    ensures rooms { walks.new.rooms ≡ walks.old.rooms }
     ensures none { IfNone result (IsDead walks.new target) }
     // At first the path by which the search came to the target is taken.
     ensures first { IfNone result (ArePaths (seen levels.entry.side levels.entry.graph.now.rows.items) levels.entry.potentials.now levels.entry.node_labels.now → CanPush (seen levels.entry.side levels.entry.graph.now.rows.items) flow.now excess.now levels.entry.node_labels.now target → AreAlive levels.entry.node_labels.now walks.old.dead.items → ⊥) }

@@ -28,6 +28,7 @@ fn find_labels(graph: &Graph, side: Side, flow: &Tracked<i64>, scratch: &mut Scr
     ensures labels { AreLabelled (seen side graph.now.rows.items) flow.now.entries.items scratch.new.potentials.items scratch.new.labels.node_labels.items }
     ensures kept { scratch.new.potentials.items ≡ scratch.old.potentials.items }
     ensures scratch { IsScratchFor (length scratch.old.potentials.items) scratch.new }
+    ensures walks { scratch.new.walks ≡ scratch.old.walks }
 {
     search_labels(
         Residual {
@@ -61,6 +62,7 @@ pub fn raise(graph: &Graph, side: Side, flow: &Tracked<i64>, scratch: &mut Scrat
     ensures certified { IsCertified (seen side graph.now.rows.items) flow.now.entries.items scratch.new.potentials.items }
     ensures within { ArePotentials (length scratch.new.potentials.items) label_floor scratch.new.potentials.items }
     ensures scratch { IsScratchFor (length scratch.old.potentials.items) scratch.new }
+    ensures walks { scratch.new.walks ≡ scratch.old.walks }
 {
     find_labels(graph, side, flow, scratch);
     take_labels(&mut scratch.potentials, &scratch.labels.node_labels);

@@ -4,10 +4,11 @@ ghost use Rattle.residual_graph.specs.Graph.{IsGraphFor};
 ghost use Rattle.shortest_paths.specs.Limits.{label_floor};
 ghost use Rattle.residual_graph.specs.Limits.{potential_floor};
 ghost use Rattle.std.specs.Prelude.{◌≡◌, ℕ, ℤ, List, length, pos, neg_ℤ, ◌≤ℤ◌, ◌+ℤ◌, ◌-ℤ◌, ◌<◌, ◌≤◌, ◌+◌, IsTrue, ◌↔◌, MatchOption, IfNone};
-ghost use Rattle.residual_graph.specs.Residual.{IsCertified, ArePotentials, number_at};
+ghost use Rattle.residual_graph.specs.Residual.{IsCertified, IsFlow, ArePotentials, number_at};
 ghost use Rattle.augmentation.specs.Settle.{IsNear};
 ghost use Rattle.augmentation.specs.Push.{ArePushes, lack, left, AreSmall};
 ghost use Rattle.augmentation.specs.Scratch.{IsScratchFor};
+ghost use Rattle.residual_graph.specs.Rooms.{AreRooms};
 ghost use Rattle.residual_graph.specs.Side.{other_side, seen};
 ghost use Rattle.dimacs_text.specs.declared.problem.ArcRow.{ArcRow};
 ghost use Rattle.augmentation.specs.Tracked.{IsTracked, IsWritten};
@@ -20,7 +21,7 @@ use crate::potentials::{lower, raise};
 use crate::scratch::Scratch;
 use crate::tracked::Tracked;
 use crate::turn::{turn_excess, turn_potentials};
-use residual_graph::{Graph, Residual, Side};
+use residual_graph::{Graph, Residual, Side, note_rooms};
 use shortest_paths::{find_deficits, forget};
 
 /// How far potentials may fall below the shortest labels before labels are taken again.
@@ -53,17 +54,33 @@ pub fn push_all(
     }
     // The potentials after a run are the shortest labels ahead: a search from behind has its goals near it.
     let mut side = turn_round(Side::Ahead, excess, scratch);
+    scratch.walks.rooms.clear();
     let mut pushes = 0;
     let mut fallen = 0;
     while let Some(reach) = search_on(graph, side, flow, excess, scratch) {
         pushes += push_within(graph, side, flow, excess, scratch, reach);
         fallen = keep_near(graph, side, flow, scratch, fallen + reach);
         side = turn_round(side, excess, scratch);
+        if let Side::Behind = side {
+            fill_rooms(graph, flow, scratch);
+        }
     }
     if let Side::Behind = side {
         let _ahead = turn_round(side, excess, scratch);
     }
     pushes
+}
+
+/// Fills the table of rooms, once in a run: a run of one or two searches asks too little to pay for it.
+fn fill_rooms(graph: &Graph, flow: &Tracked<i64>, scratch: &mut Scratch)
+    requires flow { (nodes : ℕ) × IsFlow nodes graph.now.rows.items flow.now.entries.items }
+    requires rooms { AreRooms graph.now.rows.items flow.now.entries.items scratch.old.walks.rooms.items }
+    ensures rooms { AreRooms graph.now.rows.items flow.now.entries.items scratch.new.walks.rooms.items }
+    ensures kept { scratch.new ≡ record scratch.old { walks = record scratch.old.walks { rooms = scratch.new.walks.rooms } } }
+{
+    if scratch.walks.rooms.is_empty() {
+        note_rooms(graph, &flow.entries, &mut scratch.walks.rooms);
+    }
 }
 
 /// Turns the potentials and the excess of each node round, for a search from the other side, and gives that side.
@@ -77,6 +94,7 @@ fn turn_round(side: Side, excess: &mut [i64], scratch: &mut Scratch) -> Side
     ensures certified { (arcs : List ArcRow) (x : List ℤ) → IsCertified (seen side arcs) x scratch.old.potentials.items → IsCertified (seen result arcs) x scratch.new.potentials.items }
     ensures near { (fallen : ℤ) → IsNear scratch.old.potentials.items fallen → IsNear scratch.new.potentials.items fallen }
     ensures scratch { IsScratchFor (length scratch.old.potentials.items) scratch.new }
+    ensures walks { scratch.new.walks ≡ scratch.old.walks }
 {
     turn_potentials(&mut scratch.potentials);
     turn_excess(excess);
@@ -97,8 +115,10 @@ fn search_on(
     requires certified { IsCertified (seen side graph.now.rows.items) flow.now.entries.items scratch.old.potentials.items }
     requires excess_in { length excess.now ≡ length scratch.old.potentials.items }
     requires scratch { IsScratchFor (length scratch.old.potentials.items) scratch.old }
+    requires rooms { AreRooms graph.now.rows.items flow.now.entries.items scratch.old.walks.rooms.items }
     ensures found { MatchOption result (IsParted (seen side graph.now.rows.items) flow.now.entries.items excess.now) (HoldsSearch (seen side graph.now.rows.items) flow.now.entries.items excess.now scratch.new) }
     ensures kept { scratch.new.potentials.items ≡ scratch.old.potentials.items }
+    ensures walks { scratch.new.walks ≡ scratch.old.walks }
     ensures forgotten { IfNone result (IsScratchFor (length scratch.old.potentials.items) scratch.new) }
 {
     if !has_both(excess) {
@@ -116,6 +136,7 @@ fn search_on(
         &mut scratch.node_labels,
         &mut scratch.queue,
         &mut scratch.settled_order,
+        &scratch.walks.rooms,
     );
     if reach.is_none() {
         forget(
@@ -151,6 +172,7 @@ fn push_within(
     ensures pushed { ArePushes (seen side graph.now.rows.items) result flow.old.entries.items excess.old flow.new.entries.items excess.new }
     ensures some { 0 < result }
     ensures scratch { IsScratchFor (length scratch.old.potentials.items) scratch.new }
+    ensures rooms { AreRooms graph.now.rows.items flow.old.entries.items scratch.old.walks.rooms.items → AreRooms graph.now.rows.items flow.new.entries.items scratch.new.walks.rooms.items }
 {
     lower(
         &mut scratch.potentials,
@@ -197,6 +219,7 @@ fn keep_near(
     ensures certified { IsCertified (seen side graph.now.rows.items) flow.now.entries.items scratch.new.potentials.items }
     ensures scratch { IsScratchFor (length scratch.old.potentials.items) scratch.new }
     ensures near { IsNear scratch.new.potentials.items result }
+    ensures walks { scratch.new.walks ≡ scratch.old.walks }
     ensures kept { fallen ≤ℤ FALL_LIMIT → (scratch.new ≡ scratch.old) × (result ≡ fallen) }
 {
     if fallen <= FALL_LIMIT {

@@ -21,11 +21,11 @@ pub struct Scratch {
 }
 
 impl Scratch {
-    /// Tables for so many entries.
+    /// Tables for so many entries, and for the rooms of so many residual arcs.
     ///
     /// # Errors
     /// Memory for a table was refused.
-    pub fn new(alloc: Global, entries: u32) -> Result<Scratch, AllocError>
+    pub fn new(alloc: Global, entries: u32, arcs: usize) -> Result<Scratch, AllocError>
         ensures sized { IfOk result (λ s. IsScratchFor entries s) }
         ensures standing { IfOk result (λ s. s.labels.standing ≡ false) }
     {
@@ -34,7 +34,7 @@ impl Scratch {
         let labels = Labels::new(alloc, entries)?;
         let queue = Queue::new(alloc, entries as usize)?;
         let settled_order = SettledOrder::new(alloc, entries as usize)?;
-        let walks = Walks::new(alloc, entries as usize)?;
+        let walks = Walks::new(alloc, entries as usize, arcs)?;
         Ok(Scratch {
             node_labels,
             potentials,

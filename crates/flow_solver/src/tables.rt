@@ -74,7 +74,7 @@ impl Tables {
         let potentials = Tracked::new(alloc, vec![in alloc; 0; entries]?, entries)?;
         let balance = Balance::new(alloc, &graph.net, &graph.rows, &flow.entries)?;
         let cut = Tracked::new(alloc, vec![in alloc; false; entries]?, entries)?;
-        let scratch = Scratch::new(alloc, graph.net.nodes() + 1)?;
+        let scratch = Scratch::new(alloc, graph.net.nodes() + 1, 2 * room)?;
         let log = Vec::with_capacity(alloc, GROUP_LIMIT)?;
         Ok(Tables {
             graph,

@@ -5,3 +5,4 @@ pub mod StarLemmas
 pub mod EndLemmas
 pub mod TurnedRows
 pub mod SideLemmas
+pub mod RoomLemmas

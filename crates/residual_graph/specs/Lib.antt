@@ -5,3 +5,4 @@ pub mod Star
 pub mod Graph
 pub mod Ends
 pub mod Side
+pub mod Rooms

@@ -3,11 +3,13 @@
 ghost use Rattle.std.specs.Prelude.{◌≡◌, ℕ, ◌+◌, ◌<◌, ◌≤◌, ◌↔◌, IfOk, IsTrue, length, vec_capacity};
 ghost use Rattle.residual_graph.specs.Graph.{IsGraphFor};
 ghost use Rattle.residual_graph.specs.Residual.{IsFlow, IsResidual, arc_at, end_at, start_at};
+ghost use Rattle.residual_graph.specs.Rooms.{AreRooms};
 ghost use Rattle.residual_graph.specs.Side.{seen, turned_row};
 ghost use Rattle.residual_graph.specs.declared.side.Side.{Side};
 ghost use Rattle.residual_graph.specs.Walk.{AreRowsOf};
 
 use crate::residual::{ResidualArc, Way};
+use crate::rooms::entry_of;
 use crate::rows::reduced_rows;
 use crate::side::Side;
 use crate::star::Star;
@@ -70,6 +72,23 @@ impl Graph {
     {
         let k = arc.arc as usize;
         arc.way.room(&self.rows[k], flow[k]) > 0
+    }
+
+    /// The same, by a table of rooms where it has an entry of this residual arc.
+    #[inline(always)]
+    pub fn has_room_by(&self, rooms: &[bool], flow: &[i64], arc: ResidualArc) -> bool
+        requires flow { (nodes : ℕ) × IsFlow nodes self.now.rows.items flow.now }
+        requires arc_in { arc.arc < length self.now.rows.items }
+        requires rooms { AreRooms self.now.rows.items flow.now rooms.now }
+        ensures here { IsTrue result ↔ IsResidual self.now.rows.items flow.now arc.arc arc.way }
+        ensures seen { (side : Side) → IsTrue result ↔ IsResidual (seen side self.now.rows.items) flow.now arc.arc arc.way }
+    {
+        let entry = entry_of(arc);
+        if entry < rooms.len() {
+            rooms[entry]
+        } else {
+            self.has_room(flow, arc)
+        }
     }
 
     /// The node from which the residual arc in this way along the arc in row `k` leads, as it is seen from this side.

@@ -8,6 +8,7 @@
 mod graph;
 mod residual;
 mod residual_network;
+mod rooms;
 mod rows;
 mod side;
 mod star;
@@ -16,6 +17,7 @@ mod walk;
 pub use graph::Graph;
 pub use residual::{ResidualArc, Way};
 pub use residual_network::Residual;
+pub use rooms::{is_saturated, note_room, note_rooms};
 pub use side::Side;
 pub use star::{Incidence, Star};
 pub use walk::{End, Place, Walk};

@@ -282,7 +282,7 @@ fn search_rest(
 {
     let mut place = kept;
     while let Some(u) = queue.first(node_labels) {
-        let _settled = settle_node(residual, node_labels, queue);
+        let _settled = settle_node(residual, node_labels, queue, &[]);
         place = note(order, place, u);
     }
 }

@@ -8,6 +8,7 @@ ghost use Rattle.residual_graph.specs.Residual.{IsRow, IsFlow, IsCertified, AreP
 ghost use Rattle.shortest_paths.specs.Search.{IsSearch, IsLastSettled, Improves, Takes, reduced_at, IsRelaxed, IsRelaxedFrom, AllRelaxed, Settles, node_label_at, state_at, distance_at, priced_distance, source_node_label, IsFromExcess, IsExhausted, HasFound};
 ghost use Rattle.residual_graph.specs.Graph.{IsGraphFor};
 ghost use Rattle.shortest_paths.specs.Queue.{IsQueueOf, IsQueueFor, size, first_of};
+ghost use Rattle.residual_graph.specs.Rooms.{AreRooms};
 ghost use Rattle.residual_graph.specs.Side.{IsLeading, leading, seen};
 ghost use Rattle.shortest_paths.specs.SettledOrder.{IsFresh, IsSettledOrderFor, IsSettledOrderOf};
 ghost use Rattle.shortest_paths.specs.declared.node_label.State.TheVariants.{Unreached};
@@ -16,7 +17,7 @@ use crate::node_label::{NodeLabel, State};
 use crate::queue::Queue;
 use crate::settled_order::SettledOrder;
 use dimacs_text::ArcRow;
-use residual_graph::{End, Residual, ResidualArc, Walk, Way};
+use residual_graph::{End, Residual, ResidualArc, Walk, Way, is_saturated};
 
 /// The length of the path to the end of a residual arc by way of its start.
 pub fn distance_through(
@@ -48,17 +49,27 @@ fn distance_beyond(residual: Residual<'_>, from: i64, end: End) -> i64
     from + residual.side.leading_cost(end) - residual.potentials[end.other]
 }
 
-/// Takes a better path to the other node at this end, which goes on from the node settled last. `distance` is its length.
+/// Where a search looks on from: the node settled last, and the length of the path to it with its potential.
+#[derive(Clone, Copy)]
+struct Origin {
+    node: usize,
+    priced: i64,
+}
+
+/// Takes a better path to the other node at this end, which goes on from `start`, the node settled last. `distance` is
+/// its length.
 fn take_path(
     residual: Residual<'_>,
     node_labels: &mut [NodeLabel],
     queue: &mut Queue,
+    start: usize,
     distance: i64,
     end: End,
 )
     requires search { IsSearch (seen residual.side residual.graph.now.rows.items) residual.flow.now residual.potentials.now node_labels.old }
     requires queue { IsQueueOf node_labels.old queue.old }
     requires end { IsLeading residual.side (seen residual.side residual.graph.now.rows.items) end }
+    requires start { start ≡ start_at (seen residual.side residual.graph.now.rows.items) (leading residual.side end).arc (leading residual.side end).way }
     requires last { IsLastSettled node_labels.old (start_at (seen residual.side residual.graph.now.rows.items) (leading residual.side end).arc (leading residual.side end).way) }
     requires residual { IsResidual (seen residual.side residual.graph.now.rows.items) residual.flow.now (leading residual.side end).arc (leading residual.side end).way }
     requires distance { distance ≡ distance_at node_labels.old (start_at (seen residual.side residual.graph.now.rows.items) (leading residual.side end).arc (leading residual.side end).way) +ℤ reduced_at (seen residual.side residual.graph.now.rows.items) residual.potentials.now (leading residual.side end).arc (leading residual.side end).way }
@@ -69,9 +80,6 @@ fn take_path(
     ensures relaxed { IsRelaxed (seen residual.entry.side residual.entry.graph.now.rows.items) residual.entry.potentials.now node_labels.new (leading residual.entry.side end).arc (leading residual.entry.side end).way }
 {
     let arc = residual.side.leading(end);
-    let start = residual
-        .graph
-        .start(residual.side, arc.arc as usize, arc.way);
     let depth = node_labels[start].depth + 1;
     queue.improve(
         node_labels,
@@ -86,30 +94,36 @@ fn take_path(
     );
 }
 
-/// Takes the residual arc that leads on from the node settled last at this end into account, where it is there. `from`
-/// is the length of the path to the node with the node's potential.
+/// Takes the residual arc that leads on from the node settled last at this end into account, where it is there.
 fn relax(
     residual: Residual<'_>,
     node_labels: &mut [NodeLabel],
     queue: &mut Queue,
-    from: i64,
+    rooms: &[bool],
+    origin: Origin,
     end: End,
 )
     requires search { IsSearch (seen residual.side residual.graph.now.rows.items) residual.flow.now residual.potentials.now node_labels.old }
     requires queue { IsQueueOf node_labels.old queue.old }
     requires end { IsLeading residual.side (seen residual.side residual.graph.now.rows.items) end }
     requires last { IsLastSettled node_labels.old (start_at (seen residual.side residual.graph.now.rows.items) (leading residual.side end).arc (leading residual.side end).way) }
-    requires from { from ≡ priced_distance residual.potentials.now node_labels.old (start_at (seen residual.side residual.graph.now.rows.items) (leading residual.side end).arc (leading residual.side end).way) }
+    requires rooms { AreRooms residual.graph.now.rows.items residual.flow.now rooms.now }
+    requires start { origin.node ≡ start_at (seen residual.side residual.graph.now.rows.items) (leading residual.side end).arc (leading residual.side end).way }
+    requires priced { origin.priced ≡ priced_distance residual.potentials.now node_labels.old (start_at (seen residual.side residual.graph.now.rows.items) (leading residual.side end).arc (leading residual.side end).way) }
     ensures search { IsSearch (seen residual.entry.side residual.entry.graph.now.rows.items) residual.entry.flow.now residual.entry.potentials.now node_labels.new }
     ensures queue { IsQueueOf node_labels.new queue.new }
     ensures improves { Improves node_labels.old node_labels.new }
     ensures relaxed { IsResidual (seen residual.entry.side residual.entry.graph.now.rows.items) residual.entry.flow.now (leading residual.entry.side end).arc (leading residual.entry.side end).way → IsRelaxed (seen residual.entry.side residual.entry.graph.now.rows.items) residual.entry.potentials.now node_labels.new (leading residual.entry.side end).arc (leading residual.entry.side end).way }
 {
+    // Where the table of rooms is filled, most residual arcs that are not there are passed over by it.
+    if is_saturated(rooms, residual.side, end) {
+        return;
+    }
     // No path to a settled node gets better: not even its potential is read.
     if node_labels[end.other].is_settled() {
         return;
     }
-    let distance = distance_beyond(residual, from, end);
+    let distance = distance_beyond(residual, origin.priced, end);
     // No residual arc has a reduced cost below 0: none leads to where the path would be shorter than to a settled node.
     if distance < queue.present {
         return;
@@ -119,14 +133,21 @@ fn relax(
         return;
     }
     let arc = residual.side.leading(end);
-    if residual.graph.has_room(residual.flow, arc) {
-        take_path(residual, node_labels, queue, distance, end);
+    if residual.graph.has_room_by(rooms, residual.flow, arc) {
+        take_path(residual, node_labels, queue, origin.node, distance, end);
     }
 }
 
 /// Takes each residual arc from the node settled last into account.
-fn relax_all(residual: Residual<'_>, node_labels: &mut [NodeLabel], queue: &mut Queue, u: usize)
+fn relax_all(
+    residual: Residual<'_>,
+    node_labels: &mut [NodeLabel],
+    queue: &mut Queue,
+    rooms: &[bool],
+    u: usize,
+)
     requires graph { IsGraphFor (length residual.potentials.now) residual.graph.now }
+    requires rooms { AreRooms residual.graph.now.rows.items residual.flow.now rooms.now }
     requires search { IsSearch (seen residual.side residual.graph.now.rows.items) residual.flow.now residual.potentials.now node_labels.old }
     requires queue { IsQueueOf node_labels.old queue.old }
     requires last { IsLastSettled node_labels.old u }
@@ -135,10 +156,13 @@ fn relax_all(residual: Residual<'_>, node_labels: &mut [NodeLabel], queue: &mut 
     ensures improves { Improves node_labels.old node_labels.new }
     ensures relaxed { IsRelaxedFrom (seen residual.entry.side residual.entry.graph.now.rows.items) residual.entry.flow.now residual.entry.potentials.now node_labels.new u (length (seen residual.entry.side residual.entry.graph.now.rows.items)) }
 {
-    let from = node_labels[u].distance + residual.potentials[u];
+    let origin = Origin {
+        node: u,
+        priced: node_labels[u].distance + residual.potentials[u],
+    };
     let mut walk = Walk::at(residual.graph, u as u32);
     while let Some(end) = walk.next(residual.graph) {
-        relax(residual, node_labels, queue, from, end);
+        relax(residual, node_labels, queue, rooms, origin, end);
     }
 }
 
@@ -147,8 +171,10 @@ pub fn settle_node(
     residual: Residual<'_>,
     node_labels: &mut [NodeLabel],
     queue: &mut Queue,
+    rooms: &[bool],
 ) -> usize
     requires graph { IsGraphFor (length residual.potentials.now) residual.graph.now }
+    requires rooms { AreRooms residual.graph.now.rows.items residual.flow.now rooms.now }
     requires search { IsSearch (seen residual.side residual.graph.now.rows.items) residual.flow.now residual.potentials.now node_labels.old }
     requires queue { IsQueueOf node_labels.old queue.old }
     requires relaxed { AllRelaxed (seen residual.side residual.graph.now.rows.items) residual.flow.now residual.potentials.now node_labels.old }
@@ -160,7 +186,7 @@ pub fn settle_node(
     ensures settles { Settles node_labels.old node_labels.new result }
 {
     let first = queue.settle_first(node_labels);
-    relax_all(residual, node_labels, queue, first);
+    relax_all(residual, node_labels, queue, rooms, first);
     first
 }
 
@@ -201,15 +227,18 @@ fn wanted_deficits(excess: &[i64]) -> usize
 }
 
 /// Searches from the nodes in excess until all nodes in deficit are settled, or no node is open, and gives how far
-/// the search has come; nothing where no node in deficit can be reached. The settled order lists the settled nodes.
+/// the search has come; nothing where no node in deficit can be reached. The settled order lists the settled nodes. What
+/// the table of rooms does not say is read from the rows and the flow.
 pub fn find_deficits(
     residual: Residual<'_>,
     excess: &[i64],
     node_labels: &mut [NodeLabel],
     queue: &mut Queue,
     settled_order: &mut SettledOrder,
+    rooms: &[bool],
 ) -> Option<i64>
     requires graph { IsGraphFor (length residual.potentials.now) residual.graph.now }
+    requires rooms { AreRooms residual.graph.now.rows.items residual.flow.now rooms.now }
     requires excess_in { length excess.now ≡ length residual.potentials.now }
     requires node_labels_in { length node_labels.old ≡ length residual.potentials.now }
     requires fresh { IsFresh node_labels.old }
@@ -229,7 +258,7 @@ pub fn find_deficits(
     let mut found = 0;
     let mut reach = 0;
     while let Some(u) = queue.first(node_labels) {
-        let _settled = settle_node(residual, node_labels, queue);
+        let _settled = settle_node(residual, node_labels, queue, rooms);
         settled_order.note(u);
         reach = node_labels[u].distance;
         if excess[u] < 0 {

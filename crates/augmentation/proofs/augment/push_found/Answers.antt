@@ -1,5 +1,5 @@
 use Rattle.augmentation.specs.Limits.{left_limit}
-use Rattle.std.proofs.Common.{◌≡◌, ◌∙◌, ℕ, ◌+◌, ◌≤◌, ◌<◌, ◌^◌, ℤ, List, false, inl, inr, length, sym, ap, subst, arith, rules}
+use Rattle.std.proofs.Common.{◌≡◌, ◌∙◌, ℕ, ◌+◌, ◌≤◌, ◌<◌, ◌^◌, ℤ, List, Bool, false, inl, inr, length, sym, ap, subst, arith, rules}
 use Rattle.std.proofs.lemmas.Bool.{cases_eq, cases_lt}
 use Rattle.std.proofs.lemmas.List.{get_or_read}
 use Rattle.augmentation.specs.declared.blocking.Walks.{Walks}
@@ -11,6 +11,7 @@ use Rattle.shortest_paths.specs.NodeLists.{node_at}
 use Rattle.std.specs.Prelude.{◌<ℤ◌, pos}
 use Rattle.shortest_paths.specs.declared.node_label.State.TheVariants.{Settled}
 use Rattle.residual_graph.specs.Residual.{number_at}
+use Rattle.residual_graph.specs.Rooms.{AreRooms}
 use Rattle.shortest_paths.specs.Search.{IsFoundDeficit, state_at}
 use Rattle.augmentation.specs.Push.{left, CanPush}
 use Rattle.shortest_paths.specs.SettledOrder.{IsSettledOrderOf}
@@ -37,6 +38,7 @@ refresh-requires-clause-in_current c = λ j lt. (let inside = node_in c.args.lev
 pub loop-j-init : goal.loop-j-init
 loop-j-init c = record {
   noted = AreNoted-none c.args.touched.now c.args.flow.now;
+  rooms = λ are. are;
   state = c.requires.state;
   walks = record {
     dead_sized = c.refresh.ensures.dead_sized ∙ c.requires.walks.dead_sized;
@@ -86,6 +88,7 @@ loop-j-preserved c =
     let settled = subst (λ (u : ℕ). state_at c.args.levels.node_labels.now u ≡ Settled) (sym (target_is at_index)) (c.requires.settled_order.settled c.loop-j.j c.loop-j-test.true) in
     record {
       noted = AreNoted-trans c.loop-j.invariant.noted c.push_to-pushes.ensures.noted;
+      rooms = λ are. c.push_to-pushes.ensures.rooms (c.loop-j.invariant.rooms are);
       state = c.push_to-pushes.ensures.state;
       walks = c.push_to-pushes.ensures.walks;
       done = ArePushes-more c.loop-j.invariant.done c.push_to-pushes.ensures.pushes;
@@ -111,3 +114,7 @@ pub returns-clause-some : goal.returns-clause-some
 returns-clause-some c = λ t found.
     (let listed = c.requires.settled_order.listed t found.settled in
     c.loop-j.invariant.some listed.place (omega (arith, listed.in_list, c.loop-j-test.false)) (subst (IsFoundDeficit c.args.excess.now c.args.levels.node_labels.now) (sym listed.is_there) found))
+
+pub returns-clause-rooms : goal.returns-clause-rooms
+returns-clause-rooms c are =
+    c.loop-j.invariant.rooms (subst (λ (t : List Bool). AreRooms c.args.levels.graph.now.rows.items c.args.flow.now t) (sym (ap (λ r. r.items) c.refresh.ensures.rooms)) are)

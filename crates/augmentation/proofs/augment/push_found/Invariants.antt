@@ -3,6 +3,7 @@ use Rattle.augmentation.specs.Blocking.{AreAlive, IsWalksFor}
 use Rattle.shortest_paths.specs.NodeLists.{node_at}
 use Rattle.shortest_paths.specs.Search.{IsFoundDeficit}
 use Rattle.augmentation.specs.Push.{IsUnderWay, ArePushes}
+use Rattle.residual_graph.specs.Rooms.{AreRooms}
 use Rattle.augmentation.specs.Touched.{AreNoted}
 use Rattle.residual_graph.specs.Side.{seen}
 use Rattle.augmentation.proofs.augment.push_found.Given as goal
@@ -10,6 +11,7 @@ use Rattle.augmentation.proofs.augment.push_found.Given as goal
 abbrev pub invariant-loop-j : goal.invariant-loop-j
 invariant-loop-j l = record {
   noted : AreNoted l.initial.touched l.initial.flow l.touched l.flow;
+  rooms : AreRooms l.levels.graph.now.rows.items l.initial.flow l.initial.walks.rooms.items → AreRooms l.levels.graph.now.rows.items l.flow l.walks.rooms.items;
   state : IsUnderWay (length l.levels.node_labels.now) (seen l.levels.side l.levels.graph.now.rows.items) l.levels.potentials.now l.flow l.excess;
   walks : IsWalksFor (length l.levels.node_labels.now) l.walks;
   done : ArePushes (seen l.levels.side l.levels.graph.now.rows.items) l.pushes l.initial.flow l.initial.excess l.flow l.excess;

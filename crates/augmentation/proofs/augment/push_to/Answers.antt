@@ -1,9 +1,10 @@
 use Rattle.augmentation.specs.Limits.{left_limit}
-use Rattle.std.proofs.Common.{◌+◌, ◌≤◌, ◌<◌, ◌^◌, List, ℤ, inl, inr, length, refl, sym, subst, arith, rules}
+use Rattle.std.proofs.Common.{◌+◌, ◌≤◌, ◌<◌, ◌^◌, List, Bool, ℤ, inl, inr, length, refl, ap, sym, subst, arith, rules}
 use Rattle.std.specs.Prelude.{◌<ℤ◌, pos}
 use Rattle.std.proofs.lemmas.Bool.{cases_eq}
 use Rattle.std.proofs.lemmas.Int.{ints}
 use Rattle.residual_graph.specs.Residual.{number_at}
+use Rattle.residual_graph.specs.Rooms.{AreRooms}
 use Rattle.augmentation.specs.declared.blocking.Walks.{Walks}
 use Rattle.augmentation.specs.Blocking.{AreAlive}
 use Rattle.augmentation.specs.Push.{CanPush, left}
@@ -26,6 +27,7 @@ loop-excess-init c = record {
   noted = AreNoted-none c.args.touched.now c.args.flow.now;
   state = c.requires.state;
   walks = c.requires.walks;
+  rooms = λ are. are;
   pushed = ArePushes-none (seen c.args.levels.side c.args.levels.graph.now.rows.items) c.args.flow.now c.args.excess.now;
   first = λ h. refl;
   kept = inl refl;
@@ -44,8 +46,9 @@ loop-excess-smaller c = omega (arith, c.push_on.ensures.push.count)
 pub loop-excess-preserved : goal.loop-excess-preserved
 loop-excess-preserved c = record {
   noted = AreNoted-trans c.loop-excess.invariant.noted c.push_on.ensures.noted;
+  rooms = λ are. c.push_on.ensures.rooms (subst (λ (t : List Bool). AreRooms c.args.levels.graph.now.rows.items c.loop-excess.flow t) (sym (ap (λ r. r.items) c.find_path.ensures.rooms)) (c.loop-excess.invariant.rooms are));
   state = c.push_on.ensures.state;
-  walks = c.find_path.ensures.walks;
+  walks = (let known = c.find_path.ensures.walks in rw c.push_on.ensures.tables (record { dead_sized = known.dead_sized; current_sized = known.current_sized; back_sized = known.back_sized }));
   pushed = ArePushes-more c.loop-excess.invariant.pushed c.push_on.ensures.push;
   first = λ h. absurd (omega (arith, h));
   kept = inr (lacked (goal.at.loop-excess-preserved c).After-find_path);

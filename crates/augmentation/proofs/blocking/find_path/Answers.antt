@@ -19,6 +19,7 @@ use Rattle.augmentation.proofs.blocking.find_path.Goals.{After-way_on-back}
 pub loop-node-init : goal.loop-node-init
 loop-node-init c = record {
   walks = c.requires.walks;
+  rooms = refl;
   alive = search rules;
   on_walk = record { node_in = c.requires.target_in; steps = 0; walk = refl };
   first = λ paths can alive. first_begins (seen c.args.levels.side c.args.levels.graph.now.rows.items) c.args.flow.now c.args.excess.now c.args.levels.node_labels.now c.args.walks.now.dead.items c.args.target can alive;
@@ -37,6 +38,7 @@ loop-node-preserved-in-Some c =
     let to = c.in-Some.ensures.some in
     record {
       walks = c.step_back.ensures.walks;
+      rooms = c.step_back.ensures.rooms ∙ w.rooms;
       alive = ap (λ (d : List Bool). in_set d c.in-Some.from) items ∙ ap (in_set c.loop-node.walks.dead.items) (sym to.from) ∙ to.admissible.alive;
       on_walk = on_walk-stepped rows q x s c.requires.flow c.loop-node.walks y c.args.target c.loop-node.node c.in-Some.from w.walks c.step_back.ensures.dead w.alive to w.on_walk;
       first = λ paths can alive.
@@ -87,6 +89,7 @@ loop-node-preserved c =
         current_sized = tables.current_sized;
         back_sized = tables.back_sized;
       };
+      rooms = c.step_back.ensures.rooms ∙ w.rooms;
       alive = subst (λ (z : Walks). in_set (slice_set z.dead.items c.loop-node.node true) c.end-node.result ≡ false) (sym same)
           (subst (λ (u : ℕ). in_set (slice_set c.loop-node.walks.dead.items c.loop-node.node true) u ≡ false) (sym node) is.alive);
       on_walk = subst (λ (z : Walks). IsOnWalk rows q x s (slice_set z.dead.items c.loop-node.node true) z.back.items (pos 1) c.args.target c.end-node.result) (sym same)

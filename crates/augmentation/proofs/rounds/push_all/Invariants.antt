@@ -3,6 +3,7 @@ use Rattle.residual_graph.specs.Residual.{IsCertified}
 use Rattle.augmentation.specs.Push.{ArePushes, left, AreSmall}
 use Rattle.augmentation.specs.Scratch.{IsScratchFor}
 use Rattle.augmentation.specs.Settle.{IsNear}
+use Rattle.residual_graph.specs.Rooms.{AreRooms}
 use Rattle.residual_graph.specs.Side.{seen}
 use Rattle.augmentation.specs.Tracked.{IsWritten}
 use Rattle.augmentation.specs.Rounds.{seen_excess}
@@ -14,6 +15,7 @@ invariant-loop-reach l = record {
   certified : IsCertified (seen l.side l.graph.rows.items) l.flow.entries.items l.scratch.potentials.items;
   small : AreSmall l.excess;
   scratch : IsScratchFor (length l.initial.scratch.potentials.items) l.scratch;
+  rooms : AreRooms l.graph.rows.items l.flow.entries.items l.scratch.walks.rooms.items;
   near : IsNear l.scratch.potentials.items l.fallen;
   pushed : ArePushes l.graph.rows.items l.pushes l.initial.flow.entries.items (seen_excess l.initial.side l.initial.excess) l.flow.entries.items (seen_excess l.side l.excess);
 }

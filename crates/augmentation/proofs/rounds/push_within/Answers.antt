@@ -8,6 +8,7 @@ use Rattle.residual_graph.specs.Limits.{potential_floor}
 use Rattle.augmentation.specs.Push.{ArePaths, IsUnderWay, CanPush}
 use Rattle.residual_graph.specs.Residual.{ArePotentials, IsFlow, NoneBelow, number_at}
 use Rattle.shortest_paths.specs.Search.{IsFoundDeficit, IsLowered}
+use Rattle.residual_graph.specs.Rooms.{AreRooms}
 use Rattle.residual_graph.specs.Side.{seen}
 use Rattle.augmentation.specs.Touched.{AreNoted}
 use Rattle.shortest_paths.specs.SettledOrder.{HoldReached, IsFresh}
@@ -156,3 +157,9 @@ returns-clause-scratch c =
       settled_order = record { nodes_sized = c.requires.found.settled_order.sized.nodes_sized ∙ many };
       walks = subst (λ (n : ℕ). IsWalksFor n c.push_found-pushes.new.walks) (ap (λ (s : List NodeLabel). length s) c.deref-3.ensures.value ∙ many) c.push_found-pushes.ensures.walks;
     }
+
+pub returns-clause-rooms : goal.returns-clause-rooms
+returns-clause-rooms c are =
+    let arcs = c.args.graph.now.rows.items in
+    subst (λ (x : List ℤ). AreRooms arcs x c.push_found-pushes.new.walks.rooms.items) (sym (flow_is (goal.at.returns-clause-rooms c).After-push_found-pushes))
+    (c.push_found-pushes.ensures.rooms (subst (λ (x : List ℤ). AreRooms arcs x c.args.scratch.now.walks.rooms.items) (sym c.deref_mut-2.ensures.value) are))

@@ -18,6 +18,11 @@ other_in c =
 bounds : (c : Start) → LastBounds c.args.node_labels.now (start_at (seen c.args.residual.side c.args.residual.graph.now.rows.items) (leading c.args.residual.side c.args.end).arc (leading c.args.residual.side c.args.end).way)
 bounds c = last_bounds c.args.residual.certified c.requires.search c.requires.last
 
+-- a residual arc that the table says has no room is not there, from whichever side the arcs are seen
+pub returns-then-is_saturated-clause-relaxed : goal.returns-then-is_saturated-clause-relaxed
+returns-then-is_saturated-clause-relaxed c = λ residual.
+    absurd (c.is_saturated.ensures c.if-is_saturated.true c.args.residual.graph.now.rows.items c.args.residual.flow.now c.requires.rooms residual)
+
 pub offset_bounds-node_labels-end : goal.offset_bounds-node_labels-end
 offset_bounds-node_labels-end c = omega (arith, other_in (goal.at.offset_bounds-node_labels-end c).Start, c.requires.search.sized, c.args.residual.certified.flow.few_nodes)
 
@@ -32,15 +37,15 @@ returns-then-is_settled-clause-relaxed c = λ residual.
 
 pub distance_beyond-distance-requires-clause-low : goal.distance_beyond-distance-requires-clause-low
 distance_beyond-distance-requires-clause-low c =
-    omega (arith, ints, c.requires.from, (bounds (goal.at.distance_beyond-distance-requires-clause-low c).Start).low, c.args.residual.certified.potentials.at_least (start_at (seen c.args.residual.side c.args.residual.graph.now.rows.items) (leading c.args.residual.side c.args.end).arc (leading c.args.residual.side c.args.end).way))
+    omega (arith, ints, c.requires.priced, (bounds (goal.at.distance_beyond-distance-requires-clause-low c).Start).low, c.args.residual.certified.potentials.at_least (start_at (seen c.args.residual.side c.args.residual.graph.now.rows.items) (leading c.args.residual.side c.args.end).arc (leading c.args.residual.side c.args.end).way))
 
 pub distance_beyond-distance-requires-clause-high : goal.distance_beyond-distance-requires-clause-high
 distance_beyond-distance-requires-clause-high c =
-    omega (arith, ints, c.requires.from, (bounds (goal.at.distance_beyond-distance-requires-clause-high c).Start).high, c.args.residual.certified.potentials.at_most_0 (start_at (seen c.args.residual.side c.args.residual.graph.now.rows.items) (leading c.args.residual.side c.args.end).arc (leading c.args.residual.side c.args.end).way))
+    omega (arith, ints, c.requires.priced, (bounds (goal.at.distance_beyond-distance-requires-clause-high c).Start).high, c.args.residual.certified.potentials.at_most_0 (start_at (seen c.args.residual.side c.args.residual.graph.now.rows.items) (leading c.args.residual.side c.args.end).arc (leading c.args.residual.side c.args.end).way))
 
 -- the distance is that of the path by way of the residual arc
 distance_is : (c : After-distance_beyond-distance) → c.distance_beyond-distance.result ≡ distance_at c.args.node_labels.now (start_at (seen c.args.residual.side c.args.residual.graph.now.rows.items) (leading c.args.residual.side c.args.end).arc (leading c.args.residual.side c.args.end).way) +ℤ reduced_at (seen c.args.residual.side c.args.residual.graph.now.rows.items) c.args.residual.potentials.now (leading c.args.residual.side c.args.end).arc (leading c.args.residual.side c.args.end).way
-distance_is c = omega (arith, ints, c.distance_beyond-distance.ensures, c.requires.from, ap (number_at c.args.residual.potentials.now) c.requires.end.ends)
+distance_is c = omega (arith, ints, c.distance_beyond-distance.ensures, c.requires.priced, ap (number_at c.args.residual.potentials.now) c.requires.end.ends)
 
 -- a residual arc would make the path no shorter than those to the settled nodes
 pub returns-then-distance-queue-clause-relaxed : goal.returns-then-distance-queue-clause-relaxed
@@ -66,17 +71,17 @@ offset_bounds-node_labels-end-2 c = omega (arith, other_in (goal.at.offset_bound
 pub bounds-node_labels-end-2 : goal.bounds-node_labels-end-2
 bounds-node_labels-end-2 c = other_in (goal.at.bounds-node_labels-end-2 c).Start
 
-pub has_room-requires-clause-arc_in : goal.has_room-requires-clause-arc_in
-has_room-requires-clause-arc_in c =
+pub has_room_by-requires-clause-arc_in : goal.has_room_by-requires-clause-arc_in
+has_room_by-requires-clause-arc_in c =
     omega (arith, c.requires.end.is_arc, seen_length c.args.residual.side c.args.residual.graph.now.rows.items, ap (λ (a : ResidualArc). a.arc) c.leading-arc.ensures)
 
-pub has_room-requires-clause-flow : goal.has_room-requires-clause-flow
-has_room-requires-clause-flow c =
+pub has_room_by-requires-clause-flow : goal.has_room_by-requires-clause-flow
+has_room_by-requires-clause-flow c =
     (length c.args.residual.potentials.now, flow_of_seen c.args.residual.side (length c.args.residual.potentials.now) c.args.residual.graph.now.rows.items c.args.residual.flow.now c.args.residual.certified.flow)
 
 pub take_path-requires-clause-residual : goal.take_path-requires-clause-residual
 take_path-requires-clause-residual c =
-    subst (λ (a : ResidualArc). IsResidual (seen c.args.residual.side c.args.residual.graph.now.rows.items) c.args.residual.flow.now a.arc a.way) c.leading-arc.ensures ((c.has_room.ensures.seen c.args.residual.side).0 c.if-has_room.true)
+    subst (λ (a : ResidualArc). IsResidual (seen c.args.residual.side c.args.residual.graph.now.rows.items) c.args.residual.flow.now a.arc a.way) c.leading-arc.ensures ((c.has_room_by.ensures.seen c.args.residual.side).0 c.if-has_room_by.true)
 
 pub take_path-requires-clause-distance : goal.take_path-requires-clause-distance
 take_path-requires-clause-distance c =
@@ -87,7 +92,7 @@ take_path-requires-clause-distance c =
 pub take_path-requires-clause-better : goal.take_path-requires-clause-better
 take_path-requires-clause-better c = c.takes.ensures.0 c.if-not-takes.false
 
-pub returns-else-has_room-clause-relaxed : goal.returns-else-has_room-clause-relaxed
-returns-else-has_room-clause-relaxed c = λ residual.
+pub returns-else-has_room_by-clause-relaxed : goal.returns-else-has_room_by-clause-relaxed
+returns-else-has_room_by-clause-relaxed c = λ residual.
     (let there = subst (λ (a : ResidualArc). IsResidual (seen c.args.residual.side c.args.residual.graph.now.rows.items) c.args.residual.flow.now a.arc a.way) (sym c.leading-arc.ensures) residual in
-    absurd (cc ((c.has_room.ensures.seen c.args.residual.side).1 there)))
+    absurd (cc ((c.has_room_by.ensures.seen c.args.residual.side).1 there)))

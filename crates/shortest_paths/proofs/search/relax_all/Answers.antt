@@ -1,5 +1,5 @@
-use Rattle.std.proofs.Common.{◌≡◌, ◌∙◌, ℕ, ap, arith, length, subst, sym}
-use Rattle.std.proofs.lemmas.Int.{ints}
+use Rattle.std.proofs.Common.{◌≡◌, ◌∙◌, ℕ, SFits, ap, arith, length, subst, sym, w64}
+use Rattle.std.proofs.lemmas.Int.{ints, to_z-of_z}
 use Rattle.residual_graph.specs.declared.residual.Way.{Way}
 use Rattle.shortest_paths.specs.declared.node_label.NodeLabel.{NodeLabel}
 use Rattle.residual_graph.specs.Residual.{IsResidual, number_at, start_at}
@@ -9,6 +9,15 @@ use Rattle.shortest_paths.proofs.SearchLemmas.{Improves-refl, Improves-trans, Is
 use Rattle.residual_graph.proofs.SideLemmas.{all_seen_met, all_seen_to_come, is_leading, leading_at, one_seen_more}
 use Rattle.shortest_paths.proofs.search.relax_all.Goals as goal
 use Rattle.shortest_paths.proofs.search.relax_all.Goals.{In-Some}
+
+pub overflow_add-origin : goal.overflow_add-origin
+overflow_add-origin c =
+    let p = c.args.residual.potentials.now in
+    let u = c.args.u in
+    let bounds = last_bounds c.args.residual.certified c.requires.search c.requires.last in
+    let distance_fits : SFits w64 (distance_at c.args.node_labels.now u) = omega (arith, ints, bounds.low, bounds.high) in
+    let potential_fits : SFits w64 (number_at p u) = omega (arith, ints, c.args.residual.certified.potentials.at_least u, c.args.residual.certified.potentials.at_most_0 u) in
+    omega (arith, ints, to_z-of_z w64 (distance_at c.args.node_labels.now u) distance_fits, to_z-of_z w64 (number_at p u) potential_fits, bounds.low, bounds.high, c.args.residual.certified.potentials.at_least u, c.args.residual.certified.potentials.at_most_0 u)
 
 pub at-walk-requires : goal.at-walk-requires
 at-walk-requires c =
@@ -39,12 +48,15 @@ pub relax-requires-clause-last : goal.relax-requires-clause-last
 relax-requires-clause-last c =
     subst (IsLastSettled c.loop-end.node_labels) (sym ((leads_on (goal.at.relax-requires-clause-last c).In-Some).starts ∙ c.loop-end.invariant.node)) (IsLastSettled-improves c.requires.last c.loop-end.invariant.improves)
 
-pub relax-requires-clause-from : goal.relax-requires-clause-from
-relax-requires-clause-from c =
+pub relax-requires-clause-start : goal.relax-requires-clause-start
+relax-requires-clause-start c = sym ((leads_on (goal.at.relax-requires-clause-start c).In-Some).starts ∙ c.loop-end.invariant.node)
+
+pub relax-requires-clause-priced : goal.relax-requires-clause-priced
+relax-requires-clause-priced c =
     let p = c.args.residual.potentials.now in
     let u = c.args.u in
     let bounds = last_bounds c.args.residual.certified c.requires.search c.requires.last in
-    let starts = (leads_on (goal.at.relax-requires-clause-from c).In-Some).starts ∙ c.loop-end.invariant.node in
+    let starts = (leads_on (goal.at.relax-requires-clause-priced c).In-Some).starts ∙ c.loop-end.invariant.node in
     let kept = ap (λ (e : NodeLabel). e.distance) (c.loop-end.invariant.improves.settled_kept u c.requires.last.settled) in
     omega (arith, ints, ap (distance_at c.loop-end.node_labels) starts, ap (number_at p) starts, kept, bounds.low, bounds.high, c.args.residual.certified.potentials.at_least u, c.args.residual.certified.potentials.at_most_0 u)
 

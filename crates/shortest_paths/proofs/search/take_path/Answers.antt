@@ -10,19 +10,16 @@ use Rattle.residual_graph.specs.Side.{leading, seen}
 use Rattle.shortest_paths.proofs.SearchLemmas.{IsStep, IsStep-put, last_bounds}
 use Rattle.residual_graph.proofs.RowLemmas.{end_of-in}
 use Rattle.shortest_paths.proofs.search.take_path.Goals as goal
-use Rattle.shortest_paths.proofs.search.take_path.Goals.{After-start-start, Start}
+use Rattle.shortest_paths.proofs.search.take_path.Goals.{After-leading-arc, Start}
 
 other_in : (c : Start) → c.args.end.other < length c.args.node_labels.now
 other_in c =
     rw (← c.requires.end.ends, c.requires.search.sized) (end_of-in (length c.args.residual.potentials.now) (arc_at (seen c.args.residual.side c.args.residual.graph.now.rows.items) (leading c.args.residual.side c.args.end).arc) (leading c.args.residual.side c.args.end).way (c.args.residual.certified.flow.rows (leading c.args.residual.side c.args.end).arc c.requires.end.is_arc))
 
-start_is : (c : After-start-start) → c.start-start.result ≡ start_at (seen c.args.residual.side c.args.residual.graph.now.rows.items) (leading c.args.residual.side c.args.end).arc (leading c.args.residual.side c.args.end).way
-start_is c = c.start-start.ensures ∙ ap (λ (a : ResidualArc). start_at (seen c.args.residual.side c.args.residual.graph.now.rows.items) a.arc a.way) c.leading-arc.ensures
-
 pub overflow_add-depth : goal.overflow_add-depth
 overflow_add-depth c =
     let small = last_bounds c.args.residual.certified c.requires.search c.requires.last in
-    let shallow = subst (λ (v : ℕ). depth_at c.args.node_labels.now v ≤ entry_limit) (sym (start_is (goal.at.overflow_add-depth c).After-start-start)) small.shallow in
+    let shallow = subst (λ (v : ℕ). depth_at c.args.node_labels.now v ≤ entry_limit) (sym c.requires.start) small.shallow in
     search (rules, shallow)
 
 pub improve-requires-clause-v_in : goal.improve-requires-clause-v_in
@@ -37,22 +34,22 @@ improve-requires-clause-not_nearer c =
     (omega (arith, ints, no_shorter, (last_bounds c.args.residual.certified c.requires.search c.requires.last).low))
     (λ v m. omega (arith, ints, no_shorter, c.requires.last.furthest v m)))
 
-step : (c : After-start-start) → IsStep (seen c.args.residual.side c.args.residual.graph.now.rows.items) c.args.residual.flow.now c.args.residual.potentials.now c.args.node_labels.now (slice_set c.args.node_labels.now c.args.end.other (record { state = Open; distance = to_z w64 (of_z w64 c.args.distance); depth = depth_at c.args.node_labels.now c.start-start.result + 1; arc = c.leading-arc.result.arc; way = c.leading-arc.result.way })) (leading c.args.residual.side c.args.end).arc (leading c.args.residual.side c.args.end).way
+step : (c : After-leading-arc) → IsStep (seen c.args.residual.side c.args.residual.graph.now.rows.items) c.args.residual.flow.now c.args.residual.potentials.now c.args.node_labels.now (slice_set c.args.node_labels.now c.args.end.other (record { state = Open; distance = to_z w64 (of_z w64 c.args.distance); depth = depth_at c.args.node_labels.now c.args.start + 1; arc = c.leading-arc.result.arc; way = c.leading-arc.result.way })) (leading c.args.residual.side c.args.end).arc (leading c.args.residual.side c.args.end).way
 step c =
     let same : to_z w64 (of_z w64 c.args.distance) ≡ c.args.distance = to_z-of_z w64 c.args.distance c.ranges.distance in
     IsStep-put (seen c.args.residual.side c.args.residual.graph.now.rows.items) c.args.residual.flow.now c.args.residual.potentials.now c.args.node_labels.now (start_at (seen c.args.residual.side c.args.residual.graph.now.rows.items) (leading c.args.residual.side c.args.end).arc (leading c.args.residual.side c.args.end).way) (leading c.args.residual.side c.args.end).arc (leading c.args.residual.side c.args.end).way c.args.end.other
-    (record { state = Open; distance = to_z w64 (of_z w64 c.args.distance); depth = depth_at c.args.node_labels.now c.start-start.result + 1; arc = c.leading-arc.result.arc; way = c.leading-arc.result.way })
+    (record { state = Open; distance = to_z w64 (of_z w64 c.args.distance); depth = depth_at c.args.node_labels.now c.args.start + 1; arc = c.leading-arc.result.arc; way = c.leading-arc.result.way })
     c.args.residual.certified c.requires.search c.requires.last c.requires.residual refl (sym c.requires.end.ends) refl
-    (same ∙ c.requires.distance) (ap (λ (v : ℕ). depth_at c.args.node_labels.now v + 1) (start_is c)) (ap (λ (a : ResidualArc). a.arc) c.leading-arc.ensures) (ap (λ (a : ResidualArc). a.way) c.leading-arc.ensures) (rw same c.requires.better)
+    (same ∙ c.requires.distance) (ap (λ (v : ℕ). depth_at c.args.node_labels.now v + 1) c.requires.start) (ap (λ (a : ResidualArc). a.arc) c.leading-arc.ensures) (ap (λ (a : ResidualArc). a.way) c.leading-arc.ensures) (rw same c.requires.better)
 
 pub returns-clause-search : goal.returns-clause-search
 returns-clause-search c =
-    subst (λ (t : List NodeLabel). IsSearch (seen c.args.residual.side c.args.residual.graph.now.rows.items) c.args.residual.flow.now c.args.residual.potentials.now t) (sym c.improve.ensures.node_labels) (step (goal.at.returns-clause-search c).After-start-start).known
+    subst (λ (t : List NodeLabel). IsSearch (seen c.args.residual.side c.args.residual.graph.now.rows.items) c.args.residual.flow.now c.args.residual.potentials.now t) (sym c.improve.ensures.node_labels) (step (goal.at.returns-clause-search c).After-leading-arc).known
 
 pub returns-clause-improves : goal.returns-clause-improves
 returns-clause-improves c =
-    subst (λ (t : List NodeLabel). Improves c.args.node_labels.now t) (sym c.improve.ensures.node_labels) (step (goal.at.returns-clause-improves c).After-start-start).better
+    subst (λ (t : List NodeLabel). Improves c.args.node_labels.now t) (sym c.improve.ensures.node_labels) (step (goal.at.returns-clause-improves c).After-leading-arc).better
 
 pub returns-clause-relaxed : goal.returns-clause-relaxed
 returns-clause-relaxed c =
-    subst (λ (t : List NodeLabel). IsRelaxed (seen c.args.residual.side c.args.residual.graph.now.rows.items) c.args.residual.potentials.now t (leading c.args.residual.side c.args.end).arc (leading c.args.residual.side c.args.end).way) (sym c.improve.ensures.node_labels) (step (goal.at.returns-clause-relaxed c).After-start-start).done
+    subst (λ (t : List NodeLabel). IsRelaxed (seen c.args.residual.side c.args.residual.graph.now.rows.items) c.args.residual.potentials.now t (leading c.args.residual.side c.args.end).arc (leading c.args.residual.side c.args.end).way) (sym c.improve.ensures.node_labels) (step (goal.at.returns-clause-relaxed c).After-leading-arc).done
