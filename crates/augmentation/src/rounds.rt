@@ -27,6 +27,9 @@ use shortest_paths::{find_deficits, forget};
 /// How far potentials may fall below the shortest labels before labels are taken again.
 pub const FALL_LIMIT: i64 = 70_000_000_000_000_000;
 
+/// The most pushes of a run for which no table of rooms is filled: few edits need more.
+const FEW_PUSHES: u64 = 32;
+
 /// Pushes flow along shortest paths until no node in excess reaches a node in deficit, and counts the pushes. The searches
 /// go from the two sides in turn, and each forgets what it reached before the next.
 pub fn push_all(
@@ -62,7 +65,7 @@ pub fn push_all(
         fallen = keep_near(graph, side, flow, scratch, fallen + reach);
         side = turn_round(side, excess, scratch);
         if let Side::Behind = side {
-            fill_rooms(graph, flow, scratch);
+            fill_rooms(graph, flow, scratch, pushes);
         }
     }
     if let Side::Behind = side {
@@ -71,14 +74,14 @@ pub fn push_all(
     pushes
 }
 
-/// Fills the table of rooms, once in a run: a run of one or two searches asks too little to pay for it.
-fn fill_rooms(graph: &Graph, flow: &Tracked<i64>, scratch: &mut Scratch)
+/// Fills the table of rooms, once in a run: after so few pushes the searches have not asked enough to pay for it.
+fn fill_rooms(graph: &Graph, flow: &Tracked<i64>, scratch: &mut Scratch, pushes: u64)
     requires flow { (nodes : ℕ) × IsFlow nodes graph.now.rows.items flow.now.entries.items }
     requires rooms { AreRooms graph.now.rows.items flow.now.entries.items scratch.old.walks.rooms.items }
     ensures rooms { AreRooms graph.now.rows.items flow.now.entries.items scratch.new.walks.rooms.items }
     ensures kept { scratch.new ≡ record scratch.old { walks = record scratch.old.walks { rooms = scratch.new.walks.rooms } } }
 {
-    if scratch.walks.rooms.is_empty() {
+    if pushes > FEW_PUSHES && scratch.walks.rooms.is_empty() {
         note_rooms(graph, &flow.entries, &mut scratch.walks.rooms);
     }
 }

@@ -50,6 +50,10 @@ fn entry_at(side: Side, end: End) -> usize
 pub fn is_saturated(rooms: &[bool], side: Side, end: End) -> bool
     ensures { IsTrue result → (arcs : List ArcRow) (x : List ℤ) → AreRooms arcs x rooms.now → IsResidual (seen side arcs) x (leading side end).arc (leading side end).way → ⊥ }
 {
+    // In a short run the table is empty: then this is all that it costs.
+    if rooms.is_empty() {
+        return false;
+    }
     let entry = entry_at(side, end);
     entry < rooms.len() && !rooms[entry]
 }
