@@ -74,7 +74,8 @@ pub fn push_all(
     pushes
 }
 
-/// Fills the table of rooms, once in a run: after so few pushes the searches have not asked enough to pay for it.
+/// Fills the table of rooms, once in a run, after more than `FEW_PUSHES` pushes: a shorter run asks too little to pay
+/// for it.
 fn fill_rooms(graph: &Graph, flow: &Tracked<i64>, scratch: &mut Scratch, pushes: u64)
     requires flow { (nodes : ℕ) × IsFlow nodes graph.now.rows.items flow.now.entries.items }
     requires rooms { AreRooms graph.now.rows.items flow.now.entries.items scratch.old.walks.rooms.items }
