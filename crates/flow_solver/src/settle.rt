@@ -44,7 +44,7 @@ fn mark_cut(
         &flow.entries,
         excess,
         &mut scratch.walks.dead,
-        &mut scratch.queue.order,
+        &mut scratch.queue.current,
     );
     take_marks(&mut cut.entries, &mut cut.touched, &scratch.walks.dead);
 }

@@ -8,13 +8,14 @@ use Rattle.std.proofs.lemmas.List.{get_or-set_same, get_or-set_other, length-set
 use Rattle.std.proofs.lemmas.List.Sums.{sum_by-cons, sum_by-set, count_by-le-length}
 use Rattle.shortest_paths.specs.declared.queue.Queue.{Queue}
 use Rattle.shortest_paths.specs.declared.node_label.NodeLabel.{NodeLabel}
+use Rattle.shortest_paths.specs.declared.heap_entry.HeapEntry.{HeapEntry}
 use Rattle.shortest_paths.specs.declared.node_label.State.{State}
 use Rattle.shortest_paths.specs.declared.node_label.State.TheVariants.{Unreached, Open, Settled}
 use Rattle.shortest_paths.specs.Search.{state_at, distance_at, node_label_at, Takes, IsLeastOpen, NoneOpen, settled_node_label}
-use Rattle.shortest_paths.specs.Heap.{rank, rank_at, rank_in, IsHeap, IsIndex, IsIn, IsFirstRemoved, IsEntered, parent}
+use Rattle.shortest_paths.specs.Heap.{IsHeap, IsIn, IsFirstRemoved, IsEntered, entry_of, node_in}
 use Rattle.shortest_paths.specs.Queue.{is_open_state, open_count, IsWaiting, IsCurrent, IsBeyond, IsPassedDistance, HoldsOpen, IsQueueOf, IsQueueFor}
 use Rattle.shortest_paths.proofs.SearchLemmas.{IsPut, IsPut-set, takes_lower, in_range, open_is_reached}
-use Rattle.shortest_paths.proofs.HeapLemmas.{first_is_in, first_is_nearest}
+use Rattle.shortest_paths.proofs.HeapLemmas.{first_is_in, first_is_nearest, index_for}
 
 -- ---- how many nodes are open
 
@@ -82,11 +83,11 @@ module _ (s : List NodeLabel) (q : Queue) (queue : IsQueueOf s q) where
       | inr waits ↦ absurd (none_waits v waits)
     ]
 
-    pub heap_first : 0 < q.len → IsLeastOpen s (length s) (slice_index q.order.items 0)
+    pub heap_first : 0 < q.len → IsLeastOpen s (length s) (node_in q.order.items 0)
     heap_first some =
-        let is_open = queue.beyond.all_open (slice_index q.order.items 0) (first_is_in s q.order.items q.place.items q.len queue.heap some) in
+        let is_open = queue.beyond.all_open (node_in q.order.items 0) (first_is_in s q.order.items q.place.items q.len queue.heap some) in
         record {
-          below = in_range s (slice_index q.order.items 0) (open_is_reached s (slice_index q.order.items 0) is_open);
+          below = in_range s (node_in q.order.items 0) (open_is_reached s (node_in q.order.items 0) is_open);
           is_open = is_open;
           least = λ v lt o. first_is_nearest s q.order.items q.place.items q.len queue.heap v (open_is_in v o);
         }
@@ -113,6 +114,7 @@ empty_queue s q none sized = record {
       in_nodes = λ i lt. absurd (omega arith);
       placed = λ i lt. absurd (omega arith);
     };
+    keyed = λ v inside. absurd (omega (arith, inside.0));
     ordered = λ i pos_i lt. absurd (omega arith);
   };
   current = empty_current s q.current.items (pos 0) sized.current_sized;
@@ -133,10 +135,6 @@ empty_queue s q none sized = record {
 abbrev pub settled_in : List NodeLabel → ℕ → List NodeLabel
 settled_in s u = slice_set s u (settled_node_label (node_label_at s u))
 
-rank-settled : (r : NodeLabel) → rank (settled_node_label r) ≡ rank r
-unfolding rank
-rank-settled r = refl
-
 module _ (s : List NodeLabel) (u : ℕ) (least : IsLeastOpen s (length s) u) where
   put_settled : IsPut s (settled_in s u) u (settled_node_label (node_label_at s u))
   put_settled = IsPut-set s u (settled_node_label (node_label_at s u)) least.below
@@ -156,13 +154,14 @@ module _ (s : List NodeLabel) (u : ℕ) (least : IsLeastOpen s (length s) u) whe
   distance_kept : (w : ℕ) → distance_at (settled_in s u) w ≡ distance_at s w
   distance_kept = of_node (λ w. distance_at (settled_in s u) w ≡ distance_at s w) (ap (λ (r : NodeLabel). r.distance) put_settled.here) (λ w ne. ap (λ (r : NodeLabel). r.distance) (put_settled.elsewhere w ne))
 
-  rank_kept : (w : ℕ) → rank_at (settled_in s u) w ≡ rank_at s w
-  rank_kept = of_node (λ w. rank_at (settled_in s u) w ≡ rank_at s w) (ap rank put_settled.here ∙ rank-settled (node_label_at s u)) (λ w ne. ap rank (put_settled.elsewhere w ne))
+  entry_kept : (w : ℕ) → entry_of w (node_label_at (settled_in s u) w) ≡ entry_of w (node_label_at s w)
+  entry_kept = of_node (λ w. entry_of w (node_label_at (settled_in s u) w) ≡ entry_of w (node_label_at s w)) (ap (entry_of u) put_settled.here) (λ w ne. ap (entry_of w) (put_settled.elsewhere w ne))
 
-  heap_settled : (order place : List ℕ) (len : ℕ) → IsHeap s order place len → IsHeap (settled_in s u) order place len
+  heap_settled : (order : List HeapEntry) (place : List ℕ) (len : ℕ) → IsHeap s order place len → IsHeap (settled_in s u) order place len
   heap_settled order place len heap = record {
-    index = subst (λ (n : ℕ). IsIndex n order place len) (sym put_settled.same_length) heap.index;
-    ordered = λ i pos_i lt. omega (arith, ints, heap.ordered i pos_i lt, rank_kept (slice_index order i), rank_kept (slice_index order (parent i)));
+    index = index_for (length (settled_in s u)) heap.index (sym put_settled.same_length);
+    keyed = λ w inside. heap.keyed w inside ∙ sym (entry_kept w);
+    ordered = heap.ordered;
   }
 
   -- what is open was open, and is another node
@@ -241,7 +240,7 @@ module _ (s : List NodeLabel) (u : ℕ) (least : IsLeastOpen s (length s) u) whe
     }
 
   -- no node was current, and it was the first in the heap
-  module _ (q : Queue) (queue : IsQueueOf s q) (empty : q.next < q.end → ⊥) (order place : List ℕ) (len : ℕ) (removed : IsFirstRemoved q.order.items q.place.items q.len order place len u) (some : 0 < q.len) where
+  module _ (q : Queue) (queue : IsQueueOf s q) (empty : q.next < q.end → ⊥) (order : List HeapEntry) (place : List ℕ) (len : ℕ) (removed : IsFirstRemoved q.order.items q.place.items q.len order place len u) (some : 0 < q.len) where
     pub beyond_first : IsBeyond (settled_in s u) order place len (distance_at (settled_in s u) u)
     beyond_first = record {
       all_open = λ w inside. (let was = removed.before w inside in state_kept w was.1 ∙ queue.beyond.all_open w was.0);
@@ -307,16 +306,11 @@ module _ (s : List NodeLabel) (v : ℕ) (e : NodeLabel) (q : Queue) (known : Can
     v_not_in : (w : ℕ) → IsIn q.order.items q.place.items q.len w → w ≡ v → ⊥
     v_not_in w inside same = (let o : state_at s w ≡ Open = known.queue.beyond.all_open w inside in let n : state_at s w ≡ Unreached = ap (state_at s) same ∙ is_new in cc)
 
-    node_at : (i : ℕ) → i < q.len → IsIn q.order.items q.place.items q.len (slice_index q.order.items i)
-    node_at i lt = (rw (known.queue.heap.index.placed i lt) lt, ap (slice_index q.order.items) (known.queue.heap.index.placed i lt))
-
-    rank_else : (i : ℕ) → i < q.len → rank_in (slice_set s v e) q.order.items i ≡ rank_in s q.order.items i
-    rank_else i lt = ap rank (put_open.elsewhere (slice_index q.order.items i) (v_not_in (slice_index q.order.items i) (node_at i lt)))
-
     heap_same : IsHeap (slice_set s v e) q.order.items q.place.items q.len
     heap_same = record {
-      index = subst (λ (n : ℕ). IsIndex n q.order.items q.place.items q.len) (sym put_open.same_length) known.queue.heap.index;
-      ordered = λ i pos_i lt. omega (arith, ints, known.queue.heap.ordered i pos_i lt, rank_else i lt, rank_else (parent i) (omega arith));
+      index = index_for (length (slice_set s v e)) known.queue.heap.index (sym put_open.same_length);
+      keyed = λ w inside. known.queue.heap.keyed w inside ∙ ap (entry_of w) (sym (put_open.elsewhere w (v_not_in w inside)));
+      ordered = known.queue.heap.ordered;
     }
 
     beyond_same : IsBeyond (slice_set s v e) q.order.items q.place.items q.len q.present
@@ -395,7 +389,7 @@ module _ (s : List NodeLabel) (v : ℕ) (e : NodeLabel) (q : Queue) (known : Can
     apart = known.queue.current.apart;
   }
 
-  module _ (order place : List ℕ) (len : ℕ) (entered : IsEntered q.order.items q.place.items q.len order place len v) where
+  module _ (order : List HeapEntry) (place : List ℕ) (len : ℕ) (entered : IsEntered q.order.items q.place.items q.len order place len (entry_of v e)) where
     pub beyond_entered : IsBeyond (slice_set s v e) order place len q.present
     beyond_entered = record {
       all_open = λ w inside. (elim (cases_eq w v) [
@@ -433,7 +427,7 @@ module _ (s : List NodeLabel) (v : ℕ) (e : NodeLabel) (q : Queue) (known : Can
     }
 
 -- a queue whose heap is lent out comes back with it
-pub queue_of : (t s : List NodeLabel) (q : Queue) (order place : List ℕ) → t ≡ s → q.order.items ≡ order → q.place.items ≡ place → IsHeap s order place q.len → IsCurrent s q.current.items q.next q.end q.present → IsBeyond s order place q.len q.present → IsPassedDistance s q.present → HoldsOpen s q.current.items q.next q.end order place q.len → IsQueueOf t q
+pub queue_of : (t s : List NodeLabel) (q : Queue) (order : List HeapEntry) (place : List ℕ) → t ≡ s → q.order.items ≡ order → q.place.items ≡ place → IsHeap s order place q.len → IsCurrent s q.current.items q.next q.end q.present → IsBeyond s order place q.len q.present → IsPassedDistance s q.present → HoldsOpen s q.current.items q.next q.end order place q.len → IsQueueOf t q
 queue_of t s q order place same order_is place_is heap current beyond passed holds = subst (λ (v : List NodeLabel). IsQueueOf v q) (sym same) (record {
   heap = rw (order_is, place_is) heap;
   current = current;

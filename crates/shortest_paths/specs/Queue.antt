@@ -6,7 +6,8 @@ use Rattle.shortest_paths.specs.declared.node_label.NodeLabel.{NodeLabel}
 use Rattle.shortest_paths.specs.declared.node_label.State.{State}
 use Rattle.shortest_paths.specs.declared.node_label.State.TheVariants.{Unreached, Open, Settled}
 use Rattle.shortest_paths.specs.Search.{state_at, distance_at}
-use Rattle.shortest_paths.specs.Heap.{IsHeap, IsIn}
+use Rattle.shortest_paths.specs.declared.heap_entry.HeapEntry.{HeapEntry}
+use Rattle.shortest_paths.specs.Heap.{IsHeap, IsIn, node_in}
 
 abbrev pub is_open_state : State → Bool
 is_open_state Unreached = false
@@ -31,7 +32,7 @@ pub record IsCurrent (s : List NodeLabel) (current : List ℕ) (next end : ℕ) 
   pub apart : (i j : ℕ) → next ≤ i → i < j → j < end → slice_index current i ≢ slice_index current j
 
 -- each node in the heap is open, and no nearer than this distance
-pub record IsBeyond (s : List NodeLabel) (order place : List ℕ) (len : ℕ) (distance : ℤ) : Type 0 where
+pub record IsBeyond (s : List NodeLabel) (order : List HeapEntry) (place : List ℕ) (len : ℕ) (distance : ℤ) : Type 0 where
   pub all_open : (v : ℕ) → IsIn order place len v → state_at s v ≡ Open
   pub no_nearer : (v : ℕ) → IsIn order place len v → distance ≤ℤ distance_at s v
 
@@ -40,7 +41,7 @@ abbrev pub IsPassedDistance : List NodeLabel → ℤ → Type 0
 IsPassedDistance s distance = (bound : ℤ) → pos 0 ≤ℤ bound → ((v : ℕ) → state_at s v ≡ Settled → distance_at s v ≤ℤ bound) → distance ≤ℤ bound
 
 -- each open node is current or in the heap, and none is both
-pub record HoldsOpen (s : List NodeLabel) (current : List ℕ) (next end : ℕ) (order place : List ℕ) (len : ℕ) : Type 0 where
+pub record HoldsOpen (s : List NodeLabel) (current : List ℕ) (next end : ℕ) (order : List HeapEntry) (place : List ℕ) (len : ℕ) : Type 0 where
   pub all : (v : ℕ) → state_at s v ≡ Open → IsIn order place len v ⊎ IsWaiting current next end v
   pub not_both : (v : ℕ) → IsWaiting current next end v → IsIn order place len v → ⊥
   pub counted : len + (end - next) ≡ open_count s
@@ -59,7 +60,7 @@ size q = q.len + (q.end - q.next)
 
 -- the node that the queue gives next: the first of the current ones, or in the heap where there are none
 abbrev pub first_of : Queue → ℕ
-first_of q = cond (nat_lt q.next q.end) (slice_index q.current.items q.next) (slice_index q.order.items 0)
+first_of q = cond (nat_lt q.next q.end) (slice_index q.current.items q.next) (node_in q.order.items 0)
 
 -- the queue has room for each entry of a table of nodes
 pub record IsQueueFor (entries : ℕ) (q : Queue) : Type 0 where

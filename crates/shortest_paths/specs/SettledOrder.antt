@@ -5,7 +5,7 @@ use Rattle.shortest_paths.specs.declared.settled_order.SettledOrder.{SettledOrde
 use Rattle.shortest_paths.specs.declared.node_label.NodeLabel.{NodeLabel}
 use Rattle.shortest_paths.specs.declared.node_label.State.TheVariants.{Unreached, Open, Settled}
 use Rattle.shortest_paths.specs.NodeLists.{IsListed, node_at}
-use Rattle.shortest_paths.specs.Heap.{IsIn}
+use Rattle.shortest_paths.specs.Heap.{IsIn, node_in}
 use Rattle.shortest_paths.specs.Queue.{IsWaiting}
 use Rattle.shortest_paths.specs.Search.{state_at, unsettled}
 
@@ -33,5 +33,5 @@ pub record HoldReached (s : List NodeLabel) (q : Queue) (t : SettledOrder) : Typ
   pub heap_fits : q.len ≤ length q.order.items
   pub current_fits : q.end ≤ length q.current.items
   pub in_settled_order : (j : ℕ) → j < t.len → slice_index t.nodes.items j < length s
-  pub in_heap : (j : ℕ) → j < q.len → slice_index q.order.items j < length s
+  pub in_heap : (j : ℕ) → j < q.len → node_in q.order.items j < length s
   pub in_current : (j : ℕ) → q.next ≤ j → j < q.end → slice_index q.current.items j < length s

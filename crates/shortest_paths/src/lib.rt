@@ -6,6 +6,7 @@
 #![tactic(auto)]
 
 mod heap;
+mod heap_entry;
 mod labels;
 mod node_label;
 mod queue;

@@ -6,6 +6,7 @@ ghost use Rattle.shortest_paths.specs.Search.{node_label_at, distance_at, Takes,
 ghost use Rattle.shortest_paths.specs.declared.node_label.State.TheVariants.{Unreached, Open};
 
 use crate::heap;
+use crate::heap_entry::HeapEntry;
 use crate::node_label::{NodeLabel, State};
 use std::alloc::{AllocError, Global};
 
@@ -19,8 +20,8 @@ pub struct Queue {
     pub end: usize,
     /// The present distance.
     pub present: i64,
-    /// The heap: its first `len` places hold nodes.
-    pub order: Vec<u32>,
+    /// The heap: its first `len` places hold nodes, each with its distance and depth.
+    pub order: Vec<HeapEntry>,
     /// The place of each node in the heap.
     pub place: Vec<u32>,
     pub len: usize,
@@ -37,7 +38,8 @@ impl Queue {
         ensures { IfOk result (λ q. IsQueueFor entries q) }
     {
         let current = vec![in alloc; 0; entries]?;
-        let order = vec![in alloc; 0; entries]?;
+        let no_node = HeapEntry::of(0, &NodeLabel::unreached());
+        let order = vec![in alloc; no_node; entries]?;
         let place = vec![in alloc; 0; entries]?;
         Ok(Queue {
             current,
@@ -101,7 +103,7 @@ impl Queue {
         if self.next < self.end {
             Some(self.current[self.next] as usize)
         } else if self.len > 0 {
-            Some(self.order[0] as usize)
+            Some(self.order[0].node as usize)
         } else {
             None
         }

@@ -55,6 +55,6 @@ pub fn forget(node_labels: &mut [NodeLabel], queue: &Queue, settled_order: &Sett
         node_labels[queue.current[j] as usize].state = State::Unreached;
     }
     for j in 0..queue.len {
-        node_labels[queue.order[j] as usize].state = State::Unreached;
+        node_labels[queue.order[j].node as usize].state = State::Unreached;
     }
 }

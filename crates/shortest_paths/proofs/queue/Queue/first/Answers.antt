@@ -1,4 +1,5 @@
-use Rattle.std.proofs.Common.{◌<◌, arith, subst, sym, length}
+use Rattle.std.proofs.Common.{◌<◌, ap, arith, subst, sym, length}
+use Rattle.shortest_paths.specs.declared.heap_entry.HeapEntry.{HeapEntry}
 use Rattle.std.proofs.lemmas.List.{get_or_read}
 use Rattle.shortest_paths.specs.Search.{IsLeastOpen}
 use Rattle.shortest_paths.proofs.QueueLemmas.{current_first, heap_first}
@@ -15,5 +16,5 @@ returns-then-self-gt0-clause-found c =
     let heap = c.requires.queue.heap in
     let some : 0 < c.args.self.now.len = omega arith in
     subst (IsLeastOpen c.args.node_labels.now (length c.args.node_labels.now))
-    (sym (get_or_read c.args.self.now.order.items 0 c.index-then-self-gt0.result.now (omega (arith, heap.index.order_sized, heap.index.len_in)) c.index-then-self-gt0.ensures 0))
+    (ap (λ (e : HeapEntry). e.node) (sym (get_or_read c.args.self.now.order.items 0 c.index-then-self-gt0.result.now (omega (arith, heap.index.order_sized, heap.index.len_in)) c.index-then-self-gt0.ensures _)))
     (heap_first c.args.node_labels.now c.args.self.now c.requires.queue (λ h. omega (arith, h, c.if-self.false)) some)

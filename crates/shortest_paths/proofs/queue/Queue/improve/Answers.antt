@@ -1,7 +1,7 @@
 use Rattle.std.proofs.Common.{◌≡◌, ◌∙◌, subst, List, slice_set, arith, rules}
 use Rattle.std.proofs.lemmas.Int.{ints}
 use Rattle.std.proofs.lemmas.List.{with_items_is}
-use Rattle.shortest_paths.specs.Heap.{IsHeap, IsEntered}
+use Rattle.shortest_paths.specs.Heap.{IsHeap, IsEntered, entry_of}
 use Rattle.shortest_paths.specs.declared.node_label.NodeLabel.{NodeLabel}
 use Rattle.shortest_paths.proofs.QueueLemmas.{CanImprove, room_in, joined, passed_written, current_same, beyond_entered, holds_entered, queue_of}
 use Rattle.shortest_paths.proofs.queue.Queue.improve.Goals as goal
@@ -29,7 +29,7 @@ returns-else-joins_current-clause-queue c =
     let order = c.improve-self.new.order in
     let place = c.improve-self.new.place in
     let len = c.improve-self.result in
-    let entered : IsEntered q.order.items q.place.items q.len order place len c.args.v = rw (← c.deref_mut.ensures.value, ← c.deref_mut-else-joins_current.ensures.value) c.improve-self.ensures.entered in
+    let entered : IsEntered q.order.items q.place.items q.len order place len (entry_of c.args.v c.args.node_label) = rw (← c.deref_mut.ensures.value, ← c.deref_mut-else-joins_current.ensures.value) c.improve-self.ensures.entered in
     queue_of c.improve-self.new.node_labels (slice_set s c.args.v c.args.node_label) _ order place c.improve-self.ensures.node_labels
     (with_items_is q.order order (c.improve-self.auto.order ∙ c.deref_mut.ensures.len))
     (with_items_is q.place place (c.improve-self.auto.place ∙ c.deref_mut-else-joins_current.ensures.len))
