@@ -14,8 +14,10 @@ use Rattle.shortest_paths.specs.declared.node_label.NodeLabel.{NodeLabel}
 use Rattle.shortest_paths.specs.Labels.{IsForest, IsHop, IsNoDearer, IsThrough, Reaches, Opens, IsShortest, NothingOpen, IsEntered}
 use Rattle.shortest_paths.specs.Queue.{IsPassedDistance}
 use Rattle.residual_graph.specs.Residual.{IsCertified, IsRow, IsWithin, room_of, number_at, arc_at, start_at, end_at, IsResidual}
-use Rattle.shortest_paths.specs.Search.{is_not_settled, is_unsettled, node_label_at, state_at, distance_at, depth_at, IsReached, unsettled, IsTraced, IsTracedBy, IsRelaxed, AllRelaxed, TakesBy, Takes, reduced_at, root_node_label}
-use Rattle.shortest_paths.proofs.SearchLemmas.{IsPut, IsTraced-stays, weight_of, weight_unsettled, settled_is_reached, open_is_reached}
+use Rattle.shortest_paths.specs.Search.{HasBound, is_not_settled, is_unsettled, node_label_at, state_at, distance_at, depth_at, IsReached, unsettled, IsTraced, IsTracedBy, IsRelaxed, AllRelaxed, TakesBy, Takes, reduced_at, root_node_label}
+use Rattle.shortest_paths.proofs.SearchLemmas.{HaveBounds-put, IsPut, IsTraced-stays, weight_of, weight_unsettled, settled_is_reached, open_is_reached}
+use Rattle.shortest_paths.specs.SettledOrder.{IsFresh}
+use Rattle.shortest_paths.proofs.SettledOrderLemmas.{HaveBounds-fresh}
 use Rattle.residual_graph.proofs.RowLemmas.{end_of-in}
 
 -- ---- a residual arc
@@ -45,10 +47,31 @@ distance-not_below_0 {arcs} {x} {p} {s} {v} {e} certified reaches = elim (cases_
   | inr flat ↦ omega (arith, ints, reaches.root (omega (arith, flat)), certified.potentials.at_most_0 v)
 ]
 
+-- where no node is reached, there is no tree yet
+pub fresh_forest : (arcs : List ArcRow) (x p : List ℤ) (s : List NodeLabel) → length s ≡ length p → IsFresh s → IsForest arcs x p s
+fresh_forest arcs x p s sized fresh =
+    let none : (v : ℕ) → state_at s v ≡ Settled → ⊥ = λ v m. (let u : state_at s v ≡ Unreached = fresh.unreached v in cc) in
+    record {
+      known = record {
+        sized = sized;
+        in_order = λ v w m o. absurd (none v m);
+        distance_at_least_0 = λ v r. absurd (r (fresh.unreached v));
+        settled_depth = λ v m. absurd (none v m);
+        reached_depth = λ v r. absurd (r (fresh.unreached v));
+        label_low = λ v r. absurd (r (fresh.unreached v));
+        label_high = λ v r. absurd (r (fresh.unreached v));
+        traced = λ v r deep. absurd (r (fresh.unreached v));
+        bounds = HaveBounds-fresh p s fresh;
+      };
+      kept = λ v m. absurd (none v m);
+      roots = λ v r d. absurd (r (fresh.unreached v));
+      at_most_0 = λ v r. absurd (r (fresh.unreached v));
+    }
+
 -- one more node is reached, and none before it changes
 module _ (arcs : List ArcRow) (x p : List ℤ) (s t : List NodeLabel) (v : ℕ) (e : NodeLabel)
     (certified : IsCertified arcs x p) (forest : IsForest arcs x p s) (put : IsPut s t v e) (fresh : state_at s v ≡ Unreached)
-    (reached : e.state ≢ Unreached) (kept : e.state ≡ Settled → e.distance ≡ pos 0) (reaches : Reaches arcs x p s v e)
+    (reached : e.state ≢ Unreached) (kept : e.state ≡ Settled → e.distance ≡ pos 0) (reaches : Reaches arcs x p s v e) (bound : HasBound (number_at p v) e)
   where
     by_node : (P : ℕ → Type 0) → P v → ((q : ℕ) → (q ≡ v → ⊥) → P q) → (q : ℕ) → P q
     by_node P here other q = elim (cases_eq q v) [
@@ -149,6 +172,7 @@ module _ (arcs : List ArcRow) (x p : List ℤ) (s t : List NodeLabel) (v : ℕ) 
         traced = by_node (λ q. IsReached t q → 0 < depth_at t q → IsTraced arcs x p t q)
             (λ r d. trace_here (omega (arith, depth_here, d)))
             (λ q ne r d. IsTraced-stays arcs x p s t q settled_stays (put.elsewhere q ne) (forest.known.traced q (reached_was q ne r) (omega (arith, depth_other q ne, d))));
+        bounds = HaveBounds-put p s t v e forest.known.bounds put bound;
       };
       kept = kept_still;
       roots = by_node (λ q. IsReached t q → depth_at t q ≡ 0 → distance_at t q ≡ neg_ℤ (number_at p q))
@@ -163,9 +187,9 @@ unreached Open shut unsettled = absurd (shut refl)
 unreached Settled shut unsettled = absurd (unsettled refl)
 
 -- a node that stands is settled where nothing is open
-pub IsForest-stands : (arcs : List ArcRow) (x p : List ℤ) (s t : List NodeLabel) (v : ℕ) (e : NodeLabel) → IsCertified arcs x p → IsForest arcs x p s → NothingOpen s → (state_at s v ≡ Settled → ⊥) → IsPut s t v e → e.state ≡ Settled → e.distance ≡ pos 0 → Reaches arcs x p s v e → IsForest arcs x p t
-IsForest-stands arcs x p s t v e certified forest closed unsettled put settled kept reaches =
-    IsForest-put arcs x p s t v e certified forest put (unreached (state_at s v) (closed v) unsettled) (λ h. cc) (λ h. kept) reaches
+pub IsForest-stands : (arcs : List ArcRow) (x p : List ℤ) (s t : List NodeLabel) (v : ℕ) (e : NodeLabel) → IsCertified arcs x p → IsForest arcs x p s → NothingOpen s → (state_at s v ≡ Settled → ⊥) → IsPut s t v e → e.state ≡ Settled → e.distance ≡ pos 0 → Reaches arcs x p s v e → HasBound (number_at p v) e → IsForest arcs x p t
+IsForest-stands arcs x p s t v e certified forest closed unsettled put settled kept reaches bound =
+    IsForest-put arcs x p s t v e certified forest put (unreached (state_at s v) (closed v) unsettled) (λ h. cc) (λ h. kept) reaches bound
 
 pub NothingOpen-stands : (s t : List NodeLabel) (v : ℕ) (e : NodeLabel) → NothingOpen s → IsPut s t v e → e.state ≡ Settled → NothingOpen t
 NothingOpen-stands s t v e closed put settled q m = elim (cases_eq q v) [
@@ -243,7 +267,7 @@ module _ (arcs : List ArcRow) (x p : List ℤ) (s t : List NodeLabel) (i : ℕ) 
 
     pub IsEntered-opens : IsEntered arcs x p t (i + 1)
     IsEntered-opens = record {
-      forest = IsForest-put arcs x p s t i e certified before.forest put fresh_at (λ h. (let o : e.state ≡ Open = opens.is_open in cc)) (λ h. (let o : e.state ≡ Open = opens.is_open in absurd (cc))) opens.reaches;
+      forest = IsForest-put arcs x p s t i e certified before.forest put fresh_at (λ h. (let o : e.state ≡ Open = opens.is_open in cc)) (λ h. (let o : e.state ≡ Open = opens.is_open in absurd (cc))) opens.reaches opens.bound;
       reached = λ v lt. (elim (cases_eq v i) [
         | inl same ↦ subst (IsReached t) (sym same) reached_i
         | inr ne ↦ (λ h. before.reached v (omega (arith, lt, ne)) (sym (same_state v ne) ∙ h))
@@ -276,6 +300,7 @@ pub record IsFound (arcs : List ArcRow) (x p : List ℤ) (s : List NodeLabel) (v
   pub through : IfSome found (IsThrough arcs x p s v)
   pub is_open : IfSome found (λ e. e.state ≡ Open)
   pub along : IfSome found (λ e. (e.arc ≡ a.arc) × (e.way ≡ a.way))
+  pub bound : IfSome found (HasBound (number_at p v))
 
 pub root_opens : (arcs : List ArcRow) (x p : List ℤ) (s : List NodeLabel) (v : ℕ) → Opens arcs x p s v (root_node_label (number_at p v))
 root_opens arcs x p s v = record {
@@ -285,6 +310,7 @@ root_opens arcs x p s v = record {
     through = λ deep. absurd (omega (arith, deep));
     at_most_0 = omega (arith, ints);
   };
+  bound = omega (arith, ints);
 }
 
 pub nearer_opens : (arcs : List ArcRow) (x p : List ℤ) (s : List NodeLabel) (v : ℕ) (a : ResidualArc) (best e : NodeLabel) (found : Option NodeLabel) → IsFound arcs x p s v a found → Opens arcs x p s v best → e.distance ≤ℤ best.distance
@@ -299,6 +325,7 @@ nearer_opens arcs x p s v a best e found is opens falls (inr this) =
         through = λ deep. through;
         at_most_0 = omega (arith, ints, falls, opens.reaches.at_most_0);
       };
+      bound = subst (λ (o : Option NodeLabel). IfSome o (HasBound (number_at p v))) this is.bound;
     }
 
 pub nearer_than : (arcs : List ArcRow) (x p : List ℤ) (s : List NodeLabel) (v : ℕ) (a : ResidualArc) (e : NodeLabel) (found : Option NodeLabel) → IsFound arcs x p s v a found → IfSome found (λ other. e.distance ≤ℤ other.distance) → IsNoDearer arcs x p s v e a.arc a.way

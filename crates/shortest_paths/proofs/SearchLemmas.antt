@@ -1,9 +1,9 @@
 -- How a search goes on: one step of each kind.
 use Rattle.residual_graph.specs.Limits.{potential_floor, cost_limit, entry_limit}
 use Rattle.shortest_paths.specs.Limits.{distance_limit}
-use Rattle.std.proofs.Common.{◌≡◌, ◌≢◌, ℕ, ◌+◌, ◌*◌, ◌<◌, ◌≤◌, ℤ, pos, neg_ℤ, ◌+ℤ◌, ◌≤ℤ◌, List, length, refl, sym, ap, subst, ◌∙◌, inl, inr, arith, cond, slice_set}
+use Rattle.std.proofs.Common.{◌≡◌, ◌≢◌, ℕ, ◌+◌, ◌*◌, ◌<◌, ◌≤◌, ℤ, pos, neg_ℤ, ◌+ℤ◌, ◌≤ℤ◌, List, length, refl, sym, ap, subst, ◌∙◌, inl, inr, arith, cond, slice_set, w64, to_z, of_z, SFits}
 use Rattle.std.specs.Prelude.{◌<ℤ◌}
-use Rattle.std.proofs.lemmas.Int.{ints, by_lt_z}
+use Rattle.std.proofs.lemmas.Int.{ints, by_lt_z, to_z-of_z}
 use Rattle.std.proofs.lemmas.Bool.{cases_eq, cases_lt}
 use Rattle.std.proofs.lemmas.List.{get_or-set_same, get_or-set_other, length-set, get_or_past}
 use Rattle.dimacs_text.specs.declared.problem.ArcRow.{ArcRow}
@@ -14,7 +14,7 @@ use Rattle.shortest_paths.specs.declared.node_label.NodeLabel.{NodeLabel}
 use Rattle.residual_graph.specs.Residual.{IsCertified, IsFlow, NoneBelow, number_at, arc_at, start_at, end_at, cost_at, IsResidual}
 use Rattle.std.proofs.lemmas.List.Sums.{sum_by-set}
 use Rattle.residual_graph.proofs.RowLemmas.{cost_of-bounds, end_of-in}
-use Rattle.shortest_paths.specs.Search.{is_unsettled, is_not_settled, node_label_at, state_at, distance_at, depth_at, IsReached, unsettled, reduced_at, IsTraced, IsTracedBy, IsSearch, IsLastSettled, TakesBy, Takes, Settles, settled_node_label, IsLeastOpen, IsRelaxed, AllRelaxed, IsRelaxedFrom, Improves}
+use Rattle.shortest_paths.specs.Search.{HasBound, HaveBounds, is_unsettled, is_not_settled, node_label_at, state_at, distance_at, depth_at, IsReached, unsettled, reduced_at, IsTraced, IsTracedBy, IsSearch, IsLastSettled, TakesBy, Takes, Settles, settled_node_label, IsLeastOpen, IsRelaxed, AllRelaxed, IsRelaxedFrom, Improves}
 
 abbrev pub weight_of : NodeLabel → ℕ
 weight_of r = cond (is_unsettled r) 1 0
@@ -50,6 +50,17 @@ IsPut-set s v e lt = record {
   count = sum_by-set weight_of s v e _ lt;
   elsewhere = λ q ne. get_or-set_other s v q e _ ne;
 }
+
+-- a length with a potential, as words hold them
+pub word_sum : (a b : ℤ) → SFits w64 a → SFits w64 b → SFits w64 (a +ℤ b) → to_z w64 (of_z w64 (to_z w64 (of_z w64 a) +ℤ to_z w64 (of_z w64 b))) ≡ a +ℤ b
+word_sum a b a_fits b_fits fits = rw (to_z-of_z w64 a a_fits, to_z-of_z w64 b b_fits) (to_z-of_z w64 (a +ℤ b) fits)
+
+-- where one node gets its bound, each keeps one
+pub HaveBounds-put : (p : List ℤ) (s t : List NodeLabel) (v : ℕ) (e : NodeLabel) → HaveBounds p s → IsPut s t v e → HasBound (number_at p v) e → HaveBounds p t
+HaveBounds-put p s t v e before put here q lt = elim (cases_eq q v) [
+  | inl same ↦ subst (λ (w : ℕ). HasBound (number_at p w) (node_label_at t w)) (sym same) (subst (HasBound (number_at p v)) (sym put.here) here)
+  | inr ne ↦ subst (HasBound (number_at p q)) (sym (put.elsewhere q ne)) (before q (omega (arith, lt, put.same_length)))
+]
 
 pub settled_is_reached : (s : List NodeLabel) (v : ℕ) → state_at s v ≡ Settled → IsReached s v
 settled_is_reached s v m = λ h. cc
@@ -117,7 +128,7 @@ module _ (arcs : List ArcRow) (x p : List ℤ) (s t : List NodeLabel) (u k : ℕ
     (residual : IsResidual arcs x k way) (starts : start_at arcs k way ≡ u) (fits : NoneBelow arcs x p)
     (put : IsPut s t (end_at arcs k way) e)
     (is_open : e.state ≡ Open) (distance_from : e.distance ≡ distance_at s (start_at arcs k way) +ℤ reduced_at arcs p k way) (depth_is : e.depth ≡ depth_at s u + 1)
-    (arc_is : e.arc ≡ k) (way_is : e.way ≡ way) (takes : Takes (node_label_at s (end_at arcs k way)) e.distance)
+    (arc_is : e.arc ≡ k) (way_is : e.way ≡ way) (bound : HasBound (number_at p (end_at arcs k way)) e) (takes : Takes (node_label_at s (end_at arcs k way)) e.distance)
   where
     distance_is : e.distance ≡ distance_at s u +ℤ reduced_at arcs p k way
     distance_is = distance_from ∙ ap (λ (v : ℕ). distance_at s v +ℤ reduced_at arcs p k way) starts
@@ -253,6 +264,7 @@ module _ (arcs : List ArcRow) (x p : List ℤ) (s t : List NodeLabel) (u k : ℕ
       label_low = label_low;
       label_high = label_high;
       traced = traced;
+      bounds = HaveBounds-put p s t (end_at arcs k way) e search.bounds put bound;
     }
 
     distance_falls : (v : ℕ) → IsReached s v → distance_at t v ≤ℤ distance_at s v
@@ -285,15 +297,16 @@ pub record IsStep (arcs : List ArcRow) (x p : List ℤ) (s t : List NodeLabel) (
   pub better : Improves s t
   pub done : IsRelaxed arcs p t k way
 
-pub IsStep-put : (arcs : List ArcRow) (x p : List ℤ) (s : List NodeLabel) (u k : ℕ) (way : Way) (end : ℕ) (e : NodeLabel) → IsCertified arcs x p → IsSearch arcs x p s → IsLastSettled s u → IsResidual arcs x k way → start_at arcs k way ≡ u → end ≡ end_at arcs k way → e.state ≡ Open → e.distance ≡ distance_at s (start_at arcs k way) +ℤ reduced_at arcs p k way → e.depth ≡ depth_at s u + 1 → e.arc ≡ k → e.way ≡ way → Takes (node_label_at s end) e.distance → IsStep arcs x p s (slice_set s end e) k way
-IsStep-put arcs x p s u k way end e certified known last residual starts ends is_open distance_is depth_is arc_is way_is takes =
+pub IsStep-put : (arcs : List ArcRow) (x p : List ℤ) (s : List NodeLabel) (u k : ℕ) (way : Way) (end : ℕ) (e : NodeLabel) → IsCertified arcs x p → IsSearch arcs x p s → IsLastSettled s u → IsResidual arcs x k way → start_at arcs k way ≡ u → end ≡ end_at arcs k way → e.state ≡ Open → e.distance ≡ distance_at s (start_at arcs k way) +ℤ reduced_at arcs p k way → e.depth ≡ depth_at s u + 1 → e.arc ≡ k → e.way ≡ way → HasBound (number_at p end) e → Takes (node_label_at s end) e.distance → IsStep arcs x p s (slice_set s end e) k way
+IsStep-put arcs x p s u k way end e certified known last residual starts ends is_open distance_is depth_is arc_is way_is bound takes =
     let in_range : end_at arcs k way < length s = rw known.sized (end_of-in (length p) (arc_at arcs k) way (certified.flow.rows k residual.is_arc)) in
     let put : IsPut s (slice_set s end e) (end_at arcs k way) e = subst (λ (q : ℕ). IsPut s (slice_set s q e) (end_at arcs k way) e) (sym ends) (IsPut-set s (end_at arcs k way) e in_range) in
+    let bounded : HasBound (number_at p (end_at arcs k way)) e = subst (λ (q : ℕ). HasBound (number_at p q) e) ends bound in
     let taken : Takes (node_label_at s (end_at arcs k way)) e.distance = subst (λ (q : ℕ). Takes (node_label_at s q) e.distance) ends takes in
     record {
-      known = search_improved arcs x p s _ u k way e certified.flow known last residual starts certified.none_below put is_open distance_is depth_is arc_is way_is taken;
-      better = improves arcs x p s _ u k way e certified.flow known last residual starts certified.none_below put is_open distance_is depth_is arc_is way_is taken;
-      done = relaxed arcs x p s _ u k way e certified.flow known last residual starts certified.none_below put is_open distance_is depth_is arc_is way_is taken;
+      known = search_improved arcs x p s _ u k way e certified.flow known last residual starts certified.none_below put is_open distance_is depth_is arc_is way_is bounded taken;
+      better = improves arcs x p s _ u k way e certified.flow known last residual starts certified.none_below put is_open distance_is depth_is arc_is way_is bounded taken;
+      done = relaxed arcs x p s _ u k way e certified.flow known last residual starts certified.none_below put is_open distance_is depth_is arc_is way_is bounded taken;
     }
 
 pub refused_at : (s : List NodeLabel) (end v : ℕ) (distance z : ℤ) → end ≡ v → z ≡ distance → (Takes (node_label_at s end) z → ⊥) → Takes (node_label_at s v) distance → ⊥
@@ -416,6 +429,7 @@ module _ (arcs : List ArcRow) (x p : List ℤ) (s t : List NodeLabel) (u : ℕ)
       label_low = λ v r. omega (arith, ints, distance_same v, depth_same v, known.label_low v (reached_before v r));
       label_high = λ v r. omega (arith, ints, distance_same v, depth_same v, known.label_high v (reached_before v r));
       traced = λ v r d. kept_trace v (known.traced v (reached_before v r) (omega (arith, depth_same v)));
+      bounds = HaveBounds-put p s t u _ known.bounds put refl;
     }
 
     pub last_settled : IsLastSettled t u

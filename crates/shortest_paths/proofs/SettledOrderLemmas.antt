@@ -1,6 +1,6 @@
 -- What the settled order of a search lists, and how the reached nodes are found again.
-use Rattle.std.proofs.Common.{◌≡◌, ◌≢◌, ℕ, zero, suc, ◌+◌, ◌<◌, ℤ, pos, ◌≤ℤ◌, List, [], ◌∷◌, length, Bool, true, false, cond, replicate, slice_set, arith, ap, refl, rules, inl, inr, ◌∙◌, subst, sym}
-use Rattle.std.specs.Prelude.{◌<ℤ◌, int_lt, slice_index}
+use Rattle.std.proofs.Common.{◌≡◌, ◌≢◌, ℕ, zero, suc, ◌+◌, ◌<◌, ℤ, pos, ◌+ℤ◌, ◌≤ℤ◌, List, [], ◌∷◌, length, replicate, slice_set, arith, ap, refl, rules, inl, inr, ◌∙◌, subst, sym}
+use Rattle.std.specs.Prelude.{◌<ℤ◌, slice_index}
 use Rattle.std.proofs.lemmas.Bool.{cases_eq}
 use Rattle.std.proofs.lemmas.Int.{ints, by_lt_z}
 use Rattle.std.proofs.lemmas.List.{get_or-set_same, get_or-set_other, length-set}
@@ -10,19 +10,21 @@ use Rattle.shortest_paths.specs.declared.queue.Queue.{Queue}
 use Rattle.shortest_paths.specs.declared.settled_order.SettledOrder.{SettledOrder}
 use Rattle.shortest_paths.specs.declared.node_label.NodeLabel.{NodeLabel}
 use Rattle.shortest_paths.specs.declared.node_label.State.{State}
+use Rattle.shortest_paths.specs.declared.node_label.TheConstants.{NO_BOUND}
 use Rattle.shortest_paths.specs.declared.node_label.State.TheVariants.{Unreached, Open, Settled}
 use Rattle.shortest_paths.specs.NodeLists.{IsListed, node_at}
 use Rattle.shortest_paths.specs.Queue.{IsQueueOf}
 use Rattle.residual_graph.specs.Residual.{IsCertified, number_at}
-use Rattle.shortest_paths.specs.Search.{AllRelaxed, IsFinding, IsFromExcess, IsReached, IsLowered, IsSearch, Settles, depth_at, is_unsettled, distance_at, lowered, lowered_by, state_at, source_node_label, unsettled, node_label_at}
+use Rattle.shortest_paths.specs.Search.{AllRelaxed, HaveBounds, IsFinding, IsFromExcess, IsReached, IsLowered, IsSearch, Settles, depth_at, is_unsettled, distance_at, lowered, lowered_by, state_at, bound_at, bound_by, source_node_label, unreached_node_label, unsettled, node_label_at}
 use Rattle.shortest_paths.specs.SettledOrder.{HoldReached, IsFresh, IsSettledOrderFor, IsSettledOrderOf}
-use Rattle.shortest_paths.proofs.SearchLemmas.{in_range, open_is_reached, settled_is_reached, weight_of, weight_unsettled}
+use Rattle.shortest_paths.proofs.SearchLemmas.{HaveBounds-put, IsPut-set, in_range, open_is_reached, settled_is_reached, weight_of, weight_unsettled}
 
 -- after a search the settled order and the queue hold what it reached
-pub held_after_search : (s : List NodeLabel) (q : Queue) (t : SettledOrder) → IsQueueOf s q → IsSettledOrderOf s t → HoldReached s q t
-held_after_search s q t queue settled_order = record {
+pub held_after_search : (p : List ℤ) (s : List NodeLabel) (q : Queue) (t : SettledOrder) → HaveBounds p s → IsQueueOf s q → IsSettledOrderOf s t → HoldReached s q t
+held_after_search p s q t bounds queue settled_order = record {
   settled = settled_order.listed;
   waiting = queue.holds.all;
+  unreached = λ v lt m. bounds v lt ∙ ap (λ (n : State). bound_by n (distance_at s v +ℤ number_at p v)) m;
   settled_order_fits = omega (arith, settled_order.counted, settled_order.sized.nodes_sized);
   heap_fits = omega (arith, queue.heap.index.len_in, queue.heap.index.order_sized);
   current_fits = queue.current.ends;
@@ -106,22 +108,26 @@ module _ (s s' : List NodeLabel) (u : ℕ) (t : SettledOrder) (settled_order : I
 
 -- ---- what a search begins with
 
-pub source_is_open : (e : ℤ) → pos 0 <ℤ e → (source_node_label e).state ≡ Open
-source_is_open e high = by_sign (int_lt (pos 0) e) refl
-  where
-    by_sign : (b : Bool) → int_lt (pos 0) e ≡ b → cond b Open Unreached ≡ Open
-    by_sign true is = refl
-    by_sign false is = absurd (omega (arith, ints, high, is))
+-- where no node is reached, and any path is better, each node has its bound
+pub HaveBounds-fresh : (p : List ℤ) (s : List NodeLabel) → IsFresh s → HaveBounds p s
+HaveBounds-fresh p s fresh v lt = fresh.no_bounds v lt ∙ ap (λ (n : State). bound_by n (distance_at s v +ℤ number_at p v)) (sym (fresh.unreached v))
+
+-- where a source is opened, each node keeps its bound
+pub HaveBounds-source : (p : List ℤ) (s : List NodeLabel) (v : ℕ) → HaveBounds p s → v < length s → HaveBounds p (slice_set s v (source_node_label (number_at p v)))
+HaveBounds-source p s v before lt =
+    let own : number_at p v ≡ pos 0 +ℤ number_at p v = omega (arith, ints) in
+    HaveBounds-put p s (slice_set s v (source_node_label (number_at p v))) v (source_node_label (number_at p v)) before (IsPut-set s v (source_node_label (number_at p v)) lt) own
 
 -- each node in excess is open, and no other is reached
 module _ (arcs : List ArcRow) (x p excess : List ℤ) (s : List NodeLabel) (certified : IsCertified arcs x p) (sized : length s ≡ length p)
-    (sources : (v : ℕ) → pos 0 <ℤ number_at excess v → node_label_at s v ≡ source_node_label (number_at excess v))
+    (sources : (v : ℕ) → pos 0 <ℤ number_at excess v → node_label_at s v ≡ source_node_label (number_at p v))
     (others : (v : ℕ) → number_at excess v ≤ℤ pos 0 → state_at s v ≡ Unreached)
+    (bounds : HaveBounds p s)
   where
     is_source : (v : ℕ) → IsReached s v → pos 0 <ℤ number_at excess v
     is_source v reached = by_lt_z (pos 0) (number_at excess v) (λ h. h) (λ h. absurd (reached (others v h)))
 
-    begins : (v : ℕ) → IsReached s v → node_label_at s v ≡ source_node_label (number_at excess v)
+    begins : (v : ℕ) → IsReached s v → node_label_at s v ≡ source_node_label (number_at p v)
     begins v reached = sources v (is_source v reached)
 
     depth_0 : (v : ℕ) → IsReached s v → depth_at s v ≡ 0
@@ -133,7 +139,7 @@ module _ (arcs : List ArcRow) (x p excess : List ℤ) (s : List NodeLabel) (cert
     pub none_settled : (v : ℕ) → state_at s v ≡ Settled → ⊥
     none_settled v m =
         let reached = settled_is_reached s v m in
-        let o : state_at s v ≡ Open = ap (λ (e : NodeLabel). e.state) (begins v reached) ∙ source_is_open (number_at excess v) (is_source v reached) in
+        let o : state_at s v ≡ Open = ap (λ (e : NodeLabel). e.state) (begins v reached) in
         cc
 
     pub known_first : IsSearch arcs x p s
@@ -146,6 +152,7 @@ module _ (arcs : List ArcRow) (x p excess : List ℤ) (s : List NodeLabel) (cert
       label_low = λ v r. omega (arith, ints, distance_0 v r, certified.potentials.at_least v);
       label_high = λ v r. omega (arith, ints, distance_0 v r, certified.potentials.at_most_0 v);
       traced = λ v r deep. absurd (omega (arith, depth_0 v r));
+      bounds = bounds;
     }
 
     pub relaxed_first : AllRelaxed arcs x p s
@@ -154,7 +161,7 @@ module _ (arcs : List ArcRow) (x p excess : List ℤ) (s : List NodeLabel) (cert
     pub from_excess_first : IsFromExcess excess s
     from_excess_first = record {
       sources = λ v high.
-          (let o : state_at s v ≡ Open = ap (λ (e : NodeLabel). e.state) (sources v high) ∙ source_is_open (number_at excess v) high in
+          (let o : state_at s v ≡ Open = ap (λ (e : NodeLabel). e.state) (sources v high) in
           let reached = open_is_reached s v o in
           (reached, distance_0 v reached));
       roots = λ v r d. (is_source v r, distance_0 v r);
@@ -205,7 +212,15 @@ lowered_along s t reach before now settled_order written v = by_state (state_at 
         subst (λ (w : ℕ). number_at now w ≡ lowered (number_at before w) (node_label_at s w) reach) there.is_there (written.done there.place there.in_list)
 
 -- a table of nodes that no search has reached
-pub fresh_table : (n : ℕ) → IsFresh (replicate n (source_node_label (pos 0)))
-fresh_table zero v = refl
-fresh_table (suc n) zero = refl
-fresh_table (suc n) (suc v) = fresh_table n v
+pub fresh_table : (n : ℕ) → IsFresh (replicate n unreached_node_label)
+fresh_table n = record { unreached = states n; no_bounds = bounds n }
+  where
+    states : (n v : ℕ) → state_at (replicate n unreached_node_label) v ≡ Unreached
+    states zero v = refl
+    states (suc n) zero = refl
+    states (suc n) (suc v) = states n v
+
+    bounds : (n v : ℕ) → v < length (replicate n unreached_node_label) → bound_at (replicate n unreached_node_label) v ≡ NO_BOUND
+    bounds zero v lt = absurd (omega (arith, lt))
+    bounds (suc n) zero lt = refl
+    bounds (suc n) (suc v) lt = bounds n v (omega (arith, lt))

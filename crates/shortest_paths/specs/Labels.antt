@@ -7,7 +7,7 @@ use Rattle.residual_graph.specs.declared.residual.Way.{Way}
 use Rattle.shortest_paths.specs.declared.node_label.State.TheVariants.{Open, Settled}
 use Rattle.shortest_paths.specs.declared.node_label.NodeLabel.{NodeLabel}
 use Rattle.residual_graph.specs.Residual.{number_at, start_at, end_at, IsResidual}
-use Rattle.shortest_paths.specs.Search.{state_at, distance_at, depth_at, IsReached, IsSearch, IsRelaxed, reduced_at}
+use Rattle.shortest_paths.specs.Search.{HasBound, state_at, distance_at, depth_at, IsReached, IsSearch, IsRelaxed, reduced_at}
 
 -- the tables have one entry a node
 pub record IsLabelsFor (entries : ℕ) (l : Labels) : Type 0 where
@@ -48,11 +48,13 @@ pub record Stands (arcs : List ArcRow) (x p : List ℤ) (s : List NodeLabel) (v 
   pub settled : e.state ≡ Settled
   pub reaches : Reaches arcs x p s v e
   pub kept : e.distance ≡ pos 0
+  pub bound : HasBound (number_at p v) e
 
 -- e opens v
 pub record Opens (arcs : List ArcRow) (x p : List ℤ) (s : List NodeLabel) (v : ℕ) (e : NodeLabel) : Type 0 where
   pub is_open : e.state ≡ Open
   pub reaches : Reaches arcs x p s v e
+  pub bound : HasBound (number_at p v) e
 
 -- node v is no dearer by e than by arc k from a settled node
 abbrev pub IsNoDearer : List ArcRow → List ℤ → List ℤ → List NodeLabel → ℕ → NodeLabel → ℕ → Way → Type 0

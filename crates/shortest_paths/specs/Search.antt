@@ -10,10 +10,11 @@ use Rattle.residual_graph.specs.declared.residual.Way.TheVariants.{Forward}
 use Rattle.shortest_paths.specs.declared.node_label.State.{State}
 use Rattle.shortest_paths.specs.declared.node_label.State.TheVariants.{Unreached, Open, Settled}
 use Rattle.shortest_paths.specs.declared.node_label.NodeLabel.{NodeLabel}
+use Rattle.shortest_paths.specs.declared.node_label.TheConstants.{NO_BOUND, LEAST_BOUND}
 use Rattle.residual_graph.specs.Residual.{number_at, start_at, end_at, cost_at, IsResidual}
 
 abbrev pub node_label_at : List NodeLabel → ℕ → NodeLabel
-node_label_at s v = slice_index_or s v (record { state = Unreached; distance = pos 0; depth = 0; arc = 0; way = Forward })
+node_label_at s v = slice_index_or s v (record { state = Unreached; distance = pos 0; depth = 0; arc = 0; way = Forward; bound = pos 0 })
 
 abbrev pub state_at : List NodeLabel → ℕ → State
 state_at s v = (node_label_at s v).state
@@ -23,6 +24,9 @@ distance_at s v = (node_label_at s v).distance
 
 abbrev pub depth_at : List NodeLabel → ℕ → ℕ
 depth_at s v = (node_label_at s v).depth
+
+abbrev pub bound_at : List NodeLabel → ℕ → ℤ
+bound_at s v = (node_label_at s v).bound
 
 abbrev pub IsReached : List NodeLabel → ℕ → Type 0
 IsReached s v = state_at s v ≢ Unreached
@@ -48,6 +52,21 @@ reduced_at arcs p k way =
 abbrev pub priced_distance : List ℤ → List NodeLabel → ℕ → ℤ
 priced_distance p s u = distance_at s u +ℤ number_at p u
 
+-- a path to a node in this state is better than what is known where its length, with the node's potential, is below
+-- the bound: any path to a node that is not reached, one shorter than the best one known, `priced` with the potential,
+-- to an open node, and none to a settled node
+abbrev pub bound_by : State → ℤ → ℤ
+bound_by Unreached priced = NO_BOUND
+bound_by Open priced = priced
+bound_by Settled priced = LEAST_BOUND
+
+abbrev pub HasBound : ℤ → NodeLabel → Type 0
+HasBound potential e = e.bound ≡ bound_by e.state (e.distance +ℤ potential)
+
+-- each node has its bound
+abbrev pub HaveBounds : List ℤ → List NodeLabel → Type 0
+HaveBounds p s = (v : ℕ) → v < length s → HasBound (number_at p v) (node_label_at s v)
+
 -- the best path to v that the search knows comes along arc k from a settled node
 pub record IsTracedBy (arcs : List ArcRow) (x p : List ℤ) (s : List NodeLabel) (v k : ℕ) (way : Way) : Type 0 where
   pub residual : IsResidual arcs x k way
@@ -59,7 +78,8 @@ pub record IsTracedBy (arcs : List ArcRow) (x p : List ℤ) (s : List NodeLabel)
 abbrev pub IsTraced : List ArcRow → List ℤ → List ℤ → List NodeLabel → ℕ → Type 0
 IsTraced arcs x p s v = IsTracedBy arcs x p s v (node_label_at s v).arc (node_label_at s v).way
 
--- settled nodes are no further than open ones, and each node that was reached has its path behind it
+-- settled nodes are no further than open ones, each node that was reached has its path behind it, and each node has its
+-- bound
 pub record IsSearch (arcs : List ArcRow) (x p : List ℤ) (s : List NodeLabel) : Type 0 where
   pub sized : length s ≡ length p
   pub in_order : (v w : ℕ) → state_at s v ≡ Settled → state_at s w ≡ Open → distance_at s v ≤ℤ distance_at s w
@@ -69,6 +89,7 @@ pub record IsSearch (arcs : List ArcRow) (x p : List ℤ) (s : List NodeLabel) :
   pub label_low : (v : ℕ) → IsReached s v → neg_ℤ (pos (potential_floor + cost_limit * depth_at s v)) ≤ℤ (distance_at s v +ℤ number_at p v)
   pub label_high : (v : ℕ) → IsReached s v → (distance_at s v +ℤ number_at p v) ≤ℤ pos (cost_limit * depth_at s v)
   pub traced : (v : ℕ) → IsReached s v → 0 < depth_at s v → IsTraced arcs x p s v
+  pub bounds : HaveBounds p s
 
 -- u is settled, and no settled node is further
 pub record IsLastSettled (s : List NodeLabel) (u : ℕ) : Type 0 where
@@ -132,11 +153,18 @@ pub record Settles (s t : List NodeLabel) (u : ℕ) : Type 0 where
   pub roots_kept : (v : ℕ) → IsReached t v → depth_at t v ≡ 0 → IsReached s v × (depth_at s v ≡ 0) × (distance_at t v ≡ distance_at s v)
 
 abbrev pub settled_node_label : NodeLabel → NodeLabel
-settled_node_label e = record { state = Settled; distance = e.distance; depth = e.depth; arc = e.arc; way = e.way }
+settled_node_label e = record { state = Settled; distance = e.distance; depth = e.depth; arc = e.arc; way = e.way; bound = LEAST_BOUND }
 
--- what a node in excess, and any other node, begins with
+abbrev pub forgotten_node_label : NodeLabel → NodeLabel
+forgotten_node_label e = record { state = Unreached; distance = e.distance; depth = e.depth; arc = e.arc; way = e.way; bound = NO_BOUND }
+
+-- what is known of a node that no search has reached
+abbrev pub unreached_node_label : NodeLabel
+unreached_node_label = record { state = Unreached; distance = pos 0; depth = 0; arc = 0; way = Forward; bound = NO_BOUND }
+
+-- what a node in excess begins with
 abbrev pub source_node_label : ℤ → NodeLabel
-source_node_label e = record { state = cond (int_lt (pos 0) e) Open Unreached; distance = pos 0; depth = 0; arc = 0; way = Forward }
+source_node_label potential = record { state = Open; distance = pos 0; depth = 0; arc = 0; way = Forward; bound = potential }
 
 -- what the search for nodes in deficit knows of the nodes in excess
 pub record IsFromExcess (excess : List ℤ) (s : List NodeLabel) : Type 0 where
@@ -201,7 +229,7 @@ pub record IsFromAll (p : List ℤ) (s : List NodeLabel) : Type 0 where
 
 -- what each node begins with in a search from all nodes
 abbrev pub root_node_label : ℤ → NodeLabel
-root_node_label potential = record { state = Open; distance = neg_ℤ potential; depth = 0; arc = 0; way = Forward }
+root_node_label potential = record { state = Open; distance = neg_ℤ potential; depth = 0; arc = 0; way = Forward; bound = pos 0 }
 
 -- each potential becomes the label of its node
 abbrev pub AreLabels : List ℤ → List ℤ → List NodeLabel → Type 0

@@ -3,12 +3,13 @@
 ghost use Rattle.std.specs.Prelude.{◌≡◌, ℕ, ◌≤ℤ◌, ◌<◌, ◌≤◌, ◌+◌, ◌⊎◌, length, false, None, Some, IfSome, IfOk};
 ghost use Rattle.residual_graph.specs.Limits.{entry_limit, potential_floor};
 ghost use Rattle.residual_graph.specs.Residual.{ArePotentials, IsCertified, number_at};
-ghost use Rattle.shortest_paths.specs.Search.{IsSearch, AllRelaxed, IsFromAll, NoneOpen, state_at, root_node_label, settled_node_label};
+ghost use Rattle.shortest_paths.specs.Search.{HasBound, IsSearch, AllRelaxed, IsFromAll, NoneOpen, root_node_label, settled_node_label};
+ghost use Rattle.shortest_paths.specs.SettledOrder.{IsFresh};
 ghost use Rattle.shortest_paths.specs.Labels.{AreInOrder, IsLabelsFor, IsForest, IsHop, IsThrough, Stands, Opens, IsShortest, NothingOpen, IsEntered};
 ghost use Rattle.residual_graph.specs.Graph.{IsGraphFor};
 ghost use Rattle.residual_graph.specs.Side.{seen};
 ghost use Rattle.shortest_paths.specs.Queue.{IsQueueOf, IsQueueFor};
-ghost use Rattle.shortest_paths.specs.declared.node_label.State.TheVariants.{Unreached, Open};
+ghost use Rattle.shortest_paths.specs.declared.node_label.State.TheVariants.{Open};
 
 use crate::node_label::{NodeLabel, State};
 use crate::queue::Queue;
@@ -49,12 +50,12 @@ impl Labels {
     }
 }
 
-/// Makes each node unreached, and leaves how it was reached.
+/// Forgets that a pass reached the nodes, and leaves how it did.
 fn clear_states(node_labels: &mut [NodeLabel])
-    ensures { (v : ℕ) → state_at node_labels.new v ≡ Unreached }
+    ensures { IsFresh node_labels.new }
 {
     for v in 0..node_labels.len() {
-        node_labels[v].state = State::Unreached;
+        node_labels[v].forget();
     }
 }
 
@@ -70,6 +71,7 @@ fn root(potentials: &[i64], v: usize) -> NodeLabel
         depth: 0,
         arc: 0,
         way: Way::Forward,
+        bound: 0,
     }
 }
 
@@ -77,10 +79,9 @@ fn root(potentials: &[i64], v: usize) -> NodeLabel
 fn settled(node_label: NodeLabel) -> NodeLabel
     ensures { result ≡ settled_node_label node_label }
 {
-    NodeLabel {
-        state: State::Settled,
-        ..node_label
-    }
+    let mut node_label = node_label;
+    node_label.settle();
+    node_label
 }
 
 /// How the node is reached along a residual arc, where it is there and comes from a settled node.
@@ -96,6 +97,7 @@ fn node_label_through(
     ensures through { IfSome result (IsThrough (seen residual.entry.side residual.entry.graph.now.rows.items) residual.entry.flow.now residual.entry.potentials.now node_labels.now v) }
     ensures is_open { IfSome result (λ e. e.state ≡ Open) }
     ensures along { IfSome result (λ e. (e.arc ≡ arc.arc) × (e.way ≡ arc.way)) }
+    ensures bound { IfSome result (HasBound (number_at residual.entry.potentials.now v)) }
 {
     let k = arc.arc as usize;
     let row = residual.graph.row(residual.side, k);
@@ -109,12 +111,14 @@ fn node_label_through(
     if arc.way.room(&row, residual.flow[k]) <= 0 {
         return None;
     }
+    let distance = distance_through(&row, arc.way, residual.potentials, node_labels);
     Some(NodeLabel {
         state: State::Open,
-        distance: distance_through(&row, arc.way, residual.potentials, node_labels),
+        distance,
         depth: node_labels[start].depth + 1,
         arc: arc.arc,
         way: arc.way,
+        bound: distance + residual.potentials[v],
     })
 }
 

@@ -1,12 +1,18 @@
 //! What a search knows of each node.
 
-ghost use Rattle.std.specs.Prelude.{◌≡◌, pos, neg_ℤ, ◌≤ℤ◌, IsTrue, ◌↔◌};
+ghost use Rattle.std.specs.Prelude.{◌≡◌, ℤ, pos, neg_ℤ, ◌-ℤ◌, ◌≤ℤ◌, ◌<ℤ◌, IsTrue, ◌↔◌};
 ghost use Rattle.shortest_paths.specs.Limits.{distance_limit};
 ghost use Rattle.residual_graph.specs.Limits.{potential_floor};
-ghost use Rattle.shortest_paths.specs.Search.{Takes, lowered, source_node_label};
+ghost use Rattle.shortest_paths.specs.Search.{HasBound, Takes, forgotten_node_label, lowered, settled_node_label, unreached_node_label};
 ghost use Rattle.shortest_paths.specs.declared.node_label.State.TheVariants.{Settled};
 
 use residual_graph::Way;
+
+/// The bound of a node that no search has reached: any path is better.
+pub const NO_BOUND: i64 = i64::MAX;
+
+/// The bound of a settled node: no path is better.
+pub const LEAST_BOUND: i64 = i64::MIN;
 
 /// How far the search has come with a node.
 #[derive(Clone, Copy)]
@@ -20,7 +26,8 @@ pub enum State {
 }
 
 /// What the search knows of a node: the length of the best path to it over reduced costs, how many arcs
-/// it has, and its last arc.
+/// it has, and its last arc. A better path is one whose length, with the node's potential, is below the bound: so one
+/// number tells of most paths that they are no better.
 #[derive(Clone, Copy)]
 pub struct NodeLabel {
     pub state: State,
@@ -29,12 +36,13 @@ pub struct NodeLabel {
     /// The row of the last arc, where there is one.
     pub arc: u32,
     pub way: Way,
+    pub bound: i64,
 }
 
 impl NodeLabel {
     /// A node that no search has reached.
     pub fn unreached() -> Self
-        ensures { result ≡ source_node_label (pos 0) }
+        ensures { result ≡ unreached_node_label }
     {
         NodeLabel {
             state: State::Unreached,
@@ -42,18 +50,32 @@ impl NodeLabel {
             depth: 0,
             arc: 0,
             way: Way::Forward,
+            bound: NO_BOUND,
         }
     }
 
-    /// Whether a path of this length is better than what is known.
-    pub fn takes(&self, distance: i64) -> bool
-        ensures { IsTrue result ↔ Takes self.now distance }
+    /// Whether a path of this length, with the node's potential, is better than what is known.
+    pub fn takes(&self, priced: i64) -> bool
+        requires limit { priced <ℤ NO_BOUND }
+        ensures { (potential : ℤ) → HasBound potential self.now → (IsTrue result ↔ Takes self.now (priced -ℤ potential)) }
     {
-        match self.state {
-            State::Unreached => true,
-            State::Open => distance < self.distance,
-            State::Settled => false,
-        }
+        priced < self.bound
+    }
+
+    /// Settles the node: no path is better any more.
+    pub fn settle(&mut self)
+        ensures { self.new ≡ settled_node_label self.old }
+    {
+        self.state = State::Settled;
+        self.bound = LEAST_BOUND;
+    }
+
+    /// Forgets that the search reached the node, and leaves by which arc it did.
+    pub fn forget(&mut self)
+        ensures { self.new ≡ forgotten_node_label self.old }
+    {
+        self.state = State::Unreached;
+        self.bound = NO_BOUND;
     }
 
     /// Whether the node is settled.

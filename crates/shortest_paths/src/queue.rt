@@ -122,7 +122,7 @@ impl Queue {
     {
         if self.next < self.end {
             let first = self.current[self.next] as usize;
-            node_labels[first].state = State::Settled;
+            node_labels[first].settle();
             self.next += 1;
             first
         } else {

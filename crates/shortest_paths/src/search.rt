@@ -2,10 +2,10 @@
 
 ghost use Rattle.std.specs.Prelude.{◌≡◌, ℕ, pos, ◌≤ℤ◌, ◌+ℤ◌, ◌-ℤ◌, ◌<ℤ◌, ◌<◌, ◌≤◌, int_lt, length, neg_ℤ, MatchOption, ◌+◌};
 ghost use Rattle.std.specs.List.{count_by};
-ghost use Rattle.residual_graph.specs.Limits.{entry_limit, potential_floor};
+ghost use Rattle.residual_graph.specs.Limits.{cost_limit, entry_limit, potential_floor};
 ghost use Rattle.shortest_paths.specs.Limits.{distance_limit};
 ghost use Rattle.residual_graph.specs.Residual.{IsRow, IsFlow, IsCertified, ArePotentials, IsResidual, number_at, start_at, start_of, end_of, cost_at, cost_of};
-ghost use Rattle.shortest_paths.specs.Search.{IsSearch, IsLastSettled, Improves, Takes, reduced_at, IsRelaxed, IsRelaxedFrom, AllRelaxed, Settles, node_label_at, state_at, distance_at, priced_distance, source_node_label, IsFromExcess, IsExhausted, HasFound};
+ghost use Rattle.shortest_paths.specs.Search.{HaveBounds, IsSearch, IsLastSettled, Improves, Takes, reduced_at, IsRelaxed, IsRelaxedFrom, AllRelaxed, Settles, node_label_at, state_at, distance_at, priced_distance, source_node_label, IsFromExcess, IsExhausted, HasFound};
 ghost use Rattle.residual_graph.specs.Graph.{IsGraphFor};
 ghost use Rattle.shortest_paths.specs.Queue.{IsQueueOf, IsQueueFor, size, first_of};
 ghost use Rattle.residual_graph.specs.Rooms.{AreRooms};
@@ -38,15 +38,27 @@ pub fn distance_through(
     node_labels[start].distance + (way.unit_cost(row) + potentials[start] - potentials[end])
 }
 
-/// The length of the path that goes on from a settled node at this end. `from` is the length of the path to the node
-/// with the node's potential.
-fn distance_beyond(residual: Residual<'_>, from: i64, end: End) -> i64
+/// The length of the path that goes on from a settled node at this end, with the potential of the other node there.
+/// `from` is the length of the path to the settled node, with that node's potential.
+fn priced_beyond(residual: Residual<'_>, from: i64, end: End) -> i64
     requires end { IsLeading residual.side (seen residual.side residual.graph.now.rows.items) end }
     requires low { neg_ℤ (pos potential_floor) ≤ℤ from }
     requires high { from ≤ℤ pos distance_limit }
-    ensures { result ≡ (from +ℤ cost_at (seen residual.entry.side residual.entry.graph.now.rows.items) (leading residual.entry.side end).arc (leading residual.entry.side end).way) -ℤ number_at residual.entry.potentials.now end.other }
+    ensures priced { result ≡ from +ℤ cost_at (seen residual.entry.side residual.entry.graph.now.rows.items) (leading residual.entry.side end).arc (leading residual.entry.side end).way }
+    ensures low { neg_ℤ (pos (potential_floor + cost_limit)) ≤ℤ result }
+    ensures high { result ≤ℤ pos (distance_limit + cost_limit) }
 {
-    from + residual.side.leading_cost(end) - residual.potentials[end.other]
+    from + residual.side.leading_cost(end)
+}
+
+/// The length of the path to the other node at this end, from its length with that node's potential.
+fn distance_beyond(residual: Residual<'_>, priced: i64, end: End) -> i64
+    requires end { IsLeading residual.side (seen residual.side residual.graph.now.rows.items) end }
+    requires low { neg_ℤ (pos (potential_floor + cost_limit)) ≤ℤ priced }
+    requires high { priced ≤ℤ pos (distance_limit + cost_limit) }
+    ensures { result ≡ priced -ℤ number_at residual.entry.potentials.now end.other }
+{
+    priced - residual.potentials[end.other]
 }
 
 /// Where a search looks on from: the node settled last, and the length of the path to it with its potential.
@@ -90,6 +102,7 @@ fn take_path(
             depth,
             arc: arc.arc,
             way: arc.way,
+            bound: distance + residual.potentials[end.other],
         },
     );
 }
@@ -119,17 +132,15 @@ fn relax(
     if is_saturated(rooms, residual.side, end) {
         return;
     }
-    // No path to a settled node gets better: not even its potential is read.
-    if node_labels[end.other].is_settled() {
+    // Most ends lead to no better path, and then the bound alone is read: neither the potential, nor the arc and its flow,
+    // which are far away in memory.
+    let priced = priced_beyond(residual, origin.priced, end);
+    if !node_labels[end.other].takes(priced) {
         return;
     }
-    let distance = distance_beyond(residual, origin.priced, end);
+    let distance = distance_beyond(residual, priced, end);
     // No residual arc has a reduced cost below 0: none leads to where the path would be shorter than to a settled node.
     if distance < queue.present {
-        return;
-    }
-    // Most ends lead to no better path, and then neither the arc nor its flow is read, which are far away in memory.
-    if !node_labels[end.other].takes(distance) {
         return;
     }
     let arc = residual.side.leading(end);
@@ -190,30 +201,43 @@ pub fn settle_node(
     first
 }
 
+/// A source: a node that is open at distance 0.
+fn source(potentials: &[i64], v: usize) -> NodeLabel
+    requires potentials_in { ArePotentials (length potentials.now) potential_floor potentials.now }
+    requires v_in { v < length potentials.now }
+    ensures { result ≡ source_node_label (number_at potentials.now v) }
+{
+    NodeLabel {
+        state: State::Open,
+        distance: 0,
+        depth: 0,
+        arc: 0,
+        way: Way::Forward,
+        bound: potentials[v],
+    }
+}
+
 /// Opens the nodes in excess.
-fn open_sources(excess: &[i64], node_labels: &mut [NodeLabel], queue: &mut Queue)
+fn open_sources(
+    excess: &[i64],
+    potentials: &[i64],
+    node_labels: &mut [NodeLabel],
+    queue: &mut Queue,
+)
     requires queue { IsQueueOf node_labels.old queue.old }
     requires present { queue.old.present ≡ pos 0 }
     requires few { length node_labels.old ≤ entry_limit }
     requires same_length { length node_labels.old ≡ length excess.now }
+    requires potentials_in { ArePotentials (length node_labels.old) potential_floor potentials.now }
     requires fresh { IsFresh node_labels.old }
-    ensures sources { (v : ℕ) → pos 0 <ℤ number_at excess.now v → node_label_at node_labels.new v ≡ source_node_label (number_at excess.now v) }
+    ensures sources { (v : ℕ) → pos 0 <ℤ number_at excess.now v → node_label_at node_labels.new v ≡ source_node_label (number_at potentials.now v) }
     ensures others { (v : ℕ) → number_at excess.now v ≤ℤ pos 0 → state_at node_labels.new v ≡ Unreached }
+    ensures bounds { HaveBounds potentials.now node_labels.new }
     ensures queue { IsQueueOf node_labels.new queue.new }
 {
     for v in 0..node_labels.len() {
         if excess[v] > 0 {
-            queue.improve(
-                node_labels,
-                v,
-                NodeLabel {
-                    state: State::Open,
-                    distance: 0,
-                    depth: 0,
-                    arc: 0,
-                    way: Way::Forward,
-                },
-            );
+            queue.improve(node_labels, v, source(potentials, v));
         }
     }
 }
@@ -253,7 +277,7 @@ pub fn find_deficits(
 {
     queue.clear(node_labels);
     settled_order.len = 0;
-    open_sources(excess, node_labels, queue);
+    open_sources(excess, residual.potentials, node_labels, queue);
     let wanted = wanted_deficits(excess);
     let mut found = 0;
     let mut reach = 0;

@@ -3,7 +3,7 @@
 ghost use Rattle.std.specs.Prelude.{◌≡◌, ℕ, ◌<◌, ◌+◌, false, length, IfOk, ◌≤◌, slice_index, slice_set};
 ghost use Rattle.residual_graph.specs.Limits.{entry_limit};
 
-use crate::node_label::{NodeLabel, State};
+use crate::node_label::NodeLabel;
 use crate::queue::Queue;
 use std::alloc::{AllocError, Global};
 
@@ -49,12 +49,12 @@ pub fn forget(node_labels: &mut [NodeLabel], queue: &Queue, settled_order: &Sett
     ensures fresh { IsFresh node_labels.new }
 {
     for j in 0..settled_order.len {
-        node_labels[settled_order.nodes[j] as usize].state = State::Unreached;
+        node_labels[settled_order.nodes[j] as usize].forget();
     }
     for j in queue.next..queue.end {
-        node_labels[queue.current[j] as usize].state = State::Unreached;
+        node_labels[queue.current[j] as usize].forget();
     }
     for j in 0..queue.len {
-        node_labels[queue.order[j].node as usize].state = State::Unreached;
+        node_labels[queue.order[j].node as usize].forget();
     }
 }

@@ -98,7 +98,7 @@ push_found-pushes-requires-clause-can_push c = λ t found.
 pub forget-requires : goal.forget-requires
 forget-requires c = record {
   reached = subst (λ (s : List NodeLabel). HoldReached s c.args.scratch.now.queue c.args.scratch.now.settled_order) (sym c.deref_mut-3.ensures.value)
-      (held_after_search c.args.scratch.now.node_labels.items c.args.scratch.now.queue c.args.scratch.now.settled_order c.requires.found.queue c.requires.found.settled_order);
+      (held_after_search c.args.scratch.now.potentials.items c.args.scratch.now.node_labels.items c.args.scratch.now.queue c.args.scratch.now.settled_order c.requires.found.searched.search.bounds c.requires.found.queue c.requires.found.settled_order);
 }
 
 flow_is : (c : After-push_found-pushes) → (with_items c.args.flow.now.entries c.push_found-pushes.new.flow).items ≡ c.push_found-pushes.new.flow

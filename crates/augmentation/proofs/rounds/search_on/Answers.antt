@@ -29,7 +29,7 @@ returns-then-not-has_both-clause-found c =
 pub forget-requires : goal.forget-requires
 forget-requires c = record {
   reached = subst (λ (s : List NodeLabel). HoldReached s c.find_deficits-reach.new.queue c.find_deficits-reach.new.settled_order) (sym (c.deref_mut-then-is_none.ensures.value ∙ node_labels_are (goal.at.forget-requires c).After-find_deficits-reach))
-      (held_after_search c.find_deficits-reach.new.node_labels c.find_deficits-reach.new.queue c.find_deficits-reach.new.settled_order c.find_deficits-reach.ensures.queue c.find_deficits-reach.ensures.settled_order);
+      (held_after_search c.deref-2.result.now c.find_deficits-reach.new.node_labels c.find_deficits-reach.new.queue c.find_deficits-reach.new.settled_order c.find_deficits-reach.ensures.search.bounds c.find_deficits-reach.ensures.queue c.find_deficits-reach.ensures.settled_order);
 }
 
 pub returns-then-is_none-clause-found : goal.returns-then-is_none-clause-found

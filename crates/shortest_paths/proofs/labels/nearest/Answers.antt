@@ -71,7 +71,7 @@ loop-end-preserved-then-is_settled c =
     let P : ℕ → Way → Type 0 = λ k way. IsNoDearer rows x p s v c.loop-end.best k (other_way way) in
     let Q : ℕ → Way → Type 0 = λ k way. IsNoDearer rows x p s v c.nearer-best.result k (other_way way) in
     let through : IsFound rows x p s v c.trailing-arc.result c.node_label_through-node_label.result =
-    record { none = c.node_label_through-node_label.ensures.none; through = c.node_label_through-node_label.ensures.through; is_open = c.node_label_through-node_label.ensures.is_open; along = c.node_label_through-node_label.ensures.along } in
+    record { none = c.node_label_through-node_label.ensures.none; through = c.node_label_through-node_label.ensures.through; is_open = c.node_label_through-node_label.ensures.is_open; along = c.node_label_through-node_label.ensures.along; bound = c.node_label_through-node_label.ensures.bound } in
     let found = subst (λ (a : ResidualArc). IsFound rows x p s v a c.node_label_through-node_label.result) c.trailing-arc.ensures through in
     record {
       opens = nearer_opens rows x p s v (turned along) c.loop-end.best c.nearer-best.result c.node_label_through-node_label.result found c.loop-end.invariant.opens c.nearer-best.ensures.falls c.nearer-best.ensures.one;

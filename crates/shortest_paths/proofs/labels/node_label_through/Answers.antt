@@ -2,21 +2,21 @@ use Rattle.std.proofs.Common.{◌≡◌, ◌∙◌, ◌+◌, ◌+ℤ◌, ◌-ℤ
 use Rattle.std.proofs.lemmas.Int.{ints, to_z-of_z}
 use Rattle.dimacs_text.specs.declared.problem.ArcRow.{ArcRow}
 use Rattle.shortest_paths.specs.declared.node_label.State.TheVariants.{Settled}
-use Rattle.residual_graph.specs.Residual.{arc_at, cost_of, end_of, number_at, room_of, start_at, start_of}
+use Rattle.residual_graph.specs.Residual.{arc_at, cost_of, end_at, end_of, number_at, room_of, start_at, start_of}
 use Rattle.shortest_paths.specs.Search.{state_at, distance_at, depth_at, reduced_at}
 use Rattle.residual_graph.specs.Side.{seen}
-use Rattle.residual_graph.proofs.RowLemmas.{start_of-in}
-use Rattle.shortest_paths.proofs.SearchLemmas.{settled_is_reached, depth_small}
+use Rattle.residual_graph.proofs.RowLemmas.{cost_of-bounds, start_of-in}
+use Rattle.shortest_paths.proofs.SearchLemmas.{settled_is_reached, depth_small, word_sum}
 use Rattle.shortest_paths.proofs.LabelLemmas.{room_fits, flow_fits}
 use Rattle.shortest_paths.proofs.labels.node_label_through.Goals as goal
-use Rattle.shortest_paths.proofs.labels.node_label_through.Goals.{After-room}
+use Rattle.shortest_paths.proofs.labels.node_label_through.Goals.{After-distance_through-distance, After-room}
 
 pub bounds-node_labels-start : goal.bounds-node_labels-start
 bounds-node_labels-start c =
     rw (c.start-start.ensures, c.row-row.ensures) (rw c.requires.forest.known.sized (start_of-in _ _ c.args.arc.way (c.args.residual.certified.flow.rows c.args.arc.arc c.requires.arc_in)))
 
-pub distance_through-requires-clause-row : goal.distance_through-requires-clause-row
-distance_through-requires-clause-row c = rw c.row-row.ensures (c.args.residual.certified.flow.rows c.args.arc.arc c.requires.arc_in)
+pub distance_through-distance-requires-clause-row : goal.distance_through-distance-requires-clause-row
+distance_through-distance-requires-clause-row c = rw c.row-row.ensures (c.args.residual.certified.flow.rows c.args.arc.arc c.requires.arc_in)
 
 pub room-requires : goal.room-requires
 room-requires c =
@@ -42,11 +42,11 @@ start_settled c = subst (λ (u : ℕ). state_at c.args.node_labels.now u ≡ Set
 start_distance : (c : After-room) → distance_at c.args.node_labels.now (start_at (seen c.args.residual.side c.args.residual.graph.now.rows.items) c.args.arc.arc c.args.arc.way) ≡ pos 0
 start_distance c = c.requires.forest.kept (start_at (seen c.args.residual.side c.args.residual.graph.now.rows.items) c.args.arc.arc c.args.arc.way) (start_settled c)
 
-pub distance_through-requires-clause-distance_low : goal.distance_through-requires-clause-distance_low
-distance_through-requires-clause-distance_low c = rw c.row-row.ensures (omega (arith, ints, start_distance (goal.at.distance_through-requires-clause-distance_low c).After-room))
+pub distance_through-distance-requires-clause-distance_low : goal.distance_through-distance-requires-clause-distance_low
+distance_through-distance-requires-clause-distance_low c = rw c.row-row.ensures (omega (arith, ints, start_distance (goal.at.distance_through-distance-requires-clause-distance_low c).After-room))
 
-pub distance_through-requires-clause-distance_high : goal.distance_through-requires-clause-distance_high
-distance_through-requires-clause-distance_high c = rw c.row-row.ensures (omega (arith, ints, start_distance (goal.at.distance_through-requires-clause-distance_high c).After-room))
+pub distance_through-distance-requires-clause-distance_high : goal.distance_through-distance-requires-clause-distance_high
+distance_through-distance-requires-clause-distance_high c = rw c.row-row.ensures (omega (arith, ints, start_distance (goal.at.distance_through-distance-requires-clause-distance_high c).After-room))
 
 pub overflow_add-result : goal.overflow_add-result
 overflow_add-result c =
@@ -54,14 +54,16 @@ overflow_add-result c =
     let shallow = depth_small (seen c.args.residual.side c.args.residual.graph.now.rows.items) c.args.residual.flow.now c.args.residual.potentials.now c.args.node_labels.now c.start-start.result c.args.residual.certified c.requires.forest.known reached in
     search (rules, shallow)
 
+distance_is : (c : After-distance_through-distance) → c.distance_through-distance.result ≡ distance_at c.args.node_labels.now (start_at (seen c.args.residual.side c.args.residual.graph.now.rows.items) c.args.arc.arc c.args.arc.way) +ℤ reduced_at (seen c.args.residual.side c.args.residual.graph.now.rows.items) c.args.residual.potentials.now c.args.arc.arc c.args.arc.way
+distance_is c =
+    c.distance_through-distance.ensures ∙ ap (λ (a : ArcRow). distance_at c.args.node_labels.now (start_of a c.args.arc.way) +ℤ ((cost_of a c.args.arc.way +ℤ number_at c.args.residual.potentials.now (start_of a c.args.arc.way)) -ℤ number_at c.args.residual.potentials.now (end_of a c.args.arc.way))) c.row-row.ensures
+
 pub returns-clause-through : goal.returns-clause-through
 returns-clause-through c =
     let at = (goal.at.returns-clause-through c).After-room in
     let room = room_is (goal.at.returns-clause-through c).After-room in
-    let fits : SFits w64 c.distance_through.result = search rules in
-    let same : to_z w64 (of_z w64 c.distance_through.result) ≡ c.distance_through.result = to_z-of_z w64 c.distance_through.result fits in
-    let distance_is : c.distance_through.result ≡ distance_at c.args.node_labels.now (start_at (seen c.args.residual.side c.args.residual.graph.now.rows.items) c.args.arc.arc c.args.arc.way) +ℤ reduced_at (seen c.args.residual.side c.args.residual.graph.now.rows.items) c.args.residual.potentials.now c.args.arc.arc c.args.arc.way =
-    c.distance_through.ensures ∙ ap (λ (a : ArcRow). distance_at c.args.node_labels.now (start_of a c.args.arc.way) +ℤ ((cost_of a c.args.arc.way +ℤ number_at c.args.residual.potentials.now (start_of a c.args.arc.way)) -ℤ number_at c.args.residual.potentials.now (end_of a c.args.arc.way))) c.row-row.ensures in
+    let fits : SFits w64 c.distance_through-distance.result = search rules in
+    let same : to_z w64 (of_z w64 c.distance_through-distance.result) ≡ c.distance_through-distance.result = to_z-of_z w64 c.distance_through-distance.result fits in
     record {
       hop = record {
         residual = record { is_arc = c.requires.arc_in; has_room = omega (arith, ints, room, c.room.type_inv, c.if-room-le0.false) };
@@ -69,5 +71,36 @@ returns-clause-through c =
         settled = start_settled at;
       };
       deeper = ap (λ (u : ℕ). depth_at c.args.node_labels.now u + 1) (start_is at);
-      distance = omega (arith, ints, same, distance_is, start_distance at);
+      distance = omega (arith, ints, same, distance_is (goal.at.returns-clause-through c).After-distance_through-distance, start_distance at);
     }
+
+-- the distance and the potential of the end fit together
+record FitBound (distance potential : ℤ) : Type 0 where
+  distance_fits : SFits w64 distance
+  potential_fits : SFits w64 potential
+  fits : SFits w64 (distance +ℤ potential)
+
+fit_bound : (c : After-distance_through-distance) → distance_at c.args.node_labels.now (start_at (seen c.args.residual.side c.args.residual.graph.now.rows.items) c.args.arc.arc c.args.arc.way) ≡ pos 0 → FitBound c.distance_through-distance.result (number_at c.args.residual.potentials.now c.args.v)
+fit_bound c start_0 =
+    let row = c.args.residual.certified.flow.rows c.args.arc.arc c.requires.arc_in in
+    let bounds = cost_of-bounds _ (arc_at (seen c.args.residual.side c.args.residual.graph.now.rows.items) c.args.arc.arc) c.args.arc.way row in
+    let p = c.args.residual.certified.potentials in
+    let start = start_at (seen c.args.residual.side c.args.residual.graph.now.rows.items) c.args.arc.arc c.args.arc.way in
+    let end = end_at (seen c.args.residual.side c.args.residual.graph.now.rows.items) c.args.arc.arc c.args.arc.way in
+    let is = distance_is c in
+    record {
+      distance_fits = omega (arith, ints, is, start_0, bounds, p.at_least start, p.at_most_0 start, p.at_least end, p.at_most_0 end);
+      potential_fits = omega (arith, ints, p.at_least c.args.v, p.at_most_0 c.args.v);
+      fits = omega (arith, ints, is, start_0, bounds, p.at_least start, p.at_most_0 start, p.at_least end, p.at_most_0 end, p.at_least c.args.v, p.at_most_0 c.args.v);
+    }
+
+pub overflow_add-result-2 : goal.overflow_add-result-2
+overflow_add-result-2 c =
+    let sum = fit_bound (goal.at.overflow_add-result-2 c).After-distance_through-distance (start_distance (goal.at.overflow_add-result-2 c).After-room) in
+    rw (to_z-of_z w64 c.distance_through-distance.result sum.distance_fits, to_z-of_z w64 (number_at c.args.residual.potentials.now c.args.v) sum.potential_fits) sum.fits
+
+pub returns-clause-bound : goal.returns-clause-bound
+returns-clause-bound c =
+    let sum = fit_bound (goal.at.returns-clause-bound c).After-distance_through-distance (start_distance (goal.at.returns-clause-bound c).After-room) in
+    word_sum c.distance_through-distance.result (number_at c.args.residual.potentials.now c.args.v) sum.distance_fits sum.potential_fits sum.fits
+    ∙ ap (λ (z : ℤ). z +ℤ number_at c.args.residual.potentials.now c.args.v) (sym (to_z-of_z w64 c.distance_through-distance.result sum.distance_fits))

@@ -84,10 +84,10 @@ loop-u-init c =
     let sized : length s ≡ length p = c.open_sources.auto.node_labels ∙ c.requires.node_labels_in in
     record {
       queue = opened.queue;
-      settled_order = settled_order_first s (record c.args.settled_order.now { len = 0 }) (record { nodes_sized = c.requires.settled_order_in.nodes_sized ∙ sym sized }) refl (none_settled arcs x p excess s c.args.residual.certified sized opened.sources opened.others);
-      known = known_first arcs x p excess s c.args.residual.certified sized opened.sources opened.others;
-      relaxed = relaxed_first arcs x p excess s c.args.residual.certified sized opened.sources opened.others;
-      from_excess = from_excess_first arcs x p excess s c.args.residual.certified sized opened.sources opened.others;
+      settled_order = settled_order_first s (record c.args.settled_order.now { len = 0 }) (record { nodes_sized = c.requires.settled_order_in.nodes_sized ∙ sym sized }) refl (none_settled arcs x p excess s c.args.residual.certified sized opened.sources opened.others opened.bounds);
+      known = known_first arcs x p excess s c.args.residual.certified sized opened.sources opened.others opened.bounds;
+      relaxed = relaxed_first arcs x p excess s c.args.residual.certified sized opened.sources opened.others opened.bounds;
+      from_excess = from_excess_first arcs x p excess s c.args.residual.certified sized opened.sources opened.others opened.bounds;
       few = omega (arith, c.wanted_deficits-wanted.ensures.at_least_1);
-      finding = finding_first arcs x p excess s c.args.residual.certified sized opened.sources opened.others;
+      finding = finding_first arcs x p excess s c.args.residual.certified sized opened.sources opened.others opened.bounds;
     }

@@ -1,14 +1,14 @@
-use Rattle.std.proofs.Common.{ℕ, List, ap, sym, subst, rules, arith, ◌≡◌, ◌+◌, ◌≤ℤ◌, ◌≤◌, ◌<◌, length, refl, ◌∙◌, slice_set, w64, to_z, of_z}
+use Rattle.std.proofs.Common.{ℕ, ℤ, ◌+ℤ◌, SFits, List, ap, sym, subst, rules, arith, ◌≡◌, ◌+◌, ◌≤ℤ◌, ◌≤◌, ◌<◌, length, refl, ◌∙◌, slice_set, w64, to_z, of_z}
 use Rattle.std.proofs.lemmas.Int.{ints, to_z-of_z}
 use Rattle.shortest_paths.specs.declared.node_label.NodeLabel.{NodeLabel}
 use Rattle.shortest_paths.specs.declared.node_label.State.TheVariants.{Open}
 use Rattle.residual_graph.specs.declared.residual.ResidualArc.{ResidualArc}
 use Rattle.residual_graph.specs.Limits.{entry_limit}
-use Rattle.residual_graph.specs.Residual.{arc_at, start_at}
+use Rattle.residual_graph.specs.Residual.{arc_at, number_at, start_at}
 use Rattle.shortest_paths.specs.Search.{IsSearch, Improves, IsRelaxed, depth_at, distance_at}
 use Rattle.residual_graph.specs.Side.{leading, seen}
-use Rattle.shortest_paths.proofs.SearchLemmas.{IsStep, IsStep-put, last_bounds}
-use Rattle.residual_graph.proofs.RowLemmas.{end_of-in}
+use Rattle.shortest_paths.proofs.SearchLemmas.{IsStep, IsStep-put, last_bounds, word_sum}
+use Rattle.residual_graph.proofs.RowLemmas.{cost_of-bounds, end_of-in}
 use Rattle.shortest_paths.proofs.search.take_path.Goals as goal
 use Rattle.shortest_paths.proofs.search.take_path.Goals.{After-leading-arc, Start}
 
@@ -34,13 +34,47 @@ improve-requires-clause-not_nearer c =
     (omega (arith, ints, no_shorter, (last_bounds c.args.residual.certified c.requires.search c.requires.last).low))
     (λ v m. omega (arith, ints, no_shorter, c.requires.last.furthest v m)))
 
-step : (c : After-leading-arc) → IsStep (seen c.args.residual.side c.args.residual.graph.now.rows.items) c.args.residual.flow.now c.args.residual.potentials.now c.args.node_labels.now (slice_set c.args.node_labels.now c.args.end.other (record { state = Open; distance = to_z w64 (of_z w64 c.args.distance); depth = depth_at c.args.node_labels.now c.args.start + 1; arc = c.leading-arc.result.arc; way = c.leading-arc.result.way })) (leading c.args.residual.side c.args.end).arc (leading c.args.residual.side c.args.end).way
+-- the distance and the potential of the other node fit together
+record FitBound (distance potential : ℤ) : Type 0 where
+  distance_fits : SFits w64 distance
+  potential_fits : SFits w64 potential
+  fits : SFits w64 (distance +ℤ potential)
+
+fit_bound : (c : After-leading-arc) → FitBound c.args.distance (number_at c.args.residual.potentials.now c.args.end.other)
+fit_bound c =
+    let rows = seen c.args.residual.side c.args.residual.graph.now.rows.items in
+    let a = leading c.args.residual.side c.args.end in
+    let start = start_at rows a.arc a.way in
+    let p = c.args.residual.certified.potentials in
+    let bounds = cost_of-bounds _ (arc_at rows a.arc) a.way (c.args.residual.certified.flow.rows a.arc c.requires.end.is_arc) in
+    let last = last_bounds c.args.residual.certified c.requires.search c.requires.last in
+    record {
+      distance_fits = c.ranges.distance;
+      potential_fits = omega (arith, ints, p.at_least c.args.end.other, p.at_most_0 c.args.end.other);
+      fits = omega (arith, ints, c.requires.distance, bounds, last.low, last.high, p.at_least start, p.at_most_0 start, ap (number_at c.args.residual.potentials.now) c.requires.end.ends);
+    }
+
+pub offset_bounds-residual-end : goal.offset_bounds-residual-end
+offset_bounds-residual-end c = omega (arith, other_in (goal.at.offset_bounds-residual-end c).Start, c.requires.search.sized, c.args.residual.certified.flow.few_nodes)
+
+pub bounds-residual-end : goal.bounds-residual-end
+bounds-residual-end c = omega (arith, other_in (goal.at.bounds-residual-end c).Start, c.requires.search.sized)
+
+pub overflow_add-distance : goal.overflow_add-distance
+overflow_add-distance c =
+    let sum = fit_bound (goal.at.overflow_add-distance c).After-leading-arc in
+    rw (to_z-of_z w64 c.args.distance sum.distance_fits, to_z-of_z w64 (number_at c.args.residual.potentials.now c.args.end.other) sum.potential_fits) sum.fits
+
+step : (c : After-leading-arc) → IsStep (seen c.args.residual.side c.args.residual.graph.now.rows.items) c.args.residual.flow.now c.args.residual.potentials.now c.args.node_labels.now (slice_set c.args.node_labels.now c.args.end.other (record { state = Open; distance = to_z w64 (of_z w64 c.args.distance); depth = depth_at c.args.node_labels.now c.args.start + 1; arc = c.leading-arc.result.arc; way = c.leading-arc.result.way; bound = to_z w64 (of_z w64 (to_z w64 (of_z w64 c.args.distance) +ℤ to_z w64 (of_z w64 (number_at c.args.residual.potentials.now c.args.end.other)))) })) (leading c.args.residual.side c.args.end).arc (leading c.args.residual.side c.args.end).way
 step c =
+    let sum = fit_bound c in
     let same : to_z w64 (of_z w64 c.args.distance) ≡ c.args.distance = to_z-of_z w64 c.args.distance c.ranges.distance in
     IsStep-put (seen c.args.residual.side c.args.residual.graph.now.rows.items) c.args.residual.flow.now c.args.residual.potentials.now c.args.node_labels.now (start_at (seen c.args.residual.side c.args.residual.graph.now.rows.items) (leading c.args.residual.side c.args.end).arc (leading c.args.residual.side c.args.end).way) (leading c.args.residual.side c.args.end).arc (leading c.args.residual.side c.args.end).way c.args.end.other
-    (record { state = Open; distance = to_z w64 (of_z w64 c.args.distance); depth = depth_at c.args.node_labels.now c.args.start + 1; arc = c.leading-arc.result.arc; way = c.leading-arc.result.way })
+    (record { state = Open; distance = to_z w64 (of_z w64 c.args.distance); depth = depth_at c.args.node_labels.now c.args.start + 1; arc = c.leading-arc.result.arc; way = c.leading-arc.result.way; bound = to_z w64 (of_z w64 (to_z w64 (of_z w64 c.args.distance) +ℤ to_z w64 (of_z w64 (number_at c.args.residual.potentials.now c.args.end.other)))) })
     c.args.residual.certified c.requires.search c.requires.last c.requires.residual refl (sym c.requires.end.ends) refl
-    (same ∙ c.requires.distance) (ap (λ (v : ℕ). depth_at c.args.node_labels.now v + 1) c.requires.start) (ap (λ (a : ResidualArc). a.arc) c.leading-arc.ensures) (ap (λ (a : ResidualArc). a.way) c.leading-arc.ensures) (rw same c.requires.better)
+    (same ∙ c.requires.distance) (ap (λ (v : ℕ). depth_at c.args.node_labels.now v + 1) c.requires.start) (ap (λ (a : ResidualArc). a.arc) c.leading-arc.ensures) (ap (λ (a : ResidualArc). a.way) c.leading-arc.ensures)
+    (word_sum c.args.distance (number_at c.args.residual.potentials.now c.args.end.other) sum.distance_fits sum.potential_fits sum.fits ∙ ap (λ (z : ℤ). z +ℤ number_at c.args.residual.potentials.now c.args.end.other) (sym same))
+    (rw same c.requires.better)
 
 pub returns-clause-search : goal.returns-clause-search
 returns-clause-search c =
