@@ -1,5 +1,5 @@
 -- What the calls do, in terms of the state behind a handle: its moments and its marks.
-use Rattle.std.specs.Prelude.{◌≡◌, ℕ, ◌^◌, ◌==◌, ℤ, pos, ◌+ℤ◌, ◌*ℤ◌, Bool, true, false, not, List, [], length, Option, None, Some, Result, Ok, Err, if◌then◌else◌}
+use Rattle.std.specs.Prelude.{◌≡◌, ◌⊎◌, ℕ, ◌^◌, ◌==◌, ℤ, pos, ◌+ℤ◌, ◌*ℤ◌, Bool, true, false, not, List, [], length, Option, None, Some, Result, Ok, Err, if◌then◌else◌}
 use Rattle.std.specs.Option.{MatchOption}
 use Rattle.dimacs_lines.specs.declared.fault.TextFault.{TextFault}
 use Rattle.dimacs_lines.specs.declared.fault.TextFault.TheVariants as text_fault
@@ -39,6 +39,10 @@ pub record IsOpening (text : List ℕ) (extra : ℕ) (s : SessionState) : Type 0
   pub no_past : s.moments.past ≡ []
   pub no_future : s.moments.future ≡ []
   pub no_marks : s.marks ≡ []
+
+-- no session begins: by a fault of the text, which is put where C looks for it, or for want of memory
+abbrev pub IsNotOpened : List ℕ → ℤ → Fault → Fault → Type 0
+IsNotOpened text status old new = ((status ≡ FAULT) × (reads text ≡ Err (text_fault.Fault new.number new.line))) ⊎ ((status ≡ MEMORY) × (new ≡ old))
 
 -- ---- steps
 

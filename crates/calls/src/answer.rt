@@ -1,14 +1,20 @@
 //! The answer to a problem, in room of the caller's.
 
-ghost use Rattle.std.specs.Prelude.{◌≡◌, ◌≤◌, ◌↔◌, IsTrue, length};
+ghost use Rattle.std.specs.Prelude.{◌≡◌, ◌≢◌, ◌≤◌, ◌↔◌, IsTrue, Err, pos, length};
+ghost use Rattle.dimacs_lines.specs.declared.fault.TextFault.TheVariants as faults;
+ghost use Rattle.dimacs_text.specs.Reading.{reads};
 ghost use Rattle.calls.specs.Library.{IsViewOf};
-ghost use Rattle.calls.specs.Answer.{HasRoom, IsGiven, IsSameRoom, filled};
+ghost use Rattle.calls.specs.Answer.{AreListsKept, HasRoom, IsGiven, IsSameRoom, IsSolved, IsTooShort, filled};
+ghost use Rattle.calls.specs.declared.status.TheConstants.{FAULT, MEMORY, TOO_SHORT};
 
-use crate::fault::Fault;
+use crate::fault::{Fault, tell_refusal};
+use crate::library::read_problem;
+use crate::status::{MEMORY, TOO_SHORT};
 use crate::view::{View, look};
 use dimacs_text::Problem;
 use flow_solver::Verdict;
 use session::Session;
+use std::alloc::Global;
 
 /// Where the answer to a problem goes: lists to the start of the room that C has for them, and what is told at once.
 #[repr(C)]
@@ -23,8 +29,40 @@ pub struct Answer<'a> {
     pub fault: Fault,
 }
 
+/// Answers a problem text at once: exactly what opening a session on it and looking would give, each list at the start of
+/// the room for it.
+///
+/// Answers 0, or `FAULT`, with the fault; `TOO_SHORT` where a list has no room, with the sizes in the view and before
+/// anything is solved; or `MEMORY`. Nothing else is written then.
+pub fn solve_text(alloc: Global, text: &[u8], answer: &mut Answer) -> i32
+    ensures solved { result ≡ pos 0 → IsSolved text.now answer.old answer.new }
+    ensures fault { result ≡ FAULT → reads text.now ≡ Err (faults.Fault answer.new.fault.number answer.new.fault.line) }
+    ensures too_short { result ≡ TOO_SHORT → IsTooShort text.now answer.old answer.new }
+    ensures otherwise { result ≢ pos 0 → result ≢ FAULT → result ≢ TOO_SHORT → result ≡ MEMORY }
+    ensures refused { result ≢ pos 0 → AreListsKept answer.old answer.new }
+    ensures view { result ≢ pos 0 → result ≢ TOO_SHORT → answer.new.view ≡ answer.old.view }
+    ensures no_fault { result ≢ FAULT → answer.new.fault ≡ answer.old.fault }
+    ensures same_room { IsSameRoom answer.old answer.new }
+{
+    let problem = match read_problem(alloc, text) {
+        Ok(problem) => problem,
+        Err(refused) => return tell_refusal(refused, &mut answer.fault),
+    };
+    if !has_room(answer, &problem) {
+        answer.view.nodes = problem.nodes();
+        answer.view.arcs = problem.arcs().len() as u32;
+        return TOO_SHORT;
+    }
+    let session = match Session::open(alloc, &problem, 0) {
+        Ok(session) => session,
+        Err(_) => return MEMORY,
+    };
+    give_answer(&session, answer);
+    0
+}
+
 /// Whether there is room for each list of a problem's answer.
-pub fn has_room(answer: &Answer, problem: &Problem) -> bool
+fn has_room(answer: &Answer, problem: &Problem) -> bool
     ensures { IsTrue result ↔ HasRoom problem.now answer.now }
 {
     let nodes = problem.nodes() as usize;
@@ -34,7 +72,7 @@ pub fn has_room(answer: &Answer, problem: &Problem) -> bool
 }
 
 /// Gives the answer of the present moment.
-pub fn give_answer(session: &Session, answer: &mut Answer)
+fn give_answer(session: &Session, answer: &mut Answer)
     requires flow { length session.now.moments.present.instance.arcs ≤ length answer.old.flow.now }
     requires potentials { session.now.moments.present.instance.nodes ≤ length answer.old.potentials.now }
     requires cut { session.now.moments.present.instance.nodes ≤ length answer.old.cut.now }

@@ -15,7 +15,7 @@ pub struct Fault {
 }
 
 /// Tells why a text was not read: `FAULT`, and the fault, or `MEMORY`.
-pub fn tell_refusal(refused: TextFault, fault: &mut Fault) -> i32
+pub(crate) fn tell_refusal(refused: TextFault, fault: &mut Fault) -> i32
     ensures { IsToldAs refused result fault.old fault.new }
 {
     match refused {

@@ -8,9 +8,9 @@ mod lists;
 mod status;
 mod view;
 
-pub use answer::{Answer, give_answer, has_room};
-pub use fault::{Fault, tell_refusal};
-pub use library::{read_problem, redo, take_line, undo};
+pub use answer::{Answer, solve_text};
+pub use fault::Fault;
+pub use library::{open_session, redo, take_line, undo};
 pub use lists::{give_cut, give_flow, give_potentials};
 pub use status::{CLOSED, FAULT, MEMORY, NOT_THERE, OPEN, OTHER_LENGTH, TOO_SHORT};
 pub use view::{View, look};

@@ -1,10 +1,12 @@
 //! The calls, over a session that is there.
 
-ghost use Rattle.std.specs.Prelude.{◌≡◌};
+ghost use Rattle.std.specs.Prelude.{◌≡◌, IfErr, IfOk};
 ghost use Rattle.dimacs_text.specs.declared.command.Command.TheVariants as commands;
 ghost use Rattle.session.specs.Step.{Step, StepBy, StepOfEdit, state_of};
-ghost use Rattle.calls.specs.Library.{ReadsAs, Steps, number_of};
+ghost use Rattle.calls.specs.Library.{IsNotOpened, IsOpening, ReadsAs, Steps, number_of};
 
+use crate::fault::{Fault, tell_refusal};
+use crate::status::MEMORY;
 use dimacs_text::{
     Command, Edit, LINE_LIMIT, Name, Problem, ProblemReader, TextFault, is_blank, read_command,
 };
@@ -25,13 +27,36 @@ const OUT_OF_PLACE: u8 = 29;
 const WANT_OF_MEMORY: u8 = 30;
 
 /// Reads the problem of a text.
-pub fn read_problem(alloc: Global, text: &[u8]) -> Result<Problem, TextFault>
+pub(crate) fn read_problem(alloc: Global, text: &[u8]) -> Result<Problem, TextFault>
     ensures { ReadsAs result text.now }
 {
     let mut reader = ProblemReader::new(alloc);
     match reader.feed(text) {
         Ok(()) => reader.finish(),
         Err(fault) => Err(fault),
+    }
+}
+
+/// Opens a session on a problem text, with room for `extra` arcs more, up to the limit of arcs.
+///
+/// # Errors
+/// `FAULT`, with the fault, or `MEMORY`.
+pub fn open_session(
+    alloc: Global,
+    text: &[u8],
+    extra: u32,
+    fault: &mut Fault,
+) -> Result<Session, i32>
+    ensures opened { IfOk result (λ session. IsOpening text.now extra (state_of session) × (fault.new ≡ fault.old)) }
+    ensures refused { IfErr result (λ status. IsNotOpened text.now status fault.old fault.new) }
+{
+    let problem = match read_problem(alloc, text) {
+        Ok(problem) => problem,
+        Err(refused) => return Err(tell_refusal(refused, fault)),
+    };
+    match Session::open(alloc, &problem, extra) {
+        Ok(session) => Ok(session),
+        Err(_) => Err(MEMORY),
     }
 }
 

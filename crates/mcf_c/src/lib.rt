@@ -13,7 +13,7 @@ ghost use Rattle.network.specs.Instance.{IsBest, IsBreach, IsCertified, IsLegal,
 ghost use Rattle.session.specs.Parts.{flow_of};
 ghost use Rattle.session.specs.Step.{Step, StepBy};
 ghost use Rattle.calls.specs.Answer.{AreListsKept, IsSameRoom, IsSolved, IsTooShort};
-ghost use Rattle.calls.specs.declared.status.TheConstants.{FAULT};
+ghost use Rattle.calls.specs.declared.status.TheConstants.{FAULT, TOO_SHORT};
 ghost use Rattle.calls.specs.Library.{Goes, IsOpening, IsViewOf, Steps, arc_count, given_of, has_cut, has_flow, node_count};
 ghost use Rattle.mcf_c.specs.Handles.{state_behind};
 
@@ -23,12 +23,11 @@ mod plan;
 mod pointer;
 
 use calls::{
-    Answer, CLOSED, Fault, MEMORY, OPEN, TOO_SHORT, View, give_answer, give_cut, give_flow,
-    give_potentials, has_room, look, read_problem, take_line, tell_refusal,
+    Answer, CLOSED, Fault, MEMORY, OPEN, View, give_cut, give_flow, give_potentials, look,
+    open_session, solve_text, take_line,
 };
 use handle::Handle;
 use plan::Plan;
-use session::Session;
 use std::alloc::Global;
 
 /// Answers a problem text at once: exactly what opening a session on it and looking would give, each list at the start of
@@ -47,21 +46,7 @@ pub extern "C" fn mcf_solve(alloc: Global, text: &[u8], answer: &mut Answer) -> 
     ensures no_fault { result ≢ FAULT → answer.new.fault ≡ answer.old.fault }
     ensures same_room { IsSameRoom answer.old answer.new }
 {
-    let problem = match read_problem(alloc, text) {
-        Ok(problem) => problem,
-        Err(refused) => return tell_refusal(refused, &mut answer.fault),
-    };
-    if !has_room(answer, &problem) {
-        answer.view.nodes = problem.nodes();
-        answer.view.arcs = problem.arcs().len() as u32;
-        return TOO_SHORT;
-    }
-    let session = match Session::open(alloc, &problem, 0) {
-        Ok(session) => session,
-        Err(_) => return MEMORY,
-    };
-    give_answer(&session, answer);
-    0
+    solve_text(alloc, text, answer)
 }
 
 /// Opens a session on a problem text, with room for `extra` arcs more, up to the limit of arcs.
@@ -86,13 +71,9 @@ pub extern "C" fn mcf_open(
     if handle.is_open() {
         return OPEN;
     }
-    let problem = match read_problem(alloc, text) {
-        Ok(problem) => problem,
-        Err(refused) => return tell_refusal(refused, fault),
-    };
-    let session = match Session::open(alloc, &problem, extra) {
+    let session = match open_session(alloc, text, extra, fault) {
         Ok(session) => session,
-        Err(_) => return MEMORY,
+        Err(status) => return status,
     };
     match Box::new(alloc, Plan { session }) {
         Ok(plan) => {
