@@ -3,9 +3,11 @@
 ghost use Rattle.std.specs.Prelude.{◌≡◌, ◌<◌, ◌≤◌, ◌*◌, ◌^◌, IfSome, IfOk, pos, ◌≤ℤ◌, neg_ℤ};
 ghost use Rattle.dimacs_lines.specs.declared.numbers.TheConstants.{DIGIT_LIMIT, VALUE_DIGIT_LIMIT};
 ghost use Rattle.dimacs_lines.specs.Fields.{natural, natural_within, integer, claimed_value, is_negative, without_sign};
+ghost use Rattle.dimacs_lines.specs.Digits.{FrontDigits};
 ghost use Rattle.dimacs_lines.specs.Checks.{natural_in, integer_in};
 
 use crate::fault::Fault;
+use crate::words::Word;
 
 /// The most digits of a number.
 pub const DIGIT_LIMIT: usize = 18;
@@ -15,26 +17,35 @@ pub const VALUE_DIGIT_LIMIT: usize = 30;
 const BACK_UNIT: u128 = 1_000_000_000_000_000_000;
 
 /// The number that one to 18 digits spell.
-pub fn natural(word: &[u8]) -> Option<u64>
+fn natural(word: &[u8]) -> Option<u64>
     ensures value { result ≡ natural word.now }
     ensures below { IfSome result (λ value. value < 10 ^ DIGIT_LIMIT) }
 {
-    if word.is_empty() || word.len() > DIGIT_LIMIT {
+    let (value, digits) = leading_digits(word);
+    if word.is_empty() || digits < word.len() {
         return None;
-    }
-    let mut value = 0;
-    for byte in word {
-        if !byte.is_ascii_digit() {
-            return None;
-        }
-        value = value * 10 + u64::from(*byte - b'0');
     }
     Some(value)
 }
 
+/// The number that the digits spell with which a line begins, at most `DIGIT_LIMIT`, and how many they are.
+pub(crate) fn leading_digits(line: &[u8]) -> (u64, usize)
+    ensures { FrontDigits result.0 result.1 line.now }
+{
+    let front = &line[..line.len().min(DIGIT_LIMIT)];
+    let mut value = 0;
+    for (digits, byte) in front.iter().enumerate() {
+        if !byte.is_ascii_digit() {
+            return (value, digits);
+        }
+        value = value * 10 + u64::from(*byte - b'0');
+    }
+    (value, front.len())
+}
+
 /// The number that one to 18 digits spell, after one `-` or none.
 #[tactic(auto, unfolding(crate::specs::Fields::integer))]
-pub fn integer(word: &[u8]) -> Option<i64>
+pub(crate) fn integer(word: &[u8]) -> Option<i64>
     ensures { result ≡ integer word.now }
 {
     let (negative, digits) = split_sign(word);
@@ -82,11 +93,11 @@ fn split_sign(word: &[u8]) -> (bool, &[u8])
 }
 
 /// The number of a field without sign, from `low` to `high`: first its shape is tested, then its range.
-pub fn natural_in(word: &[u8], low: u64, high: u64) -> Result<u64, Fault>
-    ensures value { result ≡ natural_in low high word.now }
+pub fn natural_in(word: Word, low: u64, high: u64) -> Result<u64, Fault>
+    ensures value { result ≡ natural_in low high word.entry }
     ensures range { IfOk result (λ value. (low ≤ value) × (value ≤ high)) }
 {
-    match natural(word) {
+    match word.natural() {
         None => Err(Fault::NotANumber),
         Some(value) => {
             if low <= value && value <= high {
@@ -99,12 +110,12 @@ pub fn natural_in(word: &[u8], low: u64, high: u64) -> Result<u64, Fault>
 }
 
 /// The number of a field with a sign, at most the limit either way: first its shape is tested, then its range.
-pub fn integer_in(word: &[u8], limit: i64) -> Result<i64, Fault>
+pub fn integer_in(word: Word, limit: i64) -> Result<i64, Fault>
     requires { pos 0 ≤ℤ limit }
-    ensures value { result ≡ integer_in limit word.now }
+    ensures value { result ≡ integer_in limit word.entry }
     ensures range { IfOk result (λ value. (neg_ℤ limit ≤ℤ value) × (value ≤ℤ limit)) }
 {
-    match integer(word) {
+    match word.integer() {
         None => Err(Fault::NotANumber),
         Some(value) => {
             if -limit <= value && value <= limit {

@@ -1,12 +1,76 @@
 //! The words of a line.
 
-ghost use Rattle.std.specs.Prelude.{◌≡◌, ◌≢◌, ◌↔◌, IsTrue, ◌∷◌, [], ◌<◌, ◌≤◌, length, not, MatchOption, MatchResult};
+ghost use Rattle.std.specs.Prelude.{◌≡◌, ◌≢◌, ◌↔◌, IsTrue, ◌∷◌, [], ◌<◌, ◌≤◌, length, not, IfSome, MatchOption, MatchResult, ◌^◌};
 ghost use Rattle.std.specs.List.{position_or_len};
 ghost use Rattle.dimacs_lines.specs.Fields.{is_blank, words_of};
 ghost use Rattle.dimacs_lines.specs.declared.fault.Fault.TheVariants as Fault;
 
 use crate::fault::Fault;
+use crate::numbers::{integer, leading_digits};
 use std::marker::Model;
+
+/// A word of a line. The number that it spells is known from where it was split.
+#[derive(Drop)]
+pub struct Word<'a> {
+    bytes: &'a [u8],
+    number: Option<u64>,
+}
+
+impl<'a> Model for Word<'a> {
+    ghost use Rattle.std.specs.Prelude.{◌≡◌, List, ℕ};
+    ghost use Rattle.dimacs_lines.specs.Fields.{natural};
+
+    ghost Value = { List ℕ };
+
+    ghost view = { λ w. w.bytes.now };
+
+    ghost invariant = { λ w. w.number ≡ natural w.bytes.now };
+}
+
+impl<'a> Word<'a> {
+    ghost use Rattle.dimacs_lines.specs.declared.numbers.TheConstants.{DIGIT_LIMIT};
+    ghost use Rattle.dimacs_lines.specs.Fields.{natural, integer};
+    ghost use Rattle.dimacs_lines.specs.Digits.{FrontDigits};
+
+    /// The word of these bytes, which begin with so many digits that spell the value.
+    fn new(bytes: &'a [u8], value: u64, digits: usize) -> Self
+        requires bytes { 0 < length bytes.now }
+        requires digits { FrontDigits value digits bytes.now }
+        ensures { result ≡ bytes.now }
+    {
+        let number = if digits == bytes.len() {
+            Some(value)
+        } else {
+            None
+        };
+        Word { bytes, number }
+    }
+
+    /// Its bytes.
+    pub fn bytes(&self) -> &'a [u8]
+        ensures { result.now ≡ self.now }
+    {
+        self.bytes
+    }
+
+    /// The number that it spells without a sign.
+    pub fn natural(&self) -> Option<u64>
+        ensures value { result ≡ natural self.now }
+        ensures below { IfSome result (λ value. value < 10 ^ DIGIT_LIMIT) }
+    {
+        self.number
+    }
+
+    /// The number that it spells after one `-` or none.
+    pub fn integer(&self) -> Option<i64>
+        ensures { result ≡ integer self.now }
+    {
+        match self.natural() {
+            Some(value) => Some(value as i64),
+            None => integer(self.bytes),
+        }
+    }
+}
 
 /// The words that are left of a line.
 #[derive(Drop)]
@@ -32,8 +96,8 @@ impl<'a> Words<'a> {
     }
 
     /// Takes the next word, if there is one.
-    pub fn next(&mut self) -> Option<&'a [u8]>
-        ensures { MatchOption result ((self.old ≡ []) × (self.new ≡ [])) (λ word. self.old ≡ word.now ∷ self.new) }
+    pub fn next(&mut self) -> Option<Word<'a>>
+        ensures { MatchOption result ((self.old ≡ []) × (self.new ≡ [])) (λ word. self.old ≡ word ∷ self.new) }
     {
         let (word, rest) = split_word(self.rest)?;
         self.rest = rest;
@@ -41,8 +105,8 @@ impl<'a> Words<'a> {
     }
 
     /// Takes the next word, which has to be there.
-    fn word(&mut self) -> Result<&'a [u8], Fault>
-        ensures { MatchResult result (λ word. self.old ≡ word.now ∷ self.new) (λ fault. (fault ≡ Fault.WrongFieldCount) × (self.old ≡ [])) }
+    fn word(&mut self) -> Result<Word<'a>, Fault>
+        ensures { MatchResult result (λ word. self.old ≡ word ∷ self.new) (λ fault. (fault ≡ Fault.WrongFieldCount) × (self.old ≡ [])) }
     {
         self.next().ok_or(Fault::WrongFieldCount)
     }
@@ -58,8 +122,8 @@ impl<'a> Words<'a> {
     }
 
     /// The only word that is left, or `WrongFieldCount`.
-    pub fn one(mut self) -> Result<&'a [u8], Fault>
-        ensures { MatchResult result (λ word. self.entry ≡ word.now ∷ []) (λ fault. (fault ≡ Fault.WrongFieldCount) × (length self.entry ≢ 1)) }
+    pub fn one(mut self) -> Result<Word<'a>, Fault>
+        ensures { MatchResult result (λ word. self.entry ≡ word ∷ []) (λ fault. (fault ≡ Fault.WrongFieldCount) × (length self.entry ≢ 1)) }
     {
         let word = self.word()?;
         self.none()?;
@@ -67,8 +131,8 @@ impl<'a> Words<'a> {
     }
 
     /// The two words that are left, or `WrongFieldCount`.
-    pub fn two(mut self) -> Result<(&'a [u8], &'a [u8]), Fault>
-        ensures { MatchResult result (λ words. self.entry ≡ words.0.now ∷ words.1.now ∷ [])
+    pub fn two(mut self) -> Result<(Word<'a>, Word<'a>), Fault>
+        ensures { MatchResult result (λ words. self.entry ≡ words.0 ∷ words.1 ∷ [])
             (λ fault. (fault ≡ Fault.WrongFieldCount) × (length self.entry ≢ 2)) }
     {
         let first = self.word()?;
@@ -77,8 +141,8 @@ impl<'a> Words<'a> {
     }
 
     /// The three words that are left, or `WrongFieldCount`.
-    pub fn three(mut self) -> Result<(&'a [u8], &'a [u8], &'a [u8]), Fault>
-        ensures { MatchResult result (λ words. self.entry ≡ words.0.now ∷ words.1.now ∷ words.2.now ∷ [])
+    pub fn three(mut self) -> Result<(Word<'a>, Word<'a>, Word<'a>), Fault>
+        ensures { MatchResult result (λ words. self.entry ≡ words.0 ∷ words.1 ∷ words.2 ∷ [])
             (λ fault. (fault ≡ Fault.WrongFieldCount) × (length self.entry ≢ 3)) }
     {
         let first = self.word()?;
@@ -87,9 +151,9 @@ impl<'a> Words<'a> {
     }
 
     /// The five words that are left, or `WrongFieldCount`.
-    pub fn five(mut self) -> Result<(&'a [u8], &'a [u8], &'a [u8], &'a [u8], &'a [u8]), Fault>
+    pub fn five(mut self) -> Result<(Word<'a>, Word<'a>, Word<'a>, Word<'a>, Word<'a>), Fault>
         ensures { MatchResult result
-            (λ words. self.entry ≡ words.0.now ∷ words.1.now ∷ words.2.now ∷ words.3.now ∷ words.4.now ∷ [])
+            (λ words. self.entry ≡ words.0 ∷ words.1 ∷ words.2 ∷ words.3 ∷ words.4 ∷ [])
             (λ fault. (fault ≡ Fault.WrongFieldCount) × (length self.entry ≢ 5)) }
     {
         let first = self.word()?;
@@ -107,15 +171,18 @@ pub fn is_blank(line: &[u8]) -> bool
 }
 
 /// The first word of a line, and the line after it.
-fn split_word(line: &[u8]) -> Option<(&[u8], &[u8])>
-    ensures words { MatchOption result (words_of line.now ≡ []) (λ parts. words_of line.now ≡ parts.0.now ∷ words_of parts.1.now) }
+fn split_word(line: &[u8]) -> Option<(Word<'_>, &[u8])>
+    ensures words { MatchOption result (words_of line.now ≡ []) (λ parts. words_of line.now ≡ parts.0 ∷ words_of parts.1.now) }
     ensures shorter { MatchOption result (0 ≤ length line.now) (λ parts. length parts.1.now < length line.now) }
 {
     let begun = &line[blanks(line)..];
     if begun.is_empty() {
         return None;
     }
-    Some(begun.split_at(word_length(begun)))
+    let (value, digits) = leading_digits(begun);
+    let length = digits + word_length(&begun[digits..]);
+    let (bytes, rest) = begun.split_at(length);
+    Some((Word::new(bytes, value, digits), rest))
 }
 
 /// How many blanks a line begins with.
