@@ -29,6 +29,7 @@ fn natural(word: &[u8]) -> Option<u64>
 }
 
 /// The number that the digits spell with which a line begins, at most `DIGIT_LIMIT`, and how many they are.
+#[inline(always)]
 pub(crate) fn leading_digits(line: &[u8]) -> (u64, usize)
     ensures { FrontDigits result.0 result.1 line.now }
 {
@@ -44,6 +45,7 @@ pub(crate) fn leading_digits(line: &[u8]) -> (u64, usize)
 }
 
 /// The number that one to 18 digits spell, after one `-` or none.
+#[inline(never)]
 #[tactic(auto, unfolding(crate::specs::Fields::integer))]
 pub(crate) fn integer(word: &[u8]) -> Option<i64>
     ensures { result ≡ integer word.now }
@@ -93,6 +95,7 @@ fn split_sign(word: &[u8]) -> (bool, &[u8])
 }
 
 /// The number of a field without sign, from `low` to `high`: first its shape is tested, then its range.
+#[inline(always)]
 pub fn natural_in(word: Word, low: u64, high: u64) -> Result<u64, Fault>
     ensures value { result ≡ natural_in low high word.entry }
     ensures range { IfOk result (λ value. (low ≤ value) × (value ≤ high)) }
@@ -110,6 +113,7 @@ pub fn natural_in(word: Word, low: u64, high: u64) -> Result<u64, Fault>
 }
 
 /// The number of a field with a sign, at most the limit either way: first its shape is tested, then its range.
+#[inline(always)]
 pub fn integer_in(word: Word, limit: i64) -> Result<i64, Fault>
     requires { pos 0 ≤ℤ limit }
     ensures value { result ≡ integer_in limit word.entry }

@@ -33,6 +33,7 @@ impl<'a> Word<'a> {
     ghost use Rattle.dimacs_lines.specs.Digits.{FrontDigits};
 
     /// The word of these bytes, which begin with so many digits that spell the value.
+    #[inline(always)]
     fn new(bytes: &'a [u8], value: u64, digits: usize) -> Self
         requires bytes { 0 < length bytes.now }
         requires digits { FrontDigits value digits bytes.now }
@@ -96,6 +97,7 @@ impl<'a> Words<'a> {
     }
 
     /// Takes the next word, if there is one.
+    #[inline(always)]
     pub fn next(&mut self) -> Option<Word<'a>>
         ensures { MatchOption result ((self.old ≡ []) × (self.new ≡ [])) (λ word. self.old ≡ word ∷ self.new) }
     {
@@ -104,8 +106,16 @@ impl<'a> Words<'a> {
         Some(word)
     }
 
+    /// The same words once more.
+    pub fn again(&self) -> Words<'a>
+        ensures { result ≡ self.now }
+    {
+        Words { rest: self.rest }
+    }
+
     /// Takes the next word, which has to be there.
-    fn word(&mut self) -> Result<Word<'a>, Fault>
+    #[inline(always)]
+    pub fn word(&mut self) -> Result<Word<'a>, Fault>
         ensures { MatchResult result (λ word. self.old ≡ word ∷ self.new) (λ fault. (fault ≡ Fault.WrongFieldCount) × (self.old ≡ [])) }
     {
         self.next().ok_or(Fault::WrongFieldCount)
@@ -171,6 +181,7 @@ pub fn is_blank(line: &[u8]) -> bool
 }
 
 /// The first word of a line, and the line after it.
+#[inline(always)]
 fn split_word(line: &[u8]) -> Option<(Word<'_>, &[u8])>
     ensures words { MatchOption result (words_of line.now ≡ []) (λ parts. words_of line.now ≡ parts.0 ∷ words_of parts.1.now) }
     ensures shorter { MatchOption result (0 ≤ length line.now) (λ parts. length parts.1.now < length line.now) }
