@@ -1,13 +1,14 @@
 -- The digits that a line begins with, and the word that begins with them.
-use Rattle.std.proofs.Common.{◌≡◌, ℕ, suc, zero, ◌+◌, ◌-◌, ◌*◌, ◌^◌, ◌<◌, ◌≤◌, Bool, true, false, ◌&&◌, ◌==◌, cond, List, Option, Some, None, [], ◌∷◌, length, take, drop, get_or, nat_le, IfSome, pos, refl, sym, ap, ◌∙◌, arith}
+use Rattle.std.proofs.Common.{◌≡◌, ℕ, suc, zero, ◌+◌, ◌-◌, ◌*◌, ◌^◌, ◌<◌, ◌≤◌, Bool, true, false, ltb, ◌&&◌, ◌==◌, cond, List, Option, Some, None, [], ◌∷◌, ◌++◌, length, take, drop, get_or, nat_le, IfSome, pos, refl, sym, ap, ◌∙◌, arith}
 use Rattle.std.proofs.Math.Nat.{pow-succ'}
 use Rattle.std.proofs.Math.Numerals.{one-add}
 use Rattle.std.proofs.lemmas.Nat.{mul-le}
 use Rattle.std.specs.Option.{option_map}
-use Rattle.std.proofs.lemmas.Bool.{eqb-true}
+use Rattle.std.proofs.lemmas.Bool.{eqb-true, ltb-true, ltb-false}
 use Rattle.std.proofs.lemmas.Bool.Decides.{nat_tests}
-use Rattle.std.proofs.lemmas.List.{get_or-take, length-take, length-drop, take-append-le, take-append-drop}
-use Rattle.std.proofs.lemmas.List.Folds.{list_all_at}
+use Rattle.std.proofs.lemmas.List.{get_or-take, get_or-drop, drop-drop, drop_more, nil_from_length, length-take, length-drop, take-append-le, take-append-drop}
+use Rattle.std.proofs.lemmas.List.Sums.{passes_at_first, fold-append}
+use Rattle.std.proofs.lemmas.List.Folds.{list_all-append}
 use Rattle.std.specs.List.{list_all, position_or_len}
 use Rattle.dimacs_lines.specs.declared.numbers.TheConstants.{DIGIT_LIMIT}
 use Rattle.dimacs_lines.specs.Lines.{Line}
@@ -37,6 +38,13 @@ digits_below (digit ∷ word) e =
     let high : first * unit ≤ 9 * unit = mul-le first unit 9 unit (omega arith) (omega arith) in
     let value : digits_value (digit ∷ word) ≡ first * unit + digits_value word = digits_after first word in
     rw (pow-succ' 10 (length word)) (omega arith)
+
+-- one digit more at the end
+pub digit_more : (front : Word) (value byte : ℕ) → value ≡ digits_value front → value * 10 + (byte - 48) ≡ digits_value (front ++ byte ∷ [])
+digit_more front value byte e = rw (fold-append (λ value digit. 10 * value + (digit - 48)) 0 front (byte ∷ []), ← e) (omega arith)
+
+pub digits_more : (front : Word) (byte : ℕ) → list_all is_digit front ≡ true → is_digit byte ≡ true → list_all is_digit (front ++ byte ∷ []) ≡ true
+digits_more front byte are is = rw (list_all-append is_digit front (byte ∷ []), are, is) refl
 
 within_by : (some fits digits : Bool) (n value : ℕ) → Some n ≡ cond (some && fits && digits) (Some value) None → fits ≡ true
 within_by true true digits n value e = refl
@@ -112,21 +120,47 @@ pub not_negative : (word : Word) (value : ℕ) → natural word ≡ Some value �
 not_negative [] value e = absurd cc
 not_negative (byte ∷ word) value e = not_negative_by (byte == 45) byte word value refl e
 
--- a word that is cut from a line, by the digits at its front and the bytes after them
-pub record CutWord (line : Line) (skipped value digits len : ℕ) : Type 0 where
-  pub some : 0 < length (take len (drop skipped line))
-  pub front : FrontDigits value digits (take len (drop skipped line))
-  pub words_are : words_of line ≡ take len (drop skipped line) ∷ words_of (drop len (drop skipped line))
+-- a word that is cut from a line: where it begins, where the digits at its front end, and where it ends
+pub record CutWord (line : Line) (begin value digits_end end : ℕ) : Type 0 where
+  pub some : 0 < length (take (end - begin) (drop begin line))
+  pub front : FrontDigits value (digits_end - begin) (take (end - begin) (drop begin line))
+  pub words_are : words_of line ≡ take (end - begin) (drop begin line) ∷ words_of (drop end line)
 
-pub cut_word : (line : Line) (skipped value digits after : ℕ) → skipped ≡ position_or_len is_solid line → 0 < length (drop skipped line) → FrontDigits value digits (drop skipped line)
-    → after ≡ position_or_len is_blank (drop digits (drop skipped line)) → after ≤ length (drop digits (drop skipped line)) → CutWord line skipped value digits (digits + after)
-cut_word line skipped value digits after e some front after_is within =
-    let begun = drop skipped line in
-    let len_is : digits + after ≡ position_or_len is_blank begun = rw after_is (sym (blank_after digits begun front.within front.are_digits)) in
-    let first = first_word line skipped (digits + after) e some len_is in
-    let fits : digits + after ≤ length begun = omega (arith, length-drop digits begun, front.within) in
+pub cut_word : (line : Line) (begin value digits_end end : ℕ) → begin ≡ 0 + position_or_len is_solid (drop 0 line) → begin < length line → begin ≤ digits_end → FrontDigits value (digits_end - begin) (drop begin line)
+    → end ≡ digits_end + position_or_len is_blank (drop digits_end line) → end ≤ length line → CutWord line begin value digits_end end
+cut_word line begin value digits_end end begin_is lt le front end_is within =
+    let begun = drop begin line in let digits = digits_end - begin in
+    let back : begin + digits ≡ digits_end = omega arith in
+    let after : drop digits begun ≡ drop digits_end line = drop-drop digits begin line ∙ ap (λ (n : ℕ). drop n line) back in
+    let blank_is : position_or_len is_blank begun ≡ digits + position_or_len is_blank (drop digits_end line) = rw (← after) (blank_after digits begun front.within front.are_digits) in
+    let some : 0 < length begun = omega (arith, length-drop begin line) in
+    let place : begin ≡ position_or_len is_solid line = omega (arith, begin_is) in
+    let first = first_word line begin (end - begin) place some (omega arith) in
+    let fits : end - begin ≤ length begun = omega (arith, length-drop begin line) in
+    let ends : drop (end - begin) begun ≡ drop end line = drop-drop (end - begin) begin line ∙ ap (λ (n : ℕ). drop n line) (omega arith) in
     record {
-      some = omega (arith, length-take (digits + after) begun, first.1);
-      front = word_begins value digits (digits + after) begun front (omega arith) fits;
-      words_are = first.0;
+      some = omega (arith, length-take (end - begin) begun, first.1);
+      front = word_begins value digits (end - begin) begun front (omega arith) fits;
+      words_are = first.0 ∙ ap (λ (r : Line). take (end - begin) begun ∷ words_of r) ends;
     }
+
+blank_skipped : (byte : ℕ) (line : Line) → is_blank byte ≡ true → words_of (byte ∷ line) ≡ words_of line
+unfolding words_of
+blank_skipped byte line e = rw e refl
+
+words_after_by : (more : Bool) (line : Line) (from end : ℕ) → ltb end (length line) ≡ more → end ≡ from + position_or_len is_blank (drop from line) → end ≤ length line → words_of (drop end line) ≡ words_of (drop (end + 1) line)
+words_after_by true line from end is end_is within =
+    let lt : end < length line = ltb-true _ _ is in
+    let place = position_or_len is_blank (drop from line) in
+    let found : is_blank (get_or (drop from line) place 0) ≡ true = passes_at_first is_blank (drop from line) 0 (omega (arith, length-drop from line)) in
+    let blank : is_blank (get_or line end 0) ≡ true = rw (end_is, ← get_or-drop from line place 0) found in
+    rw (drop_more line end 0 lt) (blank_skipped (get_or line end 0) (drop (end + 1) line) blank)
+words_after_by false line from end is end_is within =
+    let le : length line ≤ end = ltb-false _ _ is in
+    let none : drop end line ≡ [] = nil_from_length (drop end line) (omega (arith, length-drop end line)) in
+    let later : drop (end + 1) line ≡ [] = nil_from_length (drop (end + 1) line) (omega (arith, length-drop (end + 1) line)) in
+    rw (none, later) refl
+
+-- the blank that ends a word is in none
+pub words_after : (line : Line) (from end : ℕ) → end ≡ from + position_or_len is_blank (drop from line) → end ≤ length line → words_of (drop end line) ≡ words_of (drop (end + 1) line)
+words_after line from end end_is within = words_after_by (ltb end (length line)) line from end refl end_is within

@@ -1,6 +1,6 @@
 //! The numbers that words spell.
 
-ghost use Rattle.std.specs.Prelude.{◌≡◌, ◌<◌, ◌≤◌, ◌*◌, ◌^◌, IfSome, IfOk, pos, ◌≤ℤ◌, neg_ℤ};
+ghost use Rattle.std.specs.Prelude.{◌≡◌, ◌<◌, ◌≤◌, ◌-◌, length, drop, ◌*◌, ◌^◌, IfSome, IfOk, pos, ◌≤ℤ◌, neg_ℤ};
 ghost use Rattle.dimacs_lines.specs.declared.numbers.TheConstants.{DIGIT_LIMIT, VALUE_DIGIT_LIMIT};
 ghost use Rattle.dimacs_lines.specs.Fields.{natural, natural_within, integer, claimed_value, is_negative, without_sign};
 ghost use Rattle.dimacs_lines.specs.Digits.{FrontDigits};
@@ -21,27 +21,30 @@ fn natural(word: &[u8]) -> Option<u64>
     ensures value { result ≡ natural word.now }
     ensures below { IfSome result (λ value. value < 10 ^ DIGIT_LIMIT) }
 {
-    let (value, digits) = leading_digits(word);
-    if word.is_empty() || digits < word.len() {
+    let (value, end) = digits_from(word, 0);
+    if word.is_empty() || end < word.len() {
         return None;
     }
     Some(value)
 }
 
-/// The number that the digits spell with which a line begins, at most `DIGIT_LIMIT`, and how many they are.
+/// The number that the digits spell which stand from this place on, at most `DIGIT_LIMIT`, and where they end.
 #[inline(always)]
-pub(crate) fn leading_digits(line: &[u8]) -> (u64, usize)
-    ensures { FrontDigits result.0 result.1 line.now }
+pub(crate) fn digits_from(line: &[u8], from: usize) -> (u64, usize)
+    requires { from ≤ length line.now }
+    ensures place { from ≤ result.1 }
+    ensures digits { FrontDigits result.0 (result.1 - from) (drop from line.now) }
 {
-    let front = &line[..line.len().min(DIGIT_LIMIT)];
     let mut value = 0;
-    for (digits, byte) in front.iter().enumerate() {
+    let limit = from + (line.len() - from).min(DIGIT_LIMIT);
+    for at in from..limit {
+        let byte = line[at];
         if !byte.is_ascii_digit() {
-            return (value, digits);
+            return (value, at);
         }
-        value = value * 10 + u64::from(*byte - b'0');
+        value = value * 10 + u64::from(byte - b'0');
     }
-    (value, front.len())
+    (value, limit)
 }
 
 /// The number that one to 18 digits spell, after one `-` or none.

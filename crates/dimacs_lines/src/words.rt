@@ -1,12 +1,12 @@
 //! The words of a line.
 
-ghost use Rattle.std.specs.Prelude.{◌≡◌, ◌≢◌, ◌↔◌, IsTrue, ◌∷◌, [], ◌<◌, ◌≤◌, length, not, IfSome, MatchOption, MatchResult, ◌^◌};
+ghost use Rattle.std.specs.Prelude.{◌≡◌, ◌≢◌, ◌↔◌, IsTrue, ◌∷◌, [], ◌<◌, ◌≤◌, ◌+◌, length, drop, not, IfSome, MatchOption, MatchResult, ◌^◌};
 ghost use Rattle.std.specs.List.{position_or_len};
 ghost use Rattle.dimacs_lines.specs.Fields.{is_blank, words_of};
 ghost use Rattle.dimacs_lines.specs.declared.fault.Fault.TheVariants as Fault;
 
 use crate::fault::Fault;
-use crate::numbers::{integer, leading_digits};
+use crate::numbers::{digits_from, integer};
 use std::marker::Model;
 
 /// A word of a line. The number that it spells is known from where it was split.
@@ -180,40 +180,63 @@ pub fn is_blank(line: &[u8]) -> bool
     split_word(line).is_none()
 }
 
-/// The first word of a line, and the line after it.
+/// The first word of a line, and the line after it and the blank that ends it.
 #[inline(always)]
 fn split_word(line: &[u8]) -> Option<(Word<'_>, &[u8])>
     ensures words { MatchOption result (words_of line.now ≡ []) (λ parts. words_of line.now ≡ parts.0 ∷ words_of parts.1.now) }
     ensures shorter { MatchOption result (0 ≤ length line.now) (λ parts. length parts.1.now < length line.now) }
 {
-    let begun = &line[blanks(line)..];
-    if begun.is_empty() {
+    let begin = solid_from(line, 0);
+    if begin == line.len() {
         return None;
     }
-    let (value, digits) = leading_digits(begun);
-    let length = digits + word_length(&begun[digits..]);
-    let (bytes, rest) = begun.split_at(length);
-    Some((Word::new(bytes, value, digits), rest))
+    let (value, digits_end) = digits_from(line, begin);
+    let end = blank_from(line, digits_end);
+    let word = Word::new(&line[begin..end], value, digits_end - begin);
+    Some((word, rest_after(line, end)))
 }
 
-/// How many blanks a line begins with.
-fn blanks(line: &[u8]) -> usize
-    ensures place { result ≡ position_or_len (λ byte. not (is_blank byte)) line.now }
-    ensures within { result ≤ length line.now }
+/// The line after the byte at this place, or nothing where the line ends there.
+#[inline(always)]
+fn rest_after(line: &[u8], place: usize) -> &[u8]
+    requires { place ≤ length line.now }
+    ensures { result.now ≡ drop (place + 1) line.now }
 {
-    line.iter()
-        .position(|byte| !is_blank_byte(*byte))
-        .unwrap_or(line.len())
+    if place < line.len() {
+        &line[place + 1..]
+    } else {
+        &line[place..]
+    }
 }
 
-/// How many bytes stand before the first blank.
-fn word_length(line: &[u8]) -> usize
-    ensures place { result ≡ position_or_len is_blank line.now }
+/// The first place from this one on where no blank stands, or the end of the line.
+#[inline(always)]
+fn solid_from(line: &[u8], from: usize) -> usize
+    requires { from ≤ length line.now }
+    ensures place { result ≡ from + position_or_len (λ byte. not (is_blank byte)) (drop from line.now) }
     ensures within { result ≤ length line.now }
 {
-    line.iter()
-        .position(|byte| is_blank_byte(*byte))
-        .unwrap_or(line.len())
+    for at in from..line.len() {
+        if !is_blank_byte(line[at]) {
+            return at;
+        }
+    }
+    line.len()
+}
+
+/// The first place from this one on where a blank stands, or the end of the line.
+#[inline(always)]
+fn blank_from(line: &[u8], from: usize) -> usize
+    requires { from ≤ length line.now }
+    ensures place { result ≡ from + position_or_len is_blank (drop from line.now) }
+    ensures within { result ≤ length line.now }
+{
+    for at in from..line.len() {
+        if is_blank_byte(line[at]) {
+            return at;
+        }
+    }
+    line.len()
 }
 
 /// Space, tab and CR.
