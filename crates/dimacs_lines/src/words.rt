@@ -1,8 +1,8 @@
 //! The words of a line.
 
-ghost use Rattle.std.specs.Prelude.{◌≡◌, ◌≢◌, ◌↔◌, IsTrue, ◌∷◌, [], ◌<◌, ◌≤◌, ◌+◌, length, drop, not, IfSome, MatchOption, MatchResult, ◌^◌};
+ghost use Rattle.std.specs.Prelude.{◌≡◌, ◌≢◌, ◌↔◌, IsTrue, ◌∷◌, [], ◌<◌, ◌≤◌, ◌+◌, length, drop, not, if◌then◌else◌, Some, EachIndex, slice_index, slice_index_or, IfSome, MatchOption, MatchResult, ◌^◌};
 ghost use Rattle.std.specs.List.{position_or_len};
-ghost use Rattle.dimacs_lines.specs.Fields.{is_blank, words_of};
+ghost use Rattle.dimacs_lines.specs.Fields.{is_blank, words_of, natural};
 ghost use Rattle.dimacs_lines.specs.declared.fault.Fault.TheVariants as Fault;
 
 use crate::fault::Fault;
@@ -29,7 +29,7 @@ impl<'a> Model for Word<'a> {
 
 impl<'a> Word<'a> {
     ghost use Rattle.dimacs_lines.specs.declared.numbers.TheConstants.{DIGIT_LIMIT};
-    ghost use Rattle.dimacs_lines.specs.Fields.{natural, integer};
+    ghost use Rattle.dimacs_lines.specs.Fields.{integer};
     ghost use Rattle.dimacs_lines.specs.Digits.{FrontDigits};
 
     /// The word of these bytes, which begin with so many digits that spell the value.
@@ -113,9 +113,30 @@ impl<'a> Words<'a> {
         Words { rest: self.rest }
     }
 
+    /// Takes as many words as there are values, and writes the number of each, where each spells one without a sign. Else
+    /// no word is taken.
+    #[inline(never)]
+    pub fn naturals(&mut self, values: &mut [u64]) -> bool
+        ensures numbers { IsTrue result → EachIndex values.new (λ place. natural (slice_index_or self.old place []) ≡ Some (slice_index values.new place)) }
+        ensures rest { self.new ≡ (if result then drop (length values.new) self.old else self.old) }
+    {
+        let mut rest = self.rest;
+        for value in values.iter_mut() {
+            let Some((word, others)) = split_word(rest) else {
+                return false;
+            };
+            let Some(number) = word.natural() else {
+                return false;
+            };
+            *value = number;
+            rest = others;
+        }
+        self.rest = rest;
+        true
+    }
+
     /// Takes the next word, which has to be there.
-    #[inline(always)]
-    pub fn word(&mut self) -> Result<Word<'a>, Fault>
+    fn word(&mut self) -> Result<Word<'a>, Fault>
         ensures { MatchResult result (λ word. self.old ≡ word ∷ self.new) (λ fault. (fault ≡ Fault.WrongFieldCount) × (self.old ≡ [])) }
     {
         self.next().ok_or(Fault::WrongFieldCount)
