@@ -1,5 +1,5 @@
 -- The digits that a line begins with, and the word that begins with them.
-use Rattle.std.proofs.Common.{◌≡◌, ℕ, suc, zero, ◌+◌, ◌-◌, ◌*◌, ◌^◌, ◌<◌, ◌≤◌, Bool, true, false, ltb, ◌&&◌, ◌==◌, cond, List, Option, Some, None, [], ◌∷◌, ◌++◌, length, take, drop, get_or, nat_le, IfSome, pos, refl, sym, ap, ◌∙◌, arith}
+use Rattle.std.proofs.Common.{◌≡◌, ℕ, suc, zero, ◌+◌, ◌-◌, ◌*◌, ◌^◌, ◌<◌, ◌≤◌, Bool, true, false, ltb, min, ◌&&◌, ◌==◌, cond, List, Option, Some, None, [], ◌∷◌, ◌++◌, length, take, drop, get_or, nat_le, IfSome, pos, refl, sym, ap, ◌∙◌, arith}
 use Rattle.std.proofs.Math.Nat.{pow-succ'}
 use Rattle.std.proofs.Math.Numerals.{one-add}
 use Rattle.std.proofs.lemmas.Nat.{mul-le}
@@ -93,18 +93,17 @@ ends_in digits len line lt within ends = rw (get_or-take len line digits 0 lt) (
 -- a word of the line that has all these digits begins with them
 pub word_begins : (value digits len : ℕ) (line : Line) → FrontDigits value digits line → digits ≤ len → len ≤ length line → FrontDigits value digits (take len line)
 word_begins value digits len line front le within = record {
-  value_is = rw (take_shorter digits len line le within) front.value_is;
+  value_is = λ few. rw (take_shorter digits len line le within) (front.value_is few);
   are_digits = rw (take_shorter digits len line le within) front.are_digits;
   within = omega (arith, length-take len line);
-  fits = front.fits;
-  ends = λ few more. ends_in digits len line (omega (arith, length-take len line)) within (front.ends few);
+  ends = λ more. ends_in digits len line (omega (arith, length-take len line)) within front.ends;
 }
 
-pub front_below : (value digits : ℕ) (line : Line) → FrontDigits value digits line → value < 10 ^ DIGIT_LIMIT
-front_below value digits line front =
+pub front_below : (value digits : ℕ) (line : Line) → FrontDigits value digits line → digits ≤ DIGIT_LIMIT → value < 10 ^ DIGIT_LIMIT
+front_below value digits line front fits =
     let low : digits_value (take digits line) < 10 ^ length (take digits line) = digits_below (take digits line) front.are_digits in
-    let high : 10 ^ length (take digits line) ≤ 10 ^ DIGIT_LIMIT = pow_within (length (take digits line)) DIGIT_LIMIT (omega (arith, length-take digits line, front.fits)) in
-    rw front.value_is (omega arith)
+    let high : 10 ^ length (take digits line) ≤ 10 ^ DIGIT_LIMIT = pow_within (length (take digits line)) DIGIT_LIMIT (omega (arith, length-take digits line)) in
+    rw (front.value_is fits) (omega arith)
 
 not_negative_by : (minus : Bool) (byte : ℕ) (word : Word) (value : ℕ) → (byte == 45) ≡ minus → natural (byte ∷ word) ≡ Some value → integer (byte ∷ word) ≡ Some (pos value)
 unfolding integer
@@ -148,19 +147,20 @@ blank_skipped : (byte : ℕ) (line : Line) → is_blank byte ≡ true → words_
 unfolding words_of
 blank_skipped byte line e = rw e refl
 
-words_after_by : (more : Bool) (line : Line) (from end : ℕ) → ltb end (length line) ≡ more → end ≡ from + position_or_len is_blank (drop from line) → end ≤ length line → words_of (drop end line) ≡ words_of (drop (end + 1) line)
-words_after_by true line from end is end_is within =
+words_after_by : (more : Bool) (line : Line) (from end next : ℕ) → ltb end (length line) ≡ more → end ≡ from + position_or_len is_blank (drop from line) → end ≤ length line → next ≡ min (end + 1) (length line)
+    → words_of (drop end line) ≡ words_of (drop next line)
+words_after_by true line from end next is end_is within next_is =
     let lt : end < length line = ltb-true _ _ is in
+    let after : next ≡ end + 1 = omega arith in
     let place = position_or_len is_blank (drop from line) in
     let found : is_blank (get_or (drop from line) place 0) ≡ true = passes_at_first is_blank (drop from line) 0 (omega (arith, length-drop from line)) in
     let blank : is_blank (get_or line end 0) ≡ true = rw (end_is, ← get_or-drop from line place 0) found in
-    rw (drop_more line end 0 lt) (blank_skipped (get_or line end 0) (drop (end + 1) line) blank)
-words_after_by false line from end is end_is within =
+    rw (drop_more line end 0 lt, after) (blank_skipped (get_or line end 0) (drop (end + 1) line) blank)
+words_after_by false line from end next is end_is within next_is =
     let le : length line ≤ end = ltb-false _ _ is in
-    let none : drop end line ≡ [] = nil_from_length (drop end line) (omega (arith, length-drop end line)) in
-    let later : drop (end + 1) line ≡ [] = nil_from_length (drop (end + 1) line) (omega (arith, length-drop (end + 1) line)) in
-    rw (none, later) refl
+    let same : next ≡ end = omega arith in
+    rw same refl
 
 -- the blank that ends a word is in none
-pub words_after : (line : Line) (from end : ℕ) → end ≡ from + position_or_len is_blank (drop from line) → end ≤ length line → words_of (drop end line) ≡ words_of (drop (end + 1) line)
-words_after line from end end_is within = words_after_by (ltb end (length line)) line from end refl end_is within
+pub words_after : (line : Line) (from end next : ℕ) → end ≡ from + position_or_len is_blank (drop from line) → end ≤ length line → next ≡ min (end + 1) (length line) → words_of (drop end line) ≡ words_of (drop next line)
+words_after line from end next end_is within next_is = words_after_by (ltb end (length line)) line from end next refl end_is within next_is

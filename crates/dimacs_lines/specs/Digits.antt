@@ -5,10 +5,9 @@ use Rattle.dimacs_lines.specs.declared.numbers.TheConstants.{DIGIT_LIMIT}
 use Rattle.dimacs_lines.specs.Lines.{Line}
 use Rattle.dimacs_lines.specs.Fields.{is_digit, digits_value}
 
--- so many digits that spell the value, no more than a number may have: after fewer stands no further digit
+-- so many digits, after which none stands, and the value that they spell where a number may have so many
 pub record FrontDigits (value digits : ℕ) (line : Line) : Type 0 where
-  pub value_is : value ≡ digits_value (take digits line)
+  pub value_is : digits ≤ DIGIT_LIMIT → value ≡ digits_value (take digits line)
   pub are_digits : list_all is_digit (take digits line) ≡ true
   pub within : digits ≤ length line
-  pub fits : digits ≤ DIGIT_LIMIT
-  pub ends : digits < DIGIT_LIMIT → digits < length line → is_digit (slice_index line digits) ≡ false
+  pub ends : digits < length line → is_digit (slice_index line digits) ≡ false

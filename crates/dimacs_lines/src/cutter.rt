@@ -130,9 +130,13 @@ pub(crate) fn whole_line(piece: &[u8]) -> Option<&[u8]>
     }
 }
 
-/// How many bytes stand before the first LF, or at all where there is none.
+/// How many bytes stand before the first LF, or at all where there is none. An empty line is not searched.
+#[inline]
 fn line_length(piece: &[u8]) -> usize
     ensures { result ≡ position_or_len is_line_feed piece.now }
 {
-    memchr(b'\n', piece).unwrap_or(piece.len())
+    match piece {
+        [b'\n', ..] => 0,
+        _ => memchr(b'\n', piece).unwrap_or(piece.len()),
+    }
 }

@@ -22,29 +22,29 @@ fn natural(word: &[u8]) -> Option<u64>
     ensures below { IfSome result (λ value. value < 10 ^ DIGIT_LIMIT) }
 {
     let (value, end) = digits_from(word, 0);
-    if word.is_empty() || end < word.len() {
+    if word.is_empty() || end < word.len() || end > DIGIT_LIMIT {
         return None;
     }
     Some(value)
 }
 
-/// The number that the digits spell which stand from this place on, at most `DIGIT_LIMIT`, and where they end.
+/// Where the digits end that stand from this place on, and the number that they spell where they are at most
+/// `DIGIT_LIMIT`.
 #[inline(always)]
 pub(crate) fn digits_from(line: &[u8], from: usize) -> (u64, usize)
     requires { from ≤ length line.now }
     ensures place { from ≤ result.1 }
     ensures digits { FrontDigits result.0 (result.1 - from) (drop from line.now) }
 {
-    let mut value = 0;
-    let limit = from + (line.len() - from).min(DIGIT_LIMIT);
-    for at in from..limit {
+    let mut value = 0u64;
+    for at in from..line.len() {
         let byte = line[at];
         if !byte.is_ascii_digit() {
             return (value, at);
         }
-        value = value * 10 + u64::from(byte - b'0');
+        value = value.wrapping_mul(10).wrapping_add(u64::from(byte - b'0'));
     }
-    (value, limit)
+    (value, line.len())
 }
 
 /// The number that one to 18 digits spell, after one `-` or none.

@@ -1,12 +1,12 @@
 //! The words of a line.
 
-ghost use Rattle.std.specs.Prelude.{◌≡◌, ◌≢◌, ◌↔◌, IsTrue, ◌∷◌, [], ◌<◌, ◌≤◌, ◌+◌, length, drop, not, if◌then◌else◌, Some, EachIndex, slice_index, slice_index_or, IfSome, MatchOption, MatchResult, ◌^◌};
+ghost use Rattle.std.specs.Prelude.{◌≡◌, ◌≢◌, ◌↔◌, IsTrue, ◌∷◌, [], ◌<◌, ◌≤◌, ◌+◌, length, drop, min, not, if◌then◌else◌, Some, EachIndex, slice_index, slice_index_or, IfSome, MatchOption, MatchResult, ◌^◌};
 ghost use Rattle.std.specs.List.{position_or_len};
 ghost use Rattle.dimacs_lines.specs.Fields.{is_blank, words_of, natural};
 ghost use Rattle.dimacs_lines.specs.declared.fault.Fault.TheVariants as Fault;
 
 use crate::fault::Fault;
-use crate::numbers::{digits_from, integer};
+use crate::numbers::{DIGIT_LIMIT, digits_from, integer};
 use std::marker::Model;
 
 /// A word of a line. The number that it spells is known from where it was split.
@@ -39,7 +39,7 @@ impl<'a> Word<'a> {
         requires digits { FrontDigits value digits bytes.now }
         ensures { result ≡ bytes.now }
     {
-        let number = if digits == bytes.len() {
+        let number = if digits == bytes.len() && digits <= DIGIT_LIMIT {
             Some(value)
         } else {
             None
@@ -118,6 +118,7 @@ impl<'a> Words<'a> {
     #[inline(never)]
     pub fn naturals(&mut self, values: &mut [u64]) -> bool
         ensures numbers { IsTrue result → EachIndex values.new (λ place. natural (slice_index_or self.old place []) ≡ Some (slice_index values.new place)) }
+        ensures enough { IsTrue result → length values.new ≤ length self.old }
         ensures rest { self.new ≡ (if result then drop (length values.new) self.old else self.old) }
     {
         let mut rest = self.rest;
@@ -212,22 +213,9 @@ fn split_word(line: &[u8]) -> Option<(Word<'_>, &[u8])>
         return None;
     }
     let (value, digits_end) = digits_from(line, begin);
-    let end = blank_from(line, digits_end);
+    let (end, next) = blank_from(line, digits_end);
     let word = Word::new(&line[begin..end], value, digits_end - begin);
-    Some((word, rest_after(line, end)))
-}
-
-/// The line after the byte at this place, or nothing where the line ends there.
-#[inline(always)]
-fn rest_after(line: &[u8], place: usize) -> &[u8]
-    requires { place ≤ length line.now }
-    ensures { result.now ≡ drop (place + 1) line.now }
-{
-    if place < line.len() {
-        &line[place + 1..]
-    } else {
-        &line[place..]
-    }
+    Some((word, &line[next..]))
 }
 
 /// The first place from this one on where no blank stands, or the end of the line.
@@ -245,19 +233,20 @@ fn solid_from(line: &[u8], from: usize) -> usize
     line.len()
 }
 
-/// The first place from this one on where a blank stands, or the end of the line.
+/// The first place from this one on where a blank stands, and the one after it; or the end of the line, twice.
 #[inline(always)]
-fn blank_from(line: &[u8], from: usize) -> usize
+fn blank_from(line: &[u8], from: usize) -> (usize, usize)
     requires { from ≤ length line.now }
-    ensures place { result ≡ from + position_or_len is_blank (drop from line.now) }
-    ensures within { result ≤ length line.now }
+    ensures place { result.0 ≡ from + position_or_len is_blank (drop from line.now) }
+    ensures next { result.1 ≡ min (result.0 + 1) (length line.now) }
+    ensures within { result.0 ≤ length line.now }
 {
     for at in from..line.len() {
         if is_blank_byte(line[at]) {
-            return at;
+            return (at, at + 1);
         }
     }
-    line.len()
+    (line.len(), line.len())
 }
 
 /// Space, tab and CR.

@@ -1,6 +1,6 @@
-use Rattle.std.proofs.Common.{◌-◌}
+use Rattle.std.proofs.Common.{◌-◌, arith}
 use Rattle.dimacs_lines.proofs.DigitLemmas.{front_below}
 use Rattle.dimacs_lines.proofs.numbers.natural.Goals as goal
 
 pub returns-clause-below : goal.returns-clause-below
-returns-clause-below c = front_below c.digits_from-value.result.0 (c.digits_from-value.result.1 - 0) c.args.word.now c.digits_from-value.ensures.digits
+returns-clause-below c = front_below c.digits_from-value.result.0 (c.digits_from-value.result.1 - 0) c.args.word.now c.digits_from-value.ensures.digits (omega arith)
