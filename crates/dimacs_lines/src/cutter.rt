@@ -119,6 +119,7 @@ impl LineCutter {
 }
 
 /// The line that a piece begins with, where all of it stands there and it is not too long.
+#[inline(always)]
 pub(crate) fn whole_line(piece: &[u8]) -> Option<&[u8]>
     ensures { IfSome result (λ line. IsWhole line.now piece.now) }
 {
@@ -131,7 +132,7 @@ pub(crate) fn whole_line(piece: &[u8]) -> Option<&[u8]>
 }
 
 /// How many bytes stand before the first LF, or at all where there is none. An empty line is not searched.
-#[inline]
+#[inline(always)]
 fn line_length(piece: &[u8]) -> usize
     ensures { result ≡ position_or_len is_line_feed piece.now }
 {

@@ -2,7 +2,8 @@
 use Rattle.std.proofs.Common.{◌≡◌, ℕ, ◌≤◌, true, false, List, [], ◌∷◌, length, drop, Some, Ok, ℤ, pos, slice_index_or, refl, ap, arith}
 use Rattle.std.proofs.lemmas.Bool.{le-leb}
 use Rattle.std.proofs.lemmas.List.{length-drop}
-use Rattle.dimacs_lines.specs.Fields.{Word, natural}
+use Rattle.dimacs_lines.specs.Lines.{Line}
+use Rattle.dimacs_lines.specs.Fields.{Word, natural, words_of}
 use Rattle.dimacs_lines.specs.Checks.{natural_in, integer_in}
 use Rattle.dimacs_lines.proofs.WordLemmas.{next_word}
 use Rattle.dimacs_text.specs.Lawful.{IsNode}
@@ -38,3 +39,10 @@ plain_asn nodes marks fields word tail head cost last tail_is head_is cost_is ta
     let len : length fields ≡ 3 = omega (arith, length-drop 2 fields, ap length last) in
     let word_is : field 2 fields ≡ word = (next_word fields 2 word [] last).0 in
     rw (len, number_in 1 nodes (field 0 fields) tail tail_is tail_in.0 tail_in.1, number_in 1 nodes (field 1 fields) head head_is head_in.0 head_in.1, word_is, cost_is, from_side, to_side) refl
+
+-- a line that begins with `a` and a space is that of an arc
+pub arc_begins : (line : Line) → 2 ≤ length line → slice_index_or line 0 0 ≡ 97 → slice_index_or line 1 0 ≡ 32 → words_of line ≡ (97 ∷ []) ∷ words_of (drop 2 line)
+unfolding words_of
+arc_begins [] len first second = absurd (omega arith)
+arc_begins (a ∷ []) len first second = absurd (omega arith)
+arc_begins (a ∷ b ∷ rest) len first second = rw (first, second) refl
