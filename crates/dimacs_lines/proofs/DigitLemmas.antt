@@ -1,5 +1,5 @@
 -- The digits that a line begins with, and the word that begins with them.
-use Rattle.std.proofs.Common.{◌≡◌, ℕ, suc, zero, ◌+◌, ◌-◌, ◌*◌, ◌^◌, ◌<◌, ◌≤◌, Bool, true, false, ltb, min, ◌&&◌, ◌==◌, cond, List, Option, Some, None, [], ◌∷◌, ◌++◌, length, take, drop, get_or, nat_le, IfSome, pos, refl, sym, ap, ◌∙◌, arith}
+use Rattle.std.proofs.Common.{◌≡◌, ℕ, suc, zero, ◌+◌, ◌-◌, ◌*◌, ◌%◌, ◌^◌, ◌<◌, ◌≤◌, Bool, true, false, ltb, min, ◌&&◌, ◌==◌, cond, List, Option, Some, None, [], ◌∷◌, ◌++◌, length, take, drop, get_or, nat_le, IfSome, pos, refl, sym, ap, ◌∙◌, arith}
 use Rattle.std.proofs.Math.Nat.{pow-succ'}
 use Rattle.std.proofs.Math.Numerals.{one-add}
 use Rattle.std.proofs.lemmas.Nat.{mul-le}
@@ -38,6 +38,10 @@ digits_below (digit ∷ word) e =
     let high : first * unit ≤ 9 * unit = mul-le first unit 9 unit (omega arith) (omega arith) in
     let value : digits_value (digit ∷ word) ≡ first * unit + digits_value word = digits_after first word in
     rw (pow-succ' 10 (length word)) (omega arith)
+
+-- a byte less that of `0`, which wraps below it, is at most 9 for digits alone
+pub wrapped_digit : (byte digit : ℕ) → byte < 256 → digit ≡ (byte + (2 ^ 64 - 48)) % 2 ^ 64 → digit ≤ 9 → (48 ≤ byte) × (byte ≤ 57) × (digit ≡ byte - 48)
+wrapped_digit byte digit fits is low = (omega arith, omega arith, omega arith)
 
 -- one digit more at the end
 pub digit_more : (front : Word) (value byte : ℕ) → value ≡ digits_value front → value * 10 + (byte - 48) ≡ digits_value (front ++ byte ∷ [])

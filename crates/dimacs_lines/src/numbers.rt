@@ -38,11 +38,11 @@ pub(crate) fn digits_from(line: &[u8], from: usize) -> (u64, usize)
 {
     let mut value = 0u64;
     for at in from..line.len() {
-        let byte = line[at];
-        if !byte.is_ascii_digit() {
+        let digit = u64::from(line[at]).wrapping_sub(u64::from(b'0'));
+        if digit > 9 {
             return (value, at);
         }
-        value = value.wrapping_mul(10).wrapping_add(u64::from(byte - b'0'));
+        value = value.wrapping_mul(10).wrapping_add(digit);
     }
     (value, line.len())
 }

@@ -137,6 +137,7 @@ impl<'a> Words<'a> {
     }
 
     /// Takes the next word, which has to be there.
+    #[inline(always)]
     fn word(&mut self) -> Result<Word<'a>, Fault>
         ensures { MatchResult result (λ word. self.old ≡ word ∷ self.new) (λ fault. (fault ≡ Fault.WrongFieldCount) × (self.old ≡ [])) }
     {
@@ -144,6 +145,7 @@ impl<'a> Words<'a> {
     }
 
     /// No word may be left, else `WrongFieldCount`.
+    #[inline(always)]
     pub fn none(mut self) -> Result<(), Fault>
         ensures { MatchResult result (λ _. self.entry ≡ []) (λ fault. (fault ≡ Fault.WrongFieldCount) × (length self.entry ≢ 0)) }
     {
@@ -154,6 +156,7 @@ impl<'a> Words<'a> {
     }
 
     /// The only word that is left, or `WrongFieldCount`.
+    #[inline(always)]
     pub fn one(mut self) -> Result<Word<'a>, Fault>
         ensures { MatchResult result (λ word. self.entry ≡ word ∷ []) (λ fault. (fault ≡ Fault.WrongFieldCount) × (length self.entry ≢ 1)) }
     {
@@ -233,9 +236,27 @@ fn solid_from(line: &[u8], from: usize) -> usize
     line.len()
 }
 
-/// The first place from this one on where a blank stands, and the one after it; or the end of the line, twice.
+/// The first place from this one on where a blank stands, and the one after it; or the end of the line, twice. Mostly
+/// it is this one.
 #[inline(always)]
 fn blank_from(line: &[u8], from: usize) -> (usize, usize)
+    requires { from ≤ length line.now }
+    ensures place { result.0 ≡ from + position_or_len is_blank (drop from line.now) }
+    ensures next { result.1 ≡ min (result.0 + 1) (length line.now) }
+    ensures within { result.0 ≤ length line.now }
+{
+    if from == line.len() {
+        return (from, from);
+    }
+    if is_blank_byte(line[from]) {
+        return (from, from + 1);
+    }
+    later_blank(line, from)
+}
+
+/// The same, where it may be far.
+#[inline(never)]
+fn later_blank(line: &[u8], from: usize) -> (usize, usize)
     requires { from ≤ length line.now }
     ensures place { result.0 ≡ from + position_or_len is_blank (drop from line.now) }
     ensures next { result.1 ≡ min (result.0 + 1) (length line.now) }
