@@ -1,21 +1,20 @@
 -- The digits that a line begins with, and the word that begins with them.
-use Rattle.std.proofs.Common.{◌≡◌, ℕ, suc, zero, ◌+◌, ◌-◌, ◌*◌, ◌%◌, ◌^◌, ◌<◌, ◌≤◌, Bool, true, false, ltb, min, ◌&&◌, ◌==◌, cond, List, Option, Some, None, [], ◌∷◌, ◌++◌, length, take, drop, get_or, nat_le, IfSome, pos, refl, sym, ap, ◌∙◌, arith}
+use Rattle.std.proofs.Common.{◌≡◌, ℕ, suc, zero, ◌+◌, ◌-◌, ◌*◌, ◌%◌, ◌^◌, ◌<◌, ◌≤◌, Bool, true, false, ltb, min, ◌&&◌, ◌==◌, cond, Option, Some, None, [], ◌∷◌, ◌++◌, length, take, drop, get_or, nat_le, IfSome, pos, refl, sym, ap, ◌∙◌, arith}
 use Rattle.std.proofs.Math.Nat.{pow-succ'}
-use Rattle.std.proofs.Math.Numerals.{one-add}
 use Rattle.std.proofs.lemmas.Nat.{mul-le}
 use Rattle.std.specs.Option.{option_map}
 use Rattle.std.proofs.lemmas.Bool.{eqb-true, ltb-true, ltb-false}
 use Rattle.std.proofs.lemmas.Bool.Decides.{nat_tests}
-use Rattle.std.proofs.lemmas.List.{get_or-take, get_or-drop, drop-drop, drop_more, nil_from_length, length-take, length-drop, take-append-le, take-append-drop}
+use Rattle.std.proofs.lemmas.List.{get_or-take, get_or-drop, drop-drop, drop_more, length-take, length-drop, take-append-le, take-append-drop}
 use Rattle.std.proofs.lemmas.List.Sums.{passes_at_first, fold-append}
 use Rattle.std.proofs.lemmas.List.Folds.{list_all-append}
 use Rattle.std.specs.List.{list_all, position_or_len}
 use Rattle.dimacs_lines.specs.declared.numbers.TheConstants.{DIGIT_LIMIT}
 use Rattle.dimacs_lines.specs.Lines.{Line}
-use Rattle.dimacs_lines.specs.Fields.{Word, is_blank, is_digit, digits_value, natural, natural_within, integer, with_sign, words_of}
+use Rattle.dimacs_lines.specs.Fields.{Word, is_blank, is_digit, digits_value, natural, integer, with_sign, words_of}
 use Rattle.dimacs_lines.specs.Digits.{FrontDigits}
 use Rattle.dimacs_lines.proofs.WordLemmas.{is_solid, first_word}
-use Rattle.dimacs_lines.proofs.NumberLemmas.{digits_after, digits_are, pow_within, spelt}
+use Rattle.dimacs_lines.proofs.NumberLemmas.{digits_after, pow_within, spelt}
 
 digit_bounds : (byte : ℕ) → is_digit byte ≡ true → (48 ≤ byte) × (byte ≤ 57)
 digit_bounds byte e = grind (arith, nat_tests)

@@ -1,11 +1,11 @@
 -- A text that goes on by a part with at most one LF.
-use Rattle.std.proofs.Common.{◌≡◌, ℕ, suc, ◌+◌, ◌<◌, ◌≤◌, Bool, true, false, cond, if◌then◌else◌, not, ltb, List, [], ◌∷◌, ◌++◌, length, take, Option, Some, None, refl, ap, ◌∙◌, arith}
+use Rattle.std.proofs.Common.{◌≡◌, ℕ, suc, ◌+◌, ◌<◌, ◌≤◌, Bool, true, false, cond, not, ltb, List, [], ◌∷◌, ◌++◌, length, take, Some, None, refl, ap, ◌∙◌, arith}
 use Rattle.std.proofs.Math.Numerals.{one-add, add-one}
 use Rattle.std.specs.List.{position_or_len, before_first}
 use Rattle.std.proofs.lemmas.List.{take_all}
 use Rattle.std.proofs.lemmas.Bool.{eqb-true, ltb-true, ltb-false}
 use Rattle.dimacs_lines.specs.Lines.{Line, Parts, parts_of, is_line_feed, is_too_long}
-use Rattle.dimacs_lines.specs.Cut.{Cut, kept, extended, begun_line, begun_with, cut_after, has_line_feed, bytes_used}
+use Rattle.dimacs_lines.specs.Cut.{Cut, kept, extended, begun_line, cut_after, has_line_feed, bytes_used}
 use Rattle.dimacs_lines.proofs.LineLemmas.{joined, joined_parts, parts_of-append}
 use Rattle.dimacs_lines.proofs.GoesOnLemmas.{too_long-append}
 

@@ -21,8 +21,16 @@ unfolding read_min_row
 plain_min nodes fields word tail head low cap cost last tail_is head_is low_is cap_is cost_is tail_in head_in order fits =
     let len : length fields ≡ 5 = omega (arith, length-drop 4 fields, ap length last) in
     let word_is : field 4 fields ≡ word = (next_word fields 4 word [] last).0 in
-    rw (len, number_in 1 nodes (field 0 fields) tail tail_is tail_in.0 tail_in.1, number_in 1 nodes (field 1 fields) head head_is head_in.0 head_in.1,
-    number_in 0 CAP_LIMIT (field 2 fields) low low_is (omega arith) (omega arith), number_in 0 CAP_LIMIT (field 3 fields) cap cap_is (omega arith) fits, word_is, cost_is, le-leb low cap order) refl
+    rw (
+      len,
+      number_in 1 nodes (field 0 fields) tail tail_is tail_in.0 tail_in.1,
+      number_in 1 nodes (field 1 fields) head head_is head_in.0 head_in.1,
+      number_in 0 CAP_LIMIT (field 2 fields) low low_is (omega arith) (omega arith),
+      number_in 0 CAP_LIMIT (field 3 fields) cap cap_is (omega arith) fits,
+      word_is,
+      cost_is,
+      le-leb low cap order,
+    ) refl
 
 pub plain_max : (nodes : ℕ) (fields : List Word) (tail head cap : ℕ) → length fields ≡ 3 → natural (field 0 fields) ≡ Some tail → natural (field 1 fields) ≡ Some head
     → natural (field 2 fields) ≡ Some cap → IsNode nodes tail → IsNode nodes head → cap ≤ CAP_LIMIT

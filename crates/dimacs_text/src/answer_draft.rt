@@ -6,9 +6,7 @@ ghost use Rattle.dimacs_text.specs.Answer.{Takes, TakesAs, read_value, read_flow
 
 use crate::answer::{Answer, FlowLine};
 use crate::answer_line::AnswerLine;
-use dimacs_lines::{
-    Fault, LineError, Sequence, Words, claimed_value, natural_in,
-};
+use dimacs_lines::{Fault, LineError, Sequence, Words, claimed_value, natural_in};
 use std::alloc::Global;
 use std::marker::Model;
 

@@ -1,7 +1,6 @@
 use Rattle.std.proofs.Common.{refl, ◌≡◌, true, ◌+◌, ◌-◌, ◌*◌, ◌%◌, ◌∙◌, ◌<◌, ◌≤◌, ◌^◌, length, take, drop, get_or, arith}
 use Rattle.std.proofs.lemmas.List.{length-drop, length-take, get_or-drop, take_more}
 use Rattle.std.proofs.lemmas.Bool.Decides.{nat_tests}
-use Rattle.dimacs_lines.specs.declared.numbers.TheConstants.{DIGIT_LIMIT}
 use Rattle.dimacs_lines.specs.Fields.{is_digit, digits_value}
 use Rattle.dimacs_lines.proofs.NumberLemmas.{pow_within}
 use Rattle.dimacs_lines.proofs.DigitLemmas.{wrapped_digit, digit_more, digits_more, digits_below}

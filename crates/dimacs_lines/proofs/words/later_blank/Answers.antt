@@ -1,7 +1,6 @@
-use Rattle.std.proofs.Common.{length, not, ap, sym, ◌∙◌, arith}
+use Rattle.std.proofs.Common.{length, sym, ◌∙◌, arith}
 use Rattle.dimacs_lines.specs.Fields.{is_blank}
 use Rattle.dimacs_lines.proofs.PlaceLemmas.{place_from}
-use Rattle.dimacs_lines.proofs.WordLemmas.{is_solid}
 use Rattle.dimacs_lines.proofs.words.later_blank.Goals as goal
 
 pub returns-then-is_blank_byte-clause-place : goal.returns-then-is_blank_byte-clause-place

@@ -1,4 +1,4 @@
-use Rattle.std.proofs.Common.{◌≡◌, ℕ, ◌<◌, ◌≤◌, true, false, get_or}
+use Rattle.std.proofs.Common.{◌≡◌, ℕ, ◌<◌, ◌≤◌, false, get_or}
 use Rattle.dimacs_lines.specs.Fields.{is_blank}
 use Rattle.dimacs_lines.proofs.words.later_blank.Given as goal
 

@@ -1,5 +1,4 @@
 use Rattle.std.proofs.Common.{length, not, ap, sym, ◌∙◌, arith}
-use Rattle.dimacs_lines.specs.Fields.{is_blank}
 use Rattle.dimacs_lines.proofs.PlaceLemmas.{place_from}
 use Rattle.dimacs_lines.proofs.WordLemmas.{is_solid}
 use Rattle.dimacs_lines.proofs.words.solid_from.Goals as goal

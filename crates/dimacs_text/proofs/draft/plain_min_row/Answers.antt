@@ -1,4 +1,4 @@
-use Rattle.std.proofs.Common.{◌≡◌, ◌<◌, ◌∷◌, [], length, drop, w64, refl, sym, ap, ◌∙◌, arith, rules, slice_index_or}
+use Rattle.std.proofs.Common.{◌≡◌, ◌∷◌, [], length, drop, w64, refl, sym, ap, ◌∙◌, arith, rules, slice_index_or}
 use Rattle.std.proofs.lemmas.Int.{to_z-of_z, to_z_pos}
 use Rattle.dimacs_text.specs.Lawful.{IsNode}
 use Rattle.dimacs_text.proofs.PlainLemmas.{plain_min}
