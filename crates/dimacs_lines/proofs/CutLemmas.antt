@@ -3,8 +3,8 @@ use Rattle.std.proofs.Common.{◌≡◌, ℕ, ◌<◌, Bool, true, false, List, 
 use Rattle.std.specs.List.{before_first}
 use Rattle.std.proofs.lemmas.List.{append-nil}
 use Rattle.dimacs_lines.specs.Lines.{Line, Parts, parts_of, is_line_feed}
-use Rattle.dimacs_lines.specs.Cut.{Cut, kept, extended, begun_line, cut_after, has_line_feed, bytes_used, HoldsRest, ended_with, CutsLine}
-use Rattle.dimacs_lines.proofs.PartLemmas.{first_parts, parts_of-first, parts_with, extended-kept, cut_after_bytes, begun_with}
+use Rattle.dimacs_lines.specs.Cut.{Cut, kept, extended, begun_line, cut_after, has_line_feed, bytes_used, begun_with, HoldsRest, ended_with, CutsLine}
+use Rattle.dimacs_lines.proofs.PartLemmas.{first_parts, parts_of-first, parts_with, extended-kept, cut_after_bytes}
 
 ended_by : (has : Bool) (text part : List ℕ) (line : Line) → parts_of part ≡ first_parts has line → (parts_of (text ++ part)).ended ≡ ended_with has (parts_of text).ended ((parts_of text).rest ++ line)
 ended_by true text part line e = ap (λ (p : Parts). p.ended) (parts_with text part true line e)

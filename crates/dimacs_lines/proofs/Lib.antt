@@ -6,6 +6,7 @@ pub mod CutLemmas
 pub mod PlaceLemmas
 pub mod WordLemmas
 pub mod NumberLemmas
+pub mod DigitLemmas
 pub mod StreamLemmas
 pub mod ReaderLemmas
 pub mod EndLemmas

@@ -15,7 +15,7 @@ with_digit : (n digit first unit value : ℕ) → first ≡ digit → (10 * n + 
 with_digit n digit first unit value e = rw (e, add-mul (10 * n) digit unit, mul_assoc 10 n unit, mul_left_comm n 10 unit) (omega arith)
 
 -- digits after a number: it counts in the power of ten that they have
-digits_after : (n : ℕ) (word : Word) → fold (λ value digit. 10 * value + (digit - 48)) n word ≡ n * 10 ^ length word + digits_value word
+pub digits_after : (n : ℕ) (word : Word) → fold (λ value digit. 10 * value + (digit - 48)) n word ≡ n * 10 ^ length word + digits_value word
 digits_after n [] = omega arith
 digits_after n (digit ∷ word) =
     let unit = 10 ^ length word in
@@ -38,7 +38,7 @@ spelt_by true true false n value e = cc
 spelt_by true false digits n value e = cc
 spelt_by false fits digits n value e = cc
 
-spelt : (limit : ℕ) (word : Word) (n : ℕ) → Some n ≡ natural_within limit word → (list_all is_digit word ≡ true) × (n ≡ digits_value word)
+pub spelt : (limit : ℕ) (word : Word) (n : ℕ) → Some n ≡ natural_within limit word → (list_all is_digit word ≡ true) × (n ≡ digits_value word)
 spelt limit word n e = spelt_by (nat_le 1 (length word)) (nat_le (length word) limit) (list_all is_digit word) n (digits_value word) e
 
 -- a number of more than 18 digits, by its parts

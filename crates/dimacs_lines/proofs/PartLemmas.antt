@@ -1,5 +1,5 @@
 -- A text that goes on by a part with at most one LF.
-use Rattle.std.proofs.Common.{◌≡◌, ℕ, suc, ◌+◌, ◌<◌, ◌≤◌, Bool, true, false, cond, if◌then◌else◌, not, ltb, List, [], ◌∷◌, ◌++◌, length, take, Option, Some, None, refl, ap, ◌∙◌, arith}
+use Rattle.std.proofs.Common.{◌≡◌, ℕ, suc, ◌+◌, ◌<◌, ◌≤◌, Bool, true, false, cond, not, ltb, List, [], ◌∷◌, ◌++◌, length, take, Some, None, refl, ap, ◌∙◌, arith}
 use Rattle.std.proofs.Math.Numerals.{one-add, add-one}
 use Rattle.std.specs.List.{position_or_len, before_first}
 use Rattle.std.proofs.lemmas.List.{take_all}
@@ -80,10 +80,6 @@ parts_with text part has line e = parts_of-append text part ∙ ap (joined (part
 pub cut_after_bytes : (cut : Cut) (piece : List ℕ) → 0 < length piece → cut_after cut piece ≡ record { line = extended (begun_line cut) (before_first is_line_feed piece); complete = has_line_feed piece }
 cut_after_bytes cut [] some = absurd (omega arith)
 cut_after_bytes cut (byte ∷ bytes) some = refl
-
--- the line that is begun, after one part more
-abbrev pub begun_with : Bool → Option Line → Option Line
-begun_with has line = if has then Some [] else line
 
 used_by : (has : Bool) (place len : ℕ) → ltb place len ≡ has → 0 < len → (0 < cond has (place + 1) len) × (cond has (place + 1) len ≤ len)
 used_by true place len is some = let lt : place < len = ltb-true _ _ is in (omega arith, omega arith)

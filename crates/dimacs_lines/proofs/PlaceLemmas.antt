@@ -1,21 +1,20 @@
 -- The first place at which a test passes.
-use Rattle.std.proofs.Common.{◌≡◌, ℕ, ◌≤◌, Bool, true, false, cond, ltb, List, length, Option, Some, None, refl, sym, arith}
+use Rattle.std.proofs.Common.{◌≡◌, ℕ, ◌+◌, ◌-◌, ◌<◌, ◌≤◌, Bool, true, false, List, length, drop, get_or, Option, Some, None, refl, sym, arith}
+use Rattle.std.proofs.lemmas.List.{get_or-drop, length-drop}
 use Rattle.std.specs.Prelude.{unwrap_or}
 use Rattle.std.specs.List.{position_or_len}
-use Rattle.std.proofs.lemmas.List.Sums.{prefix_len-le-length, position_or_len_is}
-use Rattle.std.proofs.lemmas.Bool.Decides.{nat_tests}
+use Rattle.std.proofs.lemmas.List.Sums.{position_or_len_is}
 use Rattle.memchr.specs.Find.{IsFirstByte, is_byte}
 use Rattle.dimacs_lines.specs.Lines.{is_line_feed}
 
-unwrap_by : (place len : ℕ) → place ≤ len → unwrap_or (cond (ltb place len) (Some place) None) len ≡ place
-unwrap_by place len h = grind (arith, nat_tests)
-
-pub position_or_len-le-length : (test : ℕ → Bool) (bytes : List ℕ) → position_or_len test bytes ≤ length bytes
-position_or_len-le-length test bytes = prefix_len-le-length _ bytes
-
--- the place that `position` found, or the length where there is none
-pub unwrap_or-position : (test : ℕ → Bool) (bytes : List ℕ) → unwrap_or (cond (ltb (position_or_len test bytes) (length bytes)) (Some (position_or_len test bytes)) None) (length bytes) ≡ position_or_len test bytes
-unwrap_or-position test bytes = unwrap_by (position_or_len test bytes) (length bytes) (position_or_len-le-length test bytes)
+-- the first place from one on: none before it passes, and it does or is the end
+pub place_from : (test : ℕ → Bool) (bytes : List ℕ) (from at : ℕ) → from ≤ at → at ≤ length bytes → ((k : ℕ) → from ≤ k → k < at → test (get_or bytes k 0) ≡ false)
+    → (at < length bytes → test (get_or bytes at 0) ≡ true) → at ≡ from + position_or_len test (drop from bytes)
+place_from test bytes from at le within none found =
+    let back : from + (at - from) ≡ at = omega arith in
+    let place : position_or_len test (drop from bytes) ≡ at - from =
+    position_or_len_is test (drop from bytes) (at - from) 0 (omega (arith, length-drop from bytes)) (λ k before. rw (get_or-drop from bytes k 0) (none (from + k) (omega arith) (omega arith))) (λ lt. rw (get_or-drop from bytes (at - from) 0, back) (found (omega (arith, length-drop from bytes)))) in
+    omega arith
 
 no_is_false : (test : Bool) → ¬ (test ≡ true) → test ≡ false
 no_is_false true fails = absurd (fails refl)

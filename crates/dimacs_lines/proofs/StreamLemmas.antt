@@ -10,11 +10,11 @@ use Rattle.dimacs_lines.specs.declared.fault.LineError.{LineError}
 use Rattle.dimacs_lines.specs.declared.fault.LineError.TheVariants as line_error
 use Rattle.dimacs_lines.specs.Fault.{number_of, located}
 use Rattle.dimacs_lines.specs.Lines.{Line, Parts, parts_of, lines_of, last_line, is_line_feed, is_too_long}
-use Rattle.dimacs_lines.specs.Cut.{Cut, kept, extended, begun_line, cut_after, has_line_feed, bytes_used}
+use Rattle.dimacs_lines.specs.Cut.{Cut, kept, extended, begun_line, begun_with, part_line, has_line_feed, bytes_used}
 use Rattle.dimacs_lines.proofs.LineLemmas.{joined, joined_parts, parts_of-append}
 use Rattle.dimacs_lines.proofs.GoesOnLemmas.{GoesOn, settled_go_on, last_line-too_long}
-use Rattle.dimacs_lines.proofs.PartLemmas.{line_feed_used, begun_with, first_parts, parts_of-first, parts_with, extended-kept, cut_after_bytes}
-use Rattle.dimacs_lines.specs.Stream.{Rule, counted, at_line, fault_among, or_else, first_fault, settled_lines, decided, ReportsCut, cut_fault, lines_after, IsOpen, EndsWell, Tells}
+use Rattle.dimacs_lines.proofs.PartLemmas.{line_feed_used, first_parts, parts_of-first, parts_with, extended-kept}
+use Rattle.dimacs_lines.specs.Stream.{Rule, counted, at_line, fault_among, or_else, first_fault, settled_lines, decided, ReportsCut, cut_fault, lines_after, PartTaken, IsOpen, EndsWell, Tells}
 
 -- the first fault of two lists in a row
 abbrev pub first_of_both : Option TextFault → Option TextFault → Option TextFault
@@ -122,22 +122,16 @@ module _ {T : Type 0} (rule : Rule) (holds : List Line → T → Type 0) where
       open_by (text ++ part) _ taker _ _ (parts_with text part false line e) none lines_are held (rw is refl)
 
   module _ (text piece : List ℕ) (cutter : Cut) (taker : T) (lines : ℕ) (some : 0 < length piece) (open_is : IsOpen rule holds text lines taker (begun_line cutter)) where
-    line_is : extended (begun_line cutter) (before_first is_line_feed piece) ≡ kept ((parts_of text).rest ++ before_first is_line_feed piece)
+    line_is : part_line cutter piece ≡ kept ((parts_of text).rest ++ before_first is_line_feed piece)
     line_is = ap (λ (b : Option Line). extended b (before_first is_line_feed piece)) open_is.begun_is ∙ extended-kept (parts_of text).rest (before_first is_line_feed piece)
 
-    cut_line : (cut_after cutter piece).line ≡ kept ((parts_of text).rest ++ before_first is_line_feed piece)
-    cut_line = ap (λ (c : Cut). c.line) (cut_after_bytes cutter piece some) ∙ line_is
-
-    cut_begun : begun_line (cut_after cutter piece) ≡ begun_with (has_line_feed piece) (kept ((parts_of text).rest ++ before_first is_line_feed piece))
-    cut_begun = ap begun_line (cut_after_bytes cutter piece some) ∙ ap (begun_with (has_line_feed piece)) line_is
-
-    part_undecided : cut_fault rule (cut_after cutter piece).line (has_line_feed piece) (parts_of text).ended ≡ None → decided rule (text ++ take (bytes_used piece) piece) ≡ None
+    part_undecided : cut_fault rule (part_line cutter piece) (has_line_feed piece) (parts_of text).ended ≡ None → decided rule (text ++ take (bytes_used piece) piece) ≡ None
     part_undecided fault =
         let line = before_first is_line_feed piece in let p = parts_of text in
-        let fault_is : cut_fault rule (kept (p.rest ++ line)) (has_line_feed piece) p.ended ≡ None = rw (← cut_line) fault in
+        let fault_is : cut_fault rule (kept (p.rest ++ line)) (has_line_feed piece) p.ended ≡ None = rw (← line_is) fault in
         decided_part rule text (take (bytes_used piece) piece) (has_line_feed piece) line (parts_of-first piece) open_is.undecided ∙ ap (λ (f : Option Fault). or_else f (length p.ended + 1) None) fault_is
 
-    pub part_ends : has_line_feed piece ≡ true → cut_fault rule (cut_after cutter piece).line (has_line_feed piece) (parts_of text).ended ≡ None → EndsWell rule text piece
+    pub part_ends : has_line_feed piece ≡ true → cut_fault rule (part_line cutter piece) (has_line_feed piece) (parts_of text).ended ≡ None → EndsWell rule text piece
     part_ends has fault =
         let line = before_first is_line_feed piece in let rest = drop (bytes_used piece) piece in
         let used = line_feed_used piece has in
@@ -148,50 +142,46 @@ module _ {T : Type 0} (rule : Rule) (holds : List Line → T → Type 0) where
           undecided = sym (ap (λ (p : List ℕ). decided rule (text ++ p)) used) ∙ part_undecided fault;
         }
 
-    pub part_ok : (new : T) → cut_fault rule (cut_after cutter piece).line (has_line_feed piece) (parts_of text).ended ≡ None → holds (lines_after (cut_after cutter piece).line (has_line_feed piece) (parts_of text).ended) new
-        → (decided rule (text ++ take (bytes_used piece) piece) ≡ None) × IsOpen rule holds (text ++ take (bytes_used piece) piece) (lines_with (has_line_feed piece) lines) new (begun_line (cut_after cutter piece))
+    pub part_ok : (new : T) → cut_fault rule (part_line cutter piece) (has_line_feed piece) (parts_of text).ended ≡ None → holds (lines_after (part_line cutter piece) (has_line_feed piece) (parts_of text).ended) new
+        → (decided rule (text ++ take (bytes_used piece) piece) ≡ None) × IsOpen rule holds (text ++ take (bytes_used piece) piece) (lines_with (has_line_feed piece) lines) new (begun_with (has_line_feed piece) (part_line cutter piece))
     part_ok new fault held =
         let line = before_first is_line_feed piece in let p = parts_of text in
-        let fault_is : cut_fault rule (kept (p.rest ++ line)) (has_line_feed piece) p.ended ≡ None = rw (← cut_line) fault in
-        let held_is : holds (lines_after (kept (p.rest ++ line)) (has_line_feed piece) p.ended) new = rw (← cut_line) held in
+        let fault_is : cut_fault rule (kept (p.rest ++ line)) (has_line_feed piece) p.ended ≡ None = rw (← line_is) fault in
+        let held_is : holds (lines_after (kept (p.rest ++ line)) (has_line_feed piece) p.ended) new = rw (← line_is) held in
         let none = part_undecided fault in
-        (none, rw cut_begun (part_open (has_line_feed piece) (is_too_long (p.rest ++ line)) text (take (bytes_used piece) piece) line lines new (parts_of-first piece) refl none open_is.lines_are fault_is held_is))
+        (none, rw line_is (part_open (has_line_feed piece) (is_too_long (p.rest ++ line)) text (take (bytes_used piece) piece) line lines new (parts_of-first piece) refl none open_is.lines_are fault_is held_is))
 
-    pub part_fails : (f : Fault) → cut_fault rule (cut_after cutter piece).line (has_line_feed piece) (parts_of text).ended ≡ Some f
+    pub part_fails : (f : Fault) → cut_fault rule (part_line cutter piece) (has_line_feed piece) (parts_of text).ended ≡ Some f
         → decided rule (text ++ take (bytes_used piece) piece) ≡ Some (text_fault.Fault (number_of f) (min (lines + 1) (2 ^ 64 - 1)))
     part_fails f fault =
         let line = before_first is_line_feed piece in let p = parts_of text in
-        let fault_is : cut_fault rule (kept (p.rest ++ line)) (has_line_feed piece) p.ended ≡ Some f = rw (← cut_line) fault in
+        let fault_is : cut_fault rule (kept (p.rest ++ line)) (has_line_feed piece) p.ended ≡ Some f = rw (← line_is) fault in
         let found = decided_part rule text (take (bytes_used piece) piece) (has_line_feed piece) line (parts_of-first piece) open_is.undecided in
         let count : counted (length p.ended + 1) ≡ min (lines + 1) (2 ^ 64 - 1) = rw open_is.lines_are (omega arith) in
         found ∙ ap (λ (f : Option Fault). or_else f (length p.ended + 1) None) fault_is ∙ ap (λ (n : ℕ). Some (text_fault.Fault (number_of f) n)) count
 
   -- ---- by what the calls ensure
 
-  pub part_taken : (text piece : List ℕ) (cutter after : Cut) (taker new : T) (lines used : ℕ) (complete : Bool) → 0 < length piece → used ≡ bytes_used piece → complete ≡ has_line_feed piece → after ≡ cut_after cutter piece
-      → ((before : List Line) → holds before taker → (cut_fault rule after.line complete before ≡ None) × holds (lines_after after.line complete before) new) → IsOpen rule holds text lines taker (begun_line cutter)
+  pub part_taken : (text piece : List ℕ) (cutter after : Cut) (taker new : T) (lines used : ℕ) (complete : Bool) → 0 < length piece → used ≡ bytes_used piece → complete ≡ has_line_feed piece
+      → ((before : List Line) → holds before taker → PartTaken rule holds before cutter piece after new) → IsOpen rule holds text lines taker (begun_line cutter)
       → (decided rule (text ++ take used piece) ≡ None) × IsOpen rule holds (text ++ take used piece) (lines_with complete lines) new (begun_line after)
-  part_taken text piece cutter after taker new lines used complete some used_is complete_is after_is taken open_is =
+  part_taken text piece cutter after taker new lines used complete some used_is complete_is taken open_is =
       let t = taken (parts_of text).ended open_is.held in
-      let fault : cut_fault rule (cut_after cutter piece).line (has_line_feed piece) (parts_of text).ended ≡ None = rw (← after_is, ← complete_is) t.0 in
-      let held : holds (lines_after (cut_after cutter piece).line (has_line_feed piece) (parts_of text).ended) new = rw (← after_is, ← complete_is) t.1 in
-      rw (used_is, complete_is, after_is) (part_ok text piece cutter taker lines some open_is new fault held)
+      rw (t.begun_is, used_is, complete_is) (part_ok text piece cutter taker lines some open_is new t.faultless t.held)
 
 pub whole_piece : (rule : Rule) (text piece : List ℕ) (used : ℕ) (fault : TextFault) → decided rule (text ++ take used piece) ≡ Some fault → decided rule (text ++ piece) ≡ Some fault
 whole_piece rule text piece used fault e =
     let whole : (text ++ take used piece) ++ drop used piece ≡ text ++ piece = append_assoc text (take used piece) (drop used piece) ∙ ap (λ (p : List ℕ). text ++ p) (take-append-drop used piece) in
     sym (ap (decided rule) whole) ∙ decided-append rule (text ++ take used piece) (drop used piece) fault e
 
-pub piece_failed : {T : Type 0} (rule : Rule) (holds : List Line → T → Type 0) (e : LineError) (text piece : List ℕ) (cutter after : Cut) (taker : T) (lines : ℕ) (complete : Bool) → 0 < length piece → complete ≡ has_line_feed piece → after ≡ cut_after cutter piece
-    → ((before : List Line) → holds before taker → ReportsCut rule e after.line complete before) → IsOpen rule holds text lines taker (begun_line cutter)
+pub piece_failed : {T : Type 0} (rule : Rule) (holds : List Line → T → Type 0) (e : LineError) (text piece : List ℕ) (cutter : Cut) (taker : T) (lines : ℕ) → 0 < length piece
+    → ((before : List Line) → holds before taker → ReportsCut rule e (part_line cutter piece) (has_line_feed piece) before) → IsOpen rule holds text lines taker (begun_line cutter)
     → Tells rule (located e (min (lines + 1) (2 ^ 64 - 1))) text piece
-piece_failed rule holds line_error.Memory text piece cutter after taker lines complete some complete_is after_is reported open_is =
+piece_failed rule holds line_error.Memory text piece cutter taker lines some reported open_is =
     let r = reported (parts_of text).ended open_is.held in
-    let fault : cut_fault rule (cut_after cutter piece).line (has_line_feed piece) (parts_of text).ended ≡ None = rw (← after_is, ← complete_is) r.0 in
-    part_ends rule holds text piece cutter taker lines some open_is (sym complete_is ∙ r.1) fault
-piece_failed rule holds (line_error.Fault f) text piece cutter after taker lines complete some complete_is after_is reported open_is =
-    let fault : cut_fault rule (cut_after cutter piece).line (has_line_feed piece) (parts_of text).ended ≡ Some f = rw (← after_is, ← complete_is) (reported (parts_of text).ended open_is.held) in
-    whole_piece rule text piece (bytes_used piece) _ (part_fails rule holds text piece cutter taker lines some open_is f fault)
+    part_ends rule holds text piece cutter taker lines some open_is r.1 r.0
+piece_failed rule holds (line_error.Fault f) text piece cutter taker lines some reported open_is =
+    whole_piece rule text piece (bytes_used piece) _ (part_fails rule holds text piece cutter taker lines some open_is f (reported (parts_of text).ended open_is.held))
 
 -- want of memory is never decided
 no_memory_by : (here : Option Fault) (line : ℕ) (later : Option TextFault) → later ≢ Some text_fault.Memory → or_else here line later ≢ Some text_fault.Memory

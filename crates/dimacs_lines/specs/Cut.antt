@@ -43,6 +43,20 @@ abbrev pub cut_after : Cut → List ℕ → Cut
 cut_after cut [] = cut
 cut_after cut (byte ∷ bytes) = record { line = extended (begun_line cut) (before_first is_line_feed (byte ∷ bytes)); complete = has_line_feed (byte ∷ bytes) }
 
+-- the line that the bytes of a piece up to its first LF go to, with them
+abbrev pub part_line : Cut → List ℕ → Option Line
+part_line cut piece = extended (begun_line cut) (before_first is_line_feed piece)
+
+-- the line that is begun, after one part more
+abbrev pub begun_with : Bool → Option Line → Option Line
+begun_with complete line = if complete then Some [] else line
+
+-- a line that stands whole at the front of a piece, with its LF
+pub record IsWhole (line : Line) (piece : List ℕ) : Type 0 where
+  pub line_is : line ≡ before_first is_line_feed piece
+  pub ended : has_line_feed piece ≡ true
+  pub fits : is_too_long line ≡ false
+
 -- the cutter holds the line that a text leaves unended, or that it is too long
 abbrev pub HoldsRest : Cut → List ℕ → Type 0
 HoldsRest cut text = begun_line cut ≡ kept (parts_of text).rest

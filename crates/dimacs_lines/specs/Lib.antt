@@ -2,6 +2,7 @@ pub mod Lines
 pub mod Cut
 pub mod Fault
 pub mod Fields
+pub mod Digits
 pub mod Checks
 pub mod Stream
 pub mod Reader

@@ -8,7 +8,7 @@ use Rattle.dimacs_lines.specs.declared.fault.TextFault.{TextFault}
 use Rattle.dimacs_lines.specs.declared.fault.TextFault.TheVariants as text_fault
 use Rattle.dimacs_lines.specs.Fault.{number_of}
 use Rattle.dimacs_lines.specs.Lines.{Line, Parts, parts_of, lines_of, is_too_long}
-use Rattle.dimacs_lines.specs.Cut.{kept}
+use Rattle.dimacs_lines.specs.Cut.{Cut, kept, begun_line, part_line, begun_with, has_line_feed}
 
 -- the fault of a line that fits, among the lines before it
 abbrev pub Rule : Type 0
@@ -79,6 +79,16 @@ module _ {T : Type 0} where
   abbrev pub TakesCut : Rule → (List Line → T → Type 0) → Result (Unit {0}) LineError → List Line → Option Line → Bool → T → Type 0
   TakesCut rule holds (Ok _) before line complete new = (cut_fault rule line complete before ≡ None) × holds (lines_after line complete before) new
   TakesCut rule holds (Err e) before line complete new = ReportsCut rule e line complete before
+
+  -- the bytes of a piece through its first LF were taken: what stands of a line after them, and what is held
+  pub record PartTaken (rule : Rule) (holds : List Line → T → Type 0) (before : List Line) (old : Cut) (piece : List ℕ) (cut : Cut) (new : T) : Type 0 where
+    pub begun_is : begun_line cut ≡ begun_with (has_line_feed piece) (part_line old piece)
+    pub faultless : cut_fault rule (part_line old piece) (has_line_feed piece) before ≡ None
+    pub held : holds (lines_after (part_line old piece) (has_line_feed piece) before) new
+
+  abbrev pub TakesPart : {A : Type 0} → Rule → (List Line → T → Type 0) → Result A LineError → List Line → Cut → List ℕ → Cut → T → Type 0
+  TakesPart rule holds (Ok _) before old piece cut new = PartTaken rule holds before old piece cut new
+  TakesPart rule holds (Err e) before old piece cut new = ReportsCut rule e (part_line old piece) (has_line_feed piece) before
 
   -- nothing is decided, and this is what the text leaves
   pub record IsOpen (rule : Rule) (holds : List Line → T → Type 0) (text : List ℕ) (lines : ℕ) (taker : T) (begun : Option Line) : Type 0 where

@@ -1,10 +1,10 @@
 //! Cutting a text that comes in pieces into lines.
 
-ghost use Rattle.std.specs.Prelude.{◌≡◌, ◌↔◌, ◌<◌, ◌≤◌, ◌≢◌, false, [], ◌++◌, length, take, List, ℕ, IsTrue, Some, None};
+ghost use Rattle.std.specs.Prelude.{◌≡◌, ◌↔◌, ◌<◌, ◌≤◌, ◌≢◌, false, [], ◌++◌, length, take, List, ℕ, IsTrue, IfSome, Some, None};
 ghost use Rattle.std.specs.List.{position_or_len};
 ghost use Rattle.std.specs.Option.{option_map};
 ghost use Rattle.dimacs_lines.specs.Lines.{is_line_feed, is_too_long};
-ghost use Rattle.dimacs_lines.specs.Cut.{begun_line, is_begun, extended, HoldsRest, CutsLine, bytes_used, has_line_feed, cut_after};
+ghost use Rattle.dimacs_lines.specs.Cut.{begun_line, is_begun, extended, HoldsRest, CutsLine, bytes_used, has_line_feed, cut_after, IsWhole};
 
 use arrayvec::ArrayVec;
 use memchr::memchr;
@@ -118,9 +118,26 @@ impl LineCutter {
     }
 }
 
-/// How many bytes stand before the first LF, or at all where there is none.
+/// The line that a piece begins with, where all of it stands there and it is not too long.
+#[inline(always)]
+pub(crate) fn whole_line(piece: &[u8]) -> Option<&[u8]>
+    ensures { IfSome result (λ line. IsWhole line.now piece.now) }
+{
+    let length = line_length(piece);
+    if length < piece.len() && length <= LINE_LIMIT {
+        Some(&piece[..length])
+    } else {
+        None
+    }
+}
+
+/// How many bytes stand before the first LF, or at all where there is none. An empty line is not searched.
+#[inline(always)]
 fn line_length(piece: &[u8]) -> usize
     ensures { result ≡ position_or_len is_line_feed piece.now }
 {
-    memchr(b'\n', piece).unwrap_or(piece.len())
+    match piece {
+        [b'\n', ..] => 0,
+        _ => memchr(b'\n', piece).unwrap_or(piece.len()),
+    }
 }

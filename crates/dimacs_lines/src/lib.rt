@@ -17,9 +17,7 @@ pub use cutter::{LINE_LIMIT, LineCutter};
 pub use fault::{Fault, LineError, TextFault};
 pub use limits::limits_are;
 pub use name::{NAME_LIMIT, Name, names_are_compared};
-pub use numbers::{
-    DIGIT_LIMIT, VALUE_DIGIT_LIMIT, claimed_value, integer, integer_in, natural, natural_in,
-};
+pub use numbers::{DIGIT_LIMIT, VALUE_DIGIT_LIMIT, claimed_value, integer_in, natural_in};
 pub use reader::{LineTaker, TextReader};
 pub use sequence::Sequence;
-pub use words::{Words, is_blank};
+pub use words::{Word, Words, is_blank};

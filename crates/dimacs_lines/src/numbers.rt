@@ -1,11 +1,13 @@
 //! The numbers that words spell.
 
-ghost use Rattle.std.specs.Prelude.{◌≡◌, ◌<◌, ◌≤◌, ◌*◌, ◌^◌, IfSome, IfOk, pos, ◌≤ℤ◌, neg_ℤ};
+ghost use Rattle.std.specs.Prelude.{◌≡◌, ◌<◌, ◌≤◌, ◌-◌, length, drop, ◌*◌, ◌^◌, IfSome, IfOk, pos, ◌≤ℤ◌, neg_ℤ};
 ghost use Rattle.dimacs_lines.specs.declared.numbers.TheConstants.{DIGIT_LIMIT, VALUE_DIGIT_LIMIT};
 ghost use Rattle.dimacs_lines.specs.Fields.{natural, natural_within, integer, claimed_value, is_negative, without_sign};
+ghost use Rattle.dimacs_lines.specs.Digits.{FrontDigits};
 ghost use Rattle.dimacs_lines.specs.Checks.{natural_in, integer_in};
 
 use crate::fault::Fault;
+use crate::words::Word;
 
 /// The most digits of a number.
 pub const DIGIT_LIMIT: usize = 18;
@@ -15,26 +17,40 @@ pub const VALUE_DIGIT_LIMIT: usize = 30;
 const BACK_UNIT: u128 = 1_000_000_000_000_000_000;
 
 /// The number that one to 18 digits spell.
-pub fn natural(word: &[u8]) -> Option<u64>
+fn natural(word: &[u8]) -> Option<u64>
     ensures value { result ≡ natural word.now }
     ensures below { IfSome result (λ value. value < 10 ^ DIGIT_LIMIT) }
 {
-    if word.is_empty() || word.len() > DIGIT_LIMIT {
+    let (value, end) = digits_from(word, 0);
+    if word.is_empty() || end < word.len() || end > DIGIT_LIMIT {
         return None;
-    }
-    let mut value = 0;
-    for byte in word {
-        if !byte.is_ascii_digit() {
-            return None;
-        }
-        value = value * 10 + u64::from(*byte - b'0');
     }
     Some(value)
 }
 
+/// Where the digits end that stand from this place on, and the number that they spell where they are at most
+/// `DIGIT_LIMIT`.
+#[inline(always)]
+pub(crate) fn digits_from(line: &[u8], from: usize) -> (u64, usize)
+    requires { from ≤ length line.now }
+    ensures place { from ≤ result.1 }
+    ensures digits { FrontDigits result.0 (result.1 - from) (drop from line.now) }
+{
+    let mut value = 0u64;
+    for at in from..line.len() {
+        let digit = u64::from(line[at]).wrapping_sub(u64::from(b'0'));
+        if digit > 9 {
+            return (value, at);
+        }
+        value = value.wrapping_mul(10).wrapping_add(digit);
+    }
+    (value, line.len())
+}
+
 /// The number that one to 18 digits spell, after one `-` or none.
+#[inline(never)]
 #[tactic(auto, unfolding(crate::specs::Fields::integer))]
-pub fn integer(word: &[u8]) -> Option<i64>
+pub(crate) fn integer(word: &[u8]) -> Option<i64>
     ensures { result ≡ integer word.now }
 {
     let (negative, digits) = split_sign(word);
@@ -82,11 +98,12 @@ fn split_sign(word: &[u8]) -> (bool, &[u8])
 }
 
 /// The number of a field without sign, from `low` to `high`: first its shape is tested, then its range.
-pub fn natural_in(word: &[u8], low: u64, high: u64) -> Result<u64, Fault>
-    ensures value { result ≡ natural_in low high word.now }
+#[inline(always)]
+pub fn natural_in(word: Word, low: u64, high: u64) -> Result<u64, Fault>
+    ensures value { result ≡ natural_in low high word.entry }
     ensures range { IfOk result (λ value. (low ≤ value) × (value ≤ high)) }
 {
-    match natural(word) {
+    match word.natural() {
         None => Err(Fault::NotANumber),
         Some(value) => {
             if low <= value && value <= high {
@@ -99,12 +116,13 @@ pub fn natural_in(word: &[u8], low: u64, high: u64) -> Result<u64, Fault>
 }
 
 /// The number of a field with a sign, at most the limit either way: first its shape is tested, then its range.
-pub fn integer_in(word: &[u8], limit: i64) -> Result<i64, Fault>
+#[inline(always)]
+pub fn integer_in(word: Word, limit: i64) -> Result<i64, Fault>
     requires { pos 0 ≤ℤ limit }
-    ensures value { result ≡ integer_in limit word.now }
+    ensures value { result ≡ integer_in limit word.entry }
     ensures range { IfOk result (λ value. (neg_ℤ limit ≤ℤ value) × (value ≤ℤ limit)) }
 {
-    match integer(word) {
+    match word.integer() {
         None => Err(Fault::NotANumber),
         Some(value) => {
             if -limit <= value && value <= limit {

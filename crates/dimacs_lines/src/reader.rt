@@ -3,9 +3,10 @@
 ghost use Rattle.std.specs.Prelude.{◌≡◌, ◌<◌, ◌≤◌, List, ℕ, [], ◌++◌, Option, Err, IfOk, IfErr, length};
 ghost use Rattle.dimacs_lines.specs.declared.fault.Fault.{Fault};
 ghost use Rattle.dimacs_lines.specs.declared.fault.TextFault.{TextFault};
-ghost use Rattle.dimacs_lines.specs.Stream.{TakesLine, TakesCut, EndsWell};
+ghost use Rattle.dimacs_lines.specs.Cut.{bytes_used, has_line_feed};
+ghost use Rattle.dimacs_lines.specs.Stream.{TakesLine, TakesCut, TakesPart, EndsWell};
 
-use crate::cutter::LineCutter;
+use crate::cutter::{LineCutter, whole_line};
 use crate::fault::{Fault, LineError, TextFault};
 
 /// What takes the lines of a text, one after the other.
@@ -44,6 +45,29 @@ fn take_cut<T: LineTaker>(
             }
         }
     }
+}
+
+/// Takes the piece through its first LF, and answers how many bytes and whether a line is complete. A line that stands
+/// whole in the piece is taken as it stands; the cutter joins the others.
+fn take_part<T: LineTaker>(
+    cutter: &mut LineCutter,
+    taker: &mut T,
+    piece: &[u8],
+) -> Result<(usize, bool), LineError>
+    requires { 0 < length piece.now }
+    ensures part { IfOk result (λ part. (part.0 ≡ bytes_used piece.now) × (part.1 ≡ has_line_feed piece.now)) }
+    ensures taken { (setting : T.Setting) (before : List (List ℕ)) → T.holds setting before taker.old
+        → TakesPart (T.rule setting) (T.holds setting) result before cutter.old piece.now cutter.new taker.new }
+{
+    if !cutter.begun() {
+        if let Some(line) = whole_line(piece) {
+            taker.take_line(line)?;
+            return Ok((line.len() + 1, true));
+        }
+    }
+    let (used, complete) = cutter.take(piece);
+    take_cut(cutter, complete, taker)?;
+    Ok((used, complete))
 }
 
 /// A reader of a text, which holds one line of it beside what its taker holds.
@@ -102,10 +126,9 @@ impl<T: LineTaker> TextReader<T> {
         if let Some(failure) = self.failure {
             return Err(failure);
         }
-        let (used, complete) = self.cutter.take(piece);
         let line = self.lines.saturating_add(1);
-        match take_cut(&self.cutter, complete, &mut self.taker) {
-            Ok(()) => {
+        match take_part(&mut self.cutter, &mut self.taker, piece) {
+            Ok((used, complete)) => {
                 if complete {
                     self.lines = line;
                 }

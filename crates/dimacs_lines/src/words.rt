@@ -1,12 +1,77 @@
 //! The words of a line.
 
-ghost use Rattle.std.specs.Prelude.{◌≡◌, ◌≢◌, ◌↔◌, IsTrue, ◌∷◌, [], ◌<◌, ◌≤◌, length, not, MatchOption, MatchResult};
+ghost use Rattle.std.specs.Prelude.{◌≡◌, ◌≢◌, ◌↔◌, IsTrue, ◌∷◌, [], ◌<◌, ◌≤◌, ◌+◌, length, drop, min, not, if◌then◌else◌, Some, EachIndex, slice_index, slice_index_or, IfSome, MatchOption, MatchResult, ◌^◌};
 ghost use Rattle.std.specs.List.{position_or_len};
-ghost use Rattle.dimacs_lines.specs.Fields.{is_blank, words_of};
+ghost use Rattle.dimacs_lines.specs.Fields.{is_blank, words_of, natural};
 ghost use Rattle.dimacs_lines.specs.declared.fault.Fault.TheVariants as Fault;
 
 use crate::fault::Fault;
+use crate::numbers::{DIGIT_LIMIT, digits_from, integer};
 use std::marker::Model;
+
+/// A word of a line. The number that it spells is known from where it was split.
+#[derive(Drop)]
+pub struct Word<'a> {
+    bytes: &'a [u8],
+    number: Option<u64>,
+}
+
+impl<'a> Model for Word<'a> {
+    ghost use Rattle.std.specs.Prelude.{◌≡◌, List, ℕ};
+    ghost use Rattle.dimacs_lines.specs.Fields.{natural};
+
+    ghost Value = { List ℕ };
+
+    ghost view = { λ w. w.bytes.now };
+
+    ghost invariant = { λ w. w.number ≡ natural w.bytes.now };
+}
+
+impl<'a> Word<'a> {
+    ghost use Rattle.dimacs_lines.specs.declared.numbers.TheConstants.{DIGIT_LIMIT};
+    ghost use Rattle.dimacs_lines.specs.Fields.{integer};
+    ghost use Rattle.dimacs_lines.specs.Digits.{FrontDigits};
+
+    /// The word of these bytes, which begin with so many digits that spell the value.
+    #[inline(always)]
+    fn new(bytes: &'a [u8], value: u64, digits: usize) -> Self
+        requires bytes { 0 < length bytes.now }
+        requires digits { FrontDigits value digits bytes.now }
+        ensures { result ≡ bytes.now }
+    {
+        let number = if digits == bytes.len() && digits <= DIGIT_LIMIT {
+            Some(value)
+        } else {
+            None
+        };
+        Word { bytes, number }
+    }
+
+    /// Its bytes.
+    pub fn bytes(&self) -> &'a [u8]
+        ensures { result.now ≡ self.now }
+    {
+        self.bytes
+    }
+
+    /// The number that it spells without a sign.
+    pub fn natural(&self) -> Option<u64>
+        ensures value { result ≡ natural self.now }
+        ensures below { IfSome result (λ value. value < 10 ^ DIGIT_LIMIT) }
+    {
+        self.number
+    }
+
+    /// The number that it spells after one `-` or none.
+    pub fn integer(&self) -> Option<i64>
+        ensures { result ≡ integer self.now }
+    {
+        match self.natural() {
+            Some(value) => Some(value as i64),
+            None => integer(self.bytes),
+        }
+    }
+}
 
 /// The words that are left of a line.
 #[derive(Drop)]
@@ -32,22 +97,55 @@ impl<'a> Words<'a> {
     }
 
     /// Takes the next word, if there is one.
-    pub fn next(&mut self) -> Option<&'a [u8]>
-        ensures { MatchOption result ((self.old ≡ []) × (self.new ≡ [])) (λ word. self.old ≡ word.now ∷ self.new) }
+    #[inline(always)]
+    pub fn next(&mut self) -> Option<Word<'a>>
+        ensures { MatchOption result ((self.old ≡ []) × (self.new ≡ [])) (λ word. self.old ≡ word ∷ self.new) }
     {
         let (word, rest) = split_word(self.rest)?;
         self.rest = rest;
         Some(word)
     }
 
+    /// The same words once more.
+    pub fn again(&self) -> Words<'a>
+        ensures { result ≡ self.now }
+    {
+        Words { rest: self.rest }
+    }
+
+    /// Takes as many words as there are values, and writes the number of each, where each spells one without a sign. Else
+    /// no word is taken.
+    #[inline(never)]
+    pub fn naturals(&mut self, values: &mut [u64]) -> bool
+        ensures numbers { IsTrue result → EachIndex values.new (λ place. natural (slice_index_or self.old place []) ≡ Some (slice_index values.new place)) }
+        ensures enough { IsTrue result → length values.new ≤ length self.old }
+        ensures rest { self.new ≡ (if result then drop (length values.new) self.old else self.old) }
+    {
+        let mut rest = self.rest;
+        for value in values.iter_mut() {
+            let Some((word, others)) = split_word(rest) else {
+                return false;
+            };
+            let Some(number) = word.natural() else {
+                return false;
+            };
+            *value = number;
+            rest = others;
+        }
+        self.rest = rest;
+        true
+    }
+
     /// Takes the next word, which has to be there.
-    fn word(&mut self) -> Result<&'a [u8], Fault>
-        ensures { MatchResult result (λ word. self.old ≡ word.now ∷ self.new) (λ fault. (fault ≡ Fault.WrongFieldCount) × (self.old ≡ [])) }
+    #[inline(always)]
+    fn word(&mut self) -> Result<Word<'a>, Fault>
+        ensures { MatchResult result (λ word. self.old ≡ word ∷ self.new) (λ fault. (fault ≡ Fault.WrongFieldCount) × (self.old ≡ [])) }
     {
         self.next().ok_or(Fault::WrongFieldCount)
     }
 
     /// No word may be left, else `WrongFieldCount`.
+    #[inline(always)]
     pub fn none(mut self) -> Result<(), Fault>
         ensures { MatchResult result (λ _. self.entry ≡ []) (λ fault. (fault ≡ Fault.WrongFieldCount) × (length self.entry ≢ 0)) }
     {
@@ -58,8 +156,9 @@ impl<'a> Words<'a> {
     }
 
     /// The only word that is left, or `WrongFieldCount`.
-    pub fn one(mut self) -> Result<&'a [u8], Fault>
-        ensures { MatchResult result (λ word. self.entry ≡ word.now ∷ []) (λ fault. (fault ≡ Fault.WrongFieldCount) × (length self.entry ≢ 1)) }
+    #[inline(always)]
+    pub fn one(mut self) -> Result<Word<'a>, Fault>
+        ensures { MatchResult result (λ word. self.entry ≡ word ∷ []) (λ fault. (fault ≡ Fault.WrongFieldCount) × (length self.entry ≢ 1)) }
     {
         let word = self.word()?;
         self.none()?;
@@ -67,8 +166,8 @@ impl<'a> Words<'a> {
     }
 
     /// The two words that are left, or `WrongFieldCount`.
-    pub fn two(mut self) -> Result<(&'a [u8], &'a [u8]), Fault>
-        ensures { MatchResult result (λ words. self.entry ≡ words.0.now ∷ words.1.now ∷ [])
+    pub fn two(mut self) -> Result<(Word<'a>, Word<'a>), Fault>
+        ensures { MatchResult result (λ words. self.entry ≡ words.0 ∷ words.1 ∷ [])
             (λ fault. (fault ≡ Fault.WrongFieldCount) × (length self.entry ≢ 2)) }
     {
         let first = self.word()?;
@@ -77,8 +176,8 @@ impl<'a> Words<'a> {
     }
 
     /// The three words that are left, or `WrongFieldCount`.
-    pub fn three(mut self) -> Result<(&'a [u8], &'a [u8], &'a [u8]), Fault>
-        ensures { MatchResult result (λ words. self.entry ≡ words.0.now ∷ words.1.now ∷ words.2.now ∷ [])
+    pub fn three(mut self) -> Result<(Word<'a>, Word<'a>, Word<'a>), Fault>
+        ensures { MatchResult result (λ words. self.entry ≡ words.0 ∷ words.1 ∷ words.2 ∷ [])
             (λ fault. (fault ≡ Fault.WrongFieldCount) × (length self.entry ≢ 3)) }
     {
         let first = self.word()?;
@@ -87,9 +186,9 @@ impl<'a> Words<'a> {
     }
 
     /// The five words that are left, or `WrongFieldCount`.
-    pub fn five(mut self) -> Result<(&'a [u8], &'a [u8], &'a [u8], &'a [u8], &'a [u8]), Fault>
+    pub fn five(mut self) -> Result<(Word<'a>, Word<'a>, Word<'a>, Word<'a>, Word<'a>), Fault>
         ensures { MatchResult result
-            (λ words. self.entry ≡ words.0.now ∷ words.1.now ∷ words.2.now ∷ words.3.now ∷ words.4.now ∷ [])
+            (λ words. self.entry ≡ words.0 ∷ words.1 ∷ words.2 ∷ words.3 ∷ words.4 ∷ [])
             (λ fault. (fault ≡ Fault.WrongFieldCount) × (length self.entry ≢ 5)) }
     {
         let first = self.word()?;
@@ -106,36 +205,69 @@ pub fn is_blank(line: &[u8]) -> bool
     split_word(line).is_none()
 }
 
-/// The first word of a line, and the line after it.
-fn split_word(line: &[u8]) -> Option<(&[u8], &[u8])>
-    ensures words { MatchOption result (words_of line.now ≡ []) (λ parts. words_of line.now ≡ parts.0.now ∷ words_of parts.1.now) }
+/// The first word of a line, and the line after it and the blank that ends it.
+#[inline(always)]
+fn split_word(line: &[u8]) -> Option<(Word<'_>, &[u8])>
+    ensures words { MatchOption result (words_of line.now ≡ []) (λ parts. words_of line.now ≡ parts.0 ∷ words_of parts.1.now) }
     ensures shorter { MatchOption result (0 ≤ length line.now) (λ parts. length parts.1.now < length line.now) }
 {
-    let begun = &line[blanks(line)..];
-    if begun.is_empty() {
+    let begin = solid_from(line, 0);
+    if begin == line.len() {
         return None;
     }
-    Some(begun.split_at(word_length(begun)))
+    let (value, digits_end) = digits_from(line, begin);
+    let (end, next) = blank_from(line, digits_end);
+    let word = Word::new(&line[begin..end], value, digits_end - begin);
+    Some((word, &line[next..]))
 }
 
-/// How many blanks a line begins with.
-fn blanks(line: &[u8]) -> usize
-    ensures place { result ≡ position_or_len (λ byte. not (is_blank byte)) line.now }
+/// The first place from this one on where no blank stands, or the end of the line.
+#[inline(always)]
+fn solid_from(line: &[u8], from: usize) -> usize
+    requires { from ≤ length line.now }
+    ensures place { result ≡ from + position_or_len (λ byte. not (is_blank byte)) (drop from line.now) }
     ensures within { result ≤ length line.now }
 {
-    line.iter()
-        .position(|byte| !is_blank_byte(*byte))
-        .unwrap_or(line.len())
+    for at in from..line.len() {
+        if !is_blank_byte(line[at]) {
+            return at;
+        }
+    }
+    line.len()
 }
 
-/// How many bytes stand before the first blank.
-fn word_length(line: &[u8]) -> usize
-    ensures place { result ≡ position_or_len is_blank line.now }
-    ensures within { result ≤ length line.now }
+/// The first place from this one on where a blank stands, and the one after it; or the end of the line, twice. Mostly
+/// it is this one.
+#[inline(always)]
+fn blank_from(line: &[u8], from: usize) -> (usize, usize)
+    requires { from ≤ length line.now }
+    ensures place { result.0 ≡ from + position_or_len is_blank (drop from line.now) }
+    ensures next { result.1 ≡ min (result.0 + 1) (length line.now) }
+    ensures within { result.0 ≤ length line.now }
 {
-    line.iter()
-        .position(|byte| is_blank_byte(*byte))
-        .unwrap_or(line.len())
+    if from == line.len() {
+        return (from, from);
+    }
+    if is_blank_byte(line[from]) {
+        return (from, from + 1);
+    }
+    later_blank(line, from)
+}
+
+/// The same, where it may be far.
+#[inline(never)]
+fn later_blank(line: &[u8], from: usize) -> (usize, usize)
+    requires { from ≤ length line.now }
+    ensures place { result.0 ≡ from + position_or_len is_blank (drop from line.now) }
+    ensures next { result.1 ≡ min (result.0 + 1) (length line.now) }
+    ensures within { result.0 ≤ length line.now }
+{
+    for at in from..line.len() {
+        if is_blank_byte(line[at]) {
+            return (at, at + 1);
+        }
+    }
+    (line.len(), line.len())
 }
 
 /// Space, tab and CR.

@@ -12,3 +12,4 @@ pub mod SaidLemmas
 pub mod BracketLemmas
 pub mod GroupLemmas
 pub mod TurnLemmas
+pub mod PlainLemmas

@@ -6,9 +6,7 @@ ghost use Rattle.dimacs_text.specs.Answer.{Takes, TakesAs, read_value, read_flow
 
 use crate::answer::{Answer, FlowLine};
 use crate::answer_line::AnswerLine;
-use dimacs_lines::{
-    Fault, LineError, Sequence, Words, claimed_value, integer, natural, natural_in,
-};
+use dimacs_lines::{Fault, LineError, Sequence, Words, claimed_value, natural_in};
 use std::alloc::Global;
 use std::marker::Model;
 
@@ -62,7 +60,7 @@ impl AnswerDraft {
         let Some(first) = words.next() else {
             return Ok(());
         };
-        match AnswerLine::of(first) {
+        match AnswerLine::of(first.bytes()) {
             AnswerLine::Comment => Ok(()),
             AnswerLine::Value => self.take_value(words),
             AnswerLine::Flow => self.take_flow(words),
@@ -132,7 +130,7 @@ impl AnswerDraft {
             return Err(Fault::OutOfOrder);
         }
         let word = fields.one()?;
-        claimed_value(word).ok_or(Fault::NotANumber)
+        claimed_value(word.bytes()).ok_or(Fault::NotANumber)
     }
 
     /// What an `f` line says, after its designator.
@@ -147,7 +145,7 @@ impl AnswerDraft {
         let nodes = u64::from(self.nodes);
         let tail = natural_in(tail, 1, nodes)? as u32;
         let head = natural_in(head, 1, nodes)? as u32;
-        let flow = natural(flow).ok_or(Fault::NotANumber)? as i64;
+        let flow = flow.natural().ok_or(Fault::NotANumber)? as i64;
         Ok(FlowLine { tail, head, flow })
     }
 
@@ -164,7 +162,7 @@ impl AnswerDraft {
         }
         let (id, potential) = fields.two()?;
         let id = natural_in(id, 1, u64::from(self.nodes))?;
-        let potential = integer(potential).ok_or(Fault::NotANumber)?;
+        let potential = potential.integer().ok_or(Fault::NotANumber)?;
         if id != self.potentials.len() as u64 + 1 {
             return Err(Fault::OutOfOrder);
         }
@@ -180,7 +178,7 @@ impl AnswerDraft {
             return Err(Fault::OutOfOrder);
         }
         let shortage = fields.one()?;
-        let shortage = natural(shortage).ok_or(Fault::NotANumber)? as i64;
+        let shortage = shortage.natural().ok_or(Fault::NotANumber)? as i64;
         Ok(shortage)
     }
 

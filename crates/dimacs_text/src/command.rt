@@ -8,7 +8,7 @@ ghost use Rattle.dimacs_lines.specs.Lines.{Line};
 ghost use Rattle.dimacs_text.specs.Command.{asked, command, opens_group, ends_group, verb_of, is_for, read_words, read_by, read_bare, read_name, read_cap, read_low, read_cost, read_supply, read_add, read_min_arc, read_max_arc, read_asn_arc, read_close, as_edit};
 
 use crate::problem::{CAP_LIMIT, COST_LIMIT, Kind, SUPPLY_LIMIT};
-use dimacs_lines::{Fault, LINE_LIMIT, Name, Words, integer_in, natural, natural_in};
+use dimacs_lines::{Fault, LINE_LIMIT, Name, Words, integer_in, natural_in};
 
 /// A change of an instance. Arcs and nodes are named by their numbers, counted from 1; whether they exist is not tested
 /// yet.
@@ -198,7 +198,7 @@ fn read_words(kind: Kind, mut words: Words) -> Result<Command, Fault>
     ensures { result ≡ read_words kind words.entry }
 {
     let first = words.next().ok_or(Fault::UnknownDesignator)?;
-    let verb = Verb::of(first).ok_or(Fault::UnknownDesignator)?;
+    let verb = Verb::of(first.bytes()).ok_or(Fault::UnknownDesignator)?;
     if !verb.is_for(kind) {
         return Err(Fault::NotForKind);
     }
@@ -250,7 +250,7 @@ fn read_bare(fields: Words, command: Command) -> Result<Command, Fault>
 fn read_name(fields: Words) -> Result<Name, Fault>
     ensures { result ≡ read_name fields.entry }
 {
-    Name::of(fields.one()?).ok_or(Fault::NotAName)
+    Name::of(fields.one()?.bytes()).ok_or(Fault::NotAName)
 }
 
 /// The fields of `cap K V`.
@@ -259,7 +259,7 @@ fn read_cap(fields: Words) -> Result<Edit, Fault>
     ensures { result ≡ read_cap fields.entry }
 {
     let (arc, cap) = fields.two()?;
-    let arc = natural(arc).ok_or(Fault::NotANumber)?;
+    let arc = arc.natural().ok_or(Fault::NotANumber)?;
     let cap = natural_in(cap, 0, CAP_LIMIT)? as i64;
     Ok(Edit::Cap { arc, cap })
 }
@@ -270,7 +270,7 @@ fn read_low(fields: Words) -> Result<Edit, Fault>
     ensures { result ≡ read_low fields.entry }
 {
     let (arc, low) = fields.two()?;
-    let arc = natural(arc).ok_or(Fault::NotANumber)?;
+    let arc = arc.natural().ok_or(Fault::NotANumber)?;
     let low = natural_in(low, 0, CAP_LIMIT)? as i64;
     Ok(Edit::Low { arc, low })
 }
@@ -281,7 +281,7 @@ fn read_cost(fields: Words) -> Result<Edit, Fault>
     ensures { result ≡ read_cost fields.entry }
 {
     let (arc, cost) = fields.two()?;
-    let arc = natural(arc).ok_or(Fault::NotANumber)?;
+    let arc = arc.natural().ok_or(Fault::NotANumber)?;
     let cost = integer_in(cost, COST_LIMIT)?;
     Ok(Edit::Cost { arc, cost })
 }
@@ -292,7 +292,7 @@ fn read_supply(fields: Words) -> Result<Edit, Fault>
     ensures { result ≡ read_supply fields.entry }
 {
     let (node, value) = fields.two()?;
-    let node = natural(node).ok_or(Fault::NotANumber)?;
+    let node = node.natural().ok_or(Fault::NotANumber)?;
     let value = integer_in(value, SUPPLY_LIMIT)?;
     Ok(Edit::Supply { node, value })
 }
@@ -314,8 +314,8 @@ fn read_min_arc(fields: Words) -> Result<Edit, Fault>
     ensures { result ≡ read_min_arc fields.entry }
 {
     let (tail, head, low, cap, cost) = fields.five()?;
-    let tail = natural(tail).ok_or(Fault::NotANumber)?;
-    let head = natural(head).ok_or(Fault::NotANumber)?;
+    let tail = tail.natural().ok_or(Fault::NotANumber)?;
+    let head = head.natural().ok_or(Fault::NotANumber)?;
     let low = natural_in(low, 0, CAP_LIMIT)? as i64;
     let cap = natural_in(cap, 0, CAP_LIMIT)? as i64;
     let cost = integer_in(cost, COST_LIMIT)?;
@@ -334,8 +334,8 @@ fn read_max_arc(fields: Words) -> Result<Edit, Fault>
     ensures { result ≡ read_max_arc fields.entry }
 {
     let (tail, head, cap) = fields.three()?;
-    let tail = natural(tail).ok_or(Fault::NotANumber)?;
-    let head = natural(head).ok_or(Fault::NotANumber)?;
+    let tail = tail.natural().ok_or(Fault::NotANumber)?;
+    let head = head.natural().ok_or(Fault::NotANumber)?;
     let cap = natural_in(cap, 0, CAP_LIMIT)? as i64;
     Ok(Edit::Add {
         tail,
@@ -352,8 +352,8 @@ fn read_asn_arc(fields: Words) -> Result<Edit, Fault>
     ensures { result ≡ read_asn_arc fields.entry }
 {
     let (tail, head, cost) = fields.three()?;
-    let tail = natural(tail).ok_or(Fault::NotANumber)?;
-    let head = natural(head).ok_or(Fault::NotANumber)?;
+    let tail = tail.natural().ok_or(Fault::NotANumber)?;
+    let head = head.natural().ok_or(Fault::NotANumber)?;
     let cost = integer_in(cost, COST_LIMIT)?;
     Ok(Edit::Add {
         tail,
@@ -370,6 +370,6 @@ fn read_close(fields: Words) -> Result<Edit, Fault>
     ensures { result ≡ read_close fields.entry }
 {
     let arc = fields.one()?;
-    let arc = natural(arc).ok_or(Fault::NotANumber)?;
+    let arc = arc.natural().ok_or(Fault::NotANumber)?;
     Ok(Edit::Close { arc })
 }

@@ -19,6 +19,7 @@ impl LineTaker for Draft {
 
     ghost holds = { λ _. holds_lines };
 
+    #[inline(always)]
     fn take_line(&mut self, line: &[u8]) -> Result<(), LineError> {
         self.take(line)
     }
