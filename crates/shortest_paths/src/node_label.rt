@@ -26,17 +26,20 @@ pub enum State {
 }
 
 /// What the search knows of a node: the length of the best path to it over reduced costs, how many arcs
-/// it has, and its last arc. A better path is one whose length, with the node's potential, is below the bound: so one
-/// number tells of most paths that they are no better.
+/// it has, and its last arc.
+///
+/// The long fields come first: so a label has 32 bytes, and searches go over many.
 #[derive(Clone, Copy)]
 pub struct NodeLabel {
-    pub state: State,
     pub distance: i64,
+    /// A path whose length, with the node's potential, is below this is better. So one number tells of most paths that
+    /// they are no better.
+    pub bound: i64,
     pub depth: u32,
     /// The row of the last arc, where there is one.
     pub arc: u32,
     pub way: Way,
-    pub bound: i64,
+    pub state: State,
 }
 
 impl NodeLabel {
