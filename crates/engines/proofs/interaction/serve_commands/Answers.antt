@@ -48,3 +48,9 @@ returns-in-Err-serve_rest-clause-served g c =
       Gives-none _ _ _ so_far.0 c.read.new.piece c.in-Ok-eq0.field-0 _ _ _ so_far.1 c.in-Ok-eq0.ensures.bytes.0 (omega arith) c.in-Ok-eq0.ensures.left,
       inr (c.in-Ok-eq0.ensures.bytes.1 (omega arith) (search rules), c.in-Err-serve_rest.ensures.rest _ _ _ so_far.2),
     )
+
+pub returns-in-Err-clause-served : goal.returns-in-Err-clause-served
+returns-in-Err-clause-served g c = search rules
+
+pub returns-in-Err-clause-failed : goal.returns-in-Err-clause-failed
+returns-in-Err-clause-failed g c = search rules

@@ -1,4 +1,4 @@
-use Rattle.std.proofs.Common.{false, true}
+use Rattle.std.proofs.Common.{false, rules, true}
 use Rattle.session.specs.Step.{Refuses, Shows, state_of}
 use Rattle.engines.proofs.ReplyLemmas.{end_step, group_step, proof_step, show_step}
 use Rattle.engines.proofs.reply.serve.Goals as goal
@@ -30,3 +30,15 @@ returns-in-End-clause-replies g c = record {
   step = end_step c.args.command (state_of c.args.session.now) c.in-End.is;
   writes = c.write_r-in-End.ensures.bytes;
 }
+
+pub returns-in-Undo-clause-replies : goal.returns-in-Undo-clause-replies
+returns-in-Undo-clause-replies g c = search rules
+
+pub returns-in-Redo-clause-replies : goal.returns-in-Redo-clause-replies
+returns-in-Redo-clause-replies g c = search rules
+
+pub returns-in-Mark-clause-replies : goal.returns-in-Mark-clause-replies
+returns-in-Mark-clause-replies g c = search rules
+
+pub returns-in-Back-clause-replies : goal.returns-in-Back-clause-replies
+returns-in-Back-clause-replies g c = search rules
