@@ -1,4 +1,4 @@
-use crate::{LineCutter, is_blank};
+use crate::{LineCutter, Words, is_blank};
 
 #[test]
 fn a_line_is_cut(rt: HostRuntime) {
@@ -10,5 +10,18 @@ fn a_line_is_cut(rt: HostRuntime) {
     match cutter.line() {
         Some(line) => assert!(rt; line == b" \t\r".as_slice() && is_blank(line)),
         None => panic!(rt; "the line fits"),
+    }
+}
+
+#[test]
+fn numbers_are_taken_at_once(rt: HostRuntime) {
+    let mut words = Words::new(b"12 \t007 -5\r");
+    let mut values = [0; 2];
+    assert!(rt; words.naturals(&mut values));
+    assert_eq!(rt; values, [12, 7]);
+    assert!(rt; !words.naturals(&mut values));
+    match words.one() {
+        Ok(word) => assert_eq!(rt; word.integer(), Some(-5)),
+        Err(_) => panic!(rt; "one word is left"),
     }
 }
