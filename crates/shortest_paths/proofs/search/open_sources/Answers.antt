@@ -1,10 +1,10 @@
-use Rattle.std.proofs.Common.{◌≡◌, ◌≢◌, ◌∙◌, ℕ, ◌≤ℤ◌, pos, ap, arith, inl, inr, rules, slice_set, subst, sym, w64, to_z, of_z, SFits}
+use Rattle.std.proofs.Common.{◌≡◌, ◌≢◌, ◌∙◌, ℕ, ◌≤ℤ◌, pos, ap, arith, rules, slice_set, subst, sym, w64, to_z, of_z, SFits}
 use Rattle.std.proofs.lemmas.Int.{ints, to_z-of_z}
 use Rattle.std.proofs.lemmas.List.{get_or-set_other}
 use Rattle.shortest_paths.specs.declared.node_label.NodeLabel.{NodeLabel}
 use Rattle.shortest_paths.specs.declared.node_label.State.TheVariants.{Unreached}
 use Rattle.residual_graph.specs.Residual.{number_at}
-use Rattle.shortest_paths.specs.Search.{HaveBounds, source_node_label, state_at}
+use Rattle.shortest_paths.specs.Search.{HaveBounds, state_at}
 use Rattle.shortest_paths.proofs.SettledOrderLemmas.{HaveBounds-source}
 use Rattle.shortest_paths.proofs.search.open_sources.Goals as goal
 use Rattle.shortest_paths.proofs.search.open_sources.Goals.{then-excess-v-gt0, else-excess-v-gt0}
