@@ -309,9 +309,6 @@ IsStep-put arcs x p s u k way end e certified known last residual starts ends is
       done = relaxed arcs x p s _ u k way e certified.flow known last residual starts certified.none_below put is_open distance_is depth_is arc_is way_is bounded taken;
     }
 
-pub refused_at : (s : List NodeLabel) (end v : ℕ) (distance z : ℤ) → end ≡ v → z ≡ distance → (Takes (node_label_at s end) z → ⊥) → Takes (node_label_at s v) distance → ⊥
-refused_at s end v distance z e f h g = h (subst (λ (q : ℕ). Takes (node_label_at s q) z) (sym e) (subst (λ (y : ℤ). Takes (node_label_at s v) y) (sym f) g))
-
 pub Improves-refl : (s : List NodeLabel) → Improves s s
 Improves-refl s = record {
   same_length = refl;
@@ -474,11 +471,3 @@ module _ (arcs : List ArcRow) (x p : List ℤ) (s t : List NodeLabel) (u : ℕ)
             let depth : depth_at t v ≡ 0 = sym (ap (λ (e : NodeLabel). e.depth) same) ∙ d in
             (reached_before v reached, sym (depth_same v) ∙ depth, ap (λ (e : NodeLabel). e.distance) same ∙ distance_same v));
       }
-
--- a residual arc from the node settled last to a settled node is relaxed
-pub relaxed_settled : (arcs : List ArcRow) (x p : List ℤ) (s : List NodeLabel) (k : ℕ) (way : Way) → IsCertified arcs x p → IsLastSettled s (start_at arcs k way) → IsResidual arcs x k way
-    → state_at s (end_at arcs k way) ≡ Settled → IsRelaxed arcs p s k way
-relaxed_settled arcs x p s k way certified last residual settled = record {
-  reached = settled_is_reached s (end_at arcs k way) settled;
-  no_dearer = omega (arith, ints, certified.none_below k way residual, last.furthest (end_at arcs k way) settled);
-}

@@ -2,7 +2,7 @@
 -- (Ahuja, Magnanti, Orlin, "Network Flows": Dijkstra's algorithm, as the successive shortest path algorithm uses it).
 use Rattle.residual_graph.specs.Limits.{potential_floor, cost_limit}
 use Rattle.shortest_paths.specs.Limits.{distance_limit}
-use Rattle.std.specs.Prelude.{◌≡◌, ◌≢◌, ℕ, ◌+◌, ◌*◌, ◌<◌, ◌≤◌, ℤ, pos, neg_ℤ, ◌-ℤ◌, ◌+ℤ◌, ◌<ℤ◌, ◌≤ℤ◌, List, length, slice_index_or, Bool, true, false, ◌⊎◌, cond, int_lt}
+use Rattle.std.specs.Prelude.{◌≡◌, ◌≢◌, ℕ, ◌+◌, ◌*◌, ◌<◌, ◌≤◌, ℤ, pos, neg_ℤ, ◌-ℤ◌, ◌+ℤ◌, ◌<ℤ◌, ◌≤ℤ◌, List, length, slice_index_or, Bool, true, false, ◌⊎◌}
 use Rattle.std.specs.List.{count_by}
 use Rattle.dimacs_text.specs.declared.problem.ArcRow.{ArcRow}
 use Rattle.residual_graph.specs.declared.residual.Way.{Way}

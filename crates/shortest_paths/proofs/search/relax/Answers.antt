@@ -2,7 +2,7 @@ use Rattle.std.proofs.Common.{◌≡◌, ◌∙◌, ℕ, ℤ, ◌<◌, ◌+ℤ�
 use Rattle.std.specs.Prelude.{◌↔◌}
 use Rattle.std.proofs.lemmas.Int.{ints, to_z-of_z}
 use Rattle.residual_graph.specs.declared.residual.ResidualArc.{ResidualArc}
-use Rattle.residual_graph.specs.Residual.{IsResidual, arc_at, end_at, number_at, start_at}
+use Rattle.residual_graph.specs.Residual.{IsResidual, arc_at, number_at, start_at}
 use Rattle.shortest_paths.specs.Search.{Takes, distance_at, node_label_at, reduced_at}
 use Rattle.residual_graph.specs.Side.{leading, seen}
 use Rattle.shortest_paths.proofs.SearchLemmas.{LastBounds, last_bounds, relaxed_already}
