@@ -14,7 +14,7 @@ use Rattle.residual_graph.specs.declared.residual.Way.{Way}
 use Rattle.residual_graph.specs.declared.residual.Way.TheVariants.{Forward, Backward}
 use Rattle.shortest_paths.specs.declared.node_label.NodeLabel.{NodeLabel}
 use Rattle.augmentation.specs.Cut.{in_set}
-use Rattle.residual_graph.specs.Residual.{IsFlow, arc_at, number_at, room_of, start_at, end_at}
+use Rattle.residual_graph.specs.Residual.{IsPseudoflow, row_at, number_at, room_of, start_at, end_at}
 use Rattle.shortest_paths.specs.Search.{depth_at}
 use Rattle.augmentation.specs.Push.{IsPath, IsTight, HasRoom, moved, nodes_on, push_along}
 use Rattle.augmentation.specs.Blocking.{IsStep, IsWalk, IsOnWalk, IsSteppedTo, IsWalksFor, IsWay, back_at, head_at, hops_of, hops_from}
@@ -155,7 +155,7 @@ walk-room rows q x s m k way z higher dead back t (suc d) v lt walk =
 
 -- ---- one step of a walk
 
-module _ (rows : List ArcRow) (q x : List ℤ) (s : List NodeLabel) (flow : IsFlow (length s) rows x) where
+module _ (rows : List ArcRow) (q x : List ℤ) (s : List NodeLabel) (flow : IsPseudoflow (length s) rows x) where
   ends_in : (way : Way) (k : ℕ) → k < length rows → (start_at rows k way < length s) × (end_at rows k way < length s)
   ends_in Forward k lt = ((flow.rows k lt).tail_in, (flow.rows k lt).head_in)
   ends_in Backward k lt = ((flow.rows k lt).head_in, (flow.rows k lt).tail_in)
@@ -240,7 +240,7 @@ module _ (rows : List ArcRow) (q x : List ℤ) (s : List NodeLabel) (flow : IsFl
       }
 
   -- m more fits from node v on, where it fits on its step and behind that
-  pub on_walk-longer : (n m : ℤ) (back : List ResidualArc) (dead : List Bool) (t v : ℕ) → v < length s → IsStep rows q x s dead n v (back_at back v).arc (back_at back v).way → m ≤ℤ room_of (arc_at rows (back_at back v).arc) (number_at x (back_at back v).arc) (back_at back v).way
+  pub on_walk-longer : (n m : ℤ) (back : List ResidualArc) (dead : List Bool) (t v : ℕ) → v < length s → IsStep rows q x s dead n v (back_at back v).arc (back_at back v).way → m ≤ℤ room_of (row_at rows (back_at back v).arc) (number_at x (back_at back v).arc) (back_at back v).way
       → IsOnWalk rows q x s dead back m t (head_at rows back v) → IsOnWalk rows q x s dead back m t v
   on_walk-longer n m back dead t v lt step fits on = record {
     node_in = lt;
@@ -278,7 +278,7 @@ pub record IsHopOn (rows : List ArcRow) (x : List ℤ) (s : List NodeLabel) (w :
   pub no_higher : depth_at s (head_at rows w.back.items v) ≤ depth_at s t
   pub hops : hops_from rows s w.back.items t v ≡ record { arc = (back_at w.back.items v).arc; way = (back_at w.back.items v).way } ∷ hops_from rows s w.back.items t (head_at rows w.back.items v)
 
-pub hop_on : (rows : List ArcRow) (x : List ℤ) (s : List NodeLabel) (w : Walks) (t v : ℕ) → IsFlow (length s) rows x → depth_at s v < depth_at s t → IsWay rows x s w t v → IsHopOn rows x s w t v
+pub hop_on : (rows : List ArcRow) (x : List ℤ) (s : List NodeLabel) (w : Walks) (t v : ℕ) → IsPseudoflow (length s) rows x → depth_at s v < depth_at s t → IsWay rows x s w t v → IsHopOn rows x s w t v
 hop_on rows x s w t v flow lt way =
     let ne : v ≢ t = λ e. (let same : depth_at s v ≡ depth_at s t = ap (depth_at s) e in omega (arith, lt, same)) in
     let next = next_on rows way.0 x s flow (pos 1) w.back.items w.dead.items t v ne way.1 in
@@ -293,19 +293,19 @@ hop_on rows x s w t v flow lt way =
 -- one hop of a push: what is left of the way lies higher
 pub record IsShiftOn (rows : List ArcRow) (x y : List ℤ) (s : List NodeLabel) (w : Walks) (m : ℤ) (t v : ℕ) : Type 0 where
   pub way : IsWay rows y s w t (head_at rows w.back.items v)
-  pub flow : IsFlow (length s) rows y
+  pub flow : IsPseudoflow (length s) rows y
   pub room : HasRoom rows y m (hops_from rows s w.back.items t (head_at rows w.back.items v))
   pub rest : push_along (hops_from rows s w.back.items t (head_at rows w.back.items v)) m y ≡ push_along (hops_from rows s w.back.items t v) m x
 
 pub here_fits : (rows : List ArcRow) (x : List ℤ) (s : List NodeLabel) (w : Walks) (m : ℤ) (t v : ℕ) → IsHopOn rows x s w t v → HasRoom rows x m (hops_from rows s w.back.items t v)
-    → (m ≤ℤ room_of (arc_at rows (back_at w.back.items v).arc) (number_at x (back_at w.back.items v).arc) (back_at w.back.items v).way) × HasRoom rows x m (hops_from rows s w.back.items t (head_at rows w.back.items v))
+    → (m ≤ℤ room_of (row_at rows (back_at w.back.items v).arc) (number_at x (back_at w.back.items v).arc) (back_at w.back.items v).way) × HasRoom rows x m (hops_from rows s w.back.items t (head_at rows w.back.items v))
 here_fits rows x s w m t v on room = subst (λ (hops : List ResidualArc). HasRoom rows x m hops) on.hops room
 
-pub more_fits : (rows : List ArcRow) (x : List ℤ) (s : List NodeLabel) (w : Walks) (m : ℤ) (t v : ℕ) → IsHopOn rows x s w t v → m ≤ℤ room_of (arc_at rows (back_at w.back.items v).arc) (number_at x (back_at w.back.items v).arc) (back_at w.back.items v).way
+pub more_fits : (rows : List ArcRow) (x : List ℤ) (s : List NodeLabel) (w : Walks) (m : ℤ) (t v : ℕ) → IsHopOn rows x s w t v → m ≤ℤ room_of (row_at rows (back_at w.back.items v).arc) (number_at x (back_at w.back.items v).arc) (back_at w.back.items v).way
     → HasRoom rows x m (hops_from rows s w.back.items t (head_at rows w.back.items v)) → HasRoom rows x m (hops_from rows s w.back.items t v)
 more_fits rows x s w m t v on here rest = subst (λ (hops : List ResidualArc). HasRoom rows x m hops) (sym on.hops) (here, rest)
 
-pub shift_on : (rows : List ArcRow) (x : List ℤ) (s : List NodeLabel) (w : Walks) (m : ℤ) (t v : ℕ) → IsFlow (length s) rows x → pos 1 ≤ℤ m → depth_at s v < depth_at s t → IsWay rows x s w t v → HasRoom rows x m (hops_from rows s w.back.items t v)
+pub shift_on : (rows : List ArcRow) (x : List ℤ) (s : List NodeLabel) (w : Walks) (m : ℤ) (t v : ℕ) → IsPseudoflow (length s) rows x → pos 1 ≤ℤ m → depth_at s v < depth_at s t → IsWay rows x s w t v → HasRoom rows x m (hops_from rows s w.back.items t v)
     → IsShiftOn rows x (slice_set x (back_at w.back.items v).arc (moved (back_at w.back.items v).way (number_at x (back_at w.back.items v).arc) m)) s w m t v
 shift_on rows x s w m t v flow at_least lt way room =
     let b = back_at w.back.items v in
@@ -329,7 +329,7 @@ shift_on rows x s w m t v flow at_least lt way room =
           walk = walk-room rows way.0 x s (pos 1) b.arc b.way z next.step.higher w.dead.items w.back.items t next.on_walk.steps u below next.on_walk.walk;
         },
       );
-      flow = IsFlow-set flow b.arc z next.step.is_arc (IsWithin-moved (length s) (arc_at rows b.arc) (number_at x b.arc) m b.way (flow.rows b.arc next.step.is_arc) (flow.within b.arc next.step.is_arc) at_least fits.0);
+      flow = IsFlow-set flow b.arc z next.step.is_arc (IsWithin-moved (length s) (row_at rows b.arc) (number_at x b.arc) m b.way (flow.rows b.arc next.step.is_arc) (flow.within b.arc next.step.is_arc) at_least fits.0);
       room = HasRoom-set rows x m b.arc z (hops_from rows s w.back.items t u) avoids fits.1;
       rest = ap (λ (hops : List ResidualArc). push_along hops m x) (sym on.hops);
     }

@@ -9,7 +9,7 @@ use Rattle.std.proofs.lemmas.List.{length-map, length-set, get_or-set_same, get_
 use Rattle.dimacs_text.specs.declared.problem.ArcRow.{ArcRow}
 use Rattle.residual_graph.specs.declared.residual.Way.{Way}
 use Rattle.residual_graph.specs.declared.residual.Way.TheVariants.{Forward, Backward}
-use Rattle.residual_graph.specs.Residual.{IsFlow, IsRow, IsWithin, number_at, arc_at, start_of, end_of, start_at, end_at, room_of, IsResidual}
+use Rattle.residual_graph.specs.Residual.{IsPseudoflow, IsRow, IsWithinRow, number_at, row_at, start_of, end_of, start_at, end_at, room_of, IsResidual}
 use Rattle.network.specs.Flow.{net, outflow, inflow}
 use Rattle.residual_graph.specs.declared.side.Side.{Side}
 use Rattle.residual_graph.specs.declared.side.Side.TheVariants.{Ahead, Behind}
@@ -23,7 +23,7 @@ use Rattle.shortest_paths.proofs.SearchLemmas.{in_range}
 use Rattle.augmentation.specs.Cut.{in_set, sum_in, sum_leaving, sum_entering, surplus, shortfall, IsLeastSet, amount, near_at, far_at, IsClosed, HoldsRoots, IsSide, IsParted, IsChosenSet, IsListOf, IsGrown, lack}
 use Rattle.residual_graph.specs.Side.{IsRoot, seen, turned_row}
 use Rattle.shortest_paths.specs.NodeLists.{node_at, IsListed}
-use Rattle.residual_graph.proofs.TurnedRows.{arc_at-turned, start_at-turned, end_at-turned, residual-turned, residual-unturned}
+use Rattle.residual_graph.proofs.TurnedRows.{row_at-turned, start_at-turned, end_at-turned, residual-turned, residual-unturned}
 use Rattle.augmentation.proofs.TurnLemmas.{outflow-turned, inflow-turned, number_at-neg, left-neg}
 
 pub sum_in-same : (set : List Bool) (f g : ℕ → ℤ) → ((v : ℕ) → f v ≡ g v) → sum_in set f ≡ sum_in set g
@@ -94,13 +94,13 @@ sum_in-excess set arcs supply x e is =
     omega (arith, ints, terms, split, nets, sum_in-outflow set arcs x, sum_in-inflow set arcs x)
 
 -- one arc's flow across a set is at most its cap out, and at least its low in
-across : (t h : Bool) (a : ArcRow) (y : ℤ) → IsWithin a y → (cond t y (pos 0) -ℤ cond h y (pos 0)) ≤ℤ (cond (t && not h) a.cap (pos 0) -ℤ cond (h && not t) a.low (pos 0))
+across : (t h : Bool) (a : ArcRow) (y : ℤ) → IsWithinRow a y → (cond t y (pos 0) -ℤ cond h y (pos 0)) ≤ℤ (cond (t && not h) a.cap (pos 0) -ℤ cond (h && not t) a.low (pos 0))
 across true true a y within = omega (arith, ints)
 across true false a y within = omega (arith, ints, within.cap_kept)
 across false true a y within = omega (arith, ints, within.low_kept)
 across false false a y within = omega (arith, ints)
 
-pub flow_across : (set : List Bool) (arcs : List ArcRow) (x : List ℤ) → length x ≡ length arcs → ((k : ℕ) → k < length arcs → IsWithin (arc_at arcs k) (number_at x k)) → (tail_sum set arcs x -ℤ head_sum set arcs x) ≤ℤ (sum_leaving set (λ a. a.cap) arcs -ℤ sum_entering set (λ a. a.low) arcs)
+pub flow_across : (set : List Bool) (arcs : List ArcRow) (x : List ℤ) → length x ≡ length arcs → ((k : ℕ) → k < length arcs → IsWithinRow (row_at arcs k) (number_at x k)) → (tail_sum set arcs x -ℤ head_sum set arcs x) ≤ℤ (sum_leaving set (λ a. a.cap) arcs -ℤ sum_entering set (λ a. a.low) arcs)
 flow_across set [] x sized within = omega (arith, ints)
 flow_across set (a ∷ arcs) [] sized within = absurd (omega arith)
 flow_across set (a ∷ arcs) (y ∷ x) sized within =
@@ -113,11 +113,11 @@ across_full false true a y out into = omega (arith, ints, into refl refl)
 across_full false false a y out into = omega (arith, ints)
 
 -- where no residual arc leaves the set, it is left by all that its arcs can carry
-pub flow_full : (set : List Bool) (arcs : List ArcRow) (x : List ℤ) → length x ≡ length arcs → ((k : ℕ) → k < length arcs → IsWithin (arc_at arcs k) (number_at x k)) → ((k : ℕ) (way : Way) → IsResidual arcs x k way → in_set set (start_at arcs k way) ≡ true → in_set set (end_at arcs k way) ≡ true) → (tail_sum set arcs x -ℤ head_sum set arcs x) ≡ (sum_leaving set (λ a. a.cap) arcs -ℤ sum_entering set (λ a. a.low) arcs)
+pub flow_full : (set : List Bool) (arcs : List ArcRow) (x : List ℤ) → length x ≡ length arcs → ((k : ℕ) → k < length arcs → IsWithinRow (row_at arcs k) (number_at x k)) → ((k : ℕ) (way : Way) → IsResidual arcs x k way → in_set set (start_at arcs k way) ≡ true → in_set set (end_at arcs k way) ≡ true) → (tail_sum set arcs x -ℤ head_sum set arcs x) ≡ (sum_leaving set (λ a. a.cap) arcs -ℤ sum_entering set (λ a. a.low) arcs)
 flow_full set [] x sized within closed = refl
 flow_full set (a ∷ arcs) [] sized within closed = absurd (omega arith)
 flow_full set (a ∷ arcs) (y ∷ x) sized within closed =
-    let here : IsWithin a y = within 0 (omega arith) in
+    let here : IsWithinRow a y = within 0 (omega arith) in
     let out : in_set set a.tail ≡ true → in_set set a.head ≡ false → y ≡ a.cap =
     λ t h. at_bound y a.cap here.cap_kept (λ lt. false≢true (sym h ∙ closed 0 Forward (record { is_arc = omega arith; has_room = omega (arith, ints, lt) }) t)) in
     let into : in_set set a.head ≡ true → in_set set a.tail ≡ false → y ≡ a.low =
@@ -147,7 +147,7 @@ across_slack set a y Forward room s e = across_forward (in_set set a.tail) (in_s
 across_slack set a y Backward room s e = across_backward (in_set set a.tail) (in_set set a.head) a y s e (omega (arith, ints, room))
 
 -- where a residual arc leaves the set, its arcs could carry more out of it
-pub flow_slack : (set : List Bool) (arcs : List ArcRow) (x : List ℤ) (k : ℕ) (way : Way) → length x ≡ length arcs → ((k : ℕ) → k < length arcs → IsWithin (arc_at arcs k) (number_at x k)) → IsResidual arcs x k way → in_set set (start_at arcs k way) ≡ true → in_set set (end_at arcs k way) ≡ false → (tail_sum set arcs x -ℤ head_sum set arcs x) <ℤ (sum_leaving set (λ a. a.cap) arcs -ℤ sum_entering set (λ a. a.low) arcs)
+pub flow_slack : (set : List Bool) (arcs : List ArcRow) (x : List ℤ) (k : ℕ) (way : Way) → length x ≡ length arcs → ((k : ℕ) → k < length arcs → IsWithinRow (row_at arcs k) (number_at x k)) → IsResidual arcs x k way → in_set set (start_at arcs k way) ≡ true → in_set set (end_at arcs k way) ≡ false → (tail_sum set arcs x -ℤ head_sum set arcs x) <ℤ (sum_leaving set (λ a. a.cap) arcs -ℤ sum_entering set (λ a. a.low) arcs)
 flow_slack set [] x k way sized within residual s e = absurd (omega (arith, residual.is_arc))
 flow_slack set (a ∷ arcs) [] k way sized within residual s e = absurd (omega arith)
 flow_slack set (a ∷ arcs) (y ∷ x) zero way sized within residual s e =
@@ -200,7 +200,7 @@ sum_in-all (false ∷ set) (z ∷ e) sized holds none =
     omega (arith, ints, sum_by-cons positive_part z e, no_part z (λ high. false≢true (holds 0 high)), sum_in-all set e (omega arith) (λ v. holds (suc v)) (λ v. none (suc v)))
 
 module _ (arcs : List ArcRow) (supply : ℕ → ℤ) (x e : List ℤ) (set : List Bool)
-    (is : IsExcess arcs supply x e) (sized : length x ≡ length arcs) (within : (k : ℕ) → k < length arcs → IsWithin (arc_at arcs k) (number_at x k))
+    (is : IsExcess arcs supply x e) (sized : length x ≡ length arcs) (within : (k : ℕ) → k < length arcs → IsWithinRow (row_at arcs k) (number_at x k))
     (sized_set : length set ≡ length e) (closed : IsClosed Ahead arcs x set) (holds : HoldsRoots Ahead e set)
     (none : (v : ℕ) → in_set set v ≡ true → pos 0 ≤ℤ number_at e v)
     (least : (other : List Bool) → IsClosed Ahead arcs x other → HoldsRoots Ahead e other → (v : ℕ) → in_set set v ≡ true → in_set other v ≡ true)
@@ -224,7 +224,7 @@ module _ (arcs : List ArcRow) (supply : ℕ → ℤ) (x e : List ℤ) (set : Lis
     }
 
 -- the nodes that those in excess reach, where none of them is in deficit
-ahead_is_least : (arcs : List ArcRow) (supply : ℕ → ℤ) (x e : List ℤ) (set : List Bool) → IsExcess arcs supply x e → length x ≡ length arcs → ((k : ℕ) → k < length arcs → IsWithin (arc_at arcs k) (number_at x k)) → length set ≡ length e → IsSide Ahead arcs x e set → IsParted arcs x e → IsLeastSet (surplus arcs supply) set (pos (left e))
+ahead_is_least : (arcs : List ArcRow) (supply : ℕ → ℤ) (x e : List ℤ) (set : List Bool) → IsExcess arcs supply x e → length x ≡ length arcs → ((k : ℕ) → k < length arcs → IsWithinRow (row_at arcs k) (number_at x k)) → length set ≡ length e → IsSide Ahead arcs x e set → IsParted arcs x e → IsLeastSet (surplus arcs supply) set (pos (left e))
 ahead_is_least arcs supply x e set is sized within sized_set ahead parted =
     is_least_cut arcs supply x e set is sized within sized_set ahead.closed ahead.holds (λ v h. parted.no_deficit v (ahead.least parted.set parted.closed parted.holds v h)) ahead.least
 
@@ -264,12 +264,12 @@ closed-unturned arcs x set closed k way residual end =
     sym (ap (in_set set) (end_at-turned arcs k way)) ∙ closed k way (residual-turned arcs x k way residual) (ap (in_set set) (start_at-turned arcs k way) ∙ end)
 
 -- the nodes that reach a node in deficit, where no node is in excess
-behind_is_least : (arcs : List ArcRow) (supply : ℕ → ℤ) (x e : List ℤ) (set : List Bool) → IsExcess arcs supply x e → length x ≡ length arcs → ((k : ℕ) → k < length arcs → IsWithin (arc_at arcs k) (number_at x k)) → length set ≡ length e → IsSide Behind arcs x e set → ((v : ℕ) → number_at e v ≤ℤ pos 0) → IsLeastSet (shortfall arcs supply) set (pos (lack e))
+behind_is_least : (arcs : List ArcRow) (supply : ℕ → ℤ) (x e : List ℤ) (set : List Bool) → IsExcess arcs supply x e → length x ≡ length arcs → ((k : ℕ) → k < length arcs → IsWithinRow (row_at arcs k) (number_at x k)) → length set ≡ length e → IsSide Behind arcs x e set → ((v : ℕ) → number_at e v ≤ℤ pos 0) → IsLeastSet (shortfall arcs supply) set (pos (lack e))
 behind_is_least arcs supply x e set is sized within sized_set behind none =
     let there = is_least_cut (map turned_row arcs) (λ v. neg_ℤ (supply v)) x (map neg_ℤ e) set
     (λ v. number_at-neg e v ∙ omega (arith, ints, is v, outflow-turned arcs x v, inflow-turned arcs x v))
     (sized ∙ sym (length-map arcs turned_row))
-    (λ k lt. subst (λ (a : ArcRow). IsWithin a (number_at x k)) (sym (arc_at-turned arcs k)) (turned_within (arc_at arcs k) (number_at x k) (within k (rw (length-map arcs turned_row) at lt))))
+    (λ k lt. subst (λ (a : ArcRow). IsWithinRow a (number_at x k)) (sym (row_at-turned arcs k)) (turned_within (row_at arcs k) (number_at x k) (within k (rw (length-map arcs turned_row) at lt))))
     (sized_set ∙ sym (length-map e neg_ℤ))
     (closed-turned arcs x set behind.closed)
     (λ v high. behind.holds v (omega (arith, ints, high, number_at-neg e v)))
@@ -281,7 +281,7 @@ behind_is_least arcs supply x e set is sized within sized_set behind none =
       smallest = λ other same full. there.smallest other same (surplus-turned arcs supply other ∙ full ∙ ap pos (sym (left-neg e)));
     }
   where
-    turned_within : (a : ArcRow) (y : ℤ) → IsWithin a y → IsWithin (turned_row a) y
+    turned_within : (a : ArcRow) (y : ℤ) → IsWithinRow a y → IsWithinRow (turned_row a) y
     turned_within a y h = record { low_kept = h.low_kept; cap_kept = h.cap_kept }
 
 -- where nothing lies in excess, no number is above 0
@@ -308,7 +308,7 @@ in_none zero v = refl
 in_none (suc n) zero = refl
 in_none (suc n) (suc v) = in_none n v
 
-pub IsChosenSet-from : (arcs : List ArcRow) (x e : List ℤ) (supply : ℕ → ℤ) (set : List Bool) (nodes : ℕ) → IsFlow nodes arcs x → length set ≡ length e → IsParted arcs x e → (0 < left e → IsSide Ahead arcs x e set) → (left e ≡ 0 → IsSide Behind arcs x e set) → IsExcess arcs supply x e → IsChosenSet arcs supply e set
+pub IsChosenSet-from : (arcs : List ArcRow) (x e : List ℤ) (supply : ℕ → ℤ) (set : List Bool) (nodes : ℕ) → IsPseudoflow nodes arcs x → length set ≡ length e → IsParted arcs x e → (0 < left e → IsSide Ahead arcs x e set) → (left e ≡ 0 → IsSide Behind arcs x e set) → IsExcess arcs supply x e → IsChosenSet arcs supply e set
 IsChosenSet-from arcs x e supply set nodes flow sized_set parted ahead behind is = record {
   in_excess = λ some. ahead_is_least arcs supply x e set is flow.same_length flow.within sized_set (ahead some) parted;
   in_deficit = λ none some. behind_is_least arcs supply x e set is flow.same_length flow.within sized_set (behind none) (none_above e none);
@@ -335,10 +335,10 @@ end_in : (n : ℕ) (a : ArcRow) (way : Way) → IsRow n a → end_of a way < n
 end_in n a Forward row = row.head_in
 end_in n a Backward row = row.tail_in
 
-pub parted_no_deficit : (nodes : ℕ) (arcs : List ArcRow) (x e : List ℤ) → IsFlow nodes arcs x → length e ≡ nodes → lack e ≡ 0 → IsParted arcs x e
+pub parted_no_deficit : (nodes : ℕ) (arcs : List ArcRow) (x e : List ℤ) → IsPseudoflow nodes arcs x → length e ≡ nodes → lack e ≡ 0 → IsParted arcs x e
 parted_no_deficit nodes arcs x e flow sized no_lack = record {
   set = replicate nodes true;
-  closed = λ k way residual start. in_all nodes (end_at arcs k way) (end_in nodes (arc_at arcs k) way (flow.rows k residual.is_arc));
+  closed = λ k way residual start. in_all nodes (end_at arcs k way) (end_in nodes (row_at arcs k) way (flow.rows k residual.is_arc));
   holds = λ v high. in_all nodes v (node v high);
   no_deficit = λ v h. lack-none e no_lack v;
 }

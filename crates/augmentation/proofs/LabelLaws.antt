@@ -4,18 +4,18 @@ use Rattle.std.proofs.lemmas.Int.{ints}
 use Rattle.dimacs_text.specs.declared.problem.ArcRow.{ArcRow}
 use Rattle.shortest_paths.specs.declared.node_label.NodeLabel.{NodeLabel}
 use Rattle.shortest_paths.specs.Limits.{label_floor}
-use Rattle.residual_graph.specs.Residual.{AreGreatest, ArePotentials, IsCertified, number_at}
+use Rattle.residual_graph.specs.Residual.{AreGreatest, ArePotentials, IsReducedCostOptimal, number_at}
 use Rattle.shortest_paths.specs.Search.{AreLabels, distance_at}
 use Rattle.shortest_paths.proofs.RunLemmas.{label_fits, labels_within, labels_certified, labels_greatest}
 use Rattle.augmentation.specs.Rounds.{AreLabelled}
 
 -- potentials that are the shortest labels
 pub record AreShortest (arcs : List ArcRow) (x q : List ℤ) : Type 0 where
-  pub certified : IsCertified arcs x q
+  pub certified : IsReducedCostOptimal arcs x q
   pub within : ArePotentials (length q) label_floor q
   pub greatest : AreGreatest arcs x q
 
-module _ (arcs : List ArcRow) (x p : List ℤ) (s : List NodeLabel) (certified : IsCertified arcs x p) (found : AreLabelled arcs x p s) where
+module _ (arcs : List ArcRow) (x p : List ℤ) (s : List NodeLabel) (certified : IsReducedCostOptimal arcs x p) (found : AreLabelled arcs x p s) where
   pub label_is_number : (v : ℕ) → FitsSigned w64 (number_at p v +ℤ distance_at s v)
   label_is_number v =
       let bounds = label_fits arcs x p s certified found.search found.relaxed found.from_all found.done v in

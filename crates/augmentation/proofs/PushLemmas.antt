@@ -10,7 +10,7 @@ use Rattle.dimacs_text.specs.declared.problem.ArcRow.{ArcRow}
 use Rattle.residual_graph.specs.declared.residual.Way.{Way}
 use Rattle.residual_graph.specs.declared.residual.Way.TheVariants.{Forward, Backward}
 use Rattle.shortest_paths.specs.declared.node_label.NodeLabel.{NodeLabel}
-use Rattle.residual_graph.specs.Residual.{IsRow, IsWithin, IsFlow, NoneBelow, number_at, arc_at, room_of, start_at, end_at, cost_at}
+use Rattle.residual_graph.specs.Residual.{IsRow, IsWithinRow, IsPseudoflow, NoneBelow, number_at, row_at, room_of, start_at, end_at, cost_at}
 use Rattle.shortest_paths.specs.declared.node_label.State.TheVariants.{Settled}
 use Rattle.shortest_paths.specs.Search.{node_label_at, state_at, depth_at}
 use Rattle.network.specs.Flow.{net, outflow, inflow}
@@ -44,7 +44,7 @@ HasRoom-set arcs x m k z (h ∷ hops) apart room =
     (rw (get_or-set_other x k h.arc z (pos 0) apart.0) room.0, HasRoom-set arcs x m k z hops apart.1 room.1)
 
 -- m more or less stays within the bounds
-pub IsWithin-moved : (nodes : ℕ) (a : ArcRow) (x m : ℤ) (way : Way) → IsRow nodes a → IsWithin a x → pos 1 ≤ℤ m → m ≤ℤ room_of a x way → IsWithin a (moved way x m)
+pub IsWithin-moved : (nodes : ℕ) (a : ArcRow) (x m : ℤ) (way : Way) → IsRow nodes a → IsWithinRow a x → pos 1 ≤ℤ m → m ≤ℤ room_of a x way → IsWithinRow a (moved way x m)
 IsWithin-moved nodes a x m Forward row within at_least fits = record {
   low_kept = omega (arith, ints, within.low_kept, at_least);
   cap_kept = omega (arith, ints, fits);
@@ -54,19 +54,19 @@ IsWithin-moved nodes a x m Backward row within at_least fits = record {
   cap_kept = omega (arith, ints, within.cap_kept, at_least);
 }
 
-pub IsFlow-set : {nodes : ℕ} {arcs : List ArcRow} {x : List ℤ} → IsFlow nodes arcs x → (k : ℕ) (z : ℤ) → k < length arcs → IsWithin (arc_at arcs k) z → IsFlow nodes arcs (slice_set x k z)
+pub IsFlow-set : {nodes : ℕ} {arcs : List ArcRow} {x : List ℤ} → IsPseudoflow nodes arcs x → (k : ℕ) (z : ℤ) → k < length arcs → IsWithinRow (row_at arcs k) z → IsPseudoflow nodes arcs (slice_set x k z)
 IsFlow-set {nodes} {arcs} {x} flow k z lt within = record {
   few_nodes = flow.few_nodes;
   few_arcs = flow.few_arcs;
   same_length = length-set x k z ∙ flow.same_length;
   rows = flow.rows;
   within = λ j h. (elim (cases_eq j k) [
-    | inl same ↦ subst (λ (i : ℕ). IsWithin (arc_at arcs i) (number_at (slice_set x k z) i)) (sym same) (rw (get_or-set_same x k z (pos 0) (omega (arith, flow.same_length))) within)
+    | inl same ↦ subst (λ (i : ℕ). IsWithinRow (row_at arcs i) (number_at (slice_set x k z) i)) (sym same) (rw (get_or-set_same x k z (pos 0) (omega (arith, flow.same_length))) within)
     | inr ne ↦ rw (get_or-set_other x k j z (pos 0) ne) (flow.within j h)
   ]);
 }
 
-pub here_room : (arcs : List ArcRow) (x : List ℤ) (s : List NodeLabel) (v : ℕ) (m : ℤ) → depth_at s v ≡ depth_at s (before arcs s v) + 1 → HasRoom arcs x m (path_to arcs s v) → (m ≤ℤ room_of (arc_at arcs (arc_to s v)) (number_at x (arc_to s v)) (way_to s v)) × HasRoom arcs x m (path_to arcs s (before arcs s v))
+pub here_room : (arcs : List ArcRow) (x : List ℤ) (s : List NodeLabel) (v : ℕ) (m : ℤ) → depth_at s v ≡ depth_at s (before arcs s v) + 1 → HasRoom arcs x m (path_to arcs s v) → (m ≤ℤ room_of (row_at arcs (arc_to s v)) (number_at x (arc_to s v)) (way_to s v)) × HasRoom arcs x m (path_to arcs s (before arcs s v))
 here_room arcs x s v m deeper room = subst (λ (hops : List ResidualArc). HasRoom arcs x m hops) (path_step arcs s v deeper) room
 
 -- the hops are along arcs that are there, no two along one arc
@@ -117,12 +117,12 @@ IsShift-along arcs hops m x sized apart = record {
         (push_elsewhere hops m (slice_set x h.arc z) h.arc apart.1 ∙ get_or-set_same x h.arc z (pos 0) (omega (arith, sized, apart.0)))
         (unmoved hops m x (push_along hops m (slice_set x h.arc z)) h.arc z apart.1 (moved_on hops (slice_set x h.arc z) (length-set x h.arc z ∙ sized) apart.2))
 
-pub IsFlow-along : (nodes : ℕ) (arcs : List ArcRow) (hops : List ResidualArc) (m : ℤ) (x : List ℤ) → IsFlow nodes arcs x → pos 1 ≤ℤ m → AreApart arcs hops → HasRoom arcs x m hops → IsFlow nodes arcs (push_along hops m x)
+pub IsFlow-along : (nodes : ℕ) (arcs : List ArcRow) (hops : List ResidualArc) (m : ℤ) (x : List ℤ) → IsPseudoflow nodes arcs x → pos 1 ≤ℤ m → AreApart arcs hops → HasRoom arcs x m hops → IsPseudoflow nodes arcs (push_along hops m x)
 IsFlow-along nodes arcs [] m x flow at_least apart room = flow
 IsFlow-along nodes arcs (h ∷ hops) m x flow at_least apart room =
     let z = moved h.way (number_at x h.arc) m in
     IsFlow-along nodes arcs hops m (slice_set x h.arc z)
-    (IsFlow-set flow h.arc z apart.0 (IsWithin-moved nodes (arc_at arcs h.arc) (number_at x h.arc) m h.way (flow.rows h.arc apart.0) (flow.within h.arc apart.0) at_least room.0))
+    (IsFlow-set flow h.arc z apart.0 (IsWithin-moved nodes (row_at arcs h.arc) (number_at x h.arc) m h.way (flow.rows h.arc apart.0) (flow.within h.arc apart.0) at_least room.0))
     at_least apart.2 (HasRoom-set arcs x m h.arc z hops apart.1 room.1)
 
 tight_both : (arcs : List ArcRow) (q : List ℤ) (k : ℕ) (a b : Way) → number_at q (end_at arcs k a) ≡ cost_at arcs k a +ℤ number_at q (start_at arcs k a) → number_at q (end_at arcs k b) ≤ℤ (cost_at arcs k b +ℤ number_at q (start_at arcs k b))
@@ -142,13 +142,13 @@ NoneBelow-along arcs q [] m x none tight = none
 NoneBelow-along arcs q (h ∷ hops) m x none tight =
     NoneBelow-along arcs q hops m (slice_set x h.arc (moved h.way (number_at x h.arc) m)) (NoneBelow-set arcs x q h.arc h.way (moved h.way (number_at x h.arc) m) none tight.0) tight.1
 
-pub flow_out-set : (arcs : List ArcRow) (x : List ℤ) (k : ℕ) (z : ℤ) (v : ℕ) → k < length arcs → length x ≡ length arcs → (outflow arcs (slice_set x k z) v +ℤ at_node (arc_at arcs k).tail (number_at x k) v) ≡ (outflow arcs x v +ℤ at_node (arc_at arcs k).tail z v)
+pub flow_out-set : (arcs : List ArcRow) (x : List ℤ) (k : ℕ) (z : ℤ) (v : ℕ) → k < length arcs → length x ≡ length arcs → (outflow arcs (slice_set x k z) v +ℤ at_node (row_at arcs k).tail (number_at x k) v) ≡ (outflow arcs x v +ℤ at_node (row_at arcs k).tail z v)
 flow_out-set [] x k z v lt sized = absurd (omega arith)
 flow_out-set (a ∷ arcs) [] k z v lt sized = absurd (omega arith)
 flow_out-set (a ∷ arcs) (y ∷ x) zero z v lt sized = omega (arith, ints)
 flow_out-set (a ∷ arcs) (y ∷ x) (suc k) z v lt sized = omega (arith, ints, flow_out-set arcs x k z v (omega arith) (omega arith))
 
-pub flow_in-set : (arcs : List ArcRow) (x : List ℤ) (k : ℕ) (z : ℤ) (v : ℕ) → k < length arcs → length x ≡ length arcs → (inflow arcs (slice_set x k z) v +ℤ at_node (arc_at arcs k).head (number_at x k) v) ≡ (inflow arcs x v +ℤ at_node (arc_at arcs k).head z v)
+pub flow_in-set : (arcs : List ArcRow) (x : List ℤ) (k : ℕ) (z : ℤ) (v : ℕ) → k < length arcs → length x ≡ length arcs → (inflow arcs (slice_set x k z) v +ℤ at_node (row_at arcs k).head (number_at x k) v) ≡ (inflow arcs x v +ℤ at_node (row_at arcs k).head z v)
 flow_in-set [] x k z v lt sized = absurd (omega arith)
 flow_in-set (a ∷ arcs) [] k z v lt sized = absurd (omega arith)
 flow_in-set (a ∷ arcs) (y ∷ x) zero z v lt sized = omega (arith, ints)
@@ -170,9 +170,9 @@ at_node-sub u v a b = by_test (eqb u v)
 
 net-moved : (arcs : List ArcRow) (x : List ℤ) (k : ℕ) (way : Way) (m : ℤ) (v : ℕ) → k < length arcs → length x ≡ length arcs → net arcs (slice_set x k (moved way (number_at x k) m)) v ≡ (net arcs x v +ℤ at_node (start_at arcs k way) m v) -ℤ at_node (end_at arcs k way) m v
 net-moved arcs x k Forward m v lt sized =
-    omega (arith, ints, flow_out-set arcs x k (number_at x k +ℤ m) v lt sized, flow_in-set arcs x k (number_at x k +ℤ m) v lt sized, at_node-add (arc_at arcs k).tail v (number_at x k) m, at_node-add (arc_at arcs k).head v (number_at x k) m)
+    omega (arith, ints, flow_out-set arcs x k (number_at x k +ℤ m) v lt sized, flow_in-set arcs x k (number_at x k +ℤ m) v lt sized, at_node-add (row_at arcs k).tail v (number_at x k) m, at_node-add (row_at arcs k).head v (number_at x k) m)
 net-moved arcs x k Backward m v lt sized =
-    omega (arith, ints, flow_out-set arcs x k (number_at x k -ℤ m) v lt sized, flow_in-set arcs x k (number_at x k -ℤ m) v lt sized, at_node-sub (arc_at arcs k).tail v (number_at x k) m, at_node-sub (arc_at arcs k).head v (number_at x k) m)
+    omega (arith, ints, flow_out-set arcs x k (number_at x k -ℤ m) v lt sized, flow_in-set arcs x k (number_at x k -ℤ m) v lt sized, at_node-sub (row_at arcs k).tail v (number_at x k) m, at_node-sub (row_at arcs k).head v (number_at x k) m)
 
 -- a push changes the net flow at the two ends of its path alone
 pub net-along : (arcs : List ArcRow) (hops : List ResidualArc) (m : ℤ) (x : List ℤ) (u w v : ℕ) → IsPath arcs hops u w → AreApart arcs hops → length x ≡ length arcs → net arcs (push_along hops m x) v ≡ (net arcs x v +ℤ at_node u m v) -ℤ at_node w m v

@@ -12,7 +12,7 @@ use Rattle.dimacs_text.specs.declared.problem.ArcRow.{ArcRow}
 use Rattle.shortest_paths.specs.declared.node_label.State.{State}
 use Rattle.shortest_paths.specs.declared.node_label.State.TheVariants.{Unreached, Open, Settled}
 use Rattle.shortest_paths.specs.declared.node_label.NodeLabel.{NodeLabel}
-use Rattle.residual_graph.specs.Residual.{IsCertified, ArePotentials, NoneBelow, number_at, end_at}
+use Rattle.residual_graph.specs.Residual.{IsReducedCostOptimal, ArePotentials, NoneBelow, number_at, end_at}
 use Rattle.shortest_paths.specs.Search.{state_at, distance_at, depth_at, IsSearch, AllRelaxed, IsFromExcess, IsFoundDeficit, IsFront, IsLowered, lowered_by}
 use Rattle.network.specs.Flow.{net}
 use Rattle.augmentation.specs.Push.{IsExcess, IsPush, Pushes, path_of, root_to, HavePaths, ArePathsTight, HasRoom, IsTransfer, IsUnderWay, ArePushes, CanPush, push_along, at_node, AreSmall, positive_part, left, lack}
@@ -80,7 +80,7 @@ lack-small e small few =
 
 -- the potentials lowered after a search that came as far as `reach`
 module _ (arcs : List ArcRow) (x p q : List ℤ) (s : List NodeLabel) (reach fallen : ℤ)
-    (certified : IsCertified arcs x p) (known : IsSearch arcs x p s) (all : AllRelaxed arcs x p s) (front : IsFront s reach)
+    (certified : IsReducedCostOptimal arcs x p) (known : IsSearch arcs x p s) (all : AllRelaxed arcs x p s) (front : IsFront s reach)
     (low : IsLowered p q s reach) (near : IsNear p fallen)
   where
     falls_at : (v : ℕ) (m : State) → state_at s v ≡ m → number_at q v ≡ lowered_by m (number_at p v) (distance_at s v) reach

@@ -7,7 +7,7 @@ use Rattle.residual_graph.specs.declared.side.Side.{Side}
 use Rattle.residual_graph.specs.declared.side.Side.TheVariants.{Ahead, Behind}
 use Rattle.augmentation.specs.Cut.{IsParted}
 use Rattle.augmentation.specs.Push.{ArePushes, lack, left}
-use Rattle.residual_graph.specs.Residual.{IsFlow}
+use Rattle.residual_graph.specs.Residual.{IsPseudoflow}
 use Rattle.residual_graph.specs.Side.{other_side, seen}
 use Rattle.augmentation.proofs.CutLemmas.{parted_no_deficit, parted_no_excess}
 use Rattle.augmentation.proofs.TurnLemmas.{are_pushes-turned, excess_twice, parted-turned}
@@ -26,14 +26,14 @@ pushes_seen Behind arcs n x e y f pushes =
     (subst (λ (g : List ℤ). ArePushes (seen Behind arcs) n x g y (map neg_ℤ (map neg_ℤ f))) (sym (excess_twice e))
     (subst (λ (g : List ℤ). ArePushes (seen Behind arcs) n x e y g) (sym (excess_twice f)) pushes))
 
-pub parted_seen : (side : Side) (arcs : List ArcRow) (x e : List ℤ) → IsFlow (length e) (seen side arcs) x → IsParted (seen side arcs) x e → IsParted arcs x (seen_excess side e)
+pub parted_seen : (side : Side) (arcs : List ArcRow) (x e : List ℤ) → IsPseudoflow (length e) (seen side arcs) x → IsParted (seen side arcs) x e → IsParted arcs x (seen_excess side e)
 parted_seen Ahead arcs x e flow parted = parted
 parted_seen Behind arcs x e flow parted =
     parted-turned arcs x (map neg_ℤ e)
-    (subst (λ (n : ℕ). IsFlow n arcs x) (sym (length-map e neg_ℤ)) ((flow_both (length e) arcs x).0 flow))
+    (subst (λ (n : ℕ). IsPseudoflow n arcs x) (sym (length-map e neg_ℤ)) ((flow_both (length e) arcs x).0 flow))
     (subst (IsParted (seen Behind arcs) x) (sym (excess_twice e)) parted)
 
-pub parted_unless_both : (arcs : List ArcRow) (x e : List ℤ) → IsFlow (length e) arcs x → ((0 < left e) × (0 < lack e) → ⊥) → IsParted arcs x e
+pub parted_unless_both : (arcs : List ArcRow) (x e : List ℤ) → IsPseudoflow (length e) arcs x → ((0 < left e) × (0 < lack e) → ⊥) → IsParted arcs x e
 parted_unless_both arcs x e flow not_both = elim (cases_eq (left e) 0) [
   | inl none ↦ parted_no_excess arcs x e none
   | inr some ↦ elim (cases_eq (lack e) 0) [

@@ -21,7 +21,7 @@ use Rattle.augmentation.specs.Push.{IsExcess, IsPath, IsPush, IsShift, Pushes, A
 use Rattle.residual_graph.specs.declared.residual.ResidualArc.{ResidualArc}
 use Rattle.augmentation.specs.Cut.{IsParted, in_set}
 use Rattle.augmentation.specs.Nodes.{table}
-use Rattle.residual_graph.specs.Residual.{IsCertified, IsFlow, IsResidual, IsRow, IsWithin, NoneBelow, number_at, arc_at, start_of, end_of, cost_of, room_of, start_at, end_at, cost_at}
+use Rattle.residual_graph.specs.Residual.{IsReducedCostOptimal, IsPseudoflow, IsResidual, IsRow, IsWithinRow, NoneBelow, number_at, row_at, start_of, end_of, cost_of, room_of, start_at, end_at, cost_at}
 use Rattle.augmentation.specs.Settle.{IsNear}
 use Rattle.augmentation.specs.Turn.{AreOpposite, IsLeast}
 use Rattle.residual_graph.specs.Side.{other_side, seen, turned_row}
@@ -75,17 +75,17 @@ module _ (p q : List ℤ) (least : ℤ) (sized : length q ≡ length p) (opposit
   }
 
   -- a residual arc seen from behind has the same reduced cost under the potentials turned round
-  none_below-turned : (arcs : List ArcRow) (x : List ℤ) → IsFlow (length p) arcs x → NoneBelow arcs x p → NoneBelow (map turned_row arcs) x q
+  none_below-turned : (arcs : List ArcRow) (x : List ℤ) → IsPseudoflow (length p) arcs x → NoneBelow arcs x p → NoneBelow (map turned_row arcs) x q
   none_below-turned arcs x flow none k way residual =
       let there = residual-unturned arcs x k way residual in
       let row = flow.rows k there.is_arc in
-      let start = opposite (start_at arcs k way) (start_of-in (length p) (arc_at arcs k) way row) in
-      let end = opposite (end_at arcs k way) (end_of-in (length p) (arc_at arcs k) way row) in
+      let start = opposite (start_at arcs k way) (start_of-in (length p) (row_at arcs k) way row) in
+      let end = opposite (end_at arcs k way) (end_of-in (length p) (row_at arcs k) way row) in
       rw (start_at-turned arcs k way, end_at-turned arcs k way, cost_at-turned arcs k way) (omega (arith, ints, start, end, none k way there))
 
-  certified-turned : (arcs : List ArcRow) (x : List ℤ) → IsCertified arcs x p → IsCertified (map turned_row arcs) x q
+  certified-turned : (arcs : List ArcRow) (x : List ℤ) → IsReducedCostOptimal arcs x p → IsReducedCostOptimal (map turned_row arcs) x q
   certified-turned arcs x certified = record {
-    flow = subst (λ (n : ℕ). IsFlow n (map turned_row arcs) x) (sym sized) (flow-turned (length p) arcs x certified.flow);
+    flow = subst (λ (n : ℕ). IsPseudoflow n (map turned_row arcs) x) (sym sized) (flow-turned (length p) arcs x certified.flow);
     potentials = record {
       sized = refl;
       at_most_0 = turned_at_most_0;
@@ -94,9 +94,9 @@ module _ (p q : List ℤ) (least : ℤ) (sized : length q ≡ length p) (opposit
     none_below = none_below-turned arcs x certified.flow certified.none_below;
   }
 
-  pub certified_from_other : (side : Side) (arcs : List ArcRow) (x : List ℤ) → IsCertified (seen side arcs) x p → IsCertified (seen (other_side side) arcs) x q
+  pub certified_from_other : (side : Side) (arcs : List ArcRow) (x : List ℤ) → IsReducedCostOptimal (seen side arcs) x p → IsReducedCostOptimal (seen (other_side side) arcs) x q
   certified_from_other Ahead arcs x certified = certified-turned arcs x certified
-  certified_from_other Behind arcs x certified = subst (λ (rows : List ArcRow). IsCertified rows x q) (turned_twice arcs) (certified-turned (map turned_row arcs) x certified)
+  certified_from_other Behind arcs x certified = subst (λ (rows : List ArcRow). IsReducedCostOptimal rows x q) (turned_twice arcs) (certified-turned (map turned_row arcs) x certified)
 
 -- ---- excesses turned round
 
@@ -235,10 +235,10 @@ from_outside n set v out = elim (cases_lt v n) [
     is_out false h = refl
 
 -- a set that no residual arc enters is one whose outside no residual arc leaves
-pub parted-turned : (arcs : List ArcRow) (x e : List ℤ) → IsFlow (length e) arcs x → IsParted (seen Behind arcs) x (map neg_ℤ e) → IsParted arcs x e
+pub parted-turned : (arcs : List ArcRow) (x e : List ℤ) → IsPseudoflow (length e) arcs x → IsParted (seen Behind arcs) x (map neg_ℤ e) → IsParted arcs x e
 parted-turned arcs x e flow parted = record {
   set = outside (length e) parted.set;
-  closed = λ k way residual starts. is_outside (length e) parted.set (end_at arcs k way) (end_of-in (length e) (arc_at arcs k) way (flow.rows k residual.is_arc))
+  closed = λ k way residual starts. is_outside (length e) parted.set (end_at arcs k way) (end_of-in (length e) (row_at arcs k) way (flow.rows k residual.is_arc))
       (false_from_ne_true (in_set parted.set (end_at arcs k way)) (λ inside.
       (let back = parted.closed k way (residual-turned arcs x k way residual) (ap (in_set parted.set) (start_at-turned arcs k way) ∙ inside) in
       false≢true (sym (from_outside (length e) parted.set (start_at arcs k way) starts) ∙ sym (ap (in_set parted.set) (end_at-turned arcs k way)) ∙ back))));

@@ -10,7 +10,7 @@ use Rattle.shortest_paths.specs.declared.node_label.State.TheVariants.{Settled}
 use Rattle.shortest_paths.specs.declared.node_label.NodeLabel.{NodeLabel}
 use Rattle.augmentation.specs.Cut.{in_set}
 use Rattle.augmentation.specs.Push.{IsHopTo, IsTightArc}
-use Rattle.residual_graph.specs.Residual.{arc_at, end_at, number_at, room_of, start_at}
+use Rattle.residual_graph.specs.Residual.{row_at, end_at, number_at, room_of, start_at}
 use Rattle.shortest_paths.specs.Search.{depth_at, state_at}
 
 -- the tables have one entry a node
@@ -42,7 +42,7 @@ pub record IsAdmissible (rows : List ArcRow) (q x : List ℤ) (s : List NodeLabe
 pub record IsStep (rows : List ArcRow) (q x : List ℤ) (s : List NodeLabel) (dead : List Bool) (m : ℤ) (v k : ℕ) (way : Way) : Type 0 where
   pub is_arc : k < length rows
   pub from : start_at rows k way ≡ v
-  pub room : m ≤ℤ room_of (arc_at rows k) (number_at x k) way
+  pub room : m ≤ℤ room_of (row_at rows k) (number_at x k) way
   pub higher : depth_at s (end_at rows k way) ≡ depth_at s (start_at rows k way) + 1
   pub tight : IsTightArc rows q k way
   pub alive : in_set dead (end_at rows k way) ≡ false

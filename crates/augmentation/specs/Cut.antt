@@ -8,7 +8,7 @@ use Rattle.residual_graph.specs.declared.side.Side.{Side}
 use Rattle.residual_graph.specs.declared.side.Side.TheVariants.{Ahead, Behind}
 use Rattle.augmentation.specs.Push.{left}
 pub use Rattle.augmentation.specs.Push.{lack}
-use Rattle.residual_graph.specs.Residual.{number_at, arc_at, start_of, end_of, IsResidual}
+use Rattle.residual_graph.specs.Residual.{number_at, row_at, start_of, end_of, IsResidual}
 use Rattle.residual_graph.specs.Side.{IsRoot}
 use Rattle.shortest_paths.specs.NodeLists.{IsListed, node_at}
 
@@ -63,10 +63,10 @@ far_of Ahead a way = end_of a way
 far_of Behind a way = start_of a way
 
 abbrev pub near_at : Side → List ArcRow → ℕ → Way → ℕ
-near_at side arcs k way = near_of side (arc_at arcs k) way
+near_at side arcs k way = near_of side (row_at arcs k) way
 
 abbrev pub far_at : Side → List ArcRow → ℕ → Way → ℕ
-far_at side arcs k way = far_of side (arc_at arcs k) way
+far_at side arcs k way = far_of side (row_at arcs k) way
 
 -- no residual arc leads on out of the set: ahead none leaves it, and behind none enters it
 abbrev pub IsClosed : Side → List ArcRow → List ℤ → List Bool → Type 0

@@ -10,7 +10,7 @@ use Rattle.residual_graph.specs.declared.residual.Way.{Way}
 use Rattle.residual_graph.specs.declared.residual.Way.TheVariants.{Forward, Backward}
 use Rattle.shortest_paths.specs.declared.node_label.NodeLabel.{NodeLabel}
 use Rattle.shortest_paths.specs.declared.node_label.State.TheVariants.{Settled}
-use Rattle.residual_graph.specs.Residual.{IsFlow, NoneBelow, number_at, arc_at, start_at, end_at, cost_at, room_of, IsResidual}
+use Rattle.residual_graph.specs.Residual.{IsPseudoflow, NoneBelow, number_at, row_at, start_at, end_at, cost_at, room_of, IsResidual}
 use Rattle.shortest_paths.specs.Search.{node_label_at, state_at, depth_at, IsFoundDeficit}
 
 -- e is what each node's supply exceeds the flow out of it by
@@ -97,7 +97,7 @@ HavePaths arcs s = (v : ℕ) → state_at s v ≡ Settled → 0 < depth_at s v �
 -- m more fits on each hop
 abbrev pub HasRoom : List ArcRow → List ℤ → ℤ → List ResidualArc → Type 0
 HasRoom arcs x m [] = Unit {0}
-HasRoom arcs x m (h ∷ hops) = (m ≤ℤ room_of (arc_at arcs h.arc) (number_at x h.arc) h.way) × HasRoom arcs x m hops
+HasRoom arcs x m (h ∷ hops) = (m ≤ℤ room_of (row_at arcs h.arc) (number_at x h.arc) h.way) × HasRoom arcs x m hops
 
 -- the flow after m more on each hop, one after the other
 abbrev pub push_along : List ResidualArc → ℤ → List ℤ → List ℤ
@@ -148,7 +148,7 @@ root_to arcs s v = root_of arcs s (depth_at s v) v
 
 -- a flow within the bounds, under which no residual arc has a reduced cost below 0 under the potentials q, and what lies in excess
 pub record IsUnderWay (nodes : ℕ) (arcs : List ArcRow) (q x e : List ℤ) : Type 0 where
-  pub flow : IsFlow nodes arcs x
+  pub flow : IsPseudoflow nodes arcs x
   pub none_below : NoneBelow arcs x q
   pub excess_sized : length e ≡ nodes
   pub small : AreSmall e

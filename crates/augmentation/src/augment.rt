@@ -6,7 +6,7 @@ ghost use Rattle.residual_graph.specs.Graph.{IsGraphFor};
 ghost use Rattle.residual_graph.specs.Rooms.{AreRooms};
 ghost use Rattle.residual_graph.specs.Side.{seen};
 ghost use Rattle.residual_graph.specs.Limits.{potential_floor};
-ghost use Rattle.residual_graph.specs.Residual.{IsRow, IsWithin, IsFlow, ArePotentials, number_at, arc_at, room_of};
+ghost use Rattle.residual_graph.specs.Residual.{IsRow, IsWithinRow, IsPseudoflow, ArePotentials, number_at, row_at, room_of};
 ghost use Rattle.shortest_paths.specs.Search.{IsFoundDeficit};
 ghost use Rattle.augmentation.specs.Push.{ArePaths, HasRoom, push_along, moved, AreSmall, IsTransfer, IsUnderWay, ArePushes, CanPush};
 ghost use Rattle.augmentation.specs.Touched.{AreNoted};
@@ -28,11 +28,11 @@ struct FoundPath {
 
 /// How much fits along a residual arc, at most `limit`.
 fn room_on(levels: Levels<'_>, flow: &[i64], hop: ResidualArc, limit: i64) -> i64
-    requires flow { (nodes : ℕ) × IsFlow nodes (seen levels.side levels.graph.now.rows.items) flow.now }
+    requires flow { (nodes : ℕ) × IsPseudoflow nodes (seen levels.side levels.graph.now.rows.items) flow.now }
     requires arc_in { hop.arc < length (seen levels.side levels.graph.now.rows.items) }
     ensures at_most { result ≤ℤ limit }
-    ensures fits { result ≤ℤ room_of (arc_at (seen levels.entry.side levels.entry.graph.now.rows.items) hop.arc) (number_at flow.now hop.arc) hop.way }
-    ensures most { (m : ℤ) → m ≤ℤ limit → m ≤ℤ room_of (arc_at (seen levels.entry.side levels.entry.graph.now.rows.items) hop.arc) (number_at flow.now hop.arc) hop.way → m ≤ℤ result }
+    ensures fits { result ≤ℤ room_of (row_at (seen levels.entry.side levels.entry.graph.now.rows.items) hop.arc) (number_at flow.now hop.arc) hop.way }
+    ensures most { (m : ℤ) → m ≤ℤ limit → m ≤ℤ room_of (row_at (seen levels.entry.side levels.entry.graph.now.rows.items) hop.arc) (number_at flow.now hop.arc) hop.way → m ≤ℤ result }
 {
     let row = levels.graph.row(levels.side, hop.arc as usize);
     let fits = hop.way.room(&row, flow[hop.arc as usize]);
@@ -41,7 +41,7 @@ fn room_on(levels: Levels<'_>, flow: &[i64], hop: ResidualArc, limit: i64) -> i6
 
 /// How much fits along the path on which the walk came from `target` to `root`, at most `limit`.
 fn bottleneck(levels: Levels<'_>, flow: &[i64], walks: &Walks, path: FoundPath, limit: i64) -> i64
-    requires flow { IsFlow (length levels.node_labels.now) (seen levels.side levels.graph.now.rows.items) flow.now }
+    requires flow { IsPseudoflow (length levels.node_labels.now) (seen levels.side levels.graph.now.rows.items) flow.now }
     requires walks { IsWalksFor (length levels.node_labels.now) walks.now }
     requires target_in { path.target < length levels.node_labels.now }
     requires way { IsWay (seen levels.side levels.graph.now.rows.items) flow.now levels.node_labels.now walks.now path.target path.root }
@@ -67,7 +67,7 @@ fn amount_along(
     walks: &Walks,
     path: FoundPath,
 ) -> i64
-    requires flow { IsFlow (length levels.node_labels.now) (seen levels.side levels.graph.now.rows.items) flow.now }
+    requires flow { IsPseudoflow (length levels.node_labels.now) (seen levels.side levels.graph.now.rows.items) flow.now }
     requires excess_in { length excess.now ≡ length levels.node_labels.now }
     requires small { AreSmall excess.now }
     requires walks { IsWalksFor (length levels.node_labels.now) walks.now }
@@ -96,7 +96,7 @@ fn shift(
     amount: i64,
 )
     requires touched_in { length flow.old ≤ length touched.old }
-    requires flow { IsFlow (length levels.node_labels.now) (seen levels.side levels.graph.now.rows.items) flow.old }
+    requires flow { IsPseudoflow (length levels.node_labels.now) (seen levels.side levels.graph.now.rows.items) flow.old }
     requires walks { IsWalksFor (length levels.node_labels.now) walks.old }
     requires target_in { path.target < length levels.node_labels.now }
     requires way { IsWay (seen levels.side levels.graph.now.rows.items) flow.old levels.node_labels.now walks.old path.target path.root }
@@ -125,10 +125,10 @@ fn shift_on(
     amount: i64,
 )
     requires touched_in { length flow.old ≤ length touched.old }
-    requires flow { (nodes : ℕ) × IsFlow nodes (seen levels.side levels.graph.now.rows.items) flow.old }
+    requires flow { (nodes : ℕ) × IsPseudoflow nodes (seen levels.side levels.graph.now.rows.items) flow.old }
     requires arc_in { hop.arc < length (seen levels.side levels.graph.now.rows.items) }
     requires amount { pos 1 ≤ℤ amount }
-    requires fits { amount ≤ℤ room_of (arc_at (seen levels.side levels.graph.now.rows.items) hop.arc) (number_at flow.old hop.arc) hop.way }
+    requires fits { amount ≤ℤ room_of (row_at (seen levels.side levels.graph.now.rows.items) hop.arc) (number_at flow.old hop.arc) hop.way }
     ensures flow { flow.new ≡ slice_set flow.old hop.arc (moved hop.way (number_at flow.old hop.arc) amount) }
     ensures noted { AreNoted touched.old flow.old touched.new flow.new }
     ensures rooms { AreRooms levels.entry.graph.now.rows.items flow.old rooms.old → AreRooms levels.entry.graph.now.rows.items flow.new rooms.new }
@@ -143,7 +143,7 @@ fn shift_on(
 /// A flow with `amount` more in this direction.
 fn shifted(row: &ArcRow, flow: i64, way: Way, amount: i64) -> i64
     requires row { (nodes : ℕ) × IsRow nodes row.now }
-    requires within { IsWithin row.now flow }
+    requires within { IsWithinRow row.now flow }
     requires amount { pos 1 ≤ℤ amount }
     requires fits { amount ≤ℤ room_of row.now flow way }
     ensures { result ≡ moved way flow amount }

@@ -5,7 +5,7 @@ ghost use Rattle.augmentation.specs.Cut.{in_set};
 ghost use Rattle.residual_graph.specs.Graph.{IsGraphFor};
 ghost use Rattle.residual_graph.specs.Side.{seen};
 ghost use Rattle.residual_graph.specs.Limits.{entry_limit, potential_floor, row_limit};
-ghost use Rattle.residual_graph.specs.Residual.{IsRow, IsFlow, ArePotentials, number_at, start_at, end_at, start_of, end_of, cost_of};
+ghost use Rattle.residual_graph.specs.Residual.{IsRow, IsPseudoflow, ArePotentials, number_at, start_at, end_at, start_of, end_of, cost_of};
 ghost use Rattle.shortest_paths.specs.Search.{node_label_at};
 ghost use Rattle.augmentation.specs.Push.{IsHopTo, ArePaths, CanPush};
 ghost use Rattle.augmentation.specs.Blocking.{AreAlive, IsAdmissible, IsDead, IsFound, IsSteppedTo, IsWalksFor, back_at, head_at};
@@ -101,7 +101,7 @@ fn is_tight(row: &ArcRow, potentials: &[i64], way: Way) -> bool
 
 /// Whether arc `k`, gone along in this way, is a hop that a path to the node can take.
 fn is_hop_to(levels: Levels<'_>, flow: &[i64], node: usize, arc: ResidualArc) -> bool
-    requires flow { IsFlow (length levels.node_labels.now) (seen levels.side levels.graph.now.rows.items) flow.now }
+    requires flow { IsPseudoflow (length levels.node_labels.now) (seen levels.side levels.graph.now.rows.items) flow.now }
     requires node_in { node < length levels.node_labels.now }
     requires arc_in { arc.arc < length (seen levels.side levels.graph.now.rows.items) }
     ensures { IsTrue result ↔ IsHopTo (seen levels.entry.side levels.entry.graph.now.rows.items) levels.entry.potentials.now flow.now levels.entry.node_labels.now node arc.arc arc.way }
@@ -133,7 +133,7 @@ fn is_admissible(
     node: usize,
     arc: ResidualArc,
 ) -> bool
-    requires flow { IsFlow (length levels.node_labels.now) (seen levels.side levels.graph.now.rows.items) flow.now }
+    requires flow { IsPseudoflow (length levels.node_labels.now) (seen levels.side levels.graph.now.rows.items) flow.now }
     requires node_in { node < length levels.node_labels.now }
     requires dead_in { length dead.now ≡ length levels.node_labels.now }
     requires arc_in { arc.arc < length (seen levels.side levels.graph.now.rows.items) }
@@ -151,7 +151,7 @@ fn next_place(
     node: usize,
 ) -> Option<(Place, ResidualArc)>
     requires graph { IsGraphFor (length levels.potentials.now) levels.graph.now }
-    requires flow { IsFlow (length levels.node_labels.now) (seen levels.side levels.graph.now.rows.items) flow.now }
+    requires flow { IsPseudoflow (length levels.node_labels.now) (seen levels.side levels.graph.now.rows.items) flow.now }
     requires node_in { node < length levels.node_labels.now }
     requires walks { IsWalksFor (length levels.node_labels.now) walks.now }
     ensures { IfSome result (λ next. IsAdmissible (seen levels.entry.side levels.entry.graph.now.rows.items) levels.entry.potentials.now flow.now levels.entry.node_labels.now walks.now.dead.items node next.1.arc next.1.way) }
@@ -180,7 +180,7 @@ fn next_place(
 /// gives the node that it comes to: nothing where there is no such arc.
 fn step_back(levels: Levels<'_>, flow: &[i64], walks: &mut Walks, node: usize) -> Option<usize>
     requires graph { IsGraphFor (length levels.potentials.now) levels.graph.now }
-    requires flow { IsFlow (length levels.node_labels.now) (seen levels.side levels.graph.now.rows.items) flow.now }
+    requires flow { IsPseudoflow (length levels.node_labels.now) (seen levels.side levels.graph.now.rows.items) flow.now }
     requires node_in { node < length levels.node_labels.now }
     requires walks { IsWalksFor (length levels.node_labels.now) walks.old }
     ensures walks { IsWalksFor (length levels.entry.node_labels.now) walks.new }
@@ -223,7 +223,7 @@ pub fn find_path(
     target: usize,
 ) -> Option<usize>
     requires graph { IsGraphFor (length levels.potentials.now) levels.graph.now }
-    requires flow { IsFlow (length levels.node_labels.now) (seen levels.side levels.graph.now.rows.items) flow.now }
+    requires flow { IsPseudoflow (length levels.node_labels.now) (seen levels.side levels.graph.now.rows.items) flow.now }
     requires excess_in { length excess.now ≡ length levels.node_labels.now }
     requires target_in { target < length levels.node_labels.now }
     requires walks { IsWalksFor (length levels.node_labels.now) walks.old }

@@ -2,7 +2,7 @@
 
 ghost use Rattle.std.specs.Prelude.{◌≡◌, ℕ, length, ◌<◌, ◌≤◌, ◌+◌, IsTrue, ◌↔◌, true, false, slice_set};
 ghost use Rattle.residual_graph.specs.Limits.{entry_limit};
-ghost use Rattle.residual_graph.specs.Residual.{IsFlow, number_at};
+ghost use Rattle.residual_graph.specs.Residual.{IsPseudoflow, number_at};
 ghost use Rattle.residual_graph.specs.Graph.{IsGraphFor};
 ghost use Rattle.augmentation.specs.Cut.{in_set, IsSide, IsListOf, IsGrown, AreFarIn};
 ghost use Rattle.residual_graph.specs.Side.{IsRoot, leading};
@@ -29,7 +29,7 @@ pub fn mark_side(
     worklist: &mut [u32],
 )
     requires graph { IsGraphFor (length excess.now) graph.now }
-    requires flow { IsFlow (length excess.now) graph.now.rows.items flow.now }
+    requires flow { IsPseudoflow (length excess.now) graph.now.rows.items flow.now }
     requires cut_in { length cut.old ≡ length excess.now }
     requires worklist_in { length worklist.old ≡ length excess.now }
     ensures { IsSide side graph.now.rows.items flow.now excess.now cut.new }
@@ -80,7 +80,7 @@ fn mark(cut: &mut [bool], worklist: &mut [u32], len: usize, node: usize) -> usiz
 /// Marks the nodes to which residual arcs lead on from a marked node, and gives the length of the worklist.
 fn mark_from(on: OnSide<'_>, cut: &mut [bool], worklist: &mut [u32], len: usize, node: u32) -> usize
     requires graph { IsGraphFor (length cut.old) on.graph.now }
-    requires flow { IsFlow (length cut.old) on.graph.now.rows.items on.flow.now }
+    requires flow { IsPseudoflow (length cut.old) on.graph.now.rows.items on.flow.now }
     requires worklist { IsListOf cut.old worklist.old len }
     requires marked { in_set cut.old node ≡ true }
     ensures worklist { IsListOf cut.new worklist.new result }

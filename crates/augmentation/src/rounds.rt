@@ -4,7 +4,7 @@ ghost use Rattle.residual_graph.specs.Graph.{IsGraphFor};
 ghost use Rattle.shortest_paths.specs.Limits.{label_floor};
 ghost use Rattle.residual_graph.specs.Limits.{potential_floor};
 ghost use Rattle.std.specs.Prelude.{◌≡◌, ℕ, ℤ, List, length, pos, neg_ℤ, ◌≤ℤ◌, ◌+ℤ◌, ◌-ℤ◌, ◌<◌, ◌≤◌, ◌+◌, IsTrue, ◌↔◌, MatchOption, IfNone};
-ghost use Rattle.residual_graph.specs.Residual.{IsCertified, IsFlow, ArePotentials, number_at};
+ghost use Rattle.residual_graph.specs.Residual.{IsReducedCostOptimal, IsPseudoflow, ArePotentials, number_at};
 ghost use Rattle.augmentation.specs.Settle.{IsNear};
 ghost use Rattle.augmentation.specs.Push.{ArePushes, lack, left, AreSmall};
 ghost use Rattle.augmentation.specs.Scratch.{IsScratchFor};
@@ -40,13 +40,13 @@ pub fn push_all(
 ) -> u64
     requires flow_tracked { IsTracked flow.old }
     requires graph { IsGraphFor (length scratch.old.potentials.items) graph.now }
-    requires certified { IsCertified graph.now.rows.items flow.old.entries.items scratch.old.potentials.items }
+    requires certified { IsReducedCostOptimal graph.now.rows.items flow.old.entries.items scratch.old.potentials.items }
     requires potentials_in { ArePotentials (length scratch.old.potentials.items) label_floor scratch.old.potentials.items }
     requires excess_in { length excess.old ≡ length scratch.old.potentials.items }
     requires scratch { IsScratchFor (length scratch.old.potentials.items) scratch.old }
     requires small { AreSmall excess.old }
     ensures flow_written { IsWritten flow.old flow.new }
-    ensures certified { IsCertified graph.now.rows.items flow.new.entries.items scratch.new.potentials.items }
+    ensures certified { IsReducedCostOptimal graph.now.rows.items flow.new.entries.items scratch.new.potentials.items }
     ensures small { AreSmall excess.new }
     ensures pushed { ArePushes graph.now.rows.items result flow.old.entries.items excess.old flow.new.entries.items excess.new }
     ensures parted { IsParted graph.now.rows.items flow.new.entries.items excess.new }
@@ -77,7 +77,7 @@ pub fn push_all(
 /// Fills the table of rooms, once in a run, after more than `FEW_PUSHES` pushes: a shorter run asks too little to pay
 /// for it.
 fn fill_rooms(graph: &Graph, flow: &Tracked<i64>, scratch: &mut Scratch, pushes: u64)
-    requires flow { (nodes : ℕ) × IsFlow nodes graph.now.rows.items flow.now.entries.items }
+    requires flow { (nodes : ℕ) × IsPseudoflow nodes graph.now.rows.items flow.now.entries.items }
     requires rooms { AreRooms graph.now.rows.items flow.now.entries.items scratch.old.walks.rooms.items }
     ensures rooms { AreRooms graph.now.rows.items flow.now.entries.items scratch.new.walks.rooms.items }
     ensures kept { scratch.new ≡ record scratch.old { walks = record scratch.old.walks { rooms = scratch.new.walks.rooms } } }
@@ -95,7 +95,7 @@ fn turn_round(side: Side, excess: &mut [i64], scratch: &mut Scratch) -> Side
     ensures other { result ≡ other_side side }
     ensures excess { seen_excess result excess.new ≡ seen_excess side excess.old }
     ensures small { AreSmall excess.new }
-    ensures certified { (arcs : List ArcRow) (x : List ℤ) → IsCertified (seen side arcs) x scratch.old.potentials.items → IsCertified (seen result arcs) x scratch.new.potentials.items }
+    ensures certified { (arcs : List ArcRow) (x : List ℤ) → IsReducedCostOptimal (seen side arcs) x scratch.old.potentials.items → IsReducedCostOptimal (seen result arcs) x scratch.new.potentials.items }
     ensures near { (fallen : ℤ) → IsNear scratch.old.potentials.items fallen → IsNear scratch.new.potentials.items fallen }
     ensures scratch { IsScratchFor (length scratch.old.potentials.items) scratch.new }
     ensures walks { scratch.new.walks ≡ scratch.old.walks }
@@ -116,7 +116,7 @@ fn search_on(
     scratch: &mut Scratch,
 ) -> Option<i64>
     requires graph { IsGraphFor (length scratch.old.potentials.items) graph.now }
-    requires certified { IsCertified (seen side graph.now.rows.items) flow.now.entries.items scratch.old.potentials.items }
+    requires certified { IsReducedCostOptimal (seen side graph.now.rows.items) flow.now.entries.items scratch.old.potentials.items }
     requires excess_in { length excess.now ≡ length scratch.old.potentials.items }
     requires scratch { IsScratchFor (length scratch.old.potentials.items) scratch.old }
     requires rooms { AreRooms graph.now.rows.items flow.now.entries.items scratch.old.walks.rooms.items }
@@ -164,13 +164,13 @@ fn push_within(
 ) -> u64
     requires flow_tracked { IsTracked flow.old }
     requires graph { IsGraphFor (length scratch.old.potentials.items) graph.now }
-    requires certified { IsCertified (seen side graph.now.rows.items) flow.old.entries.items scratch.old.potentials.items }
+    requires certified { IsReducedCostOptimal (seen side graph.now.rows.items) flow.old.entries.items scratch.old.potentials.items }
     requires near { (fallen : ℤ) × IsNear scratch.old.potentials.items fallen }
     requires excess_in { length excess.old ≡ length scratch.old.potentials.items }
     requires small { AreSmall excess.old }
     requires found { HoldsSearch (seen side graph.now.rows.items) flow.old.entries.items excess.old scratch.old reach }
     ensures flow_written { IsWritten flow.old flow.new }
-    ensures certified { IsCertified (seen side graph.now.rows.items) flow.new.entries.items scratch.new.potentials.items }
+    ensures certified { IsReducedCostOptimal (seen side graph.now.rows.items) flow.new.entries.items scratch.new.potentials.items }
     ensures at_least { (fallen : ℤ) → IsNear scratch.old.potentials.items fallen → (v : ℕ) → (neg_ℤ (pos label_floor) -ℤ (fallen +ℤ reach)) ≤ℤ number_at scratch.new.potentials.items v }
     ensures small { AreSmall excess.new }
     ensures pushed { ArePushes (seen side graph.now.rows.items) result flow.old.entries.items excess.old flow.new.entries.items excess.new }
@@ -216,11 +216,11 @@ fn keep_near(
     fallen: i64,
 ) -> i64
     requires graph { IsGraphFor (length scratch.old.potentials.items) graph.now }
-    requires certified { IsCertified (seen side graph.now.rows.items) flow.now.entries.items scratch.old.potentials.items }
+    requires certified { IsReducedCostOptimal (seen side graph.now.rows.items) flow.now.entries.items scratch.old.potentials.items }
     requires scratch { IsScratchFor (length scratch.old.potentials.items) scratch.old }
     requires not_below_0 { pos 0 ≤ℤ fallen }
     requires at_least { (v : ℕ) → (neg_ℤ (pos label_floor) -ℤ fallen) ≤ℤ number_at scratch.old.potentials.items v }
-    ensures certified { IsCertified (seen side graph.now.rows.items) flow.now.entries.items scratch.new.potentials.items }
+    ensures certified { IsReducedCostOptimal (seen side graph.now.rows.items) flow.now.entries.items scratch.new.potentials.items }
     ensures scratch { IsScratchFor (length scratch.old.potentials.items) scratch.new }
     ensures near { IsNear scratch.new.potentials.items result }
     ensures walks { scratch.new.walks ≡ scratch.old.walks }

@@ -4,7 +4,7 @@ ghost use Rattle.std.specs.Prelude.{◌≡◌, ℕ, ℤ, pos, neg_ℤ, ◌≤ℤ
 ghost use Rattle.dimacs_text.specs.declared.problem.ArcRow.{ArcRow};
 ghost use Rattle.residual_graph.specs.Limits.{potential_floor};
 ghost use Rattle.augmentation.specs.Push.{AreSmall};
-ghost use Rattle.residual_graph.specs.Residual.{ArePotentials, IsCertified, number_at};
+ghost use Rattle.residual_graph.specs.Residual.{ArePotentials, IsReducedCostOptimal, number_at};
 ghost use Rattle.augmentation.specs.Settle.{IsNear};
 ghost use Rattle.augmentation.specs.Turn.{IsLeast};
 ghost use Rattle.residual_graph.specs.Side.{other_side, seen};
@@ -15,7 +15,7 @@ ghost use Rattle.residual_graph.specs.declared.side.Side.{Side};
 pub fn turn_potentials(potentials: &mut [i64])
     requires potentials_in { ArePotentials (length potentials.old) potential_floor potentials.old }
     ensures same_length { length potentials.new ≡ length potentials.old }
-    ensures certified { (side : Side) (arcs : List ArcRow) (x : List ℤ) → IsCertified (seen side arcs) x potentials.old → IsCertified (seen (other_side side) arcs) x potentials.new }
+    ensures certified { (side : Side) (arcs : List ArcRow) (x : List ℤ) → IsReducedCostOptimal (seen side arcs) x potentials.old → IsReducedCostOptimal (seen (other_side side) arcs) x potentials.new }
     ensures near { (fallen : ℤ) → IsNear potentials.old fallen → IsNear potentials.new fallen }
 {
     let least = least_of(potentials);

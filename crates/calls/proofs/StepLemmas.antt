@@ -17,7 +17,7 @@ use Rattle.session.specs.declared.refusal.Refusal.{Refusal}
 use Rattle.session.specs.declared.refusal.Refusal.TheVariants as refusal
 use Rattle.session.specs.Marks.{IsMovedTo, up_to, with_mark}
 use Rattle.session.specs.Session.{IsEdited, Stack}
-use Rattle.session.specs.Step.{IsApplied, IsRefused, Refuses, Reply, SessionState, Shows, Step, StepBy, StepOfBack, StepOfEdit, StepOfMark, Tells, state_of}
+use Rattle.session.specs.Step.{IsApplied, IsRefused, Refuses, Reply, SessionState, Shows, Step, StepBy, StepOfBack, StepOfEdit, StepOfMark, TellsVerdict, state_of}
 use Rattle.calls.specs.Library.{number_of}
 
 -- ---- the steps of the commands
@@ -28,9 +28,9 @@ edit_by r edit old reply new e step =
     subst (λ (q : Result Instance ℕ). MatchResult q (λ _. IsApplied edit old reply new ⊎ IsRefused 30 old reply new) (λ number. IsRefused number old reply new)) (sym e) step
 
 pub edit_applied : (edit : Edit) (old new : SessionState) → IsEdited edit old.moments.present new.moments.present → Advances old.moments new.moments
-    → new.marks ≡ up_to (length old.moments.past) old.marks → StepOfEdit edit old Tells new
+    → new.marks ≡ up_to (length old.moments.past) old.marks → StepOfEdit edit old TellsVerdict new
 edit_applied edit old new to advances marks =
-    edit_by (Ok new.moments.present.instance) edit old Tells new to.instance (inl (record { reply_is = refl; edited_to = to; advances = advances; marks = marks }))
+    edit_by (Ok new.moments.present.instance) edit old TellsVerdict new to.instance (inl (record { reply_is = refl; edited_to = to; advances = advances; marks = marks }))
 
 pub edit_refused : (edit : Edit) (old new : SessionState) (r : Refusal) → new ≡ old
     → ((number : ℕ) → (◌≡◌ {A = Result ℕ Refusal} (Err r) (Err (refusal.Cause number))) ↔ (edited old.moments.present.instance edit ≡ Err number))
@@ -56,10 +56,10 @@ undo_refused old new none same = inr (none, record { reply_is = refl; unchanged 
 pub redo_refused : (old new : SessionState) → old.moments.future ≡ [] → new ≡ old → StepBy commands.Redo old (Refuses 26) new
 redo_refused old new none same = inr (none, record { reply_is = refl; unchanged = same })
 
-pub undo_done : (old new : SessionState) → StepsBack old.moments new.moments → new.marks ≡ old.marks → StepBy commands.Undo old Tells new
+pub undo_done : (old new : SessionState) → StepsBack old.moments new.moments → new.marks ≡ old.marks → StepBy commands.Undo old TellsVerdict new
 undo_done old new back marks = inl (record { reply_is = refl; back = back; marks = marks })
 
-pub redo_done : (old new : SessionState) → StepsForward old.moments new.moments → new.marks ≡ old.marks → StepBy commands.Redo old Tells new
+pub redo_done : (old new : SessionState) → StepsForward old.moments new.moments → new.marks ≡ old.marks → StepBy commands.Redo old TellsVerdict new
 redo_done old new forward marks = inl (record { reply_is = refl; forward = forward; marks = marks })
 
 pub show_step : (c : Command) (s : SessionState) → c ≡ commands.Show → StepBy c s (Shows false) s
@@ -77,7 +77,7 @@ end_step c s e = subst (λ (k : Command). StepBy k s (Refuses 29) s) (sym e) (re
 
 -- a name has a place, or none
 pub mark_put : (place : Bool) (name : List ℕ) (old new : Stack) → ◌≡◌ {A = Result (Unit {0}) ℕ} (Ok tt) (if place then Ok tt else Err 33)
-    → new ≡ record old { marks = with_mark old.marks name (length old.moments.past) } → StepOfMark place name (state_of old) Tells (state_of new)
+    → new ≡ record old { marks = with_mark old.marks name (length old.moments.past) } → StepOfMark place name (state_of old) TellsVerdict (state_of new)
 mark_put true name old new answer put = record { reply_is = refl; moments = ap (λ (s : Stack). s.moments) put; marks = ap (λ (s : Stack). s.marks) put }
 mark_put false name old new answer put = absurd cc
 
@@ -88,7 +88,7 @@ mark_refused false name old new number answer same = let is : number ≡ 33 = cc
 
 -- a moment bears the name, or none does
 pub back_moved : (moment : Option ℕ) (old new : SessionState) → ◌≡◌ {A = Result (Unit {0}) ℕ} (Ok tt) (if is_some moment then Ok tt else Err 28)
-    → IfSome moment (λ place. IsMovedTo place old.moments new.moments) → new.marks ≡ old.marks → StepOfBack moment old Tells new
+    → IfSome moment (λ place. IsMovedTo place old.moments new.moments) → new.marks ≡ old.marks → StepOfBack moment old TellsVerdict new
 back_moved (Some moment) old new answer moved marks = record { reply_is = refl; moved = moved; marks = marks }
 back_moved None old new answer moved marks = absurd cc
 

@@ -12,7 +12,7 @@ use Rattle.history.specs.Boards.{Timeline}
 use Rattle.network.specs.Instance.{first}
 use Rattle.session.specs.declared.refusal.Refusal.{Refusal}
 use Rattle.session.specs.declared.refusal.Refusal.TheVariants as refusal
-use Rattle.session.specs.Step.{Reply, SessionState, Tells, Shows, Refuses}
+use Rattle.session.specs.Step.{Reply, SessionState, TellsVerdict, Shows, Refuses}
 use Rattle.calls.specs.declared.fault.Fault.{Fault}
 use Rattle.calls.specs.declared.view.View.{View}
 use Rattle.calls.specs.declared.status.TheConstants.{CLOSED, FAULT, MEMORY, NOT_THERE, OTHER_LENGTH}
@@ -53,7 +53,7 @@ number_of refusal.Memory = 30
 
 -- how a reply is told: nothing to say, or the number of the refusal
 abbrev pub told : Reply → ℕ
-told Tells = 0
+told TellsVerdict = 0
 told (Shows proof) = 0
 told (Refuses number) = number
 

@@ -15,7 +15,7 @@ use Rattle.checker.specs.declared.read.ReadError.{ReadError}
 use Rattle.checker.specs.declared.read.ReadError.TheVariants as read_error
 use Rattle.checker.specs.Reading.{Gives, ReadsText, end_of}
 use Rattle.checker.proofs.SourceLemmas.{text_at_end, text_given, all_given, problem_text, reads_decided, appended}
-use Rattle.checker.specs.Check.{IsProblemText, IsAnswerText, Judges, CheckWrites, CheckTells, IsRight, verdict_line}
+use Rattle.checker.specs.Check.{IsProblemText, IsAnswerText, Judges, CheckWrites, CheckOnDevices, IsRight, verdict_line}
 
 -- ---- the bytes that came
 
@@ -50,13 +50,13 @@ problem_end (read_error.Text (text_fault.Fault number line)) text given rest lef
     (ap reads (text_at_end text given rest gives.bytes is.0) ∙ is.1, refl)
 problem_end read_error.Source text given rest left_old left_new answer count gives is = (ap (decided problem_rule) (text_given text given rest left_old left_new gives) ∙ is, refl)
 
-pub CheckTells-problem : (e : ReadError) (known rest : Option (List ℕ)) (given : List ℕ) (left_old left_new : ℕ) (answer : Option (List ℕ)) (count : ℕ) (before : Option (List ℕ))
+pub CheckOnDevices-problem : (e : ReadError) (known rest : Option (List ℕ)) (given : List ℕ) (left_old left_new : ℕ) (answer : Option (List ℕ)) (count : ℕ) (before : Option (List ℕ))
     → Gives known rest given left_old left_new → ReadsText (decided problem_rule) reads (Err e) given rest
-    → CheckTells (end_of the.Problem e) known (left_old - left_new) answer count before before
-CheckTells-problem e None rest given left_old left_new answer count before gives is = tt
-CheckTells-problem e (Some text) rest given left_old left_new None count before gives is = tt
-CheckTells-problem e (Some text) rest given left_old left_new (Some answer) count None gives is = tt
-CheckTells-problem e (Some text) rest given left_old left_new (Some answer) count (Some held) gives is =
+    → CheckOnDevices (end_of the.Problem e) known (left_old - left_new) answer count before before
+CheckOnDevices-problem e None rest given left_old left_new answer count before gives is = tt
+CheckOnDevices-problem e (Some text) rest given left_old left_new None count before gives is = tt
+CheckOnDevices-problem e (Some text) rest given left_old left_new (Some answer) count None gives is = tt
+CheckOnDevices-problem e (Some text) rest given left_old left_new (Some answer) count (Some held) gives is =
     ([], ap (λ l. Some l) (sym (append-nil held)), problem_end e text given rest left_old left_new answer count gives is)
 
 -- the answer was not read
@@ -72,16 +72,16 @@ answer_end (read_error.Text (text_fault.Fault number line)) problem whole came t
 answer_end read_error.Source problem whole came text given rest left_old left_new reads gives is =
     (problem, reads, ap (decided (answer_rule problem.nodes (length problem.arcs))) (text_given text given rest left_old left_new gives) ∙ is, refl)
 
-pub CheckTells-answer : (e : ReadError) (problem : ProblemValue) (known problem_rest : Option (List ℕ)) (problem_given : List ℕ) (problem_old problem_new : ℕ)
+pub CheckOnDevices-answer : (e : ReadError) (problem : ProblemValue) (known problem_rest : Option (List ℕ)) (problem_given : List ℕ) (problem_old problem_new : ℕ)
     (answer rest : Option (List ℕ)) (given : List ℕ) (left_old left_new : ℕ) (before : Option (List ℕ))
     → Gives known problem_rest problem_given problem_old problem_new → IsAtEnd problem_rest → reads problem_given ≡ Ok problem
     → Gives answer rest given left_old left_new
     → ReadsText (decided (answer_rule problem.nodes (length problem.arcs))) (answers problem.nodes (length problem.arcs)) (Err e) given rest
-    → CheckTells (end_of the.Answer e) known (problem_old - problem_new) answer (left_old - left_new) before before
-CheckTells-answer e problem None problem_rest problem_given problem_old problem_new answer rest given left_old left_new before has end reads gives is = tt
-CheckTells-answer e problem (Some whole) problem_rest problem_given problem_old problem_new None rest given left_old left_new before has end reads gives is = tt
-CheckTells-answer e problem (Some whole) problem_rest problem_given problem_old problem_new (Some text) rest given left_old left_new None has end reads gives is = tt
-CheckTells-answer e problem (Some whole) problem_rest problem_given problem_old problem_new (Some text) rest given left_old left_new (Some held) has end reads gives is = (
+    → CheckOnDevices (end_of the.Answer e) known (problem_old - problem_new) answer (left_old - left_new) before before
+CheckOnDevices-answer e problem None problem_rest problem_given problem_old problem_new answer rest given left_old left_new before has end reads gives is = tt
+CheckOnDevices-answer e problem (Some whole) problem_rest problem_given problem_old problem_new None rest given left_old left_new before has end reads gives is = tt
+CheckOnDevices-answer e problem (Some whole) problem_rest problem_given problem_old problem_new (Some text) rest given left_old left_new None has end reads gives is = tt
+CheckOnDevices-answer e problem (Some whole) problem_rest problem_given problem_old problem_new (Some text) rest given left_old left_new (Some held) has end reads gives is = (
   [],
   ap (λ l. Some l) (sym (append-nil held)),
   answer_end e problem whole _ text given rest left_old left_new (problem_text whole problem_given problem_rest problem_old problem_new problem has end reads) gives is,
@@ -110,15 +110,15 @@ judges right problem answer whole problem_rest problem_given problem_old problem
 }
 
 -- the verdict was written up to a failed call
-pub CheckTells-stopped : (right : Bool) (problem : ProblemValue) (answer : Answer) (known problem_rest : Option (List ℕ)) (problem_given : List ℕ) (problem_old problem_new : ℕ)
+pub CheckOnDevices-stopped : (right : Bool) (problem : ProblemValue) (answer : Answer) (known problem_rest : Option (List ℕ)) (problem_given : List ℕ) (problem_old problem_new : ℕ)
     (answer_known rest : Option (List ℕ)) (given : List ℕ) (left_old left_new : ℕ) (before after : Option (List ℕ))
     → HaveCome problem answer known problem_rest problem_given problem_old problem_new answer_known rest given left_old left_new
     → IsTrue right ↔ IsRight problem answer → AppendsBeginning before after (verdict_line right)
-    → CheckTells WriteFailed known (problem_old - problem_new) answer_known (left_old - left_new) before after
-CheckTells-stopped right problem answer None problem_rest problem_given problem_old problem_new answer_known rest given left_old left_new before after come exact part = tt
-CheckTells-stopped right problem answer (Some whole) problem_rest problem_given problem_old problem_new None rest given left_old left_new before after come exact part = tt
-CheckTells-stopped right problem answer (Some whole) problem_rest problem_given problem_old problem_new (Some text) rest given left_old left_new None after come exact part = tt
-CheckTells-stopped right problem answer (Some whole) problem_rest problem_given problem_old problem_new (Some text) rest given left_old left_new (Some held) after come exact part = (
+    → CheckOnDevices WriteFailed known (problem_old - problem_new) answer_known (left_old - left_new) before after
+CheckOnDevices-stopped right problem answer None problem_rest problem_given problem_old problem_new answer_known rest given left_old left_new before after come exact part = tt
+CheckOnDevices-stopped right problem answer (Some whole) problem_rest problem_given problem_old problem_new None rest given left_old left_new before after come exact part = tt
+CheckOnDevices-stopped right problem answer (Some whole) problem_rest problem_given problem_old problem_new (Some text) rest given left_old left_new None after come exact part = tt
+CheckOnDevices-stopped right problem answer (Some whole) problem_rest problem_given problem_old problem_new (Some text) rest given left_old left_new (Some held) after come exact part = (
   part.0,
   appended held part.0 after part.2,
   (right, judges right problem answer whole problem_rest problem_given problem_old problem_new text rest given left_old left_new come exact, part.1),
@@ -129,15 +129,15 @@ verdict true whole came text given judged = (judged, refl)
 verdict false whole came text given judged = (judged, refl)
 
 -- the verdict was written
-pub CheckTells-judged : (right : Bool) (problem : ProblemValue) (answer : Answer) (known problem_rest : Option (List ℕ)) (problem_given : List ℕ) (problem_old problem_new : ℕ)
+pub CheckOnDevices-judged : (right : Bool) (problem : ProblemValue) (answer : Answer) (known problem_rest : Option (List ℕ)) (problem_given : List ℕ) (problem_old problem_new : ℕ)
     (answer_known rest : Option (List ℕ)) (given : List ℕ) (left_old left_new : ℕ) (before after : Option (List ℕ))
     → HaveCome problem answer known problem_rest problem_given problem_old problem_new answer_known rest given left_old left_new
     → IsTrue right ↔ IsRight problem answer → Appends before after (verdict_line right)
-    → CheckTells (if right then Valid else NotValid) known (problem_old - problem_new) answer_known (left_old - left_new) before after
-CheckTells-judged right problem answer None problem_rest problem_given problem_old problem_new answer_known rest given left_old left_new before after come exact all = tt
-CheckTells-judged right problem answer (Some whole) problem_rest problem_given problem_old problem_new None rest given left_old left_new before after come exact all = tt
-CheckTells-judged right problem answer (Some whole) problem_rest problem_given problem_old problem_new (Some text) rest given left_old left_new None after come exact all = tt
-CheckTells-judged right problem answer (Some whole) problem_rest problem_given problem_old problem_new (Some text) rest given left_old left_new (Some held) after come exact all = (
+    → CheckOnDevices (if right then Valid else NotValid) known (problem_old - problem_new) answer_known (left_old - left_new) before after
+CheckOnDevices-judged right problem answer None problem_rest problem_given problem_old problem_new answer_known rest given left_old left_new before after come exact all = tt
+CheckOnDevices-judged right problem answer (Some whole) problem_rest problem_given problem_old problem_new None rest given left_old left_new before after come exact all = tt
+CheckOnDevices-judged right problem answer (Some whole) problem_rest problem_given problem_old problem_new (Some text) rest given left_old left_new None after come exact all = tt
+CheckOnDevices-judged right problem answer (Some whole) problem_rest problem_given problem_old problem_new (Some text) rest given left_old left_new (Some held) after come exact all = (
   verdict_line right,
   appended held (verdict_line right) after all,
   verdict right whole _ text _ (judges right problem answer whole problem_rest problem_given problem_old problem_new text rest given left_old left_new come exact),

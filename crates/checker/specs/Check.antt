@@ -99,8 +99,8 @@ CheckWrites (Refused the.Commands number line) problem_text problem_given answer
 CheckWrites (ReadFailed the.Commands) problem_text problem_given answer_text answer_given written = ⊥
 
 -- the same of devices that tell their bytes: how many were read, and what the sink holds before and after
-abbrev pub CheckTells : End → Option (List ℕ) → ℕ → Option (List ℕ) → ℕ → Option (List ℕ) → Option (List ℕ) → Type 0
-CheckTells end problem_known problem_count answer_known answer_count before after =
+abbrev pub CheckOnDevices : End → Option (List ℕ) → ℕ → Option (List ℕ) → ℕ → Option (List ℕ) → Option (List ℕ) → Type 0
+CheckOnDevices end problem_known problem_count answer_known answer_count before after =
     IfSome problem_known (λ problem_text. IfSome answer_known (λ answer_text. IfSome before (λ held.
     (written : List ℕ) × (after ≡ Some (held ++ written))
     × CheckWrites end problem_text (take problem_count problem_text) answer_text (take answer_count answer_text) written)))

@@ -1,7 +1,7 @@
 //! Checks an answer to a problem, and writes whether it is right.
 ghost use Rattle.std.specs.Prelude.{◌≡◌, ◌+◌, ◌-◌, ◌^◌, ◌<◌, ◌↔◌, IfOk, IsTrue, length};
 ghost use Rattle.dimacs_io.specs.Device.{CountsFailure, WritesUpTo};
-ghost use Rattle.checker.specs.Check.{CheckTells, NamesEnds, NameEnds, IsRight, Settles, ValidSettles, answer_failures, flow_of_lines, marks_of, problem_failures, verdict_line, write_failures};
+ghost use Rattle.checker.specs.Check.{CheckOnDevices, NamesEnds, NameEnds, IsRight, Settles, ValidSettles, answer_failures, flow_of_lines, marks_of, problem_failures, verdict_line, write_failures};
 
 use crate::end::{End, Text};
 use crate::read::{read_answer, read_problem};
@@ -24,7 +24,7 @@ pub fn check<P: Source, A: Source, O: Sink>(
     requires out { O.failures out.old < 2 ^ 64 - 1 }
 
     // `valid` is written exactly where the answer is right, and no end comes without its cause.
-    ensures check { CheckTells result
+    ensures check { CheckOnDevices result
         (P.remaining problem.old) (P.most_left problem.old - P.most_left problem.new)
         (A.remaining answer.old) (A.most_left answer.old - A.most_left answer.new)
         (O.contents out.old) (O.contents out.new) }

@@ -14,7 +14,7 @@ use Rattle.dimacs_lines.specs.Cut.{Cut, kept, extended, begun_line, begun_with, 
 use Rattle.dimacs_lines.proofs.LineLemmas.{joined, joined_parts, parts_of-append}
 use Rattle.dimacs_lines.proofs.GoesOnLemmas.{GoesOn, settled_go_on, last_line-too_long}
 use Rattle.dimacs_lines.proofs.PartLemmas.{line_feed_used, first_parts, parts_of-first, parts_with, extended-kept}
-use Rattle.dimacs_lines.specs.Stream.{Rule, counted, at_line, fault_among, or_else, first_fault, settled_lines, decided, ReportsCut, cut_fault, lines_after, PartTaken, IsOpen, EndsWell, Tells}
+use Rattle.dimacs_lines.specs.Stream.{Rule, counted, at_line, fault_among, or_else, first_fault, settled_lines, decided, ReportsCut, cut_fault, lines_after, PartTaken, IsOpen, EndsWell, IsDecidedBy}
 
 -- the first fault of two lists in a row
 abbrev pub first_of_both : Option TextFault → Option TextFault → Option TextFault
@@ -176,7 +176,7 @@ whole_piece rule text piece used fault e =
 
 pub piece_failed : {T : Type 0} (rule : Rule) (holds : List Line → T → Type 0) (e : LineError) (text piece : List ℕ) (cutter : Cut) (taker : T) (lines : ℕ) → 0 < length piece
     → ((before : List Line) → holds before taker → ReportsCut rule e (part_line cutter piece) (has_line_feed piece) before) → IsOpen rule holds text lines taker (begun_line cutter)
-    → Tells rule (located e (min (lines + 1) (2 ^ 64 - 1))) text piece
+    → IsDecidedBy rule (located e (min (lines + 1) (2 ^ 64 - 1))) text piece
 piece_failed rule holds line_error.Memory text piece cutter taker lines some reported open_is =
     let r = reported (parts_of text).ended open_is.held in
     part_ends rule holds text piece cutter taker lines some open_is r.1 r.0
@@ -197,7 +197,7 @@ pub no_memory_decided : (rule : Rule) (text : List ℕ) → decided rule text �
 unfolding decided
 no_memory_decided rule text = no_memory_first rule [] (settled_lines (parts_of text))
 
-pub tells_failed : (rule : Rule) (fault : TextFault) (text piece : List ℕ) → decided rule text ≡ Some fault → Tells rule fault text piece
+pub tells_failed : (rule : Rule) (fault : TextFault) (text piece : List ℕ) → decided rule text ≡ Some fault → IsDecidedBy rule fault text piece
 tells_failed rule text_fault.Memory text piece e = absurd (no_memory_decided rule text e)
 tells_failed rule (text_fault.Fault number line) text piece e = decided-append rule text piece (text_fault.Fault number line) e
 
@@ -223,7 +223,7 @@ fed_more rule stands piece done rest used old now new e before part = (
 )
 
 -- where want of memory is told, it is for a line without a fault
-pub well_told : (rule : Rule) (fault : TextFault) (text piece : List ℕ) → Tells rule fault text piece → ◌≡◌ {A = Result (Unit {0}) TextFault} (Err fault) (Err text_fault.Memory) → EndsWell rule text piece
+pub well_told : (rule : Rule) (fault : TextFault) (text piece : List ℕ) → IsDecidedBy rule fault text piece → ◌≡◌ {A = Result (Unit {0}) TextFault} (Err fault) (Err text_fault.Memory) → EndsWell rule text piece
 well_told rule text_fault.Memory text piece tells is = tells
 well_told rule (text_fault.Fault number line) text piece tells is = absurd cc
 

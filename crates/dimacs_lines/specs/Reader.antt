@@ -5,7 +5,7 @@ use Rattle.dimacs_lines.specs.declared.fault.TextFault.TheVariants as text_fault
 use Rattle.dimacs_lines.specs.Lines.{Line, lines_of}
 use Rattle.dimacs_lines.specs.Cut.{begun_line}
 use Rattle.dimacs_lines.specs.declared.reader.TextReader.{TextReader}
-use Rattle.dimacs_lines.specs.Stream.{Rule, Stands, StopsWell, Tells, decided, first_fault, counted}
+use Rattle.dimacs_lines.specs.Stream.{Rule, Stands, StopsWell, IsDecidedBy, decided, first_fault, counted}
 
 module _ {T : Type 0} where
   -- the reader holds what reading takes from the text
@@ -21,7 +21,7 @@ module _ {T : Type 0} where
   -- after a part of a piece, which ends at an LF or with the piece
   abbrev pub FeedsPart : Rule → (List Line → T → Type 0) → Result ℕ TextFault → List ℕ → TextReader T → List ℕ → Type 0
   FeedsPart rule holds (Ok used) piece reader text = (decided rule (text ++ take used piece) ≡ None) × StandsFor rule holds reader (text ++ take used piece)
-  FeedsPart rule holds (Err e) piece reader text = Tells rule e text piece
+  FeedsPart rule holds (Err e) piece reader text = IsDecidedBy rule e text piece
 
   -- the reader answered this, and answers it from then on
   abbrev pub HasFailed : TextReader T → TextFault → Type 0

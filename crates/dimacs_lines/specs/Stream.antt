@@ -115,6 +115,6 @@ pub record StopsWell (rule : Rule) (text : List ℕ) : Type 0 where
   pub faultless : first_fault rule [] (lines_of text) ≡ None
 
 -- the fault is decided by the text with the piece, or memory was wanted for a line of the piece, through which none is
-abbrev pub Tells : Rule → TextFault → List ℕ → List ℕ → Type 0
-Tells rule text_fault.Memory text piece = EndsWell rule text piece
-Tells rule (text_fault.Fault number line) text piece = decided rule (text ++ piece) ≡ Some (text_fault.Fault number line)
+abbrev pub IsDecidedBy : Rule → TextFault → List ℕ → List ℕ → Type 0
+IsDecidedBy rule text_fault.Memory text piece = EndsWell rule text piece
+IsDecidedBy rule (text_fault.Fault number line) text piece = decided rule (text ++ piece) ≡ Some (text_fault.Fault number line)

@@ -17,7 +17,7 @@ use Rattle.dimacs_lines.specs.Fault.{number_of}
 use Rattle.dimacs_lines.specs.Lines.{Line}
 use Rattle.dimacs_lines.specs.Fields.{Word, natural, integer, words_of}
 use Rattle.dimacs_lines.specs.Checks.{◌>>=◌, demand, some_or, natural_in, integer_in}
-use Rattle.dimacs_text.specs.Problem.{Told, told_of, kind_named, kind_in, is_source_word, is_sink_word, has_source, has_sink, has_terminals, terminal_by, read_size, read_mark, read_mark_of, read_supply, read_terminal, read_side, read_row, read_row_of, read_min_row, read_max_row, read_asn_row, field, is_named, fault_of, fault_by, first_of, fields_of}
+use Rattle.dimacs_text.specs.Problem.{Parsed, parsed_of, kind_named, kind_in, is_source_word, is_sink_word, has_source, has_sink, has_terminals, terminal_by, read_size, read_mark, read_mark_of, read_supply, read_terminal, read_side, read_row, read_row_of, read_min_row, read_max_row, read_asn_row, field, is_named, fault_of, fault_by, first_of, fields_of}
 use Rattle.dimacs_lines.specs.Stream.{at_line, or_at}
 use Rattle.dimacs_text.specs.Reading.{ProblemValue, ending_by, problem_rule, problem_end}
 
@@ -52,7 +52,7 @@ integer_in_other limit word = bind_other (some_or (integer word) fault.NotANumbe
 kind_in_other : (word : Word) → IsOther (kind_in word)
 kind_in_other word = some_or_other (kind_named word) fault.UnknownKind (λ h. cc)
 
-read_size_other : (told : Told) (fields : List Word) → IsOther (read_size told fields)
+read_size_other : (told : Parsed) (fields : List Word) → IsOther (read_size told fields)
 unfolding read_size
 read_size_other told fields =
     bind_other (demand (is_none told.size) fault.SecondProblemLine) (λ _. demand (length fields == 3) fault.WrongFieldCount >>= λ _. kind_in (field 0 fields) >>= λ kind. natural_in 1 NODE_LIMIT (field 1 fields) >>= λ nodes. natural_in 0 ARC_LIMIT (field 2 fields) >>= λ arcs. Ok (record { kind = kind; nodes = nodes; arcs = arcs })) (demand_other _ fault.SecondProblemLine (λ h. cc)) (λ _.
@@ -97,7 +97,7 @@ read_mark_of_other Min nodes marks fields = read_supply_other nodes marks fields
 read_mark_of_other Max nodes marks fields = read_terminal_other nodes marks fields
 read_mark_of_other Asn nodes marks fields = read_side_other nodes marks fields
 
-read_mark_other : (told : Told) (fields : List Word) → IsOther (read_mark told fields)
+read_mark_other : (told : Parsed) (fields : List Word) → IsOther (read_mark told fields)
 unfolding read_mark
 read_mark_other told fields =
     bind_other (some_or told.size fault.BeforeProblemLine) (λ size. demand (length told.rows == 0) fault.NodeAfterArc >>= λ _. read_mark_of size.kind size.nodes told.marks fields) (some_or_other told.size fault.BeforeProblemLine (λ h. cc)) (λ size.
@@ -140,7 +140,7 @@ read_row_of_other Min nodes marks fields = read_min_row_other nodes fields
 read_row_of_other Max nodes marks fields = read_max_row_other nodes fields
 read_row_of_other Asn nodes marks fields = read_asn_row_other nodes marks fields
 
-read_row_other : (told : Told) (fields : List Word) → IsOther (read_row told fields)
+read_row_other : (told : Parsed) (fields : List Word) → IsOther (read_row told fields)
 unfolding read_row
 read_row_other told fields =
     bind_other (some_or told.size fault.BeforeProblemLine) (λ size. demand (has_terminals size.kind told.marks) fault.EndpointMissing >>= λ _. demand (nat_lt (length told.rows) size.arcs) fault.TooManyArcs >>= λ _. read_row_of size.kind size.nodes told.marks fields) (some_or_other told.size fault.BeforeProblemLine (λ h. cc)) (λ size.
@@ -152,7 +152,7 @@ pub fault_other : {A : Type 0} (r : Result A Fault) → IsOther r → fault_of r
 fault_other (Ok x) h = λ e. cc
 fault_other (Err f) h = λ e. h cc
 
-fault_by_other : (told : Told) (first : Option Designator) (fields : List Word) → fault_by told first fields ≢ Some fault.LineTooLong
+fault_by_other : (told : Parsed) (first : Option Designator) (fields : List Word) → fault_by told first fields ≢ Some fault.LineTooLong
 fault_by_other told None fields = λ e. cc
 fault_by_other told (Some designator.Comment) fields = λ e. cc
 fault_by_other told (Some designator.Problem) fields = fault_other (read_size told fields) (read_size_other told fields)
@@ -170,12 +170,12 @@ end_by false few value line other = λ e. absurd (omega (arith, number_of_fault 
 end_by true true value line other = λ e. absurd (omega (arith, number_of_fault fault.TooFewArcs line other e))
 end_by true false value line other = λ e. cc
 
-ending_other : (size : Option Size) (told : Told) (line other : ℕ) → or_at (ending_by size told) line ≢ Err (text_fault.Fault 1 other)
+ending_other : (size : Option Size) (told : Parsed) (line other : ℕ) → or_at (ending_by size told) line ≢ Err (text_fault.Fault 1 other)
 ending_other None told line other = λ e. absurd (omega (arith, number_of_fault fault.NoProblemLine line other e))
 ending_other (Some size) told line other = end_by (has_terminals size.kind told.marks) (nat_lt (length told.rows) size.arcs) _ line other
 
 pub rule_other : (before : List Line) (line : Line) → problem_rule before line ≢ Some fault.LineTooLong
-rule_other before line = fault_by_other (told_of before) (first_of (words_of line)) (fields_of (words_of line))
+rule_other before line = fault_by_other (parsed_of before) (first_of (words_of line)) (fields_of (words_of line))
 
 pub end_other : (lines : List Line) (other : ℕ) → problem_end lines ≢ Err (text_fault.Fault 1 other)
-end_other lines other = ending_other (told_of lines).size (told_of lines) (length lines) other
+end_other lines other = ending_other (parsed_of lines).size (parsed_of lines) (length lines) other

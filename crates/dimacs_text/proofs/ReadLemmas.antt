@@ -6,24 +6,24 @@ use Rattle.dimacs_lines.specs.declared.fault.TextFault.{TextFault}
 use Rattle.dimacs_lines.specs.declared.fault.TextFault.TheVariants as text_fault
 use Rattle.dimacs_lines.specs.Fault.{number_of}
 use Rattle.dimacs_lines.specs.Lines.{Line, lines_of, IsBytes}
-use Rattle.dimacs_text.specs.Problem.{Told, told_of}
+use Rattle.dimacs_text.specs.Problem.{Parsed, parsed_of}
 use Rattle.dimacs_text.specs.Reading.{ProblemValue, ending, Takes, problem_rule, problem_end, reads}
-use Rattle.dimacs_text.proofs.ProblemLemmas.{told_of_push}
+use Rattle.dimacs_text.proofs.ProblemLemmas.{parsed_of_push}
 use Rattle.dimacs_lines.proofs.DecidedLemmas.{decided_always, decided_only}
 use Rattle.dimacs_text.proofs.OtherLemmas.{rule_other, end_other}
 use Rattle.dimacs_lines.specs.Stream.{counted, decided, first_fault, TakesLine}
 use Rattle.dimacs_lines.specs.Reader as generic
 use Rattle.dimacs_text.specs.ProblemReader.{holds, Finishes}
 
-pub line_taken : (result : Result (Unit {0}) LineError) (old new : Told) (before : List Line) (line : Line) → Takes result line old new → old ≡ told_of before → TakesLine problem_rule holds result before line new
-line_taken (Ok x) old new before line taken held = rw (← held) (taken.0, taken.1 ∙ rw (told_of_push, ← held) refl)
+pub line_taken : (result : Result (Unit {0}) LineError) (old new : Parsed) (before : List Line) (line : Line) → Takes result line old new → old ≡ parsed_of before → TakesLine problem_rule holds result before line new
+line_taken (Ok x) old new before line taken held = rw (← held) (taken.0, taken.1 ∙ rw (parsed_of_push, ← held) refl)
 line_taken (Err e) old new before line taken held = rw (← held) taken
 
-pub reads_ok : (text : List ℕ) (draft : Told) (problem : ProblemValue) → first_fault problem_rule [] (lines_of text) ≡ None → draft ≡ told_of (lines_of text) → Ok problem ≡ ending draft → reads text ≡ Ok problem
+pub reads_ok : (text : List ℕ) (draft : Parsed) (problem : ProblemValue) → first_fault problem_rule [] (lines_of text) ≡ None → draft ≡ parsed_of (lines_of text) → Ok problem ≡ ending draft → reads text ≡ Ok problem
 unfolding reads
 reads_ok text draft problem found held closed = rw (found, ← held, ← closed) refl
 
-pub reads_end : (text : List ℕ) (draft : Told) (f : Fault) (lines : ℕ) → first_fault problem_rule [] (lines_of text) ≡ None → draft ≡ told_of (lines_of text) → lines ≡ counted (length (lines_of text)) → Err f ≡ ending draft
+pub reads_end : (text : List ℕ) (draft : Parsed) (f : Fault) (lines : ℕ) → first_fault problem_rule [] (lines_of text) ≡ None → draft ≡ parsed_of (lines_of text) → lines ≡ counted (length (lines_of text)) → Err f ≡ ending draft
     → reads text ≡ Err (text_fault.Fault (number_of f) lines)
 unfolding reads
 reads_end text draft f lines found held count closed = rw (found, ← held, ← closed, count) refl
@@ -33,9 +33,9 @@ unfolding reads
 reads_fault text_fault.Memory text found = found
 reads_fault (text_fault.Fault number line) text found = rw found refl
 
-pub told_of_nothing : record { size = None; marks = []; rows = [] } ≡ told_of []
-unfolding told_of
-told_of_nothing = refl
+pub parsed_of_nothing : record { size = None; marks = []; rows = [] } ≡ parsed_of []
+unfolding parsed_of
+parsed_of_nothing = refl
 
 pub problem_always : (text more : List ℕ) (f : TextFault) → decided problem_rule text ≡ Some f → reads (text ++ more) ≡ Err f
 unfolding reads

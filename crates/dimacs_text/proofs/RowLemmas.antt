@@ -17,7 +17,7 @@ use Rattle.dimacs_text.specs.declared.problem.Size.{Size}
 use Rattle.dimacs_text.specs.declared.problem.TheConstants.{NODE_LIMIT, ARC_LIMIT, CAP_LIMIT, COST_LIMIT, SUPPLY_LIMIT}
 use Rattle.dimacs_lines.specs.Fields.{Word, natural, integer}
 use Rattle.dimacs_lines.specs.Checks.{◌>>=◌, demand, some_or, natural_in, integer_in}
-use Rattle.dimacs_text.specs.Problem.{Told, kind_named, kind_of, kind_in, natural_value, integer_value, is_source_word, is_sink_word, has_source, has_sink, has_terminals, terminal_by, read_size, read_mark, read_mark_of, read_supply, read_terminal, read_side, read_row, read_row_of, read_min_row, read_max_row, read_asn_row, field, node_of, is_named, mark_of, row_of, size_of, new_marks, new_rows}
+use Rattle.dimacs_text.specs.Problem.{Parsed, kind_named, kind_of, kind_in, natural_value, integer_value, is_source_word, is_sink_word, has_source, has_sink, has_terminals, terminal_by, read_size, read_mark, read_mark_of, read_supply, read_terminal, read_side, read_row, read_row_of, read_min_row, read_max_row, read_asn_row, field, node_of, is_named, mark_of, row_of, size_of, new_marks, new_rows}
 use Rattle.dimacs_text.specs.Lawful.{IsNode, IsWithin, IsLawfulSize, IsLawfulMark, IsLawfulRow, HasLawfulSupply, IsSupply, IsSide, AreOpposite, AreTerminals, MarksFit, RowFits}
 
 -- the value of a step that did not fail
@@ -83,12 +83,12 @@ none_is None e = refl
 none_is (Some size) e = absurd cc
 
 -- what the problem line says
-pub record SizeIsRead (told : Told) (fields : List Word) (size : Size) : Type 0 where
+pub record SizeIsRead (told : Parsed) (fields : List Word) (size : Size) : Type 0 where
   pub first : told.size ≡ None
   pub lawful : IsLawfulSize size
   pub size_is : size_of fields ≡ size
 
-pub read_size-ok : (told : Told) (fields : List Word) (size : Size) → read_size told fields ≡ Ok size → SizeIsRead told fields size
+pub read_size-ok : (told : Parsed) (fields : List Word) (size : Size) → read_size told fields ≡ Ok size → SizeIsRead told fields size
 unfolding read_size
 read_size-ok told fields size ok =
     let s1 = bind_ok (demand (is_none told.size) fault.SecondProblemLine) (λ _. demand (length fields == 3) fault.WrongFieldCount >>= λ _. kind_in (field 0 fields) >>= λ kind. natural_in 1 NODE_LIMIT (field 1 fields) >>= λ nodes. natural_in 0 ARC_LIMIT (field 2 fields) >>= λ arcs. Ok (record { kind = kind; nodes = nodes; arcs = arcs })) size ok in
@@ -211,13 +211,13 @@ read_mark_of-ok Max nodes marks fields mark ok = read_terminal-ok nodes marks fi
 read_mark_of-ok Asn nodes marks fields mark ok = read_side-ok nodes marks fields mark ok
 
 -- what a node line says
-pub record MarkIsRead (told : Told) (fields : List Word) (mark : NodeMark) : Type 0 where
+pub record MarkIsRead (told : Parsed) (fields : List Word) (mark : NodeMark) : Type 0 where
   pub size : Size
   pub size_is : told.size ≡ Some size
   pub no_rows : told.rows ≡ []
   pub read : FieldsAreMark size.kind size.nodes told.marks fields mark
 
-pub read_mark-ok : (told : Told) (fields : List Word) (mark : NodeMark) → read_mark told fields ≡ Ok mark → MarkIsRead told fields mark
+pub read_mark-ok : (told : Parsed) (fields : List Word) (mark : NodeMark) → read_mark told fields ≡ Ok mark → MarkIsRead told fields mark
 unfolding read_mark
 read_mark-ok told fields mark ok =
     let s1 = bind_ok (some_or told.size fault.BeforeProblemLine) (λ size. demand (length told.rows == 0) fault.NodeAfterArc >>= λ _. read_mark_of size.kind size.nodes told.marks fields) mark ok in
@@ -302,13 +302,13 @@ read_row_of-ok Max nodes marks fields row ok = read_max_row-ok nodes marks field
 read_row_of-ok Asn nodes marks fields row ok = read_asn_row-ok nodes marks fields row ok
 
 -- what an arc line says
-pub record RowIsRead (told : Told) (fields : List Word) (row : ArcRow) : Type 0 where
+pub record RowIsRead (told : Parsed) (fields : List Word) (row : ArcRow) : Type 0 where
   pub size : Size
   pub size_is : told.size ≡ Some size
   pub room : length told.rows < size.arcs
   pub read : FieldsAreRow size.kind size.nodes told.marks fields row
 
-pub read_row-ok : (told : Told) (fields : List Word) (row : ArcRow) → read_row told fields ≡ Ok row → RowIsRead told fields row
+pub read_row-ok : (told : Parsed) (fields : List Word) (row : ArcRow) → read_row told fields ≡ Ok row → RowIsRead told fields row
 unfolding read_row
 read_row-ok told fields row ok =
     let s1 = bind_ok (some_or told.size fault.BeforeProblemLine) (λ size. demand (has_terminals size.kind told.marks) fault.EndpointMissing >>= λ _. demand (nat_lt (length told.rows) size.arcs) fault.TooManyArcs >>= λ _. read_row_of size.kind size.nodes told.marks fields) row ok in

@@ -112,7 +112,7 @@ row_of Asn fields = record {
 -- ---- what lines tell
 
 -- the problem line, and what the node and arc lines after it say, in order
-pub record Told : Type 0 where
+pub record Parsed : Type 0 where
   pub size : Option Size
   pub marks : List NodeMark
   pub rows : List ArcRow
@@ -124,13 +124,13 @@ marks_of kind line = if is_node (first_of (words_of line)) then mark_of kind (fi
 abbrev pub rows_of : Kind → Line → List ArcRow
 rows_of kind line = if is_arc (first_of (words_of line)) then row_of kind (fields_of (words_of line)) ∷ [] else []
 
-abbrev pub told_after : Size → List Line → Told
-told_after size lines = record { size = Some size; marks = flat_map (marks_of size.kind) lines; rows = flat_map (rows_of size.kind) lines }
+abbrev pub parsed_after : Size → List Line → Parsed
+parsed_after size lines = record { size = Some size; marks = flat_map (marks_of size.kind) lines; rows = flat_map (rows_of size.kind) lines }
 
-unfoldable pub told_of : List Line → Told
-told_of [] = record { size = None; marks = []; rows = [] }
-told_of (line ∷ lines) =
-    if is_problem (first_of (words_of line)) then told_after (size_of (fields_of (words_of line))) lines else told_of lines
+unfoldable pub parsed_of : List Line → Parsed
+parsed_of [] = record { size = None; marks = []; rows = [] }
+parsed_of (line ∷ lines) =
+    if is_problem (first_of (words_of line)) then parsed_after (size_of (fields_of (words_of line))) lines else parsed_of lines
 
 -- the same with one line more
 abbrev pub size_with : Option Size → Line → Option Size
@@ -154,8 +154,8 @@ abbrev pub rows_with : Option Size → Line → List ArcRow
 rows_with None line = []
 rows_with (Some size) line = rows_of size.kind line
 
-unfoldable pub and_told : Told → Line → Told
-and_told told line = record { size = size_with told.size line; marks = told.marks ++ marks_with told.size line; rows = told.rows ++ rows_with told.size line }
+unfoldable pub and_parsed : Parsed → Line → Parsed
+and_parsed told line = record { size = size_with told.size line; marks = told.marks ++ marks_with told.size line; rows = told.rows ++ rows_with told.size line }
 
 -- ---- a line among the lines before it
 
@@ -201,7 +201,7 @@ sink_of (Source id ∷ marks) = sink_of marks
 sink_of (Side id ∷ marks) = sink_of marks
 
 -- the problem line, after its designator
-unfoldable pub read_size : Told → List Word → Result Size Fault
+unfoldable pub read_size : Parsed → List Word → Result Size Fault
 read_size told fields = do
   _ ← demand (is_none told.size) fault.SecondProblemLine
   _ ← demand (length fields == 3) fault.WrongFieldCount
@@ -266,7 +266,7 @@ read_mark_of Max nodes marks fields = read_terminal nodes marks fields
 read_mark_of Asn nodes marks fields = read_side nodes marks fields
 
 -- a node line
-unfoldable pub read_mark : Told → List Word → Result NodeMark Fault
+unfoldable pub read_mark : Parsed → List Word → Result NodeMark Fault
 read_mark told fields = do
   size ← some_or told.size fault.BeforeProblemLine
   _ ← demand (length told.rows == 0) fault.NodeAfterArc
@@ -309,7 +309,7 @@ read_row_of Max nodes marks fields = read_max_row nodes fields
 read_row_of Asn nodes marks fields = read_asn_row nodes marks fields
 
 -- an arc line
-unfoldable pub read_row : Told → List Word → Result ArcRow Fault
+unfoldable pub read_row : Parsed → List Word → Result ArcRow Fault
 read_row told fields = do
   size ← some_or told.size fault.BeforeProblemLine
   _ ← demand (has_terminals size.kind told.marks) fault.EndpointMissing
@@ -321,7 +321,7 @@ fault_of (Ok x) = None
 fault_of (Err fault) = Some fault
 
 -- the fault of a line that is not too long, by its words
-abbrev pub fault_by : Told → Option Designator → List Word → Option Fault
+abbrev pub fault_by : Parsed → Option Designator → List Word → Option Fault
 fault_by told None fields = None
 fault_by told (Some designator.Comment) fields = None
 fault_by told (Some designator.Problem) fields = fault_of (read_size told fields)
@@ -329,5 +329,5 @@ fault_by told (Some designator.Node) fields = fault_of (read_mark told fields)
 fault_by told (Some designator.Arc) fields = fault_of (read_row told fields)
 fault_by told (Some designator.Unknown) fields = Some fault.UnknownDesignator
 
-abbrev pub line_fault : Told → Line → Option Fault
+abbrev pub line_fault : Parsed → Line → Option Fault
 line_fault told line = fault_by told (first_of (words_of line)) (fields_of (words_of line))

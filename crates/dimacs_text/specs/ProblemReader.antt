@@ -3,7 +3,7 @@ use Rattle.std.specs.Prelude.{◌≡◌, ℕ, List, Result, Ok, Err}
 use Rattle.dimacs_lines.specs.declared.fault.TextFault.{TextFault}
 use Rattle.dimacs_lines.specs.declared.fault.TextFault.TheVariants as text_fault
 use Rattle.dimacs_lines.specs.Lines.{Line}
-use Rattle.dimacs_text.specs.Problem.{told_of}
+use Rattle.dimacs_text.specs.Problem.{parsed_of}
 use Rattle.dimacs_lines.specs.Reader as generic
 use Rattle.dimacs_lines.specs.Stream.{StopsWell}
 use Rattle.dimacs_text.specs.declared.draft.Draft.{Draft}
@@ -12,7 +12,7 @@ use Rattle.dimacs_text.specs.Reading.{ProblemValue, problem_rule, reads}
 
 -- the draft holds what the lines tell
 abbrev pub holds : List Line → Draft → Type 0
-holds before draft = draft ≡ told_of before
+holds before draft = draft ≡ parsed_of before
 
 -- the reader holds what reading takes from the text
 abbrev pub StandsFor : ProblemReader → List ℕ → Type 0

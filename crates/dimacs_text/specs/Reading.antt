@@ -9,7 +9,7 @@ use Rattle.dimacs_text.specs.declared.problem.NodeMark.{NodeMark}
 use Rattle.dimacs_text.specs.declared.problem.ArcRow.{ArcRow}
 use Rattle.dimacs_text.specs.declared.problem.Size.{Size}
 use Rattle.dimacs_lines.specs.Lines.{Line, lines_of}
-use Rattle.dimacs_text.specs.Problem.{Told, told_of, and_told, line_fault, has_terminals}
+use Rattle.dimacs_text.specs.Problem.{Parsed, parsed_of, and_parsed, line_fault, has_terminals}
 use Rattle.dimacs_lines.specs.Stream.{Rule, Reports, first_fault, fault_or, or_at}
 
 -- a problem without where it lies in memory
@@ -20,33 +20,33 @@ pub record ProblemValue : Type 0 where
   pub arcs : List ArcRow
 
 -- what lines without a fault give at the end of the text
-abbrev pub ending_by : Option Size → Told → Result ProblemValue Fault
+abbrev pub ending_by : Option Size → Parsed → Result ProblemValue Fault
 ending_by None told = Err fault.NoProblemLine
 ending_by (Some size) told =
     if not (has_terminals size.kind told.marks) then Err fault.EndpointMissing
     else if nat_lt (length told.rows) size.arcs then Err fault.TooFewArcs
     else Ok (record { kind = size.kind; nodes = size.nodes; marks = told.marks; arcs = told.rows })
 
-abbrev pub ending : Told → Result ProblemValue Fault
+abbrev pub ending : Parsed → Result ProblemValue Fault
 ending told = ending_by told.size told
 
 -- the fault of a line that fits, by itself and what the lines before it tell
 abbrev pub problem_rule : Rule
-problem_rule before line = line_fault (told_of before) line
+problem_rule before line = line_fault (parsed_of before) line
 
 -- the problem of lines without a fault, or the fault at their end with their number
 abbrev pub problem_end : List Line → Result ProblemValue TextFault
-problem_end lines = or_at (ending (told_of lines)) (length lines)
+problem_end lines = or_at (ending (parsed_of lines)) (length lines)
 
 -- the first faulty line, or the fault at the end with the number of lines, or the problem
 unfoldable pub reads : List ℕ → Result ProblemValue TextFault
 reads text = fault_or (first_fault problem_rule [] (lines_of text)) (problem_end (lines_of text))
 
 -- what was taken is without a fault, and told as expected; or its fault is told, or want of memory where it has none
-abbrev pub TakesAs : Result (Unit {0}) LineError → Option Fault → Told → Told → Type 0
+abbrev pub TakesAs : Result (Unit {0}) LineError → Option Fault → Parsed → Parsed → Type 0
 TakesAs (Ok _) found expected new = (found ≡ None) × (new ≡ expected)
 TakesAs (Err e) found expected new = Reports e found
 
 -- a line was taken
-abbrev pub Takes : Result (Unit {0}) LineError → Line → Told → Told → Type 0
-Takes result line old new = TakesAs result (line_fault old line) (and_told old line) new
+abbrev pub Takes : Result (Unit {0}) LineError → Line → Parsed → Parsed → Type 0
+Takes result line old new = TakesAs result (line_fault old line) (and_parsed old line) new

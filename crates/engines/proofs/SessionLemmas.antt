@@ -19,7 +19,7 @@ use Rattle.engines.specs.Printing.{outcome_line}
 use Rattle.checker.specs.Reading.{Gives, ReadsText, end_of}
 use Rattle.engines.specs.Run.{Answers}
 use Rattle.engines.specs.Serving.{CommandsEnd, CommandsFail, Stopped}
-use Rattle.engines.specs.Session.{Opens, PrintsBeginning, PrintsRun, SessionTells, SessionWrites, command_failures}
+use Rattle.engines.specs.Session.{Opens, PrintsBeginning, PrintsRun, SessionOnDevices, SessionWrites, command_failures}
 use Rattle.checker.proofs.SourceLemmas.{all_given, text_at_end, text_given, problem_text, reads_decided, appended}
 
 -- ---- the problem was not read
@@ -32,13 +32,13 @@ problem_end (read_error.Text (text_fault.Fault number line)) extra text given co
     (ap reads (text_at_end text given rest gives.bytes is.0) ∙ is.1, refl)
 problem_end read_error.Source extra text given commands commands_given rest left_old left_new gives is = (ap (decided problem_rule) (text_given text given rest left_old left_new gives) ∙ is, refl)
 
-pub SessionTells-problem : (e : ReadError) (extra : ℕ) (known rest : Option (List ℕ)) (given : List ℕ) (left_old left_new : ℕ) (commands : Option (List ℕ)) (count : ℕ) (before : Option (List ℕ))
+pub SessionOnDevices-problem : (e : ReadError) (extra : ℕ) (known rest : Option (List ℕ)) (given : List ℕ) (left_old left_new : ℕ) (commands : Option (List ℕ)) (count : ℕ) (before : Option (List ℕ))
     → Gives known rest given left_old left_new → ReadsText (decided problem_rule) reads (Err e) given rest
-    → SessionTells (end_of the.Problem e) extra known (left_old - left_new) commands count before before
-SessionTells-problem e extra None rest given left_old left_new commands count before gives is = tt
-SessionTells-problem e extra (Some text) rest given left_old left_new None count before gives is = tt
-SessionTells-problem e extra (Some text) rest given left_old left_new (Some commands) count None gives is = tt
-SessionTells-problem e extra (Some text) rest given left_old left_new (Some commands) count (Some held) gives is =
+    → SessionOnDevices (end_of the.Problem e) extra known (left_old - left_new) commands count before before
+SessionOnDevices-problem e extra None rest given left_old left_new commands count before gives is = tt
+SessionOnDevices-problem e extra (Some text) rest given left_old left_new None count before gives is = tt
+SessionOnDevices-problem e extra (Some text) rest given left_old left_new (Some commands) count None gives is = tt
+SessionOnDevices-problem e extra (Some text) rest given left_old left_new (Some commands) count (Some held) gives is =
     ([], ap (λ l. Some l) (sym (append-nil held)), problem_end e extra text given commands (take count commands) rest left_old left_new gives is)
 
 -- ---- the opening line was written up to a failed call
@@ -54,15 +54,15 @@ prints_opening problem extra opening opens = record {
   written_is = refl;
 }
 
-pub SessionTells-opening : (problem : ProblemValue) (extra : ℕ) (opening : SessionState) (known rest : Option (List ℕ)) (given : List ℕ) (left_old left_new : ℕ)
+pub SessionOnDevices-opening : (problem : ProblemValue) (extra : ℕ) (opening : SessionState) (known rest : Option (List ℕ)) (given : List ℕ) (left_old left_new : ℕ)
     (commands : Option (List ℕ)) (count : ℕ) (before after : Option (List ℕ))
     → Gives known rest given left_old left_new → IsAtEnd rest → reads given ≡ Ok problem → Opens problem extra opening
     → AppendsBeginning before after (outcome_line opening.moments.present.verdict)
-    → SessionTells WriteFailed extra known (left_old - left_new) commands count before after
-SessionTells-opening problem extra opening None rest given left_old left_new commands count before after gives end is opens part = tt
-SessionTells-opening problem extra opening (Some text) rest given left_old left_new None count before after gives end is opens part = tt
-SessionTells-opening problem extra opening (Some text) rest given left_old left_new (Some commands) count None after gives end is opens part = tt
-SessionTells-opening problem extra opening (Some text) rest given left_old left_new (Some commands) count (Some held) after gives end is opens part =
+    → SessionOnDevices WriteFailed extra known (left_old - left_new) commands count before after
+SessionOnDevices-opening problem extra opening None rest given left_old left_new commands count before after gives end is opens part = tt
+SessionOnDevices-opening problem extra opening (Some text) rest given left_old left_new None count before after gives end is opens part = tt
+SessionOnDevices-opening problem extra opening (Some text) rest given left_old left_new (Some commands) count None after gives end is opens part = tt
+SessionOnDevices-opening problem extra opening (Some text) rest given left_old left_new (Some commands) count (Some held) after gives end is opens part =
     let line = outcome_line opening.moments.present.verdict in
     let begins : PrintsBeginning problem extra (parts_of (take count commands)).ended part.0 =
     record {
@@ -141,15 +141,15 @@ commands_end WriteFailed extra problem opening text problem_given commands given
     let whole = text_at_end commands given rest gives.bytes ends.0 in
     (begins.0, begins.1, (problem, is, inr (all_given commands given rest left_old left_new gives ends.0, rw whole begins.2)))
 
-pub SessionTells-commands : (end : End) (extra : ℕ) (problem : ProblemValue) (opening : SessionState) (known problem_rest : Option (List ℕ)) (problem_given : List ℕ) (problem_old problem_new : ℕ)
+pub SessionOnDevices-commands : (end : End) (extra : ℕ) (problem : ProblemValue) (opening : SessionState) (known problem_rest : Option (List ℕ)) (problem_given : List ℕ) (problem_old problem_new : ℕ)
     (commands rest : Option (List ℕ)) (given : List ℕ) (left_old left_new : ℕ) (before mid after : Option (List ℕ))
     → Gives known problem_rest problem_given problem_old problem_new → IsAtEnd problem_rest → reads problem_given ≡ Ok problem → Opens problem extra opening
     → Appends before mid (outcome_line opening.moments.present.verdict) → Gives commands rest given left_old left_new → CommandsEnd end opening given rest mid after
-    → SessionTells end extra known (problem_old - problem_new) commands (left_old - left_new) before after
-SessionTells-commands end extra problem opening None problem_rest problem_given problem_old problem_new commands rest given left_old left_new before mid after has at_end is opens line gives ends = tt
-SessionTells-commands end extra problem opening (Some text) problem_rest problem_given problem_old problem_new None rest given left_old left_new before mid after has at_end is opens line gives ends = tt
-SessionTells-commands end extra problem opening (Some text) problem_rest problem_given problem_old problem_new (Some commands) rest given left_old left_new None mid after has at_end is opens line gives ends = tt
-SessionTells-commands end extra problem opening (Some text) problem_rest problem_given problem_old problem_new (Some commands) rest given left_old left_new (Some held) mid after has at_end is opens line gives ends =
+    → SessionOnDevices end extra known (problem_old - problem_new) commands (left_old - left_new) before after
+SessionOnDevices-commands end extra problem opening None problem_rest problem_given problem_old problem_new commands rest given left_old left_new before mid after has at_end is opens line gives ends = tt
+SessionOnDevices-commands end extra problem opening (Some text) problem_rest problem_given problem_old problem_new None rest given left_old left_new before mid after has at_end is opens line gives ends = tt
+SessionOnDevices-commands end extra problem opening (Some text) problem_rest problem_given problem_old problem_new (Some commands) rest given left_old left_new None mid after has at_end is opens line gives ends = tt
+SessionOnDevices-commands end extra problem opening (Some text) problem_rest problem_given problem_old problem_new (Some commands) rest given left_old left_new (Some held) mid after has at_end is opens line gives ends =
     commands_end end extra problem opening text (take (problem_old - problem_new) text) commands given held rest left_old left_new mid after
     (problem_text text problem_given problem_rest problem_old problem_new problem has at_end is) opens gives line ends
 

@@ -6,7 +6,7 @@ use Rattle.network.specs.Instance.{numbered_flow}
 use Rattle.flow_solver.specs.declared.verdict.Verdict.{Verdict}
 use Rattle.flow_solver.specs.declared.verdict.Verdict.TheVariants.{Best, Infeasible}
 use Rattle.flow_solver.specs.Moment.{Moment}
-use Rattle.session.specs.Step.{Reply, Tells, Shows, Refuses}
+use Rattle.session.specs.Step.{Reply, TellsVerdict, Shows, Refuses}
 
 -- one `f` line an arc, in the order of the arcs
 abbrev pub flow_lines : List ArcRow → List ℤ → List ℕ
@@ -48,6 +48,6 @@ solution proof m = solution_by m.verdict proof m
 
 -- what is printed for a reply, where this is the present moment after the step
 abbrev pub reply_text : Reply → Moment → List ℕ
-reply_text Tells m = outcome_line m.verdict
+reply_text TellsVerdict m = outcome_line m.verdict
 reply_text (Shows proof) m = solution proof m
 reply_text (Refuses number) m = refusal_line number

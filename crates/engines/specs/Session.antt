@@ -64,8 +64,8 @@ SessionWrites (Refused the.Commands number line) extra problem_text problem_give
 SessionWrites (ReadFailed the.Answer) extra problem_text problem_given commands given written = ⊥
 
 -- the same of devices that tell their bytes: how many were read, and what the sink holds before and after
-abbrev pub SessionTells : End → ℕ → Option (List ℕ) → ℕ → Option (List ℕ) → ℕ → Option (List ℕ) → Option (List ℕ) → Type 0
-SessionTells end extra problem_known problem_count commands_known commands_count before after =
+abbrev pub SessionOnDevices : End → ℕ → Option (List ℕ) → ℕ → Option (List ℕ) → ℕ → Option (List ℕ) → Option (List ℕ) → Type 0
+SessionOnDevices end extra problem_known problem_count commands_known commands_count before after =
     IfSome problem_known (λ problem_text. IfSome commands_known (λ commands. IfSome before (λ held.
     (written : List ℕ) × (after ≡ Some (held ++ written))
     × SessionWrites end extra problem_text (take problem_count problem_text) commands (take commands_count commands) written)))

@@ -55,7 +55,7 @@ SolveWrites (ReadFailed the.Answer) proof text given written = ⊥
 SolveWrites (ReadFailed the.Commands) proof text given written = ⊥
 
 -- the same of devices that tell their bytes: how many were read, and what the sink holds before and after
-abbrev pub SolveTells : End → Bool → Option (List ℕ) → ℕ → Option (List ℕ) → Option (List ℕ) → Type 0
-SolveTells end proof known count before after =
+abbrev pub SolveOnDevices : End → Bool → Option (List ℕ) → ℕ → Option (List ℕ) → Option (List ℕ) → Type 0
+SolveOnDevices end proof known count before after =
     IfSome known (λ text. IfSome before (λ held.
     (written : List ℕ) × (after ≡ Some (held ++ written)) × SolveWrites end proof text (take count text) written))

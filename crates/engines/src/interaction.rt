@@ -6,7 +6,7 @@ ghost use Rattle.checker.specs.Check.{problem_failures, write_failures};
 ghost use Rattle.engines.specs.Printing.{outcome_line};
 ghost use Rattle.checker.specs.Reading.{Gives};
 ghost use Rattle.engines.specs.Serving.{CommandsEnd, CommandsFail, Finishes, GoesOn, Stands};
-ghost use Rattle.engines.specs.Session.{SessionTells, command_failures};
+ghost use Rattle.engines.specs.Session.{SessionOnDevices, command_failures};
 
 use crate::reply::serve_line;
 use crate::solution::write_outcome;
@@ -37,7 +37,7 @@ pub fn run_session<P: Source, C: Source, O: Sink>(
     requires out { O.failures out.old < 2 ^ 64 - 1 }
 
     // What is written is the printing of a run, or what is left of it at a failed call, and no end comes without its cause.
-    ensures session { SessionTells result extra
+    ensures session { SessionOnDevices result extra
         (P.remaining problem.old) (P.most_left problem.old - P.most_left problem.new)
         (C.remaining script.old) (C.most_left script.old - C.most_left script.new)
         (O.contents out.old) (O.contents out.new) }
@@ -64,7 +64,7 @@ pub fn run_session_in<A: Allocator + Copy, P: Source, C: Source, O: Sink>(
     requires out { O.failures out.old < 2 ^ 64 - 1 }
 
     // What is written is the printing of a run, or what is left of it at a failed call, and no end comes without its cause.
-    ensures session { SessionTells result extra
+    ensures session { SessionOnDevices result extra
         (P.remaining problem.old) (P.most_left problem.old - P.most_left problem.new)
         (C.remaining script.old) (C.most_left script.old - C.most_left script.new)
         (O.contents out.old) (O.contents out.new) }

@@ -3,7 +3,7 @@ ghost use Rattle.std.specs.Prelude.{◌≡◌, ◌+◌, ◌-◌, ◌^◌, ◌<�
 ghost use Rattle.dimacs_io.specs.Device.{CountsFailure, WritesUpTo};
 ghost use Rattle.checker.specs.Check.{problem_failures, write_failures};
 ghost use Rattle.engines.specs.Printing.{solution};
-ghost use Rattle.engines.specs.Solve.{SolveTells, end_by};
+ghost use Rattle.engines.specs.Solve.{SolveOnDevices, end_by};
 
 use crate::solution::write_solution;
 use checker::{End, Text, read_problem};
@@ -21,7 +21,7 @@ pub fn solve<P: Source, O: Sink>(alloc: Global, input: &mut P, out: &mut O, proo
     requires out { O.failures out.old < 2 ^ 64 - 1 }
 
     // What is written is the printing of what is settled, and no end comes without its cause.
-    ensures solve { SolveTells result proof
+    ensures solve { SolveOnDevices result proof
         (P.remaining input.old) (P.most_left input.old - P.most_left input.new)
         (O.contents out.old) (O.contents out.new) }
 

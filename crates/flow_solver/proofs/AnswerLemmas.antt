@@ -7,7 +7,7 @@ use Rattle.std.proofs.lemmas.Bool.{cases_lt}
 use Rattle.std.proofs.lemmas.List.Sums.{sum_by-cons}
 use Rattle.dimacs_text.specs.declared.problem.ArcRow.{ArcRow}
 use Rattle.network.specs.Flow.{AllWithinBounds, IsCertifiedFlow, net, surplus_of, total_cost, IsLeastGreatestSurplus, IsLeastGreatestShortfall}
-use Rattle.network.specs.Instance.{Demand, Supplies, Terminals, Sides, Instance, IsLawful, IsLegal, ArcFits, IsCertified as IsCertifiedBy, IsBreach, at_node, is_marked, reduced, return_arc_of, reduced_arcs, reduced_flow, numbered_flow, worth}
+use Rattle.network.specs.Instance.{Demand, Supplies, Terminals, Sides, Instance, IsLawful, IsLegal, ArcFits, IsCertified, IsBreach, at_node, is_marked, reduced, return_arc_of, reduced_arcs, reduced_flow, numbered_flow, worth}
 use Rattle.std.proofs.lemmas.List.Elements.{All-from_recursion}
 use Rattle.std.specs.List.{AllByRecursion}
 use Rattle.dimacs_text.specs.Lawful.{IsLawfulRow}
@@ -19,14 +19,14 @@ use Rattle.flow_solver.specs.declared.verdict.Verdict.TheVariants.{Best, Infeasi
 use Rattle.augmentation.specs.Limits.{supply_limit, cap_sum_limit}
 use Rattle.shortest_paths.specs.Limits.{label_floor}
 use Rattle.residual_graph.specs.Limits.{entry_limit}
-use Rattle.residual_graph.specs.Residual.{IsCertified, ArePotentials, number_at, arc_at}
+use Rattle.residual_graph.specs.Residual.{IsReducedCostOptimal, ArePotentials, number_at, row_at}
 use Rattle.augmentation.specs.Push.{AreSmall, IsExcess, AreSupplies, positive_part, left, cap_total}
 use Rattle.augmentation.specs.Cut.{in_set, sum_in, sum_leaving, sum_entering, lack, IsChosenSet}
 use Rattle.augmentation.specs.Nodes.{held}
 use Rattle.flow_solver.specs.Answer.{IsBestMoment, IsInfeasibleMoment, IsVerdict, IsChosenBreach, IsChosenCut, IsJudged, worth_by, IsAnswered}
 use Rattle.flow_solver.specs.Balance.{IsWrappedExcess}
-use Rattle.flow_solver.specs.TablesView.{IsFlow}
-use Rattle.flow_solver.specs.Moment.{Moment, IsReturnVerdict, TellsReturn, TellsReturnBy, VerdictFits, returned, with_return}
+use Rattle.flow_solver.specs.TablesView.{IsFlowValue}
+use Rattle.flow_solver.specs.Moment.{Moment, IsReturnVerdict, ReturnMatches, ReturnMatchesBy, VerdictFits, returned, with_return}
 use Rattle.flow_solver.proofs.BalanceLemmas.{IsExactExcess, excess_exact}
 use Rattle.flow_solver.proofs.FlowLaws.{AgreesAt, bounds_from, certified_same, certified_flow}
 use Rattle.flow_solver.proofs.CutLaws.{IsMarkedBy, least_surplus, least_shortfall}
@@ -89,18 +89,18 @@ pub record IsEnd (I : Instance) (y p e : List ℤ) (set : List Bool) : Type 0 wh
   pub potentials_in : ArePotentials (length p) label_floor p
   pub excess_in : length e ≡ I.nodes + 1
   pub cut_in : length set ≡ I.nodes + 1
-  pub certified : IsCertified (reduced I).arcs y p
+  pub certified : IsReducedCostOptimal (reduced I).arcs y p
   pub excess_is : IsExcess (reduced I).arcs (held I.nodes (reduced I).supply) y e
   pub chosen : IsChosenSet (reduced I).arcs (held I.nodes (reduced I).supply) e set
 
 pub end_of : (I : Instance) (rows : List ArcRow) (y p e : List ℤ) (set : List Bool) → IsLawful I → rows ≡ (reduced I).arcs → ArePotentials (length p) label_floor p → length e ≡ I.nodes + 1 → length set ≡ I.nodes + 1
-    → IsCertified rows y p → IsExcess rows (held I.nodes (reduced I).supply) y e → IsChosenSet rows (held I.nodes (reduced I).supply) e set → IsEnd I y p e set
+    → IsReducedCostOptimal rows y p → IsExcess rows (held I.nodes (reduced I).supply) y e → IsChosenSet rows (held I.nodes (reduced I).supply) e set → IsEnd I y p e set
 end_of I rows y p e set lawful same potentials_in excess_in cut_in certified excess_is chosen = record {
   lawful = lawful;
   potentials_in = potentials_in;
   excess_in = excess_in;
   cut_in = cut_in;
-  certified = subst (λ (r : List ArcRow). IsCertified r y p) same certified;
+  certified = subst (λ (r : List ArcRow). IsReducedCostOptimal r y p) same certified;
   excess_is = subst (λ (r : List ArcRow). IsExcess r (held I.nodes (reduced I).supply) y e) same excess_is;
   chosen = subst (λ (r : List ArcRow). IsChosenSet r (held I.nodes (reduced I).supply) e set) same chosen;
 }
@@ -135,7 +135,7 @@ module _ (I : Instance) (y p e : List ℤ) (set : List Bool) (end : IsEnd I y p 
   best_verdict : left e ≡ 0 → lack e ≡ 0 → IsBestMoment I y (is_marked (drop 1 set)) (worth_by I.demand (reduced I).arcs y)
   best_verdict none no_lack =
       let legal = from_reduced I y end.lawful (legal_flow (reduced I) y e end.excess_is bounds none no_lack) in
-      let certified : IsCertifiedBy I (numbered_flow I.demand y) (at_node (drop 1 p)) = subst (λ (z : List ℤ). IsCertifiedFlow (reduced I) z (at_node (drop 1 p))) legal.1 end_certified in
+      let certified : IsCertified I (numbered_flow I.demand y) (at_node (drop 1 p)) = subst (λ (z : List ℤ). IsCertifiedFlow (reduced I) z (at_node (drop 1 p))) legal.1 end_certified in
       record {
         reduced_is = legal.1;
         best = certified_is_best I (numbered_flow I.demand y) (at_node (drop 1 p)) end.lawful legal.0 certified;
@@ -197,7 +197,7 @@ part_between true (negsuc n) c low high = absurd (omega (arith, ints, low))
 part_between false z c low high = (omega (arith, ints), omega (arith, ints))
 
 abbrev pub AreRows : List ArcRow → Type 0
-AreRows arcs = (k : ℕ) → k < length arcs → (pos 0 ≤ℤ (arc_at arcs k).low) × ((arc_at arcs k).low ≤ℤ (arc_at arcs k).cap)
+AreRows arcs = (k : ℕ) → k < length arcs → (pos 0 ≤ℤ (row_at arcs k).low) × ((row_at arcs k).low ≤ℤ (row_at arcs k).cap)
 
 leaving_between : (set : List Bool) (arcs : List ArcRow) → AreRows arcs → (pos 0 ≤ℤ sum_leaving set (λ a. a.cap) arcs) × (sum_leaving set (λ a. a.low) arcs ≤ℤ pos (cap_total arcs))
 leaving_between set [] rows = (omega (arith, ints), omega (arith, ints))
@@ -237,19 +237,19 @@ module _ (arcs : List ArcRow) (supply : ℕ → ℤ) (e : List ℤ) (set : List 
 zero_flow : (n source sink : ℕ) (arcs : List ArcRow) (room : ℕ) → IsLawful (made n (Terminals source sink) arcs room) → IsLegal (made n (Terminals source sink) arcs room) (replicate (length arcs) (pos 0))
 zero_flow n source sink arcs room lawful = (zero_bounds n source sink arcs (rows_of lawful), λ v b s t. zero_net arcs v)
 
-tells_by : (n : ℕ) (D : Demand) (arcs : List ArcRow) (room : ℕ) (verdict : Verdict) (flow : List ℤ) (set : ℕ → Bool) → IsLawful (made n D arcs room) → IsVerdict verdict (made n D arcs room) flow set → TellsReturnBy D verdict flow
+tells_by : (n : ℕ) (D : Demand) (arcs : List ArcRow) (room : ℕ) (verdict : Verdict) (flow : List ℤ) (set : ℕ → Bool) → IsLawful (made n D arcs room) → IsVerdict verdict (made n D arcs room) flow set → ReturnMatchesBy D verdict flow
 tells_by n (Supplies s) arcs room verdict flow set lawful told = tt
 tells_by n (Terminals source sink) arcs room (Best w) flow set lawful told = ap Best (told.worth_is ∙ sym (ap (λ (x : List ℤ). number_at x 0) told.reduced_is))
 tells_by n (Terminals source sink) arcs room (Infeasible d) flow set lawful told = absurd (told.none_legal (replicate (length arcs) (pos 0)) (zero_flow n source sink arcs room lawful))
 tells_by n (Sides marks) arcs room verdict flow set lawful told = tt
 
-fits_by : (D : Demand) (arcs : List ArcRow) (verdict : Verdict) (flow : List ℤ) → AllWithinBounds (reduced_arcs D arcs) flow → TellsReturnBy D verdict flow → VerdictFits D verdict
+fits_by : (D : Demand) (arcs : List ArcRow) (verdict : Verdict) (flow : List ℤ) → AllWithinBounds (reduced_arcs D arcs) flow → ReturnMatchesBy D verdict flow → VerdictFits D verdict
 fits_by (Supplies s) arcs verdict flow within told = tt
 fits_by (Terminals source sink) arcs verdict [] within told = absurd within
 fits_by (Terminals source sink) arcs verdict (x ∷ flow) within told = subst IsReturnVerdict (sym told) within.0
 fits_by (Sides marks) arcs verdict flow within told = tt
 
-same_by : (D : Demand) (arcs : List ArcRow) (verdict : Verdict) (flow : List ℤ) → AllWithinBounds (reduced_arcs D arcs) flow → TellsReturnBy D verdict flow → with_return D verdict flow ≡ flow
+same_by : (D : Demand) (arcs : List ArcRow) (verdict : Verdict) (flow : List ℤ) → AllWithinBounds (reduced_arcs D arcs) flow → ReturnMatchesBy D verdict flow → with_return D verdict flow ≡ flow
 same_by (Supplies s) arcs verdict flow within told = refl
 same_by (Terminals source sink) arcs verdict [] within told = absurd within
 same_by (Terminals source sink) arcs verdict (x ∷ flow) within told = ap (λ (v : Verdict). returned (Terminals source sink) v ++ flow) told
@@ -261,7 +261,7 @@ numbered_bounds (Terminals source sink) arcs [] within = absurd within
 numbered_bounds (Terminals source sink) arcs (x ∷ flow) within = within.1
 numbered_bounds (Sides marks) arcs flow within = within
 
-flows_by : (n : ℕ) (D : Demand) (arcs : List ArcRow) (flow : List ℤ) → AllByRecursion (λ arc. IsLawfulRow n arc × ArcFits D arc) arcs → AllWithinBounds arcs flow → AllByRecursion IsFlow flow
+flows_by : (n : ℕ) (D : Demand) (arcs : List ArcRow) (flow : List ℤ) → AllByRecursion (λ arc. IsLawfulRow n arc × ArcFits D arc) arcs → AllWithinBounds arcs flow → AllByRecursion IsFlowValue flow
 flows_by n D [] [] rows within = tt
 flows_by n D [] (x ∷ flow) rows within = absurd within
 flows_by n D (arc ∷ arcs) [] rows within = absurd within
@@ -273,20 +273,20 @@ flows_by n D (arc ∷ arcs) (x ∷ flow) rows within =
 
 module _ (m : Moment) (answered : IsAnswered m) where
   -- the flow of the return arc, where there is one, is told as the worth
-  pub tells_return : TellsReturn m
-  tells_return = tells_by m.instance.nodes m.instance.demand m.instance.arcs m.instance.room m.verdict m.flow (is_marked m.cut) answered.sized.lawful answered.verdict
+  pub return_matches : ReturnMatches m
+  return_matches = tells_by m.instance.nodes m.instance.demand m.instance.arcs m.instance.room m.verdict m.flow (is_marked m.cut) answered.sized.lawful answered.verdict
 
   -- what is told can be told of any moment of this kind
   pub verdict_fits : VerdictFits m.instance.demand m.verdict
-  verdict_fits = fits_by m.instance.demand m.instance.arcs m.verdict m.flow answered.certified.bounds tells_return
+  verdict_fits = fits_by m.instance.demand m.instance.arcs m.verdict m.flow answered.certified.bounds return_matches
 
   -- and telling it again leaves the flow
   pub flow_told : with_return m.instance.demand m.verdict m.flow ≡ m.flow
-  flow_told = same_by m.instance.demand m.instance.arcs m.verdict m.flow answered.certified.bounds tells_return
+  flow_told = same_by m.instance.demand m.instance.arcs m.verdict m.flow answered.certified.bounds return_matches
 
   -- the flow of each arc is within the limits
-  pub flows_within : All IsFlow (numbered_flow m.instance.demand m.flow)
+  pub flows_within : All IsFlowValue (numbered_flow m.instance.demand m.flow)
   flows_within =
-      All-from_recursion IsFlow (numbered_flow m.instance.demand m.flow)
+      All-from_recursion IsFlowValue (numbered_flow m.instance.demand m.flow)
       (flows_by m.instance.nodes m.instance.demand m.instance.arcs (numbered_flow m.instance.demand m.flow) (rows_of answered.sized.lawful)
       (numbered_bounds m.instance.demand m.instance.arcs m.flow answered.certified.bounds))

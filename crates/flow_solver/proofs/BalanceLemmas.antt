@@ -16,7 +16,7 @@ use Rattle.network.specs.Instance.{Instance, IsLawful, reduced}
 use Rattle.network.proofs.IntegerAlgebra.{linear, mul-sub, neg-mul, sub-mul}
 use Rattle.network.proofs.RunningSums.{abs-add}
 use Rattle.augmentation.specs.Limits.{cap_sum_limit}
-use Rattle.residual_graph.specs.Residual.{IsFlow, IsRow, IsWithin, arc_at, number_at}
+use Rattle.residual_graph.specs.Residual.{IsPseudoflow, IsRow, IsWithinRow, row_at, number_at}
 use Rattle.augmentation.specs.Nodes.{held}
 use Rattle.augmentation.specs.Cut.{in_set}
 use Rattle.augmentation.specs.Push.{AreSmall, AreSupplies, IsExcess, at_node, cap_total}
@@ -70,13 +70,13 @@ IsCarried-both row before after e g f first second = record {
 
 -- ---- sums at one place
 
-flow_sum-set : (g : ArcRow → ℤ → ℤ) (arcs : List ArcRow) (x : List ℤ) (k : ℕ) (y : ℤ) → k < length arcs → length x ≡ length arcs → flow_sum g arcs (slice_set x k y) ≡ flow_sum g arcs x +ℤ (g (arc_at arcs k) y -ℤ g (arc_at arcs k) (number_at x k))
+flow_sum-set : (g : ArcRow → ℤ → ℤ) (arcs : List ArcRow) (x : List ℤ) (k : ℕ) (y : ℤ) → k < length arcs → length x ≡ length arcs → flow_sum g arcs (slice_set x k y) ≡ flow_sum g arcs x +ℤ (g (row_at arcs k) y -ℤ g (row_at arcs k) (number_at x k))
 flow_sum-set g [] x k y lt sized = absurd (omega arith)
 flow_sum-set g (a ∷ arcs) [] k y lt sized = absurd (omega arith)
 flow_sum-set g (a ∷ arcs) (z ∷ x) zero y lt sized = omega (arith, linear)
 flow_sum-set g (a ∷ arcs) (z ∷ x) (suc k) y lt sized = (let rest = flow_sum-set g arcs x k y (omega arith) (omega arith) in omega (arith, linear))
 
-flow_sum-set_row : (g : ArcRow → ℤ → ℤ) (arcs : List ArcRow) (x : List ℤ) (k : ℕ) (row : ArcRow) → k < length arcs → length x ≡ length arcs → flow_sum g (slice_set arcs k row) x ≡ flow_sum g arcs x +ℤ (g row (number_at x k) -ℤ g (arc_at arcs k) (number_at x k))
+flow_sum-set_row : (g : ArcRow → ℤ → ℤ) (arcs : List ArcRow) (x : List ℤ) (k : ℕ) (row : ArcRow) → k < length arcs → length x ≡ length arcs → flow_sum g (slice_set arcs k row) x ≡ flow_sum g arcs x +ℤ (g row (number_at x k) -ℤ g (row_at arcs k) (number_at x k))
 flow_sum-set_row g [] x k row lt sized = absurd (omega arith)
 flow_sum-set_row g (a ∷ arcs) [] k row lt sized = absurd (omega arith)
 flow_sum-set_row g (a ∷ arcs) (z ∷ x) zero row lt sized = omega (arith, linear)
@@ -103,11 +103,11 @@ gain-sub row m n v = (let out = at_node-sub row.tail m n v in let in_ = at_node-
 gain-zero : (row : ArcRow) (v : ℕ) → gain row (pos 0) v ≡ pos 0
 gain-zero row v = (let out = at_zero row.tail v in let in_ = at_zero row.head v in omega (arith, ints))
 
-pub net-set : (arcs : List ArcRow) (x : List ℤ) (k v : ℕ) (y : ℤ) → k < length arcs → length x ≡ length arcs → net arcs (slice_set x k y) v ≡ net arcs x v -ℤ gain (arc_at arcs k) (y -ℤ number_at x k) v
+pub net-set : (arcs : List ArcRow) (x : List ℤ) (k v : ℕ) (y : ℤ) → k < length arcs → length x ≡ length arcs → net arcs (slice_set x k y) v ≡ net arcs x v -ℤ gain (row_at arcs k) (y -ℤ number_at x k) v
 net-set arcs x k v y lt sized =
     let out = flow_sum-set (leaves v) arcs x k y lt sized in
     let in_ = flow_sum-set (comes v) arcs x k y lt sized in
-    let both = gain-sub (arc_at arcs k) y (number_at x k) v in
+    let both = gain-sub (row_at arcs k) y (number_at x k) v in
     omega (arith, ints)
 
 pub net-push : (arcs : List ArcRow) (x : List ℤ) (row : ArcRow) (v : ℕ) (y : ℤ) → length x ≡ length arcs → net (arcs ++ row ∷ []) (x ++ y ∷ []) v ≡ net arcs x v -ℤ gain row y v
@@ -116,7 +116,7 @@ net-push arcs x row v y sized =
     let in_ = flow_sum-push (comes v) arcs x row y sized in
     omega (arith, ints)
 
-pub net-set_row : (arcs : List ArcRow) (x : List ℤ) (k v : ℕ) (row : ArcRow) → k < length arcs → length x ≡ length arcs → row.tail ≡ (arc_at arcs k).tail → row.head ≡ (arc_at arcs k).head → net (slice_set arcs k row) x v ≡ net arcs x v
+pub net-set_row : (arcs : List ArcRow) (x : List ℤ) (k v : ℕ) (row : ArcRow) → k < length arcs → length x ≡ length arcs → row.tail ≡ (row_at arcs k).tail → row.head ≡ (row_at arcs k).head → net (slice_set arcs k row) x v ≡ net arcs x v
 net-set_row arcs x k v row lt sized tail head =
     let out = flow_sum-set_row (leaves v) arcs x k row lt sized in
     let in_ = flow_sum-set_row (comes v) arcs x k row lt sized in
@@ -125,13 +125,13 @@ net-set_row arcs x k v row lt sized tail head =
     omega (arith, ints)
 
 -- the flow of one arc changes
-pub excess_set : (arcs : List ArcRow) (supply : ℕ → ℤ) (x e f : List ℤ) (k : ℕ) (y : ℤ) → k < length arcs → length x ≡ length arcs → IsCarried (arc_at arcs k) (number_at x k) y e f → IsWrappedExcess arcs supply x e → IsWrappedExcess arcs supply (slice_set x k y) f
+pub excess_set : (arcs : List ArcRow) (supply : ℕ → ℤ) (x e f : List ℤ) (k : ℕ) (y : ℤ) → k < length arcs → length x ≡ length arcs → IsCarried (row_at arcs k) (number_at x k) y e f → IsWrappedExcess arcs supply x e → IsWrappedExcess arcs supply (slice_set x k y) f
 excess_set arcs supply x e f k y lt sized carried is v =
     carried.by_node (λ w. supply w -ℤ net arcs x w) is v
     ∙ ap (int_wrap w64) (let moved = net-set arcs x k v y lt sized in omega (arith, ints))
 
 -- another row with the same ends
-pub excess_row : (arcs : List ArcRow) (supply : ℕ → ℤ) (x e : List ℤ) (k : ℕ) (row : ArcRow) → k < length arcs → length x ≡ length arcs → row.tail ≡ (arc_at arcs k).tail → row.head ≡ (arc_at arcs k).head → IsWrappedExcess arcs supply x e → IsWrappedExcess (slice_set arcs k row) supply x e
+pub excess_row : (arcs : List ArcRow) (supply : ℕ → ℤ) (x e : List ℤ) (k : ℕ) (row : ArcRow) → k < length arcs → length x ≡ length arcs → row.tail ≡ (row_at arcs k).tail → row.head ≡ (row_at arcs k).head → IsWrappedExcess arcs supply x e → IsWrappedExcess (slice_set arcs k row) supply x e
 excess_row arcs supply x e k row lt sized tail head is v = is v ∙ ap (λ (n : ℤ). int_wrap w64 (supply v -ℤ n)) (sym (net-set_row arcs x k v row lt sized tail head))
 
 -- one more arc, with its flow
@@ -168,7 +168,7 @@ pub record IsExactExcess (arcs : List ArcRow) (supply : ℕ → ℤ) (x e : List
 
 pub excess_exact : (I : Instance) (rows : List ArcRow) (x e : List ℤ) → IsLawful I → rows ≡ (reduced I).arcs → AllWithinBounds rows x → IsWrappedExcess rows (held I.nodes (reduced I).supply) x e → IsExactExcess rows (held I.nodes (reduced I).supply) x e
 excess_exact I rows x e lawful same bounds is =
-    let flow = subst (λ (r : List ArcRow). IsFlow (I.nodes + 1) r x) (sym same) (flow_of_instance I x lawful (subst (λ (r : List ArcRow). AllWithinBounds r x) same bounds)) in
+    let flow = subst (λ (r : List ArcRow). IsPseudoflow (I.nodes + 1) r x) (sym same) (flow_of_instance I x lawful (subst (λ (r : List ArcRow). AllWithinBounds r x) same bounds)) in
     let caps = subst (λ (r : List ArcRow). cap_total r ≤ cap_sum_limit) (sym same) (caps_of_instance I lawful) in
     let supplies = supplies_of_instance I lawful in
     let exact = wrapped_within rows (held I.nodes (reduced I).supply) x e flow.same_length (caps_of_flow flow) supplies caps is in
@@ -179,13 +179,13 @@ excess_exact I rows x e lawful same bounds is =
 
 -- ---- the excess of the first arcs
 
-pub wrapped_excess_more : (arcs : List ArcRow) (supply : ℕ → ℤ) (x e f : List ℤ) (k : ℕ) → k < length arcs → length x ≡ length arcs → IsCarried (arc_at arcs k) (pos 0) (number_at x k) e f → IsWrappedExcess (take k arcs) supply (take k x) e → IsWrappedExcess (take (k + 1) arcs) supply (take (k + 1) x) f
+pub wrapped_excess_more : (arcs : List ArcRow) (supply : ℕ → ℤ) (x e f : List ℤ) (k : ℕ) → k < length arcs → length x ≡ length arcs → IsCarried (row_at arcs k) (pos 0) (number_at x k) e f → IsWrappedExcess (take k arcs) supply (take k x) e → IsWrappedExcess (take (k + 1) arcs) supply (take (k + 1) x) f
 wrapped_excess_more arcs supply x e f k lt sized carried is v =
     carried.by_node (λ w. supply w -ℤ net (take k arcs) (take k x) w) is v
     ∙ ap (int_wrap w64) (let out = flow_out-more arcs x k v lt sized in
     let in_ = flow_in-more arcs x k v lt sized in
-    let all = gain-sub (arc_at arcs k) (number_at x k) (pos 0) v in
-    let none = gain-zero (arc_at arcs k) v in
+    let all = gain-sub (row_at arcs k) (number_at x k) (pos 0) v in
+    let none = gain-zero (row_at arcs k) v in
     omega (arith, ints))
 
 -- ---- the cost
@@ -198,17 +198,17 @@ abbrev price : ArcRow → ℤ → ℤ
 price row m = row.cost *ℤ m
 
 -- the flow of one arc changes
-pub cost_set : (arcs : List ArcRow) (x : List ℤ) (cost result : ℤ) (k : ℕ) (y : ℤ) → k < length arcs → length x ≡ length arcs → result ≡ int_wrap w128 (cost +ℤ (y -ℤ number_at x k) *ℤ (arc_at arcs k).cost) → IsWrappedCost arcs x cost → IsWrappedCost arcs (slice_set x k y) result
+pub cost_set : (arcs : List ArcRow) (x : List ℤ) (cost result : ℤ) (k : ℕ) (y : ℤ) → k < length arcs → length x ≡ length arcs → result ≡ int_wrap w128 (cost +ℤ (y -ℤ number_at x k) *ℤ (row_at arcs k).cost) → IsWrappedCost arcs x cost → IsWrappedCost arcs (slice_set x k y) result
 cost_set arcs x cost result k y lt sized result_is is =
-    let c = (arc_at arcs k).cost in
+    let c = (row_at arcs k).cost in
     result_is ∙ wrapped_more w128 cost (total_cost arcs x) ((y -ℤ number_at x k) *ℤ c) (total_cost arcs (slice_set x k y)) is
     (flow_sum-set price arcs x k y lt sized ∙ ap (λ (m : ℤ). total_cost arcs x +ℤ m) (sym (mul-sub c y (number_at x k)) ∙ *ℤ_comm c (y -ℤ number_at x k)))
 
 -- an arc has another row
-pub cost_row : (arcs : List ArcRow) (x : List ℤ) (cost result : ℤ) (k : ℕ) (row : ArcRow) → k < length arcs → length x ≡ length arcs → result ≡ int_wrap w128 (cost +ℤ (row.cost -ℤ (arc_at arcs k).cost) *ℤ number_at x k) → IsWrappedCost arcs x cost → IsWrappedCost (slice_set arcs k row) x result
+pub cost_row : (arcs : List ArcRow) (x : List ℤ) (cost result : ℤ) (k : ℕ) (row : ArcRow) → k < length arcs → length x ≡ length arcs → result ≡ int_wrap w128 (cost +ℤ (row.cost -ℤ (row_at arcs k).cost) *ℤ number_at x k) → IsWrappedCost arcs x cost → IsWrappedCost (slice_set arcs k row) x result
 cost_row arcs x cost result k row lt sized result_is is =
-    result_is ∙ wrapped_more w128 cost (total_cost arcs x) ((row.cost -ℤ (arc_at arcs k).cost) *ℤ number_at x k) (total_cost (slice_set arcs k row) x) is
-    (flow_sum-set_row price arcs x k row lt sized ∙ ap (λ (m : ℤ). total_cost arcs x +ℤ m) (sym (sub-mul row.cost (arc_at arcs k).cost (number_at x k))))
+    result_is ∙ wrapped_more w128 cost (total_cost arcs x) ((row.cost -ℤ (row_at arcs k).cost) *ℤ number_at x k) (total_cost (slice_set arcs k row) x) is
+    (flow_sum-set_row price arcs x k row lt sized ∙ ap (λ (m : ℤ). total_cost arcs x +ℤ m) (sym (sub-mul row.cost (row_at arcs k).cost (number_at x k))))
 
 from_zero : (y c : ℤ) → (y -ℤ pos 0) *ℤ c ≡ c *ℤ y
 from_zero y c = (let same : y -ℤ pos 0 ≡ y = omega (arith, ints) in ap (λ (m : ℤ). m *ℤ c) same ∙ *ℤ_comm y c)
@@ -229,25 +229,25 @@ cost_first arcs x cost result row y sized result_is is =
     (let more = flow_sum-push price arcs x row y sized in let less = to_zero y row.cost in omega (arith, linear))
 
 -- one more of the first arcs
-flow_sum-more : (g : ArcRow → ℤ → ℤ) (arcs : List ArcRow) (x : List ℤ) (k : ℕ) → k < length arcs → length x ≡ length arcs → flow_sum g (take (k + 1) arcs) (take (k + 1) x) ≡ flow_sum g (take k arcs) (take k x) +ℤ g (arc_at arcs k) (number_at x k)
+flow_sum-more : (g : ArcRow → ℤ → ℤ) (arcs : List ArcRow) (x : List ℤ) (k : ℕ) → k < length arcs → length x ≡ length arcs → flow_sum g (take (k + 1) arcs) (take (k + 1) x) ≡ flow_sum g (take k arcs) (take k x) +ℤ g (row_at arcs k) (number_at x k)
 flow_sum-more g [] x k lt sized = absurd (omega arith)
 flow_sum-more g (a ∷ arcs) [] k lt sized = absurd (omega arith)
 flow_sum-more g (a ∷ arcs) (y ∷ x) zero lt sized = omega (arith, linear)
 flow_sum-more g (a ∷ arcs) (y ∷ x) (suc k) lt sized = rw add-one (omega (arith, linear, (rw add-one at (flow_sum-more g arcs x k (omega arith) (omega arith)))))
 
-pub cost_more : (arcs : List ArcRow) (x : List ℤ) (cost result : ℤ) (k : ℕ) → k < length arcs → length x ≡ length arcs → result ≡ int_wrap w128 (cost +ℤ (number_at x k -ℤ pos 0) *ℤ (arc_at arcs k).cost) → IsWrappedCost (take k arcs) (take k x) cost → IsWrappedCost (take (k + 1) arcs) (take (k + 1) x) result
+pub cost_more : (arcs : List ArcRow) (x : List ℤ) (cost result : ℤ) (k : ℕ) → k < length arcs → length x ≡ length arcs → result ≡ int_wrap w128 (cost +ℤ (number_at x k -ℤ pos 0) *ℤ (row_at arcs k).cost) → IsWrappedCost (take k arcs) (take k x) cost → IsWrappedCost (take (k + 1) arcs) (take (k + 1) x) result
 cost_more arcs x cost result k lt sized result_is is =
-    result_is ∙ wrapped_more w128 cost (total_cost (take k arcs) (take k x)) ((number_at x k -ℤ pos 0) *ℤ (arc_at arcs k).cost) (total_cost (take (k + 1) arcs) (take (k + 1) x)) is
-    (flow_sum-more price arcs x k lt sized ∙ ap (λ (m : ℤ). total_cost (take k arcs) (take k x) +ℤ m) (sym (from_zero (number_at x k) (arc_at arcs k).cost)))
+    result_is ∙ wrapped_more w128 cost (total_cost (take k arcs) (take k x)) ((number_at x k -ℤ pos 0) *ℤ (row_at arcs k).cost) (total_cost (take (k + 1) arcs) (take (k + 1) x)) is
+    (flow_sum-more price arcs x k lt sized ∙ ap (λ (m : ℤ). total_cost (take k arcs) (take k x) +ℤ m) (sym (from_zero (number_at x k) (row_at arcs k).cost)))
 
 -- no arc costs more than 10^26
-total_bound : (nodes : ℕ) (arcs : List ArcRow) (x : List ℤ) → length x ≡ length arcs → ((k : ℕ) → k < length arcs → IsRow nodes (arc_at arcs k)) → ((k : ℕ) → k < length arcs → IsWithin (arc_at arcs k) (number_at x k)) → unsigned_abs (total_cost arcs x) ≤ 10 ^ 12 * 10 ^ 14 * length arcs
+total_bound : (nodes : ℕ) (arcs : List ArcRow) (x : List ℤ) → length x ≡ length arcs → ((k : ℕ) → k < length arcs → IsRow nodes (row_at arcs k)) → ((k : ℕ) → k < length arcs → IsWithinRow (row_at arcs k) (number_at x k)) → unsigned_abs (total_cost arcs x) ≤ 10 ^ 12 * 10 ^ 14 * length arcs
 total_bound nodes [] [] sized rows within = omega arith
 total_bound nodes [] (y ∷ x) sized rows within = absurd (omega arith)
 total_bound nodes (a ∷ arcs) [] sized rows within = absurd (omega arith)
 total_bound nodes (a ∷ arcs) (y ∷ x) sized rows within =
     let row : IsRow nodes a = rows 0 (omega arith) in
-    let bounds : IsWithin a y = within 0 (omega arith) in
+    let bounds : IsWithinRow a y = within 0 (omega arith) in
     let cost : unsigned_abs a.cost ≤ 10 ^ 12 = omega (arith, ints, row.cost_low, row.cost_high) in
     let flow : unsigned_abs y ≤ 10 ^ 14 = omega (arith, ints, row.low_at_least_0, row.cap_in, bounds.low_kept, bounds.cap_kept) in
     let here : unsigned_abs a.cost * unsigned_abs y ≤ 10 ^ 12 * 10 ^ 14 = mul-le-mul cost flow in
@@ -258,7 +258,7 @@ total_bound nodes (a ∷ arcs) (y ∷ x) sized rows within =
 
 pub cost_exact : (I : Instance) (rows : List ArcRow) (x : List ℤ) (cost : ℤ) → IsLawful I → rows ≡ (reduced I).arcs → AllWithinBounds rows x → IsWrappedCost rows x cost → cost ≡ total_cost rows x
 cost_exact I rows x cost lawful same bounds is =
-    let flow = subst (λ (r : List ArcRow). IsFlow (I.nodes + 1) r x) (sym same) (flow_of_instance I x lawful (subst (λ (r : List ArcRow). AllWithinBounds r x) same bounds)) in
+    let flow = subst (λ (r : List ArcRow). IsPseudoflow (I.nodes + 1) r x) (sym same) (flow_of_instance I x lawful (subst (λ (r : List ArcRow). AllWithinBounds r x) same bounds)) in
     let most = total_bound (I.nodes + 1) rows x flow.same_length flow.rows flow.within in
     is ∙ int_wrap_fits w128 (total_cost rows x) (fits_signed_from_abs w128 (total_cost rows x) (omega (arith, most, flow.few_arcs)))
 
@@ -299,15 +299,15 @@ module _ (places : List ℕ) (before after : List ℤ) (j : ℕ) (z : List ℤ) 
   }
 
   -- what follows the flow of the arc at the next place
-  pub cost_step : (arcs : List ArcRow) (cost result : ℤ) → length before ≡ length arcs → slice_index_or places j 0 < length arcs → result ≡ int_wrap w128 (cost +ℤ (number_at after (slice_index_or places j 0) -ℤ number_at before (slice_index_or places j 0)) *ℤ (arc_at arcs (slice_index_or places j 0)).cost) → IsWrappedCost arcs z cost → IsWrappedCost arcs (slice_set z (slice_index_or places j 0) (number_at after (slice_index_or places j 0))) result
+  pub cost_step : (arcs : List ArcRow) (cost result : ℤ) → length before ≡ length arcs → slice_index_or places j 0 < length arcs → result ≡ int_wrap w128 (cost +ℤ (number_at after (slice_index_or places j 0) -ℤ number_at before (slice_index_or places j 0)) *ℤ (row_at arcs (slice_index_or places j 0)).cost) → IsWrappedCost arcs z cost → IsWrappedCost arcs (slice_set z (slice_index_or places j 0) (number_at after (slice_index_or places j 0))) result
   cost_step arcs cost result sized lt result_is is =
       cost_set arcs z cost result (slice_index_or places j 0) (number_at after (slice_index_or places j 0)) lt (part.same_length ∙ sized)
-      (result_is ∙ ap (λ (m : ℤ). int_wrap w128 (cost +ℤ (number_at after (slice_index_or places j 0) -ℤ m) *ℤ (arc_at arcs (slice_index_or places j 0)).cost)) (sym next_is)) is
+      (result_is ∙ ap (λ (m : ℤ). int_wrap w128 (cost +ℤ (number_at after (slice_index_or places j 0) -ℤ m) *ℤ (row_at arcs (slice_index_or places j 0)).cost)) (sym next_is)) is
 
-  pub excess_step : (arcs : List ArcRow) (supply : ℕ → ℤ) (e f : List ℤ) → length before ≡ length arcs → slice_index_or places j 0 < length arcs → IsCarried (arc_at arcs (slice_index_or places j 0)) (number_at before (slice_index_or places j 0)) (number_at after (slice_index_or places j 0)) e f → IsWrappedExcess arcs supply z e → IsWrappedExcess arcs supply (slice_set z (slice_index_or places j 0) (number_at after (slice_index_or places j 0))) f
+  pub excess_step : (arcs : List ArcRow) (supply : ℕ → ℤ) (e f : List ℤ) → length before ≡ length arcs → slice_index_or places j 0 < length arcs → IsCarried (row_at arcs (slice_index_or places j 0)) (number_at before (slice_index_or places j 0)) (number_at after (slice_index_or places j 0)) e f → IsWrappedExcess arcs supply z e → IsWrappedExcess arcs supply (slice_set z (slice_index_or places j 0) (number_at after (slice_index_or places j 0))) f
   excess_step arcs supply e f sized lt carried is =
       excess_set arcs supply z e f (slice_index_or places j 0) (number_at after (slice_index_or places j 0)) lt (part.same_length ∙ sized)
-      (subst (λ (m : ℤ). IsCarried (arc_at arcs (slice_index_or places j 0)) m (number_at after (slice_index_or places j 0)) e f) (sym next_is) carried) is
+      (subst (λ (m : ℤ). IsCarried (row_at arcs (slice_index_or places j 0)) m (number_at after (slice_index_or places j 0)) e f) (sym next_is) carried) is
 
 -- at the end of the way the tables agree
 pub part_ends : (noted : List Bool) (places : List ℕ) (before after : List ℤ) (j : ℕ) (z : List ℤ) → length places ≤ j → j ≤ length places → length after ≡ length before → ((k : ℕ) → in_set noted k ≡ true → Any (λ p. p ≡ k) places) → All (λ p. in_set noted p ≡ true) places → ((k : ℕ) → in_set noted k ≡ false → number_at after k ≡ number_at before k) → IsPartWay places before after j z → z ≡ after

@@ -12,7 +12,7 @@ use Rattle.augmentation.specs.declared.tracked.Tracked.{Tracked}
 use Rattle.flow_solver.specs.Balance.{AreEndsIn, IsBalanceOf, IsCarried, IsRaised, IsWrappedCost, IsWrappedExcess}
 use Rattle.augmentation.specs.Nodes.{held}
 use Rattle.augmentation.specs.Push.{at_node}
-use Rattle.residual_graph.specs.Residual.{IsRow, arc_at, number_at}
+use Rattle.residual_graph.specs.Residual.{IsRow, row_at, number_at}
 use Rattle.flow_solver.specs.TablesView.{flow_index}
 use Rattle.augmentation.specs.Tracked.{IsTracked, kept_in}
 use Rattle.flow_solver.proofs.BalanceLemmas.{cost_first, cost_last, cost_row, excess_first, excess_last, excess_row, excess_set, excess_supplied}
@@ -44,7 +44,7 @@ raised_as u x x' y y' e e' f f' befores afters es fs raised =
     (subst (λ (g : List ℤ). IsRaised u x' y' e' g) fs raised)))
 
 -- the flow of one arc changes
-pub balance_set : (I : Instance) (rows : List ArcRow) (flow flow' : Tracked ℤ) (b b' : Balance) (k : ℕ) (y : ℤ) → k < length rows → length flow.entries.items ≡ length rows → IsCarried (arc_at rows k) (number_at flow.entries.items k) y b.excess.items b'.excess.items → b'.cost ≡ b.cost → flow'.entries.items ≡ slice_set flow.entries.items k y → flow'.kept ≡ flow.kept → IsBalanceOf I rows flow b → IsBalanceOf I rows flow' b'
+pub balance_set : (I : Instance) (rows : List ArcRow) (flow flow' : Tracked ℤ) (b b' : Balance) (k : ℕ) (y : ℤ) → k < length rows → length flow.entries.items ≡ length rows → IsCarried (row_at rows k) (number_at flow.entries.items k) y b.excess.items b'.excess.items → b'.cost ≡ b.cost → flow'.entries.items ≡ slice_set flow.entries.items k y → flow'.kept ≡ flow.kept → IsBalanceOf I rows flow b → IsBalanceOf I rows flow' b'
 balance_set I rows flow flow' b b' k y lt many carried same_cost written kept is = record {
   sized = carried.same_length ∙ is.sized;
   excess = subst (λ (x : List ℤ). IsWrappedExcess rows (sends I) x b'.excess.items) (sym written) (excess_set rows (sends I) flow.entries.items b.excess.items b'.excess.items k y lt many carried is.excess);
@@ -52,7 +52,7 @@ balance_set I rows flow flow' b b' k y lt many carried same_cost written kept is
 }
 
 -- another row with the same ends
-pub balance_row : (I J : Instance) (rows rows' : List ArcRow) (flow : Tracked ℤ) (b b' : Balance) (k : ℕ) (row : ArcRow) → k < length rows → length flow.entries.items ≡ length rows → length flow.kept.items ≡ length rows → row.tail ≡ (arc_at rows k).tail → row.head ≡ (arc_at rows k).head → rows' ≡ slice_set rows k row → J.nodes ≡ I.nodes → J.demand ≡ I.demand → b'.excess ≡ b.excess → b'.cost ≡ int_wrap w128 (b.cost +ℤ (row.cost -ℤ (arc_at rows k).cost) *ℤ number_at flow.kept.items k) → IsBalanceOf I rows flow b → IsBalanceOf J rows' flow b'
+pub balance_row : (I J : Instance) (rows rows' : List ArcRow) (flow : Tracked ℤ) (b b' : Balance) (k : ℕ) (row : ArcRow) → k < length rows → length flow.entries.items ≡ length rows → length flow.kept.items ≡ length rows → row.tail ≡ (row_at rows k).tail → row.head ≡ (row_at rows k).head → rows' ≡ slice_set rows k row → J.nodes ≡ I.nodes → J.demand ≡ I.demand → b'.excess ≡ b.excess → b'.cost ≡ int_wrap w128 (b.cost +ℤ (row.cost -ℤ (row_at rows k).cost) *ℤ number_at flow.kept.items k) → IsBalanceOf I rows flow b → IsBalanceOf J rows' flow b'
 balance_row I J rows rows' flow b b' k row lt many as_many tail head rows_are nodes demand same_excess cost is =
     let excess = excess_row rows (sends I) flow.entries.items b.excess.items k row lt many tail head is.excess in
     let other = subst (λ (r : List ArcRow). IsWrappedExcess r (sends I) flow.entries.items b.excess.items) (sym rows_are) excess in
@@ -134,7 +134,7 @@ balance_back I rows flow flow' b b' tracked size entries kept same_length excess
 -- the ends of an arc of the instance are entries of the table
 pub ends_in : (I : Instance) (rows : List ArcRow) (b : Balance) → IsLawful I → rows ≡ (reduced I).arcs → length b.excess.items ≡ I.nodes + 1 → AreEndsIn (length b.excess.items) rows
 ends_in I rows b lawful same sized k lt =
-    let row = subst (λ (r : List ArcRow). IsRow (I.nodes + 1) (arc_at r k)) (sym same) (rows_of_instance I lawful k (omega (arith, lt, ap (λ (r : List ArcRow). length r) same))) in
+    let row = subst (λ (r : List ArcRow). IsRow (I.nodes + 1) (row_at r k)) (sym same) (rows_of_instance I lawful k (omega (arith, lt, ap (λ (r : List ArcRow). length r) same))) in
     (omega (arith, row.tail_in, sized), omega (arith, row.head_in, sized))
 
 -- the row and the flow of a numbered arc stand at the same place
@@ -146,7 +146,7 @@ flow_place (Sides marks) arcs k at = omega (arith, at.0, at.1)
 -- the place of a numbered arc
 pub record IsPlace (I : Instance) (rows : List ArcRow) (k place : ℕ) : Type 0 where
   pub in_rows : place < length rows
-  pub row_is : (d : ArcRow) → arc_at rows place ≡ slice_index_or I.arcs (k - 1) d
+  pub row_is : (d : ArcRow) → row_at rows place ≡ slice_index_or I.arcs (k - 1) d
   pub index_is : place ≡ flow_index I.demand k
 
 pub place_is : (I : Instance) (rows : List ArcRow) (k place : ℕ) → rows ≡ (reduced I).arcs → (1 ≤ k) × (k ≤ length I.arcs) → place ≡ (length rows - length I.arcs) + (k - 1) → IsPlace I rows k place
@@ -154,12 +154,12 @@ place_is I rows k place same at is =
     let there : place ≡ flow_index I.demand k = is ∙ ap (λ (r : List ArcRow). (length r - length I.arcs) + (k - 1)) same ∙ flow_place I.demand I.arcs k at in
     record {
       in_rows = omega (arith, there, place_in I k at, ap (λ (r : List ArcRow). length r) same);
-      row_is = λ d. ap (λ (r : List ArcRow). arc_at r place) same ∙ ap (arc_at (reduced I).arcs) there ∙ row_is I k d at;
+      row_is = λ d. ap (λ (r : List ArcRow). row_at r place) same ∙ ap (row_at (reduced I).arcs) there ∙ row_is I k d at;
       index_is = there;
     }
 
 -- the row of a numbered arc becomes another with the same ends
-pub balance_swapped : (I J : Instance) (rows rows' : List ArcRow) (flow : Tracked ℤ) (b b' : Balance) (k place : ℕ) (row : ArcRow) → 1 ≤ k → IsPlace I rows k place → rows ≡ (reduced I).arcs → rows' ≡ (reduced J).arcs → J ≡ with_row I (k - 1) row → row.tail ≡ (slice_index_or I.arcs (k - 1) row).tail → row.head ≡ (slice_index_or I.arcs (k - 1) row).head → length flow.entries.items ≡ length rows → length flow.kept.items ≡ length rows → b'.excess ≡ b.excess → b'.cost ≡ int_wrap w128 (b.cost +ℤ (row.cost -ℤ (arc_at rows place).cost) *ℤ number_at flow.kept.items place) → IsBalanceOf I rows flow b → IsBalanceOf J rows' flow b'
+pub balance_swapped : (I J : Instance) (rows rows' : List ArcRow) (flow : Tracked ℤ) (b b' : Balance) (k place : ℕ) (row : ArcRow) → 1 ≤ k → IsPlace I rows k place → rows ≡ (reduced I).arcs → rows' ≡ (reduced J).arcs → J ≡ with_row I (k - 1) row → row.tail ≡ (slice_index_or I.arcs (k - 1) row).tail → row.head ≡ (slice_index_or I.arcs (k - 1) row).head → length flow.entries.items ≡ length rows → length flow.kept.items ≡ length rows → b'.excess ≡ b.excess → b'.cost ≡ int_wrap w128 (b.cost +ℤ (row.cost -ℤ (row_at rows place).cost) *ℤ number_at flow.kept.items place) → IsBalanceOf I rows flow b → IsBalanceOf J rows' flow b'
 balance_swapped I J rows rows' flow b b' k place row one there before after other tail head many as_many same_excess cost is =
     let set : slice_set (reduced I).arcs (flow_index I.demand k) row ≡ slice_set rows place row = ap (λ (n : ℕ). slice_set (reduced I).arcs n row) (sym there.index_is) ∙ ap (λ (r : List ArcRow). slice_set r place row) (sym before) in
     let rows_are : rows' ≡ slice_set rows place row = after ∙ ap (λ (K : Instance). (reduced K).arcs) other ∙ sym (rows_changed I k row one) ∙ set in
@@ -169,7 +169,7 @@ balance_swapped I J rows rows' flow b b' k place row one there before after othe
 -- the ends of the instance's rows are entries of a table of its nodes
 pub ends_of_rows : (I : Instance) (rows : List ArcRow) → IsLawful I → rows ≡ (reduced I).arcs → AreEndsIn (I.nodes + 1) rows
 ends_of_rows I rows lawful same k lt =
-    let row = subst (λ (r : List ArcRow). IsRow (I.nodes + 1) (arc_at r k)) (sym same) (rows_of_instance I lawful k (omega (arith, lt, ap (λ (r : List ArcRow). length r) same))) in
+    let row = subst (λ (r : List ArcRow). IsRow (I.nodes + 1) (row_at r k)) (sym same) (rows_of_instance I lawful k (omega (arith, lt, ap (λ (r : List ArcRow). length r) same))) in
     (row.tail_in, row.head_in)
 
 last_is : {T : Type 0} (xs : List T) (y d : T) → slice_index_or (xs ++ y ∷ []) (length xs) d ≡ y
@@ -183,7 +183,7 @@ balance_put I J rows rows' flow flow' b b' row y before after other many as_many
     (ap (λ (K : Instance). K.nodes) other) (ap (λ (K : Instance). K.demand) other) carried cost is
 
 -- the balance of an instance without its last arc
-pub balance_dropped : (I J : Instance) (rows rows' : List ArcRow) (flow flow' : Tracked ℤ) (b b' : Balance) (row : ArcRow) (y : ℤ) (last : ℕ) → rows ≡ (reduced I).arcs → rows' ≡ (reduced J).arcs → I ≡ with_last J row → IsTracked flow' → length flow.entries.items ≡ length rows → length flow.kept.items ≡ length rows → flow.entries.items ≡ flow'.entries.items ++ y ∷ [] → flow'.kept.items ≡ take (length flow'.entries.items) flow.kept.items → last ≡ length rows - 1 → IsCarried (arc_at rows last) (number_at flow.entries.items last) (pos 0) b.excess.items b'.excess.items → b'.cost ≡ int_wrap w128 (b.cost +ℤ (pos 0 -ℤ number_at flow.kept.items last) *ℤ (arc_at rows last).cost) → IsBalanceOf I rows flow b → IsBalanceOf J rows' flow' b'
+pub balance_dropped : (I J : Instance) (rows rows' : List ArcRow) (flow flow' : Tracked ℤ) (b b' : Balance) (row : ArcRow) (y : ℤ) (last : ℕ) → rows ≡ (reduced I).arcs → rows' ≡ (reduced J).arcs → I ≡ with_last J row → IsTracked flow' → length flow.entries.items ≡ length rows → length flow.kept.items ≡ length rows → flow.entries.items ≡ flow'.entries.items ++ y ∷ [] → flow'.kept.items ≡ take (length flow'.entries.items) flow.kept.items → last ≡ length rows - 1 → IsCarried (row_at rows last) (number_at flow.entries.items last) (pos 0) b.excess.items b'.excess.items → b'.cost ≡ int_wrap w128 (b.cost +ℤ (pos 0 -ℤ number_at flow.kept.items last) *ℤ (row_at rows last).cost) → IsBalanceOf I rows flow b → IsBalanceOf J rows' flow' b'
 balance_dropped I J rows rows' flow flow' b b' row y last before after other tracked sized as_sized entries whole last_at carried cost is =
     let n = length flow'.entries.items in
     let z = number_at flow.kept.items last in
@@ -193,12 +193,12 @@ balance_dropped I J rows rows' flow flow' b b' row y last before after other tra
     let at_rows : last ≡ length rows' = omega (arith, last_at, one_more) in
     let many : length flow'.entries.items ≡ length rows' = omega (arith, one_more, one_flow_more, sized) in
     let at_flow : last ≡ length flow'.entries.items = at_rows ∙ sym many in
-    let row_is : arc_at rows last ≡ row = ap (arc_at rows) at_rows ∙ ap (λ (r : List ArcRow). arc_at r (length rows')) rows_are ∙ last_is rows' row _ in
+    let row_is : row_at rows last ≡ row = ap (row_at rows) at_rows ∙ ap (λ (r : List ArcRow). row_at r (length rows')) rows_are ∙ last_is rows' row _ in
     let entry_is : number_at flow.entries.items last ≡ y = ap (number_at flow.entries.items) at_flow ∙ ap (λ (x : List ℤ). number_at x (length flow'.entries.items)) entries ∙ last_is flow'.entries.items y (pos 0) in
     let kept : flow.kept.items ≡ flow'.kept.items ++ z ∷ [] = sym (take_all (n + 1) flow.kept.items (omega (arith, as_sized, sized, one_flow_more))) ∙ take_more flow.kept.items n (pos 0) (omega (arith, as_sized, sized, one_flow_more))
     ∙ ap (λ (m : ℕ). take n flow.kept.items ++ number_at flow.kept.items m ∷ []) (sym at_flow) ∙ ap (λ (x : List ℤ). x ++ z ∷ []) (sym whole) in
     balance_first I J rows rows' flow flow' b b' row y z many (tracked.same_length ∙ many) rows_are entries kept (sym (ap (λ (K : Instance). K.nodes) other)) (sym (ap (λ (K : Instance). K.demand) other))
-    (carried_as row (arc_at rows last) y (number_at flow.entries.items last) (pos 0) (pos 0) b.excess.items b.excess.items b'.excess.items b'.excess.items row_is entry_is refl refl refl carried)
+    (carried_as row (row_at rows last) y (number_at flow.entries.items last) (pos 0) (pos 0) b.excess.items b.excess.items b'.excess.items b'.excess.items row_is entry_is refl refl refl carried)
     (cost ∙ ap (λ (a : ArcRow). int_wrap w128 (b.cost +ℤ (pos 0 -ℤ z) *ℤ a.cost)) row_is) is
 
 -- the reduced instance has each arc of the instance

@@ -13,7 +13,7 @@ use Rattle.dimacs_text.specs.declared.problem.Kind.TheVariants.{Min}
 use Rattle.network.specs.Flow.{MinCost, AllEndsAreNodes, AllWithinBounds, FollowsSign, IsCertifiedFlow, IsWithinBounds, net, reduced_cost, total_excess}
 use Rattle.network.specs.Instance.{Demand, Supplies, Terminals, Sides, Instance, IsLawful, ArcFits, DemandFits, at_node, kind_of, numbered_flow, reduced, reduced_arcs, reduced_supply, with_supply}
 use Rattle.network.proofs.Reduction.{reduced_ends}
-use Rattle.residual_graph.specs.Residual.{number_at, arc_at}
+use Rattle.residual_graph.specs.Residual.{number_at, row_at}
 use Rattle.augmentation.specs.Push.{IsExcess, IsTransfer, at_node as at_one, left}
 use Rattle.augmentation.specs.Nodes.{table, held}
 use Rattle.flow_solver.specs.Edit.{IsNearest}
@@ -51,17 +51,17 @@ rows_set (Sides marks) arcs k row one = refl
 pub rows_changed : (I : Instance) (k : ℕ) (row : ArcRow) → 1 ≤ k → slice_set (reduced I).arcs (flow_index I.demand k) row ≡ (reduced (with_row I (k - 1) row)).arcs
 rows_changed I k row one = rows_set I.demand I.arcs k row one
 
-row_at : (D : Demand) (arcs : List ArcRow) (k : ℕ) → (1 ≤ k) × (k ≤ length arcs) → (flow_index D k < length (reduced_arcs D arcs)) × (arc_at (reduced_arcs D arcs) (flow_index D k) ≡ arc_at arcs (k - 1))
+row_at : (D : Demand) (arcs : List ArcRow) (k : ℕ) → (1 ≤ k) × (k ≤ length arcs) → (flow_index D k < length (reduced_arcs D arcs)) × (row_at (reduced_arcs D arcs) (flow_index D k) ≡ row_at arcs (k - 1))
 row_at (Supplies s) arcs k at = (omega (arith, at.0, at.1), refl)
 row_at (Terminals source sink) arcs zero at = absurd (omega (arith, at.0))
-row_at (Terminals source sink) arcs (suc i) at = (let e : i ≡ suc i - 1 = omega arith in (omega (arith, at.1), ap (arc_at arcs) e))
+row_at (Terminals source sink) arcs (suc i) at = (let e : i ≡ suc i - 1 = omega arith in (omega (arith, at.1), ap (row_at arcs) e))
 row_at (Sides marks) arcs k at = (omega (arith, at.0, at.1), refl)
 
 pub place_in : (I : Instance) (k : ℕ) → (1 ≤ k) × (k ≤ length I.arcs) → flow_index I.demand k < length (reduced I).arcs
 place_in I k at = (row_at I.demand I.arcs k at).0
 
 -- the row at the place of arc k is that arc
-pub row_is : (I : Instance) (k : ℕ) (d : ArcRow) → (1 ≤ k) × (k ≤ length I.arcs) → arc_at (reduced I).arcs (flow_index I.demand k) ≡ slice_index_or I.arcs (k - 1) d
+pub row_is : (I : Instance) (k : ℕ) (d : ArcRow) → (1 ≤ k) × (k ≤ length I.arcs) → row_at (reduced I).arcs (flow_index I.demand k) ≡ slice_index_or I.arcs (k - 1) d
 row_is I k d at =
     let lt : k - 1 < length I.arcs = omega (arith, at.0, at.1) in
     (row_at I.demand I.arcs k at).1 ∙ get_or_default I.arcs (k - 1) _ d lt
@@ -235,8 +235,8 @@ excess_changed I x k row z lawful limits fits at tail head sized =
     let more = z -ℤ number_at x place in
     let lt = place_in I k at in
     let arc = row_is I k row at in
-    let same_tail : row.tail ≡ (arc_at arcs place).tail = tail ∙ ap (λ (a : ArcRow). a.tail) (sym arc) in
-    let same_head : row.head ≡ (arc_at arcs place).head = head ∙ ap (λ (a : ArcRow). a.head) (sym arc) in
+    let same_tail : row.tail ≡ (row_at arcs place).tail = tail ∙ ap (λ (a : ArcRow). a.tail) (sym arc) in
+    let same_head : row.head ≡ (row_at arcs place).head = head ∙ ap (λ (a : ArcRow). a.head) (sym arc) in
     excess_carried (reduced I) (reduced J) x (slice_set x place z) row.tail row.head more (reduced_ends I lawful) (reduced_ends J (lawful_row I (k - 1) row lawful limits fits)) refl (λ v. refl)
     (λ v. (let kept = net-set_row arcs (slice_set x place z) place v row lt (length-set x place z ∙ sized) same_tail same_head in
     let moved = net-set arcs x place v z lt sized in

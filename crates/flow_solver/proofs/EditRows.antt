@@ -12,7 +12,7 @@ use Rattle.network.specs.Edited.{with_arc, edited, has_edit, is_bound, is_within
 use Rattle.dimacs_text.specs.declared.problem.TheConstants.{COST_LIMIT}
 use Rattle.network.specs.Instance.{Instance, IsLawful, ArcFits, arc_at, kind_of, reduced}
 use Rattle.network.proofs.EditedLemmas.{edited_lawful}
-use Rattle.residual_graph.specs.Residual.{IsWithin, number_at}
+use Rattle.residual_graph.specs.Residual.{IsWithinRow, number_at}
 use Rattle.network.specs.Flow.{IsCertifiedFlow, FollowsSign, reduced_cost}
 use Rattle.flow_solver.proofs.FlowLaws.{bounds_at, bounds_length, signs_at}
 use Rattle.flow_solver.proofs.ChangeLemmas.{place_in, row_is, with_last, with_row, supplied, lawful_more, excess_changed, excess_more, excess_supplied}
@@ -70,7 +70,7 @@ close_after I k row J is e = elim (met_or_not (has_edit (kind_of I.demand) (Clos
 
 -- ---- how far the flow of the arc moves
 
-module _ (a : ArcRow) (q : ℕ → ℤ) (x z : ℤ) (bounds : IsWithin a x) (sign : FollowsSign q a x) where
+module _ (a : ArcRow) (q : ℕ → ℤ) (x z : ℤ) (bounds : IsWithinRow a x) (sign : FollowsSign q a x) where
   cap_moved : (c : ℤ) → IsNearest (record a { cap = c }) (reduced_cost q a) x z → unsigned_abs (z -ℤ x) ≤ unsigned_abs (c -ℤ a.cap)
   cap_moved c near = by_lt_z (pos 0) (reduced_cost q a)
       (λ dear. omega (arith, ints, sign.dear dear, near.dear dear))
@@ -91,10 +91,10 @@ module _ (a : ArcRow) (q : ℕ → ℤ) (x z : ℤ) (bounds : IsWithin a x) (sig
       (λ below. omega (arith, ints, near.raised even below, below, bounds.low_kept))
       (λ within. omega (arith, ints, near.kept even (record { low_kept = within; cap_kept = bounds.cap_kept }))))))
 
-cost_moved : (a : ArcRow) (c r x z : ℤ) → IsWithin a x → IsNearest (record a { cost = c }) r x z → unsigned_abs (z -ℤ x) ≤ unsigned_abs (a.cap -ℤ a.low)
+cost_moved : (a : ArcRow) (c r x z : ℤ) → IsWithinRow a x → IsNearest (record a { cost = c }) r x z → unsigned_abs (z -ℤ x) ≤ unsigned_abs (a.cap -ℤ a.low)
 cost_moved a c r x z bounds near = omega (arith, ints, bounds.low_kept, bounds.cap_kept, near.within.low_kept, near.within.cap_kept)
 
-close_moved : (a : ArcRow) (r x z : ℤ) → pos 0 ≤ℤ a.low → IsWithin a x → IsNearest (record a { low = pos 0; cap = pos 0 }) r x z → unsigned_abs (z -ℤ x) ≤ unsigned_abs a.cap
+close_moved : (a : ArcRow) (r x z : ℤ) → pos 0 ≤ℤ a.low → IsWithinRow a x → IsNearest (record a { low = pos 0; cap = pos 0 }) r x z → unsigned_abs (z -ℤ x) ≤ unsigned_abs a.cap
 close_moved a r x z low bounds near = omega (arith, ints, low, bounds.low_kept, bounds.cap_kept, near.within.low_kept, near.within.cap_kept)
 
 -- ---- the edits
@@ -117,7 +117,7 @@ row_there arcs (suc k) row d is = (let e : suc k - 1 ≡ k = omega arith in ap (
 
 pub row_edit : (I : Instance) (edit : Edit) (k : ℕ) (old row : ArcRow) → IsLawful I → arc_at I.arcs k ≡ Some old → row.tail ≡ old.tail → row.head ≡ old.head → edited I edit ≡ Ok (with_arc I k row)
     → ((J : Instance) (q : ℕ → ℤ) (x start : List ℤ) → GoesToNearest J k q x start → IsAltered J edit q x start)
-    → ((q : ℕ → ℤ) (x z : ℤ) → IsWithin old x → FollowsSign q old x → IsNearest row (reduced_cost q row) x z → unsigned_abs (z -ℤ x) ≤ units I edit) → IsRowEdit I edit k row
+    → ((q : ℕ → ℤ) (x z : ℤ) → IsWithinRow old x → FollowsSign q old x → IsNearest row (reduced_cost q row) x z → unsigned_abs (z -ℤ x) ≤ units I edit) → IsRowEdit I edit k row
 row_edit I edit k old row lawful is tail head after altered moved =
     let there = row_there I.arcs k old row is in
     let at = number_in I.arcs k old is in
@@ -132,7 +132,7 @@ row_edit I edit k old row lawful is tail head after altered moved =
       fits = both.1;
       after = after;
       altered = altered;
-      moved = λ q x z bounds sign near. moved q x z (subst (λ (a : ArcRow). IsWithin a x) there bounds) (subst (λ (a : ArcRow). FollowsSign q a x) there sign) near;
+      moved = λ q x z bounds sign near. moved q x z (subst (λ (a : ArcRow). IsWithinRow a x) there bounds) (subst (λ (a : ArcRow). FollowsSign q a x) there sign) near;
     }
 
 pub cap_edit : (I : Instance) (k : ℕ) (cap : ℤ) (old : ArcRow) → IsLawful I → IsOk (edited I (Cap k cap)) → arc_at I.arcs k ≡ Some old → IsRowEdit I (Cap k cap) k (record old { cap = cap })
@@ -211,7 +211,7 @@ row_made I edit k row q x z lawful certified change near =
     let place = flow_index I.demand k in
     let at = change.arc in
     let there = row_is I k row at in
-    let bounds = subst (λ (a : ArcRow). IsWithin a (number_at x place)) there (bounds_at (reduced I).arcs x certified.bounds place (place_in I k at)) in
+    let bounds = subst (λ (a : ArcRow). IsWithinRow a (number_at x place)) there (bounds_at (reduced I).arcs x certified.bounds place (place_in I k at)) in
     let sign = subst (λ (a : ArcRow). FollowsSign q a (number_at x place)) there (signs_at q (reduced I).arcs x certified.signs place (place_in I k at)) in
     let moved = change.moved q (number_at x place) z bounds sign near in
     let more = excess_changed I x k row z lawful change.limits change.fits at change.tail change.head (bounds_length (reduced I).arcs x certified.bounds) in

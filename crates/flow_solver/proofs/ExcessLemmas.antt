@@ -5,7 +5,7 @@ use Rattle.std.proofs.lemmas.Int.{ints}
 use Rattle.std.proofs.lemmas.Bool.{cases_eq}
 use Rattle.std.proofs.lemmas.List.Sums.{sum_by-cons}
 use Rattle.dimacs_text.specs.declared.problem.ArcRow.{ArcRow}
-use Rattle.residual_graph.specs.Residual.{IsFlow, number_at, arc_at}
+use Rattle.residual_graph.specs.Residual.{IsPseudoflow, number_at, row_at}
 use Rattle.network.specs.Flow.{outflow, inflow}
 use Rattle.augmentation.specs.Push.{IsExcess, at_node, AreSmall, positive_part, left, cap_total, AreSupplies}
 use Rattle.augmentation.proofs.PushLemmas.{at_same, at_other}
@@ -23,7 +23,7 @@ below_part (negsuc n) = omega (arith, ints)
 
 -- each flow is at least 0 and at most its capacity
 abbrev pub AreWithinCaps : List ArcRow → List ℤ → Type 0
-AreWithinCaps arcs x = (k : ℕ) → k < length arcs → (pos 0 ≤ℤ number_at x k) × (number_at x k ≤ℤ (arc_at arcs k).cap)
+AreWithinCaps arcs x = (k : ℕ) → k < length arcs → (pos 0 ≤ℤ number_at x k) × (number_at x k ≤ℤ (row_at arcs k).cap)
 
 pub flow_out-bounds : (arcs : List ArcRow) (x : List ℤ) (v : ℕ) → length x ≡ length arcs → AreWithinCaps arcs x → (pos 0 ≤ℤ outflow arcs x v) × (outflow arcs x v ≤ℤ pos (cap_total arcs))
 flow_out-bounds [] x v sized within = (omega (arith, ints), omega (arith, ints))
@@ -43,7 +43,7 @@ flow_in-bounds (a ∷ arcs) (y ∷ x) v sized within =
     let term = at_node_bounds a.head y v here.0 in
     (omega (arith, ints, rest.0, term.0), omega (arith, ints, rest.1, term.1, here.1, below_part a.cap, sum_by-cons (λ (b : ArcRow). positive_part b.cap) a arcs))
 
-pub caps_of_flow : {nodes : ℕ} {arcs : List ArcRow} {x : List ℤ} → IsFlow nodes arcs x → AreWithinCaps arcs x
+pub caps_of_flow : {nodes : ℕ} {arcs : List ArcRow} {x : List ℤ} → IsPseudoflow nodes arcs x → AreWithinCaps arcs x
 caps_of_flow flow k lt =
     (omega (arith, ints, (flow.rows k lt).low_at_least_0, (flow.within k lt).low_kept), (flow.within k lt).cap_kept)
 
@@ -55,13 +55,13 @@ small_within nodes arcs supply x e sized within supplies caps is = record {
 }
 
 -- one more arc
-pub flow_out-more : (arcs : List ArcRow) (x : List ℤ) (k v : ℕ) → k < length arcs → length x ≡ length arcs → outflow (take (k + 1) arcs) (take (k + 1) x) v ≡ outflow (take k arcs) (take k x) v +ℤ at_node (arc_at arcs k).tail (number_at x k) v
+pub flow_out-more : (arcs : List ArcRow) (x : List ℤ) (k v : ℕ) → k < length arcs → length x ≡ length arcs → outflow (take (k + 1) arcs) (take (k + 1) x) v ≡ outflow (take k arcs) (take k x) v +ℤ at_node (row_at arcs k).tail (number_at x k) v
 flow_out-more [] x k v lt sized = absurd (omega arith)
 flow_out-more (a ∷ arcs) [] k v lt sized = absurd (omega arith)
 flow_out-more (a ∷ arcs) (y ∷ x) zero v lt sized = omega (arith, ints)
 flow_out-more (a ∷ arcs) (y ∷ x) (suc k) v lt sized = rw add-one (omega (arith, ints, (rw add-one at (flow_out-more arcs x k v (omega arith) (omega arith)))))
 
-pub flow_in-more : (arcs : List ArcRow) (x : List ℤ) (k v : ℕ) → k < length arcs → length x ≡ length arcs → inflow (take (k + 1) arcs) (take (k + 1) x) v ≡ inflow (take k arcs) (take k x) v +ℤ at_node (arc_at arcs k).head (number_at x k) v
+pub flow_in-more : (arcs : List ArcRow) (x : List ℤ) (k v : ℕ) → k < length arcs → length x ≡ length arcs → inflow (take (k + 1) arcs) (take (k + 1) x) v ≡ inflow (take k arcs) (take k x) v +ℤ at_node (row_at arcs k).head (number_at x k) v
 flow_in-more [] x k v lt sized = absurd (omega arith)
 flow_in-more (a ∷ arcs) [] k v lt sized = absurd (omega arith)
 flow_in-more (a ∷ arcs) (y ∷ x) zero v lt sized = omega (arith, ints)

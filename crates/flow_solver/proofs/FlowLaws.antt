@@ -5,17 +5,17 @@ use Rattle.std.proofs.lemmas.Int.{ints, by_lt_z}
 use Rattle.dimacs_text.specs.declared.problem.ArcRow.{ArcRow}
 use Rattle.network.specs.Flow.{MinCost, IsNode, AllEndsAreNodes, AllWithinBounds, FollowsSign, IsCertifiedFlow, IsGreatestPotential, IsPotential, reduced_cost}
 use Rattle.residual_graph.specs.declared.residual.Way.TheVariants.{Forward, Backward}
-use Rattle.residual_graph.specs.Residual.{IsWithin, NoneBelowBy, IsCertified, KeepsSigns, AreGreatest, number_at, arc_at}
+use Rattle.residual_graph.specs.Residual.{IsWithinRow, NoneBelowBy, IsReducedCostOptimal, KeepsSigns, AreGreatest, number_at, row_at}
 use Rattle.augmentation.specs.Nodes.{held}
 use Rattle.augmentation.proofs.NodeLemmas.{held_node, held_at_most_0}
 use Rattle.flow_solver.proofs.SignLemmas.{signs_from_none_below}
 
-pub bounds_from : (arcs : List ArcRow) (x : List ℤ) → length x ≡ length arcs → ((k : ℕ) → k < length arcs → IsWithin (arc_at arcs k) (number_at x k)) → AllWithinBounds arcs x
+pub bounds_from : (arcs : List ArcRow) (x : List ℤ) → length x ≡ length arcs → ((k : ℕ) → k < length arcs → IsWithinRow (row_at arcs k) (number_at x k)) → AllWithinBounds arcs x
 bounds_from [] [] sized within = tt
 bounds_from [] (y ∷ x) sized within = absurd (omega arith)
 bounds_from (a ∷ arcs) [] sized within = absurd (omega arith)
 bounds_from (a ∷ arcs) (y ∷ x) sized within =
-    let here : IsWithin a y = within 0 (omega arith) in
+    let here : IsWithinRow a y = within 0 (omega arith) in
     ((here.low_kept, here.cap_kept), bounds_from arcs x (omega arith) (λ k lt. within (suc k) (omega arith)))
 
 pub bounds_length : (arcs : List ArcRow) (x : List ℤ) → AllWithinBounds arcs x → length x ≡ length arcs
@@ -24,7 +24,7 @@ bounds_length [] (y ∷ x) h = absurd h
 bounds_length (a ∷ arcs) [] h = absurd h
 bounds_length (a ∷ arcs) (y ∷ x) h = omega (arith, bounds_length arcs x h.1)
 
-pub bounds_at : (arcs : List ArcRow) (x : List ℤ) → AllWithinBounds arcs x → (k : ℕ) → k < length arcs → IsWithin (arc_at arcs k) (number_at x k)
+pub bounds_at : (arcs : List ArcRow) (x : List ℤ) → AllWithinBounds arcs x → (k : ℕ) → k < length arcs → IsWithinRow (row_at arcs k) (number_at x k)
 bounds_at [] x h k lt = absurd (omega arith)
 bounds_at (a ∷ arcs) [] h k lt = absurd h
 bounds_at (a ∷ arcs) (y ∷ x) h zero lt = record { low_kept = h.0.0; cap_kept = h.0.1 }
@@ -39,7 +39,7 @@ signs_all (a ∷ arcs) (y ∷ x) p sized signs =
     let here = signs 0 (omega arith) in
     (record { dear = here.0; cheap = here.1 }, signs_all arcs x p (omega arith) (λ k lt. signs (suc k) (omega arith)))
 
-pub signs_at : (q : ℕ → ℤ) (arcs : List ArcRow) (x : List ℤ) → AllZip (FollowsSign q) arcs x → (k : ℕ) → k < length arcs → FollowsSign q (arc_at arcs k) (number_at x k)
+pub signs_at : (q : ℕ → ℤ) (arcs : List ArcRow) (x : List ℤ) → AllZip (FollowsSign q) arcs x → (k : ℕ) → k < length arcs → FollowsSign q (row_at arcs k) (number_at x k)
 signs_at q [] x h k lt = absurd (omega arith)
 signs_at q (a ∷ arcs) [] h k lt = absurd h
 signs_at q (a ∷ arcs) (y ∷ x) h zero lt = h.0
@@ -66,7 +66,7 @@ certified_same I x p q ends same certified = record {
 abbrev pub AgreesAt : ℕ → (ℕ → ℤ) → List ℤ → Type 0
 AgreesAt n q p = (v : ℕ) → (1 ≤ v) × (v ≤ n) → q v ≡ number_at p v
 
-module _ (I : MinCost) (x p : List ℤ) (q : ℕ → ℤ) (ends : AllEndsAreNodes I) (certified : IsCertified I.arcs x p) (agrees : AgreesAt I.nodes q p) where
+module _ (I : MinCost) (x p : List ℤ) (q : ℕ → ℤ) (ends : AllEndsAreNodes I) (certified : IsReducedCostOptimal I.arcs x p) (agrees : AgreesAt I.nodes q p) where
   pub certified_flow : ((v : ℕ) → IsNode I v → IsPotential (number_at p v)) → IsCertifiedFlow I x q
   certified_flow in_range = record {
     bounds = bounds_from I.arcs x certified.flow.same_length certified.flow.within;
@@ -75,13 +75,13 @@ module _ (I : MinCost) (x p : List ℤ) (q : ℕ → ℤ) (ends : AllEndsAreNode
   }
 
 -- no residual arc has a reduced cost below 0 where each arc keeps the rule
-none_below_by : (q : ℕ → ℤ) (arcs : List ArcRow) (x : List ℤ) → ((k : ℕ) → k < length arcs → FollowsSign q (arc_at arcs k) (number_at x k)) → NoneBelowBy arcs x q
+none_below_by : (q : ℕ → ℤ) (arcs : List ArcRow) (x : List ℤ) → ((k : ℕ) → k < length arcs → FollowsSign q (row_at arcs k) (number_at x k)) → NoneBelowBy arcs x q
 none_below_by q arcs x signs k Forward residual =
-    by_lt_z (reduced_cost q (arc_at arcs k)) (pos 0)
+    by_lt_z (reduced_cost q (row_at arcs k)) (pos 0)
     (λ cheap. absurd (omega (arith, ints, residual.has_room, (signs k residual.is_arc).cheap cheap)))
     (λ rest. omega (arith, ints, rest))
 none_below_by q arcs x signs k Backward residual =
-    by_lt_z (pos 0) (reduced_cost q (arc_at arcs k))
+    by_lt_z (pos 0) (reduced_cost q (row_at arcs k))
     (λ dear. absurd (omega (arith, ints, residual.has_room, (signs k residual.is_arc).dear dear)))
     (λ rest. omega (arith, ints, rest))
 

@@ -16,7 +16,7 @@ use Rattle.network.proofs.Reduction.{rows_of, reduced_ends}
 use Rattle.residual_graph.specs.Limits.{entry_limit, row_limit}
 use Rattle.augmentation.specs.Limits.{cap_sum_limit, supply_limit}
 use Rattle.shortest_paths.specs.Limits.{label_floor}
-use Rattle.residual_graph.specs.Residual.{IsRow, IsFlow, IsCertified, ArePotentials, number_at, arc_at}
+use Rattle.residual_graph.specs.Residual.{IsRow, IsPseudoflow, IsReducedCostOptimal, ArePotentials, number_at, row_at}
 use Rattle.augmentation.specs.Push.{AreSupplies, positive_part, cap_total}
 use Rattle.augmentation.specs.Nodes.{held, IsIdleEntry}
 use Rattle.residual_graph.proofs.NodeNumbers.{IsNodeOf, is_node_or_not}
@@ -46,18 +46,18 @@ return_row n source sink fits = record {
   cost_high = omega (arith, ints);
 }
 
-rows_at : (n : ℕ) (D : Demand) (arcs : List ArcRow) → AllByRecursion (λ arc. IsLawfulRow n arc × ArcFits D arc) arcs → (k : ℕ) → k < length arcs → IsRow (n + 1) (arc_at arcs k)
+rows_at : (n : ℕ) (D : Demand) (arcs : List ArcRow) → AllByRecursion (λ arc. IsLawfulRow n arc × ArcFits D arc) arcs → (k : ℕ) → k < length arcs → IsRow (n + 1) (row_at arcs k)
 rows_at n D [] keeps k lt = absurd (omega arith)
 rows_at n D (a ∷ arcs) keeps zero lt = lawful_row n a keeps.0.0
 rows_at n D (a ∷ arcs) keeps (suc k) lt = rows_at n D arcs keeps.1 k (omega arith)
 
-reduced_rows : (n : ℕ) (D : Demand) (arcs : List ArcRow) → DemandFits n D → AllByRecursion (λ arc. IsLawfulRow n arc × ArcFits D arc) arcs → (k : ℕ) → k < length (reduced_arcs D arcs) → IsRow (n + 1) (arc_at (reduced_arcs D arcs) k)
+reduced_rows : (n : ℕ) (D : Demand) (arcs : List ArcRow) → DemandFits n D → AllByRecursion (λ arc. IsLawfulRow n arc × ArcFits D arc) arcs → (k : ℕ) → k < length (reduced_arcs D arcs) → IsRow (n + 1) (row_at (reduced_arcs D arcs) k)
 reduced_rows n (Supplies s) arcs fits keeps k lt = rows_at n (Supplies s) arcs keeps k lt
 reduced_rows n (Terminals source sink) arcs fits keeps zero lt = return_row n source sink fits
 reduced_rows n (Terminals source sink) arcs fits keeps (suc k) lt = rows_at n (Terminals source sink) arcs keeps k (omega arith)
 reduced_rows n (Sides marks) arcs fits keeps k lt = rows_at n (Sides marks) arcs keeps k lt
 
-pub rows_of_instance : (I : Instance) → IsLawful I → (k : ℕ) → k < length (reduced I).arcs → IsRow (I.nodes + 1) (arc_at (reduced I).arcs k)
+pub rows_of_instance : (I : Instance) → IsLawful I → (k : ℕ) → k < length (reduced I).arcs → IsRow (I.nodes + 1) (row_at (reduced I).arcs k)
 rows_of_instance I lawful k lt = reduced_rows I.nodes I.demand I.arcs lawful.demand (rows_of lawful) k lt
 
 rows_counted : (D : Demand) (arcs : List ArcRow) → length (reduced_arcs D arcs) ≤ length arcs + 1
@@ -113,7 +113,7 @@ supplies_of_instance I lawful = record { low = λ v. (both v).0; high = λ v. (b
 
 -- ---- flows and potentials
 
-pub flow_of_instance : (I : Instance) (x : List ℤ) → IsLawful I → AllWithinBounds (reduced I).arcs x → IsFlow (I.nodes + 1) (reduced I).arcs x
+pub flow_of_instance : (I : Instance) (x : List ℤ) → IsLawful I → AllWithinBounds (reduced I).arcs x → IsPseudoflow (I.nodes + 1) (reduced I).arcs x
 flow_of_instance I x lawful bounds = record {
   few_nodes = few_entries I lawful;
   few_arcs = few_rows I lawful;
@@ -132,11 +132,11 @@ potentials_of n p sized idle range = record { sized = refl; at_most_0 = λ v. (b
       | inr past ↦ (let none : number_at p (suc v) ≡ pos 0 = get_or_past p (suc v) (pos 0) (omega (arith, sized)) in (omega (arith, ints, none), omega (arith, ints, none)))
     ]
 
-pub certified_of : (I : Instance) (x p : List ℤ) → IsLawful I → length p ≡ I.nodes + 1 → IsIdleEntry p → IsCertifiedFlow (reduced I) x (number_at p) → IsCertified (reduced I).arcs x p
+pub certified_of : (I : Instance) (x p : List ℤ) → IsLawful I → length p ≡ I.nodes + 1 → IsIdleEntry p → IsCertifiedFlow (reduced I) x (number_at p) → IsReducedCostOptimal (reduced I).arcs x p
 certified_of I x p lawful sized idle certified =
     let potentials = potentials_of I.nodes p sized idle certified.range in
     record {
-      flow = subst (λ (n : ℕ). IsFlow n (reduced I).arcs x) (sym sized) (flow_of_instance I x lawful certified.bounds);
+      flow = subst (λ (n : ℕ). IsPseudoflow n (reduced I).arcs x) (sym sized) (flow_of_instance I x lawful certified.bounds);
       potentials = record { sized = refl; at_most_0 = potentials.at_most_0; at_least = λ v. omega (arith, ints, potentials.at_least v) };
       none_below = none_below_of (reduced I) x (number_at p) (number_at p) (reduced_ends I lawful) certified (λ v node. refl);
     }
@@ -165,7 +165,7 @@ start_sign q a zero_at = by_test (int_lt a.cost (pos 0)) refl
       cheap = λ cheap. absurd (omega (arith, ints, cheap, e, zero_at a.tail, zero_at a.head));
     }
 
-start_bounds : (n : ℕ) (arcs : List ArcRow) → ((k : ℕ) → k < length arcs → IsRow (n + 1) (arc_at arcs k)) → AllWithinBounds arcs (map start arcs)
+start_bounds : (n : ℕ) (arcs : List ArcRow) → ((k : ℕ) → k < length arcs → IsRow (n + 1) (row_at arcs k)) → AllWithinBounds arcs (map start arcs)
 start_bounds n [] rows = tt
 start_bounds n (a ∷ arcs) rows =
     (start_within n a (rows 0 (omega arith)) (int_lt a.cost (pos 0)), start_bounds n arcs (λ k lt. rows (suc k) (omega arith)))

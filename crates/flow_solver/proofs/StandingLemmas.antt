@@ -9,11 +9,11 @@ use Rattle.std.proofs.lemmas.List.{get_or_append_left, get_or-set_other, get_or-
 use Rattle.dimacs_text.specs.declared.problem.ArcRow.{ArcRow}
 use Rattle.dimacs_text.specs.Lawful.{IsLawfulRow}
 use Rattle.network.specs.Flow.{MinCost, AllWithinBounds, FollowsSign, IsCertifiedFlow, IsGreatestPotential, IsPotential, reduced_cost}
-use Rattle.network.specs.Instance.{ArcFits, Instance, IsLawful, arc_at as number_at_arc, at_node, reduced}
+use Rattle.network.specs.Instance.{ArcFits, Instance, IsLawful, arc_at, at_node, reduced}
 use Rattle.network.proofs.Reduction.{reduced_ends}
 use Rattle.residual_graph.specs.declared.graph.Graph.{Graph}
 use Rattle.augmentation.specs.declared.scratch.Scratch.{Scratch}
-use Rattle.residual_graph.specs.Residual.{AreGreatest, IsWithin, number_at, arc_at, room_of}
+use Rattle.residual_graph.specs.Residual.{AreGreatest, IsWithinRow, number_at, row_at, room_of}
 use Rattle.residual_graph.specs.declared.residual.Way.{Way}
 use Rattle.residual_graph.specs.declared.residual.Way.TheVariants.{Backward, Forward}
 use Rattle.augmentation.specs.Scratch.{IsScratchFor}
@@ -75,7 +75,7 @@ module _ (p q : ℕ → ℤ) where
         (omega (arith, ints, not_dear, not_cheap, further a.head a.tail (omega (arith, ints, cheap, not_dear, not_cheap))))));
   }
 
-  raised_signs : (arcs : List ArcRow) (x : List ℤ) → AllZip (FollowsSign p) arcs x → ((k : ℕ) → k < length arcs → reduced_cost p (arc_at arcs k) ≡ pos 0 → FollowsSign q (arc_at arcs k) (number_at x k)) → AllZip (FollowsSign raised) arcs x
+  raised_signs : (arcs : List ArcRow) (x : List ℤ) → AllZip (FollowsSign p) arcs x → ((k : ℕ) → k < length arcs → reduced_cost p (row_at arcs k) ≡ pos 0 → FollowsSign q (row_at arcs k) (number_at x k)) → AllZip (FollowsSign raised) arcs x
   raised_signs [] [] signs tight = tt
   raised_signs [] (y ∷ x) signs tight = absurd signs
   raised_signs (a ∷ arcs) [] signs tight = absurd signs
@@ -92,7 +92,7 @@ module _ (p q : ℕ → ℤ) where
 
 -- potentials stay the greatest where whatever certifies the flow afterwards keeps the rule at each arc that was tight
 greatest_still : (I J : MinCost) (x y : List ℤ) (p : ℕ → ℤ) → J.nodes ≡ I.nodes → IsCertifiedFlow I x p → IsGreatestPotential I x p
-    → ((q : ℕ → ℤ) → IsCertifiedFlow J y q → (k : ℕ) → k < length I.arcs → reduced_cost p (arc_at I.arcs k) ≡ pos 0 → FollowsSign q (arc_at I.arcs k) (number_at x k))
+    → ((q : ℕ → ℤ) → IsCertifiedFlow J y q → (k : ℕ) → k < length I.arcs → reduced_cost p (row_at I.arcs k) ≡ pos 0 → FollowsSign q (row_at I.arcs k) (number_at x k))
     → IsGreatestPotential J y p
 greatest_still I J x y p nodes certified greatest keeps q other v node =
     let below = greatest (raised p q) (record {
@@ -130,7 +130,7 @@ module _ (a b : ArcRow) (x y : ℤ) where
   room_behind kept there_was = (let is = kept.has_room Backward (omega (arith, ints, there_was)) in omega (arith, ints, is))
 
 -- a flow that is certified after an arc kept its residual arcs follows the rule of signs of the arc before
-sign_kept : (q : ℕ → ℤ) (a b : ArcRow) (x y : ℤ) → b.tail ≡ a.tail → b.head ≡ a.head → KeepsResidualArcs a x b y → IsWithin a x → FollowsSign q b y → FollowsSign q a x
+sign_kept : (q : ℕ → ℤ) (a b : ArcRow) (x y : ℤ) → b.tail ≡ a.tail → b.head ≡ a.head → KeepsResidualArcs a x b y → IsWithinRow a x → FollowsSign q b y → FollowsSign q a x
 sign_kept q a b x y tail head kept within sign = record {
   dear = λ dear. by_lt_z (a.low) x
       (λ there_was. (let room = kept.has_room Backward (omega (arith, ints, there_was)) in
@@ -148,7 +148,7 @@ sign_kept q a b x y tail head kept within sign = record {
 -- potentials that are the greatest are so still where an arc changed that was not tight, or kept its residual arcs
 pub greatest_changed : (I : Instance) (k : ℕ) (row : ArcRow) (p : ℕ → ℤ) (x : List ℤ) (z : ℤ) → (1 ≤ k) × (k ≤ length I.arcs)
     → row.tail ≡ (slice_index_or I.arcs (k - 1) row).tail → row.head ≡ (slice_index_or I.arcs (k - 1) row).head
-    → (reduced_cost p (arc_at (reduced I).arcs (flow_index I.demand k)) ≡ pos 0 → KeepsResidualArcs (arc_at (reduced I).arcs (flow_index I.demand k)) (number_at x (flow_index I.demand k)) row z)
+    → (reduced_cost p (row_at (reduced I).arcs (flow_index I.demand k)) ≡ pos 0 → KeepsResidualArcs (row_at (reduced I).arcs (flow_index I.demand k)) (number_at x (flow_index I.demand k)) row z)
     → IsCertifiedFlow (reduced I) x p → AreGreatestPotentials (reduced I) x p → AreGreatestPotentials (reduced (with_row I (k - 1) row)) (slice_set x (flow_index I.demand k) z) p
 greatest_changed I k row p x z at tail head kept certified greatest = record {
   none_above = greatest_still (reduced I) (reduced (with_row I (k - 1) row)) x (slice_set x place z) p refl certified greatest.none_above keeps;
@@ -157,30 +157,30 @@ greatest_changed I k row p x z at tail head kept certified greatest = record {
     place : ℕ
     place = flow_index I.demand k
 
-    before : arc_at (reduced I).arcs place ≡ slice_index_or I.arcs (k - 1) row
+    before : row_at (reduced I).arcs place ≡ slice_index_or I.arcs (k - 1) row
     before = row_is I k row at
 
     -- the rule of signs at each arc after the change
-    after : (q : ℕ → ℤ) → IsCertifiedFlow (reduced (with_row I (k - 1) row)) (slice_set x place z) q → (j : ℕ) → j < length (reduced I).arcs → FollowsSign q (arc_at (slice_set (reduced I).arcs place row) j) (number_at (slice_set x place z) j)
+    after : (q : ℕ → ℤ) → IsCertifiedFlow (reduced (with_row I (k - 1) row)) (slice_set x place z) q → (j : ℕ) → j < length (reduced I).arcs → FollowsSign q (row_at (slice_set (reduced I).arcs place row) j) (number_at (slice_set x place z) j)
     after q other j lt =
         let signs = subst (λ (arcs : List ArcRow). AllZip (FollowsSign q) arcs (slice_set x place z)) (sym (rows_changed I k row at.0)) other.signs in
         signs_at q (slice_set (reduced I).arcs place row) (slice_set x place z) signs j (omega (arith, lt, length-set (reduced I).arcs place row))
 
     -- at the changed arc
-    keeps_here : (q : ℕ → ℤ) → IsCertifiedFlow (reduced (with_row I (k - 1) row)) (slice_set x place z) q → place < length (reduced I).arcs → reduced_cost p (arc_at (reduced I).arcs place) ≡ pos 0 → FollowsSign q (arc_at (reduced I).arcs place) (number_at x place)
+    keeps_here : (q : ℕ → ℤ) → IsCertifiedFlow (reduced (with_row I (k - 1) row)) (slice_set x place z) q → place < length (reduced I).arcs → reduced_cost p (row_at (reduced I).arcs place) ≡ pos 0 → FollowsSign q (row_at (reduced I).arcs place) (number_at x place)
     keeps_here q other lt tight =
         let many = bounds_length (reduced I).arcs x certified.bounds in
         let there = subst (λ (a : ArcRow). FollowsSign q a (number_at (slice_set x place z) place)) (get_or-set_same (reduced I).arcs place row _ lt) (after q other place lt) in
-        sign_kept q (arc_at (reduced I).arcs place) row (number_at x place) z (tail ∙ ap (λ (a : ArcRow). a.tail) (sym before)) (head ∙ ap (λ (a : ArcRow). a.head) (sym before))
+        sign_kept q (row_at (reduced I).arcs place) row (number_at x place) z (tail ∙ ap (λ (a : ArcRow). a.tail) (sym before)) (head ∙ ap (λ (a : ArcRow). a.head) (sym before))
         (kept tight) (bounds_at (reduced I).arcs x certified.bounds place lt)
         (subst (λ (y : ℤ). FollowsSign q row y) (get_or-set_same x place z (pos 0) (omega (arith, lt, many))) there)
 
-    keeps : (q : ℕ → ℤ) → IsCertifiedFlow (reduced (with_row I (k - 1) row)) (slice_set x place z) q → (j : ℕ) → j < length (reduced I).arcs → reduced_cost p (arc_at (reduced I).arcs j) ≡ pos 0 → FollowsSign q (arc_at (reduced I).arcs j) (number_at x j)
+    keeps : (q : ℕ → ℤ) → IsCertifiedFlow (reduced (with_row I (k - 1) row)) (slice_set x place z) q → (j : ℕ) → j < length (reduced I).arcs → reduced_cost p (row_at (reduced I).arcs j) ≡ pos 0 → FollowsSign q (row_at (reduced I).arcs j) (number_at x j)
     keeps q other j lt tight = elim (cases_eq j place) [
-      | inl here ↦ subst (λ (i : ℕ). FollowsSign q (arc_at (reduced I).arcs i) (number_at x i)) (sym here)
-          (keeps_here q other (subst (λ (i : ℕ). i < length (reduced I).arcs) here lt) (subst (λ (i : ℕ). reduced_cost p (arc_at (reduced I).arcs i) ≡ pos 0) here tight))
+      | inl here ↦ subst (λ (i : ℕ). FollowsSign q (row_at (reduced I).arcs i) (number_at x i)) (sym here)
+          (keeps_here q other (subst (λ (i : ℕ). i < length (reduced I).arcs) here lt) (subst (λ (i : ℕ). reduced_cost p (row_at (reduced I).arcs i) ≡ pos 0) here tight))
       | inr elsewhere ↦ subst (λ (a : ArcRow). FollowsSign q a (number_at x j)) (get_or-set_other (reduced I).arcs place j row _ elsewhere)
-          (subst (λ (y : ℤ). FollowsSign q (arc_at (slice_set (reduced I).arcs place row) j) y) (get_or-set_other x place j z (pos 0) elsewhere) (after q other j lt))
+          (subst (λ (y : ℤ). FollowsSign q (row_at (slice_set (reduced I).arcs place row) j) y) (get_or-set_other x place j z (pos 0) elsewhere) (after q other j lt))
     ]
 
 -- where an arc is more, whatever its flow
@@ -189,13 +189,13 @@ greatest_more I row p x z certified greatest = record {
   none_above = greatest_still (reduced I) (reduced (with_last I row)) x (x ++ z ∷ []) p refl certified greatest.none_above keeps;
 }
   where
-    keeps : (q : ℕ → ℤ) → IsCertifiedFlow (reduced (with_last I row)) (x ++ z ∷ []) q → (j : ℕ) → j < length (reduced I).arcs → reduced_cost p (arc_at (reduced I).arcs j) ≡ pos 0 → FollowsSign q (arc_at (reduced I).arcs j) (number_at x j)
+    keeps : (q : ℕ → ℤ) → IsCertifiedFlow (reduced (with_last I row)) (x ++ z ∷ []) q → (j : ℕ) → j < length (reduced I).arcs → reduced_cost p (row_at (reduced I).arcs j) ≡ pos 0 → FollowsSign q (row_at (reduced I).arcs j) (number_at x j)
     keeps q other j lt tight =
         let signs = subst (λ (arcs : List ArcRow). AllZip (FollowsSign q) arcs (x ++ z ∷ [])) (sym (rows_more I row)) other.signs in
         let many = length-append (reduced I).arcs (row ∷ []) in
         let there = signs_at q ((reduced I).arcs ++ row ∷ []) (x ++ z ∷ []) signs j (omega (arith, lt, many)) in
         subst (λ (a : ArcRow). FollowsSign q a (number_at x j)) (get_or_append_left (reduced I).arcs (row ∷ []) _ j lt)
-        (subst (λ (y : ℤ). FollowsSign q (arc_at ((reduced I).arcs ++ row ∷ []) j) y) (get_or_append_left x (z ∷ []) (pos 0) j (omega (arith, lt, bounds_length (reduced I).arcs x certified.bounds))) there)
+        (subst (λ (y : ℤ). FollowsSign q (row_at ((reduced I).arcs ++ row ∷ []) j) y) (get_or_append_left x (z ∷ []) (pos 0) j (omega (arith, lt, bounds_length (reduced I).arcs x certified.bounds))) there)
 
 -- and where a supply changed, which certifying potentials do not see
 pub greatest_supplied : (I : Instance) (v : ℕ) (value : ℤ) (p : ℕ → ℤ) (x : List ℤ) → AreGreatestPotentials (reduced I) x p → AreGreatestPotentials (reduced (supplied I v value)) x p
@@ -210,17 +210,17 @@ greatest_supplied I v value p x greatest = record {
 -- ---- an arc of the instance
 
 -- an arc with a number in range is there
-pub arc_there : (arcs : List ArcRow) (k : ℕ) → (1 ≤ k) × (k ≤ length arcs) → (row : ArcRow) × (number_at_arc arcs k ≡ Some row)
+pub arc_there : (arcs : List ArcRow) (k : ℕ) → (1 ≤ k) × (k ≤ length arcs) → (row : ArcRow) × (arc_at arcs k ≡ Some row)
 arc_there arcs zero at = absurd (omega (arith, at.0))
-arc_there arcs (suc i) at = (arc_at arcs i, slice_get-get_or arcs i _ (omega (arith, at.1)))
+arc_there arcs (suc i) at = (row_at arcs i, slice_get-get_or arcs i _ (omega (arith, at.1)))
 
-module _ (I : Instance) (k : ℕ) (row : ArcRow) (at : (1 ≤ k) × (k ≤ length I.arcs)) (there : number_at_arc I.arcs k ≡ Some row) where
+module _ (I : Instance) (k : ℕ) (row : ArcRow) (at : (1 ≤ k) × (k ≤ length I.arcs)) (there : arc_at I.arcs k ≡ Some row) where
   -- it is lawful
   pub arc_lawful : IsLawful I → IsLawfulRow I.nodes row
   arc_lawful lawful = (subst (λ (a : ArcRow). IsLawfulRow I.nodes a × ArcFits I.demand a) (row_there I.arcs k row row there) (lawful.arcs (k - 1) row (omega (arith, at.0, at.1)))).0
 
   -- and is the one at its place
-  pub arc_placed : arc_at (reduced I).arcs (flow_index I.demand k) ≡ row
+  pub arc_placed : row_at (reduced I).arcs (flow_index I.demand k) ≡ row
   arc_placed = row_is I k row at ∙ row_there I.arcs k row row there
 
 -- ---- the tables

@@ -3,7 +3,7 @@ use Rattle.std.specs.Prelude.{◌≡◌, ℕ, ◌+◌, ◌<◌, ℤ, ◌+ℤ◌,
 use Rattle.std.specs.Int.{int_wrap, w64, w128}
 use Rattle.dimacs_text.specs.declared.problem.ArcRow.{ArcRow}
 use Rattle.network.specs.Flow.{net, total_cost}
-use Rattle.residual_graph.specs.Residual.{arc_at, number_at}
+use Rattle.residual_graph.specs.Residual.{row_at, number_at}
 use Rattle.network.specs.Instance.{Instance, reduced}
 use Rattle.flow_solver.specs.declared.balance.Balance.{Balance}
 use Rattle.augmentation.specs.declared.tracked.Tracked.{Tracked}
@@ -38,7 +38,7 @@ pub record IsCarried (row : ArcRow) (before after : ℤ) (e f : List ℤ) : Type
 
 -- each arc's ends are entries of a table of nodes
 abbrev pub AreEndsIn : ℕ → List ArcRow → Type 0
-AreEndsIn nodes arcs = (k : ℕ) → k < length arcs → ((arc_at arcs k).tail < nodes) × ((arc_at arcs k).head < nodes)
+AreEndsIn nodes arcs = (k : ℕ) → k < length arcs → ((row_at arcs k).tail < nodes) × ((row_at arcs k).head < nodes)
 
 -- the excess of each node is that of the flow which stands in a tracked, the cost that of the flow which was kept
 pub record IsBalanceOf (I : Instance) (rows : List ArcRow) (flow : Tracked ℤ) (b : Balance) : Type 0 where

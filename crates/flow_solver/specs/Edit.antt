@@ -4,22 +4,22 @@ use Rattle.dimacs_text.specs.declared.problem.ArcRow.{ArcRow}
 use Rattle.network.specs.Flow.{FollowsSign, reduced_cost, total_excess}
 use Rattle.network.specs.Instance.{Instance, ArcFits, arc_at, kind_of, reduced, with_supply}
 use Rattle.network.specs.Edited.{edited, units, units_all}
-use Rattle.dimacs_text.specs.Lawful.{IsLawfulRow, IsNode, IsWithin as IsWithinLimit}
+use Rattle.dimacs_text.specs.Lawful.{IsLawfulRow, IsNode, IsWithin}
 use Rattle.dimacs_text.specs.declared.problem.TheConstants.{SUPPLY_LIMIT}
 use Rattle.dimacs_text.specs.declared.problem.Kind.TheVariants.{Min}
 use Rattle.dimacs_text.specs.declared.command.Edit.{Edit}
 use Rattle.dimacs_text.specs.declared.command.Edit.TheVariants.{Cap, Low, Cost, Supply, Add, Close}
-use Rattle.residual_graph.specs.Residual.{number_at, room_of, IsWithin}
+use Rattle.residual_graph.specs.Residual.{number_at, room_of, IsWithinRow}
 use Rattle.residual_graph.specs.declared.residual.Way.{Way}
 use Rattle.augmentation.specs.Push.{Pushes}
 use Rattle.flow_solver.specs.TablesView.{flow_index}
 
 -- z is the flow nearest to x that the bounds of the arc and the sign of its reduced cost allow
 pub record IsNearest (a : ArcRow) (reduced x z : ℤ) : Type 0 where
-  pub within : IsWithin a z
+  pub within : IsWithinRow a z
   pub dear : pos 0 <ℤ reduced → z ≡ a.low
   pub cheap : reduced <ℤ pos 0 → z ≡ a.cap
-  pub kept : reduced ≡ pos 0 → IsWithin a x → z ≡ x
+  pub kept : reduced ≡ pos 0 → IsWithinRow a x → z ≡ x
   pub raised : reduced ≡ pos 0 → x <ℤ a.low → z ≡ a.low
   pub cut_off : reduced ≡ pos 0 → a.cap <ℤ x → z ≡ a.cap
 
@@ -99,14 +99,14 @@ pub record IsRowEdit (I : Instance) (edit : Edit) (k : ℕ) (row : ArcRow) : Typ
   pub fits : ArcFits I.demand row
   pub after : edited I edit ≡ Ok (record I { arcs = slice_set I.arcs (k - 1) row })
   pub altered : (J : Instance) (potential : ℕ → ℤ) (x start : List ℤ) → GoesToNearest J k potential x start → IsAltered J edit potential x start
-  pub moved : (potential : ℕ → ℤ) (x z : ℤ) → IsWithin (slice_index_or I.arcs (k - 1) row) x → FollowsSign potential (slice_index_or I.arcs (k - 1) row) x → IsNearest row (reduced_cost potential row) x z → unsigned_abs (z -ℤ x) ≤ units I edit
+  pub moved : (potential : ℕ → ℤ) (x z : ℤ) → IsWithinRow (slice_index_or I.arcs (k - 1) row) x → FollowsSign potential (slice_index_or I.arcs (k - 1) row) x → IsNearest row (reduced_cost potential row) x z → unsigned_abs (z -ℤ x) ≤ units I edit
 
 -- the edit changes a supply
 pub record IsSupplyEdit (I : Instance) (edit : Edit) (v : ℕ) (value : ℤ) : Type 0 where
   pub is : edit ≡ Supply v value
   pub kind : kind_of I.demand ≡ Min
   pub node : IsNode I.nodes v
-  pub limit : IsWithinLimit SUPPLY_LIMIT value
+  pub limit : IsWithin SUPPLY_LIMIT value
   pub after : edited I edit ≡ Ok (record I { demand = with_supply I.demand v value })
 
 -- the edit adds an arc

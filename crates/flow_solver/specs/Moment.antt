@@ -56,14 +56,14 @@ VerdictFits (Supplies supplies) verdict = ⊤
 VerdictFits (Terminals source sink) verdict = IsReturnVerdict verdict
 VerdictFits (Sides marks) verdict = ⊤
 
-abbrev pub TellsReturnBy : Demand → Verdict → List ℤ → Type 0
-TellsReturnBy (Supplies supplies) verdict flow = ⊤
-TellsReturnBy (Terminals source sink) verdict flow = verdict ≡ Best (number_at flow 0)
-TellsReturnBy (Sides marks) verdict flow = ⊤
+abbrev pub ReturnMatchesBy : Demand → Verdict → List ℤ → Type 0
+ReturnMatchesBy (Supplies supplies) verdict flow = ⊤
+ReturnMatchesBy (Terminals source sink) verdict flow = verdict ≡ Best (number_at flow 0)
+ReturnMatchesBy (Sides marks) verdict flow = ⊤
 
 -- where there is a return arc, its flow is told as the worth
-abbrev pub TellsReturn : Moment → Type 0
-TellsReturn m = TellsReturnBy m.instance.demand m.verdict m.flow
+abbrev pub ReturnMatches : Moment → Type 0
+ReturnMatches m = ReturnMatchesBy m.instance.demand m.verdict m.flow
 
 -- what is told as the flow of the return arc, where there is one
 abbrev pub returned : Demand → Verdict → List ℤ

@@ -13,8 +13,8 @@ pub record TablesView : Type 0 where
   pub before : Option Moment
 
 -- a flow within the limits
-abbrev pub IsFlow : ℤ → Type 0
-IsFlow x = (pos 0 ≤ℤ x) × (x ≤ℤ pos CAP_LIMIT)
+abbrev pub IsFlowValue : ℤ → Type 0
+IsFlowValue x = (pos 0 ≤ℤ x) × (x ≤ℤ pos CAP_LIMIT)
 
 -- an arc that the instance may have
 abbrev pub IsRowOf : Instance → ArcRow → Type 0

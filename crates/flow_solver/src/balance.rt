@@ -4,7 +4,7 @@ ghost use Rattle.std.specs.Prelude.{◌≡◌, ℕ, ℤ, pos, ◌+◌, ◌*ℤ�
 ghost use Rattle.std.specs.Int.{int_wrap, w128};
 ghost use Rattle.network.specs.Instance.{reduced};
 ghost use Rattle.residual_graph.specs.Limits.{entry_limit};
-ghost use Rattle.residual_graph.specs.Residual.{arc_at, number_at};
+ghost use Rattle.residual_graph.specs.Residual.{row_at, number_at};
 ghost use Rattle.augmentation.specs.Nodes.{held};
 ghost use Rattle.augmentation.specs.Tracked.{IsTracked};
 ghost use Rattle.flow_solver.specs.Balance.{AreEndsIn, AreWrapped, IsCarried, IsRaised, IsWrappedCost, IsWrappedExcess};

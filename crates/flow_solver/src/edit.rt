@@ -7,7 +7,7 @@ ghost use Rattle.dimacs_text.specs.declared.problem.Kind.TheVariants.{Min};
 ghost use Rattle.dimacs_text.specs.declared.problem.ArcRow.{ArcRow};
 ghost use Rattle.network.specs.Edited.{edited};
 ghost use Rattle.network.specs.Flow.{IsPotential, reduced_cost};
-ghost use Rattle.network.specs.Instance.{IsLawful, arc_at as number_at_arc, ArcFits, at_node, kind_of, with_supply};
+ghost use Rattle.network.specs.Instance.{IsLawful, arc_at, ArcFits, at_node, kind_of, with_supply};
 ghost use Rattle.residual_graph.specs.Walk.{AreRowsOf};
 ghost use Rattle.flow_solver.specs.TablesView.{supplies_in};
 ghost use Rattle.flow_solver.specs.Edit.{IsNearest, IsAddEdit, IsOfAdd, IsOfArc, IsOfSupply, IsSupplyEdit, IsRowEdit};
@@ -108,8 +108,8 @@ pub fn put_row(net: &mut Network, rows: &mut Vec<ArcRow>, row: ArcRow)
 /// The arc with this number, which is there.
 pub fn arc_of(net: &Network, k: u64) -> ArcRow
     requires lawful { IsLawful net.now }
-    requires there { (row : ArcRow) × (number_at_arc net.now.arcs k ≡ Some row) }
-    ensures { number_at_arc net.now.arcs k ≡ Some result }
+    requires there { (row : ArcRow) × (arc_at net.now.arcs k ≡ Some row) }
+    ensures { arc_at net.now.arcs k ≡ Some result }
 {
     let Some(row) = net.arc(k as u32) else {
         unreachable!()

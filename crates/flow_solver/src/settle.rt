@@ -3,7 +3,7 @@
 ghost use Rattle.residual_graph.specs.Graph.{IsGraphFor};
 ghost use Rattle.shortest_paths.specs.Limits.{label_floor};
 ghost use Rattle.std.specs.Prelude.{◌≡◌, ℕ, ℤ, true, drop, length, ◌<◌, ◌≤◌, ◌+◌};
-ghost use Rattle.residual_graph.specs.Residual.{IsFlow, IsCertified, ArePotentials};
+ghost use Rattle.residual_graph.specs.Residual.{IsPseudoflow, IsReducedCostOptimal, ArePotentials};
 ghost use Rattle.augmentation.specs.Push.{IsExcess, Pushes, left, AreSmall};
 ghost use Rattle.augmentation.specs.Scratch.{IsScratchFor};
 ghost use Rattle.augmentation.specs.Tracked.{IsTracked, IsWritten};
@@ -25,7 +25,7 @@ fn mark_cut(
 )
     requires cut_tracked { IsTracked cut.old }
     requires graph { IsGraphFor (length excess.now) graph.now }
-    requires flow { IsFlow (length excess.now) graph.now.rows.items flow.now.entries.items }
+    requires flow { IsPseudoflow (length excess.now) graph.now.rows.items flow.now.entries.items }
     requires cut_in { length cut.old.entries.items ≡ length excess.now }
     requires scratch { IsScratchFor (length excess.now) scratch.old }
     ensures in_excess { 0 < left excess.now → IsSide Ahead graph.now.rows.items flow.now.entries.items excess.now cut.new.entries.items }
@@ -63,7 +63,7 @@ pub fn settle(
     requires flow_tracked { IsTracked flow.old }
     requires potentials_tracked { IsTracked potentials.old }
     requires cut_tracked { IsTracked cut.old }
-    requires certified { IsCertified graph.now.rows.items flow.old.entries.items potentials.old.entries.items }
+    requires certified { IsReducedCostOptimal graph.now.rows.items flow.old.entries.items potentials.old.entries.items }
     requires potentials_in { ArePotentials (length potentials.old.entries.items) label_floor potentials.old.entries.items }
     requires excess_in { length excess.old ≡ length potentials.old.entries.items }
     requires cut_in { length cut.old.entries.items ≡ length potentials.old.entries.items }
@@ -73,7 +73,7 @@ pub fn settle(
     ensures flow_written { IsWritten flow.old flow.new }
     ensures potentials_written { IsWritten potentials.old potentials.new }
     ensures cut_written { IsWritten cut.old cut.new }
-    ensures certified { IsCertified graph.now.rows.items flow.new.entries.items potentials.new.entries.items }
+    ensures certified { IsReducedCostOptimal graph.now.rows.items flow.new.entries.items potentials.new.entries.items }
     ensures potentials_in { ArePotentials (length potentials.new.entries.items) label_floor potentials.new.entries.items }
     ensures greatest { AreGreatestPotentials (reduced graph.now.net) flow.new.entries.items (at_node (drop 1 potentials.new.entries.items)) }
     ensures small { AreSmall excess.new }

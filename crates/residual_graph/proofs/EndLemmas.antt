@@ -16,7 +16,7 @@ use Rattle.residual_graph.specs.declared.walk.Stage.TheVariants.{Added, Return, 
 use Rattle.residual_graph.specs.declared.walk.Walk.{Walk}
 use Rattle.residual_graph.specs.Ends.{AllToCome, IsAddedUpTo, IsBeforeIncidences, IsEnd, IsEndAt, IsFirstStage, IsFromEnd, IsNextToCome, IsToCome, IsWalk, NothingToCome, StandsIn, entered, last_in, leaving, left_in, left_of, stage_of}
 use Rattle.residual_graph.specs.Limits.{row_limit}
-use Rattle.residual_graph.specs.Residual.{arc_at, cost_at, cost_of, end_at, end_of, other_way, start_at, start_of}
+use Rattle.residual_graph.specs.Residual.{row_at, cost_at, cost_of, end_at, end_of, other_way, start_at, start_of}
 use Rattle.residual_graph.specs.Star.{Covers, HasCost, IsPlaced, incidence_at}
 use Rattle.residual_graph.specs.Walk.{AreRowsOf, end_way}
 use Rattle.residual_graph.proofs.StarLemmas.{start_is}
@@ -24,9 +24,9 @@ use Rattle.residual_graph.proofs.WalkLemmas.{IsNextEnd, rows_split}
 
 -- ---- rows and ends
 
-row_is : (I : Instance) (rows : List ArcRow) (row j : ℕ) → AreRowsOf I rows → row + length I.arcs ≡ length rows → arc_at rows (j + row) ≡ arc_at I.arcs j
+row_is : (I : Instance) (rows : List ArcRow) (row j : ℕ) → AreRowsOf I rows → row + length I.arcs ≡ length rows → row_at rows (j + row) ≡ row_at I.arcs j
 row_is I rows row j of split =
-    ap (λ (r : List ArcRow). arc_at r (j + row)) of.rows_are ∙ (rows_split I.demand I.arcs row (split ∙ ap (λ (r : List ArcRow). length r) of.rows_are)).1 j
+    ap (λ (r : List ArcRow). row_at r (j + row)) of.rows_are ∙ (rows_split I.demand I.arcs row (split ∙ ap (λ (r : List ArcRow). length r) of.rows_are)).1 j
 
 one_return : (I : Instance) (rows : List ArcRow) (row : ℕ) → AreRowsOf I rows → row + length I.arcs ≡ length rows → row ≤ 1
 one_return I rows row of split = (rows_split I.demand I.arcs row (split ∙ ap (λ (r : List ArcRow). length r) of.rows_are)).0
@@ -48,7 +48,7 @@ end_of_row I rows v row k Forward of split le lt starts =
     let j_in : j < length I.arcs = omega (arith, le, lt, split) in
     let half : (2 * j) / 2 ≡ j = omega arith in
     let even : (2 * j) % 2 ≡ 0 = omega arith in
-    let there : arc_at I.arcs j ≡ arc_at rows k = sym (row_is I rows row j of split) ∙ ap (arc_at rows) same in
+    let there : row_at I.arcs j ≡ row_at rows k = sym (row_is I rows row j of split) ∙ ap (row_at rows) same in
     record {
       end = 2 * j;
       is_end = omega (arith, j_in);
@@ -61,7 +61,7 @@ end_of_row I rows v row k Backward of split le lt starts =
     let j_in : j < length I.arcs = omega (arith, le, lt, split) in
     let half : suc (2 * j) / 2 ≡ j = omega arith in
     let odd : suc (2 * j) % 2 ≡ 1 = omega arith in
-    let there : arc_at I.arcs j ≡ arc_at rows k = sym (row_is I rows row j of split) ∙ ap (arc_at rows) same in
+    let there : row_at I.arcs j ≡ row_at rows k = sym (row_is I rows row j of split) ∙ ap (row_at rows) same in
     record {
       end = suc (2 * j);
       is_end = omega (arith, j_in);
@@ -226,7 +226,7 @@ module _ (g : Graph) (w : Walk) (place : ℕ) (incidence : Incidence)
     before_next : place < slice_index g.star.begin.items (w.node + 1)
     before_next = omega (arith, lt, walk.until, ap (last_in g w.node) stage)
 
-    row_there : arc_at g.rows.items row ≡ arc_at g.net.arcs (incidence.end / 2)
+    row_there : row_at g.rows.items row ≡ row_at g.net.arcs (incidence.end / 2)
     row_there = row_is g.net g.rows.items w.first_row (incidence.end / 2) walk.at.graph.rows walk.split
 
     starts_at_node : start_at g.net.arcs (incidence.end / 2) way ≡ w.node

@@ -11,10 +11,10 @@ use Rattle.residual_graph.specs.declared.side.Side.TheVariants.{Ahead, Behind}
 use Rattle.residual_graph.specs.declared.walk.End.{End}
 use Rattle.residual_graph.specs.declared.walk.Walk.{Walk}
 use Rattle.residual_graph.specs.Ends.{AllToCome, IsEndAt, IsNextToCome, NothingToCome, leaving}
-use Rattle.residual_graph.specs.Residual.{IsFlow, arc_at, cost_at, cost_of, end_at, other_way, start_at}
+use Rattle.residual_graph.specs.Residual.{IsPseudoflow, row_at, cost_at, cost_of, end_at, other_way, start_at}
 use Rattle.residual_graph.specs.Side.{IsLeading, IsLeadingAt, leading, seen, turned_row}
 use Rattle.residual_graph.proofs.EndLemmas.{AllHaveOrCome, all_ends_met, all_entering, one_end_more}
-use Rattle.residual_graph.proofs.TurnedRows.{arc_at-turned, end_at-turned, flow_both, start_at-turned}
+use Rattle.residual_graph.proofs.TurnedRows.{row_at-turned, end_at-turned, flow_both, start_at-turned}
 
 pub seen_length : (side : Side) (rows : List ArcRow) → length (seen side rows) ≡ length rows
 seen_length Ahead rows = refl
@@ -34,10 +34,10 @@ cost_turned a Forward = refl
 cost_turned a Backward = omega (arith, ints)
 
 cost_behind : (rows : List ArcRow) (k : ℕ) (way : Way) → cost_at (map turned_row rows) k (other_way way) ≡ neg_ℤ (cost_at rows k way)
-cost_behind rows k way = ap (λ (a : ArcRow). cost_of a (other_way way)) (arc_at-turned rows k) ∙ cost_turned (arc_at rows k) way
+cost_behind rows k way = ap (λ (a : ArcRow). cost_of a (other_way way)) (row_at-turned rows k) ∙ cost_turned (row_at rows k) way
 
 -- the flow is one of the network, from whichever side it is seen
-pub flow_of_seen : (side : Side) (nodes : ℕ) (rows : List ArcRow) (x : List ℤ) → IsFlow nodes (seen side rows) x → IsFlow nodes rows x
+pub flow_of_seen : (side : Side) (nodes : ℕ) (rows : List ArcRow) (x : List ℤ) → IsPseudoflow nodes (seen side rows) x → IsPseudoflow nodes rows x
 flow_of_seen Ahead nodes rows x flow = flow
 flow_of_seen Behind nodes rows x flow = (flow_both nodes rows x).0 flow
 

@@ -5,13 +5,13 @@ use Rattle.dimacs_text.specs.declared.problem.ArcRow.{ArcRow}
 use Rattle.residual_graph.specs.declared.residual.Way.{Way}
 use Rattle.residual_graph.specs.declared.residual.Way.TheVariants.{Backward, Forward}
 use Rattle.residual_graph.specs.declared.side.Side.TheVariants.{Behind}
-use Rattle.residual_graph.specs.Residual.{IsFlow, IsResidual, IsRow, IsWithin, arc_at, cost_at, cost_of, end_at, end_of, number_at, room_of, start_at, start_of}
+use Rattle.residual_graph.specs.Residual.{IsPseudoflow, IsResidual, IsRow, IsWithinRow, row_at, cost_at, cost_of, end_at, end_of, number_at, room_of, start_at, start_of}
 use Rattle.residual_graph.specs.Side.{seen, turned_row}
 
-pub arc_at-turned : (arcs : List ArcRow) (k : ℕ) → arc_at (map turned_row arcs) k ≡ turned_row (arc_at arcs k)
-arc_at-turned [] k = refl
-arc_at-turned (a ∷ arcs) zero = refl
-arc_at-turned (a ∷ arcs) (suc k) = arc_at-turned arcs k
+pub row_at-turned : (arcs : List ArcRow) (k : ℕ) → row_at (map turned_row arcs) k ≡ turned_row (row_at arcs k)
+row_at-turned [] k = refl
+row_at-turned (a ∷ arcs) zero = refl
+row_at-turned (a ∷ arcs) (suc k) = row_at-turned arcs k
 
 pub turned_twice : (arcs : List ArcRow) → map turned_row (map turned_row arcs) ≡ arcs
 turned_twice [] = refl
@@ -34,16 +34,16 @@ room_of-turned a y Forward = refl
 room_of-turned a y Backward = refl
 
 pub start_at-turned : (arcs : List ArcRow) (k : ℕ) (way : Way) → start_at (map turned_row arcs) k way ≡ end_at arcs k way
-start_at-turned arcs k way = ap (λ (a : ArcRow). start_of a way) (arc_at-turned arcs k) ∙ start_of-turned (arc_at arcs k) way
+start_at-turned arcs k way = ap (λ (a : ArcRow). start_of a way) (row_at-turned arcs k) ∙ start_of-turned (row_at arcs k) way
 
 pub end_at-turned : (arcs : List ArcRow) (k : ℕ) (way : Way) → end_at (map turned_row arcs) k way ≡ start_at arcs k way
-end_at-turned arcs k way = ap (λ (a : ArcRow). end_of a way) (arc_at-turned arcs k) ∙ end_of-turned (arc_at arcs k) way
+end_at-turned arcs k way = ap (λ (a : ArcRow). end_of a way) (row_at-turned arcs k) ∙ end_of-turned (row_at arcs k) way
 
 pub cost_at-turned : (arcs : List ArcRow) (k : ℕ) (way : Way) → cost_at (map turned_row arcs) k way ≡ cost_at arcs k way
-cost_at-turned arcs k way = ap (λ (a : ArcRow). cost_of a way) (arc_at-turned arcs k) ∙ cost_of-turned (arc_at arcs k) way
+cost_at-turned arcs k way = ap (λ (a : ArcRow). cost_of a way) (row_at-turned arcs k) ∙ cost_of-turned (row_at arcs k) way
 
-pub room_at-turned : (arcs : List ArcRow) (x : List ℤ) (k : ℕ) (way : Way) → room_of (arc_at (map turned_row arcs) k) (number_at x k) way ≡ room_of (arc_at arcs k) (number_at x k) way
-room_at-turned arcs x k way = ap (λ (a : ArcRow). room_of a (number_at x k) way) (arc_at-turned arcs k) ∙ room_of-turned (arc_at arcs k) (number_at x k) way
+pub room_at-turned : (arcs : List ArcRow) (x : List ℤ) (k : ℕ) (way : Way) → room_of (row_at (map turned_row arcs) k) (number_at x k) way ≡ room_of (row_at arcs k) (number_at x k) way
+room_at-turned arcs x k way = ap (λ (a : ArcRow). room_of a (number_at x k) way) (row_at-turned arcs k) ∙ room_of-turned (row_at arcs k) (number_at x k) way
 
 -- a residual arc is there from either side
 pub residual-turned : (arcs : List ArcRow) (x : List ℤ) (k : ℕ) (way : Way) → IsResidual arcs x k way → IsResidual (map turned_row arcs) x k way
@@ -69,21 +69,21 @@ row-turned nodes a row = record {
   cost_high = row.cost_high;
 }
 
-pub flow-turned : (nodes : ℕ) (arcs : List ArcRow) (x : List ℤ) → IsFlow nodes arcs x → IsFlow nodes (map turned_row arcs) x
+pub flow-turned : (nodes : ℕ) (arcs : List ArcRow) (x : List ℤ) → IsPseudoflow nodes arcs x → IsPseudoflow nodes (map turned_row arcs) x
 flow-turned nodes arcs x flow = record {
   few_nodes = flow.few_nodes;
   few_arcs = omega (arith, sized, flow.few_arcs);
   same_length = omega (arith, sized, flow.same_length);
-  rows = λ k lt. subst (IsRow nodes) (sym (arc_at-turned arcs k)) (row-turned nodes (arc_at arcs k) (flow.rows k (omega (arith, sized, lt))));
+  rows = λ k lt. subst (IsRow nodes) (sym (row_at-turned arcs k)) (row-turned nodes (row_at arcs k) (flow.rows k (omega (arith, sized, lt))));
   within = λ k lt. (let is = flow.within k (omega (arith, sized, lt)) in
-      subst (λ (a : ArcRow). IsWithin a (number_at x k)) (sym (arc_at-turned arcs k)) (record { low_kept = is.low_kept; cap_kept = is.cap_kept }));
+      subst (λ (a : ArcRow). IsWithinRow a (number_at x k)) (sym (row_at-turned arcs k)) (record { low_kept = is.low_kept; cap_kept = is.cap_kept }));
 }
   where
     sized : length (map turned_row arcs) ≡ length arcs
     sized = length-map arcs turned_row
 
-pub flow-unturned : (nodes : ℕ) (arcs : List ArcRow) (x : List ℤ) → IsFlow nodes (map turned_row arcs) x → IsFlow nodes arcs x
-flow-unturned nodes arcs x flow = subst (λ (rows : List ArcRow). IsFlow nodes rows x) (turned_twice arcs) (flow-turned nodes (map turned_row arcs) x flow)
+pub flow-unturned : (nodes : ℕ) (arcs : List ArcRow) (x : List ℤ) → IsPseudoflow nodes (map turned_row arcs) x → IsPseudoflow nodes arcs x
+flow-unturned nodes arcs x flow = subst (λ (rows : List ArcRow). IsPseudoflow nodes rows x) (turned_twice arcs) (flow-turned nodes (map turned_row arcs) x flow)
 
-pub flow_both : (nodes : ℕ) (arcs : List ArcRow) (x : List ℤ) → IsFlow nodes (seen Behind arcs) x ↔ IsFlow nodes arcs x
+pub flow_both : (nodes : ℕ) (arcs : List ArcRow) (x : List ℤ) → IsPseudoflow nodes (seen Behind arcs) x ↔ IsPseudoflow nodes arcs x
 flow_both nodes arcs x = (flow-unturned nodes arcs x, flow-turned nodes arcs x)

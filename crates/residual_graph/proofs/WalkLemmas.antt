@@ -8,7 +8,7 @@ use Rattle.network.specs.Ends.{end_node, last_end_below}
 use Rattle.network.specs.Instance.{Demand, Supplies, Terminals, Sides, Instance, IsLawful, reduced, reduced_arcs}
 use Rattle.network.proofs.EndLemmas.{end_node-tail, end_node-head}
 use Rattle.network.proofs.Reduction.{reduced_ends}
-use Rattle.residual_graph.specs.Residual.{arc_at}
+use Rattle.residual_graph.specs.Residual.{row_at}
 use Rattle.residual_graph.specs.Walk.{IsPassed, StandsAt, ends_left}
 use Rattle.residual_graph.proofs.NodeNumbers.{IsNodeOf, AllEndsIn, is_node_or_not}
 
@@ -42,7 +42,7 @@ stands_at arcs u n (Some end) le is = (let at = is.found end refl in (omega (ari
 
 -- ---- the first end of a node
 
-pub row_ends : (n : ℕ) (arcs : List ArcRow) → AllEndsIn n arcs → (k : ℕ) → k < length arcs → IsNodeOf n (arc_at arcs k).tail × IsNodeOf n (arc_at arcs k).head
+pub row_ends : (n : ℕ) (arcs : List ArcRow) → AllEndsIn n arcs → (k : ℕ) → k < length arcs → IsNodeOf n (row_at arcs k).tail × IsNodeOf n (row_at arcs k).head
 row_ends n [] ends k lt = absurd (omega arith)
 row_ends n (a ∷ arcs) ends zero lt = (ends.0.0, ends.0.1)
 row_ends n (a ∷ arcs) ends (suc k) lt = row_ends n arcs ends.1 k (omega arith)
@@ -73,10 +73,10 @@ first_end_is I u first lawful node no_node = elim (is_node_or_not I.nodes u) [
 
 -- ---- the rows
 
-pub rows_split : (D : Demand) (arcs : List ArcRow) (row : ℕ) → row + length arcs ≡ length (reduced_arcs D arcs) → (row ≤ 1) × ((j : ℕ) → arc_at (reduced_arcs D arcs) (j + row) ≡ arc_at arcs j)
-rows_split (Supplies s) arcs row e = (omega arith, λ j. (let none : j + row ≡ j = omega arith in ap (arc_at arcs) none))
-rows_split (Terminals source sink) arcs row e = (omega arith, λ j. (let one : j + row ≡ suc j = omega arith in ap (arc_at (reduced_arcs (Terminals source sink) arcs)) one))
-rows_split (Sides marks) arcs row e = (omega arith, λ j. (let none : j + row ≡ j = omega arith in ap (arc_at arcs) none))
+pub rows_split : (D : Demand) (arcs : List ArcRow) (row : ℕ) → row + length arcs ≡ length (reduced_arcs D arcs) → (row ≤ 1) × ((j : ℕ) → row_at (reduced_arcs D arcs) (j + row) ≡ row_at arcs j)
+rows_split (Supplies s) arcs row e = (omega arith, λ j. (let none : j + row ≡ j = omega arith in ap (row_at arcs) none))
+rows_split (Terminals source sink) arcs row e = (omega arith, λ j. (let one : j + row ≡ suc j = omega arith in ap (row_at (reduced_arcs (Terminals source sink) arcs)) one))
+rows_split (Sides marks) arcs row e = (omega arith, λ j. (let none : j + row ≡ j = omega arith in ap (row_at arcs) none))
 
 pub ends_left_less : (arcs : List ArcRow) (u end : ℕ) (next : Option ℕ) → IsNextEnd arcs u end next → ends_left next < end + 1
 ends_left_less arcs u end None is = omega arith

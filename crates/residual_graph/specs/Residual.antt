@@ -36,8 +36,8 @@ abbrev pub room_of : ArcRow → ℤ → Way → ℤ
 room_of a x Forward = a.cap -ℤ x
 room_of a x Backward = x -ℤ a.low
 
-abbrev pub arc_at : List ArcRow → ℕ → ArcRow
-arc_at arcs k = slice_index_or arcs k (record { tail = 0; head = 0; low = pos 0; cap = pos 0; cost = pos 0 })
+abbrev pub row_at : List ArcRow → ℕ → ArcRow
+row_at arcs k = slice_index_or arcs k (record { tail = 0; head = 0; low = pos 0; cap = pos 0; cost = pos 0 })
 
 -- the flow of an arc, or the potential of a node
 abbrev pub number_at : List ℤ → ℕ → ℤ
@@ -54,31 +54,31 @@ pub record IsRow (nodes : ℕ) (a : ArcRow) : Type 0 where
   pub cost_high : a.cost ≤ℤ pos cost_limit
 
 -- a flow within the bounds of an arc
-pub record IsWithin (a : ArcRow) (x : ℤ) : Type 0 where
+pub record IsWithinRow (a : ArcRow) (x : ℤ) : Type 0 where
   pub low_kept : a.low ≤ℤ x
   pub cap_kept : x ≤ℤ a.cap
 
 -- a network of at most 50,000 nodes and at most 200,000 arcs within the limits, and a flow within the bounds of each arc
-pub record IsFlow (nodes : ℕ) (arcs : List ArcRow) (x : List ℤ) : Type 0 where
+pub record IsPseudoflow (nodes : ℕ) (arcs : List ArcRow) (x : List ℤ) : Type 0 where
   pub few_nodes : nodes ≤ entry_limit
   pub few_arcs : length arcs ≤ row_limit
   pub same_length : length x ≡ length arcs
-  pub rows : (k : ℕ) → k < length arcs → IsRow nodes (arc_at arcs k)
-  pub within : (k : ℕ) → k < length arcs → IsWithin (arc_at arcs k) (number_at x k)
+  pub rows : (k : ℕ) → k < length arcs → IsRow nodes (row_at arcs k)
+  pub within : (k : ℕ) → k < length arcs → IsWithinRow (row_at arcs k) (number_at x k)
 
 -- the residual arc along arc k is there
 pub record IsResidual (arcs : List ArcRow) (x : List ℤ) (k : ℕ) (way : Way) : Type 0 where
   pub is_arc : k < length arcs
-  pub has_room : pos 0 <ℤ room_of (arc_at arcs k) (number_at x k) way
+  pub has_room : pos 0 <ℤ room_of (row_at arcs k) (number_at x k) way
 
 abbrev pub start_at : List ArcRow → ℕ → Way → ℕ
-start_at arcs k way = start_of (arc_at arcs k) way
+start_at arcs k way = start_of (row_at arcs k) way
 
 abbrev pub end_at : List ArcRow → ℕ → Way → ℕ
-end_at arcs k way = end_of (arc_at arcs k) way
+end_at arcs k way = end_of (row_at arcs k) way
 
 abbrev pub cost_at : List ArcRow → ℕ → Way → ℤ
-cost_at arcs k way = cost_of (arc_at arcs k) way
+cost_at arcs k way = cost_of (row_at arcs k) way
 
 -- no residual arc has a reduced cost below 0 under a potential of each node
 abbrev pub NoneBelowBy : List ArcRow → List ℤ → (ℕ → ℤ) → Type 0
@@ -96,8 +96,8 @@ pub record ArePotentials (nodes floor : ℕ) (p : List ℤ) : Type 0 where
   pub at_least : (v : ℕ) → neg_ℤ (pos floor) ≤ℤ number_at p v
 
 -- a flow within the bounds, with potentials down to -3 * 10^17 under which no residual arc has a reduced cost below 0
-pub record IsCertified (arcs : List ArcRow) (x p : List ℤ) : Type 0 where
-  pub flow : IsFlow (length p) arcs x
+pub record IsReducedCostOptimal (arcs : List ArcRow) (x p : List ℤ) : Type 0 where
+  pub flow : IsPseudoflow (length p) arcs x
   pub potentials : ArePotentials (length p) potential_floor p
   pub none_below : NoneBelow arcs x p
 
@@ -111,4 +111,4 @@ AreGreatest arcs x p =
 abbrev pub KeepsSigns : List ArcRow → List ℤ → List ℤ → Type 0
 KeepsSigns arcs x p =
     (k : ℕ) → k < length arcs →
-    (pos 0 <ℤ ((cost_at arcs k Forward +ℤ number_at p (start_at arcs k Forward)) -ℤ number_at p (end_at arcs k Forward)) → number_at x k ≡ (arc_at arcs k).low) × (((cost_at arcs k Forward +ℤ number_at p (start_at arcs k Forward)) -ℤ number_at p (end_at arcs k Forward)) <ℤ pos 0 → number_at x k ≡ (arc_at arcs k).cap)
+    (pos 0 <ℤ ((cost_at arcs k Forward +ℤ number_at p (start_at arcs k Forward)) -ℤ number_at p (end_at arcs k Forward)) → number_at x k ≡ (row_at arcs k).low) × (((cost_at arcs k Forward +ℤ number_at p (start_at arcs k Forward)) -ℤ number_at p (end_at arcs k Forward)) <ℤ pos 0 → number_at x k ≡ (row_at arcs k).cap)

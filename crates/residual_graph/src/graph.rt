@@ -2,7 +2,7 @@
 
 ghost use Rattle.std.specs.Prelude.{◌≡◌, ℕ, ◌+◌, ◌<◌, ◌≤◌, ◌↔◌, IfOk, IsTrue, length, vec_capacity};
 ghost use Rattle.residual_graph.specs.Graph.{IsGraphFor};
-ghost use Rattle.residual_graph.specs.Residual.{IsFlow, IsResidual, arc_at, end_at, start_at};
+ghost use Rattle.residual_graph.specs.Residual.{IsPseudoflow, IsResidual, row_at, end_at, start_at};
 ghost use Rattle.residual_graph.specs.Rooms.{AreRooms};
 ghost use Rattle.residual_graph.specs.Side.{seen, turned_row};
 ghost use Rattle.residual_graph.specs.declared.side.Side.{Side};
@@ -54,7 +54,7 @@ impl Graph {
     /// The row of an arc, as it is seen from this side.
     pub fn row(&self, side: Side, k: usize) -> ArcRow
         requires { k < length (seen side self.now.rows.items) }
-        ensures { result ≡ arc_at (seen side self.now.rows.items) k }
+        ensures { result ≡ row_at (seen side self.now.rows.items) k }
     {
         let row = self.rows[k];
         match side {
@@ -65,7 +65,7 @@ impl Graph {
 
     /// Whether this residual arc is there under the flow: it is from either side.
     pub fn has_room(&self, flow: &[i64], arc: ResidualArc) -> bool
-        requires flow { (nodes : ℕ) × IsFlow nodes self.now.rows.items flow.now }
+        requires flow { (nodes : ℕ) × IsPseudoflow nodes self.now.rows.items flow.now }
         requires arc_in { arc.arc < length self.now.rows.items }
         ensures here { IsTrue result ↔ IsResidual self.now.rows.items flow.now arc.arc arc.way }
         ensures seen { (side : Side) → IsTrue result ↔ IsResidual (seen side self.now.rows.items) flow.now arc.arc arc.way }
@@ -77,7 +77,7 @@ impl Graph {
     /// The same, by a table of rooms where it has an entry of this residual arc.
     #[inline(always)]
     pub fn has_room_by(&self, rooms: &[bool], flow: &[i64], arc: ResidualArc) -> bool
-        requires flow { (nodes : ℕ) × IsFlow nodes self.now.rows.items flow.now }
+        requires flow { (nodes : ℕ) × IsPseudoflow nodes self.now.rows.items flow.now }
         requires arc_in { arc.arc < length self.now.rows.items }
         requires rooms { AreRooms self.now.rows.items flow.now rooms.now }
         ensures here { IsTrue result ↔ IsResidual self.now.rows.items flow.now arc.arc arc.way }

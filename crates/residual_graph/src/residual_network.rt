@@ -1,6 +1,6 @@
 //! The residual network of a flow, as searches read it.
 
-ghost use Rattle.residual_graph.specs.Residual.{IsCertified};
+ghost use Rattle.residual_graph.specs.Residual.{IsReducedCostOptimal};
 ghost use Rattle.residual_graph.specs.Side.{seen};
 
 use crate::graph::Graph;
@@ -14,5 +14,5 @@ pub struct Residual<'a> {
     pub side: Side,
     pub flow: &'a [i64],
     pub potentials: &'a [i64],
-    ghost certified: { IsCertified (seen side graph.now.rows.items) flow.now potentials.now },
+    ghost certified: { IsReducedCostOptimal (seen side graph.now.rows.items) flow.now potentials.now },
 }

@@ -2,7 +2,7 @@
 
 ghost use Rattle.std.specs.Prelude.{◌≡◌, ◌≢◌, ℕ, ℤ, pos, ◌<ℤ◌, ◌<◌, ◌*◌, ◌↔◌, List, length, false, slice_index_or, slice_set, IsTrue, ◌≤◌, vec_capacity};
 ghost use Rattle.dimacs_text.specs.declared.problem.ArcRow.{ArcRow};
-ghost use Rattle.residual_graph.specs.Residual.{IsFlow, IsResidual, IsRow, IsWithin, arc_at, room_of};
+ghost use Rattle.residual_graph.specs.Residual.{IsPseudoflow, IsResidual, IsRow, IsWithinRow, row_at, room_of};
 ghost use Rattle.residual_graph.specs.Rooms.{AreRooms, room_entry};
 ghost use Rattle.residual_graph.specs.Side.{leading, seen};
 ghost use Rattle.residual_graph.specs.declared.residual.Way.{Way};
@@ -61,10 +61,10 @@ pub fn is_saturated(rooms: &[bool], side: Side, end: End) -> bool
 /// Writes down which of the two residual arcs along an arc have room, where the table has their entries.
 pub fn note_room(rooms: &mut [bool], k: u32, row: &ArcRow, flow: i64)
     requires row { (nodes : ℕ) × IsRow nodes row.now }
-    requires within { IsWithin row.now flow }
+    requires within { IsWithinRow row.now flow }
     ensures here { (way : Way) → room_entry k way < length rooms.old → IsTrue (slice_index_or rooms.new (room_entry k way) false) ↔ (pos 0 <ℤ room_of row.now flow way) }
     ensures elsewhere { (j : ℕ) (way : Way) → j ≢ k → slice_index_or rooms.new (room_entry j way) false ≡ slice_index_or rooms.old (room_entry j way) false }
-    ensures kept { (side : Side) (arcs : List ArcRow) (x : List ℤ) → row.now ≡ arc_at (seen side arcs) k → k < length arcs → k < length x → AreRooms arcs x rooms.old → AreRooms arcs (slice_set x k flow) rooms.new }
+    ensures kept { (side : Side) (arcs : List ArcRow) (x : List ℤ) → row.now ≡ row_at (seen side arcs) k → k < length arcs → k < length x → AreRooms arcs x rooms.old → AreRooms arcs (slice_set x k flow) rooms.new }
 {
     note_way(rooms, k, Way::Forward, row, flow);
     note_way(rooms, k, Way::Backward, row, flow);
@@ -73,7 +73,7 @@ pub fn note_room(rooms: &mut [bool], k: u32, row: &ArcRow, flow: i64)
 /// Writes down whether the residual arc in this way along an arc has room.
 fn note_way(rooms: &mut [bool], k: u32, way: Way, row: &ArcRow, flow: i64)
     requires row { (nodes : ℕ) × IsRow nodes row.now }
-    requires within { IsWithin row.now flow }
+    requires within { IsWithinRow row.now flow }
     ensures here { room_entry k way < length rooms.old → IsTrue (slice_index_or rooms.new (room_entry k way) false) ↔ (pos 0 <ℤ room_of row.now flow way) }
     ensures elsewhere { (e : ℕ) → e ≢ room_entry k way → slice_index_or rooms.new e false ≡ slice_index_or rooms.old e false }
 {
@@ -86,7 +86,7 @@ fn note_way(rooms: &mut [bool], k: u32, way: Way, row: &ArcRow, flow: i64)
 /// Fills a table of rooms, two entries for each row, where it was made for as many, and else leaves it empty. It takes no
 /// memory.
 pub fn note_rooms(graph: &Graph, flow: &[i64], rooms: &mut Vec<bool>)
-    requires flow { (nodes : ℕ) × IsFlow nodes graph.now.rows.items flow.now }
+    requires flow { (nodes : ℕ) × IsPseudoflow nodes graph.now.rows.items flow.now }
     ensures rooms { AreRooms graph.now.rows.items flow.now rooms.new.items }
     ensures all { 2 * length graph.now.rows.items ≤ vec_capacity rooms.old → length rooms.new.items ≡ 2 * length graph.now.rows.items }
 {
@@ -102,7 +102,7 @@ pub fn note_rooms(graph: &Graph, flow: &[i64], rooms: &mut Vec<bool>)
 
 /// Writes down of each residual arc whether it has room.
 fn fill(graph: &Graph, flow: &[i64], rooms: &mut [bool])
-    requires flow { (nodes : ℕ) × IsFlow nodes graph.now.rows.items flow.now }
+    requires flow { (nodes : ℕ) × IsPseudoflow nodes graph.now.rows.items flow.now }
     requires sized { length rooms.old ≡ 2 * length graph.now.rows.items }
     ensures rooms { AreRooms graph.now.rows.items flow.now rooms.new }
 {

@@ -4,7 +4,7 @@ use Rattle.std.proofs.lemmas.List.{set_at, take_more, drop_more, get_or_at, get_
 use Rattle.std.proofs.lemmas.Grind.{common_steps}
 use Rattle.network.specs.Flow.{IsPotential}
 use Rattle.flow_solver.specs.Moment.{Moment, VerdictFits}
-use Rattle.flow_solver.specs.TablesView.{IsFlow, flow_index}
+use Rattle.flow_solver.specs.TablesView.{IsFlowValue, flow_index}
 use Rattle.session.specs.Places.{IsRising, AreWithin, exchanged, taken, PlacesFit}
 use Rattle.session.specs.PlacesLaws.{IsElsewhere, get_or-exchanged_elsewhere, length-taken}
 use Rattle.session.specs.Parts.{flow_of}
@@ -70,7 +70,7 @@ exchange_step {X} n all now xs ys i d v rising within below now_is ys_is value =
 
 -- ---- with the tables
 
-pub flow_step : (m now next : Moment) (all ps : List (ℕ × ℤ)) (i : ℕ) (v : ℤ) → VerdictFits m.instance.demand m.verdict → PlacesFit IsFlow (length (flow_of m)) all → i < length all → ps ≡ taken (take i all) (flow_of m) ++ drop i all → now ≡ with_flow m (exchanged (take i all) (flow_of m)) → let p : ℕ × ℤ = get_or ps i (0, pos 0) in v ≡ get_or now.flow (flow_index now.instance.demand p.0) p.1 → next ≡ record now { flow = set now.flow (flow_index now.instance.demand p.0) p.1 } → record { places : set ps i (p.0, v) ≡ taken (take (i + 1) all) (flow_of m) ++ drop (i + 1) all; moment : next ≡ with_flow m (exchanged (take (i + 1) all) (flow_of m)) }
+pub flow_step : (m now next : Moment) (all ps : List (ℕ × ℤ)) (i : ℕ) (v : ℤ) → VerdictFits m.instance.demand m.verdict → PlacesFit IsFlowValue (length (flow_of m)) all → i < length all → ps ≡ taken (take i all) (flow_of m) ++ drop i all → now ≡ with_flow m (exchanged (take i all) (flow_of m)) → let p : ℕ × ℤ = get_or ps i (0, pos 0) in v ≡ get_or now.flow (flow_index now.instance.demand p.0) p.1 → next ≡ record now { flow = set now.flow (flow_index now.instance.demand p.0) p.1 } → record { places : set ps i (p.0, v) ≡ taken (take (i + 1) all) (flow_of m) ++ drop (i + 1) all; moment : next ≡ with_flow m (exchanged (take (i + 1) all) (flow_of m)) }
 flow_step m now next all ps i v told fit below ps_is now_is value next_is =
     let xs : List ℤ = flow_of m in
     let ys : List ℤ = exchanged (take i all) xs in

@@ -12,7 +12,7 @@ use Rattle.flow_solver.specs.declared.verdict.Verdict.{Verdict}
 use Rattle.flow_solver.specs.Moment.{Moment, VerdictFits, returned}
 use Rattle.flow_solver.specs.Answer.{IsAnswered}
 use Rattle.flow_solver.specs.Touched.{NameChanges}
-use Rattle.flow_solver.specs.TablesView.{IsFlow, supplies_in}
+use Rattle.flow_solver.specs.TablesView.{IsFlowValue, supplies_in}
 use Rattle.flow_solver.specs.Part.{return_count}
 use Rattle.flow_solver.proofs.AnswerLemmas.{verdict_fits, flow_told, flows_within}
 use Rattle.flow_solver.specs.declared.part.Part.{Part}
@@ -101,7 +101,7 @@ is_record_of parts old m flows potentials marks old_answered answered leads flow
         in_range = kept;
         parts = leads.fits;
         verdict = told_before N m.instance old.instance old.verdict leads.back was.verdict;
-        flows = fit_found flows (flow_of old) (flow_of m) flows_found IsFlow (length (flow_of m) - N.go) shared_is was.flow;
+        flows = fit_found flows (flow_of old) (flow_of m) flows_found IsFlowValue (length (flow_of m) - N.go) shared_is was.flow;
         potentials = fit_found potentials old.potentials m.potentials potentials_found IsPotential (length m.potentials) same_potentials was.potentials;
         marks = fit_found marks old.cut m.cut marks_found IsMark (length m.cut) same_marks (λ i d below. tt);
       };

@@ -5,10 +5,10 @@ use Rattle.network.specs.Instance.{Demand, Supplies, Terminals, Sides, numbered_
 use Rattle.flow_solver.specs.declared.verdict.Verdict.{Verdict}
 use Rattle.flow_solver.specs.declared.verdict.Verdict.TheVariants.{Best, Infeasible}
 use Rattle.flow_solver.specs.TablesView.{flow_index}
-use Rattle.flow_solver.specs.Moment.{returned, VerdictFits, TellsReturnBy}
+use Rattle.flow_solver.specs.Moment.{returned, VerdictFits, ReturnMatchesBy}
 
 -- it has what the verdict tells
-pub tells_behind : (demand : Demand) (verdict : Verdict) (xs : List ℤ) → VerdictFits demand verdict → TellsReturnBy demand verdict (returned demand verdict ++ xs)
+pub tells_behind : (demand : Demand) (verdict : Verdict) (xs : List ℤ) → VerdictFits demand verdict → ReturnMatchesBy demand verdict (returned demand verdict ++ xs)
 tells_behind (Supplies supplies) verdict xs fits = tt
 tells_behind (Terminals source sink) (Best w) xs fits = refl
 tells_behind (Terminals source sink) (Infeasible d) xs fits = absurd fits

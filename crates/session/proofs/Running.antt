@@ -9,7 +9,7 @@ use Rattle.dimacs_text.specs.declared.problem.TheConstants.{ARC_LIMIT, SUPPLY_LI
 use Rattle.dimacs_text.specs.Lawful.{IsWithin}
 use Rattle.network.specs.Instance.{Demand, Supplies, Terminals, Sides, Instance, DemandFits, IsLawful, numbered_flow, with_supply}
 use Rattle.flow_solver.specs.Moment.{Moment}
-use Rattle.flow_solver.specs.TablesView.{IsFlow, IsRowOf, HasEnds, supplies_in}
+use Rattle.flow_solver.specs.TablesView.{IsFlowValue, IsRowOf, HasEnds, supplies_in}
 use Rattle.flow_solver.specs.declared.part.Part.{Part}
 use Rattle.flow_solver.specs.declared.part.Part.TheVariants.{Arc, Supply, Last, Gone}
 use Rattle.session.specs.Places.{PlacesFit, exchanged, taken, ended, end_of}
@@ -165,7 +165,7 @@ abbrev grown : Moment → List ArcRow → List ℤ → Moment
 grown m rows flows = record m { instance = record m.instance { arcs = m.instance.arcs ++ rows }; flow = m.flow ++ flows }
 
 -- arcs come one after the other
-run_gone : (next : ℕ) (rows : List ArcRow) (flows : List ℤ) (m : Moment) → length flows ≡ length rows → length m.instance.arcs + length rows ≤ m.instance.room → All (IsRowOf m.instance) rows → All IsFlow flows → Runs next (gone_parts rows flows) m (replicate (length rows) Last) (grown m rows flows)
+run_gone : (next : ℕ) (rows : List ArcRow) (flows : List ℤ) (m : Moment) → length flows ≡ length rows → length m.instance.arcs + length rows ≤ m.instance.room → All (IsRowOf m.instance) rows → All IsFlowValue flows → Runs next (gone_parts rows flows) m (replicate (length rows) Last) (grown m rows flows)
 run_gone next [] [] m same room are_rows are_flows = record {
   can = tt;
   parts = refl;
@@ -200,7 +200,7 @@ run_last (suc n) next m rows flow few =
     }
 
 -- arcs come, or arcs are read
-run_end_parts : (go : ℕ) (rows : List ArcRow) (flows : List ℤ) (m : Moment) → (go ≡ 0) ⊎ (rows ≡ []) → length flows ≡ length rows → length (flow_of m) ≡ length m.instance.arcs → go ≤ length m.instance.arcs → length m.instance.arcs + length rows ≤ m.instance.room → length m.instance.arcs ≤ ARC_LIMIT → All (IsRowOf m.instance) rows → All IsFlow flows → Runs (length m.instance.arcs - go) (gone_parts rows flows ++ replicate go Last) m (gone_parts (end_of go m.instance.arcs) (end_of go (flow_of m)) ++ replicate (length rows) Last) (grown m rows flows)
+run_end_parts : (go : ℕ) (rows : List ArcRow) (flows : List ℤ) (m : Moment) → (go ≡ 0) ⊎ (rows ≡ []) → length flows ≡ length rows → length (flow_of m) ≡ length m.instance.arcs → go ≤ length m.instance.arcs → length m.instance.arcs + length rows ≤ m.instance.room → length m.instance.arcs ≤ ARC_LIMIT → All (IsRowOf m.instance) rows → All IsFlowValue flows → Runs (length m.instance.arcs - go) (gone_parts rows flows ++ replicate go Last) m (gone_parts (end_of go m.instance.arcs) (end_of go (flow_of m)) ++ replicate (length rows) Last) (grown m rows flows)
 run_end_parts go rows flows m (inl none) same one go_there room few are_rows are_flows =
     let no_rows : end_of 0 m.instance.arcs ≡ [] = drop_all (length m.instance.arcs - 0) m.instance.arcs (omega arith) in
     rw (none, append-nil (gone_parts rows flows), no_rows) (run_gone (length m.instance.arcs - 0) rows flows m same room are_rows are_flows)

@@ -7,7 +7,7 @@ use Rattle.dimacs_text.specs.declared.problem.TheConstants.{ARC_LIMIT, SUPPLY_LI
 use Rattle.dimacs_text.specs.Lawful.{IsNode, IsWithin}
 use Rattle.network.specs.Instance.{Demand, Supplies, Terminals, Sides, Instance, kind_of, numbered_flow, with_supply}
 use Rattle.flow_solver.specs.Moment.{Moment}
-use Rattle.flow_solver.specs.TablesView.{IsFlow, IsRowOf, HasEnds, supplies_in}
+use Rattle.flow_solver.specs.TablesView.{IsFlowValue, IsRowOf, HasEnds, supplies_in}
 use Rattle.flow_solver.specs.declared.part.Part.{Part}
 use Rattle.flow_solver.specs.declared.part.Part.TheVariants.{Arc, Supply, Last, Gone}
 use Rattle.session.specs.Places.{exchanged, taken, PlacesFit, ended, end_of, changed}
@@ -100,7 +100,7 @@ pub record NamedFit (N : Named) (I : Instance) : Type 0 where
   pub ends : All (λ p. HasEnds I.arcs p.0 p.1) N.rows
   pub one_flow : length N.come_flows ≡ length N.come_rows
   pub come_rows : All (IsRowOf I) N.come_rows
-  pub come_flows : All IsFlow N.come_flows
+  pub come_flows : All IsFlowValue N.come_flows
   pub go : N.go ≤ length I.arcs
   pub room : length I.arcs + length N.come_rows ≤ I.room
   pub one_end : IsOneEnd N
@@ -138,7 +138,7 @@ PartFits next (Arc k row) m = HasEnds m.instance.arcs k row × IsRowOf m.instanc
 PartFits next (Supply id value) m =
     (kind_of m.instance.demand ≡ Min) × IsNode m.instance.nodes id × (id ≤ length (supplies_in m.instance.demand)) × IsWithin SUPPLY_LIMIT value × IsWithin SUPPLY_LIMIT (slice_index_or (supplies_in m.instance.demand) (id - 1) value)
 PartFits next Last m = (next < length m.instance.arcs) × (next < length (flow_of m)) × (next < ARC_LIMIT)
-PartFits next (Gone row flow) m = (length m.instance.arcs < m.instance.room) × IsRowOf m.instance row × IsFlow flow
+PartFits next (Gone row flow) m = (length m.instance.arcs < m.instance.room) × IsRowOf m.instance row × IsFlowValue flow
 
 -- the moment without its last n arcs
 abbrev pub cut_off : ℕ → Moment → Moment

@@ -8,7 +8,7 @@ use Rattle.dimacs_text.specs.declared.problem.TheConstants.{SUPPLY_LIMIT}
 use Rattle.dimacs_text.specs.Lawful.{IsWithin}
 use Rattle.network.specs.Instance.{Demand, Supplies, Terminals, Sides, Instance, ArcFits, DemandFits, IsLawful}
 use Rattle.flow_solver.specs.Moment.{Moment}
-use Rattle.flow_solver.specs.TablesView.{IsFlow, IsRowOf, HasEnds, supplies_in}
+use Rattle.flow_solver.specs.TablesView.{IsFlowValue, IsRowOf, HasEnds, supplies_in}
 use Rattle.flow_solver.specs.declared.part.Part.{Part}
 use Rattle.flow_solver.specs.declared.part.Part.TheVariants.{Last}
 use Rattle.session.specs.Places.{IsRising, AreWithin, PlacesFit, exchanged, taken, end_of, changed}
@@ -168,7 +168,7 @@ module _ (N : Named) (m : Moment) (fit : NamedFit N m.instance) where
         (ap (λ n. end_of n (flow_of now)) (sym fit.one_flow) ∙ flows)
         (length-end_of N.go I.arcs fit.go)
 
-    pub fit_again : IsLawful I → All IsFlow (flow_of m) → NamedFit (named_turned N m) (instance_swapped N I)
+    pub fit_again : IsLawful I → All IsFlowValue (flow_of m) → NamedFit (named_turned N m) (instance_swapped N I)
     fit_again lawful flows =
         let gone = length-end_of N.go I.arcs fit.go in
         let arcs_left : length (instance_swapped N I).arcs - length N.come_rows ≡ length I.arcs - N.go = omega (arith, length-arcs) in
@@ -184,7 +184,7 @@ module _ (N : Named) (m : Moment) (fit : NamedFit N m.instance) where
           ends = ends_again;
           one_flow = turned_flows;
           come_rows = λ i d below. row_for I N.supplies (instance_swapped N I).arcs _ (All-end_of (IsRowOf I) N.go I.arcs lawful.arcs i d below);
-          come_flows = All-end_of IsFlow N.go (flow_of m) flows;
+          come_flows = All-end_of IsFlowValue N.go (flow_of m) flows;
           go = omega (arith, length-arcs);
           room = omega (arith, length-arcs, gone, fit.room, fit.go, lawful.count);
           one_end = one_end_again N m fit.one_end;

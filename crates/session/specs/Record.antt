@@ -5,7 +5,7 @@ use Rattle.network.specs.Flow.{IsPotential}
 use Rattle.network.specs.Instance.{IsLawful}
 use Rattle.flow_solver.specs.declared.verdict.Verdict.{Verdict}
 use Rattle.flow_solver.specs.Moment.{Moment, returned, VerdictFits}
-use Rattle.flow_solver.specs.TablesView.{IsFlow}
+use Rattle.flow_solver.specs.TablesView.{IsFlowValue}
 use Rattle.flow_solver.specs.declared.part.Part.{Part}
 use Rattle.session.specs.Places.{exchanged, taken, PlacesFit, AllDiffer, changed}
 use Rattle.session.specs.Parts.{named, listed, flow_of, instance_swapped, named_turned, PartsFit}
@@ -51,7 +51,7 @@ pub record IsInRange (m : Moment) : Type 0 where
   pub verdict : VerdictFits m.instance.demand m.verdict
   pub told : m.flow ≡ returned m.instance.demand m.verdict ++ flow_of m
   pub one_an_arc : length (flow_of m) ≡ length m.instance.arcs
-  pub flow : All IsFlow (flow_of m)
+  pub flow : All IsFlowValue (flow_of m)
   pub one_a_node : length m.potentials ≡ m.instance.nodes
   pub potentials : All IsPotential m.potentials
   pub marks : length m.cut ≡ m.instance.nodes
@@ -61,7 +61,7 @@ pub record RecordFits (r : Recorded) (m : Moment) : Type 0 where
   pub in_range : IsInRange m
   pub parts : PartsFit r.parts m.instance
   pub verdict : VerdictFits m.instance.demand r.verdict
-  pub flows : PlacesFit IsFlow (length (flow_of m) - (named r.parts).go) r.flows
+  pub flows : PlacesFit IsFlowValue (length (flow_of m) - (named r.parts).go) r.flows
   pub potentials : PlacesFit IsPotential (length m.potentials) r.potentials
   pub marks : PlacesFit IsMark (length m.cut) r.marks
 

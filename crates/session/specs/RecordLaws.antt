@@ -4,7 +4,7 @@ use Rattle.network.specs.Flow.{IsPotential}
 use Rattle.network.specs.Instance.{Instance}
 use Rattle.flow_solver.specs.declared.verdict.Verdict.{Verdict}
 use Rattle.flow_solver.specs.Moment.{Moment, returned, VerdictFits}
-use Rattle.flow_solver.specs.TablesView.{IsFlow}
+use Rattle.flow_solver.specs.TablesView.{IsFlowValue}
 use Rattle.flow_solver.specs.declared.part.Part.{Part}
 use Rattle.session.specs.Places.{taken, end_of, changed}
 use Rattle.session.specs.PlacesLaws.{length-exchanged, exchanged_again, taken_again, fit_taken, All-exchanged}
@@ -102,7 +102,7 @@ module _ (r : Recorded) (m : Moment) (fits : RecordFits r m) where
         verdict = rw (verdict_fits-swapped N.supplies m.instance.demand r.verdict) fits.verdict;
         told = sym (ap₂ ◌++◌ (returned-swapped N.supplies m.instance.demand r.verdict) flow_is);
         one_an_arc = omega (arith, length-flow, length-arcs N m fit, fit.one_flow, one);
-        flow = rw flow_is (All-changed IsFlow r.flows N.go N.come_flows xs fits.flows.values fit.come_flows kept.flow);
+        flow = rw flow_is (All-changed IsFlowValue r.flows N.go N.come_flows xs fits.flows.values fit.come_flows kept.flow);
         one_a_node = length-exchanged r.potentials m.potentials ∙ kept.one_a_node;
         potentials = All-exchanged IsPotential r.potentials m.potentials fits.potentials.values kept.potentials;
         marks = length-exchanged r.marks m.cut ∙ kept.marks;
@@ -119,7 +119,7 @@ module _ (r : Recorded) (m : Moment) (fits : RecordFits r m) where
           fit = subst (λ (M : Named). NamedFit M (swapped r m).instance) (sym named_turned_is) (named_fit_again N m fit one kept.lawful kept.flow);
         };
         verdict = rw (verdict_fits-swapped N.supplies m.instance.demand m.verdict) kept.verdict;
-        flows = rw flows_left (fit_taken IsFlow (length xs - N.go) r.flows xs (omega arith) kept.flow fits.flows);
+        flows = rw flows_left (fit_taken IsFlowValue (length xs - N.go) r.flows xs (omega arith) kept.flow fits.flows);
         potentials = rw (length-exchanged r.potentials m.potentials) (fit_taken IsPotential (length m.potentials) r.potentials m.potentials (omega arith) kept.potentials fits.potentials);
         marks = rw (length-exchanged r.marks m.cut) (fit_taken IsMark (length m.cut) r.marks m.cut (omega arith) (λ i d below. tt) fits.marks);
       }

@@ -27,7 +27,7 @@ state_of s = record { moments = s.moments; marks = s.marks }
 
 -- a reply tells the verdict of the present moment, shows its solution, with its potentials or without, or refuses by a number
 pub data Reply : Type 0 where
-  Tells : Reply
+  TellsVerdict : Reply
   Shows : Bool → Reply
   Refuses : ℕ → Reply
 
@@ -44,39 +44,39 @@ pub record IsShown (proof : Bool) (old : SessionState) (reply : Reply) (new : Se
 -- the old present is the last of the past, the new present answers the edited instance, the future is empty, and the
 -- marks of the moments that go are taken away
 pub record IsApplied (edit : Edit) (old : SessionState) (reply : Reply) (new : SessionState) : Type 0 where
-  pub reply_is : reply ≡ Tells
+  pub reply_is : reply ≡ TellsVerdict
   pub edited_to : IsEdited edit old.moments.present new.moments.present
   pub advances : Advances old.moments new.moments
   pub marks : new.marks ≡ up_to (length old.moments.past) old.marks
 
 -- the same of edits that are made one after the other, as one step
 pub record AreApplied (edits : List Edit) (old : SessionState) (reply : Reply) (new : SessionState) : Type 0 where
-  pub reply_is : reply ≡ Tells
+  pub reply_is : reply ≡ TellsVerdict
   pub edited_to : AreEdited edits old.moments.present new.moments.present
   pub advances : Advances old.moments new.moments
   pub marks : new.marks ≡ up_to (length old.moments.past) old.marks
 
 -- the last moment of the past is the present one
 pub record IsUndone (old : SessionState) (reply : Reply) (new : SessionState) : Type 0 where
-  pub reply_is : reply ≡ Tells
+  pub reply_is : reply ≡ TellsVerdict
   pub back : StepsBack old.moments new.moments
   pub marks : new.marks ≡ old.marks
 
 -- the first moment of the future is the present one
 pub record IsRedone (old : SessionState) (reply : Reply) (new : SessionState) : Type 0 where
-  pub reply_is : reply ≡ Tells
+  pub reply_is : reply ≡ TellsVerdict
   pub forward : StepsForward old.moments new.moments
   pub marks : new.marks ≡ old.marks
 
 -- the name's mark stands on the present moment
 pub record IsPut (name : List ℕ) (old : SessionState) (reply : Reply) (new : SessionState) : Type 0 where
-  pub reply_is : reply ≡ Tells
+  pub reply_is : reply ≡ TellsVerdict
   pub moments : new.moments ≡ old.moments
   pub marks : new.marks ≡ with_mark old.marks name (length old.moments.past)
 
 -- that moment is the present one
 pub record IsMoved (moment : ℕ) (old : SessionState) (reply : Reply) (new : SessionState) : Type 0 where
-  pub reply_is : reply ≡ Tells
+  pub reply_is : reply ≡ TellsVerdict
   pub moved : IsMovedTo moment old.moments new.moments
   pub marks : new.marks ≡ old.marks
 

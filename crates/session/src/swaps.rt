@@ -4,7 +4,7 @@ ghost use Rattle.std.specs.Prelude.{◌≡◌, ◌<◌, ◌≤◌, length};
 ghost use Rattle.dimacs_text.specs.declared.problem.TheConstants.{ARC_LIMIT};
 ghost use Rattle.network.specs.Flow.{IsPotential};
 ghost use Rattle.network.specs.Instance.{IsLawful};
-ghost use Rattle.flow_solver.specs.TablesView.{IsFlow};
+ghost use Rattle.flow_solver.specs.TablesView.{IsFlowValue};
 ghost use Rattle.session.specs.Places.{exchanged, taken, PlacesFit};
 ghost use Rattle.session.specs.Parts.{named, listed, flow_of, named_turned, parts_swapped, PartsFit, put_in, left_by, next_after, PartFits, cut_off};
 ghost use Rattle.session.specs.Record.{with_flow, IsInRange, IsMark};
@@ -13,7 +13,7 @@ use flow_solver::{Part, Tables};
 
 /// Exchanges the flows of these arcs.
 pub(crate) fn swap_flows(places: &mut [(u32, i64)], tables: &mut Tables)
-    requires fit { PlacesFit IsFlow (length (flow_of tables.old.moment)) places.old }
+    requires fit { PlacesFit IsFlowValue (length (flow_of tables.old.moment)) places.old }
     requires in_range { IsInRange tables.old.moment }
     ensures places { places.new ≡ taken places.old (flow_of tables.old.moment) }
     ensures moment { tables.new.moment ≡ with_flow tables.old.moment (exchanged places.old (flow_of tables.old.moment)) }

@@ -13,7 +13,7 @@ use Rattle.shortest_paths.specs.declared.node_label.State.TheVariants.{Unreached
 use Rattle.shortest_paths.specs.declared.node_label.NodeLabel.{NodeLabel}
 use Rattle.shortest_paths.specs.Labels.{IsForest, IsHop, IsNoDearer, IsThrough, Reaches, Opens, IsShortest, NothingOpen, IsEntered}
 use Rattle.shortest_paths.specs.Queue.{IsPassedDistance}
-use Rattle.residual_graph.specs.Residual.{IsCertified, IsRow, IsWithin, room_of, number_at, arc_at, start_at, end_at, IsResidual}
+use Rattle.residual_graph.specs.Residual.{IsReducedCostOptimal, IsRow, IsWithinRow, room_of, number_at, row_at, start_at, end_at, IsResidual}
 use Rattle.shortest_paths.specs.Search.{HasBound, is_not_settled, is_unsettled, node_label_at, state_at, distance_at, depth_at, IsReached, unsettled, IsTraced, IsTracedBy, IsRelaxed, AllRelaxed, TakesBy, Takes, reduced_at, root_node_label}
 use Rattle.shortest_paths.proofs.SearchLemmas.{HaveBounds-put, IsPut, IsTraced-stays, weight_of, weight_unsettled, settled_is_reached, open_is_reached}
 use Rattle.shortest_paths.specs.SettledOrder.{IsFresh}
@@ -22,11 +22,11 @@ use Rattle.residual_graph.proofs.RowLemmas.{end_of-in}
 
 -- ---- a residual arc
 
-pub room_fits : (nodes : ℕ) (a : ArcRow) (y : ℤ) (way : Way) → IsRow nodes a → IsWithin a y → SFits w64 (room_of a y way)
+pub room_fits : (nodes : ℕ) (a : ArcRow) (y : ℤ) (way : Way) → IsRow nodes a → IsWithinRow a y → SFits w64 (room_of a y way)
 room_fits nodes a y Forward row within = omega (arith, ints, row.low_at_least_0, row.cap_in, within.low_kept, within.cap_kept)
 room_fits nodes a y Backward row within = omega (arith, ints, row.low_at_least_0, row.cap_in, within.low_kept, within.cap_kept)
 
-pub flow_fits : {arcs : List ArcRow} {x p : List ℤ} (k : ℕ) → IsCertified arcs x p → k < length arcs → to_z w64 (of_z w64 (number_at x k)) ≡ number_at x k
+pub flow_fits : {arcs : List ArcRow} {x p : List ℤ} (k : ℕ) → IsReducedCostOptimal arcs x p → k < length arcs → to_z w64 (of_z w64 (number_at x k)) ≡ number_at x k
 flow_fits {arcs} {x} {p} k certified lt =
     let row = certified.flow.rows k lt in
     let within = certified.flow.within k lt in
@@ -41,7 +41,7 @@ weight_at_most_1 Open = omega arith
 weight_at_most_1 Settled = omega arith
 
 -- no label falls below the potential
-pub distance-not_below_0 : {arcs : List ArcRow} {x p : List ℤ} {s : List NodeLabel} {v : ℕ} {e : NodeLabel} → IsCertified arcs x p → Reaches arcs x p s v e → pos 0 ≤ℤ e.distance
+pub distance-not_below_0 : {arcs : List ArcRow} {x p : List ℤ} {s : List NodeLabel} {v : ℕ} {e : NodeLabel} → IsReducedCostOptimal arcs x p → Reaches arcs x p s v e → pos 0 ≤ℤ e.distance
 distance-not_below_0 {arcs} {x} {p} {s} {v} {e} certified reaches = elim (cases_lt 0 e.depth) [
   | inl deep ↦ (let by = reaches.through deep in omega (arith, ints, by.distance, certified.none_below e.arc e.way by.hop.residual))
   | inr flat ↦ omega (arith, ints, reaches.root (omega (arith, flat)), certified.potentials.at_most_0 v)
@@ -70,7 +70,7 @@ fresh_forest arcs x p s sized fresh =
 
 -- one more node is reached, and none before it changes
 module _ (arcs : List ArcRow) (x p : List ℤ) (s t : List NodeLabel) (v : ℕ) (e : NodeLabel)
-    (certified : IsCertified arcs x p) (forest : IsForest arcs x p s) (put : IsPut s t v e) (fresh : state_at s v ≡ Unreached)
+    (certified : IsReducedCostOptimal arcs x p) (forest : IsForest arcs x p s) (put : IsPut s t v e) (fresh : state_at s v ≡ Unreached)
     (reached : e.state ≢ Unreached) (kept : e.state ≡ Settled → e.distance ≡ pos 0) (reaches : Reaches arcs x p s v e) (bound : HasBound (number_at p v) e)
   where
     by_node : (P : ℕ → Type 0) → P v → ((q : ℕ) → (q ≡ v → ⊥) → P q) → (q : ℕ) → P q
@@ -187,7 +187,7 @@ unreached Open shut unsettled = absurd (shut refl)
 unreached Settled shut unsettled = absurd (unsettled refl)
 
 -- a node that stands is settled where nothing is open
-pub IsForest-stands : (arcs : List ArcRow) (x p : List ℤ) (s t : List NodeLabel) (v : ℕ) (e : NodeLabel) → IsCertified arcs x p → IsForest arcs x p s → NothingOpen s → (state_at s v ≡ Settled → ⊥) → IsPut s t v e → e.state ≡ Settled → e.distance ≡ pos 0 → Reaches arcs x p s v e → HasBound (number_at p v) e → IsForest arcs x p t
+pub IsForest-stands : (arcs : List ArcRow) (x p : List ℤ) (s t : List NodeLabel) (v : ℕ) (e : NodeLabel) → IsReducedCostOptimal arcs x p → IsForest arcs x p s → NothingOpen s → (state_at s v ≡ Settled → ⊥) → IsPut s t v e → e.state ≡ Settled → e.distance ≡ pos 0 → Reaches arcs x p s v e → HasBound (number_at p v) e → IsForest arcs x p t
 IsForest-stands arcs x p s t v e certified forest closed unsettled put settled kept reaches bound =
     IsForest-put arcs x p s t v e certified forest put (unreached (state_at s v) (closed v) unsettled) (λ h. cc) (λ h. kept) reaches bound
 
@@ -200,7 +200,7 @@ NothingOpen-stands s t v e closed put settled q m = elim (cases_eq q v) [
 -- ---- the other nodes
 
 -- no residual arc reaches a kept node nearer
-pub IsEntered-kept : (arcs : List ArcRow) (x p : List ℤ) (s : List NodeLabel) (i : ℕ) → IsCertified arcs x p → IsEntered arcs x p s i → state_at s i ≡ Settled → IsEntered arcs x p s (i + 1)
+pub IsEntered-kept : (arcs : List ArcRow) (x p : List ℤ) (s : List NodeLabel) (i : ℕ) → IsReducedCostOptimal arcs x p → IsEntered arcs x p s i → state_at s i ≡ Settled → IsEntered arcs x p s (i + 1)
 IsEntered-kept arcs x p s i certified before settled = record {
   forest = before.forest;
   reached = λ v lt. (elim (cases_eq v i) [
@@ -225,7 +225,7 @@ fresh_takes arcs x p s i distance before unsettled =
 
 -- a node is opened, no dearer than by any residual arc from a settled one
 module _ (arcs : List ArcRow) (x p : List ℤ) (s t : List NodeLabel) (i : ℕ) (e : NodeLabel)
-    (certified : IsCertified arcs x p) (before : IsEntered arcs x p s i) (unsettled : state_at s i ≡ Settled → ⊥)
+    (certified : IsReducedCostOptimal arcs x p) (before : IsEntered arcs x p s i) (unsettled : state_at s i ≡ Settled → ⊥)
     (put : IsPut s t i e) (opens : Opens arcs x p s i e) (nearest : IsShortest arcs x p s i e)
   where
     state_i : state_at t i ≡ Open
@@ -276,15 +276,15 @@ module _ (arcs : List ArcRow) (x p : List ℤ) (s t : List NodeLabel) (i : ℕ) 
       rest = λ v le m. before.rest v (omega (arith, le)) (sym (same_state v (λ same. omega (arith, same, le))) ∙ m);
     }
 
-pub entered_relaxed : (arcs : List ArcRow) (x p : List ℤ) (s : List NodeLabel) → IsCertified arcs x p → IsEntered arcs x p s (length s) → AllRelaxed arcs x p s
+pub entered_relaxed : (arcs : List ArcRow) (x p : List ℤ) (s : List NodeLabel) → IsReducedCostOptimal arcs x p → IsEntered arcs x p s (length s) → AllRelaxed arcs x p s
 entered_relaxed arcs x p s certified entered k way residual m =
-    entered.relaxed k way residual (rw entered.forest.known.sized (end_of-in (length p) (arc_at arcs k) way (certified.flow.rows k residual.is_arc))) m
+    entered.relaxed k way residual (rw entered.forest.known.sized (end_of-in (length p) (row_at arcs k) way (certified.flow.rows k residual.is_arc))) m
 
 -- ---- the queue
 
 -- a node that is opened is no nearer than the present distance, which is not above 0
 pub opens_no_nearer : (arcs : List ArcRow) (x p : List ℤ) (s : List NodeLabel) (v : ℕ) (e : NodeLabel) (present : ℤ) →
-    IsCertified arcs x p → IsForest arcs x p s → IsPassedDistance s present → Opens arcs x p s v e → present ≤ℤ e.distance
+    IsReducedCostOptimal arcs x p → IsForest arcs x p s → IsPassedDistance s present → Opens arcs x p s v e → present ≤ℤ e.distance
 opens_no_nearer arcs x p s v e present certified forest passed opens =
     let low : present ≤ℤ pos 0 = passed (pos 0) (omega (arith, ints)) (λ w m. omega (arith, ints, forest.kept w m)) in
     elim (cases_lt 0 e.depth) [

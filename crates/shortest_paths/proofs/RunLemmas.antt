@@ -13,7 +13,7 @@ use Rattle.residual_graph.specs.declared.residual.Way.{Way}
 use Rattle.shortest_paths.specs.declared.node_label.State.{State}
 use Rattle.shortest_paths.specs.declared.node_label.State.TheVariants.{Unreached, Open, Settled}
 use Rattle.shortest_paths.specs.declared.node_label.NodeLabel.{NodeLabel}
-use Rattle.residual_graph.specs.Residual.{IsCertified, IsFlow, ArePotentials, NoneBelow, NoneBelowBy, AreGreatest, number_at, arc_at, start_at, end_at, cost_at, IsResidual}
+use Rattle.residual_graph.specs.Residual.{IsReducedCostOptimal, IsPseudoflow, ArePotentials, NoneBelow, NoneBelowBy, AreGreatest, number_at, row_at, start_at, end_at, cost_at, IsResidual}
 use Rattle.shortest_paths.specs.Search.{node_label_at, state_at, distance_at, depth_at, IsReached, IsSearch, Settles, AllRelaxed, IsFromExcess, NoDeficit, IsFoundDeficit, IsFront, IsFinding, IsFromAll, AreLabels, IsReach, lowered_by, IsLowered, NoneOpen}
 
 pub IsFromExcess-settles : {arcs : List ArcRow} {x p excess : List ℤ} {s t : List NodeLabel} {u : ℕ} → IsFromExcess excess s → IsSearch arcs x p t → Settles s t u → IsFromExcess excess t
@@ -42,7 +42,7 @@ IsFoundDeficit-settles {excess} {s} {t} {u} {v} found settles = record {
 }
 
 -- the search has come as far as the node that it settled
-pub IsFront-settles : {arcs : List ArcRow} {x p : List ℤ} {s t : List NodeLabel} {u : ℕ} → IsCertified arcs x p → IsSearch arcs x p s → IsSearch arcs x p t → state_at s u ≡ Open → Settles s t u → IsFront t (distance_at t u)
+pub IsFront-settles : {arcs : List ArcRow} {x p : List ℤ} {s t : List NodeLabel} {u : ℕ} → IsReducedCostOptimal arcs x p → IsSearch arcs x p s → IsSearch arcs x p t → state_at s u ≡ Open → Settles s t u → IsFront t (distance_at t u)
 IsFront-settles {arcs} {x} {p} {s} {t} {u} certified before known opened settles = record {
   not_below_0 = known.distance_at_least_0 u (settled_is_reached t u settles.now_settled);
   settled = record {
@@ -61,7 +61,7 @@ IsFront-settles {arcs} {x} {p} {s} {t} {u} certified before known opened settles
 
 -- a settled node in deficit is one more, and another none
 module _ (arcs : List ArcRow) (x p excess : List ℤ) (s t : List NodeLabel) (u : ℕ) (reach : ℤ) (found : ℕ)
-    (certified : IsCertified arcs x p) (before : IsSearch arcs x p s) (known : IsSearch arcs x p t) (opened : state_at s u ≡ Open) (settles : Settles s t u)
+    (certified : IsReducedCostOptimal arcs x p) (before : IsSearch arcs x p s) (known : IsSearch arcs x p t) (opened : state_at s u ≡ Open) (settles : Settles s t u)
     (finding : IsFinding excess s reach found)
   where
     pub IsFinding-deficit : number_at excess u <ℤ pos 0 → IsFinding excess t (distance_at t u) (found + 1)
@@ -86,7 +86,7 @@ IsFromAll-settles {p} {s} {t} {u} before settles in_nodes = record {
 }
 
 module _ (arcs : List ArcRow) (x p : List ℤ) (s : List NodeLabel)
-    (certified : IsCertified arcs x p) (known : IsSearch arcs x p s) (all : AllRelaxed arcs x p s)
+    (certified : IsReducedCostOptimal arcs x p) (known : IsSearch arcs x p s) (all : AllRelaxed arcs x p s)
     (from_all : IsFromAll p s) (done : NoneOpen s (length s))
   where
     settled_state : (v : ℕ) (m : State) → state_at s v ≡ m → v < length p → state_at s v ≡ Settled
@@ -98,7 +98,7 @@ module _ (arcs : List ArcRow) (x p : List ℤ) (s : List NodeLabel)
     all_settled v lt = settled_state v (state_at s v) refl lt
 
     start_in : (k : ℕ) (way : Way) → IsResidual arcs x k way → start_at arcs k way < length p
-    start_in k way h = start_of-in (length p) (arc_at arcs k) way (certified.flow.rows k h.is_arc)
+    start_in k way h = start_of-in (length p) (row_at arcs k) way (certified.flow.rows k h.is_arc)
 
     reached_or_past : (v : ℕ) → IsReached s v ⊎ ((number_at p v ≡ pos 0) × (distance_at s v ≡ pos 0))
     reached_or_past v = elim (cases_lt v (length p)) [
@@ -127,7 +127,7 @@ module _ (arcs : List ArcRow) (x p : List ℤ) (s : List NodeLabel)
         let shallower : depth_at s (start_at arcs k way) ≡ d = omega (arith, traced.deeper) in
         let before = label_at_least d (start_at arcs k way) (settled_is_reached s _ traced.settled) shallower in
         let p_end : number_at p (end_at arcs k way) ≡ number_at p v = ap (number_at p) traced.ends in
-        let cost = (cost_of-bounds (length p) (arc_at arcs k) way (certified.flow.rows k traced.residual.is_arc)).0 in
+        let cost = (cost_of-bounds (length p) (row_at arcs k) way (certified.flow.rows k traced.residual.is_arc)).0 in
         omega (arith, ints, before, traced.tight, p_end, cost)
 
     pub label_fits : (v : ℕ) → (neg_ℤ (pos label_floor) ≤ℤ (number_at p v +ℤ distance_at s v)) × ((number_at p v +ℤ distance_at s v) ≤ℤ pos 0)
@@ -149,9 +149,9 @@ module _ (arcs : List ArcRow) (x p : List ℤ) (s : List NodeLabel)
         at_least = λ v. rw labels (label_fits v).0;
       }
 
-      pub labels_certified : IsCertified arcs x q
+      pub labels_certified : IsReducedCostOptimal arcs x q
       labels_certified = record {
-        flow = subst (λ (n : ℕ). IsFlow n arcs x) (sym sized) certified.flow;
+        flow = subst (λ (n : ℕ). IsPseudoflow n arcs x) (sym sized) certified.flow;
         potentials = record {
           sized = refl;
           at_most_0 = labels_within.at_most_0;
@@ -167,7 +167,7 @@ module _ (arcs : List ArcRow) (x p : List ℤ) (s : List NodeLabel)
       ])
 
 module _ (arcs : List ArcRow) (x p q : List ℤ) (s : List NodeLabel) (reach : ℤ)
-    (certified : IsCertified arcs x p) (known : IsSearch arcs x p s) (all : AllRelaxed arcs x p s)
+    (certified : IsReducedCostOptimal arcs x p) (known : IsSearch arcs x p s) (all : AllRelaxed arcs x p s)
     (near : IsReach s reach) (beyond : (v : ℕ) → state_at s v ≡ Open → reach ≤ℤ distance_at s v)
     (low : IsLowered p q s reach)
   where

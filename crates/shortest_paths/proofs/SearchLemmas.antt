@@ -11,7 +11,7 @@ use Rattle.residual_graph.specs.declared.residual.Way.{Way}
 use Rattle.shortest_paths.specs.declared.node_label.State.{State}
 use Rattle.shortest_paths.specs.declared.node_label.State.TheVariants.{Unreached, Open, Settled}
 use Rattle.shortest_paths.specs.declared.node_label.NodeLabel.{NodeLabel}
-use Rattle.residual_graph.specs.Residual.{IsCertified, IsFlow, NoneBelow, number_at, arc_at, start_at, end_at, cost_at, IsResidual}
+use Rattle.residual_graph.specs.Residual.{IsReducedCostOptimal, IsPseudoflow, NoneBelow, number_at, row_at, start_at, end_at, cost_at, IsResidual}
 use Rattle.std.proofs.lemmas.List.Sums.{sum_by-set}
 use Rattle.residual_graph.proofs.RowLemmas.{cost_of-bounds, end_of-in}
 use Rattle.shortest_paths.specs.Search.{HasBound, HaveBounds, is_unsettled, is_not_settled, node_label_at, state_at, distance_at, depth_at, IsReached, unsettled, reduced_at, IsTraced, IsTracedBy, IsSearch, IsLastSettled, TakesBy, Takes, Settles, settled_node_label, IsLeastOpen, IsRelaxed, AllRelaxed, IsRelaxedFrom, Improves}
@@ -75,11 +75,11 @@ in_range s v r = elim (cases_lt v (length s)) [
   | inr past ↦ absurd (r (ap (λ (e : NodeLabel). e.state) (get_or_past s v _ past)))
 ]
 
-pub distance_high : (arcs : List ArcRow) (x p : List ℤ) (s : List NodeLabel) (v : ℕ) → IsCertified arcs x p → IsSearch arcs x p s → IsReached s v → distance_at s v ≤ℤ pos distance_limit
+pub distance_high : (arcs : List ArcRow) (x p : List ℤ) (s : List NodeLabel) (v : ℕ) → IsReducedCostOptimal arcs x p → IsSearch arcs x p s → IsReached s v → distance_at s v ≤ℤ pos distance_limit
 distance_high arcs x p s v certified search r =
     omega (arith, ints, search.label_high v r, search.reached_depth v r, search.sized, certified.flow.few_nodes, certified.potentials.at_least v)
 
-pub depth_small : (arcs : List ArcRow) (x p : List ℤ) (s : List NodeLabel) (v : ℕ) → IsCertified arcs x p → IsSearch arcs x p s → IsReached s v → depth_at s v ≤ entry_limit
+pub depth_small : (arcs : List ArcRow) (x p : List ℤ) (s : List NodeLabel) (v : ℕ) → IsReducedCostOptimal arcs x p → IsSearch arcs x p s → IsReached s v → depth_at s v ≤ entry_limit
 depth_small arcs x p s v certified search r = omega (arith, search.reached_depth v r, search.sized, certified.flow.few_nodes)
 
 pub record LastBounds (s : List NodeLabel) (u : ℕ) : Type 0 where
@@ -87,7 +87,7 @@ pub record LastBounds (s : List NodeLabel) (u : ℕ) : Type 0 where
   pub high : distance_at s u ≤ℤ pos distance_limit
   pub shallow : depth_at s u ≤ entry_limit
 
-pub last_bounds : {arcs : List ArcRow} {x p : List ℤ} {s : List NodeLabel} {u : ℕ} → IsCertified arcs x p → IsSearch arcs x p s → IsLastSettled s u → LastBounds s u
+pub last_bounds : {arcs : List ArcRow} {x p : List ℤ} {s : List NodeLabel} {u : ℕ} → IsReducedCostOptimal arcs x p → IsSearch arcs x p s → IsLastSettled s u → LastBounds s u
 last_bounds {arcs} {x} {p} {s} {u} certified known last =
     let r = settled_is_reached s u last.settled in
     record {
@@ -97,7 +97,7 @@ last_bounds {arcs} {x} {p} {s} {u} certified known last =
     }
 
 -- a residual arc that gives no better path is relaxed already
-pub relaxed_already : (arcs : List ArcRow) (x p : List ℤ) (s : List NodeLabel) (u k : ℕ) (way : Way) (distance : ℤ) → IsCertified arcs x p → IsSearch arcs x p s → IsLastSettled s u → IsResidual arcs x k way → start_at arcs k way ≡ u → distance ≡ distance_at s (start_at arcs k way) +ℤ reduced_at arcs p k way → (Takes (node_label_at s (end_at arcs k way)) distance → ⊥) → IsRelaxed arcs p s k way
+pub relaxed_already : (arcs : List ArcRow) (x p : List ℤ) (s : List NodeLabel) (u k : ℕ) (way : Way) (distance : ℤ) → IsReducedCostOptimal arcs x p → IsSearch arcs x p s → IsLastSettled s u → IsResidual arcs x k way → start_at arcs k way ≡ u → distance ≡ distance_at s (start_at arcs k way) +ℤ reduced_at arcs p k way → (Takes (node_label_at s (end_at arcs k way)) distance → ⊥) → IsRelaxed arcs p s k way
 relaxed_already arcs x p s u k way distance certified search last residual starts distance_is refused =
     let distance_start : distance_at s (start_at arcs k way) ≡ distance_at s u = ap (distance_at s) starts in
     record {
@@ -124,7 +124,7 @@ IsTraced-stays arcs x p s t q settled_stays same h =
     subst (λ (r : NodeLabel). IsTracedBy arcs x p t q r.arc r.way) (sym same) there
 
 module _ (arcs : List ArcRow) (x p : List ℤ) (s t : List NodeLabel) (u k : ℕ) (way : Way) (e : NodeLabel)
-    (flow : IsFlow (length p) arcs x) (search : IsSearch arcs x p s) (last : IsLastSettled s u)
+    (flow : IsPseudoflow (length p) arcs x) (search : IsSearch arcs x p s) (last : IsLastSettled s u)
     (residual : IsResidual arcs x k way) (starts : start_at arcs k way ≡ u) (fits : NoneBelow arcs x p)
     (put : IsPut s t (end_at arcs k way) e)
     (is_open : e.state ≡ Open) (distance_from : e.distance ≡ distance_at s (start_at arcs k way) +ℤ reduced_at arcs p k way) (depth_is : e.depth ≡ depth_at s u + 1)
@@ -134,7 +134,7 @@ module _ (arcs : List ArcRow) (x p : List ℤ) (s t : List NodeLabel) (u k : ℕ
     distance_is = distance_from ∙ ap (λ (v : ℕ). distance_at s v +ℤ reduced_at arcs p k way) starts
 
     cost_bounds : (neg_ℤ (pos cost_limit) ≤ℤ cost_at arcs k way) × (cost_at arcs k way ≤ℤ pos cost_limit)
-    cost_bounds = cost_of-bounds (length p) (arc_at arcs k) way (flow.rows k residual.is_arc)
+    cost_bounds = cost_of-bounds (length p) (row_at arcs k) way (flow.rows k residual.is_arc)
 
     -- the node that changes is not settled
     end_not_settled : state_at s (end_at arcs k way) ≡ Settled → ⊥
@@ -297,9 +297,9 @@ pub record IsStep (arcs : List ArcRow) (x p : List ℤ) (s t : List NodeLabel) (
   pub better : Improves s t
   pub done : IsRelaxed arcs p t k way
 
-pub IsStep-put : (arcs : List ArcRow) (x p : List ℤ) (s : List NodeLabel) (u k : ℕ) (way : Way) (end : ℕ) (e : NodeLabel) → IsCertified arcs x p → IsSearch arcs x p s → IsLastSettled s u → IsResidual arcs x k way → start_at arcs k way ≡ u → end ≡ end_at arcs k way → e.state ≡ Open → e.distance ≡ distance_at s (start_at arcs k way) +ℤ reduced_at arcs p k way → e.depth ≡ depth_at s u + 1 → e.arc ≡ k → e.way ≡ way → HasBound (number_at p end) e → Takes (node_label_at s end) e.distance → IsStep arcs x p s (slice_set s end e) k way
+pub IsStep-put : (arcs : List ArcRow) (x p : List ℤ) (s : List NodeLabel) (u k : ℕ) (way : Way) (end : ℕ) (e : NodeLabel) → IsReducedCostOptimal arcs x p → IsSearch arcs x p s → IsLastSettled s u → IsResidual arcs x k way → start_at arcs k way ≡ u → end ≡ end_at arcs k way → e.state ≡ Open → e.distance ≡ distance_at s (start_at arcs k way) +ℤ reduced_at arcs p k way → e.depth ≡ depth_at s u + 1 → e.arc ≡ k → e.way ≡ way → HasBound (number_at p end) e → Takes (node_label_at s end) e.distance → IsStep arcs x p s (slice_set s end e) k way
 IsStep-put arcs x p s u k way end e certified known last residual starts ends is_open distance_is depth_is arc_is way_is bound takes =
-    let in_range : end_at arcs k way < length s = rw known.sized (end_of-in (length p) (arc_at arcs k) way (certified.flow.rows k residual.is_arc)) in
+    let in_range : end_at arcs k way < length s = rw known.sized (end_of-in (length p) (row_at arcs k) way (certified.flow.rows k residual.is_arc)) in
     let put : IsPut s (slice_set s end e) (end_at arcs k way) e = subst (λ (q : ℕ). IsPut s (slice_set s q e) (end_at arcs k way) e) (sym ends) (IsPut-set s (end_at arcs k way) e in_range) in
     let bounded : HasBound (number_at p (end_at arcs k way)) e = subst (λ (q : ℕ). HasBound (number_at p q) e) ends bound in
     let taken : Takes (node_label_at s (end_at arcs k way)) e.distance = subst (λ (q : ℕ). Takes (node_label_at s q) e.distance) ends takes in

@@ -14,7 +14,7 @@ use Rattle.shortest_paths.specs.declared.node_label.TheConstants.{NO_BOUND}
 use Rattle.shortest_paths.specs.declared.node_label.State.TheVariants.{Unreached, Open, Settled}
 use Rattle.shortest_paths.specs.NodeLists.{IsListed, node_at}
 use Rattle.shortest_paths.specs.Queue.{IsQueueOf}
-use Rattle.residual_graph.specs.Residual.{IsCertified, number_at}
+use Rattle.residual_graph.specs.Residual.{IsReducedCostOptimal, number_at}
 use Rattle.shortest_paths.specs.Search.{AllRelaxed, HaveBounds, IsFinding, IsFromExcess, IsReached, IsLowered, IsSearch, Settles, depth_at, is_unsettled, distance_at, lowered, lowered_by, state_at, bound_at, bound_by, source_node_label, unreached_node_label, unsettled, node_label_at}
 use Rattle.shortest_paths.specs.SettledOrder.{HoldReached, IsFresh, IsSettledOrderFor, IsSettledOrderOf}
 use Rattle.shortest_paths.proofs.SearchLemmas.{HaveBounds-put, IsPut-set, in_range, open_is_reached, settled_is_reached, weight_of, weight_unsettled}
@@ -119,7 +119,7 @@ HaveBounds-source p s v before lt =
     HaveBounds-put p s (slice_set s v (source_node_label (number_at p v))) v (source_node_label (number_at p v)) before (IsPut-set s v (source_node_label (number_at p v)) lt) own
 
 -- each node in excess is open, and no other is reached
-module _ (arcs : List ArcRow) (x p excess : List ℤ) (s : List NodeLabel) (certified : IsCertified arcs x p) (sized : length s ≡ length p)
+module _ (arcs : List ArcRow) (x p excess : List ℤ) (s : List NodeLabel) (certified : IsReducedCostOptimal arcs x p) (sized : length s ≡ length p)
     (sources : (v : ℕ) → pos 0 <ℤ number_at excess v → node_label_at s v ≡ source_node_label (number_at p v))
     (others : (v : ℕ) → number_at excess v ≤ℤ pos 0 → state_at s v ≡ Unreached)
     (bounds : HaveBounds p s)

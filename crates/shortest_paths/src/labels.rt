@@ -2,7 +2,7 @@
 
 ghost use Rattle.std.specs.Prelude.{◌≡◌, ℕ, ◌≤ℤ◌, ◌<◌, ◌≤◌, ◌+◌, ◌⊎◌, length, false, None, Some, IfSome, IfOk};
 ghost use Rattle.residual_graph.specs.Limits.{entry_limit, potential_floor};
-ghost use Rattle.residual_graph.specs.Residual.{ArePotentials, IsCertified, number_at};
+ghost use Rattle.residual_graph.specs.Residual.{ArePotentials, IsReducedCostOptimal, number_at};
 ghost use Rattle.shortest_paths.specs.Search.{HasBound, IsSearch, AllRelaxed, IsFromAll, NoneOpen, root_node_label, settled_node_label};
 ghost use Rattle.shortest_paths.specs.SettledOrder.{IsFresh};
 ghost use Rattle.shortest_paths.specs.Labels.{AreInOrder, IsLabelsFor, IsForest, IsHop, IsThrough, Stands, Opens, IsShortest, NothingOpen, IsEntered};

@@ -4,7 +4,7 @@ ghost use Rattle.std.specs.Prelude.{◌≡◌, ℕ, pos, ◌≤ℤ◌, ◌+ℤ�
 ghost use Rattle.std.specs.List.{count_by};
 ghost use Rattle.residual_graph.specs.Limits.{cost_limit, entry_limit, potential_floor};
 ghost use Rattle.shortest_paths.specs.Limits.{distance_limit};
-ghost use Rattle.residual_graph.specs.Residual.{IsRow, IsFlow, IsCertified, ArePotentials, IsResidual, number_at, start_at, start_of, end_of, cost_at, cost_of};
+ghost use Rattle.residual_graph.specs.Residual.{IsRow, IsPseudoflow, IsReducedCostOptimal, ArePotentials, IsResidual, number_at, start_at, start_of, end_of, cost_at, cost_of};
 ghost use Rattle.shortest_paths.specs.Search.{HaveBounds, IsSearch, IsLastSettled, Improves, Takes, reduced_at, IsRelaxed, IsRelaxedFrom, AllRelaxed, Settles, node_label_at, state_at, distance_at, priced_distance, source_node_label, IsFromExcess, IsExhausted, HasFound};
 ghost use Rattle.residual_graph.specs.Graph.{IsGraphFor};
 ghost use Rattle.shortest_paths.specs.Queue.{IsQueueOf, IsQueueFor, size, first_of};

@@ -7,7 +7,7 @@ ghost use Rattle.dimacs_text.specs.Lawful.{IsNode};
 ghost use Rattle.network.specs.Flow.{IsCertifiedFlow, IsPotential, reduced_cost, total_excess};
 ghost use Rattle.network.specs.Instance.{at_node, reduced};
 ghost use Rattle.augmentation.specs.Push.{Pushes};
-ghost use Rattle.residual_graph.specs.Residual.{arc_at as row_at, number_at};
+ghost use Rattle.residual_graph.specs.Residual.{row_at, number_at};
 ghost use Rattle.flow_solver.specs.Answer.{IsAnswered};
 ghost use Rattle.flow_solver.specs.TablesView.{flow_index};
 ghost use Rattle.flow_solver.specs.Edit.{AreChanges, AreMade, IsChange, IsMade, IsOfAdd, IsOfArc, IsOfSupply, KeepsResidualArcs};

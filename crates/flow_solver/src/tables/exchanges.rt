@@ -6,8 +6,8 @@ ghost use Rattle.dimacs_text.specs.declared.problem.TheConstants.{SUPPLY_LIMIT};
 ghost use Rattle.dimacs_text.specs.declared.problem.Kind.TheVariants.{Min};
 ghost use Rattle.network.specs.Flow.{IsPotential};
 ghost use Rattle.network.specs.Instance.{kind_of, reduced, with_supply};
-ghost use Rattle.flow_solver.specs.TablesView.{IsFlow, IsRowOf, HasEnds, flow_index, supplies_in};
-ghost use Rattle.flow_solver.specs.Moment.{TellsReturn, VerdictFits, with_verdict};
+ghost use Rattle.flow_solver.specs.TablesView.{IsFlowValue, IsRowOf, HasEnds, flow_index, supplies_in};
+ghost use Rattle.flow_solver.specs.Moment.{ReturnMatches, VerdictFits, with_verdict};
 
 use super::Tables;
 use crate::answer::supply_at;
@@ -21,7 +21,7 @@ impl Tables {
     /// Exchanges the flow of an arc.
     pub fn swap_flow(&mut self, k: u32, value: &mut i64)
         requires there { (1 ≤ k) × (k ≤ length self.old.moment.instance.arcs) }
-        requires flow { IsFlow value.old }
+        requires flow { IsFlowValue value.old }
         ensures moment { self.new.moment ≡ record self.old.moment { flow = slice_set self.old.moment.flow (flow_index self.old.moment.instance.demand k) value.old } }
         ensures value { value.new ≡ slice_index_or self.old.moment.flow (flow_index self.old.moment.instance.demand k) value.old }
         ensures kept { self.new.kept ≡ self.old.kept }
@@ -68,7 +68,7 @@ impl Tables {
     /// Exchanges what is told of the instance. Where there is a return arc, its flow goes with the worth that is told.
     pub fn swap_verdict(&mut self, verdict: &mut Verdict)
         requires fits { VerdictFits self.old.moment.instance.demand verdict.old }
-        requires worth { TellsReturn self.old.moment }
+        requires worth { ReturnMatches self.old.moment }
         ensures moment { self.new.moment ≡ with_verdict self.old.moment verdict.old }
         ensures value { verdict.new ≡ self.old.moment.verdict }
         ensures kept { self.new.kept ≡ self.old.kept }
@@ -151,7 +151,7 @@ impl Tables {
     pub fn put_last(&mut self, row: ArcRow, flow: i64)
         requires room { length self.old.moment.instance.arcs < self.old.moment.instance.room }
         requires row { IsRowOf self.old.moment.instance row }
-        requires flow { IsFlow flow }
+        requires flow { IsFlowValue flow }
         ensures moment { self.new.moment ≡ record self.old.moment {
           instance = record self.old.moment.instance { arcs = self.old.moment.instance.arcs ++ row ∷ [] };
           flow = self.old.moment.flow ++ flow ∷ [];

@@ -3,7 +3,7 @@ use Rattle.std.proofs.lemmas.Int.{ints, to_z-of_z}
 use Rattle.residual_graph.specs.declared.residual.ResidualArc.{ResidualArc}
 use Rattle.augmentation.specs.Blocking.{IsWay, head_at, hops_from, hops_of}
 use Rattle.augmentation.specs.Push.{HasRoom}
-use Rattle.residual_graph.specs.Residual.{arc_at, end_at, number_at, room_of}
+use Rattle.residual_graph.specs.Residual.{row_at, end_at, number_at, room_of}
 use Rattle.shortest_paths.specs.Search.{depth_at}
 use Rattle.residual_graph.specs.Side.{seen}
 use Rattle.augmentation.proofs.BlockingLemmas.{hop_on, here_fits, more_fits}
@@ -23,7 +23,7 @@ loop-node-preserved c =
     let same : to_z w64 (of_z w64 c.room_on-room.result) ≡ c.room_on-room.result = to_z-of_z w64 c.room_on-room.result fits in
     let hop_is = c.way_on-hop.ensures in
     let at_node : c.end-node.result ≡ head_at rows back c.loop-node.node = c.end-node.ensures ∙ ap (λ (h : ResidualArc). end_at rows h.arc h.way) hop_is in
-    let below = subst (λ (h : ResidualArc). c.room_on-room.result ≤ℤ room_of (arc_at rows h.arc) (number_at x h.arc) h.way) hop_is c.room_on-room.ensures.fits in
+    let below = subst (λ (h : ResidualArc). c.room_on-room.result ≤ℤ room_of (row_at rows h.arc) (number_at x h.arc) h.way) hop_is c.room_on-room.ensures.fits in
     record {
       way = subst (λ (v : ℕ). IsWay rows x s w t v) (sym at_node) on.way;
       at_most = omega (arith, ints, c.room_on-room.ensures.at_most, known.at_most, same);
@@ -33,7 +33,7 @@ loop-node-preserved c =
       most = λ m limit room.
           (let was = known.most m limit room in
           let here = here_fits rows x s w m t c.loop-node.node on was.1 in
-          let most = c.room_on-room.ensures.most m was.0 (subst (λ (h : ResidualArc). m ≤ℤ room_of (arc_at rows h.arc) (number_at x h.arc) h.way) (sym hop_is) here.0) in
+          let most = c.room_on-room.ensures.most m was.0 (subst (λ (h : ResidualArc). m ≤ℤ room_of (row_at rows h.arc) (number_at x h.arc) h.way) (sym hop_is) here.0) in
           (omega (arith, ints, most, same), subst (λ (v : ℕ). HasRoom rows x m (hops_from rows s back t v)) (sym at_node) here.1));
     }
 

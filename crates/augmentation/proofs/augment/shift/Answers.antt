@@ -6,7 +6,7 @@ use Rattle.residual_graph.specs.declared.residual.ResidualArc.{ResidualArc}
 use Rattle.augmentation.specs.declared.blocking.Walks.{Walks}
 use Rattle.augmentation.specs.Blocking.{IsWay, back_at, head_at, hops_from, hops_of}
 use Rattle.residual_graph.specs.Rooms.{AreRooms}
-use Rattle.residual_graph.specs.Residual.{IsFlow, arc_at, end_at, number_at, room_of}
+use Rattle.residual_graph.specs.Residual.{IsPseudoflow, row_at, end_at, number_at, room_of}
 use Rattle.shortest_paths.specs.Search.{depth_at}
 use Rattle.augmentation.specs.Push.{HasRoom, push_along, moved}
 use Rattle.residual_graph.specs.Side.{seen}
@@ -42,7 +42,7 @@ shift_on-requires-clause-fits c =
     let rows = (seen c.args.levels.side c.args.levels.graph.now.rows.items) in
     let known = c.loop-node.invariant in
     let on = hop_on rows c.loop-node.flow c.args.levels.node_labels.now c.args.walks.now c.args.path.target c.loop-node.node known.flow (omega arith) known.way in
-    subst (λ (h : ResidualArc). to_z w64 (of_z w64 c.args.amount) ≤ℤ room_of (arc_at rows h.arc) (number_at c.loop-node.flow h.arc) h.way) (sym (hop_is (goal.at.shift_on-requires-clause-fits c).After-way_on-hop))
+    subst (λ (h : ResidualArc). to_z w64 (of_z w64 c.args.amount) ≤ℤ room_of (row_at rows h.arc) (number_at c.loop-node.flow h.arc) h.way) (sym (hop_is (goal.at.shift_on-requires-clause-fits c).After-way_on-hop))
     (here_fits rows c.loop-node.flow c.args.levels.node_labels.now c.args.walks.now _ c.args.path.target c.loop-node.node on known.room).0
 
 pub loop-node-init : goal.loop-node-init
@@ -85,7 +85,7 @@ loop-node-preserved c =
     let hops = hops_from rows s back t (head_at rows back v) in
     record {
       way = subst (λ (u : ℕ). IsWay rows c.shift_on.new.flow s w t u) (sym at_node) (subst (λ (y : List ℤ). IsWay rows y s w t (head_at rows back v)) (sym flow_is) step.way);
-      flow = subst (λ (y : List ℤ). IsFlow (length s) rows y) (sym flow_is) step.flow;
+      flow = subst (λ (y : List ℤ). IsPseudoflow (length s) rows y) (sym flow_is) step.flow;
       room = subst (λ (u : ℕ). HasRoom rows c.shift_on.new.flow amount (hops_from rows s back t u)) (sym at_node) (subst (λ (y : List ℤ). HasRoom rows y amount hops) (sym flow_is) step.room);
       rest = ap (λ (u : ℕ). push_along (hops_from rows s back t u) amount c.shift_on.new.flow) at_node ∙ ap (λ (y : List ℤ). push_along hops amount y) flow_is ∙ step.rest ∙ known.rest;
       noted = AreNoted-trans known.noted c.shift_on.ensures.noted;

@@ -3,7 +3,7 @@ use Rattle.std.specs.Prelude.{slice_set}
 use Rattle.std.proofs.lemmas.Int.{to_z-of_z}
 use Rattle.std.proofs.lemmas.List.{get_or-set_same}
 use Rattle.dimacs_text.specs.declared.problem.ArcRow.{ArcRow}
-use Rattle.residual_graph.specs.Residual.{IsWithin, arc_at, number_at}
+use Rattle.residual_graph.specs.Residual.{IsWithinRow, row_at, number_at}
 use Rattle.residual_graph.specs.Rooms.{AreRooms}
 use Rattle.residual_graph.specs.Side.{seen}
 use Rattle.augmentation.specs.Push.{moved}
@@ -34,10 +34,10 @@ note_room-requires-clause-within c =
     let fits : SFits w64 c.shifted.result = search rules in
     let value_is : to_z w64 (of_z w64 c.shifted.result) ≡ moved way before amount =
     to_z-of_z w64 c.shifted.result fits ∙ c.shifted.ensures ∙ ap (λ (z : ℤ). moved way z amount) (to_z-of_z w64 before flow_fits) in
-    let row = arc_at (seen c.args.levels.side c.args.levels.graph.now.rows.items) arc in
+    let row = row_at (seen c.args.levels.side c.args.levels.graph.now.rows.items) arc in
     let flow = c.requires.flow.1 in
-    let within : IsWithin row (moved way before amount) = IsWithin-moved c.requires.flow.0 row before amount way (flow.rows arc c.requires.arc_in) (flow.within arc c.requires.arc_in) (search rules) (search rules) in
-    subst (λ (z : ℤ). IsWithin c.row-row.result z) (sym (noted_is at ∙ value_is)) (subst (λ (a : ArcRow). IsWithin a (moved way before amount)) (sym c.row-row.ensures) within)
+    let within : IsWithinRow row (moved way before amount) = IsWithin-moved c.requires.flow.0 row before amount way (flow.rows arc c.requires.arc_in) (flow.within arc c.requires.arc_in) (search rules) (search rules) in
+    subst (λ (z : ℤ). IsWithinRow c.row-row.result z) (sym (noted_is at ∙ value_is)) (subst (λ (a : ArcRow). IsWithinRow a (moved way before amount)) (sym c.row-row.ensures) within)
 
 pub returns-clause-noted : goal.returns-clause-noted
 returns-clause-noted c =

@@ -1,6 +1,6 @@
 use Rattle.std.proofs.Common.{◌<◌, ℕ, arith, length, subst}
 use Rattle.residual_graph.specs.Ends.{leaving}
-use Rattle.residual_graph.specs.Residual.{arc_at}
+use Rattle.residual_graph.specs.Residual.{row_at}
 use Rattle.residual_graph.proofs.RowLemmas.{end_of-in}
 use Rattle.residual_graph.proofs.SideLemmas.{flow_of_seen}
 use Rattle.augmentation.proofs.blocking.next_place.Goals as goal
@@ -14,7 +14,7 @@ other_in c =
     let rows = c.args.levels.graph.now.rows.items in
     let flow = flow_of_seen c.args.levels.side (length c.args.levels.node_labels.now) rows c.args.flow.now c.requires.flow in
     let arc = leaving c.in-Some.end in
-    subst (λ (v : ℕ). v < length c.args.levels.node_labels.now) c.in-Some.ensures.end.ends (end_of-in (length c.args.levels.node_labels.now) (arc_at rows arc.arc) arc.way (flow.rows arc.arc c.in-Some.ensures.end.is_arc))
+    subst (λ (v : ℕ). v < length c.args.levels.node_labels.now) c.in-Some.ensures.end.ends (end_of-in (length c.args.levels.node_labels.now) (row_at rows arc.arc) arc.way (flow.rows arc.arc c.in-Some.ensures.end.is_arc))
 
 pub index-requires-in-Some : goal.index-requires-in-Some
 index-requires-in-Some c = omega (arith, other_in (goal.at.index-requires-in-Some c).In-Some, c.requires.walks.dead_sized)

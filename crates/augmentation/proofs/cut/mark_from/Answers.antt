@@ -3,7 +3,7 @@ use Rattle.std.proofs.lemmas.List.{get_or-set_same}
 use Rattle.residual_graph.specs.Ends.{leaving}
 use Rattle.residual_graph.specs.declared.residual.ResidualArc.{ResidualArc}
 use Rattle.augmentation.specs.Cut.{IsFarIn, IsGrown, far_at, in_set, near_at}
-use Rattle.residual_graph.specs.Residual.{IsResidual, arc_at}
+use Rattle.residual_graph.specs.Residual.{IsResidual, row_at}
 use Rattle.residual_graph.specs.Side.{IsLeadingAt, leading, seen}
 use Rattle.augmentation.proofs.CutLemmas.{IsGrown-put, IsGrown-refl, IsGrown-trans, far_seen, marked_in, near_seen}
 use Rattle.residual_graph.proofs.RowLemmas.{end_of-in}
@@ -60,7 +60,7 @@ loop-end-preserved c =
 other_in : (c : Then-has_room) → c.in-Some.end.other < length c.loop-end.cut
 other_in c =
     subst (λ (v : ℕ). v < length c.loop-end.cut) c.in-Some.ensures.end.ends
-    (rw c.loop-end.auto.cut (end_of-in (length c.args.cut.now) (arc_at c.args.on.graph.now.rows.items (leaving c.in-Some.end).arc) (leaving c.in-Some.end).way (c.requires.flow.rows (leaving c.in-Some.end).arc c.in-Some.ensures.end.is_arc)))
+    (rw c.loop-end.auto.cut (end_of-in (length c.args.cut.now) (row_at c.args.on.graph.now.rows.items (leaving c.in-Some.end).arc) (leaving c.in-Some.end).way (c.requires.flow.rows (leaving c.in-Some.end).arc c.in-Some.ensures.end.is_arc)))
 
 -- the node is marked
 marks : (c : Then-has_room) → IsGrown c.args.on.side c.args.on.graph.now.rows.items c.args.on.flow.now c.loop-end.cut c.loop-end.worklist c.loop-end.longer (slice_set c.loop-end.cut c.in-Some.end.other true) (slice_set c.loop-end.worklist c.loop-end.longer c.in-Some.end.other) (c.loop-end.longer + 1)

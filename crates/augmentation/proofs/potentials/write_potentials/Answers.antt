@@ -2,14 +2,14 @@ use Rattle.std.proofs.Common.{◌∙◌, ◌+ℤ◌, ℤ, List, ap, sym, subst, 
 use Rattle.std.specs.Vec.{with_items}
 use Rattle.std.proofs.lemmas.List.{with_items_is}
 use Rattle.shortest_paths.specs.declared.node_label.NodeLabel.{NodeLabel}
-use Rattle.residual_graph.specs.Residual.{IsCertified, number_at}
+use Rattle.residual_graph.specs.Residual.{IsReducedCostOptimal, number_at}
 use Rattle.shortest_paths.specs.Search.{AreLabels, distance_at}
 use Rattle.augmentation.proofs.LabelLaws.{AreShortest, label_is_number, labels_shortest}
 use Rattle.augmentation.proofs.potentials.write_potentials.Goals as goal
 use Rattle.augmentation.proofs.potentials.write_potentials.Goals.{After-find_labels, After-write_labels}
 
-certified : (c : After-find_labels) → IsCertified c.args.graph.now.rows.items c.args.flow.now.entries.items c.find_labels.new.scratch.potentials.items
-certified c = subst (λ (p : List ℤ). IsCertified c.args.graph.now.rows.items c.args.flow.now.entries.items p) (sym c.find_labels.ensures.kept) c.requires.certified
+certified : (c : After-find_labels) → IsReducedCostOptimal c.args.graph.now.rows.items c.args.flow.now.entries.items c.find_labels.new.scratch.potentials.items
+certified c = subst (λ (p : List ℤ). IsReducedCostOptimal c.args.graph.now.rows.items c.args.flow.now.entries.items p) (sym c.find_labels.ensures.kept) c.requires.certified
 
 pub write_labels-requires-clause-fits : goal.write_labels-requires-clause-fits
 write_labels-requires-clause-fits c = λ v.
@@ -19,7 +19,7 @@ write_labels-requires-clause-fits c = λ v.
     (label_is_number _ _ _ _ (certified f) c.find_labels.ensures.labels v)))
 
 -- the labels as they stand in the tracked
-shortest : (c : After-write_labels) → IsCertified c.args.graph.now.rows.items c.args.flow.now.entries.items c.find_labels.new.scratch.potentials.items → AreShortest c.args.graph.now.rows.items c.args.flow.now.entries.items (with_items c.args.potentials.now.entries c.write_labels.new.table).items
+shortest : (c : After-write_labels) → IsReducedCostOptimal c.args.graph.now.rows.items c.args.flow.now.entries.items c.find_labels.new.scratch.potentials.items → AreShortest c.args.graph.now.rows.items c.args.flow.now.entries.items (with_items c.args.potentials.now.entries c.write_labels.new.table).items
 shortest c before =
     let p = c.find_labels.new.scratch.potentials.items in
     let q = c.write_labels.new.table in

@@ -7,7 +7,7 @@ use Rattle.augmentation.specs.declared.blocking.Walks.{Walks}
 use Rattle.augmentation.specs.declared.scratch.Scratch.{Scratch}
 use Rattle.augmentation.specs.Cut.{IsParted}
 use Rattle.augmentation.specs.Push.{ArePushes, left}
-use Rattle.residual_graph.specs.Residual.{IsCertified, IsFlow}
+use Rattle.residual_graph.specs.Residual.{IsReducedCostOptimal, IsPseudoflow}
 use Rattle.augmentation.specs.Scratch.{IsScratchFor}
 use Rattle.shortest_paths.specs.Search.{HasFound}
 use Rattle.augmentation.specs.Settle.{IsNear}
@@ -92,7 +92,7 @@ keep_near-fallen-requires-clause-not_below_0 c =
 -- what the loop keeps, after potentials and excesses are turned round
 pub record IsTurned (c : After-turn_round-side-in-Some) : Type 0 where
   pub flow_written : IsWritten c.args.flow.now c.push_within-pushes.new.flow
-  pub certified : IsCertified (seen c.turn_round-side-in-Some.result c.args.graph.now.rows.items) c.push_within-pushes.new.flow.entries.items c.turn_round-side-in-Some.new.scratch.potentials.items
+  pub certified : IsReducedCostOptimal (seen c.turn_round-side-in-Some.result c.args.graph.now.rows.items) c.push_within-pushes.new.flow.entries.items c.turn_round-side-in-Some.new.scratch.potentials.items
   pub scratch : IsScratchFor (length c.turn_round-side.new.scratch.potentials.items) c.turn_round-side-in-Some.new.scratch
   pub rooms : AreRooms c.args.graph.now.rows.items c.push_within-pushes.new.flow.entries.items c.turn_round-side-in-Some.new.scratch.walks.rooms.items
   pub near : IsNear c.turn_round-side-in-Some.new.scratch.potentials.items (to_z w64 (of_z w64 c.keep_near-fallen.result))
@@ -136,7 +136,7 @@ loop-reach-preserved-in-Behind c =
     let same : after.potentials.items ≡ before.potentials.items = ap (λ (s : Scratch). s.potentials.items) kept in
     record {
       flow_written = t.flow_written;
-      certified = subst (λ (p : List ℤ). IsCertified (seen c.turn_round-side-in-Some.result c.args.graph.now.rows.items) c.push_within-pushes.new.flow.entries.items p) (sym same) t.certified;
+      certified = subst (λ (p : List ℤ). IsReducedCostOptimal (seen c.turn_round-side-in-Some.result c.args.graph.now.rows.items) c.push_within-pushes.new.flow.entries.items p) (sym same) t.certified;
       small = c.turn_round-side-in-Some.ensures.small;
       scratch = scratch_but_rooms _ before after kept t.scratch;
       rooms = c.fill_rooms.ensures.rooms;
@@ -168,8 +168,8 @@ returns-in-Behind-side-clause-certified c =
     let rows = c.args.graph.now.rows.items in
     let x = c.loop-reach.flow.entries.items in
     let turn = c.turn_round-ahead in
-    subst (λ (side : Side). IsCertified (seen side rows) x turn.new.scratch.potentials.items) (turn.ensures.other ∙ ap other_side c.in-Behind-side.is)
-    (turn.ensures.certified rows x (subst (λ (p : List ℤ). IsCertified (seen c.loop-reach.side rows) x p) (sym c.search_on.ensures.kept) c.loop-reach.invariant.certified))
+    subst (λ (side : Side). IsReducedCostOptimal (seen side rows) x turn.new.scratch.potentials.items) (turn.ensures.other ∙ ap other_side c.in-Behind-side.is)
+    (turn.ensures.certified rows x (subst (λ (p : List ℤ). IsReducedCostOptimal (seen c.loop-reach.side rows) x p) (sym c.search_on.ensures.kept) c.loop-reach.invariant.certified))
 
 pub returns-in-Behind-side-clause-parted : goal.returns-in-Behind-side-clause-parted
 returns-in-Behind-side-clause-parted c =
@@ -181,4 +181,4 @@ returns-in-Behind-side-clause-parted c =
     let ahead : turn.new.excess ≡ seen_excess c.loop-reach.side e =
     subst (λ (side : Side). seen_excess side turn.new.excess ≡ seen_excess c.loop-reach.side e) (turn.ensures.other ∙ ap other_side c.in-Behind-side.is) turn.ensures.excess in
     subst (IsParted rows x) (sym ahead)
-    (parted_seen c.loop-reach.side rows x e (subst (λ (n : ℕ). IsFlow n (seen c.loop-reach.side rows) x) sized c.loop-reach.invariant.certified.flow) c.in_default.ensures.found)
+    (parted_seen c.loop-reach.side rows x e (subst (λ (n : ℕ). IsPseudoflow n (seen c.loop-reach.side rows) x) sized c.loop-reach.invariant.certified.flow) c.in_default.ensures.found)

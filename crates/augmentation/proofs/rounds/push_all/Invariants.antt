@@ -1,5 +1,5 @@
 use Rattle.std.proofs.Common.{length}
-use Rattle.residual_graph.specs.Residual.{IsCertified}
+use Rattle.residual_graph.specs.Residual.{IsReducedCostOptimal}
 use Rattle.augmentation.specs.Push.{ArePushes, left, AreSmall}
 use Rattle.augmentation.specs.Scratch.{IsScratchFor}
 use Rattle.augmentation.specs.Settle.{IsNear}
@@ -12,7 +12,7 @@ use Rattle.augmentation.proofs.rounds.push_all.Given as goal
 abbrev pub invariant-loop-reach : goal.invariant-loop-reach
 invariant-loop-reach l = record {
   flow_written : IsWritten l.initial.flow l.flow;
-  certified : IsCertified (seen l.side l.graph.rows.items) l.flow.entries.items l.scratch.potentials.items;
+  certified : IsReducedCostOptimal (seen l.side l.graph.rows.items) l.flow.entries.items l.scratch.potentials.items;
   small : AreSmall l.excess;
   scratch : IsScratchFor (length l.initial.scratch.potentials.items) l.scratch;
   rooms : AreRooms l.graph.rows.items l.flow.entries.items l.scratch.walks.rooms.items;

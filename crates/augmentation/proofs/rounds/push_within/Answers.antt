@@ -6,7 +6,7 @@ use Rattle.shortest_paths.specs.declared.node_label.NodeLabel.{NodeLabel}
 use Rattle.augmentation.specs.Blocking.{IsWalksFor}
 use Rattle.residual_graph.specs.Limits.{potential_floor}
 use Rattle.augmentation.specs.Push.{ArePaths, IsUnderWay, CanPush}
-use Rattle.residual_graph.specs.Residual.{ArePotentials, IsFlow, NoneBelow, number_at}
+use Rattle.residual_graph.specs.Residual.{ArePotentials, IsPseudoflow, NoneBelow, number_at}
 use Rattle.shortest_paths.specs.Search.{IsFoundDeficit, IsLowered}
 use Rattle.residual_graph.specs.Rooms.{AreRooms}
 use Rattle.residual_graph.specs.Side.{seen}
@@ -63,7 +63,7 @@ push_found-pushes-requires-clause-state c =
     let rows = seen c.args.side c.args.graph.now.rows.items in
     let node_labels = c.args.scratch.now.node_labels.items in
     let state : IsUnderWay (length node_labels) rows c.lower.new.potentials c.args.flow.now.entries.items c.args.excess.now = record {
-      flow = subst (λ (n : ℕ). IsFlow n rows c.args.flow.now.entries.items) (sym c.requires.found.searched.search.sized) c.requires.certified.flow;
+      flow = subst (λ (n : ℕ). IsPseudoflow n rows c.args.flow.now.entries.items) (sym c.requires.found.searched.search.sized) c.requires.certified.flow;
       none_below = none_below a;
       excess_sized = c.requires.excess_in ∙ sym c.requires.found.searched.search.sized;
       small = c.requires.small;
@@ -125,7 +125,7 @@ returns-clause-certified c =
     let entries = (with_items c.args.scratch.now.potentials c.lower.new.potentials).items in
     let many : length c.deref-3.result.now ≡ length entries = ap (λ (s : List NodeLabel). length s) c.deref-3.ensures.value ∙ sized a ∙ sym (ap (λ (p : List ℤ). length p) (new_is a)) in
     record {
-      flow = subst (λ (x : List ℤ). IsFlow (length entries) rows x) (sym (flow_is s)) (subst (λ (n : ℕ). IsFlow n rows y) many state.flow);
+      flow = subst (λ (x : List ℤ). IsPseudoflow (length entries) rows x) (sym (flow_is s)) (subst (λ (n : ℕ). IsPseudoflow n rows y) many state.flow);
       potentials = subst (λ (p : List ℤ). ArePotentials (length p) potential_floor p) (sym (new_is a)) (within a);
       none_below = subst (λ (x : List ℤ). NoneBelow rows x entries) (sym (flow_is s)) (subst (λ (p : List ℤ). NoneBelow rows y p) (potentials_are d ∙ sym (new_is a)) state.none_below);
     }

@@ -1,12 +1,12 @@
 use Rattle.std.proofs.Common.{ap}
-use Rattle.session.specs.Step.{Refuses, Tells, state_of}
+use Rattle.session.specs.Step.{Refuses, TellsVerdict, state_of}
 use Rattle.engines.specs.Serving.{number_of}
 use Rattle.engines.proofs.ReplyLemmas.{edit_applied, edit_refused}
 use Rattle.engines.proofs.reply.apply.Goals as goal
 
 pub returns-in-Ok-clause-replies : goal.returns-in-Ok-clause-replies
 returns-in-Ok-clause-replies g c = record {
-  reply = Tells;
+  reply = TellsVerdict;
   step = edit_applied c.args.edit.now (state_of c.args.session.now) (state_of c.apply.new.self) c.in-Ok.ensures.edited c.in-Ok.ensures.advances c.in-Ok.ensures.marks;
   writes = c.write_outcome.ensures.bytes;
 }

@@ -1,5 +1,5 @@
 use Rattle.std.proofs.Common.{◌∙◌, sym, ap}
-use Rattle.session.specs.Step.{Refuses, Tells, state_of}
+use Rattle.session.specs.Step.{Refuses, TellsVerdict, state_of}
 use Rattle.engines.specs.Serving.{number_of}
 use Rattle.engines.proofs.ReplyLemmas.{group_applied, group_faulty, group_refused}
 use Rattle.engines.proofs.reply.apply_group.Goals as goal
@@ -15,7 +15,7 @@ returns-in-Some-clause-replies g c = record {
 
 pub returns-in-Ok-clause-replies : goal.returns-in-Ok-clause-replies
 returns-in-Ok-clause-replies g c = record {
-  reply = Tells;
+  reply = TellsVerdict;
   step = group_applied c.args.group.now (state_of c.args.session.now) (state_of c.apply_group.new.self) (sym c.fault.ensures ∙ c.in-None.is)
       (rw (c.edits-in-None.ensures.edits) at c.in-Ok.ensures.edited) c.in-Ok.ensures.advances c.in-Ok.ensures.marks;
   writes = c.write_outcome.ensures.bytes;

@@ -1,12 +1,12 @@
 use Rattle.std.proofs.Common.{ap}
 use Rattle.session.specs.Marks.{has_place}
-use Rattle.session.specs.Step.{Refuses, Tells, state_of}
+use Rattle.session.specs.Step.{Refuses, TellsVerdict, state_of}
 use Rattle.engines.proofs.ReplyLemmas.{mark_put, mark_refused}
 use Rattle.engines.proofs.reply.mark.Goals as goal
 
 pub returns-in-Ok-clause-replies : goal.returns-in-Ok-clause-replies
 returns-in-Ok-clause-replies g c = record {
-  reply = Tells;
+  reply = TellsVerdict;
   step = mark_put (has_place c.args.session.now.marks c.args.name.now) c.args.name.now c.args.session.now c.mark.new.self c.in-Ok.ensures.answer c.in-Ok.ensures.marked;
   writes = c.write_outcome.ensures.bytes;
 }

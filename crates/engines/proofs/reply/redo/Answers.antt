@@ -1,11 +1,11 @@
 use Rattle.std.proofs.Common.{ap}
-use Rattle.session.specs.Step.{Refuses, Tells, state_of}
+use Rattle.session.specs.Step.{Refuses, TellsVerdict, state_of}
 use Rattle.engines.proofs.ReplyLemmas.{none_there, redo_done, redo_refused}
 use Rattle.engines.proofs.reply.redo.Goals as goal
 
 pub returns-then-redo-clause-replies : goal.returns-then-redo-clause-replies
 returns-then-redo-clause-replies g c = record {
-  reply = Tells;
+  reply = TellsVerdict;
   step = redo_done (state_of c.args.session.now) (state_of c.redo.new.self) c.if-redo.ensures.redone c.redo.ensures.marks;
   writes = c.write_outcome.ensures.bytes;
 }

@@ -1,11 +1,11 @@
 use Rattle.std.proofs.Common.{ap}
-use Rattle.session.specs.Step.{Refuses, Tells, state_of}
+use Rattle.session.specs.Step.{Refuses, TellsVerdict, state_of}
 use Rattle.engines.proofs.ReplyLemmas.{none_there, undo_done, undo_refused}
 use Rattle.engines.proofs.reply.undo.Goals as goal
 
 pub returns-then-undo-clause-replies : goal.returns-then-undo-clause-replies
 returns-then-undo-clause-replies g c = record {
-  reply = Tells;
+  reply = TellsVerdict;
   step = undo_done (state_of c.args.session.now) (state_of c.undo.new.self) c.if-undo.ensures.undone c.undo.ensures.marks;
   writes = c.write_outcome.ensures.bytes;
 }

@@ -1,7 +1,7 @@
 use Rattle.std.proofs.Common.{◌≡◌, ◌∙◌, ℤ, List, pos, ◌<◌, length, arith, subst, sym, slice_index_or, slice_set, w64, SFits, rules, to_z, of_z}
 use Rattle.std.proofs.lemmas.Int.{to_z-of_z}
 use Rattle.std.proofs.lemmas.List.{get_or_default}
-use Rattle.residual_graph.specs.Residual.{arc_at, number_at}
+use Rattle.residual_graph.specs.Residual.{row_at, number_at}
 use Rattle.flow_solver.specs.Balance.{IsCarried, IsWrappedExcess}
 use Rattle.flow_solver.proofs.BalanceLemmas.{excess_step, part_step, part_past, part_ends}
 use Rattle.flow_solver.proofs.balance.carry_back.Goals as goal
@@ -25,9 +25,9 @@ loop-j-preserved c =
           let kept_fits : SFits w64 w.index-then-k-rows.result.now = search rules in
           let entry : to_z w64 (of_z w64 w.index.result.now) ≡ number_at entries place = to_z-of_z w64 w.index.result.now entry_fits ∙ w.index.ensures ∙ get_or_default entries place w.index.result.now (pos 0) (omega (arith, c.requires.as_many)) in
           let was : to_z w64 (of_z w64 w.index-then-k-rows.result.now) ≡ number_at kept place = to_z-of_z w64 w.index-then-k-rows.result.now kept_fits ∙ w.index-then-k-rows.ensures ∙ get_or_default kept place w.index-then-k-rows.result.now (pos 0) (omega (arith, c.requires.as_many, c.requires.tracked.same_length)) in
-          let carried : IsCarried (arc_at rows place) (number_at entries place) (number_at kept place) c.loop-j.excess w.carry_over.new.excess =
-          subst (λ (m : ℤ). IsCarried (arc_at rows place) (number_at entries place) m c.loop-j.excess w.carry_over.new.excess) was
-          (subst (λ (m : ℤ). IsCarried (arc_at rows place) m (to_z w64 (of_z w64 w.index-then-k-rows.result.now)) c.loop-j.excess w.carry_over.new.excess) entry w.carry_over.ensures) in (
+          let carried : IsCarried (row_at rows place) (number_at entries place) (number_at kept place) c.loop-j.excess w.carry_over.new.excess =
+          subst (λ (m : ℤ). IsCarried (row_at rows place) (number_at entries place) m c.loop-j.excess w.carry_over.new.excess) was
+          (subst (λ (m : ℤ). IsCarried (row_at rows place) m (to_z w64 (of_z w64 w.index-then-k-rows.result.now)) c.loop-j.excess w.carry_over.new.excess) entry w.carry_over.ensures) in (
             next,
             part_step places entries kept c.loop-j.j z (omega arith) apart part (omega (arith, c.requires.as_many)),
             λ supply is. subst (λ (e : List ℤ). IsWrappedExcess rows supply next e) (sym w.excess-is)

@@ -2,7 +2,7 @@ use Rattle.std.proofs.Common.{◌≡◌, ◌∙◌, ◌-ℤ◌, ◌*ℤ◌, ◌+
 use Rattle.std.specs.Int.{int_wrap, w128}
 use Rattle.std.proofs.lemmas.Int.{to_z-of_z}
 use Rattle.std.proofs.lemmas.List.{get_or_default}
-use Rattle.residual_graph.specs.Residual.{arc_at, number_at}
+use Rattle.residual_graph.specs.Residual.{row_at, number_at}
 use Rattle.flow_solver.specs.Balance.{IsWrappedCost}
 use Rattle.flow_solver.proofs.BalanceLemmas.{cost_step, part_step, part_past, part_ends}
 use Rattle.flow_solver.proofs.balance.cost_now.Goals as goal
@@ -21,11 +21,11 @@ loop-j-preserved c =
           let place_in : slice_index_or places c.loop-j.j 0 < length c.args.rows.now = w.if-k-rows.true in
           let entry_fits : SFits w64 w.index-then-k-rows.result.now = search rules in
           let kept_fits : SFits w64 w.index.result.now = search rules in
-          let cost_fits : SFits w64 (arc_at c.args.rows.now place).cost = search rules in
+          let cost_fits : SFits w64 (row_at c.args.rows.now place).cost = search rules in
           let entry : to_z w64 (of_z w64 w.index-then-k-rows.result.now) ≡ number_at entries place = to_z-of_z w64 w.index-then-k-rows.result.now entry_fits ∙ w.index-then-k-rows.ensures ∙ get_or_default entries place w.index-then-k-rows.result.now (pos 0) (omega (arith, c.requires.as_many)) in
           let was : to_z w64 (of_z w64 w.index.result.now) ≡ number_at kept place = to_z-of_z w64 w.index.result.now kept_fits ∙ w.index.ensures ∙ get_or_default kept place w.index.result.now (pos 0) (omega (arith, c.requires.as_many, c.requires.tracked.same_length)) in
-          let price : to_z w64 (of_z w64 (arc_at c.args.rows.now place).cost) ≡ (arc_at c.args.rows.now place).cost = to_z-of_z w64 (arc_at c.args.rows.now place).cost cost_fits in
-          let result_is : to_z w128 c.if-k-rows.now-bits ≡ int_wrap w128 (to_z w128 c.loop-j.now-bits +ℤ (number_at entries place -ℤ number_at kept place) *ℤ (arc_at c.args.rows.now place).cost) =
+          let price : to_z w64 (of_z w64 (row_at c.args.rows.now place).cost) ≡ (row_at c.args.rows.now place).cost = to_z-of_z w64 (row_at c.args.rows.now place).cost cost_fits in
+          let result_is : to_z w128 c.if-k-rows.now-bits ≡ int_wrap w128 (to_z w128 c.loop-j.now-bits +ℤ (number_at entries place -ℤ number_at kept place) *ℤ (row_at c.args.rows.now place).cost) =
           w.now-is ∙ to_z-of_z w128 w.reprice-now.result (record { sfits = w.reprice-now.type_inv }) ∙ w.reprice-now.ensures
           ∙ (λ i. int_wrap w128 (to_z w128 c.loop-j.now-bits +ℤ (entry i -ℤ was i) *ℤ price i)) in (
             slice_set z (slice_index_or places c.loop-j.j 0) (number_at entries (slice_index_or places c.loop-j.j 0)),

@@ -4,7 +4,7 @@ use Rattle.residual_graph.specs.declared.residual.ResidualArc.{ResidualArc}
 use Rattle.residual_graph.specs.declared.residual.Way.{Way}
 use Rattle.shortest_paths.specs.declared.node_label.State.TheVariants.{Settled}
 use Rattle.shortest_paths.specs.Labels.{IsNoDearer, Opens}
-use Rattle.residual_graph.specs.Residual.{arc_at, other_way, turned}
+use Rattle.residual_graph.specs.Residual.{row_at, other_way, turned}
 use Rattle.shortest_paths.specs.Search.{state_at}
 use Rattle.residual_graph.specs.Side.{IsLeadingAt, leading, seen}
 use Rattle.residual_graph.proofs.EndLemmas.{starts_other}
@@ -48,7 +48,7 @@ loop-end-preserved c =
 other_in : (c : In-Some) → c.in-Some.end.other < length c.args.node_labels.now
 other_in c =
     subst (λ (v : ℕ). v < length c.args.node_labels.now) (leads_on c).ends
-    (rw c.requires.forest.known.sized (end_of-in (length c.args.residual.potentials.now) (arc_at (seen c.args.residual.side c.args.residual.graph.now.rows.items) (leading c.args.residual.side c.in-Some.end).arc) (leading c.args.residual.side c.in-Some.end).way (c.args.residual.certified.flow.rows (leading c.args.residual.side c.in-Some.end).arc (leads_on c).is_arc)))
+    (rw c.requires.forest.known.sized (end_of-in (length c.args.residual.potentials.now) (row_at (seen c.args.residual.side c.args.residual.graph.now.rows.items) (leading c.args.residual.side c.in-Some.end).arc) (leading c.args.residual.side c.in-Some.end).way (c.args.residual.certified.flow.rows (leading c.args.residual.side c.in-Some.end).arc (leads_on c).is_arc)))
 
 pub offset_bounds-node_labels-end : goal.offset_bounds-node_labels-end
 offset_bounds-node_labels-end c = omega (arith, other_in (goal.at.offset_bounds-node_labels-end c).In-Some, c.requires.forest.known.sized, c.args.residual.certified.flow.few_nodes)

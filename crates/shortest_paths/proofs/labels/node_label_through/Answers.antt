@@ -2,7 +2,7 @@ use Rattle.std.proofs.Common.{◌≡◌, ◌∙◌, ◌+◌, ◌+ℤ◌, ◌-ℤ
 use Rattle.std.proofs.lemmas.Int.{ints, to_z-of_z}
 use Rattle.dimacs_text.specs.declared.problem.ArcRow.{ArcRow}
 use Rattle.shortest_paths.specs.declared.node_label.State.TheVariants.{Settled}
-use Rattle.residual_graph.specs.Residual.{arc_at, cost_of, end_at, end_of, number_at, room_of, start_at, start_of}
+use Rattle.residual_graph.specs.Residual.{row_at, cost_of, end_at, end_of, number_at, room_of, start_at, start_of}
 use Rattle.shortest_paths.specs.Search.{state_at, distance_at, depth_at, reduced_at}
 use Rattle.residual_graph.specs.Side.{seen}
 use Rattle.residual_graph.proofs.RowLemmas.{cost_of-bounds, start_of-in}
@@ -22,10 +22,10 @@ pub room-requires : goal.room-requires
 room-requires c =
     rw (c.row-row.ensures, flow_fits c.args.arc.arc c.args.residual.certified c.requires.arc_in) (room_fits _ _ _ c.args.arc.way (c.args.residual.certified.flow.rows c.args.arc.arc c.requires.arc_in) (c.args.residual.certified.flow.within c.args.arc.arc c.requires.arc_in))
 
-room_is : (c : After-room) → c.room.result ≡ room_of (arc_at (seen c.args.residual.side c.args.residual.graph.now.rows.items) c.args.arc.arc) (number_at c.args.residual.flow.now c.args.arc.arc) c.args.arc.way
+room_is : (c : After-room) → c.room.result ≡ room_of (row_at (seen c.args.residual.side c.args.residual.graph.now.rows.items) c.args.arc.arc) (number_at c.args.residual.flow.now c.args.arc.arc) c.args.arc.way
 room_is c =
     c.room.ensures ∙ ap (λ (a : ArcRow). room_of a (to_z w64 (of_z w64 (number_at c.args.residual.flow.now c.args.arc.arc))) c.args.arc.way) c.row-row.ensures
-    ∙ ap (λ (x : ℤ). room_of (arc_at (seen c.args.residual.side c.args.residual.graph.now.rows.items) c.args.arc.arc) x c.args.arc.way) (flow_fits c.args.arc.arc c.args.residual.certified c.requires.arc_in)
+    ∙ ap (λ (x : ℤ). room_of (row_at (seen c.args.residual.side c.args.residual.graph.now.rows.items) c.args.arc.arc) x c.args.arc.way) (flow_fits c.args.arc.arc c.args.residual.certified c.requires.arc_in)
 
 pub returns-then-room-le0-clause-none : goal.returns-then-room-le0-clause-none
 returns-then-room-le0-clause-none c = λ none hop.
@@ -83,7 +83,7 @@ record FitBound (distance potential : ℤ) : Type 0 where
 fit_bound : (c : After-distance_through-distance) → distance_at c.args.node_labels.now (start_at (seen c.args.residual.side c.args.residual.graph.now.rows.items) c.args.arc.arc c.args.arc.way) ≡ pos 0 → FitBound c.distance_through-distance.result (number_at c.args.residual.potentials.now c.args.v)
 fit_bound c start_0 =
     let row = c.args.residual.certified.flow.rows c.args.arc.arc c.requires.arc_in in
-    let bounds = cost_of-bounds _ (arc_at (seen c.args.residual.side c.args.residual.graph.now.rows.items) c.args.arc.arc) c.args.arc.way row in
+    let bounds = cost_of-bounds _ (row_at (seen c.args.residual.side c.args.residual.graph.now.rows.items) c.args.arc.arc) c.args.arc.way row in
     let p = c.args.residual.certified.potentials in
     let start = start_at (seen c.args.residual.side c.args.residual.graph.now.rows.items) c.args.arc.arc c.args.arc.way in
     let end = end_at (seen c.args.residual.side c.args.residual.graph.now.rows.items) c.args.arc.arc c.args.arc.way in

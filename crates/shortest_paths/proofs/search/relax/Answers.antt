@@ -2,7 +2,7 @@ use Rattle.std.proofs.Common.{◌≡◌, ◌∙◌, ℕ, ℤ, ◌<◌, ◌+ℤ�
 use Rattle.std.specs.Prelude.{◌↔◌}
 use Rattle.std.proofs.lemmas.Int.{ints, to_z-of_z}
 use Rattle.residual_graph.specs.declared.residual.ResidualArc.{ResidualArc}
-use Rattle.residual_graph.specs.Residual.{IsResidual, arc_at, number_at, start_at}
+use Rattle.residual_graph.specs.Residual.{IsResidual, row_at, number_at, start_at}
 use Rattle.shortest_paths.specs.Search.{Takes, distance_at, node_label_at, reduced_at}
 use Rattle.residual_graph.specs.Side.{leading, seen}
 use Rattle.shortest_paths.proofs.SearchLemmas.{LastBounds, last_bounds, relaxed_already}
@@ -13,7 +13,7 @@ use Rattle.shortest_paths.proofs.search.relax.Goals.{After-distance_beyond-dista
 
 other_in : (c : Start) → c.args.end.other < length c.args.node_labels.now
 other_in c =
-    rw (← c.requires.end.ends, c.requires.search.sized) (end_of-in (length c.args.residual.potentials.now) (arc_at (seen c.args.residual.side c.args.residual.graph.now.rows.items) (leading c.args.residual.side c.args.end).arc) (leading c.args.residual.side c.args.end).way (c.args.residual.certified.flow.rows (leading c.args.residual.side c.args.end).arc c.requires.end.is_arc))
+    rw (← c.requires.end.ends, c.requires.search.sized) (end_of-in (length c.args.residual.potentials.now) (row_at (seen c.args.residual.side c.args.residual.graph.now.rows.items) (leading c.args.residual.side c.args.end).arc) (leading c.args.residual.side c.args.end).way (c.args.residual.certified.flow.rows (leading c.args.residual.side c.args.end).arc c.requires.end.is_arc))
 
 bounds : (c : Start) → LastBounds c.args.node_labels.now (start_at (seen c.args.residual.side c.args.residual.graph.now.rows.items) (leading c.args.residual.side c.args.end).arc (leading c.args.residual.side c.args.end).way)
 bounds c = last_bounds c.args.residual.certified c.requires.search c.requires.last

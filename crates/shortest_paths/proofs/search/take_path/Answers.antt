@@ -4,7 +4,7 @@ use Rattle.shortest_paths.specs.declared.node_label.NodeLabel.{NodeLabel}
 use Rattle.shortest_paths.specs.declared.node_label.State.TheVariants.{Open}
 use Rattle.residual_graph.specs.declared.residual.ResidualArc.{ResidualArc}
 use Rattle.residual_graph.specs.Limits.{entry_limit}
-use Rattle.residual_graph.specs.Residual.{arc_at, number_at, start_at}
+use Rattle.residual_graph.specs.Residual.{row_at, number_at, start_at}
 use Rattle.shortest_paths.specs.Search.{IsSearch, Improves, IsRelaxed, depth_at, distance_at}
 use Rattle.residual_graph.specs.Side.{leading, seen}
 use Rattle.shortest_paths.proofs.SearchLemmas.{IsStep, IsStep-put, last_bounds, word_sum}
@@ -14,7 +14,7 @@ use Rattle.shortest_paths.proofs.search.take_path.Goals.{After-leading-arc, Star
 
 other_in : (c : Start) → c.args.end.other < length c.args.node_labels.now
 other_in c =
-    rw (← c.requires.end.ends, c.requires.search.sized) (end_of-in (length c.args.residual.potentials.now) (arc_at (seen c.args.residual.side c.args.residual.graph.now.rows.items) (leading c.args.residual.side c.args.end).arc) (leading c.args.residual.side c.args.end).way (c.args.residual.certified.flow.rows (leading c.args.residual.side c.args.end).arc c.requires.end.is_arc))
+    rw (← c.requires.end.ends, c.requires.search.sized) (end_of-in (length c.args.residual.potentials.now) (row_at (seen c.args.residual.side c.args.residual.graph.now.rows.items) (leading c.args.residual.side c.args.end).arc) (leading c.args.residual.side c.args.end).way (c.args.residual.certified.flow.rows (leading c.args.residual.side c.args.end).arc c.requires.end.is_arc))
 
 pub overflow_add-depth : goal.overflow_add-depth
 overflow_add-depth c =
@@ -46,7 +46,7 @@ fit_bound c =
     let a = leading c.args.residual.side c.args.end in
     let start = start_at rows a.arc a.way in
     let p = c.args.residual.certified.potentials in
-    let bounds = cost_of-bounds _ (arc_at rows a.arc) a.way (c.args.residual.certified.flow.rows a.arc c.requires.end.is_arc) in
+    let bounds = cost_of-bounds _ (row_at rows a.arc) a.way (c.args.residual.certified.flow.rows a.arc c.requires.end.is_arc) in
     let last = last_bounds c.args.residual.certified c.requires.search c.requires.last in
     record {
       distance_fits = c.ranges.distance;

@@ -1,5 +1,5 @@
 use Rattle.std.proofs.Common.{◌≡◌, [], ◌∷◌, ◌++◌, Some, refl, sym, ap, ◌∙◌, arith}
-use Rattle.dimacs_text.specs.Problem.{Told, fault_of, is_named, node_of}
+use Rattle.dimacs_text.specs.Problem.{Parsed, fault_of, is_named, node_of}
 use Rattle.dimacs_text.specs.Lawful.{MarksFit}
 use Rattle.dimacs_text.proofs.RowLemmas.{read_mark-ok, new_marks_are}
 use Rattle.dimacs_text.proofs.SoundLemmas.{sized, sound_mark}
@@ -13,21 +13,21 @@ overflow_sub-node c =
 pub index_mut-requires : goal.index_mut-requires
 index_mut-requires c =
     let read = read_mark-ok c.args.self.now c.args.fields c.in_ok-mark.mark (sym c.in_ok-mark.ensures) in
-    let size_is : c.self.inside.size ≡ Some read.size = ap (λ (t : Told). t.size) c.self.view_is ∙ read.size_is in
+    let size_is : c.self.inside.size ≡ Some read.size = ap (λ (t : Parsed). t.size) c.self.view_is ∙ read.size_is in
     let before = sized _ read.size _ _ _ size_is c.self.invariant in
     omega (arith, c.node.ensures, read.read.lawful.node.0, read.read.lawful.node.1, before.flagged.len, c.self.inside.named.ok)
 
 pub invariant_of-self-2 : goal.invariant_of-self-2
 invariant_of-self-2 c =
     let read = read_mark-ok c.args.self.now c.args.fields c.in_ok-mark.mark (sym c.in_ok-mark.ensures) in
-    let size_is : c.self.inside.size ≡ Some read.size = ap (λ (t : Told). t.size) c.self.view_is ∙ read.size_is in
-    let fresh = ap (λ (t : Told). is_named (node_of c.in_ok-mark.mark) t.marks) c.self.view_is ∙ read.read.fresh in
-    let no_rows = ap (λ (t : Told). t.rows) c.self.view_is ∙ read.no_rows in
-    let fits : MarksFit read.size.kind c.self.inside.marks.items → MarksFit read.size.kind (c.self.inside.marks.items ++ c.in_ok-mark.mark ∷ []) = rw (ap (λ (t : Told). t.marks) c.self.view_is) read.read.fits in
+    let size_is : c.self.inside.size ≡ Some read.size = ap (λ (t : Parsed). t.size) c.self.view_is ∙ read.size_is in
+    let fresh = ap (λ (t : Parsed). is_named (node_of c.in_ok-mark.mark) t.marks) c.self.view_is ∙ read.read.fresh in
+    let no_rows = ap (λ (t : Parsed). t.rows) c.self.view_is ∙ read.no_rows in
+    let fits : MarksFit read.size.kind c.self.inside.marks.items → MarksFit read.size.kind (c.self.inside.marks.items ++ c.in_ok-mark.mark ∷ []) = rw (ap (λ (t : Parsed). t.marks) c.self.view_is) read.read.fits in
     rw (c.in_ok-push.ensures.items, c.node.ensures) (sound_mark _ read.size _ _ _ c.in_ok-mark.mark size_is c.self.invariant no_rows read.read.lawful fits fresh)
 
 pub returns : goal.returns
 returns c =
     let read = read_mark-ok c.args.self.now c.args.fields c.in_ok-mark.mark (sym c.in_ok-mark.ensures) in
-    let size_is : c.self.inside.size ≡ Some read.size = ap (λ (t : Told). t.size) c.self.view_is ∙ read.size_is in
+    let size_is : c.self.inside.size ≡ Some read.size = ap (λ (t : Parsed). t.size) c.self.view_is ∙ read.size_is in
     (ap fault_of (sym c.in_ok-mark.ensures), rw (← c.self.view_is, c.in_ok-push.ensures.items, new_marks_are c.self.inside.size read.size c.args.fields c.in_ok-mark.mark size_is read.read.mark_is) refl)

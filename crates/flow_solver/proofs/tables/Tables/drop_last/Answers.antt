@@ -6,7 +6,7 @@ use Rattle.std.proofs.lemmas.List.{get_or_default, length-append, with_items_is}
 use Rattle.dimacs_text.specs.declared.problem.ArcRow.{ArcRow}
 use Rattle.network.specs.Instance.{Instance}
 use Rattle.flow_solver.specs.TablesView.{TablesView}
-use Rattle.residual_graph.specs.Residual.{arc_at, number_at}
+use Rattle.residual_graph.specs.Residual.{row_at, number_at}
 use Rattle.residual_graph.specs.Star.{Covers}
 use Rattle.augmentation.specs.Tracked.{kept_in}
 use Rattle.flow_solver.proofs.CarryLemmas.{arcs_in, balance_dropped, carried_as, ends_in}
@@ -28,7 +28,7 @@ carry_over-requires-clause-tail_in c =
     let t = c.self.inside in
     let there = last_place (goal.at.carry_over-requires-clause-tail_in c).After-len-last in
     let ends = ends_in t.graph.net t.graph.rows.items t.balance c.self.invariant.graph.rows.lawful c.self.invariant.graph.rows.rows_are c.self.invariant.balance_is.sized (c.len-last.result - 1) there in
-    let row : c.index.result.now ≡ arc_at t.graph.rows.items (c.len-last.result - 1) = c.index.ensures ∙ get_or_default t.graph.rows.items (c.len-last.result - 1) c.index.result.now _ there in
+    let row : c.index.result.now ≡ row_at t.graph.rows.items (c.len-last.result - 1) = c.index.ensures ∙ get_or_default t.graph.rows.items (c.len-last.result - 1) c.index.result.now _ there in
     omega (arith, ends.0, ap (λ a. a.tail) row, ap length c.deref_mut.ensures.value)
 
 pub carry_over-requires-clause-head_in : goal.carry_over-requires-clause-head_in
@@ -36,7 +36,7 @@ carry_over-requires-clause-head_in c =
     let t = c.self.inside in
     let there = last_place (goal.at.carry_over-requires-clause-head_in c).After-len-last in
     let ends = ends_in t.graph.net t.graph.rows.items t.balance c.self.invariant.graph.rows.lawful c.self.invariant.graph.rows.rows_are c.self.invariant.balance_is.sized (c.len-last.result - 1) there in
-    let row : c.index.result.now ≡ arc_at t.graph.rows.items (c.len-last.result - 1) = c.index.ensures ∙ get_or_default t.graph.rows.items (c.len-last.result - 1) c.index.result.now _ there in
+    let row : c.index.result.now ≡ row_at t.graph.rows.items (c.len-last.result - 1) = c.index.ensures ∙ get_or_default t.graph.rows.items (c.len-last.result - 1) c.index.result.now _ there in
     omega (arith, ends.1, ap (λ a. a.head) row, ap length c.deref_mut.ensures.value)
 
 pub invariant_of-self : goal.invariant_of-self
@@ -52,20 +52,20 @@ invariant_of-self c =
     let last = c.len-last.result - 1 in
     let there = last_place (goal.at.invariant_of-self c).After-len-last in
     let many : c.len-last.result ≡ length c.self.inside.graph.rows.items = search rules in
-    let row : c.index.result.now ≡ arc_at t.graph.rows.items last = c.index.ensures ∙ get_or_default t.graph.rows.items last c.index.result.now _ there in
+    let row : c.index.result.now ≡ row_at t.graph.rows.items last = c.index.ensures ∙ get_or_default t.graph.rows.items last c.index.result.now _ there in
     let entry_fits : SFits w64 c.index-2.result.now = search rules in
     let kept_fits : SFits w64 c.index-3.result.now = search rules in
     let price_fits : SFits w64 c.index.result.now.cost = search rules in
     let old_fits : SFits w128 c.self.inside.balance.cost = search rules in
     let entry : to_z w64 (of_z w64 c.index-2.result.now) ≡ number_at t.flow.entries.items last = to_z-of_z w64 c.index-2.result.now entry_fits ∙ c.index-2.ensures ∙ get_or_default t.flow.entries.items last c.index-2.result.now (pos 0) (omega (arith, there, inv.flow_in)) in
     let was : to_z w64 (of_z w64 c.index-3.result.now) ≡ number_at t.flow.kept.items last = to_z-of_z w64 c.index-3.result.now kept_fits ∙ c.index-3.ensures ∙ get_or_default t.flow.kept.items last c.index-3.result.now (pos 0) (omega (arith, there, inv.flow_in, inv.flow_tracked.same_length)) in
-    let price : to_z w64 (of_z w64 c.index.result.now.cost) ≡ (arc_at t.graph.rows.items last).cost = to_z-of_z w64 c.index.result.now.cost price_fits ∙ ap (λ a. a.cost) row in
+    let price : to_z w64 (of_z w64 c.index.result.now.cost) ≡ (row_at t.graph.rows.items last).cost = to_z-of_z w64 c.index.result.now.cost price_fits ∙ ap (λ a. a.cost) row in
     let old = to_z-of_z w128 t.balance.cost old_fits in
-    let cost : to_z w128 (of_z w128 c.reprice-self-inside.result) ≡ int_wrap w128 (t.balance.cost +ℤ (pos 0 -ℤ number_at t.flow.kept.items last) *ℤ (arc_at t.graph.rows.items last).cost) =
+    let cost : to_z w128 (of_z w128 c.reprice-self-inside.result) ≡ int_wrap w128 (t.balance.cost +ℤ (pos 0 -ℤ number_at t.flow.kept.items last) *ℤ (row_at t.graph.rows.items last).cost) =
     to_z-of_z w128 c.reprice-self-inside.result (record { sfits = c.reprice-self-inside.type_inv }) ∙ c.reprice-self-inside.ensures ∙ (λ i. int_wrap w128 (old i +ℤ (pos 0 -ℤ was i) *ℤ price i)) in
     let now = record t.balance { excess = with_items t.balance.excess c.carry_over.new.excess; cost = to_z w128 (of_z w128 c.reprice-self-inside.result) } in
     let excess = with_items_is t.balance.excess c.carry_over.new.excess (c.carry_over.auto.excess ∙ c.deref_mut.ensures.len) in
-    let carried = carried_as (arc_at t.graph.rows.items last) _ (number_at t.flow.entries.items last) _ (pos 0) _ t.balance.excess.items _ now.excess.items _ row entry refl c.deref_mut.ensures.value (sym excess) c.carry_over.ensures in
+    let carried = carried_as (row_at t.graph.rows.items last) _ (number_at t.flow.entries.items last) _ (pos 0) _ t.balance.excess.items _ now.excess.items _ row entry refl c.deref_mut.ensures.value (sym excess) c.carry_over.ensures in
     let balance = balance_dropped I J t.graph.rows.items c.drop_row-row.new.rows.items t.flow c.pop-flow.new.self t.balance now c.drop_row-row.result c.pop-flow.result last
     inv.graph.rows.rows_are c.drop_row-row.ensures.rows.rows_are c.drop_row-row.ensures.net c.pop-flow.ensures.tracked inv.flow_in (inv.flow_tracked.same_length ∙ inv.flow_in) c.pop-flow.ensures.entries c.pop-flow.ensures.whole
     (ap (λ (n : ℕ). n - 1) many) carried cost inv.balance_is in

@@ -2,7 +2,7 @@ use Rattle.std.proofs.Common.{◌≡◌, ◌∙◌, ◌≤◌, ℕ, ℤ, List, S
 use Rattle.dimacs_text.specs.Lawful.{IsLawfulRow}
 use Rattle.network.specs.Flow.{reduced_cost}
 use Rattle.network.specs.Instance.{arc_at, at_node, reduced}
-use Rattle.residual_graph.specs.Residual.{arc_at as row_at}
+use Rattle.residual_graph.specs.Residual.{row_at}
 use Rattle.flow_solver.specs.TablesView.{TablesView, flow_index}
 use Rattle.flow_solver.proofs.StandingLemmas.{arc_lawful, arc_placed, arc_there}
 use Rattle.flow_solver.proofs.tables.Tables.is_tight.Goals as goal

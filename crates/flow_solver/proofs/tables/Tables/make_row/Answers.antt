@@ -2,7 +2,7 @@ use Rattle.std.proofs.Common.{◌≡◌, ◌∙◌, ◌-◌, ℤ, List, pos, tru
 use Rattle.std.proofs.lemmas.Int.{to_z-of_z}
 use Rattle.network.specs.Flow.{IsCertifiedFlow, reduced_cost}
 use Rattle.network.specs.Instance.{IsLawful, at_node, reduced}
-use Rattle.residual_graph.specs.Residual.{arc_at, number_at}
+use Rattle.residual_graph.specs.Residual.{row_at, number_at}
 use Rattle.flow_solver.specs.TablesView.{TablesView, flow_index}
 use Rattle.flow_solver.specs.Answer.{AreGreatestPotentials}
 use Rattle.flow_solver.specs.Edit.{IsMade, IsNearest, IsRowEdit, KeepsResidualArcs}
@@ -57,7 +57,7 @@ invariant_of-self c =
     elim c.if-self.branch [
       | then-self w ↦ subst (λ (n : Moment). AreGreatestPotentials (reduced n.instance) n.flow (at_node n.potentials)) (sym now)
           (greatest_changed m.instance c.edited_row-k.result.0 c.edited_row-k.result.1 (at_node m.potentials) m.flow (after s) (edit_is s).arc (edit_is s).tail (edit_is s).head
-          (λ tight. subst (λ (y : ℤ). KeepsResidualArcs (arc_at (reduced m.instance).arcs (flow_index m.instance.demand c.edited_row-k.result.0)) (number_at m.flow (flow_index m.instance.demand c.edited_row-k.result.0)) c.edited_row-k.result.1 y)
+          (λ tight. subst (λ (y : ℤ). KeepsResidualArcs (row_at (reduced m.instance).arcs (flow_index m.instance.demand c.edited_row-k.result.0)) (number_at m.flow (flow_index m.instance.demand c.edited_row-k.result.0)) c.edited_row-k.result.1 y)
           (to_z-of_z w64 (after s) after_fits) (w.keeps_greatest-stands.ensures (sym w.stands-is ∙ stands) tight)) c.requires.certified
           (subst (λ (b : TablesView). AreGreatestPotentials (reduced b.moment.instance) b.moment.flow (at_node b.moment.potentials)) c.self.view_is (c.self.invariant.standing w.if-self.true)))
       | else-self w ↦ (let wrong : false ≡ true = sym w.if-self.false ∙ sym w.stands-is ∙ stands in cc)

@@ -8,7 +8,7 @@ use Rattle.network.specs.Instance.{at_node, reduced}
 use Rattle.network.proofs.Reduction.{reduced_ends}
 use Rattle.augmentation.specs.Limits.{cap_sum_limit}
 use Rattle.residual_graph.specs.Limits.{entry_limit}
-use Rattle.residual_graph.specs.Residual.{IsCertified}
+use Rattle.residual_graph.specs.Residual.{IsReducedCostOptimal}
 use Rattle.augmentation.specs.Push.{AreSmall, IsExcess, Pushes, cap_total, left}
 use Rattle.augmentation.specs.Cut.{lack}
 use Rattle.flow_solver.specs.Balance.{IsBalanceOf, IsWrappedCost, IsWrappedExcess}
@@ -26,7 +26,7 @@ use Rattle.flow_solver.proofs.tables.Tables.settle.Goals.{After-settle-pushes, A
 
 pub settle-pushes-requires-clause-certified : goal.settle-pushes-requires-clause-certified
 settle-pushes-requires-clause-certified c =
-    subst (λ (r : List ArcRow). IsCertified r c.self.inside.flow.entries.items c.self.inside.potentials.entries.items) (sym c.self.invariant.graph.rows.rows_are)
+    subst (λ (r : List ArcRow). IsReducedCostOptimal r c.self.inside.flow.entries.items c.self.inside.potentials.entries.items) (sym c.self.invariant.graph.rows.rows_are)
     (certified_of c.self.inside.graph.net c.self.inside.flow.entries.items c.self.inside.potentials.entries.items c.self.invariant.graph.rows.lawful c.self.invariant.potentials_in.entries_in c.self.invariant.idle (certified_at c.self.inside.graph.net c.self.inside.flow.entries.items c.self.inside.potentials.entries.items c.self.invariant.graph.rows.lawful (subst (λ (b : TablesView). IsCertifiedFlow (reduced b.moment.instance) b.moment.flow (at_node b.moment.potentials)) (sym c.self.view_is) c.requires)))
 
 pub settle-pushes-requires-clause-potentials_in : goal.settle-pushes-requires-clause-potentials_in

@@ -3,7 +3,7 @@ use Rattle.std.specs.Prelude.{slice_index_or}
 use Rattle.std.proofs.lemmas.Int.{to_z-of_z}
 use Rattle.std.proofs.lemmas.List.{get_or_default, with_items_is}
 use Rattle.flow_solver.specs.TablesView.{TablesView, flow_index}
-use Rattle.residual_graph.specs.Residual.{arc_at, number_at}
+use Rattle.residual_graph.specs.Residual.{row_at, number_at}
 use Rattle.flow_solver.proofs.CarryLemmas.{IsPlace, balance_set, carried_as, ends_in, place_is}
 use Rattle.flow_solver.proofs.TablesViewLemmas.{tables_written}
 use Rattle.augmentation.proofs.TrackedLemmas.{IsWritten-same}
@@ -28,7 +28,7 @@ carry_over-requires-clause-tail_in c =
     let place = place_in_rows before in
     let there = (place_there before).in_rows in
     let ends = ends_in t.graph.net t.graph.rows.items t.balance c.self.invariant.graph.rows.lawful c.self.invariant.graph.rows.rows_are c.self.invariant.balance_is.sized place there in
-    let row : c.index.result.now ≡ arc_at t.graph.rows.items place = c.index.ensures ∙ get_or_default t.graph.rows.items place c.index.result.now _ there in
+    let row : c.index.result.now ≡ row_at t.graph.rows.items place = c.index.ensures ∙ get_or_default t.graph.rows.items place c.index.result.now _ there in
     omega (arith, ends.0, ap (λ a. a.tail) row, ap length c.deref_mut.ensures.value)
 
 pub carry_over-requires-clause-head_in : goal.carry_over-requires-clause-head_in
@@ -38,7 +38,7 @@ carry_over-requires-clause-head_in c =
     let place = place_in_rows before in
     let there = (place_there before).in_rows in
     let ends = ends_in t.graph.net t.graph.rows.items t.balance c.self.invariant.graph.rows.lawful c.self.invariant.graph.rows.rows_are c.self.invariant.balance_is.sized place there in
-    let row : c.index.result.now ≡ arc_at t.graph.rows.items place = c.index.ensures ∙ get_or_default t.graph.rows.items place c.index.result.now _ there in
+    let row : c.index.result.now ≡ row_at t.graph.rows.items place = c.index.ensures ∙ get_or_default t.graph.rows.items place c.index.result.now _ there in
     omega (arith, ends.1, ap (λ a. a.head) row, ap length c.deref_mut.ensures.value)
 
 pub invariant_of-self : goal.invariant_of-self
@@ -48,13 +48,13 @@ invariant_of-self c =
     let before = (goal.at.invariant_of-self c).After-first_row in
     let place = place_in_rows before in
     let there = (place_there before).in_rows in
-    let row : c.index.result.now ≡ arc_at t.graph.rows.items place = c.index.ensures ∙ get_or_default t.graph.rows.items place c.index.result.now _ there in
+    let row : c.index.result.now ≡ row_at t.graph.rows.items place = c.index.ensures ∙ get_or_default t.graph.rows.items place c.index.result.now _ there in
     let entry_fits : SFits w64 c.index-2.result.now = search rules in
     let entry = to_z-of_z w64 c.index-2.result.now entry_fits ∙ c.index-2.ensures ∙ get_or_default t.flow.entries.items place c.index-2.result.now (pos 0) (omega (arith, there, inv.flow_in)) in
     let value_fits : SFits w64 c.args.value.now = search rules in
     let value = to_z-of_z w64 c.args.value.now value_fits in
     let excess = with_items_is t.balance.excess c.carry_over.new.excess (c.carry_over.auto.excess ∙ c.deref_mut.ensures.len) in
-    let carried = carried_as (arc_at t.graph.rows.items place) _ (number_at t.flow.entries.items place) _ c.args.value.now _ t.balance.excess.items _ _ _ row entry value c.deref_mut.ensures.value (sym excess) c.carry_over.ensures in
+    let carried = carried_as (row_at t.graph.rows.items place) _ (number_at t.flow.entries.items place) _ c.args.value.now _ t.balance.excess.items _ _ _ row entry value c.deref_mut.ensures.value (sym excess) c.carry_over.ensures in
     let balance = balance_set t.graph.net t.graph.rows.items t.flow c.exchange.new.self t.balance _ place c.args.value.now there inv.flow_in carried refl c.exchange.ensures.entries c.exchange.ensures.written.kept inv.balance_is in
     tables_written t.graph t.graph t.flow c.exchange.new.self t.potentials t.potentials t.balance _ t.cut t.cut t.scratch _ t.before
     inv refl refl inv.graph refl (omega arith) c.exchange.ensures.written (IsWritten-same t.potentials inv.potentials_in.tracked)

@@ -8,7 +8,7 @@ use Rattle.network.specs.Instance.{Instance}
 use Rattle.flow_solver.specs.Balance.{IsBalanceOf}
 use Rattle.residual_graph.specs.Graph.{IsGraphFor}
 use Rattle.flow_solver.specs.TablesView.{TablesView}
-use Rattle.residual_graph.specs.Residual.{arc_at, number_at}
+use Rattle.residual_graph.specs.Residual.{row_at, number_at}
 use Rattle.augmentation.specs.Scratch.{IsScratchFor}
 use Rattle.residual_graph.specs.Star.{Covers, with_cost}
 use Rattle.residual_graph.specs.Walk.{AreRowsOf}
@@ -40,15 +40,15 @@ invariant_of-self c =
     let place = c.first_row.result + (c.args.k - 1) in
     let at = place_is I t.graph.rows.items c.args.k place inv.graph.rows.rows_are there
     (omega (arith, c.first_row.ensures)) in
-    let before : c.index.result.now ≡ arc_at t.graph.rows.items place = c.index.ensures ∙ get_or_default t.graph.rows.items place c.index.result.now _ at.in_rows in
+    let before : c.index.result.now ≡ row_at t.graph.rows.items place = c.index.ensures ∙ get_or_default t.graph.rows.items place c.index.result.now _ at.in_rows in
     let kept : c.index-2.result.now ≡ number_at t.flow.kept.items place = c.index-2.ensures ∙ get_or_default t.flow.kept.items place c.index-2.result.now (pos 0) (omega (arith, at.in_rows, inv.flow_in, inv.flow_tracked.same_length)) in
     let old_fits : SFits w128 c.self.inside.balance.cost = search rules in
     let before_fits : SFits w64 c.index.result.now.cost = search rules in
     let kept_fits : SFits w64 c.index-2.result.now = search rules in
     let old = to_z-of_z w128 t.balance.cost old_fits in
-    let price : to_z w64 (of_z w64 c.index.result.now.cost) ≡ (arc_at t.graph.rows.items place).cost = to_z-of_z w64 c.index.result.now.cost before_fits ∙ ap (λ a. a.cost) before in
+    let price : to_z w64 (of_z w64 c.index.result.now.cost) ≡ (row_at t.graph.rows.items place).cost = to_z-of_z w64 c.index.result.now.cost before_fits ∙ ap (λ a. a.cost) before in
     let factor : to_z w64 (of_z w64 c.index-2.result.now) ≡ number_at t.flow.kept.items place = to_z-of_z w64 c.index-2.result.now kept_fits ∙ kept in
-    let cost : to_z w128 (of_z w128 c.reprice-self-inside.result) ≡ int_wrap w128 (t.balance.cost +ℤ (row.cost -ℤ (arc_at t.graph.rows.items place).cost) *ℤ number_at t.flow.kept.items place) =
+    let cost : to_z w128 (of_z w128 c.reprice-self-inside.result) ≡ int_wrap w128 (t.balance.cost +ℤ (row.cost -ℤ (row_at t.graph.rows.items place).cost) *ℤ number_at t.flow.kept.items place) =
     to_z-of_z w128 c.reprice-self-inside.result (record { sfits = c.reprice-self-inside.type_inv }) ∙ c.reprice-self-inside.ensures ∙ (λ i. int_wrap w128 (old i +ℤ (after i -ℤ price i) *ℤ factor i)) in
     let now = record t.balance { cost = to_z w128 (of_z w128 c.reprice-self-inside.result) } in
     let balance = balance_swapped I J t.graph.rows.items c.swap_row.new.rows t.flow t.balance now c.args.k place row there.0 at inv.graph.rows.rows_are c.swap_row.ensures.rows.rows_are net tail head
