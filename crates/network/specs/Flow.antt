@@ -76,6 +76,7 @@ pub record IsLeastCostFlow (I : MinCost) (flow : List ℤ) : Type 0 where
 
 -- ---- certifying potentials
 
+-- the potentials have the opposite sign of the book's: the cost of an arc and its tail's potential, less its head's
 abbrev pub reduced_cost : (ℕ → ℤ) → ArcRow → ℤ
 reduced_cost potential arc = arc.cost +ℤ potential arc.tail -ℤ potential arc.head
 

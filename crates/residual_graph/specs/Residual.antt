@@ -1,5 +1,5 @@
 -- Residual arcs of a network under a flow, and potentials that give none of them a reduced cost below 0
--- (Ahuja, Magnanti, Orlin, "Network Flows": residual network, reduced-cost optimality).
+-- (Ahuja, Magnanti, Orlin, "Network Flows": residual network, pseudoflow, reduced-cost optimality).
 use Rattle.residual_graph.specs.Limits.{potential_floor, cost_limit, flow_limit, entry_limit, row_limit}
 use Rattle.std.specs.Prelude.{◌≡◌, ℕ, ◌<◌, ◌≤◌, ℤ, pos, neg_ℤ, ◌-ℤ◌, ◌+ℤ◌, ◌<ℤ◌, ◌≤ℤ◌, List, length, slice_index_or}
 use Rattle.dimacs_text.specs.declared.problem.ArcRow.{ArcRow}
@@ -58,7 +58,8 @@ pub record IsWithinRow (a : ArcRow) (x : ℤ) : Type 0 where
   pub low_kept : a.low ≤ℤ x
   pub cap_kept : x ≤ℤ a.cap
 
--- a network of at most 50,000 nodes and at most 200,000 arcs within the limits, and a flow within the bounds of each arc
+-- a flow within the bounds of each arc, whatever is left over or lacks at the nodes, in a network of at most 50,000 nodes
+-- and at most 200,000 arcs within the limits
 pub record IsPseudoflow (nodes : ℕ) (arcs : List ArcRow) (x : List ℤ) : Type 0 where
   pub few_nodes : nodes ≤ entry_limit
   pub few_arcs : length arcs ≤ row_limit
@@ -95,7 +96,8 @@ pub record ArePotentials (nodes floor : ℕ) (p : List ℤ) : Type 0 where
   pub at_most_0 : (v : ℕ) → number_at p v ≤ℤ pos 0
   pub at_least : (v : ℕ) → neg_ℤ (pos floor) ≤ℤ number_at p v
 
--- a flow within the bounds, with potentials down to -3 * 10^17 under which no residual arc has a reduced cost below 0
+-- the reduced-cost optimality conditions hold: a pseudoflow, with potentials down to -3 * 10^17 under which no residual arc
+-- has a reduced cost below 0
 pub record IsReducedCostOptimal (arcs : List ArcRow) (x p : List ℤ) : Type 0 where
   pub flow : IsPseudoflow (length p) arcs x
   pub potentials : ArePotentials (length p) potential_floor p
