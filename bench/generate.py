@@ -2,11 +2,15 @@
 """Writes a network problem in a DIMACS format, the same for the same arguments, and with a legal flow by construction."""
 
 import argparse
+import os
 import random
 import sys
 
 # Name of a size: nodes, arcs.
 SIZES = {"small": (200, 2_000), "middle": (3_000, 25_000), "large": (10_000, 100_000), "wide": (50_000, 100_000)}
+# What sizes are divided by, so that a test sees a command run and end soon; the least that each shape is made of.
+SHRINK = int(os.environ.get("BENCH_SHRINK", "1"))
+LEAST_NODES, LEAST_ARCS = 20, 200
 
 # What each unit of a plan may cost: few numbers, so that many paths cost the same.
 MAKE_COSTS, CARRY_COST, STORE_COST = (10, 20, 40), 5, 1
@@ -225,7 +229,8 @@ SHAPES = {name: shape for shapes in SETS.values() for name, shape in shapes.item
 def write_problem(out, shape, size, seed, as_min=False):
     """Writes the problem to a text file; `as_min` tells an assignment as a minimum-cost flow."""
     make = assignment_as_min if as_min and shape == "assignment" else SHAPES[shape]
-    for line in make(random.Random(seed), *SIZES[size]):
+    nodes, arcs = SIZES[size]
+    for line in make(random.Random(seed), max(LEAST_NODES, nodes // SHRINK), max(LEAST_ARCS, arcs // SHRINK)):
         out.write(line + "\n")
 
 
