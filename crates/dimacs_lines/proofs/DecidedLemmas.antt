@@ -10,7 +10,7 @@ use Rattle.dimacs_lines.specs.declared.fault.TextFault.TheVariants as text_fault
 use Rattle.dimacs_lines.specs.Fault.{number_of}
 use Rattle.dimacs_lines.specs.Lines.{Line, Parts, parts_of, lines_of, last_line, is_too_long, IsBytes}
 use Rattle.dimacs_lines.specs.Cut.{kept}
-use Rattle.dimacs_lines.specs.Stream.{Rule, decided, first_fault, or_else, at_line, fault_or, cut_fault}
+use Rattle.dimacs_lines.specs.Stream.{Rule, decided, first_fault, or_else, at_line, fault_or, read_by, cut_fault}
 use Rattle.dimacs_lines.proofs.LineLemmas.{joined, parts_of-append}
 use Rattle.dimacs_lines.proofs.GoesOnLemmas.{lines_go_on}
 use Rattle.dimacs_lines.proofs.PartLemmas.{first_parts, parts_with}
@@ -97,12 +97,8 @@ decided_letters rule text none =
     ∙ ap (λ (line : Option Line). or_else (cut_fault rule line false p.ended) (length p.ended + 1) None) (kept_too_long (p.rest ++ more) (letters_too_long p.rest))
 
 module _ {A : Type 0} (rule : Rule) (ends : List Line → Result A TextFault) where
-  -- what a text is read as
-  abbrev pub read_by : List ℕ → Result A TextFault
-  read_by text = fault_or (first_fault rule [] (lines_of text)) (ends (lines_of text))
-
   -- a fault that is decided is that of each text that goes on
-  pub decided_always : (text more : List ℕ) (f : TextFault) → decided rule text ≡ Some f → read_by (text ++ more) ≡ Err f
+  pub decided_always : (text more : List ℕ) (f : TextFault) → decided rule text ≡ Some f → read_by rule ends (text ++ more) ≡ Err f
   decided_always text more f e =
       let a = parts_of text in let b = parts_of more in
       let found = decided-goes_on rule text ((joined a b).ended ++ last_line (joined a b).rest) f (lines_go_on a.ended a.rest b.ended b.rest) e in
@@ -114,7 +110,7 @@ module _ {A : Type 0} (rule : Rule) (ends : List Line → Result A TextFault) wh
   number_of_fault : (f : Fault) (line other : ℕ) → ◌≡◌ {A = Result A TextFault} (Err (at_line f line)) (Err (text_fault.Fault 1 other)) → number_of f ≡ 1
   number_of_fault f line other e = cc
 
-  read_as : (text : List ℕ) (lines : List Line) (found : Option TextFault) → lines_of text ≡ lines → first_fault rule [] lines ≡ found → read_by text ≡ fault_or found (ends lines)
+  read_as : (text : List ℕ) (lines : List Line) (found : Option TextFault) → lines_of text ≡ lines → first_fault rule [] lines ≡ found → read_by rule ends text ≡ fault_or found (ends lines)
   read_as text lines found e h = rw (e, h) refl
 
   module _ (rule_other : (before : List Line) (line : Line) → rule before line ≢ Some fault.LineTooLong) (end_other : (lines : List Line) (other : ℕ) → ends lines ≢ Err (text_fault.Fault 1 other)) where
@@ -127,7 +123,7 @@ module _ {A : Type 0} (rule : Rule) (ends : List Line → Result A TextFault) wh
     not_too_long (Some f) count other lines ne = λ e. ne (ap (λ (x : Fault). Some x) (too_long_by f (number_of_fault f count other e)))
 
     -- with an LF, it is not
-    line_feed_other : (text : List ℕ) (other : ℕ) → decided rule text ≡ None → read_by (text ++ 10 ∷ []) ≢ Err (text_fault.Fault 1 other)
+    line_feed_other : (text : List ℕ) (other : ℕ) → decided rule text ≡ None → read_by rule ends (text ++ 10 ∷ []) ≢ Err (text_fault.Fault 1 other)
     line_feed_other text other none =
         let p = parts_of text in let line = p.rest ++ [] in let ls = p.ended ++ line ∷ [] in
         let lines_are : lines_of (text ++ 10 ∷ []) ≡ ls = ap (λ (q : Parts). q.ended ++ last_line q.rest) (parts_with text (10 ∷ []) true [] line_feed_parts) ∙ append-nil ls in
@@ -136,13 +132,13 @@ module _ {A : Type 0} (rule : Rule) (ends : List Line → Result A TextFault) wh
         let fits : is_too_long line ≡ false = rw append-nil (begun_fits rule text none) in
         λ e. not_too_long (cut_fault rule (kept line) true p.ended) (length p.ended + 1) other ls (complete_other (is_too_long line) p.ended line fits) (sym (read_as (text ++ 10 ∷ []) ls _ lines_are found) ∙ e)
 
-    only_by : (found : Option TextFault) (text : List ℕ) (f : TextFault) → decided rule text ≡ found → ((more : List ℕ) → IsBytes more → read_by (text ++ more) ≡ Err f) → found ≡ Some f
+    only_by : (found : Option TextFault) (text : List ℕ) (f : TextFault) → decided rule text ≡ found → ((more : List ℕ) → IsBytes more → read_by rule ends (text ++ more) ≡ Err f) → found ≡ Some f
     only_by (Some g) text f d all = ap (λ (x : TextFault). Some x) (same_error g f (sym (decided_always text [] g d) ∙ all [] no_bytes))
     only_by None text f d all =
-        let letters : read_by (text ++ replicate 1025 120) ≡ Err (at_line fault.LineTooLong (length (parts_of text).ended + 1)) = rw append-nil at (decided_always (text ++ replicate 1025 120) [] _ (decided_letters rule text d)) in
+        let letters : read_by rule ends (text ++ replicate 1025 120) ≡ Err (at_line fault.LineTooLong (length (parts_of text).ended + 1)) = rw append-nil at (decided_always (text ++ replicate 1025 120) [] _ (decided_letters rule text d)) in
         let letters_say = same_error _ _ (sym letters ∙ all (replicate 1025 120) letters_are_bytes) in
         absurd (line_feed_other text _ d (all (10 ∷ []) line_feed_is_byte ∙ ap (λ (x : TextFault). Err x) (sym letters_say)))
 
     -- the fault that each text has which begins so is decided
-    pub decided_only : (text : List ℕ) (f : TextFault) → ((more : List ℕ) → IsBytes more → read_by (text ++ more) ≡ Err f) → decided rule text ≡ Some f
+    pub decided_only : (text : List ℕ) (f : TextFault) → ((more : List ℕ) → IsBytes more → read_by rule ends (text ++ more) ≡ Err f) → decided rule text ≡ Some f
     decided_only text f all = only_by (decided rule text) text f refl all

@@ -1,5 +1,5 @@
 -- The lines of a text that goes on.
-use Rattle.std.proofs.Common.{◌≡◌, ℕ, Bool, true, false, cond, List, [], ◌∷◌, ◌++◌, refl, sym}
+use Rattle.std.proofs.Common.{◌≡◌, ℕ, Bool, true, false, cond, List, [], ◌∷◌, ◌++◌, append-nil, refl, sym, ap, ◌∙◌}
 use Rattle.dimacs_lines.specs.Lines.{Line, Parts, is_line_feed, with_first, parts_of}
 
 -- the parts of two texts in a row
@@ -35,3 +35,12 @@ pub parts_of-append : (text more : List ℕ) → parts_of (text ++ more) ≡ joi
 unfolding parts_of
 parts_of-append [] more = sym (joined-nil (parts_of more).ended (parts_of more).rest)
 parts_of-append (byte ∷ text) more = rw (parts_of-append text more) (byte_by (is_line_feed byte) byte (parts_of text) (parts_of more))
+
+joined-stay : (ended : List Line) (rest : Line) (lines : List Line) (more : Line) → (others : List Line) × ((joined_parts ended rest lines more).ended ≡ ended ++ others)
+joined-stay ended rest [] more = ([], sym (append-nil ended))
+joined-stay ended rest (line ∷ lines) more = ((rest ++ line) ∷ lines, refl)
+
+pub ended-stay : (text more : List ℕ) → (others : List Line) × ((parts_of (text ++ more)).ended ≡ (parts_of text).ended ++ others)
+ended-stay text more =
+    let stay = joined-stay (parts_of text).ended (parts_of text).rest (parts_of more).ended (parts_of more).rest in
+    (stay.0, ap (λ (p : Parts). p.ended) (parts_of-append text more) ∙ stay.1)

@@ -61,6 +61,11 @@ pub record IsWhole (line : Line) (piece : List ℕ) : Type 0 where
 abbrev pub HoldsRest : Cut → List ℕ → Type 0
 HoldsRest cut text = begun_line cut ≡ kept (parts_of text).rest
 
+-- a line is begun where the text leaves bytes, and then it is they
+abbrev pub BeginsRest : Bool → Cut → List ℕ → Type 0
+BeginsRest true cut text = cut.line ≡ kept (parts_of text).rest
+BeginsRest false cut text = (parts_of text).rest ≡ []
+
 -- the lines that are ended, with one more where its LF has come
 abbrev pub ended_with : Bool → List Line → Line → List Line
 ended_with true ended line = ended ++ line ∷ []

@@ -38,6 +38,10 @@ abbrev pub fault_or : {A : Type 0} → Option TextFault → Result A TextFault �
 fault_or None result = result
 fault_or (Some fault) result = Err fault
 
+-- what a text is read as: its first fault, or what the end of its lines gives
+abbrev pub read_by : {A : Type 0} → Rule → (List Line → Result A TextFault) → List ℕ → Result A TextFault
+read_by rule ends text = fault_or (first_fault rule [] (lines_of text)) (ends (lines_of text))
+
 -- a fault at the end, with the number of lines
 abbrev pub or_at : {A : Type 0} → Result A Fault → ℕ → Result A TextFault
 or_at (Ok x) lines = Ok x

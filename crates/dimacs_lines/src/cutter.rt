@@ -3,8 +3,8 @@
 ghost use Rattle.std.specs.Prelude.{◌≡◌, ◌↔◌, ◌<◌, ◌≤◌, ◌≢◌, false, [], ◌++◌, length, take, List, ℕ, IsTrue, IfSome, Some, None};
 ghost use Rattle.std.specs.List.{position_or_len};
 ghost use Rattle.std.specs.Option.{option_map};
-ghost use Rattle.dimacs_lines.specs.Lines.{is_line_feed, is_too_long};
-ghost use Rattle.dimacs_lines.specs.Cut.{begun_line, is_begun, extended, HoldsRest, CutsLine, bytes_used, has_line_feed, cut_after, IsWhole};
+ghost use Rattle.dimacs_lines.specs.Lines.{Line, is_line_feed, is_too_long, parts_of};
+ghost use Rattle.dimacs_lines.specs.Cut.{begun_line, is_begun, extended, HoldsRest, BeginsRest, CutsLine, bytes_used, has_line_feed, cut_after, IsWhole};
 
 use arrayvec::ArrayVec;
 use memchr::memchr;
@@ -70,7 +70,8 @@ impl LineCutter {
 
     /// Whether bytes stand after the last LF.
     pub fn begun(&self) -> bool
-        ensures { result ≡ is_begun self.now }
+        ensures begun { result ≡ is_begun self.now }
+        ensures text { (text : List ℕ) → HoldsRest self.now text → BeginsRest result self.now text }
     {
         !self.complete && (self.too_long || !self.bytes.is_empty())
     }
@@ -117,6 +118,11 @@ impl LineCutter {
         }
     }
 }
+
+/// A law, with nothing to run: the lines that a text ends stay where it goes on, and others may follow them.
+pub fn ended_lines_stay()
+    ensures { (text more : List ℕ) → (others : List Line) × ((parts_of (text ++ more)).ended ≡ (parts_of text).ended ++ others) }
+{}
 
 /// The line that a piece begins with, where all of it stands there and it is not too long.
 #[inline(always)]

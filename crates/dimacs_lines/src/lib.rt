@@ -13,11 +13,11 @@ mod sequence;
 mod tests;
 mod words;
 
-pub use cutter::{LINE_LIMIT, LineCutter};
+pub use cutter::{LINE_LIMIT, LineCutter, ended_lines_stay};
 pub use fault::{Fault, LineError, TextFault};
 pub use limits::limits_are;
 pub use name::{NAME_LIMIT, Name, names_are_compared};
 pub use numbers::{DIGIT_LIMIT, VALUE_DIGIT_LIMIT, claimed_value, integer_in, natural_in};
-pub use reader::{LineTaker, TextReader};
+pub use reader::{LineTaker, TextReader, decided_for_any_rule};
 pub use sequence::Sequence;
 pub use words::{Word, Words, is_blank};

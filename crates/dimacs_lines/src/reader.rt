@@ -1,10 +1,11 @@
 //! Reading a text in pieces, line by line, under any rule for its lines.
 
-ghost use Rattle.std.specs.Prelude.{◌≡◌, ◌<◌, ◌≤◌, List, ℕ, [], ◌++◌, Option, Err, IfOk, IfErr, length};
+ghost use Rattle.std.specs.Prelude.{◌≡◌, ◌≢◌, ◌<◌, ◌≤◌, List, ℕ, [], ◌++◌, Option, None, Some, Result, Err, IfOk, IfErr, length};
 ghost use Rattle.dimacs_lines.specs.declared.fault.Fault.{Fault};
 ghost use Rattle.dimacs_lines.specs.declared.fault.TextFault.{TextFault};
 ghost use Rattle.dimacs_lines.specs.Cut.{bytes_used, has_line_feed};
-ghost use Rattle.dimacs_lines.specs.Stream.{TakesLine, TakesCut, TakesPart, EndsWell};
+ghost use Rattle.dimacs_lines.specs.Lines.{Line, IsBytes};
+ghost use Rattle.dimacs_lines.specs.Stream.{Rule, TakesLine, TakesCut, TakesPart, EndsWell, decided, read_by};
 
 use crate::cutter::{LineCutter, whole_line};
 use crate::fault::{Fault, LineError, TextFault};
@@ -84,7 +85,8 @@ impl<T: LineTaker> TextReader<T> {
 
     /// A reader of the empty text.
     pub fn new(taker: T) -> Self
-        ensures { (setting : T.Setting) → T.holds setting [] taker → StandsFor (T.rule setting) (T.holds setting) result [] }
+        ensures text { (setting : T.Setting) → T.holds setting [] taker → StandsFor (T.rule setting) (T.holds setting) result [] }
+        ensures undecided { (setting : T.Setting) → decided (T.rule setting) [] ≡ None }
     {
         TextReader {
             cutter: LineCutter::new(),
@@ -167,3 +169,16 @@ impl<T: LineTaker> TextReader<T> {
         }
     }
 }
+
+/// A law, with nothing to run, for any rule and any end of the lines: a fault is decided by a text exactly where each
+/// text is read as it that goes on from there, and none is by the empty text. A line's length is no matter of the two.
+pub fn decided_for_any_rule<A>()
+    ensures nothing { (rule : Rule) → decided rule [] ≡ None }
+    ensures always { (rule : Rule) (ends : List Line → Result A TextFault) (text more : List ℕ) (fault : TextFault)
+        → decided rule text ≡ Some fault → read_by rule ends (text ++ more) ≡ Err fault }
+    ensures only { (rule : Rule) (ends : List Line → Result A TextFault)
+        → ((before : List Line) (line : Line) → rule before line ≢ Some Fault.LineTooLong)
+        → ((lines : List Line) (at : ℕ) → ends lines ≢ Err (TextFault.Fault 1 at))
+        → (text : List ℕ) (fault : TextFault)
+        → ((more : List ℕ) → IsBytes more → read_by rule ends (text ++ more) ≡ Err fault) → decided rule text ≡ Some fault }
+{}

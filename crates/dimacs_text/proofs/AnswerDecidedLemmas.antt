@@ -1,5 +1,5 @@
 -- No check of an answer text but that of its length says that a line is too long.
-use Rattle.std.proofs.Common.{◌≡◌, ◌≢◌, ℕ, ◌+◌, Bool, true, false, cond, ◌&&◌, List, ◌++◌, length, Option, Some, None, Result, Ok, Err, ℤ, pos, arith}
+use Rattle.std.proofs.Common.{◌≡◌, ◌≢◌, ℕ, ◌+◌, Bool, true, false, cond, ◌&&◌, List, length, Option, Some, None, Result, Ok, Err, ℤ, pos, arith}
 use Rattle.std.specs.Prelude.{nat_lt, ◌==◌, is_some, is_none}
 use Rattle.dimacs_lines.specs.declared.fault.Fault.{Fault}
 use Rattle.dimacs_lines.specs.declared.fault.Fault.TheVariants as fault
@@ -9,14 +9,13 @@ use Rattle.dimacs_text.specs.declared.answer.Answer.{Answer}
 use Rattle.dimacs_text.specs.declared.answer_line.AnswerLine.{AnswerLine}
 use Rattle.dimacs_text.specs.declared.answer_line.AnswerLine.TheVariants as line
 use Rattle.dimacs_lines.specs.Fault.{number_of}
-use Rattle.dimacs_lines.specs.Lines.{Line, IsBytes}
+use Rattle.dimacs_lines.specs.Lines.{Line}
 use Rattle.dimacs_lines.specs.Fields.{Word, natural, integer, words_of, claimed_value}
 use Rattle.dimacs_lines.specs.Checks.{◌>>=◌, demand, some_or, natural_in}
 use Rattle.dimacs_text.specs.Problem.{field, fields_of}
-use Rattle.dimacs_lines.specs.Stream.{at_line, or_at, decided}
-use Rattle.dimacs_text.specs.Answer.{Said, said_of, first_of, last_node, read_value, read_flow, read_potential, read_shortage, read_cut_node, fault_by, flow_ending, ending_by, answer_rule, answer_end, answers}
+use Rattle.dimacs_lines.specs.Stream.{at_line, or_at}
+use Rattle.dimacs_text.specs.Answer.{Said, said_of, first_of, last_node, read_value, read_flow, read_potential, read_shortage, read_cut_node, fault_by, flow_ending, ending_by, answer_rule, answer_end}
 use Rattle.dimacs_text.proofs.OtherLemmas.{IsOther, bind_other, demand_other, some_or_other, natural_in_other, fault_other}
-use Rattle.dimacs_lines.proofs.DecidedLemmas.{decided_only}
 
 read_value_other : (said : Said) (fields : List Word) → IsOther (read_value said fields)
 unfolding read_value
@@ -77,7 +76,7 @@ fault_by_other nodes arcs said (Some line.Shortage) fields = fault_other (read_s
 fault_by_other nodes arcs said (Some line.CutNode) fields = fault_other (read_cut_node nodes said fields) (read_cut_node_other nodes said fields)
 fault_by_other nodes arcs said (Some line.Unknown) fields = λ e. cc
 
-rule_other : (nodes arcs : ℕ) (before : List Line) (line : Line) → answer_rule nodes arcs before line ≢ Some fault.LineTooLong
+pub rule_other : (nodes arcs : ℕ) (before : List Line) (line : Line) → answer_rule nodes arcs before line ≢ Some fault.LineTooLong
 rule_other nodes arcs before line = fault_by_other nodes arcs (said_of before) (first_of (words_of line)) (fields_of (words_of line))
 
 number_is : (f : Fault) (line other : ℕ) → ◌≡◌ {A = Result Answer TextFault} (Err (at_line f line)) (Err (text_fault.Fault 1 other)) → number_of f ≡ 1
@@ -95,11 +94,5 @@ ending_other : (nodes arcs : ℕ) (shortage : Option ℤ) (said : Said) (line ot
 ending_other nodes arcs None said line other = flow_ending_other nodes arcs said.value said line other
 ending_other nodes arcs (Some shortage) said line other = λ e. cc
 
-end_other : (nodes arcs : ℕ) (lines : List Line) (other : ℕ) → answer_end nodes arcs lines ≢ Err (text_fault.Fault 1 other)
+pub end_other : (nodes arcs : ℕ) (lines : List Line) (other : ℕ) → answer_end nodes arcs lines ≢ Err (text_fault.Fault 1 other)
 end_other nodes arcs lines other = ending_other nodes arcs (said_of lines).shortage (said_of lines) (length lines) other
-
--- the fault that each text has which begins so is decided
-
-pub answer_only : (nodes arcs : ℕ) (text : List ℕ) (f : TextFault) → ((more : List ℕ) → IsBytes more → answers nodes arcs (text ++ more) ≡ Err f) → decided (answer_rule nodes arcs) text ≡ Some f
-unfolding answers
-answer_only nodes arcs text f all = decided_only (answer_rule nodes arcs) (answer_end nodes arcs) (rule_other nodes arcs) (end_other nodes arcs) text f all

@@ -1,5 +1,5 @@
 -- An answer text is read as its draft and its end say.
-use Rattle.std.proofs.Common.{◌≡◌, ℕ, Bool, true, false, cond, ◌&&◌, ◌==◌, List, [], ◌++◌, Option, Some, None, Result, Ok, Err, ℤ, length, refl, sym, ap, subst, ◌∙◌}
+use Rattle.std.proofs.Common.{◌≡◌, ℕ, Bool, true, false, cond, ◌&&◌, ◌==◌, List, [], Option, Some, None, Result, Ok, Err, ℤ, length, refl, sym, ap, subst, ◌∙◌}
 use Rattle.std.proofs.lemmas.Bool.{eqb-true, and_parts}
 use Rattle.dimacs_lines.specs.declared.fault.Fault.{Fault}
 use Rattle.dimacs_lines.specs.declared.fault.Fault.TheVariants as fault
@@ -8,14 +8,13 @@ use Rattle.dimacs_lines.specs.declared.fault.TextFault.{TextFault}
 use Rattle.dimacs_lines.specs.declared.fault.TextFault.TheVariants as text_fault
 use Rattle.dimacs_lines.specs.Fault.{number_of}
 use Rattle.dimacs_lines.specs.Lines.{Line, lines_of}
-use Rattle.dimacs_lines.specs.Stream.{counted, decided, first_fault, TakesLine}
+use Rattle.dimacs_lines.specs.Stream.{counted, first_fault, TakesLine}
 use Rattle.dimacs_lines.specs.Reader as generic
 use Rattle.dimacs_text.specs.declared.answer.Answer.{Answer}
 use Rattle.dimacs_text.specs.declared.answer.Answer.TheVariants.{Flow, Cut}
 use Rattle.dimacs_text.specs.declared.answer.FlowLine.{FlowLine}
-use Rattle.dimacs_text.specs.Answer.{Drafted, Said, NamesNodes, FitsSize, flow_ending, ending_by, Takes, said_of, and_said, line_fault, ending, answer_rule, answer_end, answers}
+use Rattle.dimacs_text.specs.Answer.{Drafted, Said, NamesNodes, FitsSize, flow_ending, ending_by, Takes, said_of, and_said, line_fault, ending, answer_rule, answers}
 use Rattle.dimacs_text.specs.AnswerReader.{holds, Finishes}
-use Rattle.dimacs_lines.proofs.DecidedLemmas.{decided_always}
 use Rattle.dimacs_text.proofs.SaidLemmas.{said_of_push, said_of_nothing}
 
 pub line_taken : (result : Result (Unit {0}) LineError) (nodes arcs : ℕ) (old new : Drafted) (before : List Line) (line : Line) → Takes result line old new → holds nodes arcs before old → TakesLine (answer_rule nodes arcs) (holds nodes arcs) result before line new
@@ -68,8 +67,3 @@ module _ (nodes arcs : ℕ) (text : List ℕ) where
   unfolding answers
   answers_fault text_fault.Memory found = found
   answers_fault (text_fault.Fault number line) found = rw found refl
-
--- a fault that is decided is that of each text that goes on
-pub answer_always : (nodes arcs : ℕ) (text more : List ℕ) (f : TextFault) → decided (answer_rule nodes arcs) text ≡ Some f → answers nodes arcs (text ++ more) ≡ Err f
-unfolding answers
-answer_always nodes arcs text more f e = decided_always (answer_rule nodes arcs) (answer_end nodes arcs) text more f e

@@ -1,11 +1,10 @@
 -- Arc lines without a fault.
-use Rattle.std.proofs.Common.{◌≡◌, ℕ, ◌≤◌, true, false, List, [], ◌∷◌, length, drop, Some, Ok, ℤ, pos, slice_index_or, refl, ap, arith}
+use Rattle.std.proofs.Common.{◌≡◌, ℕ, ◌≤◌, true, false, List, [], ◌∷◌, length, drop, Some, Ok, ℤ, pos, slice_index_or, get_or, refl, sym, ap, ◌∙◌, arith}
 use Rattle.std.proofs.lemmas.Bool.{le-leb}
-use Rattle.std.proofs.lemmas.List.{length-drop}
+use Rattle.std.proofs.lemmas.List.{get_or-drop, length-drop}
 use Rattle.dimacs_lines.specs.Lines.{Line}
 use Rattle.dimacs_lines.specs.Fields.{Word, natural, words_of}
 use Rattle.dimacs_lines.specs.Checks.{natural_in, integer_in}
-use Rattle.dimacs_lines.proofs.WordLemmas.{next_word}
 use Rattle.dimacs_text.specs.Lawful.{IsNode}
 use Rattle.dimacs_text.specs.declared.problem.NodeMark.{NodeMark}
 use Rattle.dimacs_text.specs.declared.problem.TheConstants.{CAP_LIMIT, COST_LIMIT}
@@ -20,7 +19,7 @@ pub plain_min : (nodes : ℕ) (fields : List Word) (word : Word) (tail head low 
 unfolding read_min_row
 plain_min nodes fields word tail head low cap cost last tail_is head_is low_is cap_is cost_is tail_in head_in order fits =
     let len : length fields ≡ 5 = omega (arith, length-drop 4 fields, ap length last) in
-    let word_is : field 4 fields ≡ word = (next_word fields 4 word [] last).0 in
+    let word_is : field 4 fields ≡ word = sym (get_or-drop 4 fields 0 []) ∙ ap (λ (left : List Word). get_or left 0 []) last in
     rw (
       len,
       number_in 1 nodes (field 0 fields) tail tail_is tail_in.0 tail_in.1,
@@ -45,7 +44,7 @@ pub plain_asn : (nodes : ℕ) (marks : List NodeMark) (fields : List Word) (word
 unfolding read_asn_row
 plain_asn nodes marks fields word tail head cost last tail_is head_is cost_is tail_in head_in from_side to_side =
     let len : length fields ≡ 3 = omega (arith, length-drop 2 fields, ap length last) in
-    let word_is : field 2 fields ≡ word = (next_word fields 2 word [] last).0 in
+    let word_is : field 2 fields ≡ word = sym (get_or-drop 2 fields 0 []) ∙ ap (λ (left : List Word). get_or left 0 []) last in
     rw (len, number_in 1 nodes (field 0 fields) tail tail_is tail_in.0 tail_in.1, number_in 1 nodes (field 1 fields) head head_is head_in.0 head_in.1, word_is, cost_is, from_side, to_side) refl
 
 -- a line that begins with `a` and a space is that of an arc

@@ -1,17 +1,15 @@
 -- A problem text is read as its taker and its end say.
-use Rattle.std.proofs.Common.{◌≡◌, ℕ, List, [], ◌++◌, Some, None, Result, Ok, Err, length, refl, ◌∙◌}
+use Rattle.std.proofs.Common.{◌≡◌, ℕ, List, [], Some, None, Result, Ok, Err, length, refl, ◌∙◌}
 use Rattle.dimacs_lines.specs.declared.fault.Fault.{Fault}
 use Rattle.dimacs_lines.specs.declared.fault.LineError.{LineError}
 use Rattle.dimacs_lines.specs.declared.fault.TextFault.{TextFault}
 use Rattle.dimacs_lines.specs.declared.fault.TextFault.TheVariants as text_fault
 use Rattle.dimacs_lines.specs.Fault.{number_of}
-use Rattle.dimacs_lines.specs.Lines.{Line, lines_of, IsBytes}
+use Rattle.dimacs_lines.specs.Lines.{Line, lines_of}
 use Rattle.dimacs_text.specs.Problem.{Parsed, parsed_of}
-use Rattle.dimacs_text.specs.Reading.{ProblemValue, ending, Takes, problem_rule, problem_end, reads}
+use Rattle.dimacs_text.specs.Reading.{ProblemValue, ending, Takes, problem_rule, reads}
 use Rattle.dimacs_text.proofs.ProblemLemmas.{parsed_of_push}
-use Rattle.dimacs_lines.proofs.DecidedLemmas.{decided_always, decided_only}
-use Rattle.dimacs_text.proofs.OtherLemmas.{rule_other, end_other}
-use Rattle.dimacs_lines.specs.Stream.{counted, decided, first_fault, TakesLine}
+use Rattle.dimacs_lines.specs.Stream.{counted, first_fault, TakesLine}
 use Rattle.dimacs_lines.specs.Reader as generic
 use Rattle.dimacs_text.specs.ProblemReader.{holds, Finishes}
 
@@ -36,11 +34,3 @@ reads_fault (text_fault.Fault number line) text found = rw found refl
 pub parsed_of_nothing : record { size = None; marks = []; rows = [] } ≡ parsed_of []
 unfolding parsed_of
 parsed_of_nothing = refl
-
-pub problem_always : (text more : List ℕ) (f : TextFault) → decided problem_rule text ≡ Some f → reads (text ++ more) ≡ Err f
-unfolding reads
-problem_always text more f e = decided_always problem_rule problem_end text more f e
-
-pub problem_only : (text : List ℕ) (f : TextFault) → ((more : List ℕ) → IsBytes more → reads (text ++ more) ≡ Err f) → decided problem_rule text ≡ Some f
-unfolding reads
-problem_only text f all = decided_only problem_rule problem_end rule_other end_other text f all

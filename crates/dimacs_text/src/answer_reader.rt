@@ -8,7 +8,7 @@ ghost use Rattle.dimacs_lines.specs.declared.fault.TextFault.{TextFault};
 
 use crate::answer::Answer;
 use crate::answer_draft::AnswerDraft;
-use dimacs_lines::{LineError, LineTaker, TextFault, TextReader};
+use dimacs_lines::{LineError, LineTaker, TextFault, TextReader, decided_for_any_rule};
 use std::alloc::Global;
 
 impl LineTaker for AnswerDraft {
@@ -40,7 +40,8 @@ impl AnswerReader {
 
     /// A reader of the empty text, as an answer to a problem with so many nodes and arcs.
     pub fn new(alloc: Global, nodes: u32, arcs: u32) -> Self
-        ensures { StandsFor nodes arcs result [] }
+        ensures text { StandsFor nodes arcs result [] }
+        ensures undecided { decided (answer_rule nodes arcs) [] ≡ None }
     {
         AnswerReader {
             reader: TextReader::new(AnswerDraft::new(alloc, nodes, arcs)),
@@ -88,7 +89,9 @@ pub fn answer_decided_for_all()
     ensures only { (nodes arcs : ℕ) (text : List ℕ) (fault : TextFault)
         → ((more : List ℕ) → IsBytes more → answers nodes arcs (text ++ more) ≡ Err fault)
         → decided (answer_rule nodes arcs) text ≡ Some fault }
-{}
+{
+    decided_for_any_rule::<Answer>();
+}
 
 #[cfg(test)]
 mod tests;

@@ -8,7 +8,7 @@ ghost use Rattle.dimacs_lines.specs.declared.fault.TextFault.{TextFault};
 
 use crate::draft::Draft;
 use crate::problem::Problem;
-use dimacs_lines::{LineError, LineTaker, TextFault, TextReader};
+use dimacs_lines::{LineError, LineTaker, TextFault, TextReader, decided_for_any_rule};
 use std::alloc::Global;
 
 impl LineTaker for Draft {
@@ -37,7 +37,8 @@ impl ProblemReader {
 
     /// A reader of the empty text.
     pub fn new(alloc: Global) -> Self
-        ensures { StandsFor result [] }
+        ensures text { StandsFor result [] }
+        ensures undecided { decided problem_rule [] ≡ None }
     {
         ProblemReader {
             reader: TextReader::new(Draft::new(alloc)),
@@ -79,4 +80,6 @@ pub fn decided_for_all()
         → decided problem_rule text ≡ Some fault → reads (text ++ more) ≡ Err fault }
     ensures only { (text : List ℕ) (fault : TextFault)
         → ((more : List ℕ) → IsBytes more → reads (text ++ more) ≡ Err fault) → decided problem_rule text ≡ Some fault }
-{}
+{
+    decided_for_any_rule::<Problem>();
+}
