@@ -1,14 +1,13 @@
 -- What has come from a source, and what a sink holds.
-use Rattle.std.proofs.Common.{◌≡◌, ℕ, ◌+◌, ◌-◌, ◌≤◌, List, [], ◌++◌, length, take, Option, None, Some, Ok, Err, refl, sym, ap, ◌∙◌, subst, arith, rules, append-nil, length-append, length-take-le}
+use Rattle.std.proofs.Common.{◌≡◌, ℕ, ◌+◌, ◌-◌, ◌≤◌, List, [], ◌++◌, length, take, Option, None, Some, Result, Ok, Err, inl, inr, refl, sym, ap, ◌∙◌, subst, arith, rules, append-nil, length-append, length-take-le}
 use Rattle.std.proofs.lemmas.List.{take_at}
 use Rattle.std.specs.Io.KnownBytes.{Appends, Consumes, IsAtEnd}
 use Rattle.std.proofs.KnownBytes.{Consumes-nil, Consumes-trans}
 use Rattle.dimacs_lines.specs.declared.fault.TextFault.{TextFault}
-use Rattle.dimacs_lines.specs.Stream.{decided}
-use Rattle.dimacs_text.specs.Reading.{ProblemValue, problem_rule, reads}
-use Rattle.dimacs_text.proofs.ReadLemmas.{problem_always}
-use Rattle.checker.specs.Reading.{Gives}
-use Rattle.checker.specs.Check.{IsProblemText}
+use Rattle.dimacs_lines.specs.declared.fault.TextFault.TheVariants as text_fault
+use Rattle.checker.specs.declared.read.ReadError.{ReadError}
+use Rattle.checker.specs.declared.read.ReadError.TheVariants as read_error
+use Rattle.checker.specs.Reading.{Gives, ReadsKnown, ReadsText, ReadsWhole}
 
 pub Gives-nil : (known : Option (List ℕ)) (left : ℕ) → Gives known known [] left left
 Gives-nil known left = record { bytes = Consumes-nil known; count = search rules }
@@ -49,17 +48,27 @@ text_given text given (Some rest) left_old left_new gives =
 pub all_given : (text given : List ℕ) (rest : Option (List ℕ)) (left_old left_new : ℕ) → Gives (Some text) rest given left_old left_new → IsAtEnd rest → take (left_old - left_new) text ≡ text
 all_given text given rest left_old left_new gives end = text_given text given rest left_old left_new gives ∙ sym (text_at_end text given rest gives.bytes end)
 
-pub problem_text : (text given : List ℕ) (rest : Option (List ℕ)) (left_old left_new : ℕ) (problem : ProblemValue) → Gives (Some text) rest given left_old left_new
-    → IsAtEnd rest → reads given ≡ Ok problem → IsProblemText text (take (left_old - left_new) text) problem
-problem_text text given rest left_old left_new problem gives end is = record {
-  whole = all_given text given rest left_old left_new gives end;
-  problem_is = ap reads (text_at_end text given rest gives.bytes end) ∙ is;
-}
+-- ---- what is read of a text that is known
 
--- a fault that is decided stays
-pub reads_decided : (text given : List ℕ) (rest : Option (List ℕ)) (f : TextFault) → Consumes (Some text) rest given → decided problem_rule given ≡ Some f → reads text ≡ Err f
-reads_decided text given None f gave e = absurd gave
-reads_decided text given (Some rest) f gave e = rw gave (problem_always given rest f e)
+module _ {X : Type 0} (decides : List ℕ → Option TextFault) (reads : List ℕ → Result X TextFault) (always : (text more : List ℕ) (f : TextFault) → decides text ≡ Some f → reads (text ++ more) ≡ Err f) where
+  -- a fault that is decided stays
+  reads_decided : (text given : List ℕ) (rest : Option (List ℕ)) (f : TextFault) → Consumes (Some text) rest given → decides given ≡ Some f → reads text ≡ Err f
+  reads_decided text given None f gave e = absurd gave
+  reads_decided text given (Some rest) f gave e = rw gave (always given rest f e)
+
+  reads_whole : (result : Result X ReadError) (text given : List ℕ) (rest : Option (List ℕ)) (left_old left_new : ℕ) → Gives (Some text) rest given left_old left_new
+      → ReadsText decides reads result given rest → ReadsWhole decides reads result text (take (left_old - left_new) text)
+  reads_whole (Ok x) text given rest left_old left_new gives is =
+      (all_given text given rest left_old left_new gives is.0, ap reads (text_at_end text given rest gives.bytes is.0) ∙ is.1)
+  reads_whole (Err (read_error.Text text_fault.Memory)) text given rest left_old left_new gives is = tt
+  reads_whole (Err (read_error.Text (text_fault.Fault number line))) text given rest left_old left_new gives (inl is) = reads_decided text given rest _ gives.bytes is
+  reads_whole (Err (read_error.Text (text_fault.Fault number line))) text given rest left_old left_new gives (inr is) = ap reads (text_at_end text given rest gives.bytes is.0) ∙ is.1
+  reads_whole (Err read_error.Source) text given rest left_old left_new gives is = ap decides (text_given text given rest left_old left_new gives) ∙ is
+
+  pub reads_known : (result : Result X ReadError) (known rest : Option (List ℕ)) (left_old left_new : ℕ)
+      → (given : List ℕ) × Gives known rest given left_old left_new × ReadsText decides reads result given rest → ReadsKnown decides reads result known (left_old - left_new)
+  reads_known result None rest left_old left_new read = tt
+  reads_known result (Some text) rest left_old left_new read = reads_whole result text read.0 rest left_old left_new read.1 read.2
 
 -- ---- the bytes that were written
 

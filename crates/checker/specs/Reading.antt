@@ -1,5 +1,5 @@
 -- Reading a whole text from a source.
-use Rattle.std.specs.Prelude.{◌≡◌, ℕ, ◌+◌, List, length, ◌⊎◌, Option, None, Some, Result, Ok, Err}
+use Rattle.std.specs.Prelude.{◌≡◌, ℕ, ◌+◌, List, length, take, ◌⊎◌, Option, None, Some, IfSome, Result, Ok, Err}
 use Rattle.std.specs.Io.KnownBytes.{Consumes, IsAtEnd}
 use Rattle.dimacs_lines.specs.declared.fault.TextFault.{TextFault}
 use Rattle.dimacs_lines.specs.declared.fault.TextFault.TheVariants as text_fault
@@ -27,6 +27,17 @@ ReadsText decided reads (Err (read_error.Text text_fault.Memory)) given rest = U
 ReadsText decided reads (Err (read_error.Text (text_fault.Fault number line))) given rest =
     (decided given ≡ Some (text_fault.Fault number line)) ⊎ (IsAtEnd rest × (reads given ≡ Err (text_fault.Fault number line)))
 ReadsText decided reads (Err read_error.Source) given rest = decided given ≡ None
+
+-- of the text `given` has come: it is the whole, which reads as this, the fault is that of the text, or a read failed before one was decided
+abbrev pub ReadsWhole : {X : Type 0} → (List ℕ → Option TextFault) → (List ℕ → Result X TextFault) → Result X ReadError → List ℕ → List ℕ → Type 0
+ReadsWhole decided reads (Ok x) text given = (given ≡ text) × (reads text ≡ Ok x)
+ReadsWhole decided reads (Err (read_error.Text text_fault.Memory)) text given = Unit {0}
+ReadsWhole decided reads (Err (read_error.Text (text_fault.Fault number line))) text given = reads text ≡ Err (text_fault.Fault number line)
+ReadsWhole decided reads (Err read_error.Source) text given = decided given ≡ None
+
+-- the same of a source that tells its text, of which so many bytes were read
+abbrev pub ReadsKnown : {X : Type 0} → (List ℕ → Option TextFault) → (List ℕ → Result X TextFault) → Result X ReadError → Option (List ℕ) → ℕ → Type 0
+ReadsKnown decided reads result known count = IfSome known (λ text. ReadsWhole decided reads result text (take count text))
 
 -- the count of a source's failed calls rises exactly where a failed read ended the reading
 abbrev pub CountsRead : {X : Type 0} → Result X ReadError → ℕ → ℕ → Type 0

@@ -47,10 +47,11 @@ pub fn check<P: Source, A: Source, O: Sink>(
         Ok(right) => right,
         Err(_) => return End::Memory,
     };
-    if write_verdict(right, out).is_err() {
-        return End::WriteFailed;
+    match write_verdict(right, out) {
+        Ok(()) if right => End::Valid,
+        Ok(()) => End::NotValid,
+        Err(_) => End::WriteFailed,
     }
-    if right { End::Valid } else { End::NotValid }
 }
 
 /// Writes the verdict, and passes it on.

@@ -3,11 +3,11 @@ ghost use Rattle.std.specs.Prelude.{◌≡◌, ℕ, ◌-◌, ◌^◌, ◌<◌, L
 ghost use Rattle.dimacs_lines.specs.Stream.{decided};
 ghost use Rattle.dimacs_text.specs.Reading.{problem_rule, reads};
 ghost use Rattle.dimacs_text.specs.Answer.{answer_rule, answers};
-ghost use Rattle.checker.specs.Reading.{CountsRead, Gives, ReadsText};
+ghost use Rattle.checker.specs.Reading.{CountsRead, Gives, ReadsKnown, ReadsText};
 
 use crate::end::{End, Text};
 use dimacs_io::{Broken, Source};
-use dimacs_text::{Answer, AnswerReader, Problem, ProblemReader, TextFault};
+use dimacs_text::{Answer, AnswerReader, Problem, ProblemReader, TextFault, answer_decided_for_all, decided_for_all};
 use std::alloc::Global;
 
 /// How many bytes one read takes at most.
@@ -69,8 +69,12 @@ pub fn read_problem<P: Source>(alloc: Global, problem: &mut P) -> Result<Problem
     ensures read { (given : List ℕ)
         × Gives (P.remaining problem.old) (P.remaining problem.new) given (P.most_left problem.old) (P.most_left problem.new)
         × ReadsText (decided problem_rule) reads result given (P.remaining problem.new) }
+    ensures known { ReadsKnown (decided problem_rule) reads result
+        (P.remaining problem.old) (P.most_left problem.old - P.most_left problem.new) }
     ensures failed { CountsRead result (P.failures problem.old) (P.failures problem.new) }
 {
+    // A fault that is decided is that of the whole text.
+    decided_for_all();
     let mut reader = ProblemReader::new(alloc);
     let mut piece = [0u8; PIECE];
     'pieces: loop {
@@ -94,8 +98,12 @@ pub fn read_answer<A: Source>(
     ensures read { (given : List ℕ)
         × Gives (A.remaining answer.old) (A.remaining answer.new) given (A.most_left answer.old) (A.most_left answer.new)
         × ReadsText (decided (answer_rule nodes arcs)) (answers nodes arcs) result given (A.remaining answer.new) }
+    ensures known { ReadsKnown (decided (answer_rule nodes arcs)) (answers nodes arcs) result
+        (A.remaining answer.old) (A.most_left answer.old - A.most_left answer.new) }
     ensures failed { CountsRead result (A.failures answer.old) (A.failures answer.new) }
 {
+    // A fault that is decided is that of the whole text.
+    answer_decided_for_all();
     let mut reader = AnswerReader::new(alloc, nodes, arcs);
     let mut piece = [0u8; PIECE];
     'pieces: loop {

@@ -1,14 +1,14 @@
-use Rattle.std.proofs.Common.{[], ◌++◌, take, refl, arith, rules}
+use Rattle.std.proofs.Common.{[], ◌++◌, take, Ok, refl, arith, rules}
 use Rattle.std.proofs.lemmas.Result.{err_from_is_err_and}
-use Rattle.dimacs_text.specs.Reading.{problem_rule}
-use Rattle.dimacs_lines.proofs.StreamLemmas.{undecided_nothing}
-use Rattle.checker.proofs.SourceLemmas.{Gives-nil, Gives-more, Gives-none}
+use Rattle.dimacs_text.specs.Reading.{problem_rule, reads}
+use Rattle.dimacs_lines.specs.Stream.{decided}
+use Rattle.checker.proofs.SourceLemmas.{Gives-nil, Gives-more, Gives-none, reads_known}
 use Rattle.checker.proofs.ReadLemmas.{problem_fed, problem_finished}
 use Rattle.checker.proofs.read.read_problem.Goals as goal
 
 pub pieces-init : goal.pieces-init
 pieces-init g c = record {
-  so_far = ([], Gives-nil _ _, c.new-reader.ensures, undecided_nothing problem_rule);
+  so_far = ([], Gives-nil _ _, c.new-reader.ensures.text, c.new-reader.ensures.undecided);
   failures = refl;
 }
 
@@ -45,3 +45,28 @@ returns-in_err-finish-clause-read g c =
       Gives-none _ _ _ so_far.0 c.read.new.piece c.in_ok-count.count _ _ _ so_far.1 c.in_ok-count.ensures.bytes.0 (omega arith) c.in_ok-count.ensures.left,
       rw (p.1, p.2) (problem_finished c.in_err-finish.field-0.0 _ _ (c.in_ok-count.ensures.bytes.1 (omega arith) (search rules)) (c.in_err-finish.ensures.text _ so_far.2)),
     )
+
+pub returns-in_err-count-clause-read : goal.returns-in_err-count-clause-read
+returns-in_err-count-clause-read g c = search rules
+
+pub returns-clause-read : goal.returns-clause-read
+returns-clause-read g c =
+    let so_far = c.pieces.invariant.so_far in (
+      so_far.0,
+      Gives-none _ _ _ so_far.0 c.read.new.piece c.in_ok-count.count _ _ _ so_far.1 c.in_ok-count.ensures.bytes.0 (omega arith) c.in_ok-count.ensures.left,
+      (c.in_ok-count.ensures.bytes.1 (omega arith) (search rules), c.in_ok-finish.ensures.text _ so_far.2),
+    )
+
+-- ---- where the source tells its text
+
+pub returns-in_err-count-clause-known : goal.returns-in_err-count-clause-known
+returns-in_err-count-clause-known g c = reads_known (decided problem_rule) reads (c.decided_for_all.ensures.always) _ _ _ _ _ (returns-in_err-count-clause-read g c)
+
+pub returns-in_err-feed-clause-known : goal.returns-in_err-feed-clause-known
+returns-in_err-feed-clause-known g c = reads_known (decided problem_rule) reads (c.decided_for_all.ensures.always) _ _ _ _ _ (returns-in_err-feed-clause-read g c)
+
+pub returns-in_err-finish-clause-known : goal.returns-in_err-finish-clause-known
+returns-in_err-finish-clause-known g c = reads_known (decided problem_rule) reads (c.decided_for_all.ensures.always) _ _ _ _ _ (returns-in_err-finish-clause-read g c)
+
+pub returns-clause-known : goal.returns-clause-known
+returns-clause-known g c = reads_known (decided problem_rule) reads (c.decided_for_all.ensures.always) (Ok c.in_ok-finish.field-0) _ _ _ _ (returns-clause-read g c)
