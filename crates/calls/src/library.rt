@@ -8,7 +8,8 @@ ghost use Rattle.calls.specs.Library.{IsNotOpened, IsOpening, ReadsAs, Steps, nu
 use crate::fault::{Fault, tell_refusal};
 use crate::status::MEMORY;
 use dimacs_text::{
-    Command, Edit, LINE_LIMIT, Name, Problem, ProblemReader, TextFault, is_blank, read_command,
+    Command, Edit, LINE_LIMIT, Name, Problem, ProblemReader, TextFault, decided_for_all, is_blank,
+    read_command,
 };
 use session::{Refusal, Session};
 use std::alloc::Global;
@@ -30,6 +31,8 @@ const WANT_OF_MEMORY: u8 = 30;
 pub(crate) fn read_problem(alloc: Global, text: &[u8]) -> Result<Problem, TextFault>
     ensures { ReadsAs result text.now }
 {
+    // A fault that is decided is that of the whole text.
+    decided_for_all();
     let mut reader = ProblemReader::new(alloc);
     match reader.feed(text) {
         Ok(()) => reader.finish(),

@@ -7,7 +7,10 @@ ghost use Rattle.checker.specs.Reading.{CountsRead, Gives, ReadsKnown, ReadsText
 
 use crate::end::{End, Text};
 use dimacs_io::{Broken, Source};
-use dimacs_text::{Answer, AnswerReader, Problem, ProblemReader, TextFault, answer_decided_for_all, decided_for_all};
+use dimacs_text::{
+    Answer, AnswerReader, Problem, ProblemReader, TextFault, answer_decided_for_all,
+    decided_for_all,
+};
 use std::alloc::Global;
 
 /// How many bytes one read takes at most.

@@ -1,28 +1,17 @@
--- The lines of a text that goes on.
-use Rattle.std.proofs.Common.{◌≡◌, ℕ, ◌+◌, ◌<◌, ◌≤◌, Bool, true, false, cond, ltb, length, length-drop, arith, List, [], ◌∷◌, ◌++◌, take, drop, refl, sym, ap, ◌∙◌, append_assoc, append-nil, take-append-drop}
+-- Beginnings, and how much of a piece is taken.
+use Rattle.std.proofs.Common.{◌≡◌, ℕ, ◌+◌, ◌<◌, ◌≤◌, Bool, true, false, cond, ltb, length, length-drop, arith, List, [], ◌++◌, take, drop, refl, sym, ap, ◌∙◌, append_assoc, append-nil, take-append-drop}
 use Rattle.std.proofs.lemmas.Bool.{ltb-true}
 use Rattle.std.proofs.Math.Seq.{take-add}
 use Rattle.std.specs.List.{position_or_len}
 use Rattle.dimacs_io.specs.Device.{IsBeginning}
 use Rattle.dimacs_lines.specs.Cut.{bytes_used, has_line_feed}
-use Rattle.dimacs_lines.specs.Lines.{Line, Parts, is_line_feed, parts_of}
-use Rattle.dimacs_lines.proofs.LineLemmas.{joined_parts, parts_of-append}
+use Rattle.dimacs_lines.specs.Lines.{is_line_feed}
 
 pub IsBeginning-trans : {A : Type 0} (xs ys zs : List A) → IsBeginning xs ys → IsBeginning ys zs → IsBeginning xs zs
 IsBeginning-trans xs ys zs p q = (p.0 ++ q.0, q.1 ∙ ap (λ l. l ++ q.0) p.1 ∙ append_assoc xs p.0 q.0)
 
 pub IsBeginning-same : {A : Type 0} (xs : List A) → IsBeginning xs xs
 IsBeginning-same xs = ([], sym (append-nil xs))
-
-joined-begins : (ended : List Line) (rest : Line) (lines : List Line) (more : Line) → IsBeginning ended (joined_parts ended rest lines more).ended
-joined-begins ended rest [] more = IsBeginning-same ended
-joined-begins ended rest (line ∷ lines) more = ((rest ++ line) ∷ lines, refl)
-
--- ended lines stay, and more follow
-pub ended-append : (text more : List ℕ) → IsBeginning (parts_of text).ended (parts_of (text ++ more)).ended
-ended-append text more =
-    let begins = joined-begins (parts_of text).ended (parts_of text).rest (parts_of more).ended (parts_of more).rest in
-    (begins.0, ap (λ (p : Parts). p.ended) (parts_of-append text more) ∙ begins.1)
 
 -- ---- a piece that is taken part by part
 

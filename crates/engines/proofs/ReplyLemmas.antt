@@ -19,7 +19,6 @@ use Rattle.dimacs_text.specs.Group.{Gathered, and_line, gathered}
 use Rattle.dimacs_lines.specs.Fields.{Word, words_of}
 use Rattle.dimacs_lines.specs.Lines.{Line, is_too_long}
 use Rattle.dimacs_text.specs.Turns.{Turn, Turns, OfGroup, OfLine, and_inside, and_outside, and_turn_by}
-use Rattle.dimacs_text.proofs.BracketLemmas.{opens}
 use Rattle.history.specs.Boards.{Advances, StepsBack, StepsForward}
 use Rattle.network.specs.Edited.{edited, edited_all}
 use Rattle.network.specs.Instance.{Instance, kind_of}
@@ -227,36 +226,38 @@ asks_text line text is some =
     let words : words_of line ≡ [] → ⊥ = λ none. some (ap words_of (sym k.1) ∙ none) in
     some_words (is_too_long line) (words_of line) (words_ask (words_of line) words)
 
--- a line that opens a group
-pub serves_opening : {E : Type 0} (s : SessionState) (line text : Line) (group : Option Gathered) (known : Option (List ℕ)) → Some text ≡ kept line → (words_of text ≡ [] → ⊥)
-    → Ok commands.Group ≡ command (kind_of s.moments.present.instance.demand) text → ((kind : Kind) → group ≡ Some (gathered kind 0 [])) → ServesLine {E = E} (Ok tt) s None line s group known known
-serves_opening s line text group known is some reads begins =
-    let kind = kind_of s.moments.present.instance.demand in
-    let group_line = (opens kind line).0 (ap (asked kind) (kept_is line text is).1 ∙ numbered_ok (asked kind text) commands.Group (sym reads)) in
-    served_by (Ok tt) (record { whole = []; opened = Some [] }) s s None line [] group known known (turns_outside true line (asks_text line text is some) group_line)
-    (none_answered s) (Appends-nil known) (begins kind)
-
-opens_not : (b : Bool) (kind : Kind) (line : Line) → opens_group line ≡ b → (command kind line ≡ Ok commands.Group → ⊥) → opens_group line ≡ false
-opens_not true kind line e other = absurd (other (ap numbered ((opens kind line).1 e)))
-opens_not false kind line e other = e
-
 pub other_command : (c : Command) → (c ≡ commands.Group → ⊥) → ◌≡◌ {A = Result Command ℕ} (Ok c) (Ok commands.Group) → ⊥
 other_command c other e = other cc
 
 pub refused_number : (number : ℕ) → ◌≡◌ {A = Result Command ℕ} (Err number) (Ok commands.Group) → ⊥
 refused_number number e = cc
 
--- any other line outside of a group is answered as its command is
-pub serves_command : {E : Type 0} (r : Result (Unit {0}) E) (old new : SessionState) (line text : Line) (asked : Result Command ℕ) (reply : Reply) (group : Option Gathered)
-    (before after : Option (List ℕ)) → Some text ≡ kept line → (words_of text ≡ [] → ⊥) → asked ≡ command (kind_of old.moments.present.instance.demand) text
-    → (asked ≡ Ok commands.Group → ⊥) → MatchResult asked (λ c. StepBy c old reply new) (λ number. IsRefused number old reply new) → group ≡ None
-    → WritesUpTo r before after (reply_text reply new.moments.present) → ServesLine r old None line new group before after
-serves_command r old new line text asked reply group before after is some reads other step alone writes =
-    let kind = kind_of old.moments.present.instance.demand in
-    let read : command kind line ≡ asked = ap (command kind) (kept_is line text is).1 ∙ sym reads in
-    served_by r (record { whole = OfLine line ∷ []; opened = None }) old new None line (reply_text reply new.moments.present) group before after
-    (turns_outside false line (asks_text line text is some) (opens_not (opens_group line) kind line refl (λ e. other (sym read ∙ e))))
-    (turn_answered (OfLine line) old new reply (step_by asked old new line reply read step)) writes (on_ok r alone)
+-- by what `group` is read as
+module _ (opens : (kind : Kind) (line : Line) → (asked kind line ≡ Ok commands.Group) ↔ IsTrue (opens_group line)) where
+  -- a line that opens a group
+  pub serves_opening : {E : Type 0} (s : SessionState) (line text : Line) (group : Option Gathered) (known : Option (List ℕ)) → Some text ≡ kept line → (words_of text ≡ [] → ⊥)
+      → Ok commands.Group ≡ command (kind_of s.moments.present.instance.demand) text → ((kind : Kind) → group ≡ Some (gathered kind 0 [])) → ServesLine {E = E} (Ok tt) s None line s group known known
+  serves_opening s line text group known is some reads begins =
+      let kind = kind_of s.moments.present.instance.demand in
+      let group_line = (opens kind line).0 (ap (asked kind) (kept_is line text is).1 ∙ numbered_ok (asked kind text) commands.Group (sym reads)) in
+      served_by (Ok tt) (record { whole = []; opened = Some [] }) s s None line [] group known known (turns_outside true line (asks_text line text is some) group_line)
+      (none_answered s) (Appends-nil known) (begins kind)
+
+  opens_not : (b : Bool) (kind : Kind) (line : Line) → opens_group line ≡ b → (command kind line ≡ Ok commands.Group → ⊥) → opens_group line ≡ false
+  opens_not true kind line e other = absurd (other (ap numbered ((opens kind line).1 e)))
+  opens_not false kind line e other = e
+
+  -- any other line outside of a group is answered as its command is
+  pub serves_command : {E : Type 0} (r : Result (Unit {0}) E) (old new : SessionState) (line text : Line) (asked : Result Command ℕ) (reply : Reply) (group : Option Gathered)
+      (before after : Option (List ℕ)) → Some text ≡ kept line → (words_of text ≡ [] → ⊥) → asked ≡ command (kind_of old.moments.present.instance.demand) text
+      → (asked ≡ Ok commands.Group → ⊥) → MatchResult asked (λ c. StepBy c old reply new) (λ number. IsRefused number old reply new) → group ≡ None
+      → WritesUpTo r before after (reply_text reply new.moments.present) → ServesLine r old None line new group before after
+  serves_command r old new line text asked reply group before after is some reads other step alone writes =
+      let kind = kind_of old.moments.present.instance.demand in
+      let read : command kind line ≡ asked = ap (command kind) (kept_is line text is).1 ∙ sym reads in
+      served_by r (record { whole = OfLine line ∷ []; opened = None }) old new None line (reply_text reply new.moments.present) group before after
+      (turns_outside false line (asks_text line text is some) (opens_not (opens_group line) kind line refl (λ e. other (sym read ∙ e))))
+      (turn_answered (OfLine line) old new reply (step_by asked old new line reply read step)) writes (on_ok r alone)
 
 -- the lines of the group that stands open
 pub open_lines : (kind : Kind) (group : Gathered) (opened : Option (List Line)) → Some group ≡ option_map (gathered kind 0) opened

@@ -3,23 +3,22 @@ use Rattle.std.proofs.Common.{◌≡◌, ℕ, Bool, true, false, cond, List, [],
 use Rattle.std.proofs.lemmas.Bool.{false≢true}
 use Rattle.std.specs.List.{concat}
 use Rattle.std.proofs.lemmas.List.Folds.{concat-append}
+use Rattle.std.proofs.lemmas.List.Sums.{fold-append}
 use Rattle.std.proofs.lemmas.List.Elements.{filter-append}
 use Rattle.std.specs.Io.KnownBytes.{Appends}
 use Rattle.std.proofs.KnownBytes.{Appends-nil, Appends-trans}
 use Rattle.dimacs_io.specs.Device.{IsBeginning, AppendsBeginning, CountsFailure}
-use Rattle.dimacs_io.proofs.DeviceLemmas.{AppendsBeginning-after}
+use Rattle.engines.proofs.PrintingLemmas.{stopped_after}
 use Rattle.dimacs_text.specs.Command.{opens_group, ends_group}
-use Rattle.dimacs_lines.specs.Cut.{Cut, CutsLine, HoldsRest, has_bytes, is_begun, kept}
+use Rattle.dimacs_lines.specs.Cut.{Cut, CutsLine}
 use Rattle.dimacs_text.specs.Group.{Gathered}
-use Rattle.dimacs_lines.specs.Lines.{Line, is_too_long, last_line, lines_of, parts_of}
+use Rattle.dimacs_lines.specs.Lines.{Line, last_line, lines_of, parts_of}
 use Rattle.dimacs_lines.specs.Fields.{words_of}
-use Rattle.dimacs_text.specs.Turns.{Turn, Turns, and_inside, and_outside, and_turn_by, turns_of}
-use Rattle.dimacs_lines.proofs.BegunLemmas.{bytes_begun, cut_line_of}
-use Rattle.dimacs_text.proofs.TurnLemmas.{one_line_more}
+use Rattle.dimacs_text.specs.Turns.{Turn, Turns, and_inside, and_outside, and_turn, and_turn_by, no_turns, turns_of}
 use Rattle.session.specs.Step.{SessionState}
 use Rattle.engines.specs.Run.{Answers, AnswersTurns, Run, asks, turns_by, turns_in}
 use Rattle.engines.specs.Serving.{Answered, AnswersLine, Finishes, GoesOn, ServesLine, Stands, Stopped, gathered_in}
-use Rattle.engines.proofs.LineLemmas.{IsBeginning-same, IsBeginning-trans, ended-append}
+use Rattle.engines.proofs.LineLemmas.{IsBeginning-same, IsBeginning-trans}
 
 -- ---- the turns of one line more
 
@@ -46,7 +45,7 @@ more_by : (asked : Bool) (lines : List Line) (line : Line) → asks line ≡ ask
 more_by true lines line e =
     let kept_lines : filter asks (lines ++ line ∷ []) ≡ filter asks lines ++ line ∷ [] =
     filter-append asks lines (line ∷ []) ∙ ap (λ b. filter asks lines ++ cond b (line ∷ []) []) e in
-    ap turns_of kept_lines ∙ one_line_more (filter asks lines) line ∙ one_more (turns_in lines).opened (turns_in lines).whole line
+    ap turns_of kept_lines ∙ fold-append and_turn no_turns (filter asks lines) (line ∷ []) ∙ one_more (turns_in lines).opened (turns_in lines).whole line
 more_by false lines line e =
     let kept_lines : filter asks (lines ++ line ∷ []) ≡ filter asks lines =
     filter-append asks lines (line ∷ []) ∙ ap (λ b. filter asks lines ++ cond b (line ∷ []) []) e ∙ append-nil (filter asks lines) in
@@ -100,7 +99,7 @@ Stopped-more first mid last lines line text before now after done step part = re
   whole = done.written ++ text;
   last = last;
   answers = Answers-more lines line done.written text first mid last done.answers step;
-  appends = AppendsBeginning-after before now after done.written text done.appends part;
+  appends = stopped_after before now after done.written text done.appends part;
 }
 
 -- what a failed call stopped is stopped too where more lines come
@@ -115,10 +114,10 @@ Stopped-longer first short long before after more stop = record {
   appends = stop.appends;
 }
 
-pub Stopped-append : (first : SessionState) (text more all : List ℕ) (before after : Option (List ℕ)) → text ++ more ≡ all → Stopped first (parts_of text).ended before after
+pub Stopped-append : (first : SessionState) (text more all : List ℕ) (before after : Option (List ℕ)) → text ++ more ≡ all → IsBeginning (parts_of text).ended (parts_of (text ++ more)).ended → Stopped first (parts_of text).ended before after
     → Stopped first (parts_of all).ended before after
-Stopped-append first text more all before after e stop =
-    rw (← e) (Stopped-longer first (parts_of text).ended (parts_of (text ++ more)).ended before after (ended-append text more) stop)
+Stopped-append first text more all before after e stay stop =
+    rw (← e) (Stopped-longer first (parts_of text).ended (parts_of (text ++ more)).ended before after stay stop)
 
 -- ---- a session that begins, and goes on by a part of a piece
 
@@ -156,22 +155,6 @@ GoesOn-complete (Err e) first mid last group given longer old new before now aft
 
 -- ---- the end of the commands
 
-some_bytes : (long : Bool) (byte : ℕ) (line : Line) → has_bytes (cond long None (Some (byte ∷ line))) ≡ true
-some_bytes true byte line = refl
-some_bytes false byte line = refl
-
-has_bytes-kept : (line : Line) → has_bytes (kept line) ≡ false → line ≡ []
-has_bytes-kept [] none = refl
-has_bytes-kept (byte ∷ line) none = absurd (false≢true (sym none ∙ some_bytes (is_too_long (byte ∷ line)) byte line))
-
--- where no line is begun, all lines are ended
-pub rest_empty : (cut : Cut) (given : List ℕ) → HoldsRest cut given → is_begun cut ≡ false → (parts_of given).rest ≡ []
-rest_empty cut given holds none = has_bytes-kept (parts_of given).rest (ap has_bytes (sym holds) ∙ none)
-
--- where one is, the cutter has it
-pub line_begun : (cut : Cut) (given : List ℕ) → HoldsRest cut given → is_begun cut ≡ true → cut.line ≡ kept (parts_of given).rest
-line_begun cut given holds begun = cut_line_of cut (bytes_begun _ begun) ∙ holds
-
 asked_at_end : (ended : List Line) (rest : Line) → filter asks (ended ++ rest ∷ []) ≡ filter asks (ended ++ last_line rest)
 unfolding words_of
 asked_at_end ended [] = filter-append asks ended ([] ∷ []) ∙ sym (filter-append asks ended [])
@@ -199,7 +182,7 @@ Finishes-served (Err e) first mid last group given before now after done served 
       whole = done.written ++ served.text;
       last = last;
       answers = Answers-end first last given (done.written ++ served.text) whole;
-      appends = AppendsBeginning-after before now after done.written served.text done.appends served.writes;
+      appends = stopped_after before now after done.written served.text done.appends served.writes;
     }
 
 -- there was none

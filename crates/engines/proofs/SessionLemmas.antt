@@ -1,9 +1,8 @@
 -- What a whole session has written, by where it ends.
 use Rattle.std.proofs.Common.{◌≡◌, ℕ, ◌+◌, ◌-◌, arith, List, [], ◌++◌, take, Option, None, Some, Ok, Err, inl, inr, refl, sym, ap, ◌∙◌, append-nil}
-use Rattle.std.specs.Io.KnownBytes.{Appends, IsAtEnd}
+use Rattle.std.specs.Io.KnownBytes.{Appends}
 use Rattle.std.proofs.KnownBytes.{Appends-trans}
 use Rattle.dimacs_io.specs.Device.{AppendsBeginning}
-use Rattle.dimacs_io.proofs.DeviceLemmas.{AppendsBeginning-after}
 use Rattle.dimacs_lines.specs.declared.fault.TextFault.TheVariants as text_fault
 use Rattle.dimacs_lines.specs.Lines.{Line, lines_of, parts_of}
 use Rattle.dimacs_lines.specs.Stream.{decided}
@@ -16,30 +15,31 @@ use Rattle.checker.specs.declared.read.ReadError.{ReadError}
 use Rattle.checker.specs.declared.read.ReadError.TheVariants as read_error
 use Rattle.checker.specs.Check.{IsProblemText, write_failures, problem_failures}
 use Rattle.engines.specs.Printing.{outcome_line}
-use Rattle.checker.specs.Reading.{Gives, ReadsText, end_of}
+use Rattle.checker.specs.Reading.{Gives, ReadsKnown, ReadsWhole, end_of}
 use Rattle.engines.specs.Run.{Answers}
 use Rattle.engines.specs.Serving.{CommandsEnd, CommandsFail, Stopped}
 use Rattle.engines.specs.Session.{Opens, PrintsBeginning, PrintsRun, SessionOnDevices, SessionWrites, command_failures}
-use Rattle.checker.proofs.SourceLemmas.{all_given, text_at_end, text_given, problem_text, reads_decided, appended}
+use Rattle.checker.proofs.SourceLemmas.{all_given, text_at_end, text_given}
+use Rattle.engines.proofs.PrintingLemmas.{appended, stopped_after}
 
 -- ---- the problem was not read
 
-problem_end : (e : ReadError) (extra : ℕ) (text given commands commands_given : List ℕ) (rest : Option (List ℕ)) (left_old left_new : ℕ) → Gives (Some text) rest given left_old left_new
-    → ReadsText (decided problem_rule) reads (Err e) given rest → SessionWrites (end_of the.Problem e) extra text (take (left_old - left_new) text) commands commands_given []
-problem_end (read_error.Text text_fault.Memory) extra text given commands commands_given rest left_old left_new gives is = refl
-problem_end (read_error.Text (text_fault.Fault number line)) extra text given commands commands_given rest left_old left_new gives (inl is) = (reads_decided text given rest _ gives.bytes is, refl)
-problem_end (read_error.Text (text_fault.Fault number line)) extra text given commands commands_given rest left_old left_new gives (inr is) =
-    (ap reads (text_at_end text given rest gives.bytes is.0) ∙ is.1, refl)
-problem_end read_error.Source extra text given commands commands_given rest left_old left_new gives is = (ap (decided problem_rule) (text_given text given rest left_old left_new gives) ∙ is, refl)
+problem_end : (e : ReadError) (extra : ℕ) (text given commands commands_given : List ℕ) → ReadsWhole (decided problem_rule) reads (Err e) text given
+    → SessionWrites (end_of the.Problem e) extra text given commands commands_given []
+problem_end (read_error.Text text_fault.Memory) extra text given commands commands_given is = refl
+problem_end (read_error.Text (text_fault.Fault number line)) extra text given commands commands_given is = (is, refl)
+problem_end read_error.Source extra text given commands commands_given is = (is, refl)
 
-pub SessionOnDevices-problem : (e : ReadError) (extra : ℕ) (known rest : Option (List ℕ)) (given : List ℕ) (left_old left_new : ℕ) (commands : Option (List ℕ)) (count : ℕ) (before : Option (List ℕ))
-    → Gives known rest given left_old left_new → ReadsText (decided problem_rule) reads (Err e) given rest
-    → SessionOnDevices (end_of the.Problem e) extra known (left_old - left_new) commands count before before
-SessionOnDevices-problem e extra None rest given left_old left_new commands count before gives is = tt
-SessionOnDevices-problem e extra (Some text) rest given left_old left_new None count before gives is = tt
-SessionOnDevices-problem e extra (Some text) rest given left_old left_new (Some commands) count None gives is = tt
-SessionOnDevices-problem e extra (Some text) rest given left_old left_new (Some commands) count (Some held) gives is =
-    ([], ap (λ l. Some l) (sym (append-nil held)), problem_end e extra text given commands (take count commands) rest left_old left_new gives is)
+pub SessionOnDevices-problem : (e : ReadError) (extra : ℕ) (known : Option (List ℕ)) (read_count : ℕ) (commands : Option (List ℕ)) (count : ℕ) (before : Option (List ℕ))
+    → ReadsKnown (decided problem_rule) reads (Err e) known read_count → SessionOnDevices (end_of the.Problem e) extra known read_count commands count before before
+SessionOnDevices-problem e extra None read_count commands count before is = tt
+SessionOnDevices-problem e extra (Some text) read_count None count before is = tt
+SessionOnDevices-problem e extra (Some text) read_count (Some commands) count None is = tt
+SessionOnDevices-problem e extra (Some text) read_count (Some commands) count (Some held) is =
+    ([], ap (λ l. Some l) (sym (append-nil held)), problem_end e extra text (take read_count text) commands (take count commands) is)
+
+problem_text : (text given : List ℕ) (problem : ProblemValue) → ReadsWhole (decided problem_rule) reads (Ok problem) text given → IsProblemText text given problem
+problem_text text given problem read = record { whole = read.0; problem_is = read.1 }
 
 -- ---- the opening line was written up to a failed call
 
@@ -54,15 +54,14 @@ prints_opening problem extra opening opens = record {
   written_is = refl;
 }
 
-pub SessionOnDevices-opening : (problem : ProblemValue) (extra : ℕ) (opening : SessionState) (known rest : Option (List ℕ)) (given : List ℕ) (left_old left_new : ℕ)
-    (commands : Option (List ℕ)) (count : ℕ) (before after : Option (List ℕ))
-    → Gives known rest given left_old left_new → IsAtEnd rest → reads given ≡ Ok problem → Opens problem extra opening
+pub SessionOnDevices-opening : (problem : ProblemValue) (extra : ℕ) (opening : SessionState) (known : Option (List ℕ)) (read_count : ℕ) (commands : Option (List ℕ)) (count : ℕ) (before after : Option (List ℕ))
+    → ReadsKnown (decided problem_rule) reads (Ok problem) known read_count → Opens problem extra opening
     → AppendsBeginning before after (outcome_line opening.moments.present.verdict)
-    → SessionOnDevices WriteFailed extra known (left_old - left_new) commands count before after
-SessionOnDevices-opening problem extra opening None rest given left_old left_new commands count before after gives end is opens part = tt
-SessionOnDevices-opening problem extra opening (Some text) rest given left_old left_new None count before after gives end is opens part = tt
-SessionOnDevices-opening problem extra opening (Some text) rest given left_old left_new (Some commands) count None after gives end is opens part = tt
-SessionOnDevices-opening problem extra opening (Some text) rest given left_old left_new (Some commands) count (Some held) after gives end is opens part =
+    → SessionOnDevices WriteFailed extra known read_count commands count before after
+SessionOnDevices-opening problem extra opening None read_count commands count before after read opens part = tt
+SessionOnDevices-opening problem extra opening (Some text) read_count None count before after read opens part = tt
+SessionOnDevices-opening problem extra opening (Some text) read_count (Some commands) count None after read opens part = tt
+SessionOnDevices-opening problem extra opening (Some text) read_count (Some commands) count (Some held) after read opens part =
     let line = outcome_line opening.moments.present.verdict in
     let begins : PrintsBeginning problem extra (parts_of (take count commands)).ended part.0 =
     record {
@@ -72,7 +71,7 @@ SessionOnDevices-opening problem extra opening (Some text) rest given left_old l
       prints = prints_opening problem extra opening opens;
       part = (part.1.0, append-nil line ∙ part.1.1);
     } in
-    (part.0, appended held part.0 after part.2, (problem, problem_text text given rest left_old left_new problem gives end is, inl begins))
+    (part.0, appended held part.0 after part.2, (problem, problem_text text (take read_count text) problem read, inl begins))
 
 -- ---- the commands came to their end, or to a failed call
 
@@ -92,7 +91,7 @@ prints_stopped : (extra : ℕ) (problem : ProblemValue) (opening : SessionState)
     → Appends (Some held) mid (outcome_line opening.moments.present.verdict) → Stopped opening lines mid after
     → (written : List ℕ) × (after ≡ Some (held ++ written)) × PrintsBeginning problem extra lines written
 prints_stopped extra problem opening lines held mid after opens line stop =
-    let part = AppendsBeginning-after (Some held) mid after (outcome_line opening.moments.present.verdict) stop.whole line stop.appends in
+    let part = stopped_after (Some held) mid after (outcome_line opening.moments.present.verdict) stop.whole line stop.appends in
     let begins : PrintsBeginning problem extra lines part.0 =
     record {
       front = stop.front;
@@ -141,17 +140,17 @@ commands_end WriteFailed extra problem opening text problem_given commands given
     let whole = text_at_end commands given rest gives.bytes ends.0 in
     (begins.0, begins.1, (problem, is, inr (all_given commands given rest left_old left_new gives ends.0, rw whole begins.2)))
 
-pub SessionOnDevices-commands : (end : End) (extra : ℕ) (problem : ProblemValue) (opening : SessionState) (known problem_rest : Option (List ℕ)) (problem_given : List ℕ) (problem_old problem_new : ℕ)
+pub SessionOnDevices-commands : (end : End) (extra : ℕ) (problem : ProblemValue) (opening : SessionState) (known : Option (List ℕ)) (read_count : ℕ)
     (commands rest : Option (List ℕ)) (given : List ℕ) (left_old left_new : ℕ) (before mid after : Option (List ℕ))
-    → Gives known problem_rest problem_given problem_old problem_new → IsAtEnd problem_rest → reads problem_given ≡ Ok problem → Opens problem extra opening
+    → ReadsKnown (decided problem_rule) reads (Ok problem) known read_count → Opens problem extra opening
     → Appends before mid (outcome_line opening.moments.present.verdict) → Gives commands rest given left_old left_new → CommandsEnd end opening given rest mid after
-    → SessionOnDevices end extra known (problem_old - problem_new) commands (left_old - left_new) before after
-SessionOnDevices-commands end extra problem opening None problem_rest problem_given problem_old problem_new commands rest given left_old left_new before mid after has at_end is opens line gives ends = tt
-SessionOnDevices-commands end extra problem opening (Some text) problem_rest problem_given problem_old problem_new None rest given left_old left_new before mid after has at_end is opens line gives ends = tt
-SessionOnDevices-commands end extra problem opening (Some text) problem_rest problem_given problem_old problem_new (Some commands) rest given left_old left_new None mid after has at_end is opens line gives ends = tt
-SessionOnDevices-commands end extra problem opening (Some text) problem_rest problem_given problem_old problem_new (Some commands) rest given left_old left_new (Some held) mid after has at_end is opens line gives ends =
-    commands_end end extra problem opening text (take (problem_old - problem_new) text) commands given held rest left_old left_new mid after
-    (problem_text text problem_given problem_rest problem_old problem_new problem has at_end is) opens gives line ends
+    → SessionOnDevices end extra known read_count commands (left_old - left_new) before after
+SessionOnDevices-commands end extra problem opening None read_count commands rest given left_old left_new before mid after read opens line gives ends = tt
+SessionOnDevices-commands end extra problem opening (Some text) read_count None rest given left_old left_new before mid after read opens line gives ends = tt
+SessionOnDevices-commands end extra problem opening (Some text) read_count (Some commands) rest given left_old left_new None mid after read opens line gives ends = tt
+SessionOnDevices-commands end extra problem opening (Some text) read_count (Some commands) rest given left_old left_new (Some held) mid after read opens line gives ends =
+    commands_end end extra problem opening text (take read_count text) commands given held rest left_old left_new mid after
+    (problem_text text (take read_count text) problem read) opens gives line ends
 
 -- ---- the counts of failed calls
 

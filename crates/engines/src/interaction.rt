@@ -12,6 +12,7 @@ use crate::reply::serve_line;
 use crate::solution::write_outcome;
 use checker::{End, Text, read_problem};
 use dimacs_io::{Broken, Sink, Source};
+use dimacs_lines::ended_lines_stay;
 use dimacs_text::{Group, LineCutter};
 use session::Session;
 use std::alloc::{Allocator, Global};
@@ -82,10 +83,10 @@ pub fn run_session_in<A: Allocator + Copy, P: Source, C: Source, O: Sink>(
         Ok(session) => session,
         Err(_) => return End::Memory,
     };
-    if tell_opening(&session, out).is_err() {
-        return End::WriteFailed;
+    match tell_opening(&session, out) {
+        Ok(()) => serve_commands(&mut session, script, out),
+        Err(_) => End::WriteFailed,
     }
-    serve_commands(&mut session, script, out)
 }
 
 /// Writes what is told of the moment that the session begins with, and passes it on.
@@ -147,6 +148,7 @@ fn serve_piece<A: Allocator + Copy, O: Sink>(
         → GoesOn result opening (given ++ piece.now) (state_of session.new) group.new cutter.new before (O.contents out.new) }
     ensures failed { CountsFailure result (O.failures out.old) (O.failures out.new) }
 {
+    ended_lines_stay();
     let mut at = 0;
     while at < piece.len() {
         let (used, complete) = cutter.take(&piece[at..]);

@@ -14,8 +14,8 @@ ghost use Rattle.engines.specs.Run.{asks};
 ghost use Rattle.engines.specs.Serving.{Replies, ServesLine, gathered_in, number_of};
 
 use crate::solution::{write_outcome, write_solution};
-use dimacs_io::{Broken, Sink, write_r};
-use dimacs_text::{Command, Edit, Group, Name, is_blank, read_command};
+use dimacs_io::{Broken, Sink, write_r, writes_follow};
+use dimacs_text::{Command, Edit, Group, Name, groups_are_bracketed, is_blank, read_command};
 use network::Network;
 use session::{Refusal, Session};
 use std::alloc::Allocator;
@@ -48,6 +48,7 @@ pub fn serve_line<A: Allocator + Copy, O: Sink>(
     if !asks(line) {
         return Ok(());
     }
+    writes_follow();
     match group {
         None => serve_alone(session, group, line, out),
         Some(open) => {
@@ -86,6 +87,8 @@ fn serve_alone<A: Allocator + Copy, O: Sink>(
         → ServesLine result (state_of session.old) None whole (state_of session.new) group.new (O.contents out.old) (O.contents out.new) }
     ensures failed { CountsFailure result (O.failures out.old) (O.failures out.new) }
 {
+    groups_are_bracketed();
+    writes_follow();
     match line {
         None => write_r(out, LINE_TOO_LONG)?,
         Some(line) => match read_command(session.network().kind(), line) {

@@ -5,7 +5,7 @@ ghost use Rattle.dimacs_io.specs.Device.{CountsFailure, WritesUpTo};
 ghost use Rattle.engines.specs.Printing.{best_text, cut_lines, flow_lines, outcome_line, potential_lines, solution, breach_text};
 ghost use Rattle.network.specs.Instance.{numbered_flow};
 
-use dimacs_io::{Broken, Sink, write_f, write_i, write_k, write_s, write_v};
+use dimacs_io::{Broken, Sink, write_f, write_i, write_k, write_s, write_v, writes_follow};
 use dimacs_text::ArcRow;
 use flow_solver::Verdict;
 use network::Network;
@@ -55,6 +55,7 @@ fn write_best<A: Allocator + Copy, O: Sink>(
     ensures bytes { WritesUpTo result (O.contents out.old) (O.contents out.new) (best_text worth proof session.now.moments.present) }
     ensures failed { CountsFailure result (O.failures out.old) (O.failures out.new) }
 {
+    writes_follow();
     write_s(out, worth)?;
     write_flows(session.network(), session.flow(), out)?;
     write_proof(proof, session.potentials(), out)
@@ -71,6 +72,7 @@ fn write_breach<A: Allocator + Copy, O: Sink>(
         (breach_text shortage session.now.moments.present.cut) }
     ensures failed { CountsFailure result (O.failures out.old) (O.failures out.new) }
 {
+    writes_follow();
     write_i(out, shortage)?;
     write_cut(session.cut(), out)
 }

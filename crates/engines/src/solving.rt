@@ -37,10 +37,10 @@ pub fn solve<P: Source, O: Sink>(alloc: Global, input: &mut P, out: &mut O, proo
         Ok(session) => session,
         Err(_) => return End::Memory,
     };
-    if tell_solution(&session, proof, out).is_err() {
-        return End::WriteFailed;
+    match tell_solution(&session, proof, out) {
+        Ok(()) => end_by(session.verdict()),
+        Err(_) => End::WriteFailed,
     }
-    end_by(session.verdict())
 }
 
 /// Writes the solution of the present moment, and passes it on.

@@ -3,4 +3,4 @@ use Rattle.calls.proofs.ReadLemmas.{fed}
 use Rattle.calls.proofs.library.read_problem.Goals as goal
 
 pub returns-in-Err : goal.returns-in-Err
-returns-in-Err c = fed c.in-Err.fault c.feed.new.self c.args.text.now (c.in-Err.ensures.text [] c.new-reader.ensures)
+returns-in-Err c = fed c.decided_for_all.ensures.always c.in-Err.fault c.feed.new.self c.args.text.now (c.in-Err.ensures.text [] c.new-reader.ensures.text)

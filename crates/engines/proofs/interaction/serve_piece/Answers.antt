@@ -48,7 +48,7 @@ returns-in_err-serve_line-clause-goes_on g c opening given before stands =
     let stop = rw grown at (GoesOn-complete _ opening _ _ _ text longer c.loop-at.cutter c.take-used.new.self before _ _ so_far.answered cuts served) in
     rw (p.1)
     (Stopped-append opening (given ++ take (c.loop-at.at + c.take-used.result.0) piece) (drop (c.loop-at.at + c.take-used.result.0) piece) (given ++ piece) before _
-    (append_take_rest given piece (c.loop-at.at + c.take-used.result.0)) stop)
+    (append_take_rest given piece (c.loop-at.at + c.take-used.result.0)) (c.ended_lines_stay.ensures _ _) stop)
 
 pub returns-clause-goes_on : goal.returns-clause-goes_on
 returns-clause-goes_on g c opening given before stands =

@@ -1,12 +1,13 @@
-use Rattle.std.proofs.Common.{◌∙◌, sym}
-use Rattle.engines.proofs.RunLemmas.{Answered-none, Finishes-served, line_begun, rest_empty}
+use Rattle.std.proofs.Common.{◌∙◌}
+use Rattle.engines.proofs.RunLemmas.{Answered-none, Finishes-served}
 use Rattle.engines.proofs.interaction.serve_rest.Goals as goal
 
 pub returns-then-begun-clause-rest : goal.returns-then-begun-clause-rest
 returns-then-begun-clause-rest g c opening given before stands =
-    let line = line_begun c.args.cutter.now given stands.holds (sym c.begun.ensures ∙ c.if-begun.true) in
+    let line = rw c.if-begun.true at (c.begun.ensures.text given stands.holds) in
     Finishes-served c.serve_line.result opening _ _ _ given before _ _ stands.answered (c.serve_line.ensures.served _ (c.line.ensures ∙ line) _ stands.gathers)
 
 pub returns-else-begun-clause-rest : goal.returns-else-begun-clause-rest
 returns-else-begun-clause-rest g c opening given before stands =
-    Answered-none opening _ given before _ (rest_empty c.args.cutter.now given stands.holds (sym c.begun.ensures ∙ c.if-begun.false)) stands.answered
+    let none = rw c.if-begun.false at (c.begun.ensures.text given stands.holds) in
+    Answered-none opening _ given before _ none stands.answered
