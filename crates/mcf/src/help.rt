@@ -18,7 +18,8 @@ Statuses:
   4  a read or a write failed, or a file was not opened
   5  want of memory
 
-Each command's --help says its faults or refusals in words; 'man 5 mcf' says them all, with the formats.";
+Each command's --help says its faults or refusals in words; docs/FORMATS.md and 'man 5 mcf' say them all, with the
+formats.";
 
 /// What `solve` does, in a sentence.
 pub const SOLVE: &str = "Print a best flow of a problem, or the cut that shows that there is none";
@@ -27,6 +28,11 @@ pub const SOLVE: &str = "Print a best flow of a problem, or the cut that shows t
 pub const AFTER_SOLVE: &str = "Examples:
   mcf solve --proof plan.min > plan.sol
   zcat plan.min.gz | mcf solve
+
+A problem is a text of these lines, the p line first, all numbers whole:
+  p min NODES ARCS   n NODE SUPPLY (below 0: demand)       a FROM TO LOW CAP COST
+  p max NODES ARCS   n NODE s (source), n NODE t (sink)    a FROM TO CAP
+  p asn NODES ARCS   n NODE (each of the source side)      a FROM TO COST
 
 It prints 's VALUE' and a line 'f FROM TO FLOW' for each arc; with --proof also 'v NODE POTENTIAL' for each node;
 or 'i SHORTAGE' and a line 'k NODE' for each node of the cut, with status 1. Nothing is printed before the end.
