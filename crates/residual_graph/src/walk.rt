@@ -195,7 +195,10 @@ impl Walk {
                 Some(end_with(graph, number))
             }
             Stage::Return(way) => {
-                self.enter(graph, Stage::of(graph, graph.network().first_end(self.node)));
+                self.enter(
+                    graph,
+                    Stage::of(graph, graph.network().first_end(self.node)),
+                );
                 Some(end_with(graph, return_end(way)))
             }
         }

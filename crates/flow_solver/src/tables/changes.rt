@@ -43,7 +43,12 @@ impl Tables {
             &mut self.scratch,
             &mut self.cut,
         );
-        self.verdict = judge(self.graph.network(), self.graph.rows(), &self.flow, &self.balance);
+        self.verdict = judge(
+            self.graph.network(),
+            self.graph.rows(),
+            &self.flow,
+            &self.balance,
+        );
         pushes
     }
 
