@@ -3,7 +3,7 @@ use Rattle.std.proofs.Common.{◌≡◌, ℕ, zero, suc, ◌+◌, ◌-◌, ◌<�
 use Rattle.std.specs.List.{AllZip}
 use Rattle.std.proofs.lemmas.Int.{ints}
 use Rattle.std.proofs.lemmas.Bool.{cases_lt, cases_eq}
-use Rattle.std.proofs.lemmas.List.{length-set, get_or_default, get_or_past, length-append, get_or-set_same, get_or-set_other}
+use Rattle.std.proofs.lemmas.List.{length-set, get_or_default, get_or_past, get_or-set_same, get_or-set_other}
 use Rattle.std.proofs.lemmas.List.Elements.{All-set}
 use Rattle.dimacs_text.specs.declared.problem.ArcRow.{ArcRow}
 use Rattle.dimacs_text.specs.Lawful.{IsLawfulRow, IsWithin}
@@ -38,20 +38,20 @@ rows_set (Sides marks) arcs k row one = refl
 pub rows_changed : (I : Instance) (k : ℕ) (row : ArcRow) → 1 ≤ k → slice_set (reduced I).arcs (flow_index I.demand k) row ≡ (reduced (with_row I (k - 1) row)).arcs
 rows_changed I k row one = rows_set I.demand I.arcs k row one
 
-row_at : (D : Demand) (arcs : List ArcRow) (k : ℕ) → (1 ≤ k) × (k ≤ length arcs) → (flow_index D k < length (reduced_arcs D arcs)) × (row_at (reduced_arcs D arcs) (flow_index D k) ≡ row_at arcs (k - 1))
-row_at (Supplies s) arcs k at = (omega (arith, at.0, at.1), refl)
-row_at (Terminals source sink) arcs zero at = absurd (omega (arith, at.0))
-row_at (Terminals source sink) arcs (suc i) at = (let e : i ≡ suc i - 1 = omega arith in (omega (arith, at.1), ap (row_at arcs) e))
-row_at (Sides marks) arcs k at = (omega (arith, at.0, at.1), refl)
+row_of_arc : (D : Demand) (arcs : List ArcRow) (k : ℕ) → (1 ≤ k) × (k ≤ length arcs) → (flow_index D k < length (reduced_arcs D arcs)) × (row_at (reduced_arcs D arcs) (flow_index D k) ≡ row_at arcs (k - 1))
+row_of_arc (Supplies s) arcs k at = (omega (arith, at.0, at.1), refl)
+row_of_arc (Terminals source sink) arcs zero at = absurd (omega (arith, at.0))
+row_of_arc (Terminals source sink) arcs (suc i) at = (let e : i ≡ suc i - 1 = omega arith in (omega (arith, at.1), ap (row_at arcs) e))
+row_of_arc (Sides marks) arcs k at = (omega (arith, at.0, at.1), refl)
 
 pub place_in : (I : Instance) (k : ℕ) → (1 ≤ k) × (k ≤ length I.arcs) → flow_index I.demand k < length (reduced I).arcs
-place_in I k at = (row_at I.demand I.arcs k at).0
+place_in I k at = (row_of_arc I.demand I.arcs k at).0
 
 -- the row at the place of arc k is that arc
 pub row_is : (I : Instance) (k : ℕ) (d : ArcRow) → (1 ≤ k) × (k ≤ length I.arcs) → row_at (reduced I).arcs (flow_index I.demand k) ≡ slice_index_or I.arcs (k - 1) d
 row_is I k d at =
     let lt : k - 1 < length I.arcs = omega (arith, at.0, at.1) in
-    (row_at I.demand I.arcs k at).1 ∙ get_or_default I.arcs (k - 1) _ d lt
+    (row_of_arc I.demand I.arcs k at).1 ∙ get_or_default I.arcs (k - 1) _ d lt
 
 -- the flow of arc k, among those of the numbered arcs
 pub flow_at : (D : Demand) (x : List ℤ) (k : ℕ) (d : ℤ) → 1 ≤ k → slice_index_or (numbered_flow D x) (k - 1) d ≡ slice_index_or x (flow_index D k) d

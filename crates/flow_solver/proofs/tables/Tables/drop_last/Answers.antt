@@ -1,4 +1,4 @@
-use Rattle.std.proofs.Common.{◌≡◌, ◌∙◌, ◌+◌, ◌-◌, ◌<◌, ◌∷◌, [], ◌+ℤ◌, ◌-ℤ◌, ◌*ℤ◌, ℕ, ℤ, List, pos, drop, ap, arith, false, length, min, refl, rules, subst, sym, w64, SFits, to_z, of_z}
+use Rattle.std.proofs.Common.{◌≡◌, ◌∙◌, ◌-◌, ◌<◌, ◌∷◌, [], ◌+ℤ◌, ◌-ℤ◌, ◌*ℤ◌, ℕ, ℤ, List, pos, drop, ap, arith, false, length, refl, rules, subst, sym, w64, SFits, to_z, of_z}
 use Rattle.std.specs.Int.{int_wrap, w128}
 use Rattle.std.specs.Vec.{with_items}
 use Rattle.std.proofs.lemmas.Int.{to_z-of_z}
@@ -12,11 +12,11 @@ use Rattle.flow_solver.proofs.CarryLemmas.{arcs_in, balance_dropped, carried_as,
 use Rattle.flow_solver.proofs.TablesViewLemmas.{length_kept, tables_with_arcs}
 use Rattle.flow_solver.proofs.StandingLemmas.{scratch_told}
 use Rattle.flow_solver.proofs.tables.Tables.drop_last.Goals as goal
-use Rattle.flow_solver.proofs.tables.Tables.drop_last.Goals.{After-rows-last}
+use Rattle.flow_solver.proofs.tables.Tables.drop_last.Goals.{After-rows}
 
-last_place : (c : After-rows-last) → length c.rows-last.result.now - 1 < length c.self.inside.graph.rows
+last_place : (c : After-rows) → length c.rows.result.now - 1 < length c.self.inside.graph.rows
 last_place c =
-    let many = ap (λ (r : List ArcRow). length r) c.rows-last.ensures in
+    let many = ap (λ (r : List ArcRow). length r) c.rows.ensures in
     let some = subst (λ (b : TablesView). 0 < length b.moment.instance.arcs) (sym c.self.view_is) c.requires in
     let arcs = arcs_in c.self.inside.graph.net in
     omega (arith, many, some, ap (λ (r : List ArcRow). length r) c.self.invariant.graph.rows.rows_are, arcs)
@@ -24,17 +24,17 @@ last_place c =
 pub carry_over-requires-clause-tail_in : goal.carry_over-requires-clause-tail_in
 carry_over-requires-clause-tail_in c =
     let t = c.self.inside in
-    let there = last_place (goal.at.carry_over-requires-clause-tail_in c).After-rows-last in
-    let ends = ends_in t.graph.net t.graph.rows t.balance c.self.invariant.graph.rows.lawful c.self.invariant.graph.rows.rows_are c.self.invariant.balance_is.sized (length c.rows-last.result.now - 1) there in
-    let row : row_at c.rows.result.now (length c.rows-last.result.now - 1) ≡ row_at t.graph.rows (length c.rows-last.result.now - 1) = ap (λ (r : List ArcRow). row_at r (length c.rows-last.result.now - 1)) c.rows.ensures in
+    let there = last_place (goal.at.carry_over-requires-clause-tail_in c).After-rows in
+    let ends = ends_in t.graph.net t.graph.rows t.balance c.self.invariant.graph.rows.lawful c.self.invariant.graph.rows.rows_are c.self.invariant.balance_is.sized (length c.rows.result.now - 1) there in
+    let row : row_at c.rows-2.result.now (length c.rows.result.now - 1) ≡ row_at t.graph.rows (length c.rows.result.now - 1) = ap (λ (r : List ArcRow). row_at r (length c.rows.result.now - 1)) c.rows-2.ensures in
     omega (arith, ends.0, ap (λ a. a.tail) row, ap length c.deref_mut.ensures.value)
 
 pub carry_over-requires-clause-head_in : goal.carry_over-requires-clause-head_in
 carry_over-requires-clause-head_in c =
     let t = c.self.inside in
-    let there = last_place (goal.at.carry_over-requires-clause-head_in c).After-rows-last in
-    let ends = ends_in t.graph.net t.graph.rows t.balance c.self.invariant.graph.rows.lawful c.self.invariant.graph.rows.rows_are c.self.invariant.balance_is.sized (length c.rows-last.result.now - 1) there in
-    let row : row_at c.rows.result.now (length c.rows-last.result.now - 1) ≡ row_at t.graph.rows (length c.rows-last.result.now - 1) = ap (λ (r : List ArcRow). row_at r (length c.rows-last.result.now - 1)) c.rows.ensures in
+    let there = last_place (goal.at.carry_over-requires-clause-head_in c).After-rows in
+    let ends = ends_in t.graph.net t.graph.rows t.balance c.self.invariant.graph.rows.lawful c.self.invariant.graph.rows.rows_are c.self.invariant.balance_is.sized (length c.rows.result.now - 1) there in
+    let row : row_at c.rows-2.result.now (length c.rows.result.now - 1) ≡ row_at t.graph.rows (length c.rows.result.now - 1) = ap (λ (r : List ArcRow). row_at r (length c.rows.result.now - 1)) c.rows-2.ensures in
     omega (arith, ends.1, ap (λ a. a.head) row, ap length c.deref_mut.ensures.value)
 
 pub invariant_of-self : goal.invariant_of-self
@@ -43,17 +43,17 @@ invariant_of-self c =
     let I = t.graph.net in
     let J = c.pop_arc-row.new.self.net in
     let inv = c.self.invariant in
-    let last = length c.rows-last.result.now - 1 in
-    let there = last_place (goal.at.invariant_of-self c).After-rows-last in
-    let many = ap (λ (r : List ArcRow). length r) c.rows-last.ensures in
-    let row : row_at c.rows.result.now last ≡ row_at t.graph.rows last = ap (λ (r : List ArcRow). row_at r last) c.rows.ensures in
+    let last = length c.rows.result.now - 1 in
+    let there = last_place (goal.at.invariant_of-self c).After-rows in
+    let many = ap (λ (r : List ArcRow). length r) c.rows.ensures in
+    let row : row_at c.rows-2.result.now last ≡ row_at t.graph.rows last = ap (λ (r : List ArcRow). row_at r last) c.rows-2.ensures in
     let entry_fits : SFits w64 c.index.result.now = search rules in
     let kept_fits : SFits w64 c.index-2.result.now = search rules in
-    let price_fits : SFits w64 (row_at c.rows.result.now last).cost = search rules in
+    let price_fits : SFits w64 (row_at c.rows-2.result.now last).cost = search rules in
     let old_fits : SFits w128 c.self.inside.balance.cost = search rules in
     let entry : to_z w64 (of_z w64 c.index.result.now) ≡ number_at t.flow.entries.items last = to_z-of_z w64 c.index.result.now entry_fits ∙ c.index.ensures ∙ get_or_default t.flow.entries.items last c.index.result.now (pos 0) (omega (arith, there, inv.flow_in)) in
     let was : to_z w64 (of_z w64 c.index-2.result.now) ≡ number_at t.flow.kept.items last = to_z-of_z w64 c.index-2.result.now kept_fits ∙ c.index-2.ensures ∙ get_or_default t.flow.kept.items last c.index-2.result.now (pos 0) (omega (arith, there, inv.flow_in, inv.flow_tracked.same_length)) in
-    let price : to_z w64 (of_z w64 (row_at c.rows.result.now last).cost) ≡ (row_at t.graph.rows last).cost = to_z-of_z w64 (row_at c.rows.result.now last).cost price_fits ∙ ap (λ a. a.cost) row in
+    let price : to_z w64 (of_z w64 (row_at c.rows-2.result.now last).cost) ≡ (row_at t.graph.rows last).cost = to_z-of_z w64 (row_at c.rows-2.result.now last).cost price_fits ∙ ap (λ a. a.cost) row in
     let old = to_z-of_z w128 t.balance.cost old_fits in
     let cost : to_z w128 (of_z w128 c.reprice-self-inside.result) ≡ int_wrap w128 (t.balance.cost +ℤ (pos 0 -ℤ number_at t.flow.kept.items last) *ℤ (row_at t.graph.rows last).cost) =
     to_z-of_z w128 c.reprice-self-inside.result (record { sfits = c.reprice-self-inside.type_inv }) ∙ c.reprice-self-inside.ensures ∙ (λ i. int_wrap w128 (old i +ℤ (pos 0 -ℤ was i) *ℤ price i)) in

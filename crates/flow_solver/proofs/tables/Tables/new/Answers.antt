@@ -4,7 +4,7 @@ use Rattle.std.proofs.lemmas.List.{length-map}
 use Rattle.network.specs.Flow.{IsCertifiedFlow}
 use Rattle.network.specs.Instance.{Instance, at_node, reduced}
 use Rattle.dimacs_text.specs.declared.problem.ArcRow.{ArcRow}
-use Rattle.flow_solver.specs.Balance.{IsWrappedCost, IsWrappedExcess}
+use Rattle.flow_solver.specs.Balance.{AreEndsIn, IsWrappedCost, IsWrappedExcess}
 use Rattle.flow_solver.specs.Moment.{start}
 use Rattle.augmentation.specs.Tracked.{kept_in}
 use Rattle.augmentation.specs.Nodes.{IsIdleEntry}
@@ -66,7 +66,7 @@ returns-clause-start c =
     record {
       instance = search rules;
       flow = c.in_ok-flow.ensures.entries ∙ c.in_ok-start_flow.ensures.flow ∙ ap (map start) (c.rows.ensures ∙ c.in_ok-graph.ensures.graph.rows.rows_are ∙ ap (λ (J : Instance). (reduced J).arcs) c.in_ok-graph.ensures.net);
-      potentials = ap (drop 1) zeros ∙ (ap (λ (n : ℕ). drop 1 (replicate (n + 1) (pos 0))) c.nodes.ensures.value ∙ ap (λ (n : ℕ). drop 1 (replicate n (pos 0))) one_more ∙ ap (λ (J : Instance). replicate J.nodes (pos 0)) c.in_ok-graph.ensures.net);
+      potentials = ap (drop 1) zeros ∙ (ap (λ (n : ℕ). drop 1 (replicate (n + 1) (pos 0))) c.nodes.ensures.value ∙ ap (λ (J : Instance). drop 1 (replicate (J.nodes + 1) (pos 0))) c.network.ensures ∙ ap (λ (n : ℕ). drop 1 (replicate n (pos 0))) one_more ∙ ap (λ (J : Instance). replicate J.nodes (pos 0)) c.in_ok-graph.ensures.net);
     }
 
 pub returns-clause-certified : goal.returns-clause-certified

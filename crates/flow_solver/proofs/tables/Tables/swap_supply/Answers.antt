@@ -1,4 +1,4 @@
-use Rattle.std.proofs.Common.{◌∙◌, ◌≡◌, ◌+◌, ◌-◌, List, ap, arith, drop, length, refl, rules, slice_index_or, subst, sym, w64, SFits}
+use Rattle.std.proofs.Common.{◌∙◌, ◌≡◌, ◌+◌, ◌-◌, ℤ, List, ap, drop, length, refl, rules, slice_index_or, subst, sym, w64, SFits}
 use Rattle.std.specs.Vec.{with_items}
 use Rattle.std.proofs.lemmas.Int.{to_z-of_z}
 use Rattle.std.proofs.lemmas.List.{with_items_is}
@@ -12,7 +12,7 @@ use Rattle.flow_solver.specs.TablesView.{TablesView, supplies_in}
 use Rattle.augmentation.specs.Scratch.{IsScratchFor}
 use Rattle.augmentation.specs.Nodes.{held}
 use Rattle.flow_solver.proofs.CarryLemmas.{balance_supplied, raised_as}
-use Rattle.flow_solver.proofs.ChangeLemmas.{supply_entry}
+use Rattle.flow_solver.proofs.ChangeLemmas.{supplied, supply_entry}
 use Rattle.flow_solver.proofs.TablesViewLemmas.{tables_written}
 use Rattle.augmentation.proofs.NodeLemmas.{held_node}
 use Rattle.augmentation.proofs.TrackedLemmas.{IsWritten-same}
@@ -25,13 +25,13 @@ invariant_of-self c =
     let I = t.graph.net in
     let J = c.set_supply.new.self.net in
     let inv = c.self.invariant in
-    let net = c.set_supply.ensures.net in
     let kind = subst (λ (b : TablesView). kind_of b.moment.instance.demand ≡ Min) (sym c.self.view_is) c.requires.kind in
     let node = subst (λ (b : TablesView). IsNode b.moment.instance.nodes c.args.id) (sym c.self.view_is) c.requires.node in
     let before_fits : SFits w64 c.supply_at-before.result = search rules in
     let before = to_z-of_z w64 c.supply_at-before.result before_fits ∙ c.supply_at-before.ensures ∙ ap (λ (K : Instance). held K.nodes (reduced K).supply c.args.id) c.network.ensures ∙ held_node I.nodes (reduced I).supply c.args.id node in
     let after_fits : SFits w64 c.args.value.now = search rules in
     let after = to_z-of_z w64 c.args.value.now after_fits in
+    let net : J ≡ supplied I c.args.id c.args.value.now = c.set_supply.ensures.net ∙ ap (λ (z : ℤ). supplied I c.args.id z) after in
     let excess = with_items_is t.balance.excess c.add_difference.new.excess (c.add_difference.auto.excess ∙ c.deref_mut.ensures.len) in
     let raised = raised_as c.args.id ((reduced I).supply c.args.id) _ c.args.value.now _ t.balance.excess.items _ _ _ before after c.deref_mut.ensures.value (sym excess) c.add_difference.ensures in
     let now = record t.balance { excess = with_items t.balance.excess c.add_difference.new.excess } in
