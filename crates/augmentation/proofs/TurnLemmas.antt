@@ -1,27 +1,25 @@
 -- A network seen from behind, each of its arcs turned round: what holds of it there, and what that says of the network.
 use Rattle.residual_graph.specs.Limits.{potential_floor}
 use Rattle.shortest_paths.specs.Limits.{label_floor}
-use Rattle.std.proofs.Common.{◌≡◌, ◌≢◌, ◌↔◌, ℕ, zero, suc, ◌<◌, ℤ, pos, neg_ℤ, ◌-ℤ◌, ◌+ℤ◌, ◌≤ℤ◌, List, [], ◌∷◌, ◌++◌, length, map, refl, sym, ap, subst, ◌∙◌, inl, inr, arith, Bool, true, false, not}
+use Rattle.std.proofs.Common.{◌≡◌, ◌≢◌, ℕ, zero, suc, ◌<◌, ℤ, pos, neg_ℤ, ◌-ℤ◌, ◌+ℤ◌, ◌≤ℤ◌, List, [], ◌∷◌, ◌++◌, length, map, refl, sym, ap, subst, ◌∙◌, inl, inr, arith, Bool, true, false, not}
 use Rattle.std.specs.Prelude.{◌<ℤ◌}
 use Rattle.std.specs.List.{All, AllPairs}
 use Rattle.std.proofs.Math.IntN.{neg_ℤ-neg_ℤ}
 use Rattle.std.proofs.lemmas.Int.{ints, by_lt_z}
 use Rattle.std.proofs.lemmas.Bool.{cases_lt, false≢true, false_from_ne_true}
-use Rattle.std.proofs.lemmas.List.{length-map, get_or_past}
+use Rattle.std.proofs.lemmas.List.{get_or_past}
 use Rattle.std.proofs.lemmas.List.Sums.{sum_by-cons}
 use Rattle.std.proofs.lemmas.List.Elements.{All-nil, All-cons, All-head, All-tail, All-push}
 use Rattle.std.proofs.lemmas.List.Quantifiers.{all_pairs_push}
 use Rattle.dimacs_text.specs.declared.problem.ArcRow.{ArcRow}
 use Rattle.network.specs.Flow.{net, outflow, inflow}
-use Rattle.residual_graph.specs.declared.residual.Way.{Way}
-use Rattle.residual_graph.specs.declared.residual.Way.TheVariants.{Forward, Backward}
 use Rattle.residual_graph.specs.declared.side.Side.{Side}
 use Rattle.residual_graph.specs.declared.side.Side.TheVariants.{Ahead, Behind}
 use Rattle.augmentation.specs.Push.{IsExcess, IsPath, IsPush, IsShift, Pushes, ArePushes, nodes_on, moved, at_node, positive_part, left, lack}
 use Rattle.residual_graph.specs.declared.residual.ResidualArc.{ResidualArc}
 use Rattle.augmentation.specs.Cut.{IsParted, in_set}
 use Rattle.augmentation.specs.Nodes.{table}
-use Rattle.residual_graph.specs.Residual.{IsReducedCostOptimal, IsPseudoflow, IsResidual, IsRow, IsWithinRow, NoneBelow, number_at, row_at, start_of, end_of, cost_of, room_of, start_at, end_at, cost_at}
+use Rattle.residual_graph.specs.Residual.{IsReducedCostOptimal, IsPseudoflow, NoneBelow, number_at, row_at, start_at, end_at}
 use Rattle.augmentation.specs.Settle.{IsNear}
 use Rattle.augmentation.specs.Turn.{AreOpposite, IsLeast}
 use Rattle.residual_graph.specs.Side.{other_side, seen, turned_row}

@@ -2,7 +2,7 @@
 
 ghost use Rattle.std.specs.Prelude.{◌≡◌, ℕ, ℤ, List, length, pos, ◌≤ℤ◌, ◌<ℤ◌, ◌+ℤ◌, ◌-ℤ◌, ◌<◌, ◌≤◌, ◌+◌, ◌/◌, ◌^◌, IsTrue, ◌↔◌, false, slice_index, slice_set, IfOk, IfSome, IfNone, Some};
 ghost use Rattle.augmentation.specs.Cut.{in_set};
-ghost use Rattle.residual_graph.specs.Graph.{IsGraphFor};
+ghost use Rattle.residual_graph.specs.Graph.{HasEntries};
 ghost use Rattle.residual_graph.specs.Side.{seen};
 ghost use Rattle.residual_graph.specs.Limits.{entry_limit, potential_floor, row_limit};
 ghost use Rattle.residual_graph.specs.Residual.{IsRow, IsPseudoflow, ArePotentials, number_at, start_at, end_at, start_of, end_of, cost_of};
@@ -101,10 +101,10 @@ fn is_tight(row: &ArcRow, potentials: &[i64], way: Way) -> bool
 
 /// Whether arc `k`, gone along in this way, is a hop that a path to the node can take.
 fn is_hop_to(levels: Levels<'_>, flow: &[i64], node: usize, arc: ResidualArc) -> bool
-    requires flow { IsPseudoflow (length levels.node_labels.now) (seen levels.side levels.graph.now.rows.items) flow.now }
+    requires flow { IsPseudoflow (length levels.node_labels.now) (seen levels.side levels.graph.now.rows) flow.now }
     requires node_in { node < length levels.node_labels.now }
-    requires arc_in { arc.arc < length (seen levels.side levels.graph.now.rows.items) }
-    ensures { IsTrue result ↔ IsHopTo (seen levels.entry.side levels.entry.graph.now.rows.items) levels.entry.potentials.now flow.now levels.entry.node_labels.now node arc.arc arc.way }
+    requires arc_in { arc.arc < length (seen levels.side levels.graph.now.rows) }
+    ensures { IsTrue result ↔ IsHopTo (seen levels.entry.side levels.entry.graph.now.rows) levels.entry.potentials.now flow.now levels.entry.node_labels.now node arc.arc arc.way }
 {
     let k = arc.arc as usize;
     let row = levels.graph.row(levels.side, k);
@@ -133,11 +133,11 @@ fn is_admissible(
     node: usize,
     arc: ResidualArc,
 ) -> bool
-    requires flow { IsPseudoflow (length levels.node_labels.now) (seen levels.side levels.graph.now.rows.items) flow.now }
+    requires flow { IsPseudoflow (length levels.node_labels.now) (seen levels.side levels.graph.now.rows) flow.now }
     requires node_in { node < length levels.node_labels.now }
     requires dead_in { length dead.now ≡ length levels.node_labels.now }
-    requires arc_in { arc.arc < length (seen levels.side levels.graph.now.rows.items) }
-    ensures { IsTrue result ↔ IsAdmissible (seen levels.entry.side levels.entry.graph.now.rows.items) levels.entry.potentials.now flow.now levels.entry.node_labels.now dead.now node arc.arc arc.way }
+    requires arc_in { arc.arc < length (seen levels.side levels.graph.now.rows) }
+    ensures { IsTrue result ↔ IsAdmissible (seen levels.entry.side levels.entry.graph.now.rows) levels.entry.potentials.now flow.now levels.entry.node_labels.now dead.now node arc.arc arc.way }
 {
     let start = levels.graph.start(levels.side, arc.arc as usize, arc.way);
     !dead[start] && is_hop_to(levels, flow, node, arc)
@@ -150,11 +150,11 @@ fn next_place(
     walks: &Walks,
     node: usize,
 ) -> Option<(Place, ResidualArc)>
-    requires graph { IsGraphFor (length levels.potentials.now) levels.graph.now }
-    requires flow { IsPseudoflow (length levels.node_labels.now) (seen levels.side levels.graph.now.rows.items) flow.now }
+    requires graph { HasEntries (length levels.potentials.now) levels.graph.now }
+    requires flow { IsPseudoflow (length levels.node_labels.now) (seen levels.side levels.graph.now.rows) flow.now }
     requires node_in { node < length levels.node_labels.now }
     requires walks { IsWalksFor (length levels.node_labels.now) walks.now }
-    ensures { IfSome result (λ next. IsAdmissible (seen levels.entry.side levels.entry.graph.now.rows.items) levels.entry.potentials.now flow.now levels.entry.node_labels.now walks.now.dead.items node next.1.arc next.1.way) }
+    ensures { IfSome result (λ next. IsAdmissible (seen levels.entry.side levels.entry.graph.now.rows) levels.entry.potentials.now flow.now levels.entry.node_labels.now walks.now.dead.items node next.1.arc next.1.way) }
 {
     let mut walk = Walk::resume(levels.graph, node as u32, walks.current[node]);
     let mut before = walk;
@@ -179,24 +179,24 @@ fn next_place(
 /// Steps back from the node along the arc by which the search came to it, or else along the next one that it can, and
 /// gives the node that it comes to: nothing where there is no such arc.
 fn step_back(levels: Levels<'_>, flow: &[i64], walks: &mut Walks, node: usize) -> Option<usize>
-    requires graph { IsGraphFor (length levels.potentials.now) levels.graph.now }
-    requires flow { IsPseudoflow (length levels.node_labels.now) (seen levels.side levels.graph.now.rows.items) flow.now }
+    requires graph { HasEntries (length levels.potentials.now) levels.graph.now }
+    requires flow { IsPseudoflow (length levels.node_labels.now) (seen levels.side levels.graph.now.rows) flow.now }
     requires node_in { node < length levels.node_labels.now }
     requires walks { IsWalksFor (length levels.node_labels.now) walks.old }
     ensures walks { IsWalksFor (length levels.entry.node_labels.now) walks.new }
     ensures dead { walks.new.dead ≡ walks.old.dead }
     ensures rooms { walks.new.rooms ≡ walks.old.rooms }
-    ensures some { IfSome result (IsSteppedTo (seen levels.entry.side levels.entry.graph.now.rows.items) levels.entry.potentials.now flow.now levels.entry.node_labels.now walks.old walks.new node) }
+    ensures some { IfSome result (IsSteppedTo (seen levels.entry.side levels.entry.graph.now.rows) levels.entry.potentials.now flow.now levels.entry.node_labels.now walks.old walks.new node) }
     ensures none { IfNone result (walks.new ≡ walks.old) }
     // The arc by which the search came to the node is tried first.
-    ensures own { IsAdmissible (seen levels.entry.side levels.entry.graph.now.rows.items) levels.entry.potentials.now flow.now levels.entry.node_labels.now walks.old.dead.items node (node_label_at levels.entry.node_labels.now node).arc (node_label_at levels.entry.node_labels.now node).way → result ≡ Some (start_at (seen levels.entry.side levels.entry.graph.now.rows.items) (node_label_at levels.entry.node_labels.now node).arc (node_label_at levels.entry.node_labels.now node).way) }
+    ensures own { IsAdmissible (seen levels.entry.side levels.entry.graph.now.rows) levels.entry.potentials.now flow.now levels.entry.node_labels.now walks.old.dead.items node (node_label_at levels.entry.node_labels.now node).arc (node_label_at levels.entry.node_labels.now node).way → result ≡ Some (start_at (seen levels.entry.side levels.entry.graph.now.rows) (node_label_at levels.entry.node_labels.now node).arc (node_label_at levels.entry.node_labels.now node).way) }
 {
     let node_label = levels.node_labels[node];
     let own = ResidualArc {
         arc: node_label.arc,
         way: node_label.way,
     };
-    if (own.arc as usize) < levels.graph.rows.len()
+    if (own.arc as usize) < levels.graph.rows().len()
         && is_admissible(levels, flow, &walks.dead, node, own)
     {
         let from = levels.graph.start(levels.side, own.arc as usize, own.way);
@@ -222,17 +222,17 @@ pub fn find_path(
     walks: &mut Walks,
     target: usize,
 ) -> Option<usize>
-    requires graph { IsGraphFor (length levels.potentials.now) levels.graph.now }
-    requires flow { IsPseudoflow (length levels.node_labels.now) (seen levels.side levels.graph.now.rows.items) flow.now }
+    requires graph { HasEntries (length levels.potentials.now) levels.graph.now }
+    requires flow { IsPseudoflow (length levels.node_labels.now) (seen levels.side levels.graph.now.rows) flow.now }
     requires excess_in { length excess.now ≡ length levels.node_labels.now }
     requires target_in { target < length levels.node_labels.now }
     requires walks { IsWalksFor (length levels.node_labels.now) walks.old }
     ensures walks { IsWalksFor (length levels.entry.node_labels.now) walks.new }
-    ensures some { IfSome result (IsFound (seen levels.entry.side levels.entry.graph.now.rows.items) levels.entry.potentials.now flow.now excess.now levels.entry.node_labels.now walks.new target) }
+    ensures some { IfSome result (IsFound (seen levels.entry.side levels.entry.graph.now.rows) levels.entry.potentials.now flow.now excess.now levels.entry.node_labels.now walks.new target) }
     ensures rooms { walks.new.rooms ≡ walks.old.rooms }
     ensures none { IfNone result (IsDead walks.new target) }
     // At first the path by which the search came to the target is taken.
-    ensures first { IfNone result (ArePaths (seen levels.entry.side levels.entry.graph.now.rows.items) levels.entry.potentials.now levels.entry.node_labels.now → CanPush (seen levels.entry.side levels.entry.graph.now.rows.items) flow.now excess.now levels.entry.node_labels.now target → AreAlive levels.entry.node_labels.now walks.old.dead.items → ⊥) }
+    ensures first { IfNone result (ArePaths (seen levels.entry.side levels.entry.graph.now.rows) levels.entry.potentials.now levels.entry.node_labels.now → CanPush (seen levels.entry.side levels.entry.graph.now.rows) flow.now excess.now levels.entry.node_labels.now target → AreAlive levels.entry.node_labels.now walks.old.dead.items → ⊥) }
 {
     if walks.dead[target] {
         return None;

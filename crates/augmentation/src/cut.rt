@@ -3,7 +3,7 @@
 ghost use Rattle.std.specs.Prelude.{◌≡◌, ℕ, length, ◌<◌, ◌≤◌, ◌+◌, IsTrue, ◌↔◌, true, false, slice_set};
 ghost use Rattle.residual_graph.specs.Limits.{entry_limit};
 ghost use Rattle.residual_graph.specs.Residual.{IsPseudoflow, number_at};
-ghost use Rattle.residual_graph.specs.Graph.{IsGraphFor};
+ghost use Rattle.residual_graph.specs.Graph.{HasEntries};
 ghost use Rattle.augmentation.specs.Cut.{in_set, IsSide, IsListOf, IsGrown, AreFarIn};
 ghost use Rattle.residual_graph.specs.Side.{IsRoot, leading};
 ghost use Rattle.augmentation.specs.Touched.{AreNoted};
@@ -28,11 +28,11 @@ pub fn mark_side(
     cut: &mut [bool],
     worklist: &mut [u32],
 )
-    requires graph { IsGraphFor (length excess.now) graph.now }
-    requires flow { IsPseudoflow (length excess.now) graph.now.rows.items flow.now }
+    requires graph { HasEntries (length excess.now) graph.now }
+    requires flow { IsPseudoflow (length excess.now) graph.now.rows flow.now }
     requires cut_in { length cut.old ≡ length excess.now }
     requires worklist_in { length worklist.old ≡ length excess.now }
-    ensures { IsSide side graph.now.rows.items flow.now excess.now cut.new }
+    ensures { IsSide side graph.now.rows flow.now excess.now cut.new }
 {
     let mut len = mark_roots(side, excess, cut, worklist);
     let mut next = 0;
@@ -79,13 +79,13 @@ fn mark(cut: &mut [bool], worklist: &mut [u32], len: usize, node: usize) -> usiz
 
 /// Marks the nodes to which residual arcs lead on from a marked node, and gives the length of the worklist.
 fn mark_from(on: OnSide<'_>, cut: &mut [bool], worklist: &mut [u32], len: usize, node: u32) -> usize
-    requires graph { IsGraphFor (length cut.old) on.graph.now }
-    requires flow { IsPseudoflow (length cut.old) on.graph.now.rows.items on.flow.now }
+    requires graph { HasEntries (length cut.old) on.graph.now }
+    requires flow { IsPseudoflow (length cut.old) on.graph.now.rows on.flow.now }
     requires worklist { IsListOf cut.old worklist.old len }
     requires marked { in_set cut.old node ≡ true }
     ensures worklist { IsListOf cut.new worklist.new result }
-    ensures grown { IsGrown on.entry.side on.entry.graph.now.rows.items on.entry.flow.now cut.old worklist.old len cut.new worklist.new result }
-    ensures far { AreFarIn on.entry.side on.entry.graph.now.rows.items on.entry.flow.now cut.new node }
+    ensures grown { IsGrown on.entry.side on.entry.graph.now.rows on.entry.flow.now cut.old worklist.old len cut.new worklist.new result }
+    ensures far { AreFarIn on.entry.side on.entry.graph.now.rows on.entry.flow.now cut.new node }
 {
     let mut longer = len;
     let mut walk = Walk::at(on.graph, node);

@@ -2,7 +2,7 @@
 
 ghost use Rattle.std.specs.Prelude.{◌≡◌, ℕ, length, ◌≤◌, ◌+ℤ◌, FitsSigned};
 ghost use Rattle.std.specs.Int.{w64};
-ghost use Rattle.residual_graph.specs.Graph.{IsGraphFor};
+ghost use Rattle.residual_graph.specs.Graph.{HasEntries};
 ghost use Rattle.shortest_paths.specs.Limits.{label_floor};
 ghost use Rattle.residual_graph.specs.Limits.{potential_floor};
 ghost use Rattle.residual_graph.specs.Residual.{AreGreatest, IsReducedCostOptimal, ArePotentials, number_at};
@@ -22,10 +22,10 @@ use shortest_paths::{NodeLabel, SettledOrder, search_labels};
 
 /// Searches the labels of all nodes over the potentials in the scratch, as they are seen from a side.
 fn find_labels(graph: &Graph, side: Side, flow: &Tracked<i64>, scratch: &mut Scratch)
-    requires graph { IsGraphFor (length scratch.old.potentials.items) graph.now }
-    requires certified { IsReducedCostOptimal (seen side graph.now.rows.items) flow.now.entries.items scratch.old.potentials.items }
+    requires graph { HasEntries (length scratch.old.potentials.items) graph.now }
+    requires certified { IsReducedCostOptimal (seen side graph.now.rows) flow.now.entries.items scratch.old.potentials.items }
     requires scratch { IsScratchFor (length scratch.old.potentials.items) scratch.old }
-    ensures labels { AreLabelled (seen side graph.now.rows.items) flow.now.entries.items scratch.new.potentials.items scratch.new.labels.node_labels.items }
+    ensures labels { AreLabelled (seen side graph.now.rows) flow.now.entries.items scratch.new.potentials.items scratch.new.labels.node_labels.items }
     ensures kept { scratch.new.potentials.items ≡ scratch.old.potentials.items }
     ensures scratch { IsScratchFor (length scratch.old.potentials.items) scratch.new }
     ensures walks { scratch.new.walks ≡ scratch.old.walks }
@@ -56,10 +56,10 @@ fn take_labels(potentials: &mut [i64], node_labels: &[NodeLabel])
 
 /// Raises the potentials in the scratch to the shortest labels that are seen from a side.
 pub fn raise(graph: &Graph, side: Side, flow: &Tracked<i64>, scratch: &mut Scratch)
-    requires graph { IsGraphFor (length scratch.old.potentials.items) graph.now }
-    requires certified { IsReducedCostOptimal (seen side graph.now.rows.items) flow.now.entries.items scratch.old.potentials.items }
+    requires graph { HasEntries (length scratch.old.potentials.items) graph.now }
+    requires certified { IsReducedCostOptimal (seen side graph.now.rows) flow.now.entries.items scratch.old.potentials.items }
     requires scratch { IsScratchFor (length scratch.old.potentials.items) scratch.old }
-    ensures certified { IsReducedCostOptimal (seen side graph.now.rows.items) flow.now.entries.items scratch.new.potentials.items }
+    ensures certified { IsReducedCostOptimal (seen side graph.now.rows) flow.now.entries.items scratch.new.potentials.items }
     ensures within { ArePotentials (length scratch.new.potentials.items) label_floor scratch.new.potentials.items }
     ensures scratch { IsScratchFor (length scratch.old.potentials.items) scratch.new }
     ensures walks { scratch.new.walks ≡ scratch.old.walks }
@@ -100,13 +100,13 @@ pub fn write_potentials(
 )
     requires tracked { IsTracked potentials.old }
     requires same_length { length potentials.old.entries.items ≡ length scratch.old.potentials.items }
-    requires graph { IsGraphFor (length scratch.old.potentials.items) graph.now }
-    requires certified { IsReducedCostOptimal graph.now.rows.items flow.now.entries.items scratch.old.potentials.items }
+    requires graph { HasEntries (length scratch.old.potentials.items) graph.now }
+    requires certified { IsReducedCostOptimal graph.now.rows flow.now.entries.items scratch.old.potentials.items }
     requires scratch { IsScratchFor (length scratch.old.potentials.items) scratch.old }
     ensures written { IsWritten potentials.old potentials.new }
-    ensures certified { IsReducedCostOptimal graph.now.rows.items flow.now.entries.items potentials.new.entries.items }
+    ensures certified { IsReducedCostOptimal graph.now.rows flow.now.entries.items potentials.new.entries.items }
     ensures within { ArePotentials (length potentials.new.entries.items) label_floor potentials.new.entries.items }
-    ensures greatest { AreGreatest graph.now.rows.items flow.now.entries.items potentials.new.entries.items }
+    ensures greatest { AreGreatest graph.now.rows flow.now.entries.items potentials.new.entries.items }
     ensures scratch { IsScratchFor (length scratch.old.potentials.items) scratch.new }
 {
     find_labels(graph, Side::Ahead, flow, scratch);

@@ -1,6 +1,6 @@
 //! Searches and pushes in turn, until no node in excess reaches a node in deficit.
 
-ghost use Rattle.residual_graph.specs.Graph.{IsGraphFor};
+ghost use Rattle.residual_graph.specs.Graph.{HasEntries};
 ghost use Rattle.shortest_paths.specs.Limits.{label_floor};
 ghost use Rattle.residual_graph.specs.Limits.{potential_floor};
 ghost use Rattle.std.specs.Prelude.{◌≡◌, ℕ, ℤ, List, length, pos, neg_ℤ, ◌≤ℤ◌, ◌+ℤ◌, ◌-ℤ◌, ◌<◌, ◌≤◌, ◌+◌, IsTrue, ◌↔◌, MatchOption, IfNone};
@@ -39,17 +39,17 @@ pub fn push_all(
     scratch: &mut Scratch,
 ) -> u64
     requires flow_tracked { IsTracked flow.old }
-    requires graph { IsGraphFor (length scratch.old.potentials.items) graph.now }
-    requires certified { IsReducedCostOptimal graph.now.rows.items flow.old.entries.items scratch.old.potentials.items }
+    requires graph { HasEntries (length scratch.old.potentials.items) graph.now }
+    requires certified { IsReducedCostOptimal graph.now.rows flow.old.entries.items scratch.old.potentials.items }
     requires potentials_in { ArePotentials (length scratch.old.potentials.items) label_floor scratch.old.potentials.items }
     requires excess_in { length excess.old ≡ length scratch.old.potentials.items }
     requires scratch { IsScratchFor (length scratch.old.potentials.items) scratch.old }
     requires small { AreSmall excess.old }
     ensures flow_written { IsWritten flow.old flow.new }
-    ensures certified { IsReducedCostOptimal graph.now.rows.items flow.new.entries.items scratch.new.potentials.items }
+    ensures certified { IsReducedCostOptimal graph.now.rows flow.new.entries.items scratch.new.potentials.items }
     ensures small { AreSmall excess.new }
-    ensures pushed { ArePushes graph.now.rows.items result flow.old.entries.items excess.old flow.new.entries.items excess.new }
-    ensures parted { IsParted graph.now.rows.items flow.new.entries.items excess.new }
+    ensures pushed { ArePushes graph.now.rows result flow.old.entries.items excess.old flow.new.entries.items excess.new }
+    ensures parted { IsParted graph.now.rows flow.new.entries.items excess.new }
     ensures scratch { IsScratchFor (length scratch.old.potentials.items) scratch.new }
 {
     if !has_both(excess) {
@@ -77,9 +77,9 @@ pub fn push_all(
 /// Fills the table of rooms, once in a run, after more than `FEW_PUSHES` pushes: a shorter run asks too little to pay
 /// for it.
 fn fill_rooms(graph: &Graph, flow: &Tracked<i64>, scratch: &mut Scratch, pushes: u64)
-    requires flow { (nodes : ℕ) × IsPseudoflow nodes graph.now.rows.items flow.now.entries.items }
-    requires rooms { AreRooms graph.now.rows.items flow.now.entries.items scratch.old.walks.rooms.items }
-    ensures rooms { AreRooms graph.now.rows.items flow.now.entries.items scratch.new.walks.rooms.items }
+    requires flow { (nodes : ℕ) × IsPseudoflow nodes graph.now.rows flow.now.entries.items }
+    requires rooms { AreRooms graph.now.rows flow.now.entries.items scratch.old.walks.rooms.items }
+    ensures rooms { AreRooms graph.now.rows flow.now.entries.items scratch.new.walks.rooms.items }
     ensures kept { scratch.new ≡ record scratch.old { walks = record scratch.old.walks { rooms = scratch.new.walks.rooms } } }
 {
     if pushes > FEW_PUSHES && scratch.walks.rooms.is_empty() {
@@ -115,12 +115,12 @@ fn search_on(
     excess: &[i64],
     scratch: &mut Scratch,
 ) -> Option<i64>
-    requires graph { IsGraphFor (length scratch.old.potentials.items) graph.now }
-    requires certified { IsReducedCostOptimal (seen side graph.now.rows.items) flow.now.entries.items scratch.old.potentials.items }
+    requires graph { HasEntries (length scratch.old.potentials.items) graph.now }
+    requires certified { IsReducedCostOptimal (seen side graph.now.rows) flow.now.entries.items scratch.old.potentials.items }
     requires excess_in { length excess.now ≡ length scratch.old.potentials.items }
     requires scratch { IsScratchFor (length scratch.old.potentials.items) scratch.old }
-    requires rooms { AreRooms graph.now.rows.items flow.now.entries.items scratch.old.walks.rooms.items }
-    ensures found { MatchOption result (IsParted (seen side graph.now.rows.items) flow.now.entries.items excess.now) (HoldsSearch (seen side graph.now.rows.items) flow.now.entries.items excess.now scratch.new) }
+    requires rooms { AreRooms graph.now.rows flow.now.entries.items scratch.old.walks.rooms.items }
+    ensures found { MatchOption result (IsParted (seen side graph.now.rows) flow.now.entries.items excess.now) (HoldsSearch (seen side graph.now.rows) flow.now.entries.items excess.now scratch.new) }
     ensures kept { scratch.new.potentials.items ≡ scratch.old.potentials.items }
     ensures walks { scratch.new.walks ≡ scratch.old.walks }
     ensures forgotten { IfNone result (IsScratchFor (length scratch.old.potentials.items) scratch.new) }
@@ -163,20 +163,20 @@ fn push_within(
     reach: i64,
 ) -> u64
     requires flow_tracked { IsTracked flow.old }
-    requires graph { IsGraphFor (length scratch.old.potentials.items) graph.now }
-    requires certified { IsReducedCostOptimal (seen side graph.now.rows.items) flow.old.entries.items scratch.old.potentials.items }
+    requires graph { HasEntries (length scratch.old.potentials.items) graph.now }
+    requires certified { IsReducedCostOptimal (seen side graph.now.rows) flow.old.entries.items scratch.old.potentials.items }
     requires near { (fallen : ℤ) × IsNear scratch.old.potentials.items fallen }
     requires excess_in { length excess.old ≡ length scratch.old.potentials.items }
     requires small { AreSmall excess.old }
-    requires found { HoldsSearch (seen side graph.now.rows.items) flow.old.entries.items excess.old scratch.old reach }
+    requires found { HoldsSearch (seen side graph.now.rows) flow.old.entries.items excess.old scratch.old reach }
     ensures flow_written { IsWritten flow.old flow.new }
-    ensures certified { IsReducedCostOptimal (seen side graph.now.rows.items) flow.new.entries.items scratch.new.potentials.items }
+    ensures certified { IsReducedCostOptimal (seen side graph.now.rows) flow.new.entries.items scratch.new.potentials.items }
     ensures at_least { (fallen : ℤ) → IsNear scratch.old.potentials.items fallen → (v : ℕ) → (neg_ℤ (pos label_floor) -ℤ (fallen +ℤ reach)) ≤ℤ number_at scratch.new.potentials.items v }
     ensures small { AreSmall excess.new }
-    ensures pushed { ArePushes (seen side graph.now.rows.items) result flow.old.entries.items excess.old flow.new.entries.items excess.new }
+    ensures pushed { ArePushes (seen side graph.now.rows) result flow.old.entries.items excess.old flow.new.entries.items excess.new }
     ensures some { 0 < result }
     ensures scratch { IsScratchFor (length scratch.old.potentials.items) scratch.new }
-    ensures rooms { AreRooms graph.now.rows.items flow.old.entries.items scratch.old.walks.rooms.items → AreRooms graph.now.rows.items flow.new.entries.items scratch.new.walks.rooms.items }
+    ensures rooms { AreRooms graph.now.rows flow.old.entries.items scratch.old.walks.rooms.items → AreRooms graph.now.rows flow.new.entries.items scratch.new.walks.rooms.items }
 {
     lower(
         &mut scratch.potentials,
@@ -215,12 +215,12 @@ fn keep_near(
     scratch: &mut Scratch,
     fallen: i64,
 ) -> i64
-    requires graph { IsGraphFor (length scratch.old.potentials.items) graph.now }
-    requires certified { IsReducedCostOptimal (seen side graph.now.rows.items) flow.now.entries.items scratch.old.potentials.items }
+    requires graph { HasEntries (length scratch.old.potentials.items) graph.now }
+    requires certified { IsReducedCostOptimal (seen side graph.now.rows) flow.now.entries.items scratch.old.potentials.items }
     requires scratch { IsScratchFor (length scratch.old.potentials.items) scratch.old }
     requires not_below_0 { pos 0 ≤ℤ fallen }
     requires at_least { (v : ℕ) → (neg_ℤ (pos label_floor) -ℤ fallen) ≤ℤ number_at scratch.old.potentials.items v }
-    ensures certified { IsReducedCostOptimal (seen side graph.now.rows.items) flow.now.entries.items scratch.new.potentials.items }
+    ensures certified { IsReducedCostOptimal (seen side graph.now.rows) flow.now.entries.items scratch.new.potentials.items }
     ensures scratch { IsScratchFor (length scratch.old.potentials.items) scratch.new }
     ensures near { IsNear scratch.new.potentials.items result }
     ensures walks { scratch.new.walks ≡ scratch.old.walks }

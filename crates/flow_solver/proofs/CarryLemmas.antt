@@ -16,7 +16,8 @@ use Rattle.residual_graph.specs.Residual.{IsRow, row_at, number_at}
 use Rattle.flow_solver.specs.TablesView.{flow_index}
 use Rattle.augmentation.specs.Tracked.{IsTracked, kept_in}
 use Rattle.flow_solver.proofs.BalanceLemmas.{cost_first, cost_last, cost_row, excess_first, excess_last, excess_row, excess_set, excess_supplied}
-use Rattle.flow_solver.proofs.ChangeLemmas.{place_in, row_is, rows_changed, rows_more, supplied, supply_at, with_last, with_row}
+use Rattle.residual_graph.proofs.GraphLemmas.{with_last, with_row}
+use Rattle.flow_solver.proofs.ChangeLemmas.{place_in, row_is, rows_changed, rows_more, supplied, supply_at}
 use Rattle.flow_solver.proofs.InstanceLemmas.{rows_of_instance}
 use Rattle.residual_graph.proofs.NodeNumbers.{IsNodeOf, is_node_or_not}
 use Rattle.augmentation.proofs.NodeLemmas.{held_node, held_other}

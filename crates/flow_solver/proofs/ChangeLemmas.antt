@@ -1,11 +1,10 @@
 -- What a change of the instance leaves of its tables, its flow and its excesses.
-use Rattle.std.proofs.Common.{◌≡◌, ℕ, zero, suc, ◌+◌, ◌-◌, ◌<◌, ◌≤◌, ℤ, pos, negsuc, neg_ℤ, ◌-ℤ◌, ◌+ℤ◌, ◌≤ℤ◌, List, [], ◌∷◌, length, drop, refl, sym, ap, subst, ◌∙◌, inl, inr, arith, Bool, true, false, cond, eqb, slice_set, slice_index_or, unsigned_abs, All, ◌++◌, take}
+use Rattle.std.proofs.Common.{◌≡◌, ℕ, zero, suc, ◌+◌, ◌-◌, ◌<◌, ◌≤◌, ℤ, pos, negsuc, neg_ℤ, ◌-ℤ◌, ◌+ℤ◌, ◌≤ℤ◌, List, [], ◌∷◌, length, drop, refl, sym, ap, subst, ◌∙◌, inl, inr, arith, Bool, true, false, cond, eqb, slice_set, slice_index_or, unsigned_abs, All, ◌++◌}
 use Rattle.std.specs.List.{AllZip}
 use Rattle.std.proofs.lemmas.Int.{ints}
 use Rattle.std.proofs.lemmas.Bool.{cases_lt, cases_eq}
-use Rattle.std.proofs.lemmas.List.{length-set, get_or_default, get_or_past, length-append, get_or_append_left, get_or-set_same, get_or-set_other}
-use Rattle.std.proofs.lemmas.List.Elements.{All-set, All-push}
-use Rattle.std.proofs.Math.Seq.{take-append_seam}
+use Rattle.std.proofs.lemmas.List.{length-set, get_or_default, get_or_past, get_or-set_same, get_or-set_other}
+use Rattle.std.proofs.lemmas.List.Elements.{All-set}
 use Rattle.dimacs_text.specs.declared.problem.ArcRow.{ArcRow}
 use Rattle.dimacs_text.specs.Lawful.{IsLawfulRow, IsWithin}
 use Rattle.dimacs_text.specs.declared.problem.TheConstants.{SUPPLY_LIMIT}
@@ -24,22 +23,10 @@ use Rattle.augmentation.proofs.PushLemmas.{at_same, at_other}
 use Rattle.flow_solver.proofs.ExcessLemmas.{left-gain, at_node_bounds}
 use Rattle.flow_solver.proofs.BalanceLemmas.{net-push, net-set, net-set_row}
 use Rattle.flow_solver.proofs.PushLaws.{left_is}
+use Rattle.residual_graph.proofs.GraphLemmas.{lawful_row, with_last, with_row}
 use Rattle.residual_graph.proofs.WalkLemmas.{rows_push}
 
 -- ---- the instance and its rows
-
--- the instance with one arc changed
-abbrev pub with_row : Instance → ℕ → ArcRow → Instance
-with_row I i row = record { nodes = I.nodes; demand = I.demand; arcs = slice_set I.arcs i row; room = I.room }
-
-pub lawful_row : (I : Instance) (i : ℕ) (row : ArcRow) → IsLawful I → IsLawfulRow I.nodes row → ArcFits I.demand row → IsLawful (with_row I i row)
-lawful_row I i row lawful limits fits = record {
-  nodes = lawful.nodes;
-  demand = lawful.demand;
-  arcs = All-set (λ arc. IsLawfulRow I.nodes arc × ArcFits I.demand arc) I.arcs i row (limits, fits) lawful.arcs;
-  count = (let l = length-set I.arcs i row in omega (arith, lawful.count));
-  room = lawful.room;
-}
 
 rows_set : (D : Demand) (arcs : List ArcRow) (k : ℕ) (row : ArcRow) → 1 ≤ k → slice_set (reduced_arcs D arcs) (flow_index D k) row ≡ reduced_arcs D (slice_set arcs (k - 1) row)
 rows_set (Supplies s) arcs k row one = refl
@@ -79,39 +66,8 @@ flow_at (Sides marks) x k d one = refl
 
 -- ---- one arc more or less at the end
 
--- the instance with an arc more
-abbrev pub with_last : Instance → ArcRow → Instance
-with_last I row = record { nodes = I.nodes; demand = I.demand; arcs = I.arcs ++ row ∷ []; room = I.room }
-
-pub lawful_more : (I : Instance) (row : ArcRow) → IsLawful I → length I.arcs < I.room → IsLawfulRow I.nodes row → ArcFits I.demand row → IsLawful (with_last I row)
-lawful_more I row lawful free limits fits = record {
-  nodes = lawful.nodes;
-  demand = lawful.demand;
-  arcs = All-push (λ arc. IsLawfulRow I.nodes arc × ArcFits I.demand arc) I.arcs row lawful.arcs (limits, fits);
-  count = omega (arith, length-append I.arcs (row ∷ []));
-  room = lawful.room;
-}
-
-pub lawful_less : (I : Instance) (row : ArcRow) → IsLawful (with_last I row) → IsLawful I
-lawful_less I row lawful =
-    let more = length-append I.arcs (row ∷ []) in
-    record {
-      nodes = lawful.nodes;
-      demand = lawful.demand;
-      arcs = λ k d h. rw (get_or_append_left I.arcs (row ∷ []) d k h) at (lawful.arcs k d (omega arith));
-      count = omega (arith, lawful.count);
-      room = lawful.room;
-    }
-
 pub rows_more : (I : Instance) (row : ArcRow) → (reduced I).arcs ++ row ∷ [] ≡ (reduced (with_last I row)).arcs
 rows_more I row = rows_push I.demand I.arcs row
-
-pub rows_less : (I : Instance) (row : ArcRow) → take (length (reduced (with_last I row)).arcs - 1) (reduced (with_last I row)).arcs ≡ (reduced I).arcs
-rows_less I row =
-    let more = length-append (reduced I).arcs (row ∷ []) in
-    let same = rows_more I row in
-    let count : length (reduced (with_last I row)).arcs - 1 ≡ length (reduced I).arcs = omega (arith, ap (λ (r : List ArcRow). length r) same) in
-    ap (λ (n : ℕ). take n (reduced (with_last I row)).arcs) count ∙ ap (λ (r : List ArcRow). take (length (reduced I).arcs) r) (sym same) ∙ take-append_seam (reduced I).arcs (row ∷ [])
 
 -- ---- another supply
 

@@ -15,7 +15,8 @@ use Rattle.network.proofs.EditedLemmas.{edited_lawful}
 use Rattle.residual_graph.specs.Residual.{IsWithinRow, number_at}
 use Rattle.network.specs.Flow.{IsCertifiedFlow, FollowsSign, reduced_cost}
 use Rattle.flow_solver.proofs.FlowLaws.{bounds_at, bounds_length, signs_at}
-use Rattle.flow_solver.proofs.ChangeLemmas.{place_in, row_is, with_last, with_row, supplied, lawful_more, excess_changed, excess_more, excess_supplied}
+use Rattle.residual_graph.proofs.GraphLemmas.{with_last, with_row, lawful_more}
+use Rattle.flow_solver.proofs.ChangeLemmas.{place_in, row_is, supplied, excess_changed, excess_more, excess_supplied}
 use Rattle.flow_solver.specs.TablesView.{flow_index}
 use Rattle.flow_solver.specs.Edit.{IsNearest, IsRowEdit, IsSupplyEdit, IsAltered, GoesToNearest, IsAddEdit, IsMade}
 

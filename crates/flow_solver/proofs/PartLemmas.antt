@@ -14,7 +14,8 @@ use Rattle.flow_solver.specs.declared.part.Part.{Part}
 use Rattle.flow_solver.specs.declared.part.Part.TheVariants.{Arc, Supply, Last}
 use Rattle.flow_solver.specs.Edit.{IsRowEdit, IsSupplyEdit, IsAddEdit}
 use Rattle.flow_solver.specs.Part.{before_part, CanTakeBack, TakesBack}
-use Rattle.flow_solver.proofs.ChangeLemmas.{with_row, supplied, with_last}
+use Rattle.residual_graph.proofs.GraphLemmas.{with_row, with_last}
+use Rattle.flow_solver.proofs.ChangeLemmas.{supplied}
 use Rattle.flow_solver.proofs.EditRows.{row_there}
 
 -- the edit gives this instance alone, so it is enough to lead back from there

@@ -26,7 +26,8 @@ use Rattle.flow_solver.specs.Edit.{KeepsResidualArcs}
 use Rattle.flow_solver.specs.TablesView.{flow_index}
 use Rattle.flow_solver.specs.Tables.{AreTables}
 use Rattle.flow_solver.proofs.AnswerLemmas.{agrees_at}
-use Rattle.flow_solver.proofs.ChangeLemmas.{with_row, with_last, supplied, row_is, rows_changed, rows_more, rows_kept}
+use Rattle.residual_graph.proofs.GraphLemmas.{with_row, with_last}
+use Rattle.flow_solver.proofs.ChangeLemmas.{supplied, row_is, rows_changed, rows_more, rows_kept}
 use Rattle.flow_solver.proofs.EditRows.{row_there}
 use Rattle.flow_solver.proofs.FlowLaws.{bounds_at, bounds_length, greatest_flow, signs_at}
 
@@ -253,7 +254,6 @@ tables_told g flow potentials balance cut scratch before told t standing = recor
   cut_in = t.cut_in;
   scratch_in = scratch_told (g.net.nodes + 1) scratch told t.scratch_in;
   standing = standing;
-  rows_fit = t.rows_fit;
   log_fits = t.log_fits;
   before_is = t.before_is;
 }

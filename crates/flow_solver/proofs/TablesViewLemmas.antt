@@ -1,6 +1,6 @@
 -- What the tables of a solver keep where entries are written, and what was kept of them.
-use Rattle.std.proofs.Common.{◌≡◌, ℕ, ◌+◌, ◌≤◌, ℤ, Bool, true, List, [], ◌∷◌, length, take, drop, refl, sym, ap, subst, ◌∙◌, arith, Option, None, Some}
-use Rattle.std.specs.Prelude.{IfSome, vec_capacity}
+use Rattle.std.proofs.Common.{◌≡◌, ℕ, ◌+◌, ℤ, Bool, true, List, [], ◌∷◌, length, take, drop, refl, sym, ap, subst, ◌∙◌, arith, Option, None, Some}
+use Rattle.std.specs.Prelude.{IfSome}
 use Rattle.std.proofs.lemmas.List.{length-take-le, length-drop}
 use Rattle.dimacs_text.specs.declared.problem.ArcRow.{ArcRow}
 use Rattle.network.specs.Instance.{Demand, Supplies, Terminals, Sides, Instance, at_node, numbered_flow, reduced, with_supply}
@@ -17,7 +17,7 @@ use Rattle.flow_solver.specs.Balance.{IsBalanceOf}
 use Rattle.augmentation.specs.Touched.{NameChanges}
 use Rattle.flow_solver.specs.Moment.{IsSized, Snapshot, Moment, kept_of}
 use Rattle.flow_solver.specs.Tables.{AreTables, IsOfNodes}
-use Rattle.residual_graph.specs.Graph.{IsGraphFor}
+use Rattle.residual_graph.specs.Graph.{IsGraph}
 use Rattle.augmentation.specs.Nodes.{IsIdleEntry}
 use Rattle.flow_solver.specs.Part.{before_all, before_of, return_count}
 use Rattle.augmentation.specs.Scratch.{IsScratchFor}
@@ -53,11 +53,11 @@ idle_kept l m written idle = subst IsIdleEntry (sym (kept_written l m written)) 
 
 -- the tables of an instance stay tables where they are written, and fit an instance of as many arcs and nodes
 pub tables_written : (g h : Graph) (flow flow' potentials potentials' : Tracked ℤ) (balance balance' : Balance) (cut cut' : Tracked Bool) (scratch scratch' : Scratch) (before : Before) →
-    AreTables g flow potentials balance cut scratch before → h.net.nodes ≡ g.net.nodes → h.net.room ≡ g.net.room → IsGraphFor (h.net.nodes + 1) h → length h.rows.items ≡ length g.rows.items → vec_capacity g.rows ≤ vec_capacity h.rows →
-    IsWritten flow flow' → IsWritten potentials potentials' → IsIdleEntry potentials'.entries.items → IsBalanceOf h.net h.rows.items flow' balance' → IsWritten cut cut' → IsScratchFor (h.net.nodes + 1) scratch' →
+    AreTables g flow potentials balance cut scratch before → h.net.nodes ≡ g.net.nodes → h.net.room ≡ g.net.room → IsGraph h → length h.rows ≡ length g.rows →
+    IsWritten flow flow' → IsWritten potentials potentials' → IsIdleEntry potentials'.entries.items → IsBalanceOf h.net h.rows flow' balance' → IsWritten cut cut' → IsScratchFor (h.net.nodes + 1) scratch' →
     (scratch'.labels.standing ≡ true → AreGreatestPotentials (reduced h.net) flow'.entries.items (at_node (drop 1 potentials'.entries.items))) →
     AreTables h flow' potentials' balance' cut' scratch' (record before { verdict = None })
-tables_written g h flow flow' potentials potentials' balance balance' cut cut' scratch scratch' before t nodes room_is graph many more flow_written potentials_written idle balance_is cut_written scratch_in standing = record {
+tables_written g h flow flow' potentials potentials' balance balance' cut cut' scratch scratch' before t nodes room_is graph many flow_written potentials_written idle balance_is cut_written scratch_in standing = record {
   graph = graph;
   flow_tracked = flow_written.tracked;
   flow_in = flow_written.same_length ∙ t.flow_in ∙ sym many;
@@ -69,14 +69,13 @@ tables_written g h flow flow' potentials potentials' balance balance' cut cut' s
   cut_in = subst (λ (n : ℕ). IsOfNodes n cut') (sym nodes) (nodes_written g.net.nodes cut cut' t.cut_in cut_written);
   scratch_in = scratch_in;
   standing = standing;
-  rows_fit = omega (arith, t.rows_fit, room_is, more);
   log_fits = t.log_fits;
   before_is = tt;
 }
 
 -- so their moment has its sizes
 pub sized_written : (g h : Graph) (flow flow' potentials potentials' : Tracked ℤ) (balance : Balance) (cut cut' : Tracked Bool) (scratch : Scratch) (before : Before) (verdict : Verdict) →
-    AreTables g flow potentials balance cut scratch before → h.net.nodes ≡ g.net.nodes → AreRowsOf h.net h.rows.items → length h.rows.items ≡ length g.rows.items →
+    AreTables g flow potentials balance cut scratch before → h.net.nodes ≡ g.net.nodes → AreRowsOf h.net h.rows → length h.rows ≡ length g.rows →
     IsWritten flow flow' → IsWritten potentials potentials' → IsWritten cut cut' →
     IsSized (record { instance = h.net; flow = flow'.entries.items; potentials = drop 1 potentials'.entries.items; verdict = verdict; cut = drop 1 cut'.entries.items })
 sized_written g h flow flow' potentials potentials' balance cut cut' scratch before verdict t nodes of many flow_written potentials_written cut_written = record {
@@ -88,11 +87,11 @@ sized_written g h flow flow' potentials potentials' balance cut cut' scratch bef
 
 -- the tables stay tables where the arcs become others, with as many flows
 pub tables_with_arcs : (g h : Graph) (flow flow' potentials : Tracked ℤ) (balance balance' : Balance) (cut : Tracked Bool) (scratch scratch' : Scratch) (before : Before) →
-    AreTables g flow potentials balance cut scratch before → h.net.nodes ≡ g.net.nodes → h.net.room ≡ g.net.room → IsGraphFor (h.net.nodes + 1) h → vec_capacity g.rows ≤ vec_capacity h.rows →
-    IsTracked flow' → length flow'.entries.items ≡ length h.rows.items → length flow'.touched ≡ length flow.touched → IsBalanceOf h.net h.rows.items flow' balance' → IsScratchFor (g.net.nodes + 1) scratch' →
+    AreTables g flow potentials balance cut scratch before → h.net.nodes ≡ g.net.nodes → h.net.room ≡ g.net.room → IsGraph h →
+    IsTracked flow' → length flow'.entries.items ≡ length h.rows → length flow'.touched ≡ length flow.touched → IsBalanceOf h.net h.rows flow' balance' → IsScratchFor (g.net.nodes + 1) scratch' →
     (scratch'.labels.standing ≡ true → AreGreatestPotentials (reduced h.net) flow'.entries.items (at_node (drop 1 potentials.entries.items))) →
     AreTables h flow' potentials balance' cut scratch' (record before { verdict = None })
-tables_with_arcs g h flow flow' potentials balance balance' cut scratch scratch' before t nodes room_is graph more tracked flow_in same_room balance_is scratch_in standing = record {
+tables_with_arcs g h flow flow' potentials balance balance' cut scratch scratch' before t nodes room_is graph tracked flow_in same_room balance_is scratch_in standing = record {
   graph = graph;
   flow_tracked = tracked;
   flow_in = flow_in;
@@ -104,7 +103,6 @@ tables_with_arcs g h flow flow' potentials balance balance' cut scratch scratch'
   cut_in = subst (λ (n : ℕ). IsOfNodes n cut) (sym nodes) t.cut_in;
   scratch_in = subst (λ (n : ℕ). IsScratchFor (n + 1) scratch') (sym nodes) scratch_in;
   standing = standing;
-  rows_fit = omega (arith, t.rows_fit, room_is, more);
   log_fits = t.log_fits;
   before_is = tt;
 }

@@ -4,7 +4,7 @@ use Rattle.dimacs_text.specs.declared.group.TheConstants.{GROUP_LIMIT}
 use Rattle.network.specs.Instance.{at_node, reduced}
 use Rattle.residual_graph.specs.declared.graph.Graph.{Graph}
 use Rattle.augmentation.specs.declared.scratch.Scratch.{Scratch}
-use Rattle.residual_graph.specs.Graph.{IsGraphFor}
+use Rattle.residual_graph.specs.Graph.{IsGraph}
 use Rattle.augmentation.specs.Nodes.{IsIdleEntry}
 use Rattle.augmentation.specs.Scratch.{IsScratchFor}
 use Rattle.flow_solver.specs.declared.balance.Balance.{Balance}
@@ -30,17 +30,16 @@ kept_by flow potentials cut log = record { flow = kept_in flow; potentials = dro
 -- one entry for each row of the graph, one for each node and one for no node, room for all arcs that may be added, and room to log a group.
 -- Potentials that are said to stand are the greatest
 pub record AreTables (g : Graph) (flow potentials : Tracked ℤ) (balance : Balance) (cut : Tracked Bool) (scratch : Scratch) (before : Before) : Type 0 where
-  pub graph : IsGraphFor (g.net.nodes + 1) g
+  pub graph : IsGraph g
   pub flow_tracked : IsTracked flow
-  pub flow_in : length flow.entries.items ≡ length g.rows.items
+  pub flow_in : length flow.entries.items ≡ length g.rows
   pub flow_fits : g.net.room + 1 ≤ length flow.touched
   pub potentials_in : IsOfNodes g.net.nodes potentials
   pub idle : IsIdleEntry potentials.entries.items
   pub kept_idle : IsIdleEntry (kept_in potentials)
-  pub balance_is : IsBalanceOf g.net g.rows.items flow balance
+  pub balance_is : IsBalanceOf g.net g.rows flow balance
   pub cut_in : IsOfNodes g.net.nodes cut
   pub scratch_in : IsScratchFor (g.net.nodes + 1) scratch
   pub standing : scratch.labels.standing ≡ true → AreGreatestPotentials (reduced g.net) flow.entries.items (at_node (drop 1 potentials.entries.items))
-  pub rows_fit : g.net.room + 1 ≤ vec_capacity g.rows
   pub log_fits : GROUP_LIMIT ≤ vec_capacity before.log
   pub before_is : IsKept before.verdict g.net (kept_by flow potentials cut before.log.items)

@@ -1,18 +1,13 @@
-//! What an accepted edit asks for, the flow nearest to one, and rows and supplies that are exchanged.
+//! What an accepted edit asks for, and the flow nearest to one.
 
-ghost use Rattle.std.specs.Prelude.{◌≡◌, ℕ, pos, ◌≤ℤ◌, ◌+◌, ◌-◌, ◌<◌, ◌≤◌, length, slice_index_or, slice_set, ◌++◌, ◌∷◌, [], vec_capacity, IsOk, Some};
-ghost use Rattle.dimacs_text.specs.Lawful.{IsLawfulRow, IsNode, IsWithin};
-ghost use Rattle.dimacs_text.specs.declared.problem.TheConstants.{SUPPLY_LIMIT};
-ghost use Rattle.dimacs_text.specs.declared.problem.Kind.TheVariants.{Min};
+ghost use Rattle.std.specs.Prelude.{◌≡◌, ℕ, pos, ◌≤ℤ◌, length, IsOk, Some};
+ghost use Rattle.dimacs_text.specs.Lawful.{IsLawfulRow, IsNode};
 ghost use Rattle.dimacs_text.specs.declared.problem.ArcRow.{ArcRow};
 ghost use Rattle.network.specs.Edited.{edited};
 ghost use Rattle.network.specs.Flow.{IsPotential, reduced_cost};
-ghost use Rattle.network.specs.Instance.{IsLawful, arc_at, ArcFits, at_node, kind_of, with_supply};
-ghost use Rattle.residual_graph.specs.Walk.{AreRowsOf};
-ghost use Rattle.flow_solver.specs.TablesView.{supplies_in};
+ghost use Rattle.network.specs.Instance.{IsLawful, arc_at, at_node};
 ghost use Rattle.flow_solver.specs.Edit.{IsNearest, IsAddEdit, IsOfAdd, IsOfArc, IsOfSupply, IsSupplyEdit, IsRowEdit};
 
-use crate::answer::supply_at;
 use dimacs_text::{ArcRow, Edit};
 use network::Network;
 
@@ -37,72 +32,6 @@ pub fn nearest(row: &ArcRow, reduced: i64, flow: i64) -> i64
     } else {
         flow
     }
-}
-
-/// Exchanges the bounds and the cost of the arc with this number, counted from 1.
-pub fn swap_row(net: &mut Network, rows: &mut [ArcRow], k: u32, row: &mut ArcRow)
-    requires rows { AreRowsOf net.old rows.old }
-    requires arc { (1 ≤ k) × (k ≤ length net.old.arcs) }
-    requires tail { row.old.tail ≡ (slice_index_or net.old.arcs (k - 1) row.old).tail }
-    requires head { row.old.head ≡ (slice_index_or net.old.arcs (k - 1) row.old).head }
-    requires limits { IsLawfulRow net.old.nodes row.old }
-    requires fits { ArcFits net.old.demand row.old }
-    ensures net { net.new ≡ record net.old { arcs = slice_set net.old.arcs (k - 1) row.old } }
-    ensures rows { AreRowsOf net.new rows.new }
-    ensures row { row.new ≡ slice_index_or net.old.arcs (k - 1) row.old }
-{
-    let place = rows.len() - net.arcs() as usize + (k as usize - 1);
-    let before = rows[place];
-    net.set_row(k, *row);
-    rows[place] = *row;
-    *row = before;
-}
-
-/// Exchanges what a node of a least-cost problem has to send out.
-pub fn swap_supply(net: &mut Network, rows: &[ArcRow], id: u32, value: &mut i64)
-    requires rows { AreRowsOf net.old rows.now }
-    requires kind { kind_of net.old.demand ≡ Min }
-    requires node { IsNode net.old.nodes id }
-    requires limit { IsWithin SUPPLY_LIMIT value.old }
-    ensures net { net.new ≡ record net.old { demand = with_supply net.old.demand id value.old } }
-    ensures rows { AreRowsOf net.new rows.now }
-    ensures value { value.new ≡ slice_index_or (supplies_in net.old.demand) (id - 1) value.old }
-{
-    let before = supply_at(net, id);
-    net.set_supply(id, *value);
-    *value = before;
-}
-
-/// Takes the last arc off.
-pub fn drop_row(net: &mut Network, rows: &mut Vec<ArcRow>) -> ArcRow
-    requires rows { AreRowsOf net.old rows.old.items }
-    requires some { 0 < length net.old.arcs }
-    ensures net { net.old ≡ record net.new { arcs = net.new.arcs ++ result ∷ [] } }
-    ensures rows { AreRowsOf net.new rows.new.items }
-    ensures one_less { length rows.new.items + 1 ≡ length rows.old.items }
-    ensures room { vec_capacity rows.old ≤ vec_capacity rows.new }
-{
-    let row = net.pop_arc();
-    let _ = rows.pop();
-    row
-}
-
-/// Adds an arc at the end, for which there is room.
-pub fn put_row(net: &mut Network, rows: &mut Vec<ArcRow>, row: ArcRow)
-    requires rows { AreRowsOf net.old rows.old.items }
-    requires room { length net.old.arcs < net.old.room }
-    requires rows_room { net.old.room + 1 ≤ vec_capacity rows.old }
-    requires limits { IsLawfulRow net.old.nodes row }
-    requires fits { ArcFits net.old.demand row }
-    ensures net { net.new ≡ record net.old { arcs = net.old.arcs ++ row ∷ [] } }
-    ensures rows { AreRowsOf net.new rows.new.items }
-    ensures one_more { length rows.new.items ≡ length rows.old.items + 1 }
-    ensures capacity { vec_capacity rows.old ≤ vec_capacity rows.new }
-{
-    net.push_arc(row);
-    let Ok(()) = rows.push(row) else {
-        unreachable!()
-    };
 }
 
 /// The arc with this number, which is there.

@@ -1,6 +1,6 @@
 //! A best flow, or the cut that tells why there is none, with the greatest potentials that certify it.
 
-ghost use Rattle.residual_graph.specs.Graph.{IsGraphFor};
+ghost use Rattle.residual_graph.specs.Graph.{HasEntries};
 ghost use Rattle.shortest_paths.specs.Limits.{label_floor};
 ghost use Rattle.std.specs.Prelude.{◌≡◌, ℕ, ℤ, true, drop, length, ◌<◌, ◌≤◌, ◌+◌};
 ghost use Rattle.residual_graph.specs.Residual.{IsPseudoflow, IsReducedCostOptimal, ArePotentials};
@@ -10,6 +10,7 @@ ghost use Rattle.augmentation.specs.Tracked.{IsTracked, IsWritten};
 ghost use Rattle.network.specs.Instance.{at_node, reduced};
 ghost use Rattle.flow_solver.specs.Answer.{AreGreatestPotentials};
 ghost use Rattle.augmentation.specs.Cut.{IsSide, IsChosenSet};
+ghost use Rattle.residual_graph.specs.Walk.{AreRowsOf};
 ghost use Rattle.residual_graph.specs.declared.side.Side.TheVariants.{Ahead, Behind};
 
 use augmentation::{Scratch, Tracked, has_root, mark_side, push_all, take_marks, write_potentials};
@@ -24,12 +25,12 @@ fn mark_cut(
     cut: &mut Tracked<bool>,
 )
     requires cut_tracked { IsTracked cut.old }
-    requires graph { IsGraphFor (length excess.now) graph.now }
-    requires flow { IsPseudoflow (length excess.now) graph.now.rows.items flow.now.entries.items }
+    requires graph { HasEntries (length excess.now) graph.now }
+    requires flow { IsPseudoflow (length excess.now) graph.now.rows flow.now.entries.items }
     requires cut_in { length cut.old.entries.items ≡ length excess.now }
     requires scratch { IsScratchFor (length excess.now) scratch.old }
-    ensures in_excess { 0 < left excess.now → IsSide Ahead graph.now.rows.items flow.now.entries.items excess.now cut.new.entries.items }
-    ensures no_excess { left excess.now ≡ 0 → IsSide Behind graph.now.rows.items flow.now.entries.items excess.now cut.new.entries.items }
+    ensures in_excess { 0 < left excess.now → IsSide Ahead graph.now.rows flow.now.entries.items excess.now cut.new.entries.items }
+    ensures no_excess { left excess.now ≡ 0 → IsSide Behind graph.now.rows flow.now.entries.items excess.now cut.new.entries.items }
     ensures written { IsWritten cut.old cut.new }
     ensures scratch { IsScratchFor (length excess.now) scratch.new }
 {
@@ -59,11 +60,12 @@ pub fn settle(
     scratch: &mut Scratch,
     cut: &mut Tracked<bool>,
 ) -> u64
-    requires graph { IsGraphFor (length potentials.old.entries.items) graph.now }
+    requires graph { HasEntries (length potentials.old.entries.items) graph.now }
+    requires rows { AreRowsOf graph.now.net graph.now.rows }
     requires flow_tracked { IsTracked flow.old }
     requires potentials_tracked { IsTracked potentials.old }
     requires cut_tracked { IsTracked cut.old }
-    requires certified { IsReducedCostOptimal graph.now.rows.items flow.old.entries.items potentials.old.entries.items }
+    requires certified { IsReducedCostOptimal graph.now.rows flow.old.entries.items potentials.old.entries.items }
     requires potentials_in { ArePotentials (length potentials.old.entries.items) label_floor potentials.old.entries.items }
     requires excess_in { length excess.old ≡ length potentials.old.entries.items }
     requires cut_in { length cut.old.entries.items ≡ length potentials.old.entries.items }
@@ -73,15 +75,15 @@ pub fn settle(
     ensures flow_written { IsWritten flow.old flow.new }
     ensures potentials_written { IsWritten potentials.old potentials.new }
     ensures cut_written { IsWritten cut.old cut.new }
-    ensures certified { IsReducedCostOptimal graph.now.rows.items flow.new.entries.items potentials.new.entries.items }
+    ensures certified { IsReducedCostOptimal graph.now.rows flow.new.entries.items potentials.new.entries.items }
     ensures potentials_in { ArePotentials (length potentials.new.entries.items) label_floor potentials.new.entries.items }
     ensures greatest { AreGreatestPotentials (reduced graph.now.net) flow.new.entries.items (at_node (drop 1 potentials.new.entries.items)) }
     ensures small { AreSmall excess.new }
-    ensures excess { (supply : ℕ → ℤ) → IsExcess graph.now.rows.items supply flow.old.entries.items excess.old → IsExcess graph.now.rows.items supply flow.new.entries.items excess.new }
-    ensures pushes { (supply : ℕ → ℤ) → IsExcess graph.now.rows.items supply flow.old.entries.items excess.old → Pushes graph.now.rows.items supply result flow.old.entries.items flow.new.entries.items }
+    ensures excess { (supply : ℕ → ℤ) → IsExcess graph.now.rows supply flow.old.entries.items excess.old → IsExcess graph.now.rows supply flow.new.entries.items excess.new }
+    ensures pushes { (supply : ℕ → ℤ) → IsExcess graph.now.rows supply flow.old.entries.items excess.old → Pushes graph.now.rows supply result flow.old.entries.items flow.new.entries.items }
     ensures count { result + left excess.new ≤ left excess.old }
     ensures scratch { IsScratchFor (length potentials.new.entries.items) scratch.new }
-    ensures cut { (supply : ℕ → ℤ) → IsExcess graph.now.rows.items supply flow.old.entries.items excess.old → IsChosenSet graph.now.rows.items supply excess.new cut.new.entries.items }
+    ensures cut { (supply : ℕ → ℤ) → IsExcess graph.now.rows supply flow.old.entries.items excess.old → IsChosenSet graph.now.rows supply excess.new cut.new.entries.items }
 {
     let stood = scratch.labels.standing;
     scratch.potentials.copy_from_slice(&potentials.entries);

@@ -68,13 +68,13 @@ impl Tables {
             (λ t. IsCertifiedFlow (reduced t.moment.instance) t.moment.flow (at_node t.moment.potentials)) }
     {
         let graph = Graph::new(alloc, net)?;
-        let entries = graph.net.nodes() as usize + 1;
-        let room = graph.net.room() as usize + 1;
-        let flow = Tracked::new(alloc, start_flow(alloc, &graph.rows, room)?, room)?;
+        let entries = graph.network().nodes() as usize + 1;
+        let room = graph.network().room() as usize + 1;
+        let flow = Tracked::new(alloc, start_flow(alloc, graph.rows(), room)?, room)?;
         let potentials = Tracked::new(alloc, vec![in alloc; 0; entries]?, entries)?;
-        let balance = Balance::new(alloc, &graph.net, &graph.rows, &flow.entries)?;
+        let balance = Balance::new(alloc, graph.network(), graph.rows(), &flow.entries)?;
         let cut = Tracked::new(alloc, vec![in alloc; false; entries]?, entries)?;
-        let scratch = Scratch::new(alloc, graph.net.nodes() + 1, 2 * room)?;
+        let scratch = Scratch::new(alloc, graph.network().nodes() + 1, 2 * room)?;
         let log = Vec::with_capacity(alloc, GROUP_LIMIT)?;
         Ok(Tables {
             graph,
@@ -92,7 +92,7 @@ impl Tables {
     pub fn network(&self) -> &Network
         ensures { result.now ≡ self.now.moment.instance }
     {
-        &self.graph.net
+        self.graph.network()
     }
 
     /// The flow of each arc, in the order of the arcs.
@@ -133,7 +133,7 @@ impl Tables {
         requires { IsSome self.now.before }
         ensures { IfSome self.now.before (λ old. result.now ≡ numbered_flow old.instance.demand old.flow) }
     {
-        let first = return_count(&self.graph.net);
+        let first = return_count(self.graph.network());
         &self.flow.before()[first..]
     }
 
@@ -199,7 +199,7 @@ impl Tables {
         requires { IsSome self.now.before }
         ensures { IfSome self.now.before (λ old. result ≡ arc_at old.instance.arcs k) }
     {
-        row_before(&self.graph.net, &self.before.log, k)
+        row_before(self.graph.network(), &self.before.log, k)
     }
 
     /// What a node had to send out before the last change, if it is a node.
@@ -208,6 +208,6 @@ impl Tables {
         ensures node { IfSome self.now.before (λ old. IsNode old.instance.nodes id → result ≡ Some (reduced_supply old.instance.demand id)) }
         ensures no_node { IfSome self.now.before (λ old. ¬ IsNode old.instance.nodes id → result ≡ None) }
     {
-        supply_before(&self.graph.net, &self.before.log, id)
+        supply_before(self.graph.network(), &self.before.log, id)
     }
 }

@@ -89,11 +89,11 @@ starts_here I rows v row end of split lt here =
     ap (λ (a : ArcRow). start_of a (end_way end)) (row_is I rows row (end / 2) of split) ∙ sym (start_is I.arcs end lt) ∙ here
 
 -- and the end is one of the node that it leaves
-pub stands_here : (g : Graph) (v row end : ℕ) → AreRowsOf g.net g.rows.items → row + length g.net.arcs ≡ length g.rows.items → g.star.arcs ≤ end / 2 → end / 2 < length g.net.arcs → start_at g.rows.items (end / 2 + row) (end_way end) ≡ v
+pub stands_here : (g : Graph) (v row end : ℕ) → AreRowsOf g.net g.rows → row + length g.net.arcs ≡ length g.rows → g.star.arcs ≤ end / 2 → end / 2 < length g.net.arcs → start_at g.rows (end / 2 + row) (end_way end) ≡ v
     → StandsIn g v row (Added end)
 stands_here g v row end of split later lt starts =
     let is_end : end < 2 * length g.net.arcs = omega (arith, lt) in
-    (later, is_end, start_is g.net.arcs end is_end ∙ sym (ap (λ (a : ArcRow). start_of a (end_way end)) (row_is g.net g.rows.items row (end / 2) of split)) ∙ starts)
+    (later, is_end, start_is g.net.arcs end is_end ∙ sym (ap (λ (a : ArcRow). start_of a (end_way end)) (row_is g.net g.rows row (end / 2) of split)) ∙ starts)
 
 -- ---- the stage at an end of the network's list
 
@@ -141,26 +141,26 @@ only_way rows v Forward Backward apart a b = absurd (apart (a ∙ sym b))
 only_way rows v Backward Forward apart a b = absurd (apart (b ∙ sym a))
 only_way rows v Backward Backward apart a b = refl
 
-module _ (g : Graph) (v row : ℕ) (of : AreRowsOf g.net g.rows.items) (split : row + length g.net.arcs ≡ length g.rows.items) where
-  apart : 0 < row → start_at g.rows.items 0 Forward ≡ start_at g.rows.items 0 Backward → ⊥
+module _ (g : Graph) (v row : ℕ) (of : AreRowsOf g.net g.rows) (split : row + length g.net.arcs ≡ length g.rows) where
+  apart : 0 < row → start_at g.rows 0 Forward ≡ start_at g.rows 0 Backward → ⊥
   apart some =
       subst (λ (r : List ArcRow). start_at r 0 Forward ≡ start_at r 0 Backward → ⊥) (sym of.rows_are)
       (return_apart g.net.nodes g.net.demand g.net.arcs row of.lawful.demand (split ∙ ap (λ (r : List ArcRow). length r) of.rows_are) some)
 
   -- the end of a row behind the return arc, which the star covers or does not
-  covered_or_added : (k : ℕ) (way : Way) → row ≤ k → k < length g.rows.items → start_at g.rows.items k way ≡ v → ((row ≤ k) × (k - row < g.star.arcs)) ⊎ IsAddedUpTo g v row (2 * length g.net.arcs) k way
+  covered_or_added : (k : ℕ) (way : Way) → row ≤ k → k < length g.rows → start_at g.rows k way ≡ v → ((row ≤ k) × (k - row < g.star.arcs)) ⊎ IsAddedUpTo g v row (2 * length g.net.arcs) k way
   covered_or_added k way le lt starts = elim (cases_lt (k - row) g.star.arcs) [
     | inl covered ↦ inl (le, covered)
-    | inr later ↦ (let end = end_of_row g.net g.rows.items v row k way of split le lt starts in
+    | inr later ↦ (let end = end_of_row g.net g.rows v row k way of split le lt starts in
         inr (record { end = end.end; at_most = omega (arith, end.is_end); later = omega (arith, later, half_is end.end row k way end.from); is_end = end.is_end; here = end.here; from = end.from }))
   ]
 
-  pub first_return : (first : Way) → 0 < row → start_at g.rows.items 0 first ≡ v → IsFirstStage g v row (Return first)
+  pub first_return : (first : Way) → 0 < row → start_at g.rows 0 first ≡ v → IsFirstStage g v row (Return first)
   first_return first some here = record {
     stands = (some, here);
     all = λ k way lt starts. elim (cases_lt k row) [
-      | inl below ↦ (let zero : k ≡ 0 = omega (arith, below, one_return g.net g.rows.items row of split) in
-          inr (inl (zero, only_way g.rows.items v way first (apart some) (subst (λ (j : ℕ). start_at g.rows.items j way ≡ v) zero starts) here)))
+      | inl below ↦ (let zero : k ≡ 0 = omega (arith, below, one_return g.net g.rows row of split) in
+          inr (inl (zero, only_way g.rows v way first (apart some) (subst (λ (j : ℕ). start_at g.rows j way ≡ v) zero starts) here)))
       | inr above ↦ elim (covered_or_added k way above lt starts) [
         | inl covered ↦ inl covered
         | inr added ↦ inr (inr added)
@@ -168,12 +168,12 @@ module _ (g : Graph) (v row : ℕ) (of : AreRowsOf g.net g.rows.items) (split : 
     ];
   }
 
-  pub first_listed : (next : Option ℕ) → (0 < row → (way : Way) → start_at g.rows.items 0 way ≡ v → ⊥) → IsNextEnd g.net.arcs v (2 * length g.net.arcs) next → IsFirstStage g v row (stage_of g.star.arcs next)
+  pub first_listed : (next : Option ℕ) → (0 < row → (way : Way) → start_at g.rows 0 way ≡ v → ⊥) → IsNextEnd g.net.arcs v (2 * length g.net.arcs) next → IsFirstStage g v row (stage_of g.star.arcs next)
   first_listed next none is = record {
     stands = stage_stands g v row (2 * length g.net.arcs) next (omega arith) is;
     all = λ k way lt starts. elim (cases_lt k row) [
-      | inl below ↦ (let zero : k ≡ 0 = omega (arith, below, one_return g.net g.rows.items row of split) in
-          absurd (none (omega (arith, below)) way (subst (λ (j : ℕ). start_at g.rows.items j way ≡ v) zero starts)))
+      | inl below ↦ (let zero : k ≡ 0 = omega (arith, below, one_return g.net g.rows row of split) in
+          absurd (none (omega (arith, below)) way (subst (λ (j : ℕ). start_at g.rows j way ≡ v) zero starts)))
       | inr above ↦ elim (covered_or_added k way above lt starts) [
         | inl covered ↦ inl covered
         | inr added ↦ inr (stage_more g v row (2 * length g.net.arcs) next k way is added added.is_end)
@@ -182,10 +182,10 @@ module _ (g : Graph) (v row : ℕ) (of : AreRowsOf g.net g.rows.items) (split : 
   }
 
 -- a walk that begins in its first stage is to come to each end
-pub all_to_come : (g : Graph) (w : Walk) (entries : ℕ) → AreRowsOf g.net g.rows.items → w.first_row + length g.net.arcs ≡ length g.rows.items → Covers entries g.net.arcs g.star
+pub all_to_come : (g : Graph) (w : Walk) (entries : ℕ) → AreRowsOf g.net g.rows → w.first_row + length g.net.arcs ≡ length g.rows → Covers entries g.net.arcs g.star
     → IsFirstStage g w.node w.first_row w.stage → w.next ≡ slice_index g.star.begin.items w.node → AllToCome g w
 all_to_come g w entries of split covers first next k way lt starts = elim (first.all k way lt starts) [
-  | inl covered ↦ (let end = end_of_row g.net g.rows.items w.node w.first_row k way of split covered.0 lt starts in
+  | inl covered ↦ (let end = end_of_row g.net g.rows w.node w.first_row k way of split covered.0 lt starts in
       let cover : end.end / 2 < g.star.arcs = omega (arith, covered.1, half_is end.end w.first_row k way end.from) in
       let begins : start_at g.net.arcs (end.end / 2) (end_way end.end) ≡ w.node = sym (start_is g.net.arcs end.end end.is_end) ∙ end.here in
       let placed = subst (λ (v : ℕ). IsPlaced g.star.incidences.items (slice_index g.star.begin.items v) (slice_index g.star.begin.items (v + 1)) end.end) begins (covers.placed end.end cover) in
@@ -217,41 +217,41 @@ module _ (g : Graph) (w : Walk) (place : ℕ) (incidence : Incidence)
     abbrev after : Walk
     after = record { node = w.node; first_row = w.first_row; covered = w.covered; stage = w.stage; next = place + 1; last = w.last }
 
-    pub incidence_row : row < length g.rows.items
-    incidence_row = omega (arith, covered, walk.at.graph.star.few, walk.split)
+    pub incidence_row : row < length g.rows
+    incidence_row = omega (arith, covered, walk.graph.star.few, walk.split)
 
     pub incidence_walk : IsWalk g after
-    incidence_walk = record { at = walk.at; split = walk.split; few = walk.few; covered = walk.covered; stands = walk.stands; after = omega (arith, walk.after, from); until = walk.until }
+    incidence_walk = record { graph = walk.graph; node_in = walk.node_in; split = walk.split; few = walk.few; covered = walk.covered; stands = walk.stands; after = omega (arith, walk.after, from); until = walk.until }
 
     before_next : place < slice_index g.star.begin.items (w.node + 1)
     before_next = omega (arith, lt, walk.until, ap (last_in g w.node) stage)
 
-    row_there : row_at g.rows.items row ≡ row_at g.net.arcs (incidence.end / 2)
-    row_there = row_is g.net g.rows.items w.first_row (incidence.end / 2) walk.at.graph.rows walk.split
+    row_there : row_at g.rows row ≡ row_at g.net.arcs (incidence.end / 2)
+    row_there = row_is g.net g.rows w.first_row (incidence.end / 2) walk.graph.rows walk.split
 
     starts_at_node : start_at g.net.arcs (incidence.end / 2) way ≡ w.node
     starts_at_node =
         subst (λ (q : Incidence). q.end / 2 < g.star.arcs → start_at g.net.arcs (q.end / 2) (end_way q.end) ≡ w.node) (sym is)
-        (λ low. walk.at.graph.star.here w.node place walk.at.node (omega (arith, walk.after, from)) before_next low) covered
+        (λ low. walk.graph.star.here w.node place (omega (arith, walk.node_in)) (omega (arith, walk.after, from)) before_next low) covered
 
     names_other : incidence.other ≡ end_at g.net.arcs (incidence.end / 2 + 0) way
     names_other =
         subst (λ (q : Incidence). q.end / 2 < g.star.arcs → q.other ≡ end_at g.net.arcs (q.end / 2 + 0) (end_way q.end)) (sym is)
-        (λ low. walk.at.graph.star.named place (omega (arith, before_next, walk.at.graph.star.within (w.node + 1))) low) covered
+        (λ low. walk.graph.star.named place (omega (arith, before_next, walk.graph.star.within (w.node + 1))) low) covered
 
     has_cost : HasCost g.net.arcs incidence
     has_cost =
         subst (λ (q : Incidence). q.end / 2 < g.star.arcs → HasCost g.net.arcs q) (sym is)
-        (λ low. walk.at.graph.star.priced w.node place walk.at.node (omega (arith, walk.after, from)) before_next low) covered
+        (λ low. walk.graph.star.priced w.node place (omega (arith, walk.node_in)) (omega (arith, walk.after, from)) before_next low) covered
 
-    pub incidence_end : IsEndAt g.rows.items w.node at_incidence
+    pub incidence_end : IsEndAt g.rows w.node at_incidence
     incidence_end = record {
       is_arc = omega (arith, incidence_row);
-      starts = ap (λ (k : ℕ). start_at g.rows.items k (end_way at_incidence.number)) (number_row incidence.end w.first_row) ∙ ap (start_at g.rows.items row) (number_way incidence.end w.first_row)
+      starts = ap (λ (k : ℕ). start_at g.rows k (end_way at_incidence.number)) (number_row incidence.end w.first_row) ∙ ap (start_at g.rows row) (number_way incidence.end w.first_row)
           ∙ ap (λ (a : ArcRow). start_of a way) row_there ∙ starts_at_node;
-      ends = ap (λ (k : ℕ). end_at g.rows.items k (end_way at_incidence.number)) (number_row incidence.end w.first_row) ∙ ap (end_at g.rows.items row) (number_way incidence.end w.first_row)
+      ends = ap (λ (k : ℕ). end_at g.rows k (end_way at_incidence.number)) (number_row incidence.end w.first_row) ∙ ap (end_at g.rows row) (number_way incidence.end w.first_row)
           ∙ ap (λ (a : ArcRow). end_of a way) row_there ∙ ap (λ (k : ℕ). end_at g.net.arcs k way) none ∙ sym names_other;
-      cost = has_cost ∙ sym (ap (λ (k : ℕ). cost_at g.rows.items k (end_way at_incidence.number)) (number_row incidence.end w.first_row) ∙ ap (cost_at g.rows.items row) (number_way incidence.end w.first_row)
+      cost = has_cost ∙ sym (ap (λ (k : ℕ). cost_at g.rows k (end_way at_incidence.number)) (number_row incidence.end w.first_row) ∙ ap (cost_at g.rows row) (number_way incidence.end w.first_row)
           ∙ ap (λ (a : ArcRow). cost_of a way) row_there);
     }
       where
@@ -278,7 +278,7 @@ is_covered g w end walk lt = omega (arith, walk.covered, lt)
 
 -- the last incidence of the node is at hand
 pub last_place : (g : Graph) (w : Walk) → IsWalk g w → w.stage ≡ Incidences → w.last ≤ length g.star.incidences.items
-last_place g w walk stage = omega (arith, walk.until ∙ ap (last_in g w.node) stage, walk.at.graph.star.within (w.node + 1))
+last_place g w walk stage = omega (arith, walk.until ∙ ap (last_in g w.node) stage, walk.graph.star.within (w.node + 1))
 
 -- incidences are at hand only once the walk has come to them
 pub among_incidences : (g : Graph) (w : Walk) → IsWalk g w → w.next < w.last → w.stage ≡ Incidences
@@ -318,7 +318,8 @@ return_rest g w first next k way stage is (inl before) = elim (subst (λ (s : St
 
 pub walk_on : (g : Graph) (w : Walk) (n : ℕ) (next : Option ℕ) → IsWalk g w → n ≤ 2 * length g.net.arcs → IsNextEnd g.net.arcs w.node n next → IsWalk g (entered g w (stage_of g.star.arcs next))
 walk_on g w n next walk le is = record {
-  at = walk.at;
+  graph = walk.graph;
+  node_in = walk.node_in;
   split = walk.split;
   few = walk.few;
   covered = walk.covered;
@@ -334,7 +335,7 @@ walk_shorter g w n next is was = omega (arith, stage_left g w.node n next is, wa
 
 -- each residual arc from the node has this property, or is to come
 abbrev pub AllHaveOrCome : Graph → Walk → ℕ → (ℕ → Way → Type 0) → Type 0
-AllHaveOrCome g w v P = (k : ℕ) (way : Way) → k < length g.rows.items → start_at g.rows.items k way ≡ v → P k way ⊎ IsToCome g w k way
+AllHaveOrCome g w v P = (k : ℕ) (way : Way) → k < length g.rows → start_at g.rows k way ≡ v → P k way ⊎ IsToCome g w k way
 
 pub one_end_more : (g : Graph) (w w' : Walk) (v : ℕ) (end : End) (P Q : ℕ → Way → Type 0) → AllHaveOrCome g w v P → IsNextToCome g w w' end → ((k : ℕ) (way : Way) → P k way → Q k way)
     → Q (leaving end).arc (leaving end).way → AllHaveOrCome g w' v Q
@@ -346,7 +347,7 @@ one_end_more g w w' v end P Q done rest kept here k way lt starts = elim (done k
   ]
 ]
 
-pub all_ends_met : (g : Graph) (w : Walk) (v : ℕ) (P : ℕ → Way → Type 0) → AllHaveOrCome g w v P → NothingToCome g w → (k : ℕ) (way : Way) → k < length g.rows.items → start_at g.rows.items k way ≡ v → P k way
+pub all_ends_met : (g : Graph) (w : Walk) (v : ℕ) (P : ℕ → Way → Type 0) → AllHaveOrCome g w v P → NothingToCome g w → (k : ℕ) (way : Way) → k < length g.rows → start_at g.rows k way ≡ v → P k way
 all_ends_met g w v P done nothing k way lt starts = elim (done k way lt starts) [
   | inl has ↦ has
   | inr come ↦ absurd (nothing k way come)
@@ -356,7 +357,7 @@ pub is_end : (arcs : List ArcRow) (v : ℕ) (end : End) → IsEndAt arcs v end �
 is_end arcs v end at = record { is_arc = at.is_arc; starts = refl; ends = at.ends; cost = at.cost }
 
 -- the same of the residual arcs that enter the node
-pub all_entering : (g : Graph) (w : Walk) (v : ℕ) (P : ℕ → Way → Type 0) → AllHaveOrCome g w v (λ k way. P k (other_way way)) → NothingToCome g w → (k : ℕ) (way : Way) → k < length g.rows.items → end_at g.rows.items k way ≡ v → P k way
+pub all_entering : (g : Graph) (w : Walk) (v : ℕ) (P : ℕ → Way → Type 0) → AllHaveOrCome g w v (λ k way. P k (other_way way)) → NothingToCome g w → (k : ℕ) (way : Way) → k < length g.rows → end_at g.rows k way ≡ v → P k way
 all_entering g w v P done nothing k Forward lt ends = all_ends_met g w v (λ k way. P k (other_way way)) done nothing k Backward lt ends
 all_entering g w v P done nothing k Backward lt ends = all_ends_met g w v (λ k way. P k (other_way way)) done nothing k Forward lt ends
 

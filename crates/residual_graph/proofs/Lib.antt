@@ -3,6 +3,7 @@ pub mod RowLemmas
 pub mod WalkLemmas
 pub mod StarLemmas
 pub mod EndLemmas
+pub mod GraphLemmas
 pub mod TurnedRows
 pub mod SideLemmas
 pub mod RoomLemmas

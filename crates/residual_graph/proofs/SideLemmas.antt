@@ -73,13 +73,13 @@ one_seen_more Behind g w w' v end P Q done rest kept here =
     one_end_more g w w' v end (λ k way. P k (other_way way)) (λ k way. Q k (other_way way)) done rest (λ k way has. kept k (other_way way) has) here
 
 pub all_seen_met : (side : Side) (g : Graph) (w : Walk) (v : ℕ) (P : ℕ → Way → Type 0) → AllSeenOrCome side g w v P → NothingToCome g w
-    → (k : ℕ) (way : Way) → k < length (seen side g.rows.items) → start_at (seen side g.rows.items) k way ≡ v → P k way
+    → (k : ℕ) (way : Way) → k < length (seen side g.rows) → start_at (seen side g.rows) k way ≡ v → P k way
 all_seen_met Ahead g w v P done nothing k way lt starts = all_ends_met g w v P done nothing k way lt starts
 all_seen_met Behind g w v P done nothing k way lt starts =
-    all_entering g w v P done nothing k way (subst (λ (n : ℕ). k < n) (length-map g.rows.items turned_row) lt) (sym (start_at-turned g.rows.items k way) ∙ starts)
+    all_entering g w v P done nothing k way (subst (λ (n : ℕ). k < n) (length-map g.rows turned_row) lt) (sym (start_at-turned g.rows k way) ∙ starts)
 
 -- the same of the residual arcs that lead on to the node
 pub all_seen_entering : (side : Side) (g : Graph) (w : Walk) (v : ℕ) (P : ℕ → Way → Type 0) → AllSeenOrCome side g w v (λ k way. P k (other_way way)) → NothingToCome g w
-    → (k : ℕ) (way : Way) → k < length (seen side g.rows.items) → end_at (seen side g.rows.items) k way ≡ v → P k way
+    → (k : ℕ) (way : Way) → k < length (seen side g.rows) → end_at (seen side g.rows) k way ≡ v → P k way
 all_seen_entering side g w v P done nothing k Forward lt ends = all_seen_met side g w v (λ k way. P k (other_way way)) done nothing k Backward lt ends
 all_seen_entering side g w v P done nothing k Backward lt ends = all_seen_met side g w v (λ k way. P k (other_way way)) done nothing k Forward lt ends

@@ -4,7 +4,8 @@ use Rattle.std.proofs.lemmas.List.{length-map}
 use Rattle.dimacs_text.specs.declared.problem.ArcRow.{ArcRow}
 use Rattle.residual_graph.specs.declared.residual.Way.{Way}
 use Rattle.residual_graph.specs.declared.residual.Way.TheVariants.{Backward, Forward}
-use Rattle.residual_graph.specs.declared.side.Side.TheVariants.{Behind}
+use Rattle.residual_graph.specs.declared.side.Side.{Side}
+use Rattle.residual_graph.specs.declared.side.Side.TheVariants.{Ahead, Behind}
 use Rattle.residual_graph.specs.Residual.{IsPseudoflow, IsResidual, IsRow, IsWithinRow, row_at, cost_at, cost_of, end_at, end_of, number_at, room_of, start_at, start_of}
 use Rattle.residual_graph.specs.Side.{seen, turned_row}
 
@@ -87,3 +88,8 @@ flow-unturned nodes arcs x flow = subst (λ (rows : List ArcRow). IsPseudoflow n
 
 pub flow_both : (nodes : ℕ) (arcs : List ArcRow) (x : List ℤ) → IsPseudoflow nodes (seen Behind arcs) x ↔ IsPseudoflow nodes arcs x
 flow_both nodes arcs x = (flow-unturned nodes arcs x, flow-turned nodes arcs x)
+
+-- so it is from any side
+pub residual_seen : (side : Side) (arcs : List ArcRow) (x : List ℤ) (k : ℕ) (way : Way) → IsResidual arcs x k way ↔ IsResidual (seen side arcs) x k way
+residual_seen Ahead arcs x k way = (λ here. here, λ here. here)
+residual_seen Behind arcs x k way = (residual-turned arcs x k way, residual-unturned arcs x k way)

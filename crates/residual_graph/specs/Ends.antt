@@ -9,7 +9,7 @@ use Rattle.residual_graph.specs.declared.walk.End.{End}
 use Rattle.residual_graph.specs.declared.walk.Stage.{Stage}
 use Rattle.residual_graph.specs.declared.walk.Stage.TheVariants.{Return, Added, Incidences}
 use Rattle.residual_graph.specs.declared.walk.Walk.{Walk}
-use Rattle.residual_graph.specs.Graph.{IsGraphFor}
+use Rattle.residual_graph.specs.Graph.{IsGraph}
 use Rattle.residual_graph.specs.Limits.{row_limit}
 use Rattle.residual_graph.specs.Residual.{cost_at, end_at, start_at}
 use Rattle.residual_graph.specs.Star.{incidence_at}
@@ -30,11 +30,9 @@ pub record IsEndAt (arcs : List ArcRow) (v : ℕ) (end : End) : Type 0 where
 abbrev pub IsEnd : List ArcRow → End → Type 0
 IsEnd arcs end = IsEndAt arcs (start_at arcs (leaving end).arc (leaving end).way) end
 
--- the tables of the graph have an entry for node v
-pub record HasNode (g : Graph) (v : ℕ) : Type 0 where
-  pub entries : ℕ
-  pub graph : IsGraphFor entries g
-  pub node : v < entries
+-- tables of nodes have an entry for v: it is one of the graph's nodes, or 0
+abbrev pub HasNode : Graph → ℕ → Type 0
+HasNode g v = v ≤ g.net.nodes
 
 -- ---- where a walk stands
 
@@ -45,7 +43,7 @@ stage_of arcs (Some end) = if nat_lt (end / 2) arcs then Incidences else Added e
 
 -- what a walk over the ends at node v comes to in this stage is there; the first arc has this row
 abbrev pub StandsIn : Graph → ℕ → ℕ → Stage → Type 0
-StandsIn g v row (Return way) = (0 < row) × (start_at g.rows.items 0 way ≡ v)
+StandsIn g v row (Return way) = (0 < row) × (start_at g.rows 0 way ≡ v)
 StandsIn g v row (Added end) = (g.star.arcs ≤ end / 2) × (end < 2 * length g.net.arcs) × (end_node g.net.arcs end ≡ v)
 StandsIn g v row Incidences = Unit {0}
 
@@ -61,9 +59,10 @@ entered g w stage = record w { stage = stage; last = last_in g w.node stage }
 
 -- a walk over the ends at one of the graph's nodes
 pub record IsWalk (g : Graph) (w : Walk) : Type 0 where
-  pub at : HasNode g w.node
-  pub split : w.first_row + length g.net.arcs ≡ length g.rows.items
-  pub few : length g.rows.items ≤ row_limit
+  pub graph : IsGraph g
+  pub node_in : HasNode g w.node
+  pub split : w.first_row + length g.net.arcs ≡ length g.rows
+  pub few : length g.rows ≤ row_limit
   pub covered : w.covered ≡ 2 * g.star.arcs
   pub stands : StandsIn g w.node w.first_row w.stage
   pub after : slice_index g.star.begin.items w.node ≤ w.next
@@ -102,7 +101,7 @@ IsBeforeIncidences g v row Incidences k way = ⊥
 -- a walk begins in this stage: each residual arc from node v goes along an arc which the star covers, or comes before the incidences
 pub record IsFirstStage (g : Graph) (v row : ℕ) (stage : Stage) : Type 0 where
   pub stands : StandsIn g v row stage
-  pub all : (k : ℕ) (way : Way) → k < length g.rows.items → start_at g.rows.items k way ≡ v → ((row ≤ k) × (k - row < g.star.arcs)) ⊎ IsBeforeIncidences g v row stage k way
+  pub all : (k : ℕ) (way : Way) → k < length g.rows → start_at g.rows k way ≡ v → ((row ≤ k) × (k - row < g.star.arcs)) ⊎ IsBeforeIncidences g v row stage k way
 
 -- the walk is to come to the end at which this residual arc leaves the node
 abbrev pub IsToCome : Graph → Walk → ℕ → Way → Type 0
@@ -110,7 +109,7 @@ IsToCome g w k way = IsBeforeIncidences g w.node w.first_row w.stage k way ⊎ I
 
 -- it is to come to each of the node's ends
 abbrev pub AllToCome : Graph → Walk → Type 0
-AllToCome g w = (k : ℕ) (way : Way) → k < length g.rows.items → start_at g.rows.items k way ≡ w.node → IsToCome g w k way
+AllToCome g w = (k : ℕ) (way : Way) → k < length g.rows → start_at g.rows k way ≡ w.node → IsToCome g w k way
 
 abbrev pub NothingToCome : Graph → Walk → Type 0
 NothingToCome g w = (k : ℕ) (way : Way) → IsToCome g w k way → ⊥

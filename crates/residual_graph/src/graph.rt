@@ -1,31 +1,47 @@
 //! The network in the forms that searches read.
 
-ghost use Rattle.std.specs.Prelude.{◌≡◌, ℕ, ◌+◌, ◌<◌, ◌≤◌, ◌↔◌, IfOk, IsTrue, length, vec_capacity};
-ghost use Rattle.residual_graph.specs.Graph.{IsGraphFor};
+ghost use Rattle.std.specs.Prelude.{◌≡◌, ℕ, ◌+◌, ◌-◌, ◌<◌, ◌≤◌, ◌↔◌, ◌++◌, ◌∷◌, [], IfOk, IsTrue, length, slice_index, slice_index_or, slice_set};
+ghost use Rattle.dimacs_text.specs.Lawful.{IsLawfulRow, IsNode, IsWithin};
+ghost use Rattle.dimacs_text.specs.declared.problem.Kind.TheVariants.{Min};
+ghost use Rattle.dimacs_text.specs.declared.problem.TheConstants.{SUPPLY_LIMIT};
+ghost use Rattle.network.specs.Instance.{ArcFits, kind_of, with_supply};
+ghost use Rattle.residual_graph.specs.Graph.{IsGraph};
 ghost use Rattle.residual_graph.specs.Residual.{IsPseudoflow, IsResidual, row_at, end_at, start_at};
 ghost use Rattle.residual_graph.specs.Rooms.{AreRooms};
 ghost use Rattle.residual_graph.specs.Side.{seen, turned_row};
 ghost use Rattle.residual_graph.specs.declared.side.Side.{Side};
-ghost use Rattle.residual_graph.specs.Walk.{AreRowsOf};
+ghost use Rattle.residual_graph.specs.Star.{incidence_at};
 
 use crate::residual::{ResidualArc, Way};
 use crate::rooms::entry_of;
 use crate::rows::reduced_rows;
 use crate::side::Side;
-use crate::star::Star;
+use crate::star::{Incidence, Star};
 use dimacs_text::ArcRow;
 use network::Network;
 use std::alloc::{AllocError, Global};
+use std::marker::Model;
 
-/// A network, the ends at its nodes side by side, and the arcs of its reduced instance.
+/// A network, the ends at its nodes side by side, and the arcs of its reduced instance. What changes one of the three keeps
+/// them together.
 #[derive(Drop)]
 pub struct Graph {
-    /// The instance.
-    pub net: Network,
+    net: Network,
     /// The ends of its first arcs at each node.
-    pub star: Star,
+    star: Star,
     /// One entry an arc of the reduced instance: the return arc, where there is one, then the arcs of the network.
-    pub rows: Vec<ArcRow>,
+    rows: Vec<ArcRow>,
+}
+
+impl Model for Graph {
+    ghost use Rattle.std.specs.Prelude.{vec_capacity};
+    ghost use Rattle.residual_graph.specs.Graph.{GraphView, HoldsGraph};
+
+    ghost Value = { GraphView };
+
+    ghost view = { λ g. record { net = g.net; rows = g.rows.items; star = g.star } };
+
+    ghost invariant = { λ g. HoldsGraph (record { net = g.net; rows = g.rows.items; star = g.star }) (vec_capacity g.rows) };
 }
 
 impl Graph {
@@ -35,26 +51,124 @@ impl Graph {
     /// Memory for a table was refused.
     pub fn new(alloc: Global, net: Network) -> Result<Graph, AllocError>
         ensures net { IfOk result (λ g. g.net ≡ net) }
-        ensures graph { IfOk result (λ g. IsGraphFor (net.nodes + 1) g) }
-        ensures room { IfOk result (λ g. net.room + 1 ≤ vec_capacity g.rows) }
+        ensures graph { IfOk result IsGraph }
     {
         let star = Star::new(alloc, &net)?;
         let rows = reduced_rows(alloc, &net)?;
         Ok(Graph { net, star, rows })
     }
 
+    /// The network.
+    #[inline(always)]
+    pub fn network(&self) -> &Network
+        ensures { result.now ≡ self.now.net }
+    {
+        &self.net
+    }
+
+    /// The rows: one entry an arc of the reduced instance, the return arc, where there is one, then the arcs of the network.
+    #[inline(always)]
+    pub fn rows(&self) -> &[ArcRow]
+        ensures { result.now ≡ self.now.rows }
+    {
+        &self.rows
+    }
+
     /// The row of the first arc of the network: how many rows stand before it.
     pub fn first_row(&self) -> usize
-        requires { AreRowsOf self.now.net self.now.rows.items }
-        ensures { result + length self.now.net.arcs ≡ length self.now.rows.items }
+        ensures { result + length self.now.net.arcs ≡ length self.now.rows }
     {
         self.rows.len() - self.net.arcs() as usize
     }
 
+    /// How many arcs the ends side by side are of: the first ones.
+    #[inline(always)]
+    pub(crate) fn covered(&self) -> u32
+        ensures value { result ≡ self.now.star.arcs }
+        ensures graph { IsGraph self.now }
+    {
+        self.star.arcs
+    }
+
+    /// Where the incidences of node `v` begin, which is where those of the node before end.
+    #[inline(always)]
+    pub(crate) fn begin(&self, v: usize) -> usize
+        requires { v ≤ self.now.net.nodes + 1 }
+        ensures { result ≡ slice_index self.now.star.begin.items v }
+    {
+        self.star.begin[v]
+    }
+
+    /// The incidence at a place.
+    #[inline(always)]
+    pub(crate) fn incidence(&self, place: usize) -> Incidence
+        requires { place < length self.now.star.incidences.items }
+        ensures { result ≡ incidence_at self.now.star.incidences.items place }
+    {
+        self.star.incidences[place]
+    }
+
+    /// Changes the bounds and the cost of the arc of the network with this number, counted from 1.
+    pub fn set_row(&mut self, k: u32, row: ArcRow)
+        requires arc { (1 ≤ k) × (k ≤ length self.old.net.arcs) }
+        requires tail { row.tail ≡ (slice_index_or self.old.net.arcs (k - 1) row).tail }
+        requires head { row.head ≡ (slice_index_or self.old.net.arcs (k - 1) row).head }
+        requires limits { IsLawfulRow self.old.net.nodes row }
+        requires fits { ArcFits self.old.net.demand row }
+        ensures net { self.new.net ≡ record self.old.net { arcs = slice_set self.old.net.arcs (k - 1) row } }
+        ensures one_a_row { length self.new.rows ≡ length self.old.rows }
+        ensures graph { IsGraph self.new }
+    {
+        let place = self.first_row() + (k as usize - 1);
+        self.star.set_cost(&self.net, k, row.cost);
+        self.net.set_row(k, row);
+        self.rows[place] = row;
+    }
+
+    /// Changes what a node of a least-cost problem has to send out.
+    pub fn set_supply(&mut self, id: u32, value: i64)
+        requires kind { kind_of self.old.net.demand ≡ Min }
+        requires node { IsNode self.old.net.nodes id }
+        requires limit { IsWithin SUPPLY_LIMIT value }
+        ensures net { self.new.net ≡ record self.old.net { demand = with_supply self.old.net.demand id value } }
+        ensures rows { self.new.rows ≡ self.old.rows }
+        ensures graph { IsGraph self.new }
+    {
+        self.net.set_supply(id, value);
+    }
+
+    /// Adds an arc at the end, for which there is room.
+    pub fn push_arc(&mut self, row: ArcRow)
+        requires room { length self.old.net.arcs < self.old.net.room }
+        requires limits { IsLawfulRow self.old.net.nodes row }
+        requires fits { ArcFits self.old.net.demand row }
+        ensures net { self.new.net ≡ record self.old.net { arcs = self.old.net.arcs ++ row ∷ [] } }
+        ensures rows { self.new.rows ≡ self.old.rows ++ row ∷ [] }
+        ensures graph { IsGraph self.new }
+    {
+        self.net.push_arc(row);
+        let Ok(()) = self.rows.push(row) else {
+            unreachable!()
+        };
+    }
+
+    /// Takes the last arc off.
+    pub fn pop_arc(&mut self) -> ArcRow
+        requires { 0 < length self.old.net.arcs }
+        ensures net { self.old.net ≡ record self.new.net { arcs = self.new.net.arcs ++ result ∷ [] } }
+        ensures rows { self.old.rows ≡ self.new.rows ++ result ∷ [] }
+        ensures graph { IsGraph self.new }
+    {
+        let row = self.net.pop_arc();
+        let _ = self.rows.pop();
+        self.star.keep(self.net.arcs());
+        row
+    }
+
     /// The row of an arc, as it is seen from this side.
     pub fn row(&self, side: Side, k: usize) -> ArcRow
-        requires { k < length (seen side self.now.rows.items) }
-        ensures { result ≡ row_at (seen side self.now.rows.items) k }
+        requires { k < length (seen side self.now.rows) }
+        ensures { result ≡ row_at (seen side self.now.rows) k }
     {
         let row = self.rows[k];
         match side {
@@ -65,10 +179,10 @@ impl Graph {
 
     /// Whether this residual arc is there under the flow: it is from either side.
     pub fn has_room(&self, flow: &[i64], arc: ResidualArc) -> bool
-        requires flow { (nodes : ℕ) × IsPseudoflow nodes self.now.rows.items flow.now }
-        requires arc_in { arc.arc < length self.now.rows.items }
-        ensures here { IsTrue result ↔ IsResidual self.now.rows.items flow.now arc.arc arc.way }
-        ensures seen { (side : Side) → IsTrue result ↔ IsResidual (seen side self.now.rows.items) flow.now arc.arc arc.way }
+        requires flow { (nodes : ℕ) × IsPseudoflow nodes self.now.rows flow.now }
+        requires arc_in { arc.arc < length self.now.rows }
+        ensures here { IsTrue result ↔ IsResidual self.now.rows flow.now arc.arc arc.way }
+        ensures seen { (side : Side) → IsTrue result ↔ IsResidual (seen side self.now.rows) flow.now arc.arc arc.way }
     {
         let k = arc.arc as usize;
         arc.way.room(&self.rows[k], flow[k]) > 0
@@ -77,11 +191,11 @@ impl Graph {
     /// The same, by a table of rooms where it has an entry of this residual arc.
     #[inline(always)]
     pub fn has_room_by(&self, rooms: &[bool], flow: &[i64], arc: ResidualArc) -> bool
-        requires flow { (nodes : ℕ) × IsPseudoflow nodes self.now.rows.items flow.now }
-        requires arc_in { arc.arc < length self.now.rows.items }
-        requires rooms { AreRooms self.now.rows.items flow.now rooms.now }
-        ensures here { IsTrue result ↔ IsResidual self.now.rows.items flow.now arc.arc arc.way }
-        ensures seen { (side : Side) → IsTrue result ↔ IsResidual (seen side self.now.rows.items) flow.now arc.arc arc.way }
+        requires flow { (nodes : ℕ) × IsPseudoflow nodes self.now.rows flow.now }
+        requires arc_in { arc.arc < length self.now.rows }
+        requires rooms { AreRooms self.now.rows flow.now rooms.now }
+        ensures here { IsTrue result ↔ IsResidual self.now.rows flow.now arc.arc arc.way }
+        ensures seen { (side : Side) → IsTrue result ↔ IsResidual (seen side self.now.rows) flow.now arc.arc arc.way }
     {
         let entry = entry_of(arc);
         if entry < rooms.len() {
@@ -93,16 +207,16 @@ impl Graph {
 
     /// The node from which the residual arc in this way along the arc in row `k` leads, as it is seen from this side.
     pub fn start(&self, side: Side, k: usize, way: Way) -> usize
-        requires { k < length (seen side self.now.rows.items) }
-        ensures { result ≡ start_at (seen side self.now.rows.items) k way }
+        requires { k < length (seen side self.now.rows) }
+        ensures { result ≡ start_at (seen side self.now.rows) k way }
     {
         way.start(&self.row(side, k)) as usize
     }
 
     /// The node to which the residual arc in this way along the arc in row `k` leads, as it is seen from this side.
     pub fn end(&self, side: Side, k: usize, way: Way) -> usize
-        requires { k < length (seen side self.now.rows.items) }
-        ensures { result ≡ end_at (seen side self.now.rows.items) k way }
+        requires { k < length (seen side self.now.rows) }
+        ensures { result ≡ end_at (seen side self.now.rows) k way }
     {
         way.end(&self.row(side, k)) as usize
     }

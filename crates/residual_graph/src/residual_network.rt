@@ -14,5 +14,5 @@ pub struct Residual<'a> {
     pub side: Side,
     pub flow: &'a [i64],
     pub potentials: &'a [i64],
-    ghost certified: { IsReducedCostOptimal (seen side graph.now.rows.items) flow.now potentials.now },
+    ghost certified: { IsReducedCostOptimal (seen side graph.now.rows) flow.now potentials.now },
 }

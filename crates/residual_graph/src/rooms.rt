@@ -86,27 +86,27 @@ fn note_way(rooms: &mut [bool], k: u32, way: Way, row: &ArcRow, flow: i64)
 /// Fills a table of rooms, two entries for each row, where it was made for as many, and else leaves it empty. It takes no
 /// memory.
 pub fn note_rooms(graph: &Graph, flow: &[i64], rooms: &mut Vec<bool>)
-    requires flow { (nodes : ℕ) × IsPseudoflow nodes graph.now.rows.items flow.now }
-    ensures rooms { AreRooms graph.now.rows.items flow.now rooms.new.items }
-    ensures all { 2 * length graph.now.rows.items ≤ vec_capacity rooms.old → length rooms.new.items ≡ 2 * length graph.now.rows.items }
+    requires flow { (nodes : ℕ) × IsPseudoflow nodes graph.now.rows flow.now }
+    ensures rooms { AreRooms graph.now.rows flow.now rooms.new.items }
+    ensures all { 2 * length graph.now.rows ≤ vec_capacity rooms.old → length rooms.new.items ≡ 2 * length graph.now.rows }
 {
     rooms.clear();
-    let entries = 2 * graph.rows.len();
+    let entries = 2 * graph.rows().len();
     if entries <= rooms.capacity() {
         let Ok(()) = rooms.resize(entries, false) else {
             unreachable!()
         };
-        fill(graph, flow, rooms);
+        fill(graph.rows(), flow, rooms);
     }
 }
 
 /// Writes down of each residual arc whether it has room.
-fn fill(graph: &Graph, flow: &[i64], rooms: &mut [bool])
-    requires flow { (nodes : ℕ) × IsPseudoflow nodes graph.now.rows.items flow.now }
-    requires sized { length rooms.old ≡ 2 * length graph.now.rows.items }
-    ensures rooms { AreRooms graph.now.rows.items flow.now rooms.new }
+fn fill(rows: &[ArcRow], flow: &[i64], rooms: &mut [bool])
+    requires flow { (nodes : ℕ) × IsPseudoflow nodes rows.now flow.now }
+    requires sized { length rooms.old ≡ 2 * length rows.now }
+    ensures rooms { AreRooms rows.now flow.now rooms.new }
 {
-    for k in 0..graph.rows.len() {
-        note_room(rooms, k as u32, &graph.rows[k], flow[k]);
+    for k in 0..rows.len() {
+        note_room(rooms, k as u32, &rows[k], flow[k]);
     }
 }

@@ -89,14 +89,15 @@ impl Walk {
         ensures node { result.node ≡ node }
         ensures all { AllToCome graph.now result }
     {
+        let covered = 2 * graph.covered();
         let first_row = graph.first_row();
         let stage = Stage::first(graph, node, first_row);
         Walk {
             node,
             first_row,
-            covered: 2 * graph.star.arcs,
+            covered,
             stage,
-            next: graph.star.begin[node as usize],
+            next: graph.begin(node as usize),
             last: stage.last(graph, node),
         }
     }
@@ -161,13 +162,13 @@ impl Walk {
         requires walk { IsWalk graph.now self.old }
         ensures walk { IsWalk graph.now self.new }
         ensures node { self.new.node ≡ self.old.node }
-        ensures end { IfSome result (IsEndAt graph.now.rows.items self.old.node) }
+        ensures end { IfSome result (IsEndAt graph.now.rows self.old.node) }
         ensures rest { MatchOption result (NothingToCome graph.now self.old) (IsNextToCome graph.now self.old self.new) }
         ensures shorter { IfSome result (λ end. left_of graph.now self.new < left_of graph.now self.old) }
     {
         // Most ends are incidences of arcs which the star covers: no other is looked for while such a one is at hand.
         if self.next < self.last {
-            let incidence = graph.star.incidences[self.next];
+            let incidence = graph.incidence(self.next);
             if self.covers(incidence) {
                 self.next += 1;
                 return Some(incidence_end(incidence, self.first_row));
@@ -182,7 +183,7 @@ impl Walk {
         requires walk { IsWalk graph.now self.old }
         ensures walk { IsWalk graph.now self.new }
         ensures node { self.new.node ≡ self.old.node }
-        ensures end { IfSome result (IsEndAt graph.now.rows.items self.old.node) }
+        ensures end { IfSome result (IsEndAt graph.now.rows self.old.node) }
         ensures rest { MatchOption result (NothingToCome graph.now self.old) (IsNextToCome graph.now self.old self.new) }
         ensures shorter { IfSome result (λ end. left_of graph.now self.new < left_of graph.now self.old) }
     {
@@ -190,11 +191,14 @@ impl Walk {
             Stage::Incidences => self.next_incidence(graph),
             Stage::Added(end) => {
                 let number = number_of(end, self.first_row);
-                self.enter(graph, Stage::of(graph, graph.net.next_end(end)));
+                self.enter(graph, Stage::of(graph, graph.network().next_end(end)));
                 Some(end_with(graph, number))
             }
             Stage::Return(way) => {
-                self.enter(graph, Stage::of(graph, graph.net.first_end(self.node)));
+                self.enter(
+                    graph,
+                    Stage::of(graph, graph.network().first_end(self.node)),
+                );
                 Some(end_with(graph, return_end(way)))
             }
         }
@@ -207,12 +211,12 @@ impl Walk {
         requires stage { self.old.stage ≡ Incidences }
         ensures walk { IsWalk graph.now self.new }
         ensures node { self.new.node ≡ self.old.node }
-        ensures end { IfSome result (IsEndAt graph.now.rows.items self.old.node) }
+        ensures end { IfSome result (IsEndAt graph.now.rows self.old.node) }
         ensures rest { MatchOption result (NothingToCome graph.now self.old) (IsNextToCome graph.now self.old self.new) }
         ensures shorter { IfSome result (λ end. left_of graph.now self.new < left_of graph.now self.old) }
     {
         for place in self.next..self.last {
-            let incidence = graph.star.incidences[place];
+            let incidence = graph.incidence(place);
             if self.covers(incidence) {
                 self.next = place + 1;
                 return Some(incidence_end(incidence, self.first_row));
@@ -225,14 +229,14 @@ impl Walk {
 impl Stage {
     /// The stage in which a walk over the ends at a node begins.
     fn first(graph: &Graph, node: u32, first_row: usize) -> Stage
-        requires rows { AreRowsOf graph.now.net graph.now.rows.items }
-        requires split { first_row + length graph.now.net.arcs ≡ length graph.now.rows.items }
+        requires rows { AreRowsOf graph.now.net graph.now.rows }
+        requires split { first_row + length graph.now.net.arcs ≡ length graph.now.rows }
         ensures { IsFirstStage graph.now node first_row result }
     {
         if let Some(way) = return_way(graph, node, first_row) {
             return Stage::Return(way);
         }
-        Stage::of(graph, graph.net.first_end(node))
+        Stage::of(graph, graph.network().first_end(node))
     }
 
     /// The stage that comes to this end in the network's list, which has the arcs first that the star does not cover.
@@ -240,7 +244,7 @@ impl Stage {
         ensures { result ≡ stage_of graph.now.star.arcs end }
     {
         match end {
-            Some(end) if end / 2 >= graph.star.arcs => Stage::Added(end),
+            Some(end) if end / 2 >= graph.covered() => Stage::Added(end),
             _ => Stage::Incidences,
         }
     }
@@ -252,7 +256,7 @@ impl Stage {
         ensures { result ≡ last_in graph.now node self }
     {
         match self {
-            Stage::Incidences => graph.star.begin[node as usize + 1],
+            Stage::Incidences => graph.begin(node as usize + 1),
             _ => 0,
         }
     }
@@ -261,14 +265,14 @@ impl Stage {
 /// The way in which the residual arc along the return arc goes that leaves the node, where there is one. The return arc
 /// stands before the row of the network's first arc.
 fn return_way(graph: &Graph, node: u32, first_row: usize) -> Option<Way>
-    requires { first_row ≤ length graph.now.rows.items }
-    ensures none { result ≡ None → 0 < first_row → (way : Way) → start_at graph.now.rows.items 0 way ≢ node }
-    ensures some { IfSome result (λ way. (0 < first_row) × (start_at graph.now.rows.items 0 way ≡ node)) }
+    requires { first_row ≤ length graph.now.rows }
+    ensures none { result ≡ None → 0 < first_row → (way : Way) → start_at graph.now.rows 0 way ≢ node }
+    ensures some { IfSome result (λ way. (0 < first_row) × (start_at graph.now.rows 0 way ≡ node)) }
 {
     if first_row == 0 {
         return None;
     }
-    let row = graph.rows[0];
+    let row = graph.rows()[0];
     if row.tail == node {
         Some(Way::Forward)
     } else if row.head == node {
@@ -291,11 +295,11 @@ fn return_end(way: Way) -> u32
 
 /// Whether an end is one of the node's, of an arc which the star does not cover.
 fn is_added_at(graph: &Graph, end: u32, node: u32, first_row: usize) -> bool
-    requires rows { AreRowsOf graph.now.net graph.now.rows.items }
-    requires split { first_row + length graph.now.net.arcs ≡ length graph.now.rows.items }
+    requires rows { AreRowsOf graph.now.net graph.now.rows }
+    requires split { first_row + length graph.now.net.arcs ≡ length graph.now.rows }
     ensures { IsTrue result → StandsIn graph.now node first_row (Added end) }
 {
-    if end / 2 < graph.star.arcs || end / 2 >= graph.net.arcs() {
+    if end / 2 < graph.covered() || end / 2 >= graph.network().arcs() {
         return false;
     }
     graph.start(Side::Ahead, end as usize / 2 + first_row, Way::of_end(end)) == node as usize
@@ -325,12 +329,12 @@ fn incidence_end(incidence: Incidence, first_row: usize) -> End
 #[cold]
 #[inline(never)]
 fn end_with(graph: &Graph, number: u32) -> End
-    requires rows { AreRowsOf graph.now.net graph.now.rows.items }
-    requires row { number / 2 < length graph.now.rows.items }
-    ensures end { IsEndAt graph.now.rows.items (start_at graph.now.rows.items (number / 2) (end_way number)) result }
+    requires rows { AreRowsOf graph.now.net graph.now.rows }
+    requires row { number / 2 < length graph.now.rows }
+    ensures end { IsEndAt graph.now.rows (start_at graph.now.rows (number / 2) (end_way number)) result }
     ensures number { result.number ≡ number }
 {
-    let row = graph.rows[number as usize / 2];
+    let row = graph.rows()[number as usize / 2];
     let way = Way::of_end(number);
     End {
         number,

@@ -6,7 +6,7 @@ ghost use Rattle.residual_graph.specs.Residual.{ArePotentials, IsReducedCostOpti
 ghost use Rattle.shortest_paths.specs.Search.{HasBound, IsSearch, AllRelaxed, IsFromAll, NoneOpen, root_node_label, settled_node_label};
 ghost use Rattle.shortest_paths.specs.SettledOrder.{IsFresh};
 ghost use Rattle.shortest_paths.specs.Labels.{AreInOrder, IsLabelsFor, IsForest, IsHop, IsThrough, Stands, Opens, IsShortest, NothingOpen, IsEntered};
-ghost use Rattle.residual_graph.specs.Graph.{IsGraphFor};
+ghost use Rattle.residual_graph.specs.Graph.{HasEntries};
 ghost use Rattle.residual_graph.specs.Side.{seen};
 ghost use Rattle.shortest_paths.specs.Queue.{IsQueueOf, IsQueueFor};
 ghost use Rattle.shortest_paths.specs.declared.node_label.State.TheVariants.{Open};
@@ -91,10 +91,10 @@ fn node_label_through(
     v: usize,
     arc: ResidualArc,
 ) -> Option<NodeLabel>
-    requires forest { IsForest (seen residual.side residual.graph.now.rows.items) residual.flow.now residual.potentials.now node_labels.now }
-    requires arc_in { arc.arc < length (seen residual.side residual.graph.now.rows.items) }
-    ensures none { result ≡ None → IsHop (seen residual.entry.side residual.entry.graph.now.rows.items) residual.entry.flow.now node_labels.now v arc.arc arc.way → ⊥ }
-    ensures through { IfSome result (IsThrough (seen residual.entry.side residual.entry.graph.now.rows.items) residual.entry.flow.now residual.entry.potentials.now node_labels.now v) }
+    requires forest { IsForest (seen residual.side residual.graph.now.rows) residual.flow.now residual.potentials.now node_labels.now }
+    requires arc_in { arc.arc < length (seen residual.side residual.graph.now.rows) }
+    ensures none { result ≡ None → IsHop (seen residual.entry.side residual.entry.graph.now.rows) residual.entry.flow.now node_labels.now v arc.arc arc.way → ⊥ }
+    ensures through { IfSome result (IsThrough (seen residual.entry.side residual.entry.graph.now.rows) residual.entry.flow.now residual.entry.potentials.now node_labels.now v) }
     ensures is_open { IfSome result (λ e. e.state ≡ Open) }
     ensures along { IfSome result (λ e. (e.arc ≡ arc.arc) × (e.way ≡ arc.way)) }
     ensures bound { IfSome result (HasBound (number_at residual.entry.potentials.now v)) }
@@ -125,9 +125,9 @@ fn node_label_through(
 /// How the node was reached, where it is still reached so: as a root whose potential is 0, or by a residual arc of
 /// reduced cost 0 from a node that is kept.
 fn standing(residual: Residual<'_>, node_labels: &[NodeLabel], v: usize) -> Option<NodeLabel>
-    requires forest { IsForest (seen residual.side residual.graph.now.rows.items) residual.flow.now residual.potentials.now node_labels.now }
+    requires forest { IsForest (seen residual.side residual.graph.now.rows) residual.flow.now residual.potentials.now node_labels.now }
     requires v_in { v < length node_labels.now }
-    ensures { IfSome result (Stands (seen residual.entry.side residual.entry.graph.now.rows.items) residual.entry.flow.now residual.entry.potentials.now node_labels.now v) }
+    ensures { IfSome result (Stands (seen residual.entry.side residual.entry.graph.now.rows) residual.entry.flow.now residual.entry.potentials.now node_labels.now v) }
 {
     if residual.potentials[v] == 0 {
         return Some(settled(root(residual.potentials, v)));
@@ -137,7 +137,7 @@ fn standing(residual: Residual<'_>, node_labels: &[NodeLabel], v: usize) -> Opti
         arc: hint.arc,
         way: hint.way,
     };
-    if arc.arc as usize >= residual.graph.rows.len() {
+    if arc.arc as usize >= residual.graph.rows().len() {
         return None;
     }
     match node_label_through(residual, node_labels, v, arc) {
@@ -148,9 +148,9 @@ fn standing(residual: Residual<'_>, node_labels: &[NodeLabel], v: usize) -> Opti
 
 /// Settles the node where it stands, and tells whether it does.
 fn keep_node(residual: Residual<'_>, node_labels: &mut [NodeLabel], v: usize) -> bool
-    requires forest { IsForest (seen residual.side residual.graph.now.rows.items) residual.flow.now residual.potentials.now node_labels.old }
+    requires forest { IsForest (seen residual.side residual.graph.now.rows) residual.flow.now residual.potentials.now node_labels.old }
     requires closed { NothingOpen node_labels.old }
-    ensures forest { IsForest (seen residual.entry.side residual.entry.graph.now.rows.items) residual.entry.flow.now residual.entry.potentials.now node_labels.new }
+    ensures forest { IsForest (seen residual.entry.side residual.entry.graph.now.rows) residual.entry.flow.now residual.entry.potentials.now node_labels.new }
     ensures closed { NothingOpen node_labels.new }
 {
     if v >= node_labels.len() {
@@ -171,9 +171,9 @@ fn keep_node(residual: Residual<'_>, node_labels: &mut [NodeLabel], v: usize) ->
 /// Settles each node that stands, after the node before it on its path; moves these nodes to the front of `order`, and
 /// gives their number.
 fn keep(residual: Residual<'_>, node_labels: &mut [NodeLabel], order: &mut [u32]) -> usize
-    requires forest { IsForest (seen residual.side residual.graph.now.rows.items) residual.flow.now residual.potentials.now node_labels.old }
+    requires forest { IsForest (seen residual.side residual.graph.now.rows) residual.flow.now residual.potentials.now node_labels.old }
     requires closed { NothingOpen node_labels.old }
-    ensures forest { IsForest (seen residual.entry.side residual.entry.graph.now.rows.items) residual.entry.flow.now residual.entry.potentials.now node_labels.new }
+    ensures forest { IsForest (seen residual.entry.side residual.entry.graph.now.rows) residual.entry.flow.now residual.entry.potentials.now node_labels.new }
     ensures closed { NothingOpen node_labels.new }
     ensures count { result ≤ length order.new }
 {
@@ -202,11 +202,11 @@ fn nearer(best: NodeLabel, other: Option<NodeLabel>) -> NodeLabel
 
 /// The node label of least distance that the node can have: as a root, or by a residual arc from a settled node.
 fn nearest(residual: Residual<'_>, node_labels: &[NodeLabel], v: usize) -> NodeLabel
-    requires graph { IsGraphFor (length residual.potentials.now) residual.graph.now }
-    requires forest { IsForest (seen residual.side residual.graph.now.rows.items) residual.flow.now residual.potentials.now node_labels.now }
+    requires graph { HasEntries (length residual.potentials.now) residual.graph.now }
+    requires forest { IsForest (seen residual.side residual.graph.now.rows) residual.flow.now residual.potentials.now node_labels.now }
     requires v_in { v < length node_labels.now }
-    ensures opens { Opens (seen residual.entry.side residual.entry.graph.now.rows.items) residual.entry.flow.now residual.entry.potentials.now node_labels.now v result }
-    ensures nearest { IsShortest (seen residual.entry.side residual.entry.graph.now.rows.items) residual.entry.flow.now residual.entry.potentials.now node_labels.now v result }
+    ensures opens { Opens (seen residual.entry.side residual.entry.graph.now.rows) residual.entry.flow.now residual.entry.potentials.now node_labels.now v result }
+    ensures nearest { IsShortest (seen residual.entry.side residual.entry.graph.now.rows) residual.entry.flow.now residual.entry.potentials.now node_labels.now v result }
 {
     let mut best = root(residual.potentials, v);
     let mut walk = Walk::at(residual.graph, v as u32);
@@ -223,11 +223,11 @@ fn nearest(residual: Residual<'_>, node_labels: &[NodeLabel], v: usize) -> NodeL
 
 /// Opens the node, where it is not settled.
 fn enter_node(residual: Residual<'_>, node_labels: &mut [NodeLabel], queue: &mut Queue, v: usize)
-    requires graph { IsGraphFor (length residual.potentials.now) residual.graph.now }
-    requires entered { IsEntered (seen residual.side residual.graph.now.rows.items) residual.flow.now residual.potentials.now node_labels.old v }
+    requires graph { HasEntries (length residual.potentials.now) residual.graph.now }
+    requires entered { IsEntered (seen residual.side residual.graph.now.rows) residual.flow.now residual.potentials.now node_labels.old v }
     requires v_in { v < length node_labels.old }
     requires queue { IsQueueOf node_labels.old queue.old }
-    ensures entered { IsEntered (seen residual.entry.side residual.entry.graph.now.rows.items) residual.entry.flow.now residual.entry.potentials.now node_labels.new (v + 1) }
+    ensures entered { IsEntered (seen residual.entry.side residual.entry.graph.now.rows) residual.entry.flow.now residual.entry.potentials.now node_labels.new (v + 1) }
     ensures queue { IsQueueOf node_labels.new queue.new }
 {
     if node_labels[v].is_settled() {
@@ -239,11 +239,11 @@ fn enter_node(residual: Residual<'_>, node_labels: &mut [NodeLabel], queue: &mut
 
 /// Opens each node that is not settled.
 fn enter(residual: Residual<'_>, node_labels: &mut [NodeLabel], queue: &mut Queue)
-    requires graph { IsGraphFor (length residual.potentials.now) residual.graph.now }
-    requires forest { IsForest (seen residual.side residual.graph.now.rows.items) residual.flow.now residual.potentials.now node_labels.old }
+    requires graph { HasEntries (length residual.potentials.now) residual.graph.now }
+    requires forest { IsForest (seen residual.side residual.graph.now.rows) residual.flow.now residual.potentials.now node_labels.old }
     requires closed { NothingOpen node_labels.old }
     requires queue { IsQueueOf node_labels.old queue.old }
-    ensures entered { IsEntered (seen residual.entry.side residual.entry.graph.now.rows.items) residual.entry.flow.now residual.entry.potentials.now node_labels.new (length node_labels.new) }
+    ensures entered { IsEntered (seen residual.entry.side residual.entry.graph.now.rows) residual.entry.flow.now residual.entry.potentials.now node_labels.new (length node_labels.new) }
     ensures queue { IsQueueOf node_labels.new queue.new }
 {
     for v in 0..node_labels.len() {
@@ -272,14 +272,14 @@ fn search_rest(
     queue: &mut Queue,
     kept: usize,
 )
-    requires graph { IsGraphFor (length residual.potentials.now) residual.graph.now }
-    requires search { IsSearch (seen residual.side residual.graph.now.rows.items) residual.flow.now residual.potentials.now node_labels.old }
-    requires relaxed { AllRelaxed (seen residual.side residual.graph.now.rows.items) residual.flow.now residual.potentials.now node_labels.old }
+    requires graph { HasEntries (length residual.potentials.now) residual.graph.now }
+    requires search { IsSearch (seen residual.side residual.graph.now.rows) residual.flow.now residual.potentials.now node_labels.old }
+    requires relaxed { AllRelaxed (seen residual.side residual.graph.now.rows) residual.flow.now residual.potentials.now node_labels.old }
     requires from_all { IsFromAll residual.potentials.now node_labels.old }
     requires queue { IsQueueOf node_labels.old queue.old }
     requires kept { kept ≤ length order.old }
-    ensures search { IsSearch (seen residual.entry.side residual.entry.graph.now.rows.items) residual.entry.flow.now residual.entry.potentials.now node_labels.new }
-    ensures relaxed { AllRelaxed (seen residual.entry.side residual.entry.graph.now.rows.items) residual.entry.flow.now residual.entry.potentials.now node_labels.new }
+    ensures search { IsSearch (seen residual.entry.side residual.entry.graph.now.rows) residual.entry.flow.now residual.entry.potentials.now node_labels.new }
+    ensures relaxed { AllRelaxed (seen residual.entry.side residual.entry.graph.now.rows) residual.entry.flow.now residual.entry.potentials.now node_labels.new }
     ensures from_all { IsFromAll residual.entry.potentials.now node_labels.new }
     ensures done { NoneOpen node_labels.new (length node_labels.new) }
     ensures queue { IsQueueOf node_labels.new queue.new }
@@ -298,11 +298,11 @@ pub fn search_labels(
     order: &mut [u32],
     queue: &mut Queue,
 )
-    requires graph { IsGraphFor (length residual.potentials.now) residual.graph.now }
+    requires graph { HasEntries (length residual.potentials.now) residual.graph.now }
     requires node_labels_in { length node_labels.old ≡ length residual.potentials.now }
     requires sized { IsQueueFor (length residual.potentials.now) queue.old }
-    ensures search { IsSearch (seen residual.entry.side residual.entry.graph.now.rows.items) residual.entry.flow.now residual.entry.potentials.now node_labels.new }
-    ensures relaxed { AllRelaxed (seen residual.entry.side residual.entry.graph.now.rows.items) residual.entry.flow.now residual.entry.potentials.now node_labels.new }
+    ensures search { IsSearch (seen residual.entry.side residual.entry.graph.now.rows) residual.entry.flow.now residual.entry.potentials.now node_labels.new }
+    ensures relaxed { AllRelaxed (seen residual.entry.side residual.entry.graph.now.rows) residual.entry.flow.now residual.entry.potentials.now node_labels.new }
     ensures from_all { IsFromAll residual.entry.potentials.now node_labels.new }
     ensures done { NoneOpen node_labels.new (length node_labels.new) }
     ensures sized { IsQueueFor (length residual.entry.potentials.now) queue.new }

@@ -6,7 +6,7 @@ ghost use Rattle.residual_graph.specs.Limits.{cost_limit, entry_limit, potential
 ghost use Rattle.shortest_paths.specs.Limits.{distance_limit};
 ghost use Rattle.residual_graph.specs.Residual.{IsRow, IsPseudoflow, IsReducedCostOptimal, ArePotentials, IsResidual, number_at, start_at, start_of, end_of, cost_at, cost_of};
 ghost use Rattle.shortest_paths.specs.Search.{HaveBounds, IsSearch, IsLastSettled, Improves, Takes, reduced_at, IsRelaxed, IsRelaxedFrom, AllRelaxed, Settles, node_label_at, state_at, distance_at, priced_distance, source_node_label, IsFromExcess, IsExhausted, HasFound};
-ghost use Rattle.residual_graph.specs.Graph.{IsGraphFor};
+ghost use Rattle.residual_graph.specs.Graph.{HasEntries};
 ghost use Rattle.shortest_paths.specs.Queue.{IsQueueOf, IsQueueFor, size, first_of};
 ghost use Rattle.residual_graph.specs.Rooms.{AreRooms};
 ghost use Rattle.residual_graph.specs.Side.{IsLeading, leading, seen};
@@ -41,10 +41,10 @@ pub fn distance_through(
 /// The length of the path that goes on from a settled node at this end, with the potential of the other node there.
 /// `from` is the length of the path to the settled node, with that node's potential.
 fn priced_beyond(residual: Residual<'_>, from: i64, end: End) -> i64
-    requires end { IsLeading residual.side (seen residual.side residual.graph.now.rows.items) end }
+    requires end { IsLeading residual.side (seen residual.side residual.graph.now.rows) end }
     requires low { neg_ℤ (pos potential_floor) ≤ℤ from }
     requires high { from ≤ℤ pos distance_limit }
-    ensures priced { result ≡ from +ℤ cost_at (seen residual.entry.side residual.entry.graph.now.rows.items) (leading residual.entry.side end).arc (leading residual.entry.side end).way }
+    ensures priced { result ≡ from +ℤ cost_at (seen residual.entry.side residual.entry.graph.now.rows) (leading residual.entry.side end).arc (leading residual.entry.side end).way }
     ensures low { neg_ℤ (pos (potential_floor + cost_limit)) ≤ℤ result }
     ensures high { result ≤ℤ pos (distance_limit + cost_limit) }
 {
@@ -53,7 +53,7 @@ fn priced_beyond(residual: Residual<'_>, from: i64, end: End) -> i64
 
 /// The length of the path to the other node at this end, from its length with that node's potential.
 fn distance_beyond(residual: Residual<'_>, priced: i64, end: End) -> i64
-    requires end { IsLeading residual.side (seen residual.side residual.graph.now.rows.items) end }
+    requires end { IsLeading residual.side (seen residual.side residual.graph.now.rows) end }
     requires low { neg_ℤ (pos (potential_floor + cost_limit)) ≤ℤ priced }
     requires high { priced ≤ℤ pos (distance_limit + cost_limit) }
     ensures { result ≡ priced -ℤ number_at residual.entry.potentials.now end.other }
@@ -78,18 +78,18 @@ fn take_path(
     distance: i64,
     end: End,
 )
-    requires search { IsSearch (seen residual.side residual.graph.now.rows.items) residual.flow.now residual.potentials.now node_labels.old }
+    requires search { IsSearch (seen residual.side residual.graph.now.rows) residual.flow.now residual.potentials.now node_labels.old }
     requires queue { IsQueueOf node_labels.old queue.old }
-    requires end { IsLeading residual.side (seen residual.side residual.graph.now.rows.items) end }
-    requires start { start ≡ start_at (seen residual.side residual.graph.now.rows.items) (leading residual.side end).arc (leading residual.side end).way }
-    requires last { IsLastSettled node_labels.old (start_at (seen residual.side residual.graph.now.rows.items) (leading residual.side end).arc (leading residual.side end).way) }
-    requires residual { IsResidual (seen residual.side residual.graph.now.rows.items) residual.flow.now (leading residual.side end).arc (leading residual.side end).way }
-    requires distance { distance ≡ distance_at node_labels.old (start_at (seen residual.side residual.graph.now.rows.items) (leading residual.side end).arc (leading residual.side end).way) +ℤ reduced_at (seen residual.side residual.graph.now.rows.items) residual.potentials.now (leading residual.side end).arc (leading residual.side end).way }
+    requires end { IsLeading residual.side (seen residual.side residual.graph.now.rows) end }
+    requires start { start ≡ start_at (seen residual.side residual.graph.now.rows) (leading residual.side end).arc (leading residual.side end).way }
+    requires last { IsLastSettled node_labels.old (start_at (seen residual.side residual.graph.now.rows) (leading residual.side end).arc (leading residual.side end).way) }
+    requires residual { IsResidual (seen residual.side residual.graph.now.rows) residual.flow.now (leading residual.side end).arc (leading residual.side end).way }
+    requires distance { distance ≡ distance_at node_labels.old (start_at (seen residual.side residual.graph.now.rows) (leading residual.side end).arc (leading residual.side end).way) +ℤ reduced_at (seen residual.side residual.graph.now.rows) residual.potentials.now (leading residual.side end).arc (leading residual.side end).way }
     requires better { Takes (node_label_at node_labels.old end.other) distance }
-    ensures search { IsSearch (seen residual.entry.side residual.entry.graph.now.rows.items) residual.entry.flow.now residual.entry.potentials.now node_labels.new }
+    ensures search { IsSearch (seen residual.entry.side residual.entry.graph.now.rows) residual.entry.flow.now residual.entry.potentials.now node_labels.new }
     ensures queue { IsQueueOf node_labels.new queue.new }
     ensures improves { Improves node_labels.old node_labels.new }
-    ensures relaxed { IsRelaxed (seen residual.entry.side residual.entry.graph.now.rows.items) residual.entry.potentials.now node_labels.new (leading residual.entry.side end).arc (leading residual.entry.side end).way }
+    ensures relaxed { IsRelaxed (seen residual.entry.side residual.entry.graph.now.rows) residual.entry.potentials.now node_labels.new (leading residual.entry.side end).arc (leading residual.entry.side end).way }
 {
     let arc = residual.side.leading(end);
     let depth = node_labels[start].depth + 1;
@@ -116,17 +116,17 @@ fn relax(
     origin: Origin,
     end: End,
 )
-    requires search { IsSearch (seen residual.side residual.graph.now.rows.items) residual.flow.now residual.potentials.now node_labels.old }
+    requires search { IsSearch (seen residual.side residual.graph.now.rows) residual.flow.now residual.potentials.now node_labels.old }
     requires queue { IsQueueOf node_labels.old queue.old }
-    requires end { IsLeading residual.side (seen residual.side residual.graph.now.rows.items) end }
-    requires last { IsLastSettled node_labels.old (start_at (seen residual.side residual.graph.now.rows.items) (leading residual.side end).arc (leading residual.side end).way) }
-    requires rooms { AreRooms residual.graph.now.rows.items residual.flow.now rooms.now }
-    requires start { origin.node ≡ start_at (seen residual.side residual.graph.now.rows.items) (leading residual.side end).arc (leading residual.side end).way }
-    requires priced { origin.priced ≡ priced_distance residual.potentials.now node_labels.old (start_at (seen residual.side residual.graph.now.rows.items) (leading residual.side end).arc (leading residual.side end).way) }
-    ensures search { IsSearch (seen residual.entry.side residual.entry.graph.now.rows.items) residual.entry.flow.now residual.entry.potentials.now node_labels.new }
+    requires end { IsLeading residual.side (seen residual.side residual.graph.now.rows) end }
+    requires last { IsLastSettled node_labels.old (start_at (seen residual.side residual.graph.now.rows) (leading residual.side end).arc (leading residual.side end).way) }
+    requires rooms { AreRooms residual.graph.now.rows residual.flow.now rooms.now }
+    requires start { origin.node ≡ start_at (seen residual.side residual.graph.now.rows) (leading residual.side end).arc (leading residual.side end).way }
+    requires priced { origin.priced ≡ priced_distance residual.potentials.now node_labels.old (start_at (seen residual.side residual.graph.now.rows) (leading residual.side end).arc (leading residual.side end).way) }
+    ensures search { IsSearch (seen residual.entry.side residual.entry.graph.now.rows) residual.entry.flow.now residual.entry.potentials.now node_labels.new }
     ensures queue { IsQueueOf node_labels.new queue.new }
     ensures improves { Improves node_labels.old node_labels.new }
-    ensures relaxed { IsResidual (seen residual.entry.side residual.entry.graph.now.rows.items) residual.entry.flow.now (leading residual.entry.side end).arc (leading residual.entry.side end).way → IsRelaxed (seen residual.entry.side residual.entry.graph.now.rows.items) residual.entry.potentials.now node_labels.new (leading residual.entry.side end).arc (leading residual.entry.side end).way }
+    ensures relaxed { IsResidual (seen residual.entry.side residual.entry.graph.now.rows) residual.entry.flow.now (leading residual.entry.side end).arc (leading residual.entry.side end).way → IsRelaxed (seen residual.entry.side residual.entry.graph.now.rows) residual.entry.potentials.now node_labels.new (leading residual.entry.side end).arc (leading residual.entry.side end).way }
 {
     // Where the table of rooms is filled, most residual arcs that are not there are passed over by it.
     if is_saturated(rooms, residual.side, end) {
@@ -157,15 +157,15 @@ fn relax_all(
     rooms: &[bool],
     u: usize,
 )
-    requires graph { IsGraphFor (length residual.potentials.now) residual.graph.now }
-    requires rooms { AreRooms residual.graph.now.rows.items residual.flow.now rooms.now }
-    requires search { IsSearch (seen residual.side residual.graph.now.rows.items) residual.flow.now residual.potentials.now node_labels.old }
+    requires graph { HasEntries (length residual.potentials.now) residual.graph.now }
+    requires rooms { AreRooms residual.graph.now.rows residual.flow.now rooms.now }
+    requires search { IsSearch (seen residual.side residual.graph.now.rows) residual.flow.now residual.potentials.now node_labels.old }
     requires queue { IsQueueOf node_labels.old queue.old }
     requires last { IsLastSettled node_labels.old u }
-    ensures search { IsSearch (seen residual.entry.side residual.entry.graph.now.rows.items) residual.entry.flow.now residual.entry.potentials.now node_labels.new }
+    ensures search { IsSearch (seen residual.entry.side residual.entry.graph.now.rows) residual.entry.flow.now residual.entry.potentials.now node_labels.new }
     ensures queue { IsQueueOf node_labels.new queue.new }
     ensures improves { Improves node_labels.old node_labels.new }
-    ensures relaxed { IsRelaxedFrom (seen residual.entry.side residual.entry.graph.now.rows.items) residual.entry.flow.now residual.entry.potentials.now node_labels.new u (length (seen residual.entry.side residual.entry.graph.now.rows.items)) }
+    ensures relaxed { IsRelaxedFrom (seen residual.entry.side residual.entry.graph.now.rows) residual.entry.flow.now residual.entry.potentials.now node_labels.new u (length (seen residual.entry.side residual.entry.graph.now.rows)) }
 {
     let origin = Origin {
         node: u,
@@ -184,15 +184,15 @@ pub fn settle_node(
     queue: &mut Queue,
     rooms: &[bool],
 ) -> usize
-    requires graph { IsGraphFor (length residual.potentials.now) residual.graph.now }
-    requires rooms { AreRooms residual.graph.now.rows.items residual.flow.now rooms.now }
-    requires search { IsSearch (seen residual.side residual.graph.now.rows.items) residual.flow.now residual.potentials.now node_labels.old }
+    requires graph { HasEntries (length residual.potentials.now) residual.graph.now }
+    requires rooms { AreRooms residual.graph.now.rows residual.flow.now rooms.now }
+    requires search { IsSearch (seen residual.side residual.graph.now.rows) residual.flow.now residual.potentials.now node_labels.old }
     requires queue { IsQueueOf node_labels.old queue.old }
-    requires relaxed { AllRelaxed (seen residual.side residual.graph.now.rows.items) residual.flow.now residual.potentials.now node_labels.old }
+    requires relaxed { AllRelaxed (seen residual.side residual.graph.now.rows) residual.flow.now residual.potentials.now node_labels.old }
     requires some { 0 < size queue.old }
-    ensures search { IsSearch (seen residual.entry.side residual.entry.graph.now.rows.items) residual.entry.flow.now residual.entry.potentials.now node_labels.new }
+    ensures search { IsSearch (seen residual.entry.side residual.entry.graph.now.rows) residual.entry.flow.now residual.entry.potentials.now node_labels.new }
     ensures queue { IsQueueOf node_labels.new queue.new }
-    ensures relaxed { AllRelaxed (seen residual.entry.side residual.entry.graph.now.rows.items) residual.entry.flow.now residual.entry.potentials.now node_labels.new }
+    ensures relaxed { AllRelaxed (seen residual.entry.side residual.entry.graph.now.rows) residual.entry.flow.now residual.entry.potentials.now node_labels.new }
     ensures first { first_of queue.old ≡ result }
     ensures settles { Settles node_labels.old node_labels.new result }
 {
@@ -261,15 +261,15 @@ pub fn find_deficits(
     settled_order: &mut SettledOrder,
     rooms: &[bool],
 ) -> Option<i64>
-    requires graph { IsGraphFor (length residual.potentials.now) residual.graph.now }
-    requires rooms { AreRooms residual.graph.now.rows.items residual.flow.now rooms.now }
+    requires graph { HasEntries (length residual.potentials.now) residual.graph.now }
+    requires rooms { AreRooms residual.graph.now.rows residual.flow.now rooms.now }
     requires excess_in { length excess.now ≡ length residual.potentials.now }
     requires node_labels_in { length node_labels.old ≡ length residual.potentials.now }
     requires fresh { IsFresh node_labels.old }
     requires sized { IsQueueFor (length residual.potentials.now) queue.old }
     requires settled_order_in { IsSettledOrderFor (length residual.potentials.now) settled_order.old }
-    ensures search { IsSearch (seen residual.entry.side residual.entry.graph.now.rows.items) residual.entry.flow.now residual.entry.potentials.now node_labels.new }
-    ensures relaxed { AllRelaxed (seen residual.entry.side residual.entry.graph.now.rows.items) residual.entry.flow.now residual.entry.potentials.now node_labels.new }
+    ensures search { IsSearch (seen residual.entry.side residual.entry.graph.now.rows) residual.entry.flow.now residual.entry.potentials.now node_labels.new }
+    ensures relaxed { AllRelaxed (seen residual.entry.side residual.entry.graph.now.rows) residual.entry.flow.now residual.entry.potentials.now node_labels.new }
     ensures from_excess { IsFromExcess excess.now node_labels.new }
     ensures found { MatchOption result (IsExhausted excess.now node_labels.new) (HasFound excess.now node_labels.new) }
     ensures queue { IsQueueOf node_labels.new queue.new }

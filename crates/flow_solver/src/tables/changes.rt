@@ -43,7 +43,12 @@ impl Tables {
             &mut self.scratch,
             &mut self.cut,
         );
-        self.verdict = judge(&self.graph.net, &self.graph.rows, &self.flow, &self.balance);
+        self.verdict = judge(
+            self.graph.network(),
+            self.graph.rows(),
+            &self.flow,
+            &self.balance,
+        );
         pushes
     }
 
@@ -121,7 +126,7 @@ impl Tables {
         ensures potentials { self.new.moment.potentials ≡ self.old.moment.potentials }
         ensures kept { self.new.kept ≡ self.old.kept }
     {
-        let (k, mut row) = edited_row(&self.graph.net, edit);
+        let (k, mut row) = edited_row(self.graph.network(), edit);
         let before = self.flow()[k as usize - 1];
         let mut flow = nearest(&row, reduced_cost(&row, self.potentials()), before);
         // Tight arcs alone keep potentials from being greater, by the residual arcs along them.
@@ -146,7 +151,7 @@ impl Tables {
         requires arc { (1 ≤ k) × (k ≤ length self.now.moment.instance.arcs) }
         ensures { IsTrue result ↔ KeepsResidualArcs (row_at (reduced self.now.moment.instance).arcs (flow_index self.now.moment.instance.demand k)) (number_at self.now.moment.flow (flow_index self.now.moment.instance.demand k)) row.now flow }
     {
-        let old = arc_of(&self.graph.net, u64::from(k));
+        let old = arc_of(self.graph.network(), u64::from(k));
         keeps_residual_arcs(&old, self.flow()[k as usize - 1], row, flow)
     }
 
@@ -156,7 +161,7 @@ impl Tables {
         requires range { (v : ℕ) → IsNode self.now.moment.instance.nodes v → IsPotential (at_node self.now.moment.potentials v) }
         ensures { IsTrue result ↔ (reduced_cost (at_node self.now.moment.potentials) (row_at (reduced self.now.moment.instance).arcs (flow_index self.now.moment.instance.demand k)) ≡ pos 0) }
     {
-        let row = arc_of(&self.graph.net, u64::from(k));
+        let row = arc_of(self.graph.network(), u64::from(k));
         reduced_cost(&row, self.potentials()) == 0
     }
 
@@ -170,7 +175,7 @@ impl Tables {
         ensures potentials { self.new.moment.potentials ≡ self.old.moment.potentials }
         ensures kept { self.new.kept ≡ self.old.kept }
     {
-        let (id, mut value) = edited_supply(&self.graph.net, edit);
+        let (id, mut value) = edited_supply(self.graph.network(), edit);
         self.swap_supply(id, &mut value);
     }
 
@@ -184,7 +189,7 @@ impl Tables {
         ensures potentials { self.new.moment.potentials ≡ self.old.moment.potentials }
         ensures kept { self.new.kept ≡ self.old.kept }
     {
-        let row = added_row(&self.graph.net, edit);
+        let row = added_row(self.graph.network(), edit);
         let flow = nearest(&row, reduced_cost(&row, self.potentials()), 0);
         // One arc more only takes certifying potentials away.
         let stands = self.scratch.labels.standing;
@@ -200,7 +205,7 @@ impl Tables {
         ensures logged { IsLogged self.old.moment.instance edit.now self.old.kept self.new.kept }
     {
         self.before.verdict = None;
-        let part = part_of(&self.graph.net, edit);
+        let part = part_of(self.graph.network(), edit);
         let Ok(()) = self.before.log.push(part) else {
             unreachable!()
         };
@@ -246,7 +251,7 @@ impl Tables {
         ensures sized { IsSized self.new.moment }
     {
         self.before.verdict = None;
-        self.balance.cost = cost_now(&self.graph.rows, &self.flow, self.balance.cost);
+        self.balance.cost = cost_now(self.graph.rows(), &self.flow, self.balance.cost);
         self.flow.snapshot();
         self.potentials.snapshot();
         self.cut.snapshot();
@@ -261,7 +266,7 @@ impl Tables {
     {
         self.before.verdict = None;
         self.scratch.labels.standing = false;
-        carry_back(&self.graph.rows, &self.flow, &mut self.balance.excess);
+        carry_back(self.graph.rows(), &self.flow, &mut self.balance.excess);
         self.flow.bring_back();
         self.potentials.bring_back();
         self.cut.bring_back();

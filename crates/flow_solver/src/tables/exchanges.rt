@@ -12,7 +12,6 @@ ghost use Rattle.flow_solver.specs.Moment.{ReturnMatches, VerdictFits, with_verd
 use super::Tables;
 use crate::answer::supply_at;
 use crate::balance::{add_difference, carry_over, reprice};
-use crate::edit::{drop_row, put_row, swap_row, swap_supply};
 use crate::swaps::{carry_worth, exchange_node};
 use crate::verdict::Verdict;
 use dimacs_text::ArcRow;
@@ -32,7 +31,7 @@ impl Tables {
         let place = self.graph.first_row() + (k as usize - 1);
         carry_over(
             &mut self.balance.excess,
-            &self.graph.rows[place],
+            &self.graph.rows()[place],
             self.flow.entries[place],
             *value,
         );
@@ -77,8 +76,8 @@ impl Tables {
         self.before.verdict = None;
         self.scratch.labels.standing = false;
         carry_worth(
-            &self.graph.net,
-            &self.graph.rows,
+            self.graph.network(),
+            self.graph.rows(),
             &mut self.flow,
             &mut self.balance,
             *verdict,
@@ -100,10 +99,15 @@ impl Tables {
         self.before.verdict = None;
         self.scratch.labels.standing = false;
         let place = self.graph.first_row() + (k as usize - 1);
-        let cost = self.graph.rows[place].cost;
-        self.balance.cost = reprice(self.balance.cost, cost, row.cost, self.flow.kept[place]);
-        self.graph.star.set_cost(&self.graph.net, k, row.cost);
-        swap_row(&mut self.graph.net, &mut self.graph.rows, k, row);
+        let before = self.graph.rows()[place];
+        self.balance.cost = reprice(
+            self.balance.cost,
+            before.cost,
+            row.cost,
+            self.flow.kept[place],
+        );
+        self.graph.set_row(k, *row);
+        *row = before;
     }
 
     /// Exchanges what a node of a least-cost problem has to send out.
@@ -117,13 +121,10 @@ impl Tables {
         ensures before { self.new.before ≡ None }
     {
         self.before.verdict = None;
-        add_difference(
-            &mut self.balance.excess,
-            id as usize,
-            supply_at(&self.graph.net, id),
-            *value,
-        );
-        swap_supply(&mut self.graph.net, &self.graph.rows, id, value);
+        let before = supply_at(self.graph.network(), id);
+        add_difference(&mut self.balance.excess, id as usize, before, *value);
+        self.graph.set_supply(id, *value);
+        *value = before;
     }
 
     /// Takes the last arc off, and gives its row and its flow.
@@ -137,12 +138,11 @@ impl Tables {
     {
         self.before.verdict = None;
         self.scratch.labels.standing = false;
-        let last = self.graph.rows.len() - 1;
-        let row = self.graph.rows[last];
+        let last = self.graph.rows().len() - 1;
+        let row = self.graph.rows()[last];
         carry_over(&mut self.balance.excess, &row, self.flow.entries[last], 0);
         self.balance.cost = reprice(self.balance.cost, self.flow.kept[last], 0, row.cost);
-        let row = drop_row(&mut self.graph.net, &mut self.graph.rows);
-        self.graph.star.keep(self.graph.net.arcs());
+        let row = self.graph.pop_arc();
         let flow = self.flow.pop();
         (row, flow)
     }
@@ -163,7 +163,7 @@ impl Tables {
         self.scratch.labels.standing = false;
         carry_over(&mut self.balance.excess, &row, 0, flow);
         self.balance.cost = reprice(self.balance.cost, 0, flow, row.cost);
-        put_row(&mut self.graph.net, &mut self.graph.rows, row);
+        self.graph.push_arc(row);
         self.flow.push(flow);
     }
 }

@@ -11,7 +11,7 @@ use Rattle.augmentation.proofs.augment.bottleneck.Goals as goal
 
 pub loop-node-preserved : goal.loop-node-preserved
 loop-node-preserved c =
-    let rows = (seen c.args.levels.side c.args.levels.graph.now.rows.items) in
+    let rows = (seen c.args.levels.side c.args.levels.graph.now.rows) in
     let x = c.args.flow.now in
     let s = c.args.levels.node_labels.now in
     let w = c.args.walks.now in
@@ -39,7 +39,7 @@ loop-node-preserved c =
 
 pub loop-node-smaller : goal.loop-node-smaller
 loop-node-smaller c =
-    let rows = (seen c.args.levels.side c.args.levels.graph.now.rows.items) in
+    let rows = (seen c.args.levels.side c.args.levels.graph.now.rows) in
     let s = c.args.levels.node_labels.now in
     let w = c.args.walks.now in
     let on = hop_on rows c.args.flow.now s w c.args.path.target c.loop-node.node c.requires.flow (omega arith) c.loop-node.invariant.way in
@@ -48,7 +48,7 @@ loop-node-smaller c =
 
 pub returns-clause-room : goal.returns-clause-room
 returns-clause-room c =
-    let rows = (seen c.args.levels.side c.args.levels.graph.now.rows.items) in
+    let rows = (seen c.args.levels.side c.args.levels.graph.now.rows) in
     let s = c.args.levels.node_labels.now in
     let back = c.args.walks.now.back.items in
     let last : depth_at s c.args.path.target - depth_at s c.loop-node.node ≡ 0 = omega (arith, c.loop-node-test.false) in

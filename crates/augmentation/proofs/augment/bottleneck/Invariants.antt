@@ -7,10 +7,10 @@ use Rattle.augmentation.proofs.augment.bottleneck.Given as goal
 
 abbrev pub invariant-loop-node : goal.invariant-loop-node
 invariant-loop-node l = record {
-  way : IsWay (seen l.levels.side l.levels.graph.now.rows.items) l.flow l.levels.node_labels.now l.walks l.path.target l.node;
+  way : IsWay (seen l.levels.side l.levels.graph.now.rows) l.flow l.levels.node_labels.now l.walks l.path.target l.node;
   at_most : l.room ≤ℤ l.limit;
-  room_so_far : (m : ℤ) → m ≤ℤ l.room → HasRoom (seen l.levels.side l.levels.graph.now.rows.items) l.flow m (hops_from (seen l.levels.side l.levels.graph.now.rows.items) l.levels.node_labels.now l.walks.back.items l.path.target l.node) → HasRoom (seen l.levels.side l.levels.graph.now.rows.items) l.flow m (hops_from (seen l.levels.side l.levels.graph.now.rows.items) l.levels.node_labels.now l.walks.back.items l.path.target l.path.root);
-  most : (m : ℤ) → m ≤ℤ l.limit → HasRoom (seen l.levels.side l.levels.graph.now.rows.items) l.flow m (hops_from (seen l.levels.side l.levels.graph.now.rows.items) l.levels.node_labels.now l.walks.back.items l.path.target l.path.root) → (m ≤ℤ l.room) × HasRoom (seen l.levels.side l.levels.graph.now.rows.items) l.flow m (hops_from (seen l.levels.side l.levels.graph.now.rows.items) l.levels.node_labels.now l.walks.back.items l.path.target l.node);
+  room_so_far : (m : ℤ) → m ≤ℤ l.room → HasRoom (seen l.levels.side l.levels.graph.now.rows) l.flow m (hops_from (seen l.levels.side l.levels.graph.now.rows) l.levels.node_labels.now l.walks.back.items l.path.target l.node) → HasRoom (seen l.levels.side l.levels.graph.now.rows) l.flow m (hops_from (seen l.levels.side l.levels.graph.now.rows) l.levels.node_labels.now l.walks.back.items l.path.target l.path.root);
+  most : (m : ℤ) → m ≤ℤ l.limit → HasRoom (seen l.levels.side l.levels.graph.now.rows) l.flow m (hops_from (seen l.levels.side l.levels.graph.now.rows) l.levels.node_labels.now l.walks.back.items l.path.target l.path.root) → (m ≤ℤ l.room) × HasRoom (seen l.levels.side l.levels.graph.now.rows) l.flow m (hops_from (seen l.levels.side l.levels.graph.now.rows) l.levels.node_labels.now l.walks.back.items l.path.target l.node);
 }
 
 abbrev pub decreases-loop-node : goal.decreases-loop-node

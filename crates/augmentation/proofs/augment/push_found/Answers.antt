@@ -45,7 +45,7 @@ loop-j-init c = record {
     current_sized = c.refresh.ensures.current_sized ∙ c.requires.walks.current_sized;
     back_sized = ap (λ b. length b.items) c.refresh.ensures.back ∙ c.requires.walks.back_sized;
   };
-  done = ArePushes-none (seen c.args.levels.side c.args.levels.graph.now.rows.items) c.args.flow.now c.args.excess.now;
+  done = ArePushes-none (seen c.args.levels.side c.args.levels.graph.now.rows) c.args.flow.now c.args.excess.now;
   alive = λ h v settled. (let at = c.requires.settled_order.listed v settled in subst (λ (u : ℕ). in_set c.refresh.new.self.dead.items u ≡ false) at.is_there (c.refresh.ensures.alive at.place at.in_list));
   some = λ i lt found. absurd (omega (arith, lt));
 }
@@ -74,7 +74,7 @@ overflow_add-pushes c =
 first_pushed : (c : After-push_to-pushes) → c.loop-j.pushes ≡ 0 → IsFoundDeficit c.args.excess.now c.args.levels.node_labels.now c.index.result.now → 0 < c.push_to-pushes.result
 first_pushed c none found =
     let same = c.loop-j.invariant.done.none none in
-    let rows = (seen c.args.levels.side c.args.levels.graph.now.rows.items) in
+    let rows = (seen c.args.levels.side c.args.levels.graph.now.rows) in
     let t = c.index.result.now in
     let can = c.requires.can_push t found in
     c.push_to-pushes.ensures.some c.requires.paths
@@ -117,4 +117,4 @@ returns-clause-some c = λ t found.
 
 pub returns-clause-rooms : goal.returns-clause-rooms
 returns-clause-rooms c are =
-    c.loop-j.invariant.rooms (subst (λ (t : List Bool). AreRooms c.args.levels.graph.now.rows.items c.args.flow.now t) (sym (ap (λ r. r.items) c.refresh.ensures.rooms)) are)
+    c.loop-j.invariant.rooms (subst (λ (t : List Bool). AreRooms c.args.levels.graph.now.rows c.args.flow.now t) (sym (ap (λ r. r.items) c.refresh.ensures.rooms)) are)

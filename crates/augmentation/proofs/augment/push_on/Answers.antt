@@ -11,12 +11,12 @@ use Rattle.augmentation.proofs.augment.push_on.Goals as goal
 use Rattle.augmentation.proofs.augment.push_on.Goals.{After-transfer}
 
 pub record IsPushed (c : After-transfer) : Type 0 where
-  pub state : IsUnderWay (length c.args.levels.node_labels.now) (seen c.args.levels.side c.args.levels.graph.now.rows.items) c.args.levels.potentials.now c.shift.new.flow c.transfer.new.excess
-  pub pushes : ArePushes (seen c.args.levels.side c.args.levels.graph.now.rows.items) 1 c.args.flow.now c.args.excess.now c.shift.new.flow c.transfer.new.excess
+  pub state : IsUnderWay (length c.args.levels.node_labels.now) (seen c.args.levels.side c.args.levels.graph.now.rows) c.args.levels.potentials.now c.shift.new.flow c.transfer.new.excess
+  pub pushes : ArePushes (seen c.args.levels.side c.args.levels.graph.now.rows) 1 c.args.flow.now c.args.excess.now c.shift.new.flow c.transfer.new.excess
 
 is_pushed : (c : After-transfer) → IsPushed c
 is_pushed c =
-    let rows = (seen c.args.levels.side c.args.levels.graph.now.rows.items) in
+    let rows = (seen c.args.levels.side c.args.levels.graph.now.rows) in
     let q = c.args.levels.potentials.now in
     let x = c.args.flow.now in
     let e = c.args.excess.now in

@@ -28,7 +28,7 @@ loop-excess-init c = record {
   state = c.requires.state;
   walks = c.requires.walks;
   rooms = λ are. are;
-  pushed = ArePushes-none (seen c.args.levels.side c.args.levels.graph.now.rows.items) c.args.flow.now c.args.excess.now;
+  pushed = ArePushes-none (seen c.args.levels.side c.args.levels.graph.now.rows) c.args.flow.now c.args.excess.now;
   first = λ h. refl;
   kept = inl refl;
 }
@@ -46,7 +46,7 @@ loop-excess-smaller c = omega (arith, c.push_on.ensures.push.count)
 pub loop-excess-preserved : goal.loop-excess-preserved
 loop-excess-preserved c = record {
   noted = AreNoted-trans c.loop-excess.invariant.noted c.push_on.ensures.noted;
-  rooms = λ are. c.push_on.ensures.rooms (subst (λ (t : List Bool). AreRooms c.args.levels.graph.now.rows.items c.loop-excess.flow t) (sym (ap (λ r. r.items) c.find_path.ensures.rooms)) (c.loop-excess.invariant.rooms are));
+  rooms = λ are. c.push_on.ensures.rooms (subst (λ (t : List Bool). AreRooms c.args.levels.graph.now.rows c.loop-excess.flow t) (sym (ap (λ r. r.items) c.find_path.ensures.rooms)) (c.loop-excess.invariant.rooms are));
   state = c.push_on.ensures.state;
   walks = (let known = c.find_path.ensures.walks in rw c.push_on.ensures.tables (record { dead_sized = known.dead_sized; current_sized = known.current_sized; back_sized = known.back_sized }));
   pushed = ArePushes-more c.loop-excess.invariant.pushed c.push_on.ensures.push;
@@ -65,7 +65,7 @@ returns-clause-kept c = elim c.loop-excess.invariant.kept [
 
 pub returns-in-None-clause-some : goal.returns-in-None-clause-some
 returns-in-None-clause-some c = λ paths can alive.
-    (let rows = (seen c.args.levels.side c.args.levels.graph.now.rows.items) in
+    (let rows = (seen c.args.levels.side c.args.levels.graph.now.rows) in
     let s = c.args.levels.node_labels.now in
     let t = c.args.target in
     elim (cases_eq c.loop-excess.pushes 0) [

@@ -11,10 +11,10 @@ use Rattle.augmentation.proofs.augment.push_to.Given as goal
 abbrev pub invariant-loop-excess : goal.invariant-loop-excess
 invariant-loop-excess l = record {
   noted : AreNoted l.initial.touched l.initial.flow l.touched l.flow;
-  rooms : AreRooms l.levels.graph.now.rows.items l.initial.flow l.initial.walks.rooms.items → AreRooms l.levels.graph.now.rows.items l.flow l.walks.rooms.items;
-  state : IsUnderWay (length l.levels.node_labels.now) (seen l.levels.side l.levels.graph.now.rows.items) l.levels.potentials.now l.flow l.excess;
+  rooms : AreRooms l.levels.graph.now.rows l.initial.flow l.initial.walks.rooms.items → AreRooms l.levels.graph.now.rows l.flow l.walks.rooms.items;
+  state : IsUnderWay (length l.levels.node_labels.now) (seen l.levels.side l.levels.graph.now.rows) l.levels.potentials.now l.flow l.excess;
   walks : IsWalksFor (length l.levels.node_labels.now) l.walks;
-  pushed : ArePushes (seen l.levels.side l.levels.graph.now.rows.items) l.pushes l.initial.flow l.initial.excess l.flow l.excess;
+  pushed : ArePushes (seen l.levels.side l.levels.graph.now.rows) l.pushes l.initial.flow l.initial.excess l.flow l.excess;
   first : l.pushes ≡ 0 → l.walks ≡ l.initial.walks;
   kept : (l.pushes ≡ 0) ⊎ (number_at l.initial.excess l.target <ℤ pos 0);
 }

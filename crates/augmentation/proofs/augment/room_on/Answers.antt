@@ -16,8 +16,8 @@ returns-clause-fits c =
     let same_min : to_z w64 (of_z w64 c.min.result) ≡ c.min.result = to_z-of_z w64 c.min.result min_fits in
     let flow_fits : SFits w64 (number_at c.args.flow.now hop.arc) = search rules in
     let same_flow : to_z w64 (of_z w64 (number_at c.args.flow.now hop.arc)) ≡ number_at c.args.flow.now hop.arc = to_z-of_z w64 (number_at c.args.flow.now hop.arc) flow_fits in
-    let more_is : c.room-fits.result ≡ room_of (row_at (seen c.args.levels.side c.args.levels.graph.now.rows.items) hop.arc) (number_at c.args.flow.now hop.arc) hop.way =
-    c.room-fits.ensures ∙ ap (λ (a : ArcRow). room_of a (to_z w64 (of_z w64 (number_at c.args.flow.now hop.arc))) hop.way) c.row-row.ensures ∙ ap (λ (z : ℤ). room_of (row_at (seen c.args.levels.side c.args.levels.graph.now.rows.items) hop.arc) z hop.way) same_flow in
+    let more_is : c.room-fits.result ≡ room_of (row_at (seen c.args.levels.side c.args.levels.graph.now.rows) hop.arc) (number_at c.args.flow.now hop.arc) hop.way =
+    c.room-fits.ensures ∙ ap (λ (a : ArcRow). room_of a (to_z w64 (of_z w64 (number_at c.args.flow.now hop.arc))) hop.way) c.row-row.ensures ∙ ap (λ (z : ℤ). room_of (row_at (seen c.args.levels.side c.args.levels.graph.now.rows) hop.arc) z hop.way) same_flow in
     omega (arith, ints, clamps, c.min.ensures.value, same_limit, same_more, same_min, more_is)
 
 pub returns-clause-most : goal.returns-clause-most
@@ -31,6 +31,6 @@ returns-clause-most c = λ m low fits.
     let same_min : to_z w64 (of_z w64 c.min.result) ≡ c.min.result = to_z-of_z w64 c.min.result min_fits in
     let flow_fits : SFits w64 (number_at c.args.flow.now hop.arc) = search rules in
     let same_flow : to_z w64 (of_z w64 (number_at c.args.flow.now hop.arc)) ≡ number_at c.args.flow.now hop.arc = to_z-of_z w64 (number_at c.args.flow.now hop.arc) flow_fits in
-    let more_is : c.room-fits.result ≡ room_of (row_at (seen c.args.levels.side c.args.levels.graph.now.rows.items) hop.arc) (number_at c.args.flow.now hop.arc) hop.way =
-    c.room-fits.ensures ∙ ap (λ (a : ArcRow). room_of a (to_z w64 (of_z w64 (number_at c.args.flow.now hop.arc))) hop.way) c.row-row.ensures ∙ ap (λ (z : ℤ). room_of (row_at (seen c.args.levels.side c.args.levels.graph.now.rows.items) hop.arc) z hop.way) same_flow in
+    let more_is : c.room-fits.result ≡ room_of (row_at (seen c.args.levels.side c.args.levels.graph.now.rows) hop.arc) (number_at c.args.flow.now hop.arc) hop.way =
+    c.room-fits.ensures ∙ ap (λ (a : ArcRow). room_of a (to_z w64 (of_z w64 (number_at c.args.flow.now hop.arc))) hop.way) c.row-row.ensures ∙ ap (λ (z : ℤ). room_of (row_at (seen c.args.levels.side c.args.levels.graph.now.rows) hop.arc) z hop.way) same_flow in
     omega (arith, ints, clamps, c.min.ensures.value, low, fits, same_limit, same_more, same_min, more_is))

@@ -19,10 +19,10 @@ use Rattle.augmentation.proofs.augment.shift.Goals.{After-way_on-hop}
 hop_is : (c : After-way_on-hop) → c.way_on-hop.result ≡ back_at c.args.walks.now.back.items c.loop-node.node
 hop_is c = c.way_on-hop.ensures ∙ ap (λ (w : Walks). back_at w.back.items c.loop-node.node) c.loop-node.invariant.tables
 
-arc_in : (c : After-way_on-hop) → c.way_on-hop.result.arc < length (seen c.args.levels.side c.args.levels.graph.now.rows.items)
+arc_in : (c : After-way_on-hop) → c.way_on-hop.result.arc < length (seen c.args.levels.side c.args.levels.graph.now.rows)
 arc_in c =
     let known = c.loop-node.invariant in
-    let on = hop_on (seen c.args.levels.side c.args.levels.graph.now.rows.items) c.loop-node.flow c.args.levels.node_labels.now c.args.walks.now c.args.path.target c.loop-node.node known.flow (omega arith) known.way in
+    let on = hop_on (seen c.args.levels.side c.args.levels.graph.now.rows) c.loop-node.flow c.args.levels.node_labels.now c.args.walks.now c.args.path.target c.loop-node.node known.flow (omega arith) known.way in
     omega (arith, on.is_arc, ap (λ (h : ResidualArc). h.arc) (hop_is c))
 
 pub way_on-hop-requires : goal.way_on-hop-requires
@@ -39,7 +39,7 @@ end-node-requires c = arc_in (goal.at.end-node-requires c).After-way_on-hop
 
 pub shift_on-requires-clause-fits : goal.shift_on-requires-clause-fits
 shift_on-requires-clause-fits c =
-    let rows = (seen c.args.levels.side c.args.levels.graph.now.rows.items) in
+    let rows = (seen c.args.levels.side c.args.levels.graph.now.rows) in
     let known = c.loop-node.invariant in
     let on = hop_on rows c.loop-node.flow c.args.levels.node_labels.now c.args.walks.now c.args.path.target c.loop-node.node known.flow (omega arith) known.way in
     subst (λ (h : ResidualArc). to_z w64 (of_z w64 c.args.amount) ≤ℤ room_of (row_at rows h.arc) (number_at c.loop-node.flow h.arc) h.way) (sym (hop_is (goal.at.shift_on-requires-clause-fits c).After-way_on-hop))
@@ -58,7 +58,7 @@ loop-node-init c = record {
 
 pub loop-node-smaller : goal.loop-node-smaller
 loop-node-smaller c =
-    let rows = (seen c.args.levels.side c.args.levels.graph.now.rows.items) in
+    let rows = (seen c.args.levels.side c.args.levels.graph.now.rows) in
     let s = c.args.levels.node_labels.now in
     let w = c.args.walks.now in
     let known = c.loop-node.invariant in
@@ -68,7 +68,7 @@ loop-node-smaller c =
 
 pub loop-node-preserved : goal.loop-node-preserved
 loop-node-preserved c =
-    let rows = (seen c.args.levels.side c.args.levels.graph.now.rows.items) in
+    let rows = (seen c.args.levels.side c.args.levels.graph.now.rows) in
     let s = c.args.levels.node_labels.now in
     let w = c.args.walks.now in
     let t = c.args.path.target in
@@ -89,15 +89,15 @@ loop-node-preserved c =
       room = subst (λ (u : ℕ). HasRoom rows c.shift_on.new.flow amount (hops_from rows s back t u)) (sym at_node) (subst (λ (y : List ℤ). HasRoom rows y amount hops) (sym flow_is) step.room);
       rest = ap (λ (u : ℕ). push_along (hops_from rows s back t u) amount c.shift_on.new.flow) at_node ∙ ap (λ (y : List ℤ). push_along hops amount y) flow_is ∙ step.rest ∙ known.rest;
       noted = AreNoted-trans known.noted c.shift_on.ensures.noted;
-      rooms = λ are. subst (λ (t : List Bool). AreRooms c.args.levels.graph.now.rows.items c.shift_on.new.flow t)
+      rooms = λ are. subst (λ (t : List Bool). AreRooms c.args.levels.graph.now.rows c.shift_on.new.flow t)
           (sym (with_items_is c.loop-node.walks.rooms c.shift_on.new.rooms (c.shift_on.auto.rooms ∙ c.deref_mut.ensures.len)))
-          (c.shift_on.ensures.rooms (subst (λ (t : List Bool). AreRooms c.args.levels.graph.now.rows.items c.loop-node.flow t) (sym c.deref_mut.ensures.value) (known.rooms are)));
+          (c.shift_on.ensures.rooms (subst (λ (t : List Bool). AreRooms c.args.levels.graph.now.rows c.loop-node.flow t) (sym c.deref_mut.ensures.value) (known.rooms are)));
       tables = ap (λ (w : Walks). record w { rooms = with_items c.loop-node.walks.rooms c.shift_on.new.rooms }) known.tables;
     }
 
 pub returns-clause-flow : goal.returns-clause-flow
 returns-clause-flow c =
-    let rows = (seen c.args.levels.side c.args.levels.graph.now.rows.items) in
+    let rows = (seen c.args.levels.side c.args.levels.graph.now.rows) in
     let s = c.args.levels.node_labels.now in
     let back = c.args.walks.now.back.items in
     let last : depth_at s c.args.path.target - depth_at s c.loop-node.node ≡ 0 = omega (arith, c.loop-node-test.false) in

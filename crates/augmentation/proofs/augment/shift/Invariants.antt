@@ -10,12 +10,12 @@ use Rattle.augmentation.proofs.augment.shift.Given as goal
 
 abbrev pub invariant-loop-node : goal.invariant-loop-node
 invariant-loop-node l = record {
-  way : IsWay (seen l.levels.side l.levels.graph.now.rows.items) l.flow l.levels.node_labels.now l.initial.walks l.path.target l.node;
-  flow : IsPseudoflow (length l.levels.node_labels.now) (seen l.levels.side l.levels.graph.now.rows.items) l.flow;
-  room : HasRoom (seen l.levels.side l.levels.graph.now.rows.items) l.flow l.amount (hops_from (seen l.levels.side l.levels.graph.now.rows.items) l.levels.node_labels.now l.initial.walks.back.items l.path.target l.node);
-  rest : push_along (hops_from (seen l.levels.side l.levels.graph.now.rows.items) l.levels.node_labels.now l.initial.walks.back.items l.path.target l.node) l.amount l.flow ≡ push_along (hops_from (seen l.levels.side l.levels.graph.now.rows.items) l.levels.node_labels.now l.initial.walks.back.items l.path.target l.path.root) l.amount l.initial.flow;
+  way : IsWay (seen l.levels.side l.levels.graph.now.rows) l.flow l.levels.node_labels.now l.initial.walks l.path.target l.node;
+  flow : IsPseudoflow (length l.levels.node_labels.now) (seen l.levels.side l.levels.graph.now.rows) l.flow;
+  room : HasRoom (seen l.levels.side l.levels.graph.now.rows) l.flow l.amount (hops_from (seen l.levels.side l.levels.graph.now.rows) l.levels.node_labels.now l.initial.walks.back.items l.path.target l.node);
+  rest : push_along (hops_from (seen l.levels.side l.levels.graph.now.rows) l.levels.node_labels.now l.initial.walks.back.items l.path.target l.node) l.amount l.flow ≡ push_along (hops_from (seen l.levels.side l.levels.graph.now.rows) l.levels.node_labels.now l.initial.walks.back.items l.path.target l.path.root) l.amount l.initial.flow;
   noted : AreNoted l.initial.touched l.initial.flow l.touched l.flow;
-  rooms : AreRooms l.levels.graph.now.rows.items l.initial.flow l.initial.walks.rooms.items → AreRooms l.levels.graph.now.rows.items l.flow l.walks.rooms.items;
+  rooms : AreRooms l.levels.graph.now.rows l.initial.flow l.initial.walks.rooms.items → AreRooms l.levels.graph.now.rows l.flow l.walks.rooms.items;
   tables : l.walks ≡ record l.initial.walks { rooms = l.walks.rooms };
 }
 

@@ -34,7 +34,7 @@ note_room-requires-clause-within c =
     let fits : SFits w64 c.shifted.result = search rules in
     let value_is : to_z w64 (of_z w64 c.shifted.result) ≡ moved way before amount =
     to_z-of_z w64 c.shifted.result fits ∙ c.shifted.ensures ∙ ap (λ (z : ℤ). moved way z amount) (to_z-of_z w64 before flow_fits) in
-    let row = row_at (seen c.args.levels.side c.args.levels.graph.now.rows.items) arc in
+    let row = row_at (seen c.args.levels.side c.args.levels.graph.now.rows) arc in
     let flow = c.requires.flow.1 in
     let within : IsWithinRow row (moved way before amount) = IsWithin-moved c.requires.flow.0 row before amount way (flow.rows arc c.requires.arc_in) (flow.within arc c.requires.arc_in) (search rules) (search rules) in
     subst (λ (z : ℤ). IsWithinRow c.row-row.result z) (sym (noted_is at ∙ value_is)) (subst (λ (a : ArcRow). IsWithinRow a (moved way before amount)) (sym c.row-row.ensures) within)
@@ -51,7 +51,7 @@ returns-clause-noted c =
 pub returns-clause-rooms : goal.returns-clause-rooms
 returns-clause-rooms c are =
     let levels = c.args.levels in
-    let arcs = levels.graph.now.rows.items in
+    let arcs = levels.graph.now.rows in
     let in_flow : c.args.hop.arc < length c.args.flow.now = omega (arith, c.requires.flow.1.same_length, c.requires.arc_in) in
     let in_arcs : c.args.hop.arc < length arcs = omega (arith, c.requires.arc_in, seen_length levels.side arcs) in
     subst (λ (z : ℤ). AreRooms arcs (slice_set c.args.flow.now c.args.hop.arc z) c.note_room.new.rooms) (noted_is (goal.at.returns-clause-rooms c).After-shifted)

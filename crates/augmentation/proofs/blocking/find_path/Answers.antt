@@ -22,12 +22,12 @@ loop-node-init c = record {
   rooms = refl;
   alive = search rules;
   on_walk = record { node_in = c.requires.target_in; steps = 0; walk = refl };
-  first = λ paths can alive. first_begins (seen c.args.levels.side c.args.levels.graph.now.rows.items) c.args.flow.now c.args.excess.now c.args.levels.node_labels.now c.args.walks.now.dead.items c.args.target can alive;
+  first = λ paths can alive. first_begins (seen c.args.levels.side c.args.levels.graph.now.rows) c.args.flow.now c.args.excess.now c.args.levels.node_labels.now c.args.walks.now.dead.items c.args.target can alive;
 }
 
 pub loop-node-preserved-in-Some : goal.loop-node-preserved-in-Some
 loop-node-preserved-in-Some c =
-    let rows = (seen c.args.levels.side c.args.levels.graph.now.rows.items) in
+    let rows = (seen c.args.levels.side c.args.levels.graph.now.rows) in
     let q = c.args.levels.potentials.now in
     let x = c.args.flow.now in
     let e = c.args.excess.now in
@@ -48,10 +48,10 @@ loop-node-preserved-in-Some c =
           subst (λ (d : List Bool). IsFirstWalk rows x e s d c.in-Some.from) (sym items) (subst (λ (u : ℕ). IsFirstWalk rows x e s c.loop-node.walks.dead.items u) (sym same) own.next));
     }
 
-back_of : (c : After-way_on-back) → IsBackFrom (seen c.args.levels.side c.args.levels.graph.now.rows.items) c.args.levels.potentials.now c.args.flow.now c.args.levels.node_labels.now c.requires.flow c.loop-node.walks.back.items c.loop-node.walks.dead.items c.args.target c.loop-node.node
+back_of : (c : After-way_on-back) → IsBackFrom (seen c.args.levels.side c.args.levels.graph.now.rows) c.args.levels.potentials.now c.args.flow.now c.args.levels.node_labels.now c.requires.flow c.loop-node.walks.back.items c.loop-node.walks.dead.items c.args.target c.loop-node.node
 back_of c =
     let w = c.loop-node.invariant in
-    back_from (seen c.args.levels.side c.args.levels.graph.now.rows.items) c.args.levels.potentials.now c.args.flow.now c.args.levels.node_labels.now c.requires.flow c.loop-node.walks.back.items c.loop-node.walks.dead.items c.args.target c.loop-node.node w.walks.dead_sized w.alive c.if-node-target.false w.on_walk
+    back_from (seen c.args.levels.side c.args.levels.graph.now.rows) c.args.levels.potentials.now c.args.flow.now c.args.levels.node_labels.now c.requires.flow c.loop-node.walks.back.items c.loop-node.walks.dead.items c.args.target c.loop-node.node w.walks.dead_sized w.alive c.if-node-target.false w.on_walk
 
 hop_is : (c : After-way_on-back) → c.way_on-back.result ≡ back_at c.loop-node.walks.back.items c.loop-node.node
 hop_is c = c.way_on-back.ensures ∙ ap (λ (w : Walks). back_at w.back.items c.loop-node.node) c.in-None.ensures.none
@@ -64,7 +64,7 @@ end-node-requires c =
 pub loop-node-smaller : goal.loop-node-smaller
 loop-node-smaller c =
     let at = (goal.at.loop-node-smaller c).After-way_on-back in
-    let rows = (seen c.args.levels.side c.args.levels.graph.now.rows.items) in
+    let rows = (seen c.args.levels.side c.args.levels.graph.now.rows) in
     let node : c.end-node.result ≡ head_at rows c.loop-node.walks.back.items c.loop-node.node = c.end-node.ensures ∙ ap (λ (h : ResidualArc). end_at rows h.arc h.way) (hop_is at) in
     let live = ap (λ (w : Walks). count_by not (slice_set w.dead.items c.loop-node.node true)) c.in-None.ensures.none in
     omega (arith, (back_of at).smaller, ap (depth_at c.args.levels.node_labels.now) node, live)
@@ -72,7 +72,7 @@ loop-node-smaller c =
 pub loop-node-preserved : goal.loop-node-preserved
 loop-node-preserved c =
     let at = (goal.at.loop-node-preserved c).After-way_on-back in
-    let rows = (seen c.args.levels.side c.args.levels.graph.now.rows.items) in
+    let rows = (seen c.args.levels.side c.args.levels.graph.now.rows) in
     let q = c.args.levels.potentials.now in
     let x = c.args.flow.now in
     let e = c.args.excess.now in
@@ -101,7 +101,7 @@ loop-node-preserved c =
 
 pub returns-then-node-target-clause-first : goal.returns-then-node-target-clause-first
 returns-then-node-target-clause-first c = λ paths can alive.
-    (let rows = (seen c.args.levels.side c.args.levels.graph.now.rows.items) in
+    (let rows = (seen c.args.levels.side c.args.levels.graph.now.rows) in
     let s = c.args.levels.node_labels.now in
     let own = own_next rows c.args.levels.potentials.now c.args.flow.now c.args.excess.now s c.loop-node.walks.dead.items c.loop-node.node paths (c.loop-node.invariant.first paths can alive) (λ h. omega (arith, ints, h)) in
     let both : None ≡ Some (before rows s c.loop-node.node) = sym c.in-None.is ∙ c.step_back.ensures.own own.admissible in cc)

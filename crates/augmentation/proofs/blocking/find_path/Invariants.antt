@@ -13,8 +13,8 @@ invariant-loop-node l = record {
   walks : IsWalksFor (length l.levels.node_labels.now) l.walks;
   rooms : l.walks.rooms ≡ l.initial.walks.rooms;
   alive : in_set l.walks.dead.items l.node ≡ false;
-  on_walk : IsOnWalk (seen l.levels.side l.levels.graph.now.rows.items) l.levels.potentials.now l.flow l.levels.node_labels.now l.walks.dead.items l.walks.back.items (pos 1) l.target l.node;
-  first : ArePaths (seen l.levels.side l.levels.graph.now.rows.items) l.levels.potentials.now l.levels.node_labels.now → CanPush (seen l.levels.side l.levels.graph.now.rows.items) l.flow l.excess l.levels.node_labels.now l.target → AreAlive l.levels.node_labels.now l.initial.walks.dead.items → IsFirstWalk (seen l.levels.side l.levels.graph.now.rows.items) l.flow l.excess l.levels.node_labels.now l.walks.dead.items l.node;
+  on_walk : IsOnWalk (seen l.levels.side l.levels.graph.now.rows) l.levels.potentials.now l.flow l.levels.node_labels.now l.walks.dead.items l.walks.back.items (pos 1) l.target l.node;
+  first : ArePaths (seen l.levels.side l.levels.graph.now.rows) l.levels.potentials.now l.levels.node_labels.now → CanPush (seen l.levels.side l.levels.graph.now.rows) l.flow l.excess l.levels.node_labels.now l.target → AreAlive l.levels.node_labels.now l.initial.walks.dead.items → IsFirstWalk (seen l.levels.side l.levels.graph.now.rows) l.flow l.excess l.levels.node_labels.now l.walks.dead.items l.node;
 }
 
 abbrev pub decreases-loop-node : goal.decreases-loop-node

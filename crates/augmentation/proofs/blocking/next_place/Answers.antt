@@ -7,11 +7,11 @@ use Rattle.augmentation.proofs.blocking.next_place.Goals as goal
 use Rattle.augmentation.proofs.blocking.next_place.Goals.{In-Some}
 
 pub resume-walk-requires : goal.resume-walk-requires
-resume-walk-requires c = record { node = record { entries = length c.args.levels.potentials.now; graph = c.requires.graph; node = omega (arith, c.requires.node_in, c.args.levels.potentials_in.sized) } }
+resume-walk-requires c = record { node = omega (arith, c.requires.node_in, c.args.levels.potentials_in.sized, c.requires.graph) }
 
 other_in : (c : In-Some) → c.in-Some.end.other < length c.args.levels.node_labels.now
 other_in c =
-    let rows = c.args.levels.graph.now.rows.items in
+    let rows = c.args.levels.graph.now.rows in
     let flow = flow_of_seen c.args.levels.side (length c.args.levels.node_labels.now) rows c.args.flow.now c.requires.flow in
     let arc = leaving c.in-Some.end in
     subst (λ (v : ℕ). v < length c.args.levels.node_labels.now) c.in-Some.ensures.end.ends (end_of-in (length c.args.levels.node_labels.now) (row_at rows arc.arc) arc.way (flow.rows arc.arc c.in-Some.ensures.end.is_arc))

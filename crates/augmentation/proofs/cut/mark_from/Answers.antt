@@ -12,29 +12,29 @@ use Rattle.augmentation.proofs.cut.mark_from.Goals as goal
 use Rattle.augmentation.proofs.cut.mark_from.Goals.{In-Some, Then-has_room}
 
 pub at-walk-requires : goal.at-walk-requires
-at-walk-requires c = record { node = record { entries = length c.args.cut.now; graph = c.requires.graph; node = marked_in c.args.cut.now c.args.node c.requires.marked } }
+at-walk-requires c = record { node = omega (arith, marked_in c.args.cut.now c.args.node c.requires.marked, c.requires.graph) }
 
 pub loop-end-init : goal.loop-end-init
 loop-end-init c = record {
   worklist = c.requires.worklist;
-  grown = IsGrown-refl c.args.on.side c.args.on.graph.now.rows.items c.args.on.flow.now c.args.cut.now c.args.worklist.now c.args.len;
+  grown = IsGrown-refl c.args.on.side c.args.on.graph.now.rows c.args.on.flow.now c.args.cut.now c.args.worklist.now c.args.len;
   walk = c.at-walk.ensures.walk;
   node = c.at-walk.ensures.node;
-  done = all_seen_to_come c.args.on.side c.args.on.graph.now c.at-walk.result c.args.node (IsFarIn c.args.on.side c.args.on.graph.now.rows.items c.args.on.flow.now c.args.cut.now) c.at-walk.ensures.all c.at-walk.ensures.node;
+  done = all_seen_to_come c.args.on.side c.args.on.graph.now c.at-walk.result c.args.node (IsFarIn c.args.on.side c.args.on.graph.now.rows c.args.on.flow.now c.args.cut.now) c.at-walk.ensures.all c.at-walk.ensures.node;
 }
 
 -- the residual arc that leads on starts at the node
-leads_on : (c : In-Some) → IsLeadingAt c.args.on.side (seen c.args.on.side c.args.on.graph.now.rows.items) c.loop-end.walk.node c.in-Some.end
-leads_on c = leading_at c.args.on.side c.args.on.graph.now.rows.items c.loop-end.walk.node c.in-Some.end c.in-Some.ensures.end
+leads_on : (c : In-Some) → IsLeadingAt c.args.on.side (seen c.args.on.side c.args.on.graph.now.rows) c.loop-end.walk.node c.in-Some.end
+leads_on c = leading_at c.args.on.side c.args.on.graph.now.rows c.loop-end.walk.node c.in-Some.end c.in-Some.ensures.end
 
 -- and leads to the other node
-far_is : (c : In-Some) → far_at c.args.on.side c.args.on.graph.now.rows.items (leading c.args.on.side c.in-Some.end).arc (leading c.args.on.side c.in-Some.end).way ≡ c.in-Some.end.other
-far_is c = sym (far_seen c.args.on.side c.args.on.graph.now.rows.items (leading c.args.on.side c.in-Some.end).arc (leading c.args.on.side c.in-Some.end).way) ∙ (leads_on c).ends
+far_is : (c : In-Some) → far_at c.args.on.side c.args.on.graph.now.rows (leading c.args.on.side c.in-Some.end).arc (leading c.args.on.side c.in-Some.end).way ≡ c.in-Some.end.other
+far_is c = sym (far_seen c.args.on.side c.args.on.graph.now.rows (leading c.args.on.side c.in-Some.end).arc (leading c.args.on.side c.in-Some.end).way) ∙ (leads_on c).ends
 
 -- that node is marked already
 pub loop-end-preserved-then-cut-far : goal.loop-end-preserved-then-cut-far
 loop-end-preserved-then-cut-far c =
-    let P = IsFarIn c.args.on.side c.args.on.graph.now.rows.items c.args.on.flow.now c.loop-end.cut in
+    let P = IsFarIn c.args.on.side c.args.on.graph.now.rows c.args.on.flow.now c.loop-end.cut in
     record {
       worklist = c.loop-end.invariant.worklist;
       grown = c.loop-end.invariant.grown;
@@ -47,25 +47,25 @@ loop-end-preserved-then-cut-far c =
 -- the residual arc is not there
 pub loop-end-preserved : goal.loop-end-preserved
 loop-end-preserved c =
-    let P = IsFarIn c.args.on.side c.args.on.graph.now.rows.items c.args.on.flow.now c.loop-end.cut in
+    let P = IsFarIn c.args.on.side c.args.on.graph.now.rows c.args.on.flow.now c.loop-end.cut in
     record {
       worklist = c.loop-end.invariant.worklist;
       grown = c.loop-end.invariant.grown;
       walk = c.next.ensures.walk;
       node = c.next.ensures.node ∙ c.loop-end.invariant.node;
       done = one_seen_more c.args.on.side c.args.on.graph.now c.loop-end.walk c.next.new.self c.args.node c.in-Some.end P P c.loop-end.invariant.done c.in-Some.ensures.rest (λ k way far. far)
-          (λ residual. cc (c.has_room.ensures.here.1 (subst (λ (a : ResidualArc). IsResidual c.args.on.graph.now.rows.items c.args.on.flow.now a.arc a.way) (sym c.leading.ensures) residual)));
+          (λ residual. cc (c.has_room.ensures.here.1 (subst (λ (a : ResidualArc). IsResidual c.args.on.graph.now.rows c.args.on.flow.now a.arc a.way) (sym c.leading.ensures) residual)));
     }
 
 other_in : (c : Then-has_room) → c.in-Some.end.other < length c.loop-end.cut
 other_in c =
     subst (λ (v : ℕ). v < length c.loop-end.cut) c.in-Some.ensures.end.ends
-    (rw c.loop-end.auto.cut (end_of-in (length c.args.cut.now) (row_at c.args.on.graph.now.rows.items (leaving c.in-Some.end).arc) (leaving c.in-Some.end).way (c.requires.flow.rows (leaving c.in-Some.end).arc c.in-Some.ensures.end.is_arc)))
+    (rw c.loop-end.auto.cut (end_of-in (length c.args.cut.now) (row_at c.args.on.graph.now.rows (leaving c.in-Some.end).arc) (leaving c.in-Some.end).way (c.requires.flow.rows (leaving c.in-Some.end).arc c.in-Some.ensures.end.is_arc)))
 
 -- the node is marked
-marks : (c : Then-has_room) → IsGrown c.args.on.side c.args.on.graph.now.rows.items c.args.on.flow.now c.loop-end.cut c.loop-end.worklist c.loop-end.longer (slice_set c.loop-end.cut c.in-Some.end.other true) (slice_set c.loop-end.worklist c.loop-end.longer c.in-Some.end.other) (c.loop-end.longer + 1)
+marks : (c : Then-has_room) → IsGrown c.args.on.side c.args.on.graph.now.rows c.args.on.flow.now c.loop-end.cut c.loop-end.worklist c.loop-end.longer (slice_set c.loop-end.cut c.in-Some.end.other true) (slice_set c.loop-end.worklist c.loop-end.longer c.in-Some.end.other) (c.loop-end.longer + 1)
 marks c =
-    let rows = c.args.on.graph.now.rows.items in
+    let rows = c.args.on.graph.now.rows in
     let arc = (leading c.args.on.side c.in-Some.end).arc in
     let way = (leading c.args.on.side c.in-Some.end).way in
     let leads = leading_at c.args.on.side rows c.loop-end.walk.node c.in-Some.end c.in-Some.ensures.end in
@@ -78,7 +78,7 @@ marks c =
 pub loop-end-preserved-then-has_room : goal.loop-end-preserved-then-has_room
 loop-end-preserved-then-has_room c =
     let side = c.args.on.side in
-    let rows = c.args.on.graph.now.rows.items in
+    let rows = c.args.on.graph.now.rows in
     let flow = c.args.on.flow.now in
     let at = (goal.at.loop-end-preserved-then-has_room c).Then-has_room in
     let v = c.in-Some.end.other in
@@ -100,6 +100,6 @@ loop-end-preserved-then-has_room c =
 pub returns-clause-far : goal.returns-clause-far
 returns-clause-far c = λ k way near residual.
     (let side = c.args.on.side in
-    let rows = c.args.on.graph.now.rows.items in
+    let rows = c.args.on.graph.now.rows in
     all_seen_met side c.args.on.graph.now c.loop-end.walk c.args.node (IsFarIn side rows c.args.on.flow.now c.loop-end.cut) c.loop-end.invariant.done c.in_default.ensures.rest k way
     (omega (arith, seen_length side rows, residual.is_arc)) (near_seen side rows k way ∙ near) residual)

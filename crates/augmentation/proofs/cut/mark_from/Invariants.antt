@@ -7,10 +7,10 @@ use Rattle.augmentation.proofs.cut.mark_from.Given as goal
 abbrev pub invariant-loop-end : goal.invariant-loop-end
 invariant-loop-end l = record {
   worklist : IsListOf l.cut l.worklist l.longer;
-  grown : IsGrown l.on.side l.on.graph.now.rows.items l.on.flow.now l.initial.cut l.initial.worklist l.len l.cut l.worklist l.longer;
+  grown : IsGrown l.on.side l.on.graph.now.rows l.on.flow.now l.initial.cut l.initial.worklist l.len l.cut l.worklist l.longer;
   walk : IsWalk l.on.graph.now l.walk;
   node : l.walk.node ≡ l.node;
-  done : AllSeenOrCome l.on.side l.on.graph.now l.walk l.node (IsFarIn l.on.side l.on.graph.now.rows.items l.on.flow.now l.cut);
+  done : AllSeenOrCome l.on.side l.on.graph.now l.walk l.node (IsFarIn l.on.side l.on.graph.now.rows l.on.flow.now l.cut);
 }
 
 abbrev pub decreases-loop-end : goal.decreases-loop-end

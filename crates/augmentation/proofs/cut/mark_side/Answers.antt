@@ -7,7 +7,7 @@ use Rattle.augmentation.proofs.cut.mark_side.Goals as goal
 pub loop-next-preserved : goal.loop-next-preserved
 loop-next-preserved c =
     let grown = c.mark_from-len.ensures.grown in
-    let done : (j : ℕ) → j < c.loop-next.next + 1 → AreFarIn c.args.side c.args.graph.now.rows.items c.args.flow.now c.mark_from-len.new.cut (node_at c.mark_from-len.new.worklist j) =
+    let done : (j : ℕ) → j < c.loop-next.next + 1 → AreFarIn c.args.side c.args.graph.now.rows c.args.flow.now c.mark_from-len.new.cut (node_at c.mark_from-len.new.worklist j) =
     λ j lt k way near residual. (elim (cases_eq j c.loop-next.next) [
       | inl taken ↦ c.mark_from-len.ensures.far k way (near ∙ ap (node_at c.mark_from-len.new.worklist) taken ∙ grown.same_before c.loop-next.next (omega (arith, c.loop-next-test.true))) residual
       | inr before ↦ (let earlier : j < c.loop-next.next = omega (arith, lt, before) in

@@ -7,7 +7,7 @@ use Rattle.augmentation.proofs.potentials.find_labels.Goals as goal
 
 pub returns-clause-labels : goal.returns-clause-labels
 returns-clause-labels c =
-    let rows = seen c.args.side c.args.graph.now.rows.items in
+    let rows = seen c.args.side c.args.graph.now.rows in
     let call = c.search_labels in
     let found : AreLabelled rows c.deref.result.now c.deref-2.result.now call.new.node_labels = record {
       search = call.ensures.search;

@@ -29,7 +29,7 @@ reach_is reach e node_labels found =
 
 pub returns-then-not-has_both-clause-parted : goal.returns-then-not-has_both-clause-parted
 returns-then-not-has_both-clause-parted c =
-    parted_unless_both c.args.graph.now.rows.items c.args.flow.now.entries.items c.args.excess.now
+    parted_unless_both c.args.graph.now.rows c.args.flow.now.entries.items c.args.excess.now
     (rw c.requires.excess_in c.requires.certified.flow) (λ both. false≢true (sym c.if-not-has_both.true ∙ c.has_both.ensures.1 both))
 
 -- of the tables only the rooms are others
@@ -70,7 +70,7 @@ pub overflow_add-pushes : goal.overflow_add-pushes
 overflow_add-pushes c =
     let small = left-small (length c.args.scratch.now.potentials.items) c.args.excess.now c.requires.small c.requires.excess_in c.requires.certified.flow.few_nodes in
     let before : left (seen_excess c.turn_round-side.result c.turn_round-side.new.excess) ≡ left c.args.excess.now = ap left c.turn_round-side.ensures.excess in
-    let count = (ArePushes-more c.loop-reach.invariant.pushed (pushes_seen c.loop-reach.side c.args.graph.now.rows.items _ _ _ _ _ c.push_within-pushes.ensures.pushed)).count in
+    let count = (ArePushes-more c.loop-reach.invariant.pushed (pushes_seen c.loop-reach.side c.args.graph.now.rows _ _ _ _ _ c.push_within-pushes.ensures.pushed)).count in
     let bound : c.loop-reach.pushes + c.push_within-pushes.result < 2 ^ 64 = omega (arith, small, before, count) in
     search (rules, bound)
 
@@ -92,18 +92,18 @@ keep_near-fallen-requires-clause-not_below_0 c =
 -- what the loop keeps, after potentials and excesses are turned round
 pub record IsTurned (c : After-turn_round-side-in-Some) : Type 0 where
   pub flow_written : IsWritten c.args.flow.now c.push_within-pushes.new.flow
-  pub certified : IsReducedCostOptimal (seen c.turn_round-side-in-Some.result c.args.graph.now.rows.items) c.push_within-pushes.new.flow.entries.items c.turn_round-side-in-Some.new.scratch.potentials.items
+  pub certified : IsReducedCostOptimal (seen c.turn_round-side-in-Some.result c.args.graph.now.rows) c.push_within-pushes.new.flow.entries.items c.turn_round-side-in-Some.new.scratch.potentials.items
   pub scratch : IsScratchFor (length c.turn_round-side.new.scratch.potentials.items) c.turn_round-side-in-Some.new.scratch
-  pub rooms : AreRooms c.args.graph.now.rows.items c.push_within-pushes.new.flow.entries.items c.turn_round-side-in-Some.new.scratch.walks.rooms.items
+  pub rooms : AreRooms c.args.graph.now.rows c.push_within-pushes.new.flow.entries.items c.turn_round-side-in-Some.new.scratch.walks.rooms.items
   pub near : IsNear c.turn_round-side-in-Some.new.scratch.potentials.items (to_z w64 (of_z w64 c.keep_near-fallen.result))
-  pub pushed : ArePushes c.args.graph.now.rows.items (c.loop-reach.pushes + c.push_within-pushes.result) c.args.flow.now.entries.items (seen_excess c.turn_round-side.result c.turn_round-side.new.excess) c.push_within-pushes.new.flow.entries.items (seen_excess c.turn_round-side-in-Some.result c.turn_round-side-in-Some.new.excess)
+  pub pushed : ArePushes c.args.graph.now.rows (c.loop-reach.pushes + c.push_within-pushes.result) c.args.flow.now.entries.items (seen_excess c.turn_round-side.result c.turn_round-side.new.excess) c.push_within-pushes.new.flow.entries.items (seen_excess c.turn_round-side-in-Some.result c.turn_round-side-in-Some.new.excess)
   pub smaller : left (seen_excess c.turn_round-side-in-Some.result c.turn_round-side-in-Some.new.excess) < left (seen_excess c.loop-reach.side c.loop-reach.excess)
 
 is_turned : (c : After-turn_round-side-in-Some) → IsTurned c
 is_turned c =
     let fits : SFits w64 c.keep_near-fallen.result = search rules in
     let same : to_z w64 (of_z w64 c.keep_near-fallen.result) ≡ c.keep_near-fallen.result = to_z-of_z w64 c.keep_near-fallen.result fits in
-    let rows = c.args.graph.now.rows.items in
+    let rows = c.args.graph.now.rows in
     let inv = c.loop-reach.invariant in
     let call = c.push_within-pushes in
     let turn = c.turn_round-side-in-Some in
@@ -136,7 +136,7 @@ loop-reach-preserved-in-Behind c =
     let same : after.potentials.items ≡ before.potentials.items = ap (λ (s : Scratch). s.potentials.items) kept in
     record {
       flow_written = t.flow_written;
-      certified = subst (λ (p : List ℤ). IsReducedCostOptimal (seen c.turn_round-side-in-Some.result c.args.graph.now.rows.items) c.push_within-pushes.new.flow.entries.items p) (sym same) t.certified;
+      certified = subst (λ (p : List ℤ). IsReducedCostOptimal (seen c.turn_round-side-in-Some.result c.args.graph.now.rows) c.push_within-pushes.new.flow.entries.items p) (sym same) t.certified;
       small = c.turn_round-side-in-Some.ensures.small;
       scratch = scratch_but_rooms _ before after kept t.scratch;
       rooms = c.fill_rooms.ensures.rooms;
@@ -165,7 +165,7 @@ loop-reach-smaller c = (is_turned (goal.at.loop-reach-smaller c).After-turn_roun
 
 pub returns-in-Behind-side-clause-certified : goal.returns-in-Behind-side-clause-certified
 returns-in-Behind-side-clause-certified c =
-    let rows = c.args.graph.now.rows.items in
+    let rows = c.args.graph.now.rows in
     let x = c.loop-reach.flow.entries.items in
     let turn = c.turn_round-ahead in
     subst (λ (side : Side). IsReducedCostOptimal (seen side rows) x turn.new.scratch.potentials.items) (turn.ensures.other ∙ ap other_side c.in-Behind-side.is)
@@ -173,7 +173,7 @@ returns-in-Behind-side-clause-certified c =
 
 pub returns-in-Behind-side-clause-parted : goal.returns-in-Behind-side-clause-parted
 returns-in-Behind-side-clause-parted c =
-    let rows = c.args.graph.now.rows.items in
+    let rows = c.args.graph.now.rows in
     let x = c.loop-reach.flow.entries.items in
     let e = c.loop-reach.excess in
     let turn = c.turn_round-ahead in

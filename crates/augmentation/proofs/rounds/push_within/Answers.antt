@@ -29,15 +29,15 @@ is_lowered c =
 sized : (c : After-lower) → length c.args.scratch.now.node_labels.items ≡ length c.lower.new.potentials
 sized c = c.requires.found.searched.search.sized ∙ sym (c.lower.auto.potentials ∙ ap (λ (p : List ℤ). length p) c.deref_mut.ensures.value)
 
-none_below : (c : After-lower) → NoneBelow (seen c.args.side c.args.graph.now.rows.items) c.args.flow.now.entries.items c.lower.new.potentials
+none_below : (c : After-lower) → NoneBelow (seen c.args.side c.args.graph.now.rows) c.args.flow.now.entries.items c.lower.new.potentials
 none_below c =
     let f = c.requires.found.searched in
-    none_below_after (seen c.args.side c.args.graph.now.rows.items) c.args.flow.now.entries.items c.args.scratch.now.potentials.items c.lower.new.potentials c.args.scratch.now.node_labels.items c.args.reach c.requires.near.0 c.requires.certified f.search f.relaxed f.found.front (is_lowered c) c.requires.near.1
+    none_below_after (seen c.args.side c.args.graph.now.rows) c.args.flow.now.entries.items c.args.scratch.now.potentials.items c.lower.new.potentials c.args.scratch.now.node_labels.items c.args.reach c.requires.near.0 c.requires.certified f.search f.relaxed f.found.front (is_lowered c) c.requires.near.1
 
 within : (c : After-lower) → ArePotentials (length c.lower.new.potentials) potential_floor c.lower.new.potentials
 within c =
     let f = c.requires.found.searched in
-    potentials_after (seen c.args.side c.args.graph.now.rows.items) c.args.flow.now.entries.items c.args.scratch.now.potentials.items c.lower.new.potentials c.args.scratch.now.node_labels.items c.args.reach c.requires.near.0 c.requires.certified f.search f.relaxed f.found.front (is_lowered c) c.requires.near.1
+    potentials_after (seen c.args.side c.args.graph.now.rows) c.args.flow.now.entries.items c.args.scratch.now.potentials.items c.lower.new.potentials c.args.scratch.now.node_labels.items c.args.reach c.requires.near.0 c.requires.certified f.search f.relaxed f.found.front (is_lowered c) c.requires.near.1
 
 -- the lowered potentials, as they stand in the table
 new_is : (c : After-lower) → (with_items c.args.scratch.now.potentials c.lower.new.potentials).items ≡ c.lower.new.potentials
@@ -60,7 +60,7 @@ pub push_found-pushes-requires-clause-state : goal.push_found-pushes-requires-cl
 push_found-pushes-requires-clause-state c =
     let a = (goal.at.push_found-pushes-requires-clause-state c).After-lower in
     let d = (goal.at.push_found-pushes-requires-clause-state c).After-deref-3 in
-    let rows = seen c.args.side c.args.graph.now.rows.items in
+    let rows = seen c.args.side c.args.graph.now.rows in
     let node_labels = c.args.scratch.now.node_labels.items in
     let state : IsUnderWay (length node_labels) rows c.lower.new.potentials c.args.flow.now.entries.items c.args.excess.now = record {
       flow = subst (λ (n : ℕ). IsPseudoflow n rows c.args.flow.now.entries.items) (sym c.requires.found.searched.search.sized) c.requires.certified.flow;
@@ -76,7 +76,7 @@ pub push_found-pushes-requires-clause-paths : goal.push_found-pushes-requires-cl
 push_found-pushes-requires-clause-paths c =
     let a = (goal.at.push_found-pushes-requires-clause-paths c).After-lower in
     let d = (goal.at.push_found-pushes-requires-clause-paths c).After-deref-3 in
-    let rows = seen c.args.side c.args.graph.now.rows.items in
+    let rows = seen c.args.side c.args.graph.now.rows in
     let f = c.requires.found.searched in
     let paths : ArePaths rows c.lower.new.potentials c.args.scratch.now.node_labels.items = record {
       paths = paths_of_search f.search;
@@ -87,7 +87,7 @@ push_found-pushes-requires-clause-paths c =
 
 pub push_found-pushes-requires-clause-can_push : goal.push_found-pushes-requires-clause-can_push
 push_found-pushes-requires-clause-can_push c = λ t found.
-    (let rows = seen c.args.side c.args.graph.now.rows.items in
+    (let rows = seen c.args.side c.args.graph.now.rows in
     let node_labels = c.args.scratch.now.node_labels.items in
     let f = c.requires.found.searched in
     let here : IsFoundDeficit c.args.excess.now node_labels t = subst (λ (s : List NodeLabel). IsFoundDeficit c.args.excess.now s t) c.deref-3.ensures.value found in
@@ -119,7 +119,7 @@ returns-clause-certified c =
     let a = (goal.at.returns-clause-certified c).After-lower in
     let d = (goal.at.returns-clause-certified c).After-deref-3 in
     let s = (goal.at.returns-clause-certified c).After-push_found-pushes in
-    let rows = seen c.args.side c.args.graph.now.rows.items in
+    let rows = seen c.args.side c.args.graph.now.rows in
     let y = c.push_found-pushes.new.flow in
     let state = c.push_found-pushes.ensures.state in
     let entries = (with_items c.args.scratch.now.potentials c.lower.new.potentials).items in
@@ -134,7 +134,7 @@ pub returns-clause-at_least : goal.returns-clause-at_least
 returns-clause-at_least c = λ fallen near v.
     (let a = (goal.at.returns-clause-at_least c).After-lower in
     let f = c.requires.found.searched in
-    let further = fallen_further (seen c.args.side c.args.graph.now.rows.items) c.args.flow.now.entries.items c.args.scratch.now.potentials.items c.lower.new.potentials c.args.scratch.now.node_labels.items c.args.reach fallen c.requires.certified f.search f.relaxed f.found.front (is_lowered a) near v in
+    let further = fallen_further (seen c.args.side c.args.graph.now.rows) c.args.flow.now.entries.items c.args.scratch.now.potentials.items c.lower.new.potentials c.args.scratch.now.node_labels.items c.args.reach fallen c.requires.certified f.search f.relaxed f.found.front (is_lowered a) near v in
     let same : number_at (with_items c.args.scratch.now.potentials c.lower.new.potentials).items v ≡ number_at c.lower.new.potentials v = ap (λ (p : List ℤ). number_at p v) (new_is a) in
     omega (arith, ints, further, same))
 
@@ -160,6 +160,6 @@ returns-clause-scratch c =
 
 pub returns-clause-rooms : goal.returns-clause-rooms
 returns-clause-rooms c are =
-    let arcs = c.args.graph.now.rows.items in
+    let arcs = c.args.graph.now.rows in
     subst (λ (x : List ℤ). AreRooms arcs x c.push_found-pushes.new.walks.rooms.items) (sym (flow_is (goal.at.returns-clause-rooms c).After-push_found-pushes))
     (c.push_found-pushes.ensures.rooms (subst (λ (x : List ℤ). AreRooms arcs x c.args.scratch.now.walks.rooms.items) (sym c.deref_mut-2.ensures.value) are))

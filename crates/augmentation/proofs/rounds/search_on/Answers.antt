@@ -23,7 +23,7 @@ node_labels_are c = with_items_is c.args.scratch.now.node_labels c.find_deficits
 
 pub returns-then-not-has_both-clause-found : goal.returns-then-not-has_both-clause-found
 returns-then-not-has_both-clause-found c =
-    parted_unless_both (seen c.args.side c.args.graph.now.rows.items) c.args.flow.now.entries.items c.args.excess.now
+    parted_unless_both (seen c.args.side c.args.graph.now.rows) c.args.flow.now.entries.items c.args.excess.now
     (rw c.requires.excess_in c.requires.certified.flow) (λ both. false≢true (sym c.if-not-has_both.true ∙ c.has_both.ensures.1 both))
 
 pub forget-requires : goal.forget-requires
@@ -36,20 +36,20 @@ pub returns-then-is_none-clause-found : goal.returns-then-is_none-clause-found
 returns-then-is_none-clause-found c = by_result c.find_deficits-reach.result c.find_deficits-reach.ensures.found (search rules)
   where
     by_result : (found : Option ℤ) → MatchOption found (IsExhausted c.args.excess.now c.find_deficits-reach.new.node_labels) (HasFound c.args.excess.now c.find_deficits-reach.new.node_labels) → is_some found ≡ false
-        → MatchOption found (IsParted (seen c.args.side c.args.graph.now.rows.items) c.args.flow.now.entries.items c.args.excess.now) (HoldsSearch (seen c.args.side c.args.graph.now.rows.items) c.args.flow.now.entries.items c.args.excess.now (record { node_labels = with_items (with_items c.args.scratch.now.node_labels c.find_deficits-reach.new.node_labels) c.forget.new.node_labels; potentials = c.args.scratch.now.potentials; labels = c.args.scratch.now.labels; queue = c.find_deficits-reach.new.queue; settled_order = c.find_deficits-reach.new.settled_order; walks = c.args.scratch.now.walks }))
-    by_result None done none = subst (λ (x : List ℤ). IsParted (seen c.args.side c.args.graph.now.rows.items) x c.args.excess.now) c.deref.ensures.value
-        (parted_exhausted (seen c.args.side c.args.graph.now.rows.items) c.deref.result.now c.deref-2.result.now c.args.excess.now c.find_deficits-reach.new.node_labels c.find_deficits-reach.ensures.relaxed c.find_deficits-reach.ensures.from_excess done)
+        → MatchOption found (IsParted (seen c.args.side c.args.graph.now.rows) c.args.flow.now.entries.items c.args.excess.now) (HoldsSearch (seen c.args.side c.args.graph.now.rows) c.args.flow.now.entries.items c.args.excess.now (record { node_labels = with_items (with_items c.args.scratch.now.node_labels c.find_deficits-reach.new.node_labels) c.forget.new.node_labels; potentials = c.args.scratch.now.potentials; labels = c.args.scratch.now.labels; queue = c.find_deficits-reach.new.queue; settled_order = c.find_deficits-reach.new.settled_order; walks = c.args.scratch.now.walks }))
+    by_result None done none = subst (λ (x : List ℤ). IsParted (seen c.args.side c.args.graph.now.rows) x c.args.excess.now) c.deref.ensures.value
+        (parted_exhausted (seen c.args.side c.args.graph.now.rows) c.deref.result.now c.deref-2.result.now c.args.excess.now c.find_deficits-reach.new.node_labels c.find_deficits-reach.ensures.relaxed c.find_deficits-reach.ensures.from_excess done)
     by_result (Some reach) found none = absurd (false≢true (sym none))
 
 pub returns-else-is_none-clause-found : goal.returns-else-is_none-clause-found
 returns-else-is_none-clause-found c = by_result c.find_deficits-reach.result c.find_deficits-reach.ensures.found (search rules)
   where
     by_result : (found : Option ℤ) → MatchOption found (IsExhausted c.args.excess.now c.find_deficits-reach.new.node_labels) (HasFound c.args.excess.now c.find_deficits-reach.new.node_labels) → IsTrue (is_some found)
-        → MatchOption found (IsParted (seen c.args.side c.args.graph.now.rows.items) c.args.flow.now.entries.items c.args.excess.now) (HoldsSearch (seen c.args.side c.args.graph.now.rows.items) c.args.flow.now.entries.items c.args.excess.now (record { node_labels = with_items c.args.scratch.now.node_labels c.find_deficits-reach.new.node_labels; potentials = c.args.scratch.now.potentials; labels = c.args.scratch.now.labels; queue = c.find_deficits-reach.new.queue; settled_order = c.find_deficits-reach.new.settled_order; walks = c.args.scratch.now.walks }))
+        → MatchOption found (IsParted (seen c.args.side c.args.graph.now.rows) c.args.flow.now.entries.items c.args.excess.now) (HoldsSearch (seen c.args.side c.args.graph.now.rows) c.args.flow.now.entries.items c.args.excess.now (record { node_labels = with_items c.args.scratch.now.node_labels c.find_deficits-reach.new.node_labels; potentials = c.args.scratch.now.potentials; labels = c.args.scratch.now.labels; queue = c.find_deficits-reach.new.queue; settled_order = c.find_deficits-reach.new.settled_order; walks = c.args.scratch.now.walks }))
     by_result None done some = absurd (false≢true some)
     by_result (Some reach) found some =
         let is = node_labels_are (goal.at.returns-else-is_none-clause-found c).After-find_deficits-reach in
-        let rows = seen c.args.side c.args.graph.now.rows.items in
+        let rows = seen c.args.side c.args.graph.now.rows in
         let searched : HasSearched rows c.deref.result.now c.deref-2.result.now c.args.excess.now c.find_deficits-reach.new.node_labels reach = record {
           search = c.find_deficits-reach.ensures.search;
           relaxed = c.find_deficits-reach.ensures.relaxed;

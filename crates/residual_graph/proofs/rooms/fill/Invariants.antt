@@ -4,5 +4,5 @@ use Rattle.residual_graph.proofs.rooms.fill.Given as goal
 
 abbrev pub invariant-loop-k : goal.invariant-loop-k
 invariant-loop-k l = record {
-  noted : (k : ℕ) → k < l.k → AreRoomsAt l.graph.rows.items l.flow l.rooms k;
+  noted : (k : ℕ) → k < l.k → AreRoomsAt l.rows l.flow l.rooms k;
 }

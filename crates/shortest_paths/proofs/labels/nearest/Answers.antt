@@ -15,26 +15,26 @@ use Rattle.shortest_paths.proofs.labels.nearest.Goals as goal
 use Rattle.shortest_paths.proofs.labels.nearest.Goals.{In-Some}
 
 pub at-walk-requires : goal.at-walk-requires
-at-walk-requires c = record { node = record { entries = length c.args.residual.potentials.now; graph = c.requires.graph; node = omega (arith, c.requires.v_in, c.requires.forest.known.sized) } }
+at-walk-requires c = record { node = omega (arith, c.requires.v_in, c.requires.forest.known.sized, c.requires.graph) }
 
 pub loop-end-init : goal.loop-end-init
 loop-end-init c = record {
-  opens = subst (Opens (seen c.args.residual.side c.args.residual.graph.now.rows.items) c.args.residual.flow.now c.args.residual.potentials.now c.args.node_labels.now c.args.v) (sym c.root-best.ensures) (root_opens (seen c.args.residual.side c.args.residual.graph.now.rows.items) c.args.residual.flow.now c.args.residual.potentials.now c.args.node_labels.now c.args.v);
+  opens = subst (Opens (seen c.args.residual.side c.args.residual.graph.now.rows) c.args.residual.flow.now c.args.residual.potentials.now c.args.node_labels.now c.args.v) (sym c.root-best.ensures) (root_opens (seen c.args.residual.side c.args.residual.graph.now.rows) c.args.residual.flow.now c.args.residual.potentials.now c.args.node_labels.now c.args.v);
   walk = c.at-walk.ensures.walk;
   node = c.at-walk.ensures.node;
   done = all_seen_to_come c.args.residual.side c.args.residual.graph.now c.at-walk.result c.args.v
-      (λ k way. IsNoDearer (seen c.args.residual.side c.args.residual.graph.now.rows.items) c.args.residual.flow.now c.args.residual.potentials.now c.args.node_labels.now c.args.v c.root-best.result k (other_way way))
+      (λ k way. IsNoDearer (seen c.args.residual.side c.args.residual.graph.now.rows) c.args.residual.flow.now c.args.residual.potentials.now c.args.node_labels.now c.args.v c.root-best.result k (other_way way))
       c.at-walk.ensures.all c.at-walk.ensures.node;
 }
 
 -- the residual arc that leads on there starts at the node
-leads_on : (c : In-Some) → IsLeadingAt c.args.residual.side (seen c.args.residual.side c.args.residual.graph.now.rows.items) c.loop-end.walk.node c.in-Some.end
-leads_on c = leading_at c.args.residual.side c.args.residual.graph.now.rows.items c.loop-end.walk.node c.in-Some.end c.in-Some.ensures.end
+leads_on : (c : In-Some) → IsLeadingAt c.args.residual.side (seen c.args.residual.side c.args.residual.graph.now.rows) c.loop-end.walk.node c.in-Some.end
+leads_on c = leading_at c.args.residual.side c.args.residual.graph.now.rows c.loop-end.walk.node c.in-Some.end c.in-Some.ensures.end
 
 -- no path goes on from the other node
 pub loop-end-preserved : goal.loop-end-preserved
 loop-end-preserved c =
-    let rows = (seen c.args.residual.side c.args.residual.graph.now.rows.items) in
+    let rows = (seen c.args.residual.side c.args.residual.graph.now.rows) in
     let P : ℕ → Way → Type 0 = λ k way. IsNoDearer rows c.args.residual.flow.now c.args.residual.potentials.now c.args.node_labels.now c.args.v c.loop-end.best k (other_way way) in
     record {
       opens = c.loop-end.invariant.opens;
@@ -48,7 +48,7 @@ loop-end-preserved c =
 other_in : (c : In-Some) → c.in-Some.end.other < length c.args.node_labels.now
 other_in c =
     subst (λ (v : ℕ). v < length c.args.node_labels.now) (leads_on c).ends
-    (rw c.requires.forest.known.sized (end_of-in (length c.args.residual.potentials.now) (row_at (seen c.args.residual.side c.args.residual.graph.now.rows.items) (leading c.args.residual.side c.in-Some.end).arc) (leading c.args.residual.side c.in-Some.end).way (c.args.residual.certified.flow.rows (leading c.args.residual.side c.in-Some.end).arc (leads_on c).is_arc)))
+    (rw c.requires.forest.known.sized (end_of-in (length c.args.residual.potentials.now) (row_at (seen c.args.residual.side c.args.residual.graph.now.rows) (leading c.args.residual.side c.in-Some.end).arc) (leading c.args.residual.side c.in-Some.end).way (c.args.residual.certified.flow.rows (leading c.args.residual.side c.in-Some.end).arc (leads_on c).is_arc)))
 
 pub offset_bounds-node_labels-end : goal.offset_bounds-node_labels-end
 offset_bounds-node_labels-end c = omega (arith, other_in (goal.at.offset_bounds-node_labels-end c).In-Some, c.requires.forest.known.sized, c.args.residual.certified.flow.few_nodes)
@@ -62,7 +62,7 @@ node_label_through-node_label-requires-clause-arc_in c = omega (arith, (leads_on
 -- the other node is settled: the nearer of two node labels that open the node opens it
 pub loop-end-preserved-then-is_settled : goal.loop-end-preserved-then-is_settled
 loop-end-preserved-then-is_settled c =
-    let rows = (seen c.args.residual.side c.args.residual.graph.now.rows.items) in
+    let rows = (seen c.args.residual.side c.args.residual.graph.now.rows) in
     let x = c.args.residual.flow.now in
     let p = c.args.residual.potentials.now in
     let s = c.args.node_labels.now in
@@ -83,5 +83,5 @@ loop-end-preserved-then-is_settled c =
 
 pub returns-clause-nearest : goal.returns-clause-nearest
 returns-clause-nearest c = λ k way hop.
-    (let P : ℕ → Way → Type 0 = λ k way. IsNoDearer (seen c.args.residual.side c.args.residual.graph.now.rows.items) c.args.residual.flow.now c.args.residual.potentials.now c.args.node_labels.now c.args.v c.loop-end.best k way in
+    (let P : ℕ → Way → Type 0 = λ k way. IsNoDearer (seen c.args.residual.side c.args.residual.graph.now.rows) c.args.residual.flow.now c.args.residual.potentials.now c.args.node_labels.now c.args.v c.loop-end.best k way in
     all_seen_entering c.args.residual.side c.args.residual.graph.now c.loop-end.walk c.args.v P c.loop-end.invariant.done c.in_default.ensures.rest k way hop.residual.is_arc hop.ends hop)

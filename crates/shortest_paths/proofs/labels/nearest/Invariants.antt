@@ -8,10 +8,10 @@ use Rattle.shortest_paths.proofs.labels.nearest.Given as goal
 
 abbrev pub invariant-loop-end : goal.invariant-loop-end
 invariant-loop-end l = record {
-  opens : Opens (seen l.residual.side l.residual.graph.now.rows.items) l.residual.flow.now l.residual.potentials.now l.node_labels l.v l.best;
+  opens : Opens (seen l.residual.side l.residual.graph.now.rows) l.residual.flow.now l.residual.potentials.now l.node_labels l.v l.best;
   walk : IsWalk l.residual.graph.now l.walk;
   node : l.walk.node ≡ l.v;
-  done : AllSeenOrCome l.residual.side l.residual.graph.now l.walk l.v (λ k way. IsNoDearer (seen l.residual.side l.residual.graph.now.rows.items) l.residual.flow.now l.residual.potentials.now l.node_labels l.v l.best k (other_way way));
+  done : AllSeenOrCome l.residual.side l.residual.graph.now l.walk l.v (λ k way. IsNoDearer (seen l.residual.side l.residual.graph.now.rows) l.residual.flow.now l.residual.potentials.now l.node_labels l.v l.best k (other_way way));
 }
 
 abbrev pub decreases-loop-end : goal.decreases-loop-end

@@ -1,6 +1,7 @@
-use Rattle.std.proofs.Common.{arith}
+use Rattle.std.proofs.Common.{List, ap, arith, length}
+use Rattle.dimacs_text.specs.declared.problem.ArcRow.{ArcRow}
 use Rattle.residual_graph.proofs.SideLemmas.{seen_length}
 use Rattle.shortest_paths.proofs.labels.standing.Goals as goal
 
 pub node_label_through-requires-clause-arc_in : goal.node_label_through-requires-clause-arc_in
-node_label_through-requires-clause-arc_in c = omega (arith, seen_length c.args.residual.side c.args.residual.graph.now.rows.items, c.if-arc-len.false)
+node_label_through-requires-clause-arc_in c = omega (arith, seen_length c.args.residual.side c.args.residual.graph.now.rows, ap (λ (r : List ArcRow). length r) c.rows.ensures, c.if-arc-rows.false)

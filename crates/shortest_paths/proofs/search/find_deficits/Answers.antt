@@ -19,7 +19,7 @@ reach_is c =
     let known = c.settle_node-settled.ensures.search in
     let reached = settled_is_reached c.settle_node-settled.new.node_labels c.in-Some.u (settles_u c).now_settled in
     let low = known.distance_at_least_0 c.in-Some.u reached in
-    let high = distance_high (seen c.args.residual.side c.args.residual.graph.now.rows.items) c.args.residual.flow.now c.args.residual.potentials.now c.settle_node-settled.new.node_labels c.in-Some.u c.args.residual.certified known reached in
+    let high = distance_high (seen c.args.residual.side c.args.residual.graph.now.rows) c.args.residual.flow.now c.args.residual.potentials.now c.settle_node-settled.new.node_labels c.in-Some.u c.args.residual.certified known reached in
     let fits : SFits w64 (distance_at c.settle_node-settled.new.node_labels c.in-Some.u) = omega (arith, ints, low, high) in
     to_z-of_z w64 (distance_at c.settle_node-settled.new.node_labels c.in-Some.u) fits
 
@@ -27,12 +27,12 @@ reach_is c =
 one_more : (c : After-settle_node-settled) → number_at c.args.excess.now c.in-Some.u <ℤ pos 0 → IsFinding c.args.excess.now c.settle_node-settled.new.node_labels (to_z w64 (of_z w64 (distance_at c.settle_node-settled.new.node_labels c.in-Some.u))) (c.loop-u.found + 1)
 one_more c low =
     subst (λ (r : ℤ). IsFinding c.args.excess.now c.settle_node-settled.new.node_labels r (c.loop-u.found + 1)) (sym (reach_is c))
-    (IsFinding-deficit (seen c.args.residual.side c.args.residual.graph.now.rows.items) c.args.residual.flow.now c.args.residual.potentials.now c.args.excess.now c.loop-u.node_labels c.settle_node-settled.new.node_labels c.in-Some.u _ c.loop-u.found c.args.residual.certified c.loop-u.invariant.known c.settle_node-settled.ensures.search c.in-Some.ensures.found.is_open (settles_u c) c.loop-u.invariant.finding low)
+    (IsFinding-deficit (seen c.args.residual.side c.args.residual.graph.now.rows) c.args.residual.flow.now c.args.residual.potentials.now c.args.excess.now c.loop-u.node_labels c.settle_node-settled.new.node_labels c.in-Some.u _ c.loop-u.found c.args.residual.certified c.loop-u.invariant.known c.settle_node-settled.ensures.search c.in-Some.ensures.found.is_open (settles_u c) c.loop-u.invariant.finding low)
 
 no_more : (c : After-settle_node-settled) → pos 0 ≤ℤ number_at c.args.excess.now c.in-Some.u → IsFinding c.args.excess.now c.settle_node-settled.new.node_labels (to_z w64 (of_z w64 (distance_at c.settle_node-settled.new.node_labels c.in-Some.u))) c.loop-u.found
 no_more c high =
     subst (λ (r : ℤ). IsFinding c.args.excess.now c.settle_node-settled.new.node_labels r c.loop-u.found) (sym (reach_is c))
-    (IsFinding-other (seen c.args.residual.side c.args.residual.graph.now.rows.items) c.args.residual.flow.now c.args.residual.potentials.now c.args.excess.now c.loop-u.node_labels c.settle_node-settled.new.node_labels c.in-Some.u _ c.loop-u.found c.args.residual.certified c.loop-u.invariant.known c.settle_node-settled.ensures.search c.in-Some.ensures.found.is_open (settles_u c) c.loop-u.invariant.finding high)
+    (IsFinding-other (seen c.args.residual.side c.args.residual.graph.now.rows) c.args.residual.flow.now c.args.residual.potentials.now c.args.excess.now c.loop-u.node_labels c.settle_node-settled.new.node_labels c.in-Some.u _ c.loop-u.found c.args.residual.certified c.loop-u.invariant.known c.settle_node-settled.ensures.search c.in-Some.ensures.found.is_open (settles_u c) c.loop-u.invariant.finding high)
 
 -- the node that was settled is in the settled order
 noted : (c : After-note) → IsSettledOrderOf c.settle_node-settled.new.node_labels c.note.new.self
@@ -75,7 +75,7 @@ loop-u-preserved c = record {
 
 pub loop-u-init : goal.loop-u-init
 loop-u-init c =
-    let arcs = (seen c.args.residual.side c.args.residual.graph.now.rows.items) in
+    let arcs = (seen c.args.residual.side c.args.residual.graph.now.rows) in
     let x = c.args.residual.flow.now in
     let p = c.args.residual.potentials.now in
     let excess = c.args.excess.now in

@@ -9,8 +9,8 @@ abbrev pub invariant-loop-u : goal.invariant-loop-u
 invariant-loop-u l = record {
   queue : IsQueueOf l.node_labels l.queue;
   settled_order : IsSettledOrderOf l.node_labels l.settled_order;
-  known : IsSearch (seen l.residual.side l.residual.graph.now.rows.items) l.residual.flow.now l.residual.potentials.now l.node_labels;
-  relaxed : AllRelaxed (seen l.residual.side l.residual.graph.now.rows.items) l.residual.flow.now l.residual.potentials.now l.node_labels;
+  known : IsSearch (seen l.residual.side l.residual.graph.now.rows) l.residual.flow.now l.residual.potentials.now l.node_labels;
+  relaxed : AllRelaxed (seen l.residual.side l.residual.graph.now.rows) l.residual.flow.now l.residual.potentials.now l.node_labels;
   from_excess : IsFromExcess l.excess l.node_labels;
   few : l.found < l.wanted;
   finding : IsFinding l.excess l.node_labels l.reach l.found;

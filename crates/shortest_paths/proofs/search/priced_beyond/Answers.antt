@@ -7,8 +7,8 @@ use Rattle.residual_graph.proofs.RowLemmas.{cost_of-bounds}
 use Rattle.shortest_paths.proofs.search.priced_beyond.Goals as goal
 use Rattle.shortest_paths.proofs.search.priced_beyond.Goals.{Start}
 
-bounds : (c : Start) → (neg_ℤ (pos cost_limit) ≤ℤ cost_at (seen c.args.residual.side c.args.residual.graph.now.rows.items) (leading c.args.residual.side c.args.end).arc (leading c.args.residual.side c.args.end).way) × (cost_at (seen c.args.residual.side c.args.residual.graph.now.rows.items) (leading c.args.residual.side c.args.end).arc (leading c.args.residual.side c.args.end).way ≤ℤ pos cost_limit)
-bounds c = cost_of-bounds (length c.args.residual.potentials.now) (row_at (seen c.args.residual.side c.args.residual.graph.now.rows.items) (leading c.args.residual.side c.args.end).arc) (leading c.args.residual.side c.args.end).way (c.args.residual.certified.flow.rows (leading c.args.residual.side c.args.end).arc c.requires.end.is_arc)
+bounds : (c : Start) → (neg_ℤ (pos cost_limit) ≤ℤ cost_at (seen c.args.residual.side c.args.residual.graph.now.rows) (leading c.args.residual.side c.args.end).arc (leading c.args.residual.side c.args.end).way) × (cost_at (seen c.args.residual.side c.args.residual.graph.now.rows) (leading c.args.residual.side c.args.end).arc (leading c.args.residual.side c.args.end).way ≤ℤ pos cost_limit)
+bounds c = cost_of-bounds (length c.args.residual.potentials.now) (row_at (seen c.args.residual.side c.args.residual.graph.now.rows) (leading c.args.residual.side c.args.end).arc) (leading c.args.residual.side c.args.end).way (c.args.residual.certified.flow.rows (leading c.args.residual.side c.args.end).arc c.requires.end.is_arc)
 
 pub leading_cost-requires : goal.leading_cost-requires
 leading_cost-requires c = omega (arith, ints, bounds (goal.at.leading_cost-requires c).Start, c.requires.end.cost)

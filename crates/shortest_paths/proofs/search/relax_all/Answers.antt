@@ -1,4 +1,4 @@
-use Rattle.std.proofs.Common.{◌≡◌, ◌∙◌, ℕ, SFits, ap, arith, length, subst, sym, w64}
+use Rattle.std.proofs.Common.{◌≡◌, ◌∙◌, ℕ, SFits, ap, arith, subst, sym, w64}
 use Rattle.std.proofs.lemmas.Int.{ints, to_z-of_z}
 use Rattle.residual_graph.specs.declared.residual.Way.{Way}
 use Rattle.shortest_paths.specs.declared.node_label.NodeLabel.{NodeLabel}
@@ -22,7 +22,7 @@ overflow_add-origin c =
 pub at-walk-requires : goal.at-walk-requires
 at-walk-requires c =
     let below = in_range c.args.node_labels.now c.args.u (settled_is_reached c.args.node_labels.now c.args.u c.requires.last.settled) in
-    record { node = record { entries = length c.args.residual.potentials.now; graph = c.requires.graph; node = omega (arith, below, c.requires.search.sized) } }
+    record { node = omega (arith, below, c.requires.search.sized, c.requires.graph) }
 
 pub loop-end-init : goal.loop-end-init
 loop-end-init c = record {
@@ -32,17 +32,17 @@ loop-end-init c = record {
   walk = c.at-walk.ensures.walk;
   node = c.at-walk.ensures.node;
   done = all_seen_to_come c.args.residual.side c.args.residual.graph.now c.at-walk.result c.args.u
-      (λ k way. start_at (seen c.args.residual.side c.args.residual.graph.now.rows.items) k way ≡ c.args.u → IsResidual (seen c.args.residual.side c.args.residual.graph.now.rows.items) c.args.residual.flow.now k way → IsRelaxed (seen c.args.residual.side c.args.residual.graph.now.rows.items) c.args.residual.potentials.now c.args.node_labels.now k way)
+      (λ k way. start_at (seen c.args.residual.side c.args.residual.graph.now.rows) k way ≡ c.args.u → IsResidual (seen c.args.residual.side c.args.residual.graph.now.rows) c.args.residual.flow.now k way → IsRelaxed (seen c.args.residual.side c.args.residual.graph.now.rows) c.args.residual.potentials.now c.args.node_labels.now k way)
       c.at-walk.ensures.all c.at-walk.ensures.node;
 }
 
 -- the residual arc that leads on there starts at the node
-leads_on : (c : In-Some) → IsLeadingAt c.args.residual.side (seen c.args.residual.side c.args.residual.graph.now.rows.items) c.loop-end.walk.node c.in-Some.end
-leads_on c = leading_at c.args.residual.side c.args.residual.graph.now.rows.items c.loop-end.walk.node c.in-Some.end c.in-Some.ensures.end
+leads_on : (c : In-Some) → IsLeadingAt c.args.residual.side (seen c.args.residual.side c.args.residual.graph.now.rows) c.loop-end.walk.node c.in-Some.end
+leads_on c = leading_at c.args.residual.side c.args.residual.graph.now.rows c.loop-end.walk.node c.in-Some.end c.in-Some.ensures.end
 
 pub relax-requires-clause-end : goal.relax-requires-clause-end
 relax-requires-clause-end c =
-    is_leading c.args.residual.side (seen c.args.residual.side c.args.residual.graph.now.rows.items) c.loop-end.walk.node c.in-Some.end (leads_on (goal.at.relax-requires-clause-end c).In-Some)
+    is_leading c.args.residual.side (seen c.args.residual.side c.args.residual.graph.now.rows) c.loop-end.walk.node c.in-Some.end (leads_on (goal.at.relax-requires-clause-end c).In-Some)
 
 pub relax-requires-clause-last : goal.relax-requires-clause-last
 relax-requires-clause-last c =
@@ -62,7 +62,7 @@ relax-requires-clause-priced c =
 
 pub loop-end-preserved : goal.loop-end-preserved
 loop-end-preserved c =
-    let rows = (seen c.args.residual.side c.args.residual.graph.now.rows.items) in
+    let rows = (seen c.args.residual.side c.args.residual.graph.now.rows) in
     let flow = c.args.residual.flow.now in
     let p = c.args.residual.potentials.now in
     let u = c.args.u in
@@ -81,6 +81,6 @@ loop-end-preserved c =
 
 pub returns-clause-relaxed : goal.returns-clause-relaxed
 returns-clause-relaxed c = λ k way lt residual starts.
-    (let rows = (seen c.args.residual.side c.args.residual.graph.now.rows.items) in
+    (let rows = (seen c.args.residual.side c.args.residual.graph.now.rows) in
     let P : ℕ → Way → Type 0 = λ k way. start_at rows k way ≡ c.args.u → IsResidual rows c.args.residual.flow.now k way → IsRelaxed rows c.args.residual.potentials.now c.loop-end.node_labels k way in
     all_seen_met c.args.residual.side c.args.residual.graph.now c.loop-end.walk c.args.u P c.loop-end.invariant.done c.in_default.ensures.rest k way lt starts starts residual)

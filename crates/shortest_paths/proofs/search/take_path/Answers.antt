@@ -14,7 +14,7 @@ use Rattle.shortest_paths.proofs.search.take_path.Goals.{After-leading-arc, Star
 
 other_in : (c : Start) → c.args.end.other < length c.args.node_labels.now
 other_in c =
-    rw (← c.requires.end.ends, c.requires.search.sized) (end_of-in (length c.args.residual.potentials.now) (row_at (seen c.args.residual.side c.args.residual.graph.now.rows.items) (leading c.args.residual.side c.args.end).arc) (leading c.args.residual.side c.args.end).way (c.args.residual.certified.flow.rows (leading c.args.residual.side c.args.end).arc c.requires.end.is_arc))
+    rw (← c.requires.end.ends, c.requires.search.sized) (end_of-in (length c.args.residual.potentials.now) (row_at (seen c.args.residual.side c.args.residual.graph.now.rows) (leading c.args.residual.side c.args.end).arc) (leading c.args.residual.side c.args.end).way (c.args.residual.certified.flow.rows (leading c.args.residual.side c.args.end).arc c.requires.end.is_arc))
 
 pub overflow_add-depth : goal.overflow_add-depth
 overflow_add-depth c =
@@ -29,7 +29,7 @@ improve-requires-clause-v_in c = other_in (goal.at.improve-requires-clause-v_in 
 pub improve-requires-clause-not_nearer : goal.improve-requires-clause-not_nearer
 improve-requires-clause-not_nearer c =
     let same : to_z w64 (of_z w64 c.args.distance) ≡ c.args.distance = to_z-of_z w64 c.args.distance c.ranges.distance in
-    let no_shorter : distance_at c.args.node_labels.now (start_at (seen c.args.residual.side c.args.residual.graph.now.rows.items) (leading c.args.residual.side c.args.end).arc (leading c.args.residual.side c.args.end).way) ≤ℤ c.args.distance = omega (arith, ints, c.args.residual.certified.none_below (leading c.args.residual.side c.args.end).arc (leading c.args.residual.side c.args.end).way c.requires.residual, c.requires.distance) in
+    let no_shorter : distance_at c.args.node_labels.now (start_at (seen c.args.residual.side c.args.residual.graph.now.rows) (leading c.args.residual.side c.args.end).arc (leading c.args.residual.side c.args.end).way) ≤ℤ c.args.distance = omega (arith, ints, c.args.residual.certified.none_below (leading c.args.residual.side c.args.end).arc (leading c.args.residual.side c.args.end).way c.requires.residual, c.requires.distance) in
     rw same (c.requires.queue.passed c.args.distance
     (omega (arith, ints, no_shorter, (last_bounds c.args.residual.certified c.requires.search c.requires.last).low))
     (λ v m. omega (arith, ints, no_shorter, c.requires.last.furthest v m)))
@@ -42,7 +42,7 @@ record FitBound (distance potential : ℤ) : Type 0 where
 
 fit_bound : (c : After-leading-arc) → FitBound c.args.distance (number_at c.args.residual.potentials.now c.args.end.other)
 fit_bound c =
-    let rows = seen c.args.residual.side c.args.residual.graph.now.rows.items in
+    let rows = seen c.args.residual.side c.args.residual.graph.now.rows in
     let a = leading c.args.residual.side c.args.end in
     let start = start_at rows a.arc a.way in
     let p = c.args.residual.certified.potentials in
@@ -65,11 +65,11 @@ overflow_add-distance c =
     let sum = fit_bound (goal.at.overflow_add-distance c).After-leading-arc in
     rw (to_z-of_z w64 c.args.distance sum.distance_fits, to_z-of_z w64 (number_at c.args.residual.potentials.now c.args.end.other) sum.potential_fits) sum.fits
 
-step : (c : After-leading-arc) → IsStep (seen c.args.residual.side c.args.residual.graph.now.rows.items) c.args.residual.flow.now c.args.residual.potentials.now c.args.node_labels.now (slice_set c.args.node_labels.now c.args.end.other (record { state = Open; distance = to_z w64 (of_z w64 c.args.distance); depth = depth_at c.args.node_labels.now c.args.start + 1; arc = c.leading-arc.result.arc; way = c.leading-arc.result.way; bound = to_z w64 (of_z w64 (to_z w64 (of_z w64 c.args.distance) +ℤ to_z w64 (of_z w64 (number_at c.args.residual.potentials.now c.args.end.other)))) })) (leading c.args.residual.side c.args.end).arc (leading c.args.residual.side c.args.end).way
+step : (c : After-leading-arc) → IsStep (seen c.args.residual.side c.args.residual.graph.now.rows) c.args.residual.flow.now c.args.residual.potentials.now c.args.node_labels.now (slice_set c.args.node_labels.now c.args.end.other (record { state = Open; distance = to_z w64 (of_z w64 c.args.distance); depth = depth_at c.args.node_labels.now c.args.start + 1; arc = c.leading-arc.result.arc; way = c.leading-arc.result.way; bound = to_z w64 (of_z w64 (to_z w64 (of_z w64 c.args.distance) +ℤ to_z w64 (of_z w64 (number_at c.args.residual.potentials.now c.args.end.other)))) })) (leading c.args.residual.side c.args.end).arc (leading c.args.residual.side c.args.end).way
 step c =
     let sum = fit_bound c in
     let same : to_z w64 (of_z w64 c.args.distance) ≡ c.args.distance = to_z-of_z w64 c.args.distance c.ranges.distance in
-    IsStep-put (seen c.args.residual.side c.args.residual.graph.now.rows.items) c.args.residual.flow.now c.args.residual.potentials.now c.args.node_labels.now (start_at (seen c.args.residual.side c.args.residual.graph.now.rows.items) (leading c.args.residual.side c.args.end).arc (leading c.args.residual.side c.args.end).way) (leading c.args.residual.side c.args.end).arc (leading c.args.residual.side c.args.end).way c.args.end.other
+    IsStep-put (seen c.args.residual.side c.args.residual.graph.now.rows) c.args.residual.flow.now c.args.residual.potentials.now c.args.node_labels.now (start_at (seen c.args.residual.side c.args.residual.graph.now.rows) (leading c.args.residual.side c.args.end).arc (leading c.args.residual.side c.args.end).way) (leading c.args.residual.side c.args.end).arc (leading c.args.residual.side c.args.end).way c.args.end.other
     (record { state = Open; distance = to_z w64 (of_z w64 c.args.distance); depth = depth_at c.args.node_labels.now c.args.start + 1; arc = c.leading-arc.result.arc; way = c.leading-arc.result.way; bound = to_z w64 (of_z w64 (to_z w64 (of_z w64 c.args.distance) +ℤ to_z w64 (of_z w64 (number_at c.args.residual.potentials.now c.args.end.other)))) })
     c.args.residual.certified c.requires.search c.requires.last c.requires.residual refl (sym c.requires.end.ends) refl
     (same ∙ c.requires.distance) (ap (λ (v : ℕ). depth_at c.args.node_labels.now v + 1) c.requires.start) (ap (λ (a : ResidualArc). a.arc) c.leading-arc.ensures) (ap (λ (a : ResidualArc). a.way) c.leading-arc.ensures)
@@ -78,7 +78,7 @@ step c =
 
 pub returns-clause-search : goal.returns-clause-search
 returns-clause-search c =
-    subst (λ (t : List NodeLabel). IsSearch (seen c.args.residual.side c.args.residual.graph.now.rows.items) c.args.residual.flow.now c.args.residual.potentials.now t) (sym c.improve.ensures.node_labels) (step (goal.at.returns-clause-search c).After-leading-arc).known
+    subst (λ (t : List NodeLabel). IsSearch (seen c.args.residual.side c.args.residual.graph.now.rows) c.args.residual.flow.now c.args.residual.potentials.now t) (sym c.improve.ensures.node_labels) (step (goal.at.returns-clause-search c).After-leading-arc).known
 
 pub returns-clause-improves : goal.returns-clause-improves
 returns-clause-improves c =
@@ -86,4 +86,4 @@ returns-clause-improves c =
 
 pub returns-clause-relaxed : goal.returns-clause-relaxed
 returns-clause-relaxed c =
-    subst (λ (t : List NodeLabel). IsRelaxed (seen c.args.residual.side c.args.residual.graph.now.rows.items) c.args.residual.potentials.now t (leading c.args.residual.side c.args.end).arc (leading c.args.residual.side c.args.end).way) (sym c.improve.ensures.node_labels) (step (goal.at.returns-clause-relaxed c).After-leading-arc).done
+    subst (λ (t : List NodeLabel). IsRelaxed (seen c.args.residual.side c.args.residual.graph.now.rows) c.args.residual.potentials.now t (leading c.args.residual.side c.args.end).arc (leading c.args.residual.side c.args.end).way) (sym c.improve.ensures.node_labels) (step (goal.at.returns-clause-relaxed c).After-leading-arc).done

@@ -17,15 +17,15 @@ invariant_of-self c =
     let I = t.graph.net in
     let inv = c.self.invariant in
     let asked = subst (λ (b : TablesView). length b.kept.flow ≡ length (reduced b.moment.instance).arcs) (sym c.self.view_is) c.requires in
-    let many : length (kept_in t.flow) ≡ length t.graph.rows.items = asked ∙ sym (ap length inv.graph.rows.rows_are) in
+    let many : length (kept_in t.flow) ≡ length t.graph.rows = asked ∙ sym (ap length inv.graph.rows.rows_are) in
     let size = sym (length_kept t.flow inv.flow_tracked) ∙ many ∙ sym inv.flow_in in
     let potentials = length_kept t.potentials inv.potentials_in.tracked ∙ inv.potentials_in.size_is in
     let cut = length_kept t.cut inv.cut_in.tracked ∙ inv.cut_in.size_is in
     let items = with_items_is t.balance.excess c.carry_back.new.excess (c.carry_back.auto.excess ∙ c.deref_mut.ensures.len) in
-    let before = subst (λ (r : List ArcRow). IsWrappedExcess r (sends I) t.flow.entries.items c.deref_mut.result.now) (sym c.deref.ensures.value)
-    (subst (λ (e : List ℤ). IsWrappedExcess t.graph.rows.items (sends I) t.flow.entries.items e) (sym c.deref_mut.ensures.value) inv.balance_is.excess) in
-    let after = subst (λ (r : List ArcRow). IsWrappedExcess r (sends I) t.flow.kept.items c.carry_back.new.excess) c.deref.ensures.value (c.carry_back.ensures (sends I) before) in
-    let excess = subst (λ (e : List ℤ). IsWrappedExcess t.graph.rows.items (sends I) t.flow.kept.items e) (sym items) after in
+    let before = subst (λ (r : List ArcRow). IsWrappedExcess r (sends I) t.flow.entries.items c.deref_mut.result.now) (sym c.rows.ensures)
+    (subst (λ (e : List ℤ). IsWrappedExcess t.graph.rows (sends I) t.flow.entries.items e) (sym c.deref_mut.ensures.value) inv.balance_is.excess) in
+    let after = subst (λ (r : List ArcRow). IsWrappedExcess r (sends I) t.flow.kept.items c.carry_back.new.excess) c.rows.ensures (c.carry_back.ensures (sends I) before) in
+    let excess = subst (λ (e : List ℤ). IsWrappedExcess t.graph.rows (sends I) t.flow.kept.items e) (sym items) after in
     record {
       graph = inv.graph;
       flow_tracked = c.bring_back.ensures.tracked;
@@ -34,12 +34,11 @@ invariant_of-self c =
       potentials_in = nodes_alike I.nodes c.bring_back-2.new.self (kept_in t.potentials) (kept_in t.potentials) c.bring_back-2.ensures.tracked c.bring_back-2.ensures.entries c.bring_back-2.ensures.kept potentials potentials;
       idle = subst IsIdleEntry (sym c.bring_back-2.ensures.entries) inv.kept_idle;
       kept_idle = subst IsIdleEntry (sym c.bring_back-2.ensures.kept) inv.kept_idle;
-      balance_is = balance_back I t.graph.rows.items t.flow c.bring_back.new.self t.balance _ inv.flow_tracked size c.bring_back.ensures.entries c.bring_back.ensures.whole
+      balance_is = balance_back I t.graph.rows t.flow c.bring_back.new.self t.balance _ inv.flow_tracked size c.bring_back.ensures.entries c.bring_back.ensures.whole
           (ap length items ∙ c.carry_back.auto.excess ∙ ap length c.deref_mut.ensures.value) excess refl inv.balance_is;
       cut_in = nodes_alike I.nodes c.bring_back-3.new.self (kept_in t.cut) (kept_in t.cut) c.bring_back-3.ensures.tracked c.bring_back-3.ensures.entries c.bring_back-3.ensures.kept cut cut;
       scratch_in = scratch_told _ t.scratch false inv.scratch_in;
       standing = λ none. cc;
-      rows_fit = inv.rows_fit;
       log_fits = omega (arith, inv.log_fits);
       before_is = tt;
     }

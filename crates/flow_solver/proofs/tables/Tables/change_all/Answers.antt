@@ -53,7 +53,6 @@ invariant_of-self c =
       cut_in = inv.cut_in;
       scratch_in = inv.scratch_in;
       standing = inv.standing;
-      rows_fit = inv.rows_fit;
       log_fits = inv.log_fits;
       before_is = (
         leads.can,

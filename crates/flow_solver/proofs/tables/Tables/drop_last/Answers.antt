@@ -1,4 +1,4 @@
-use Rattle.std.proofs.Common.{◌≡◌, ◌∙◌, ◌+◌, ◌-◌, ◌<◌, ◌∷◌, [], ◌+ℤ◌, ◌-ℤ◌, ◌*ℤ◌, ℕ, ℤ, List, pos, drop, ap, arith, false, length, min, refl, rules, subst, sym, w64, SFits, to_z, of_z}
+use Rattle.std.proofs.Common.{◌≡◌, ◌∙◌, ◌-◌, ◌<◌, ◌∷◌, [], ◌+ℤ◌, ◌-ℤ◌, ◌*ℤ◌, ℕ, ℤ, List, pos, drop, ap, arith, false, length, refl, rules, subst, sym, w64, SFits, to_z, of_z}
 use Rattle.std.specs.Int.{int_wrap, w128}
 use Rattle.std.specs.Vec.{with_items}
 use Rattle.std.proofs.lemmas.Int.{to_z-of_z}
@@ -7,18 +7,16 @@ use Rattle.dimacs_text.specs.declared.problem.ArcRow.{ArcRow}
 use Rattle.network.specs.Instance.{Instance}
 use Rattle.flow_solver.specs.TablesView.{TablesView}
 use Rattle.residual_graph.specs.Residual.{row_at, number_at}
-use Rattle.residual_graph.specs.Star.{Covers}
 use Rattle.augmentation.specs.Tracked.{kept_in}
 use Rattle.flow_solver.proofs.CarryLemmas.{arcs_in, balance_dropped, carried_as, ends_in}
 use Rattle.flow_solver.proofs.TablesViewLemmas.{length_kept, tables_with_arcs}
-use Rattle.residual_graph.proofs.StarLemmas.{covers_dropped}
 use Rattle.flow_solver.proofs.StandingLemmas.{scratch_told}
 use Rattle.flow_solver.proofs.tables.Tables.drop_last.Goals as goal
-use Rattle.flow_solver.proofs.tables.Tables.drop_last.Goals.{After-len-last}
+use Rattle.flow_solver.proofs.tables.Tables.drop_last.Goals.{After-rows}
 
-last_place : (c : After-len-last) → c.len-last.result - 1 < length c.self.inside.graph.rows.items
+last_place : (c : After-rows) → length c.rows.result.now - 1 < length c.self.inside.graph.rows
 last_place c =
-    let many : c.len-last.result ≡ length c.self.inside.graph.rows.items = search rules in
+    let many = ap (λ (r : List ArcRow). length r) c.rows.ensures in
     let some = subst (λ (b : TablesView). 0 < length b.moment.instance.arcs) (sym c.self.view_is) c.requires in
     let arcs = arcs_in c.self.inside.graph.net in
     omega (arith, many, some, ap (λ (r : List ArcRow). length r) c.self.invariant.graph.rows.rows_are, arcs)
@@ -26,53 +24,50 @@ last_place c =
 pub carry_over-requires-clause-tail_in : goal.carry_over-requires-clause-tail_in
 carry_over-requires-clause-tail_in c =
     let t = c.self.inside in
-    let there = last_place (goal.at.carry_over-requires-clause-tail_in c).After-len-last in
-    let ends = ends_in t.graph.net t.graph.rows.items t.balance c.self.invariant.graph.rows.lawful c.self.invariant.graph.rows.rows_are c.self.invariant.balance_is.sized (c.len-last.result - 1) there in
-    let row : c.index.result.now ≡ row_at t.graph.rows.items (c.len-last.result - 1) = c.index.ensures ∙ get_or_default t.graph.rows.items (c.len-last.result - 1) c.index.result.now _ there in
+    let there = last_place (goal.at.carry_over-requires-clause-tail_in c).After-rows in
+    let ends = ends_in t.graph.net t.graph.rows t.balance c.self.invariant.graph.rows.lawful c.self.invariant.graph.rows.rows_are c.self.invariant.balance_is.sized (length c.rows.result.now - 1) there in
+    let row : row_at c.rows-2.result.now (length c.rows.result.now - 1) ≡ row_at t.graph.rows (length c.rows.result.now - 1) = ap (λ (r : List ArcRow). row_at r (length c.rows.result.now - 1)) c.rows-2.ensures in
     omega (arith, ends.0, ap (λ a. a.tail) row, ap length c.deref_mut.ensures.value)
 
 pub carry_over-requires-clause-head_in : goal.carry_over-requires-clause-head_in
 carry_over-requires-clause-head_in c =
     let t = c.self.inside in
-    let there = last_place (goal.at.carry_over-requires-clause-head_in c).After-len-last in
-    let ends = ends_in t.graph.net t.graph.rows.items t.balance c.self.invariant.graph.rows.lawful c.self.invariant.graph.rows.rows_are c.self.invariant.balance_is.sized (c.len-last.result - 1) there in
-    let row : c.index.result.now ≡ row_at t.graph.rows.items (c.len-last.result - 1) = c.index.ensures ∙ get_or_default t.graph.rows.items (c.len-last.result - 1) c.index.result.now _ there in
+    let there = last_place (goal.at.carry_over-requires-clause-head_in c).After-rows in
+    let ends = ends_in t.graph.net t.graph.rows t.balance c.self.invariant.graph.rows.lawful c.self.invariant.graph.rows.rows_are c.self.invariant.balance_is.sized (length c.rows.result.now - 1) there in
+    let row : row_at c.rows-2.result.now (length c.rows.result.now - 1) ≡ row_at t.graph.rows (length c.rows.result.now - 1) = ap (λ (r : List ArcRow). row_at r (length c.rows.result.now - 1)) c.rows-2.ensures in
     omega (arith, ends.1, ap (λ a. a.head) row, ap length c.deref_mut.ensures.value)
 
 pub invariant_of-self : goal.invariant_of-self
 invariant_of-self c =
     let t = c.self.inside in
     let I = t.graph.net in
-    let J = c.drop_row-row.new.net in
+    let J = c.pop_arc-row.new.self.net in
     let inv = c.self.invariant in
-    let covered = subst (λ (K : Instance). Covers (K.nodes + 1) K.arcs t.graph.star) c.drop_row-row.ensures.net inv.graph.star in
-    let kept = c.keep.ensures ∙ ap (λ (n : ℕ). record t.graph.star { arcs = min t.graph.star.arcs n }) c.arcs.ensures in
-    let covers : Covers (J.nodes + 1) J.arcs c.keep.new.self =
-    subst (Covers (J.nodes + 1) J.arcs) (sym kept) (covers_dropped (J.nodes + 1) J.arcs c.drop_row-row.result t.graph.star covered) in
-    let last = c.len-last.result - 1 in
-    let there = last_place (goal.at.invariant_of-self c).After-len-last in
-    let many : c.len-last.result ≡ length c.self.inside.graph.rows.items = search rules in
-    let row : c.index.result.now ≡ row_at t.graph.rows.items last = c.index.ensures ∙ get_or_default t.graph.rows.items last c.index.result.now _ there in
-    let entry_fits : SFits w64 c.index-2.result.now = search rules in
-    let kept_fits : SFits w64 c.index-3.result.now = search rules in
-    let price_fits : SFits w64 c.index.result.now.cost = search rules in
+    let last = length c.rows.result.now - 1 in
+    let there = last_place (goal.at.invariant_of-self c).After-rows in
+    let many = ap (λ (r : List ArcRow). length r) c.rows.ensures in
+    let row : row_at c.rows-2.result.now last ≡ row_at t.graph.rows last = ap (λ (r : List ArcRow). row_at r last) c.rows-2.ensures in
+    let entry_fits : SFits w64 c.index.result.now = search rules in
+    let kept_fits : SFits w64 c.index-2.result.now = search rules in
+    let price_fits : SFits w64 (row_at c.rows-2.result.now last).cost = search rules in
     let old_fits : SFits w128 c.self.inside.balance.cost = search rules in
-    let entry : to_z w64 (of_z w64 c.index-2.result.now) ≡ number_at t.flow.entries.items last = to_z-of_z w64 c.index-2.result.now entry_fits ∙ c.index-2.ensures ∙ get_or_default t.flow.entries.items last c.index-2.result.now (pos 0) (omega (arith, there, inv.flow_in)) in
-    let was : to_z w64 (of_z w64 c.index-3.result.now) ≡ number_at t.flow.kept.items last = to_z-of_z w64 c.index-3.result.now kept_fits ∙ c.index-3.ensures ∙ get_or_default t.flow.kept.items last c.index-3.result.now (pos 0) (omega (arith, there, inv.flow_in, inv.flow_tracked.same_length)) in
-    let price : to_z w64 (of_z w64 c.index.result.now.cost) ≡ (row_at t.graph.rows.items last).cost = to_z-of_z w64 c.index.result.now.cost price_fits ∙ ap (λ a. a.cost) row in
+    let entry : to_z w64 (of_z w64 c.index.result.now) ≡ number_at t.flow.entries.items last = to_z-of_z w64 c.index.result.now entry_fits ∙ c.index.ensures ∙ get_or_default t.flow.entries.items last c.index.result.now (pos 0) (omega (arith, there, inv.flow_in)) in
+    let was : to_z w64 (of_z w64 c.index-2.result.now) ≡ number_at t.flow.kept.items last = to_z-of_z w64 c.index-2.result.now kept_fits ∙ c.index-2.ensures ∙ get_or_default t.flow.kept.items last c.index-2.result.now (pos 0) (omega (arith, there, inv.flow_in, inv.flow_tracked.same_length)) in
+    let price : to_z w64 (of_z w64 (row_at c.rows-2.result.now last).cost) ≡ (row_at t.graph.rows last).cost = to_z-of_z w64 (row_at c.rows-2.result.now last).cost price_fits ∙ ap (λ a. a.cost) row in
     let old = to_z-of_z w128 t.balance.cost old_fits in
-    let cost : to_z w128 (of_z w128 c.reprice-self-inside.result) ≡ int_wrap w128 (t.balance.cost +ℤ (pos 0 -ℤ number_at t.flow.kept.items last) *ℤ (row_at t.graph.rows.items last).cost) =
+    let cost : to_z w128 (of_z w128 c.reprice-self-inside.result) ≡ int_wrap w128 (t.balance.cost +ℤ (pos 0 -ℤ number_at t.flow.kept.items last) *ℤ (row_at t.graph.rows last).cost) =
     to_z-of_z w128 c.reprice-self-inside.result (record { sfits = c.reprice-self-inside.type_inv }) ∙ c.reprice-self-inside.ensures ∙ (λ i. int_wrap w128 (old i +ℤ (pos 0 -ℤ was i) *ℤ price i)) in
     let now = record t.balance { excess = with_items t.balance.excess c.carry_over.new.excess; cost = to_z w128 (of_z w128 c.reprice-self-inside.result) } in
     let excess = with_items_is t.balance.excess c.carry_over.new.excess (c.carry_over.auto.excess ∙ c.deref_mut.ensures.len) in
-    let carried = carried_as (row_at t.graph.rows.items last) _ (number_at t.flow.entries.items last) _ (pos 0) _ t.balance.excess.items _ now.excess.items _ row entry refl c.deref_mut.ensures.value (sym excess) c.carry_over.ensures in
-    let balance = balance_dropped I J t.graph.rows.items c.drop_row-row.new.rows.items t.flow c.pop-flow.new.self t.balance now c.drop_row-row.result c.pop-flow.result last
-    inv.graph.rows.rows_are c.drop_row-row.ensures.rows.rows_are c.drop_row-row.ensures.net c.pop-flow.ensures.tracked inv.flow_in (inv.flow_tracked.same_length ∙ inv.flow_in) c.pop-flow.ensures.entries c.pop-flow.ensures.whole
+    let carried = carried_as (row_at t.graph.rows last) _ (number_at t.flow.entries.items last) _ (pos 0) _ t.balance.excess.items _ now.excess.items _ row entry refl c.deref_mut.ensures.value (sym excess) c.carry_over.ensures in
+    let balance = balance_dropped I J t.graph.rows c.pop_arc-row.new.self.rows t.flow c.pop-flow.new.self t.balance now c.pop_arc-row.result c.pop-flow.result last
+    inv.graph.rows.rows_are c.pop_arc-row.ensures.graph.rows.rows_are c.pop_arc-row.ensures.net c.pop-flow.ensures.tracked inv.flow_in (inv.flow_tracked.same_length ∙ inv.flow_in) c.pop-flow.ensures.entries c.pop-flow.ensures.whole
     (ap (λ (n : ℕ). n - 1) many) carried cost inv.balance_is in
-    tables_with_arcs t.graph (record { net = J; star = c.keep.new.self; rows = c.drop_row-row.new.rows }) t.flow c.pop-flow.new.self t.potentials t.balance now t.cut t.scratch _ t.before
-    inv (sym (ap (λ (K : Instance). K.nodes) c.drop_row-row.ensures.net)) (sym (ap (λ (K : Instance). K.room) c.drop_row-row.ensures.net)) (record { rows = c.drop_row-row.ensures.rows; star = covers }) c.drop_row-row.ensures.room
+    let one_less = ap (λ (r : List ArcRow). length r) c.pop_arc-row.ensures.rows ∙ length-append c.pop_arc-row.new.self.rows (c.pop_arc-row.result ∷ []) in
+    tables_with_arcs t.graph c.pop_arc-row.new.self t.flow c.pop-flow.new.self t.potentials t.balance now t.cut t.scratch _ t.before
+    inv (sym (ap (λ (K : Instance). K.nodes) c.pop_arc-row.ensures.net)) (sym (ap (λ (K : Instance). K.room) c.pop_arc-row.ensures.net)) c.pop_arc-row.ensures.graph
     c.pop-flow.ensures.tracked
-    (omega (arith, ap (λ (xs : List ℤ). length xs) c.pop-flow.ensures.entries, length-append c.pop-flow.new.self.entries.items (c.pop-flow.result ∷ []), inv.flow_in, c.drop_row-row.ensures.one_less))
+    (omega (arith, ap (λ (xs : List ℤ). length xs) c.pop-flow.ensures.entries, length-append c.pop-flow.new.self.entries.items (c.pop-flow.result ∷ []), inv.flow_in, one_less))
     c.pop-flow.ensures.room balance (scratch_told _ t.scratch false inv.scratch_in) (λ none. cc)
 
 pub returns-clause-kept : goal.returns-clause-kept
@@ -80,6 +75,7 @@ returns-clause-kept c asked =
     let t = c.self.inside in
     let inv = c.self.invariant in
     let view = ap (λ (b : TablesView). length b.kept.flow) c.self.view_is in
-    let less : t.flow.size < length t.flow.entries.items = omega (arith, asked, view, length_kept t.flow inv.flow_tracked, ap (λ (r : List ArcRow). length r) c.drop_row-row.ensures.rows.rows_are, c.drop_row-row.ensures.one_less, inv.flow_in) in
+    let one_less = ap (λ (r : List ArcRow). length r) c.pop_arc-row.ensures.rows ∙ length-append c.pop_arc-row.new.self.rows (c.pop_arc-row.result ∷ []) in
+    let less : t.flow.size < length t.flow.entries.items = omega (arith, asked, view, length_kept t.flow inv.flow_tracked, ap (λ (r : List ArcRow). length r) c.pop_arc-row.ensures.graph.rows.rows_are, one_less, inv.flow_in) in
     ap (λ (x : List ℤ). record { flow = x; potentials = drop 1 (kept_in t.potentials); cut = drop 1 (kept_in t.cut); log = t.before.log.items }) (c.pop-flow.ensures.kept less)
     ∙ ap (λ (b : TablesView). b.kept) c.self.view_is

@@ -1,7 +1,7 @@
 use Rattle.std.proofs.Common.{◌≡◌, ◌∙◌, ◌-◌, ◌≤◌, ◌↔◌, ℕ, ℤ, List, Some, pos, IsTrue, ap, length, rules, slice_index_or, subst, sym, w64, SFits, to_z, of_z}
 use Rattle.std.proofs.lemmas.Int.{to_z-of_z}
 use Rattle.dimacs_text.specs.declared.problem.ArcRow.{ArcRow}
-use Rattle.network.specs.Instance.{arc_at, reduced}
+use Rattle.network.specs.Instance.{Instance, arc_at, reduced}
 use Rattle.residual_graph.specs.Residual.{row_at, number_at}
 use Rattle.flow_solver.specs.Edit.{KeepsResidualArcs}
 use Rattle.flow_solver.specs.TablesView.{TablesView, flow_index}
@@ -14,7 +14,7 @@ arc_of-old-requires-clause-there c =
     let I = c.self.inside.graph.net in
     let at = subst (λ (b : TablesView). (1 ≤ c.args.k) × (c.args.k ≤ length b.moment.instance.arcs)) (sym c.self.view_is) c.requires.arc in
     let there = arc_there I.arcs c.args.k at in
-    (there.0, subst (λ (k : ℕ). arc_at I.arcs k ≡ Some there.0) (sym c.from.ensures) there.1)
+    (there.0, subst (λ (J : Instance). arc_at J.arcs c.from.result ≡ Some there.0) (sym c.network.ensures) (subst (λ (k : ℕ). arc_at I.arcs k ≡ Some there.0) (sym c.from.ensures) there.1))
 
 pub returns : goal.returns
 returns c =
@@ -25,7 +25,7 @@ returns c =
     let row = c.args.row.now in
     let old = c.arc_of-old.result in
     let at = subst (λ (b : TablesView). (1 ≤ k) × (k ≤ length b.moment.instance.arcs)) (sym c.self.view_is) c.requires.arc in
-    let there = subst (λ (n : ℕ). arc_at I.arcs n ≡ Some old) c.from.ensures c.arc_of-old.ensures in
+    let there = subst (λ (n : ℕ). arc_at I.arcs n ≡ Some old) c.from.ensures (subst (λ (J : Instance). arc_at J.arcs c.from.result ≡ Some old) c.network.ensures c.arc_of-old.ensures) in
     let placed : row_at (reduced m.instance).arcs (flow_index m.instance.demand k) ≡ old =
     subst (λ (b : TablesView). row_at (reduced b.moment.instance).arcs (flow_index b.moment.instance.demand k) ≡ old) c.self.view_is (arc_placed I k old at there) in
     let entry = slice_index_or c.flow.result.now (k - 1) (pos 0) in

@@ -1,12 +1,13 @@
 use Rattle.std.proofs.Common.{◌≡◌, ◌∙◌, ◌++◌, ◌∷◌, [], ℤ, List, pos, ap, subst, sym, rules, w64, SFits, to_z, of_z}
 use Rattle.std.proofs.lemmas.Int.{to_z-of_z}
 use Rattle.network.specs.Flow.{IsCertifiedFlow, reduced_cost}
-use Rattle.network.specs.Instance.{IsLawful, at_node, reduced}
+use Rattle.network.specs.Instance.{Instance, IsLawful, at_node, reduced}
 use Rattle.flow_solver.specs.Answer.{AreGreatestPotentials}
 use Rattle.flow_solver.specs.Edit.{IsAddEdit, IsMade, IsNearest}
 use Rattle.flow_solver.specs.Moment.{Moment}
 use Rattle.flow_solver.specs.TablesView.{TablesView}
-use Rattle.flow_solver.proofs.ChangeLemmas.{certified_more, with_last}
+use Rattle.residual_graph.proofs.GraphLemmas.{with_last}
+use Rattle.flow_solver.proofs.ChangeLemmas.{certified_more}
 use Rattle.flow_solver.proofs.EditRows.{add_made}
 use Rattle.flow_solver.proofs.StandingLemmas.{greatest_more, tables_told}
 use Rattle.flow_solver.proofs.tables.Tables.make_arc.Goals as goal
@@ -49,7 +50,7 @@ returns-clause-made c =
     let s = (goal.at.returns-clause-made c).After-put_last in
     let now = ap (λ (d : TablesView). d.moment) c.self-2.view_is ∙ moment_is s in
     let lawful = subst (λ (b : TablesView). IsLawful b.moment.instance) c.self.view_is c.self.invariant.graph.rows.lawful in
-    let edit = subst (λ (b : TablesView). IsAddEdit b.moment.instance c.args.edit.now c.added_row-row.result) c.self.view_is c.added_row-row.ensures in
+    let edit = subst (λ (b : TablesView). IsAddEdit b.moment.instance c.args.edit.now c.added_row-row.result) c.self.view_is (subst (λ (I : Instance). IsAddEdit I c.args.edit.now c.added_row-row.result) c.network.ensures c.added_row-row.ensures) in
     subst (λ (n : Moment). IsMade m.instance n.instance c.args.edit.now (at_node m.potentials) m.flow n.flow) (sym now)
     (add_made m.instance c.args.edit.now c.added_row-row.result (at_node m.potentials) m.flow (after s) lawful c.requires.certified edit (near s))
 

@@ -1,20 +1,22 @@
 use Rattle.std.proofs.Common.{◌≡◌, ◌∙◌, ◌-◌, ℤ, List, pos, true, false, ap, subst, sym, rules, slice_set, slice_index_or, w64, SFits, to_z, of_z}
 use Rattle.std.proofs.lemmas.Int.{to_z-of_z}
 use Rattle.network.specs.Flow.{IsCertifiedFlow, reduced_cost}
-use Rattle.network.specs.Instance.{IsLawful, at_node, reduced}
+use Rattle.network.specs.Instance.{Instance, IsLawful, at_node, reduced}
 use Rattle.residual_graph.specs.Residual.{row_at, number_at}
 use Rattle.flow_solver.specs.TablesView.{TablesView, flow_index}
 use Rattle.flow_solver.specs.Answer.{AreGreatestPotentials}
 use Rattle.flow_solver.specs.Edit.{IsMade, IsNearest, IsRowEdit, KeepsResidualArcs}
 use Rattle.flow_solver.specs.Moment.{Moment}
-use Rattle.flow_solver.proofs.ChangeLemmas.{certified_changed, flow_at, with_row}
+use Rattle.residual_graph.proofs.GraphLemmas.{with_row}
+use Rattle.flow_solver.proofs.ChangeLemmas.{certified_changed, flow_at}
 use Rattle.flow_solver.proofs.EditRows.{row_made}
 use Rattle.flow_solver.proofs.StandingLemmas.{greatest_changed, tables_told}
 use Rattle.flow_solver.proofs.tables.Tables.make_row.Goals as goal
 use Rattle.flow_solver.proofs.tables.Tables.make_row.Goals.{After-swap_flow, then-self, else-self}
 
 edit_is : (c : After-swap_flow) → IsRowEdit c.args.self.now.moment.instance c.args.edit.now c.edited_row-k.result.0 c.edited_row-k.result.1
-edit_is c = subst (λ (b : TablesView). IsRowEdit b.moment.instance c.args.edit.now c.edited_row-k.result.0 c.edited_row-k.result.1) c.self.view_is c.edited_row-k.ensures
+edit_is c = subst (λ (b : TablesView). IsRowEdit b.moment.instance c.args.edit.now c.edited_row-k.result.0 c.edited_row-k.result.1) c.self.view_is
+    (subst (λ (I : Instance). IsRowEdit I c.args.edit.now c.edited_row-k.result.0 c.edited_row-k.result.1) c.network.ensures c.edited_row-k.ensures)
 
 -- the flow that the arc gets
 abbrev after : After-swap_flow → ℤ

@@ -1,6 +1,6 @@
 use Rattle.std.proofs.Common.{◌∙◌, ℤ, ap, subst, sym, rules, w64, SFits}
 use Rattle.std.proofs.lemmas.Int.{to_z-of_z}
-use Rattle.network.specs.Instance.{IsLawful, at_node}
+use Rattle.network.specs.Instance.{Instance, IsLawful, at_node}
 use Rattle.flow_solver.specs.Edit.{IsMade, IsSupplyEdit}
 use Rattle.flow_solver.specs.Moment.{Moment}
 use Rattle.flow_solver.specs.TablesView.{TablesView}
@@ -12,7 +12,8 @@ pub returns-clause-made : goal.returns-clause-made
 returns-clause-made c =
     let m = c.args.self.now.moment in
     let lawful = subst (λ (b : TablesView). IsLawful b.moment.instance) c.self.view_is c.self.invariant.graph.rows.lawful in
-    let edit = subst (λ (b : TablesView). IsSupplyEdit b.moment.instance c.args.edit.now c.edited_supply-id.result.0 c.edited_supply-id.result.1) c.self.view_is c.edited_supply-id.ensures in
+    let edit = subst (λ (b : TablesView). IsSupplyEdit b.moment.instance c.args.edit.now c.edited_supply-id.result.0 c.edited_supply-id.result.1) c.self.view_is
+    (subst (λ (I : Instance). IsSupplyEdit I c.args.edit.now c.edited_supply-id.result.0 c.edited_supply-id.result.1) c.network.ensures c.edited_supply-id.ensures) in
     let id = c.edited_supply-id.result.0 in
     let value = c.edited_supply-id.result.1 in
     let fits : SFits w64 value = search rules in

@@ -4,7 +4,7 @@ use Rattle.std.proofs.lemmas.List.{with_items_is}
 use Rattle.std.proofs.lemmas.Int.{ints}
 use Rattle.dimacs_text.specs.declared.problem.ArcRow.{ArcRow}
 use Rattle.network.specs.Flow.{AllWithinBounds, IsCertifiedFlow, total_excess}
-use Rattle.network.specs.Instance.{at_node, reduced}
+use Rattle.network.specs.Instance.{Instance, at_node, reduced}
 use Rattle.network.proofs.Reduction.{reduced_ends}
 use Rattle.augmentation.specs.Limits.{cap_sum_limit}
 use Rattle.residual_graph.specs.Limits.{entry_limit}
@@ -36,18 +36,18 @@ settle-pushes-requires-clause-potentials_in c =
 pub settle-pushes-requires-clause-small : goal.settle-pushes-requires-clause-small
 settle-pushes-requires-clause-small c =
     subst AreSmall (sym c.deref_mut.ensures.value)
-    (exact_of_certified c.self.inside.graph.net c.self.inside.graph.rows.items c.self.inside.flow.entries.items c.self.inside.balance.excess.items (at_node (drop 1 c.self.inside.potentials.entries.items)) c.self.invariant.graph.rows.lawful c.self.invariant.graph.rows.rows_are (subst (λ (b : TablesView). IsCertifiedFlow (reduced b.moment.instance) b.moment.flow (at_node b.moment.potentials)) (sym c.self.view_is) c.requires) c.self.invariant.balance_is.excess).small
+    (exact_of_certified c.self.inside.graph.net c.self.inside.graph.rows c.self.inside.flow.entries.items c.self.inside.balance.excess.items (at_node (drop 1 c.self.inside.potentials.entries.items)) c.self.invariant.graph.rows.lawful c.self.invariant.graph.rows.rows_are (subst (λ (b : TablesView). IsCertifiedFlow (reduced b.moment.instance) b.moment.flow (at_node b.moment.potentials)) (sym c.self.view_is) c.requires) c.self.invariant.balance_is.excess).small
 
 -- the flow is certified before
 certified_in : (c : After-settle-pushes) → IsCertifiedFlow (reduced c.self.inside.graph.net) c.self.inside.flow.entries.items (at_node (drop 1 c.self.inside.potentials.entries.items))
 certified_in c = subst (λ (b : TablesView). IsCertifiedFlow (reduced b.moment.instance) b.moment.flow (at_node b.moment.potentials)) (sym c.self.view_is) c.requires
 
 -- what lay in excess before
-excess_before : (c : After-settle-pushes) → IsExcess c.self.inside.graph.rows.items (held c.self.inside.graph.net.nodes (reduced c.self.inside.graph.net).supply) c.self.inside.flow.entries.items c.deref_mut.result.now
+excess_before : (c : After-settle-pushes) → IsExcess c.self.inside.graph.rows (held c.self.inside.graph.net.nodes (reduced c.self.inside.graph.net).supply) c.self.inside.flow.entries.items c.deref_mut.result.now
 excess_before c =
     let supply = held c.self.inside.graph.net.nodes (reduced c.self.inside.graph.net).supply in
-    subst (λ (e : List ℤ). IsExcess c.self.inside.graph.rows.items supply c.self.inside.flow.entries.items e) (sym c.deref_mut.ensures.value)
-    (exact_of_certified c.self.inside.graph.net c.self.inside.graph.rows.items c.self.inside.flow.entries.items c.self.inside.balance.excess.items (at_node (drop 1 c.self.inside.potentials.entries.items)) c.self.invariant.graph.rows.lawful c.self.invariant.graph.rows.rows_are (certified_in c) c.self.invariant.balance_is.excess).excess
+    subst (λ (e : List ℤ). IsExcess c.self.inside.graph.rows supply c.self.inside.flow.entries.items e) (sym c.deref_mut.ensures.value)
+    (exact_of_certified c.self.inside.graph.net c.self.inside.graph.rows c.self.inside.flow.entries.items c.self.inside.balance.excess.items (at_node (drop 1 c.self.inside.potentials.entries.items)) c.self.invariant.graph.rows.lawful c.self.invariant.graph.rows.rows_are (certified_in c) c.self.invariant.balance_is.excess).excess
 
 -- what lies in excess after the searches
 excess_is : (c : After-settle-pushes) → (with_items c.self.inside.balance.excess c.settle-pushes.new.excess).items ≡ c.settle-pushes.new.excess
@@ -60,7 +60,7 @@ excess_in c = c.settle-pushes.auto.excess ∙ ap length c.deref_mut.ensures.valu
 end : (c : After-settle-pushes) → IsEnd c.self.inside.graph.net c.settle-pushes.new.flow.entries.items c.settle-pushes.new.potentials.entries.items c.settle-pushes.new.excess c.settle-pushes.new.cut.entries.items
 end c =
     let supply = held c.self.inside.graph.net.nodes (reduced c.self.inside.graph.net).supply in
-    end_of c.self.inside.graph.net c.self.inside.graph.rows.items c.settle-pushes.new.flow.entries.items c.settle-pushes.new.potentials.entries.items c.settle-pushes.new.excess c.settle-pushes.new.cut.entries.items c.self.invariant.graph.rows.lawful c.self.invariant.graph.rows.rows_are
+    end_of c.self.inside.graph.net c.self.inside.graph.rows c.settle-pushes.new.flow.entries.items c.settle-pushes.new.potentials.entries.items c.settle-pushes.new.excess c.settle-pushes.new.cut.entries.items c.self.invariant.graph.rows.lawful c.self.invariant.graph.rows.rows_are
     c.settle-pushes.ensures.potentials_in (excess_in c) (c.settle-pushes.ensures.cut_written.same_length ∙ c.self.invariant.cut_in.entries_in)
     c.settle-pushes.ensures.certified
     (c.settle-pushes.ensures.excess supply (excess_before c)) (c.settle-pushes.ensures.cut supply (excess_before c))
@@ -68,16 +68,16 @@ end c =
 few : (c : After-settle-pushes) → c.self.inside.graph.net.nodes + 1 ≤ entry_limit
 few c = few_entries c.self.inside.graph.net c.self.invariant.graph.rows.lawful
 
-rows_in : (c : After-settle-pushes) → AreRows c.self.inside.graph.rows.items
+rows_in : (c : After-settle-pushes) → AreRows c.self.inside.graph.rows
 rows_in c k lt = (let row = c.settle-pushes.ensures.certified.flow.rows k lt in (row.low_at_least_0, row.low_at_most_cap))
 
-caps : (c : After-settle-pushes) → cap_total c.self.inside.graph.rows.items ≤ cap_sum_limit
+caps : (c : After-settle-pushes) → cap_total c.self.inside.graph.rows ≤ cap_sum_limit
 caps c = subst (λ (r : List ArcRow). cap_total r ≤ cap_sum_limit) (sym c.self.invariant.graph.rows.rows_are) (caps_of_instance c.self.inside.graph.net c.self.invariant.graph.rows.lawful)
 
 pub judge-self-inside-requires-clause-bounds : goal.judge-self-inside-requires-clause-bounds
 judge-self-inside-requires-clause-bounds c =
-    subst (λ (r : List ArcRow). AllWithinBounds r c.settle-pushes.new.flow.entries.items) (sym c.deref.ensures.value)
-    (bounds_from c.self.inside.graph.rows.items c.settle-pushes.new.flow.entries.items c.settle-pushes.ensures.certified.flow.same_length c.settle-pushes.ensures.certified.flow.within)
+    subst (λ (r : List ArcRow). AllWithinBounds r c.settle-pushes.new.flow.entries.items) (sym c.rows.ensures)
+    (bounds_from c.self.inside.graph.rows c.settle-pushes.new.flow.entries.items c.settle-pushes.ensures.certified.flow.same_length c.settle-pushes.ensures.certified.flow.within)
 
 pub judge-self-inside-requires-clause-small : goal.judge-self-inside-requires-clause-small
 judge-self-inside-requires-clause-small c =
@@ -88,21 +88,22 @@ judge-self-inside-requires-clause-left_fits c =
     let s = (goal.at.judge-self-inside-requires-clause-left_fits c).After-settle-pushes in
     let supply = held c.self.inside.graph.net.nodes (reduced c.self.inside.graph.net).supply in
     subst (λ (e : List ℤ). left e < 9223372036854775808) (sym (excess_is s))
-    (left_fits c.self.inside.graph.rows.items supply c.settle-pushes.new.excess c.settle-pushes.new.cut.entries.items (supplies_of_instance c.self.inside.graph.net c.self.invariant.graph.rows.lawful) (rows_in s) (caps s) (omega (arith, few s, (end s).cut_in)) (c.settle-pushes.ensures.cut supply (excess_before s)))
+    (left_fits c.self.inside.graph.rows supply c.settle-pushes.new.excess c.settle-pushes.new.cut.entries.items (supplies_of_instance c.self.inside.graph.net c.self.invariant.graph.rows.lawful) (rows_in s) (caps s) (omega (arith, few s, (end s).cut_in)) (c.settle-pushes.ensures.cut supply (excess_before s)))
 
 pub judge-self-inside-requires-clause-lack_fits : goal.judge-self-inside-requires-clause-lack_fits
 judge-self-inside-requires-clause-lack_fits c =
     let s = (goal.at.judge-self-inside-requires-clause-lack_fits c).After-settle-pushes in
     let supply = held c.self.inside.graph.net.nodes (reduced c.self.inside.graph.net).supply in
     subst (λ (e : List ℤ). left e ≡ 0 → lack e < 9223372036854775808) (sym (excess_is s))
-    (lack_fits c.self.inside.graph.rows.items supply c.settle-pushes.new.excess c.settle-pushes.new.cut.entries.items (supplies_of_instance c.self.inside.graph.net c.self.invariant.graph.rows.lawful) (rows_in s) (caps s) (omega (arith, few s, (end s).cut_in)) (c.settle-pushes.ensures.cut supply (excess_before s)))
+    (lack_fits c.self.inside.graph.rows supply c.settle-pushes.new.excess c.settle-pushes.new.cut.entries.items (supplies_of_instance c.self.inside.graph.net c.self.invariant.graph.rows.lawful) (rows_in s) (caps s) (omega (arith, few s, (end s).cut_in)) (c.settle-pushes.ensures.cut supply (excess_before s)))
 
 judged : (c : After-judge-self-inside) → IsJudged (worth_by c.self.inside.graph.net.demand (reduced c.self.inside.graph.net).arcs c.settle-pushes.new.flow.entries.items) c.settle-pushes.new.excess c.judge-self-inside.result
 judged c =
     let excess_is = with_items_is c.self.inside.balance.excess c.settle-pushes.new.excess (c.settle-pushes.auto.excess ∙ c.deref_mut.ensures.len) in
     subst (λ (r : List ArcRow). IsJudged (worth_by c.self.inside.graph.net.demand r c.settle-pushes.new.flow.entries.items) c.settle-pushes.new.excess c.judge-self-inside.result) c.self.invariant.graph.rows.rows_are
-    (subst (λ (e : List ℤ). IsJudged (worth_by c.self.inside.graph.net.demand c.self.inside.graph.rows.items c.settle-pushes.new.flow.entries.items) e c.judge-self-inside.result) excess_is
-    (subst (λ (r : List ArcRow). IsJudged (worth_by c.self.inside.graph.net.demand r c.settle-pushes.new.flow.entries.items) (with_items c.self.inside.balance.excess c.settle-pushes.new.excess).items c.judge-self-inside.result) c.deref.ensures.value c.judge-self-inside.ensures))
+    (subst (λ (e : List ℤ). IsJudged (worth_by c.self.inside.graph.net.demand c.self.inside.graph.rows c.settle-pushes.new.flow.entries.items) e c.judge-self-inside.result) excess_is
+    (subst (λ (r : List ArcRow). IsJudged (worth_by c.self.inside.graph.net.demand r c.settle-pushes.new.flow.entries.items) (with_items c.self.inside.balance.excess c.settle-pushes.new.excess).items c.judge-self-inside.result) c.rows.ensures
+    (subst (λ (I : Instance). IsJudged (worth_by I.demand c.rows.result.now c.settle-pushes.new.flow.entries.items) (with_items c.self.inside.balance.excess c.settle-pushes.new.excess).items c.judge-self-inside.result) c.network.ensures c.judge-self-inside.ensures)))
 
 pub invariant_of-self : goal.invariant_of-self
 invariant_of-self c =
@@ -112,15 +113,15 @@ invariant_of-self c =
     let s = (goal.at.invariant_of-self c).After-settle-pushes in
     let supply = held t.graph.net.nodes (reduced t.graph.net).supply in
     let now = record t.balance { excess = with_items t.balance.excess call.new.excess } in
-    let balance : IsBalanceOf t.graph.net t.graph.rows.items call.new.flow now = record {
+    let balance : IsBalanceOf t.graph.net t.graph.rows call.new.flow now = record {
       sized = ap length (excess_is s) ∙ excess_in s;
-      excess = subst (λ (e : List ℤ). IsWrappedExcess t.graph.rows.items supply call.new.flow.entries.items e) (sym (excess_is s))
-          (wrapped_small t.graph.rows.items supply call.new.flow.entries.items call.new.excess (call.ensures.excess supply (excess_before s)) call.ensures.small);
-      cost = subst (λ (k : List ℤ). IsWrappedCost t.graph.rows.items k t.balance.cost) (ap (λ v. v.items) (sym call.ensures.flow_written.kept)) inv.balance_is.cost;
+      excess = subst (λ (e : List ℤ). IsWrappedExcess t.graph.rows supply call.new.flow.entries.items e) (sym (excess_is s))
+          (wrapped_small t.graph.rows supply call.new.flow.entries.items call.new.excess (call.ensures.excess supply (excess_before s)) call.ensures.small);
+      cost = subst (λ (k : List ℤ). IsWrappedCost t.graph.rows k t.balance.cost) (ap (λ v. v.items) (sym call.ensures.flow_written.kept)) inv.balance_is.cost;
     } in
     let many = call.ensures.potentials_written.same_length ∙ inv.potentials_in.entries_in in
     tables_written t.graph t.graph t.flow call.new.flow t.potentials call.new.potentials t.balance now t.cut call.new.cut t.scratch call.new.scratch t.before
-    inv refl refl inv.graph refl (omega arith) call.ensures.flow_written call.ensures.potentials_written (call.ensures.potentials_in.at_least 0, call.ensures.potentials_in.at_most_0 0) balance call.ensures.cut_written
+    inv refl refl inv.graph refl call.ensures.flow_written call.ensures.potentials_written (call.ensures.potentials_in.at_least 0, call.ensures.potentials_in.at_most_0 0) balance call.ensures.cut_written
     (subst (λ (n : ℕ). IsScratchFor n call.new.scratch) many call.ensures.scratch) (λ stands. call.ensures.greatest)
 
 pub returns-clause-answered : goal.returns-clause-answered

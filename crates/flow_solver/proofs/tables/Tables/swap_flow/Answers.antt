@@ -2,6 +2,7 @@ use Rattle.std.proofs.Common.{◌≡◌, ◌∙◌, ◌≤◌, ◌-◌, ◌+◌,
 use Rattle.std.specs.Prelude.{slice_index_or}
 use Rattle.std.proofs.lemmas.Int.{to_z-of_z}
 use Rattle.std.proofs.lemmas.List.{get_or_default, with_items_is}
+use Rattle.dimacs_text.specs.declared.problem.ArcRow.{ArcRow}
 use Rattle.flow_solver.specs.TablesView.{TablesView, flow_index}
 use Rattle.residual_graph.specs.Residual.{row_at, number_at}
 use Rattle.flow_solver.proofs.CarryLemmas.{IsPlace, balance_set, carried_as, ends_in, place_is}
@@ -14,11 +15,11 @@ use Rattle.flow_solver.proofs.tables.Tables.swap_flow.Goals.{After-first_row}
 abbrev place_in_rows : After-first_row → ℕ
 place_in_rows c = c.first_row.result + (c.args.k - 1)
 
-place_there : (c : After-first_row) → IsPlace c.self.inside.graph.net c.self.inside.graph.rows.items c.args.k (place_in_rows c)
+place_there : (c : After-first_row) → IsPlace c.self.inside.graph.net c.self.inside.graph.rows c.args.k (place_in_rows c)
 place_there c =
     let I = c.self.inside.graph.net in
     let at = subst (λ (b : TablesView). (1 ≤ c.args.k) × (c.args.k ≤ length b.moment.instance.arcs)) (sym c.self.view_is) c.requires.there in
-    place_is I c.self.inside.graph.rows.items c.args.k (place_in_rows c) c.self.invariant.graph.rows.rows_are at
+    place_is I c.self.inside.graph.rows c.args.k (place_in_rows c) c.self.invariant.graph.rows.rows_are at
     (omega (arith, c.first_row.ensures))
 
 pub carry_over-requires-clause-tail_in : goal.carry_over-requires-clause-tail_in
@@ -27,8 +28,8 @@ carry_over-requires-clause-tail_in c =
     let before = (goal.at.carry_over-requires-clause-tail_in c).After-first_row in
     let place = place_in_rows before in
     let there = (place_there before).in_rows in
-    let ends = ends_in t.graph.net t.graph.rows.items t.balance c.self.invariant.graph.rows.lawful c.self.invariant.graph.rows.rows_are c.self.invariant.balance_is.sized place there in
-    let row : c.index.result.now ≡ row_at t.graph.rows.items place = c.index.ensures ∙ get_or_default t.graph.rows.items place c.index.result.now _ there in
+    let ends = ends_in t.graph.net t.graph.rows t.balance c.self.invariant.graph.rows.lawful c.self.invariant.graph.rows.rows_are c.self.invariant.balance_is.sized place there in
+    let row : row_at c.rows.result.now place ≡ row_at t.graph.rows place = ap (λ (r : List ArcRow). row_at r place) c.rows.ensures in
     omega (arith, ends.0, ap (λ a. a.tail) row, ap length c.deref_mut.ensures.value)
 
 pub carry_over-requires-clause-head_in : goal.carry_over-requires-clause-head_in
@@ -37,8 +38,8 @@ carry_over-requires-clause-head_in c =
     let before = (goal.at.carry_over-requires-clause-head_in c).After-first_row in
     let place = place_in_rows before in
     let there = (place_there before).in_rows in
-    let ends = ends_in t.graph.net t.graph.rows.items t.balance c.self.invariant.graph.rows.lawful c.self.invariant.graph.rows.rows_are c.self.invariant.balance_is.sized place there in
-    let row : c.index.result.now ≡ row_at t.graph.rows.items place = c.index.ensures ∙ get_or_default t.graph.rows.items place c.index.result.now _ there in
+    let ends = ends_in t.graph.net t.graph.rows t.balance c.self.invariant.graph.rows.lawful c.self.invariant.graph.rows.rows_are c.self.invariant.balance_is.sized place there in
+    let row : row_at c.rows.result.now place ≡ row_at t.graph.rows place = ap (λ (r : List ArcRow). row_at r place) c.rows.ensures in
     omega (arith, ends.1, ap (λ a. a.head) row, ap length c.deref_mut.ensures.value)
 
 pub invariant_of-self : goal.invariant_of-self
@@ -48,16 +49,16 @@ invariant_of-self c =
     let before = (goal.at.invariant_of-self c).After-first_row in
     let place = place_in_rows before in
     let there = (place_there before).in_rows in
-    let row : c.index.result.now ≡ row_at t.graph.rows.items place = c.index.ensures ∙ get_or_default t.graph.rows.items place c.index.result.now _ there in
-    let entry_fits : SFits w64 c.index-2.result.now = search rules in
-    let entry = to_z-of_z w64 c.index-2.result.now entry_fits ∙ c.index-2.ensures ∙ get_or_default t.flow.entries.items place c.index-2.result.now (pos 0) (omega (arith, there, inv.flow_in)) in
+    let row : row_at c.rows.result.now place ≡ row_at t.graph.rows place = ap (λ (r : List ArcRow). row_at r place) c.rows.ensures in
+    let entry_fits : SFits w64 c.index.result.now = search rules in
+    let entry = to_z-of_z w64 c.index.result.now entry_fits ∙ c.index.ensures ∙ get_or_default t.flow.entries.items place c.index.result.now (pos 0) (omega (arith, there, inv.flow_in)) in
     let value_fits : SFits w64 c.args.value.now = search rules in
     let value = to_z-of_z w64 c.args.value.now value_fits in
     let excess = with_items_is t.balance.excess c.carry_over.new.excess (c.carry_over.auto.excess ∙ c.deref_mut.ensures.len) in
-    let carried = carried_as (row_at t.graph.rows.items place) _ (number_at t.flow.entries.items place) _ c.args.value.now _ t.balance.excess.items _ _ _ row entry value c.deref_mut.ensures.value (sym excess) c.carry_over.ensures in
-    let balance = balance_set t.graph.net t.graph.rows.items t.flow c.exchange.new.self t.balance _ place c.args.value.now there inv.flow_in carried refl c.exchange.ensures.entries c.exchange.ensures.written.kept inv.balance_is in
+    let carried = carried_as (row_at t.graph.rows place) _ (number_at t.flow.entries.items place) _ c.args.value.now _ t.balance.excess.items _ _ _ row entry value c.deref_mut.ensures.value (sym excess) c.carry_over.ensures in
+    let balance = balance_set t.graph.net t.graph.rows t.flow c.exchange.new.self t.balance _ place c.args.value.now there inv.flow_in carried refl c.exchange.ensures.entries c.exchange.ensures.written.kept inv.balance_is in
     tables_written t.graph t.graph t.flow c.exchange.new.self t.potentials t.potentials t.balance _ t.cut t.cut t.scratch _ t.before
-    inv refl refl inv.graph refl (omega arith) c.exchange.ensures.written (IsWritten-same t.potentials inv.potentials_in.tracked)
+    inv refl refl inv.graph refl c.exchange.ensures.written (IsWritten-same t.potentials inv.potentials_in.tracked)
     inv.idle balance (IsWritten-same t.cut inv.cut_in.tracked)
     (scratch_told _ t.scratch false inv.scratch_in) (λ none. cc)
 

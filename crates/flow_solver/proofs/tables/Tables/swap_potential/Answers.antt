@@ -1,4 +1,4 @@
-use Rattle.std.proofs.Common.{◌≡◌, ℤ, arith, false, pos, refl, subst, sym}
+use Rattle.std.proofs.Common.{◌≡◌, ℤ, false, pos, refl, subst, sym}
 use Rattle.std.specs.Prelude.{◌≤ℤ◌, neg_ℤ}
 use Rattle.shortest_paths.specs.Limits.{label_floor}
 use Rattle.residual_graph.specs.Residual.{number_at}
@@ -13,6 +13,6 @@ invariant_of-self c =
     let inv = c.self.invariant in
     let same : number_at c.exchange_node.new.table.entries.items 0 ≡ number_at t.potentials.entries.items 0 = c.exchange_node.ensures.no_node (pos 0) in
     tables_written t.graph t.graph t.flow t.flow t.potentials c.exchange_node.new.table t.balance t.balance t.cut t.cut t.scratch _ t.before
-    inv refl refl inv.graph refl (omega arith) (IsWritten-same t.flow inv.flow_tracked) c.exchange_node.ensures.written
+    inv refl refl inv.graph refl (IsWritten-same t.flow inv.flow_tracked) c.exchange_node.ensures.written
     (subst (λ (x : ℤ). (neg_ℤ (pos label_floor) ≤ℤ x) × (x ≤ℤ pos 0)) (sym same) inv.idle) inv.balance_is (IsWritten-same t.cut inv.cut_in.tracked)
     (scratch_told _ t.scratch false inv.scratch_in) (λ none. cc)

@@ -1,5 +1,6 @@
 use Rattle.std.proofs.Common.{◌≡◌, ◌+◌, ◌*◌, ◌/◌, ◌<◌, ◌∙◌, ℕ, ap, arith, inl, inr, length, subst, sym}
-use Rattle.network.specs.Ends.{last_end_below}
+use Rattle.network.specs.Ends.{end_node, last_end_below}
+use Rattle.network.specs.Instance.{Instance, IsLawful}
 use Rattle.residual_graph.specs.declared.walk.Stage.{Stage}
 use Rattle.residual_graph.specs.declared.walk.Stage.TheVariants.{Added}
 use Rattle.residual_graph.specs.declared.walk.Walk.{Walk}
@@ -19,11 +20,15 @@ next_is : (c : After-next_end) → IsNextEnd c.args.graph.now.net.arcs c.args.se
 next_is c =
     let arcs = c.args.graph.now.net.arcs in
     let stands : StandsIn c.args.graph.now c.args.self.now.node c.args.self.now.first_row (Added c.in-Added.end) = subst (StandsIn c.args.graph.now c.args.self.now.node c.args.self.now.first_row) c.in-Added.is c.requires.walk.stands in
-    let next : c.next_end.result ≡ last_end_below arcs c.args.self.now.node c.in-Added.end = subst (λ (v : ℕ). c.next_end.result ≡ last_end_below arcs v c.in-Added.end) stands.2 (c.next_end.ensures.end stands.1) in
+    let ended = subst (λ (I : Instance). c.in-Added.end < 2 * length I.arcs → c.next_end.result ≡ last_end_below I.arcs (end_node I.arcs c.in-Added.end) c.in-Added.end) c.network.ensures c.next_end.ensures.end in
+    let next : c.next_end.result ≡ last_end_below arcs c.args.self.now.node c.in-Added.end = subst (λ (v : ℕ). c.next_end.result ≡ last_end_below arcs v c.in-Added.end) stands.2 (ended stands.1) in
     subst (IsNextEnd arcs c.args.self.now.node c.in-Added.end) (sym next) (next_end_is arcs c.args.self.now.node c.in-Added.end)
 
 first_is : (c : After-first_end) → IsNextEnd c.args.graph.now.net.arcs c.args.self.now.node (2 * length c.args.graph.now.net.arcs) c.first_end.result
-first_is c = first_end_is c.args.graph.now.net c.args.self.now.node c.first_end.result c.requires.walk.at.graph.rows.lawful c.first_end.ensures.node c.first_end.ensures.no_node
+first_is c =
+    let node = c.args.self.now.node in
+    subst (λ (I : Instance). IsNextEnd I.arcs node (2 * length I.arcs) c.first_end.result) c.network-in-Return.ensures
+    (first_end_is c.network-in-Return.result.now node c.first_end.result (subst IsLawful (sym c.network-in-Return.ensures) c.requires.walk.graph.rows.lawful) c.first_end.ensures.node c.first_end.ensures.no_node)
 
 pub returns-in-Added-clause-walk : goal.returns-in-Added-clause-walk
 returns-in-Added-clause-walk c =
@@ -33,7 +38,7 @@ returns-in-Added-clause-walk c =
 
 pub returns-in-Added-clause-end : goal.returns-in-Added-clause-end
 returns-in-Added-clause-end c =
-    let rows = c.args.graph.now.rows.items in
+    let rows = c.args.graph.now.rows in
     let row = c.args.self.now.first_row in
     let end = c.in-Added.end in
     let walk = c.requires.walk in
@@ -41,7 +46,7 @@ returns-in-Added-clause-end c =
     let number = c.number_of-number.ensures in
     let starts : start_at rows (c.number_of-number.result / 2) (end_way c.number_of-number.result) ≡ c.args.self.now.node =
     ap (λ (n : ℕ). start_at rows (n / 2) (end_way n)) number ∙ ap (λ (k : ℕ). start_at rows k (end_way (end + 2 * row))) (number_row end row) ∙ ap (start_at rows (end / 2 + row)) (number_way end row)
-    ∙ starts_here c.args.graph.now.net rows c.args.self.now.node row end walk.at.graph.rows walk.split stands.1 stands.2 in
+    ∙ starts_here c.args.graph.now.net rows c.args.self.now.node row end walk.graph.rows walk.split stands.1 stands.2 in
     subst (λ (v : ℕ). IsEndAt rows v c.end_with.result) starts c.end_with.ensures.end
 
 pub returns-in-Added-clause-rest : goal.returns-in-Added-clause-rest

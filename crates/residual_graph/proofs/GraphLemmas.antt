@@ -1,0 +1,103 @@
+-- A graph stays one where its network and its rows are changed together.
+use Rattle.std.proofs.Common.{◌≡◌, ℕ, suc, ◌+◌, ◌-◌, ◌<◌, List, [], ◌∷◌, ◌++◌, length, min, sym, ap, subst, ◌∙◌, arith, slice_set, slice_index_or, take}
+use Rattle.std.proofs.lemmas.List.{length-set, length-append, get_or_append_left}
+use Rattle.std.proofs.lemmas.List.Elements.{All-set, All-push}
+use Rattle.std.proofs.Math.Seq.{take-append_seam}
+use Rattle.dimacs_text.specs.declared.problem.ArcRow.{ArcRow}
+use Rattle.dimacs_text.specs.Lawful.{IsLawfulRow}
+use Rattle.network.specs.Instance.{Demand, Supplies, Terminals, Sides, Instance, IsLawful, ArcFits, reduced, reduced_arcs}
+use Rattle.residual_graph.specs.declared.star.Star.{Star}
+use Rattle.residual_graph.specs.Graph.{GraphView, IsGraph}
+use Rattle.residual_graph.specs.Star.{Covers, with_cost}
+use Rattle.residual_graph.proofs.StarLemmas.{covers_added, covers_dropped, covers_set}
+use Rattle.residual_graph.proofs.WalkLemmas.{rows_push}
+
+-- ---- another row
+
+-- the instance with one arc changed
+abbrev pub with_row : Instance → ℕ → ArcRow → Instance
+with_row I i row = record { nodes = I.nodes; demand = I.demand; arcs = slice_set I.arcs i row; room = I.room }
+
+pub lawful_row : (I : Instance) (i : ℕ) (row : ArcRow) → IsLawful I → IsLawfulRow I.nodes row → ArcFits I.demand row → IsLawful (with_row I i row)
+lawful_row I i row lawful limits fits = record {
+  nodes = lawful.nodes;
+  demand = lawful.demand;
+  arcs = All-set (λ arc. IsLawfulRow I.nodes arc × ArcFits I.demand arc) I.arcs i row (limits, fits) lawful.arcs;
+  count = (let l = length-set I.arcs i row in omega (arith, lawful.count));
+  room = lawful.room;
+}
+
+-- where so many rows stand before that of the first arc
+rows_set : (D : Demand) (arcs : List ArcRow) (first i : ℕ) (row : ArcRow) → first + length arcs ≡ length (reduced_arcs D arcs) → slice_set (reduced_arcs D arcs) (first + i) row ≡ reduced_arcs D (slice_set arcs i row)
+rows_set (Supplies s) arcs first i row e = (let none : first + i ≡ i = omega arith in ap (λ (n : ℕ). slice_set arcs n row) none)
+rows_set (Terminals source sink) arcs first i row e = (let one : first + i ≡ suc i = omega arith in ap (λ (n : ℕ). slice_set (reduced_arcs (Terminals source sink) arcs) n row) one)
+rows_set (Sides marks) arcs first i row e = (let none : first + i ≡ i = omega arith in ap (λ (n : ℕ). slice_set arcs n row) none)
+
+pub graph_set : (g : GraphView) (first i : ℕ) (row : ArcRow) (star : Star) → IsGraph g → first + length g.net.arcs ≡ length g.rows → i < length g.net.arcs
+    → row.tail ≡ (slice_index_or g.net.arcs i row).tail → row.head ≡ (slice_index_or g.net.arcs i row).head → IsLawfulRow g.net.nodes row → ArcFits g.net.demand row
+    → Covers (g.net.nodes + 1) (with_cost g.net.arcs i row.cost) star → IsGraph (record { net = with_row g.net i row; rows = slice_set g.rows (first + i) row; star = star })
+graph_set g first i row star is split lt tail head limits fits covers = record {
+  rows = record {
+    lawful = lawful_row g.net i row is.rows.lawful limits fits;
+    rows_are = ap (λ (r : List ArcRow). slice_set r (first + i) row) is.rows.rows_are ∙ rows_set g.net.demand g.net.arcs first i row (split ∙ ap (λ (r : List ArcRow). length r) is.rows.rows_are);
+  };
+  star = covers_set (g.net.nodes + 1) g.net.arcs i row star covers lt tail head;
+}
+
+-- ---- one arc more or less at the end
+
+-- the instance with an arc more
+abbrev pub with_last : Instance → ArcRow → Instance
+with_last I row = record { nodes = I.nodes; demand = I.demand; arcs = I.arcs ++ row ∷ []; room = I.room }
+
+pub lawful_more : (I : Instance) (row : ArcRow) → IsLawful I → length I.arcs < I.room → IsLawfulRow I.nodes row → ArcFits I.demand row → IsLawful (with_last I row)
+lawful_more I row lawful free limits fits = record {
+  nodes = lawful.nodes;
+  demand = lawful.demand;
+  arcs = All-push (λ arc. IsLawfulRow I.nodes arc × ArcFits I.demand arc) I.arcs row lawful.arcs (limits, fits);
+  count = omega (arith, length-append I.arcs (row ∷ []));
+  room = lawful.room;
+}
+
+lawful_less : (I : Instance) (row : ArcRow) → IsLawful (with_last I row) → IsLawful I
+lawful_less I row lawful =
+    let more = length-append I.arcs (row ∷ []) in
+    record {
+      nodes = lawful.nodes;
+      demand = lawful.demand;
+      arcs = λ k d h. rw (get_or_append_left I.arcs (row ∷ []) d k h) at (lawful.arcs k d (omega arith));
+      count = omega (arith, lawful.count);
+      room = lawful.room;
+    }
+
+pub graph_more : (g : GraphView) (row : ArcRow) → IsGraph g → length g.net.arcs < g.net.room → IsLawfulRow g.net.nodes row → ArcFits g.net.demand row
+    → IsGraph (record { net = with_last g.net row; rows = g.rows ++ row ∷ []; star = g.star })
+graph_more g row is free limits fits = record {
+  rows = record {
+    lawful = lawful_more g.net row is.rows.lawful free limits fits;
+    rows_are = ap (λ (r : List ArcRow). r ++ row ∷ []) is.rows.rows_are ∙ rows_push g.net.demand g.net.arcs row;
+  };
+  star = covers_added (g.net.nodes + 1) g.net.arcs row g.star is.star;
+}
+
+-- the last row is that of the last arc
+last_row : (g : GraphView) (J : Instance) (row : ArcRow) → IsGraph g → g.net ≡ with_last J row → g.rows ≡ (reduced J).arcs ++ row ∷ []
+last_row g J row is last = is.rows.rows_are ∙ ap (λ (I : Instance). (reduced I).arcs) last ∙ sym (rows_push J.demand J.arcs row)
+
+pub rows_less : (g : GraphView) (J : Instance) (row : ArcRow) → IsGraph g → g.net ≡ with_last J row → take (length g.rows - 1) g.rows ≡ (reduced J).arcs
+rows_less g J row is last =
+    let rows = (reduced J).arcs in
+    let more = length-append rows (row ∷ []) in
+    let all = last_row g J row is last in
+    let count : length g.rows - 1 ≡ length rows = omega (arith, ap (λ (r : List ArcRow). length r) all) in
+    ap (λ (n : ℕ). take n g.rows) count ∙ ap (λ (r : List ArcRow). take (length rows) r) all ∙ take-append_seam rows (row ∷ [])
+
+pub rows_before : (g : GraphView) (J : Instance) (row : ArcRow) (rows : List ArcRow) → IsGraph g → g.net ≡ with_last J row → rows ≡ take (length g.rows - 1) g.rows → g.rows ≡ rows ++ row ∷ []
+rows_before g J row rows is last less = last_row g J row is last ∙ ap (λ (r : List ArcRow). r ++ row ∷ []) (sym (less ∙ rows_less g J row is last))
+
+pub graph_less : (g : GraphView) (J : Instance) (row : ArcRow) (rows : List ArcRow) → IsGraph g → g.net ≡ with_last J row → rows ≡ take (length g.rows - 1) g.rows
+    → IsGraph (record { net = J; rows = rows; star = record g.star { arcs = min g.star.arcs (length J.arcs) } })
+graph_less g J row rows is last less = record {
+  rows = record { lawful = lawful_less J row (subst IsLawful last is.rows.lawful); rows_are = less ∙ rows_less g J row is last };
+  star = covers_dropped (J.nodes + 1) J.arcs row g.star (subst (λ (I : Instance). Covers (I.nodes + 1) I.arcs g.star) last is.star);
+}
