@@ -6,6 +6,8 @@ use Rattle.std.proofs.lemmas.Bool.{cases_eq, cases_lt, false≢true, true≢fals
 use Rattle.std.proofs.lemmas.List.Sums.{sum_by-cons, sum_by-set}
 use Rattle.std.specs.List.{count_by}
 use Rattle.std.proofs.lemmas.List.{length-map, length-set, get_or-set_same, get_or-set_other, get_or-replicate, get_or_past}
+use Rattle.std.specs.Cmp.Lexicographic.{pointwise}
+use Rattle.std.proofs.Math.Bool.{beq}
 use Rattle.dimacs_text.specs.declared.problem.ArcRow.{ArcRow}
 use Rattle.residual_graph.specs.declared.residual.Way.{Way}
 use Rattle.residual_graph.specs.declared.residual.Way.TheVariants.{Forward, Backward}
@@ -470,3 +472,13 @@ IsGrown-put side arcs x set list len v k way is residual near far node out = rec
   no_shorter = omega arith;
   same_before = λ j lt. line_kept set list len v is node out j lt;
 }
+
+-- marks that are compared one by one
+pub marks_same : (xs ys : List Bool) → pointwise beq xs ys ≡ true → xs ≡ ys
+marks_same [] [] h = refl
+marks_same [] (y ∷ ys) h = absurd (false≢true h)
+marks_same (x ∷ xs) [] h = absurd (false≢true h)
+marks_same (true ∷ xs) (true ∷ ys) h = ap (λ (set : List Bool). true ∷ set) (marks_same xs ys h)
+marks_same (true ∷ xs) (false ∷ ys) h = absurd (false≢true h)
+marks_same (false ∷ xs) (true ∷ ys) h = absurd (false≢true h)
+marks_same (false ∷ xs) (false ∷ ys) h = ap (λ (set : List Bool). false ∷ set) (marks_same xs ys h)

@@ -3,6 +3,7 @@ pub mod BlockingLemmas
 pub mod FirstWalk
 pub mod SettleLemmas
 pub mod CutLemmas
+pub mod ExcessLemmas
 pub mod NodeLemmas
 pub mod TouchedLemmas
 pub mod ApartLemmas

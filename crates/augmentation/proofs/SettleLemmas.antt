@@ -232,6 +232,10 @@ module _ (nodes : ℕ) (arcs : List ArcRow) (q x e : List ℤ) (hops : List Resi
       count = omega (arith, left_falls);
       lacking = omega (arith, lack_falls);
       none = λ h. absurd (omega (arith, h));
+      balanced = by_three (λ v. number_at e v ≡ pos 0 → number_at f v ≡ pos 0)
+          (λ h. absurd (omega (arith, ints, h, in_excess, at_least_1)))
+          (λ h. absurd (omega (arith, ints, h, in_deficit, at_least_1)))
+          (λ v same h. omega (arith, ints, h, same));
     }
 
 -- ---- pushes one after the other
@@ -243,6 +247,7 @@ ArePushes-none arcs x e = record {
   count = omega arith;
   lacking = omega arith;
   none = λ h. (refl, refl);
+  balanced = λ v h. h;
 }
 
 Pushes-more : (arcs : List ArcRow) (supply : ℕ → ℤ) (m n : ℕ) (x y z : List ℤ) → Pushes arcs supply m x y → Pushes arcs supply n y z → Pushes arcs supply (n + m) x z
@@ -266,4 +271,5 @@ ArePushes-more {arcs} {m} {n} {x} {e} {y} {f} {z} {g} first rest =
           (let kept = first.none (omega arith) in
           let still = rest.none (omega arith) in
           (kept.0 ∙ still.0, kept.1 ∙ still.1));
+      balanced = λ v h. rest.balanced v (first.balanced v h);
     }

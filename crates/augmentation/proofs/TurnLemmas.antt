@@ -211,6 +211,7 @@ are_pushes-turned arcs n x e y f pushes = record {
   count = omega (arith, pushes.lacking, lack-neg e, lack-neg f);
   lacking = omega (arith, pushes.count, left-neg e, left-neg f);
   none = λ nothing. (let same = pushes.none nothing in (same.0, sym (excess_twice e) ∙ ap (map neg_ℤ) same.1 ∙ excess_twice f));
+  balanced = λ v h. (let turned : number_at (map neg_ℤ f) v ≡ pos 0 = pushes.balanced v (omega (arith, ints, h, number_at-neg e v)) in omega (arith, ints, turned, number_at-neg f v));
 }
 
 -- ---- sets seen from behind

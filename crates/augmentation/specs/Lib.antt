@@ -3,6 +3,7 @@ pub mod Nodes
 pub mod Push
 pub mod Settle
 pub mod Cut
+pub mod Excess
 pub mod Touched
 pub mod Tracked
 pub mod Blocking

@@ -160,6 +160,7 @@ pub record ArePushes (arcs : List ArcRow) (n : ℕ) (x e y f : List ℤ) : Type 
   pub count : n + left f ≤ left e
   pub lacking : n + lack f ≤ lack e
   pub none : n ≡ 0 → (x ≡ y) × (e ≡ f)
+  pub balanced : (v : ℕ) → number_at e v ≡ pos 0 → number_at f v ≡ pos 0
 
 -- node t lacks something that can be pushed along its path
 pub record CanPush (arcs : List ArcRow) (x e : List ℤ) (s : List NodeLabel) (t : ℕ) : Type 0 where

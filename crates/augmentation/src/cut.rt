@@ -8,6 +8,7 @@ ghost use Rattle.augmentation.specs.Cut.{in_set, IsSide, IsListOf, IsGrown, AreF
 ghost use Rattle.residual_graph.specs.Side.{IsRoot, leading};
 ghost use Rattle.augmentation.specs.Touched.{AreNoted};
 
+use crate::excess::Excess;
 use crate::touched::Touched;
 use residual_graph::{Graph, Side, Walk};
 
@@ -24,7 +25,7 @@ pub fn mark_side(
     side: Side,
     graph: &Graph,
     flow: &[i64],
-    excess: &[i64],
+    excess: &Excess,
     cut: &mut [bool],
     worklist: &mut [u32],
 )
@@ -44,7 +45,7 @@ pub fn mark_side(
 }
 
 /// Marks the roots, lists them, and gives how many there are.
-fn mark_roots(side: Side, excess: &[i64], cut: &mut [bool], worklist: &mut [u32]) -> usize
+fn mark_roots(side: Side, excess: &Excess, cut: &mut [bool], worklist: &mut [u32]) -> usize
     requires few { length excess.now ≤ entry_limit }
     requires cut_in { length cut.old ≡ length excess.now }
     requires worklist_in { length worklist.old ≡ length excess.now }
@@ -53,8 +54,10 @@ fn mark_roots(side: Side, excess: &[i64], cut: &mut [bool], worklist: &mut [u32]
 {
     cut.fill(false);
     let mut len = 0;
-    for v in 0..cut.len() {
-        if side.is_root(excess[v]) {
+    let places = excess.unbalanced.places();
+    for j in 0..places.len() {
+        let v = places[j] as usize;
+        if side.is_root(excess.entries[v]) {
             len = mark(cut, worklist, len, v);
         }
     }
@@ -109,6 +112,9 @@ pub fn take_marks(cut: &mut [bool], touched: &mut Touched, marks: &[bool])
     ensures cut { cut.new ≡ marks.now }
     ensures noted { AreNoted touched.old cut.old touched.new cut.new }
 {
+    if &*cut == marks {
+        return;
+    }
     for v in 0..cut.len() {
         if cut[v] != marks[v] {
             cut[v] = marks[v];

@@ -16,6 +16,7 @@ ghost use Rattle.augmentation.specs.Rounds.{HoldsSearch, seen_excess};
 ghost use Rattle.augmentation.specs.Cut.{amount, IsParted};
 
 use crate::augment::push_found;
+use crate::excess::Excess;
 use crate::levels::Levels;
 use crate::potentials::{lower, raise};
 use crate::scratch::Scratch;
@@ -30,9 +31,35 @@ pub const FALL_LIMIT: i64 = 70_000_000_000_000_000;
 /// The most pushes of a run for which no table of rooms is filled: few edits need more.
 const FEW_PUSHES: u64 = 32;
 
-/// Pushes flow along shortest paths until no node in excess reaches a node in deficit, and counts the pushes. The searches
-/// go from the two sides in turn, and each forgets what it reached before the next.
+/// Pushes flow along shortest paths until no node in excess reaches a node in deficit, and counts the pushes.
 pub fn push_all(
+    graph: &Graph,
+    flow: &mut Tracked<i64>,
+    excess: &mut Excess,
+    scratch: &mut Scratch,
+) -> u64
+    requires flow_tracked { IsTracked flow.old }
+    requires graph { HasEntries (length scratch.old.potentials.items) graph.now }
+    requires certified { IsReducedCostOptimal graph.now.rows flow.old.entries.items scratch.old.potentials.items }
+    requires potentials_in { ArePotentials (length scratch.old.potentials.items) label_floor scratch.old.potentials.items }
+    requires excess_in { length excess.old ≡ length scratch.old.potentials.items }
+    requires scratch { IsScratchFor (length scratch.old.potentials.items) scratch.old }
+    requires small { AreSmall excess.old }
+    ensures flow_written { IsWritten flow.old flow.new }
+    ensures certified { IsReducedCostOptimal graph.now.rows flow.new.entries.items scratch.new.potentials.items }
+    ensures excess_in { length excess.new ≡ length excess.old }
+    ensures small { AreSmall excess.new }
+    ensures pushed { ArePushes graph.now.rows result flow.old.entries.items excess.old flow.new.entries.items excess.new }
+    ensures parted { IsParted graph.now.rows flow.new.entries.items excess.new }
+    ensures scratch { IsScratchFor (length scratch.old.potentials.items) scratch.new }
+{
+    let pushes = push_in_turns(graph, flow, &mut excess.entries, scratch);
+    excess.tidy();
+    pushes
+}
+
+/// Pushes as `push_all` does. The searches go from the two sides in turn, and each forgets what it reached before the next.
+fn push_in_turns(
     graph: &Graph,
     flow: &mut Tracked<i64>,
     excess: &mut [i64],
@@ -52,9 +79,6 @@ pub fn push_all(
     ensures parted { IsParted graph.now.rows flow.new.entries.items excess.new }
     ensures scratch { IsScratchFor (length scratch.old.potentials.items) scratch.new }
 {
-    if !has_both(excess) {
-        return 0;
-    }
     // The potentials after a run are the shortest labels ahead: a search from behind has its goals near it.
     let mut side = turn_round(Side::Ahead, excess, scratch);
     scratch.walks.rooms.clear();
@@ -234,7 +258,7 @@ fn keep_near(
 }
 
 /// Whether a side has a root.
-pub fn has_root(side: Side, excess: &[i64]) -> bool
+fn has_root(side: Side, excess: &[i64]) -> bool
     ensures { IsTrue result ↔ (0 < amount side excess.now) }
 {
     for e in excess {

@@ -28,40 +28,36 @@ abbrev pub sends : Instance → ℕ → ℤ
 sends I = held I.nodes (reduced I).supply
 
 -- what is carried over, under other names
-pub carried_as : (row row' : ArcRow) (x x' y y' : ℤ) (e e' f f' : List ℤ) → row' ≡ row → x' ≡ x → y' ≡ y → e' ≡ e → f' ≡ f → IsCarried row' x' y' e' f' → IsCarried row x y e f
-carried_as row row' x x' y y' e e' f f' rows befores afters es fs carried =
+pub carried_as : (row row' : ArcRow) (x x' y y' : ℤ) (e f : List ℤ) → row' ≡ row → x' ≡ x → y' ≡ y → IsCarried row' x' y' e f → IsCarried row x y e f
+carried_as row row' x x' y y' e f rows befores afters carried =
     subst (λ (r : ArcRow). IsCarried r x y e f) rows
     (subst (λ (n : ℤ). IsCarried row' n y e f) befores
-    (subst (λ (n : ℤ). IsCarried row' x' n e f) afters
-    (subst (λ (g : List ℤ). IsCarried row' x' y' g f) es
-    (subst (λ (g : List ℤ). IsCarried row' x' y' e' g) fs carried))))
+    (subst (λ (n : ℤ). IsCarried row' x' n e f) afters carried))
 
 -- what is raised, under other names
-pub raised_as : (u : ℕ) (x x' y y' : ℤ) (e e' f f' : List ℤ) → x' ≡ x → y' ≡ y → e' ≡ e → f' ≡ f → IsRaised u x' y' e' f' → IsRaised u x y e f
-raised_as u x x' y y' e e' f f' befores afters es fs raised =
+pub raised_as : (u : ℕ) (x x' y y' : ℤ) (e f : List ℤ) → x' ≡ x → y' ≡ y → IsRaised u x' y' e f → IsRaised u x y e f
+raised_as u x x' y y' e f befores afters raised =
     subst (λ (n : ℤ). IsRaised u n y e f) befores
-    (subst (λ (n : ℤ). IsRaised u x' n e f) afters
-    (subst (λ (g : List ℤ). IsRaised u x' y' g f) es
-    (subst (λ (g : List ℤ). IsRaised u x' y' e' g) fs raised)))
+    (subst (λ (n : ℤ). IsRaised u x' n e f) afters raised)
 
 -- the flow of one arc changes
-pub balance_set : (I : Instance) (rows : List ArcRow) (flow flow' : Tracked ℤ) (b b' : Balance) (k : ℕ) (y : ℤ) → k < length rows → length flow.entries.items ≡ length rows → IsCarried (row_at rows k) (number_at flow.entries.items k) y b.excess.items b'.excess.items → b'.cost ≡ b.cost → flow'.entries.items ≡ slice_set flow.entries.items k y → flow'.kept ≡ flow.kept → IsBalanceOf I rows flow b → IsBalanceOf I rows flow' b'
+pub balance_set : (I : Instance) (rows : List ArcRow) (flow flow' : Tracked ℤ) (b b' : Balance) (k : ℕ) (y : ℤ) → k < length rows → length flow.entries.items ≡ length rows → IsCarried (row_at rows k) (number_at flow.entries.items k) y b.excess b'.excess → b'.cost ≡ b.cost → flow'.entries.items ≡ slice_set flow.entries.items k y → flow'.kept ≡ flow.kept → IsBalanceOf I rows flow b → IsBalanceOf I rows flow' b'
 balance_set I rows flow flow' b b' k y lt many carried same_cost written kept is = record {
   sized = carried.same_length ∙ is.sized;
-  excess = subst (λ (x : List ℤ). IsWrappedExcess rows (sends I) x b'.excess.items) (sym written) (excess_set rows (sends I) flow.entries.items b.excess.items b'.excess.items k y lt many carried is.excess);
+  excess = subst (λ (x : List ℤ). IsWrappedExcess rows (sends I) x b'.excess) (sym written) (excess_set rows (sends I) flow.entries.items b.excess b'.excess k y lt many carried is.excess);
   cost = same_cost ∙ is.cost ∙ ap (λ v. int_wrap w128 (total_cost rows v.items)) (sym kept);
 }
 
 -- another row with the same ends
 pub balance_row : (I J : Instance) (rows rows' : List ArcRow) (flow : Tracked ℤ) (b b' : Balance) (k : ℕ) (row : ArcRow) → k < length rows → length flow.entries.items ≡ length rows → length flow.kept.items ≡ length rows → row.tail ≡ (row_at rows k).tail → row.head ≡ (row_at rows k).head → rows' ≡ slice_set rows k row → J.nodes ≡ I.nodes → J.demand ≡ I.demand → b'.excess ≡ b.excess → b'.cost ≡ int_wrap w128 (b.cost +ℤ (row.cost -ℤ (row_at rows k).cost) *ℤ number_at flow.kept.items k) → IsBalanceOf I rows flow b → IsBalanceOf J rows' flow b'
 balance_row I J rows rows' flow b b' k row lt many as_many tail head rows_are nodes demand same_excess cost is =
-    let excess = excess_row rows (sends I) flow.entries.items b.excess.items k row lt many tail head is.excess in
-    let other = subst (λ (r : List ArcRow). IsWrappedExcess r (sends I) flow.entries.items b.excess.items) (sym rows_are) excess in
+    let excess = excess_row rows (sends I) flow.entries.items b.excess k row lt many tail head is.excess in
+    let other = subst (λ (r : List ArcRow). IsWrappedExcess r (sends I) flow.entries.items b.excess) (sym rows_are) excess in
     let one : held J.nodes (reduced J).supply ≡ held I.nodes (reduced J).supply = ap (λ (n : ℕ). held n (reduced J).supply) nodes in
     let same : sends J ≡ sends I = one ∙ ap (λ d. held I.nodes (reduced_supply d)) demand in
     record {
-      sized = ap (λ v. length v.items) same_excess ∙ is.sized ∙ ap (λ (n : ℕ). n + 1) (sym nodes);
-      excess = subst (λ v. IsWrappedExcess rows' (sends J) flow.entries.items v.items) (sym same_excess) (subst (λ (s : ℕ → ℤ). IsWrappedExcess rows' s flow.entries.items b.excess.items) (sym same) other);
+      sized = ap (λ (e : List ℤ). length e) same_excess ∙ is.sized ∙ ap (λ (n : ℕ). n + 1) (sym nodes);
+      excess = subst (λ (e : List ℤ). IsWrappedExcess rows' (sends J) flow.entries.items e) (sym same_excess) (subst (λ (s : ℕ → ℤ). IsWrappedExcess rows' s flow.entries.items b.excess) (sym same) other);
       cost = subst (λ (r : List ArcRow). IsWrappedCost r flow.kept.items b'.cost) (sym rows_are) (cost_row rows flow.kept.items b.cost b'.cost k row lt as_many cost is.cost);
     }
 
@@ -75,40 +71,40 @@ sends_supplied I v z lawful kind node w = elim (is_node_or_not I.nodes w) [
       omega (arith, ints))
 ]
 
-pub balance_supplied : (I : Instance) (rows : List ArcRow) (flow : Tracked ℤ) (b b' : Balance) (v : ℕ) (z : ℤ) → IsLawful I → kind_of I.demand ≡ Min → IsNodeOf I.nodes v → IsRaised v ((reduced I).supply v) z b.excess.items b'.excess.items → b'.cost ≡ b.cost → IsBalanceOf I rows flow b → IsBalanceOf (supplied I v z) rows flow b'
+pub balance_supplied : (I : Instance) (rows : List ArcRow) (flow : Tracked ℤ) (b b' : Balance) (v : ℕ) (z : ℤ) → IsLawful I → kind_of I.demand ≡ Min → IsNodeOf I.nodes v → IsRaised v ((reduced I).supply v) z b.excess b'.excess → b'.cost ≡ b.cost → IsBalanceOf I rows flow b → IsBalanceOf (supplied I v z) rows flow b'
 balance_supplied I rows flow b b' v z lawful kind node raised same_cost is = record {
   sized = raised.same_length ∙ is.sized;
-  excess = excess_supplied rows (sends I) (sends (supplied I v z)) flow.entries.items b.excess.items b'.excess.items v ((reduced I).supply v) z (sends_supplied I v z lawful kind node) raised is.excess;
+  excess = excess_supplied rows (sends I) (sends (supplied I v z)) flow.entries.items b.excess b'.excess v ((reduced I).supply v) z (sends_supplied I v z lawful kind node) raised is.excess;
   cost = same_cost ∙ is.cost;
 }
 
 -- one more arc, with its flow
-pub balance_last : (I J : Instance) (rows rows' : List ArcRow) (flow flow' : Tracked ℤ) (b b' : Balance) (row : ArcRow) (y : ℤ) → length flow.entries.items ≡ length rows → length flow.kept.items ≡ length rows → rows' ≡ rows ++ row ∷ [] → flow'.entries.items ≡ flow.entries.items ++ y ∷ [] → flow'.kept.items ≡ flow.kept.items ++ y ∷ [] → J.nodes ≡ I.nodes → J.demand ≡ I.demand → IsCarried row (pos 0) y b.excess.items b'.excess.items → b'.cost ≡ int_wrap w128 (b.cost +ℤ (y -ℤ pos 0) *ℤ row.cost) → IsBalanceOf I rows flow b → IsBalanceOf J rows' flow' b'
+pub balance_last : (I J : Instance) (rows rows' : List ArcRow) (flow flow' : Tracked ℤ) (b b' : Balance) (row : ArcRow) (y : ℤ) → length flow.entries.items ≡ length rows → length flow.kept.items ≡ length rows → rows' ≡ rows ++ row ∷ [] → flow'.entries.items ≡ flow.entries.items ++ y ∷ [] → flow'.kept.items ≡ flow.kept.items ++ y ∷ [] → J.nodes ≡ I.nodes → J.demand ≡ I.demand → IsCarried row (pos 0) y b.excess b'.excess → b'.cost ≡ int_wrap w128 (b.cost +ℤ (y -ℤ pos 0) *ℤ row.cost) → IsBalanceOf I rows flow b → IsBalanceOf J rows' flow' b'
 balance_last I J rows rows' flow flow' b b' row y many as_many rows_are entries kept nodes demand carried cost is =
     let one : held J.nodes (reduced J).supply ≡ held I.nodes (reduced J).supply = ap (λ (n : ℕ). held n (reduced J).supply) nodes in
     let same : sends J ≡ sends I = one ∙ ap (λ d. held I.nodes (reduced_supply d)) demand in
     record {
       sized = carried.same_length ∙ is.sized ∙ ap (λ (n : ℕ). n + 1) (sym nodes);
-      excess = subst (λ (s : ℕ → ℤ). IsWrappedExcess rows' s flow'.entries.items b'.excess.items) (sym same)
-          (subst (λ (r : List ArcRow). IsWrappedExcess r (sends I) flow'.entries.items b'.excess.items) (sym rows_are)
-          (subst (λ (x : List ℤ). IsWrappedExcess (rows ++ row ∷ []) (sends I) x b'.excess.items) (sym entries)
-          (excess_last rows (sends I) flow.entries.items b.excess.items b'.excess.items row y many carried is.excess)));
+      excess = subst (λ (s : ℕ → ℤ). IsWrappedExcess rows' s flow'.entries.items b'.excess) (sym same)
+          (subst (λ (r : List ArcRow). IsWrappedExcess r (sends I) flow'.entries.items b'.excess) (sym rows_are)
+          (subst (λ (x : List ℤ). IsWrappedExcess (rows ++ row ∷ []) (sends I) x b'.excess) (sym entries)
+          (excess_last rows (sends I) flow.entries.items b.excess b'.excess row y many carried is.excess)));
       cost = subst (λ (r : List ArcRow). IsWrappedCost r flow'.kept.items b'.cost) (sym rows_are)
           (subst (λ (x : List ℤ). IsWrappedCost (rows ++ row ∷ []) x b'.cost) (sym kept)
           (cost_last rows flow.kept.items b.cost b'.cost row y as_many cost is.cost));
     }
 
 -- the last arc is taken off
-pub balance_first : (I J : Instance) (rows rows' : List ArcRow) (flow flow' : Tracked ℤ) (b b' : Balance) (row : ArcRow) (y z : ℤ) → length flow'.entries.items ≡ length rows' → length flow'.kept.items ≡ length rows' → rows ≡ rows' ++ row ∷ [] → flow.entries.items ≡ flow'.entries.items ++ y ∷ [] → flow.kept.items ≡ flow'.kept.items ++ z ∷ [] → J.nodes ≡ I.nodes → J.demand ≡ I.demand → IsCarried row y (pos 0) b.excess.items b'.excess.items → b'.cost ≡ int_wrap w128 (b.cost +ℤ (pos 0 -ℤ z) *ℤ row.cost) → IsBalanceOf I rows flow b → IsBalanceOf J rows' flow' b'
+pub balance_first : (I J : Instance) (rows rows' : List ArcRow) (flow flow' : Tracked ℤ) (b b' : Balance) (row : ArcRow) (y z : ℤ) → length flow'.entries.items ≡ length rows' → length flow'.kept.items ≡ length rows' → rows ≡ rows' ++ row ∷ [] → flow.entries.items ≡ flow'.entries.items ++ y ∷ [] → flow.kept.items ≡ flow'.kept.items ++ z ∷ [] → J.nodes ≡ I.nodes → J.demand ≡ I.demand → IsCarried row y (pos 0) b.excess b'.excess → b'.cost ≡ int_wrap w128 (b.cost +ℤ (pos 0 -ℤ z) *ℤ row.cost) → IsBalanceOf I rows flow b → IsBalanceOf J rows' flow' b'
 balance_first I J rows rows' flow flow' b b' row y z many as_many rows_are entries kept nodes demand carried cost is =
     let one : held J.nodes (reduced J).supply ≡ held I.nodes (reduced J).supply = ap (λ (n : ℕ). held n (reduced J).supply) nodes in
     let same : sends J ≡ sends I = one ∙ ap (λ d. held I.nodes (reduced_supply d)) demand in
     record {
       sized = carried.same_length ∙ is.sized ∙ ap (λ (n : ℕ). n + 1) (sym nodes);
-      excess = subst (λ (s : ℕ → ℤ). IsWrappedExcess rows' s flow'.entries.items b'.excess.items) (sym same)
-          (excess_first rows' (sends I) flow'.entries.items b.excess.items b'.excess.items row y many carried
-          (subst (λ (x : List ℤ). IsWrappedExcess (rows' ++ row ∷ []) (sends I) x b.excess.items) entries
-          (subst (λ (r : List ArcRow). IsWrappedExcess r (sends I) flow.entries.items b.excess.items) rows_are is.excess)));
+      excess = subst (λ (s : ℕ → ℤ). IsWrappedExcess rows' s flow'.entries.items b'.excess) (sym same)
+          (excess_first rows' (sends I) flow'.entries.items b.excess b'.excess row y many carried
+          (subst (λ (x : List ℤ). IsWrappedExcess (rows' ++ row ∷ []) (sends I) x b.excess) entries
+          (subst (λ (r : List ArcRow). IsWrappedExcess r (sends I) flow.entries.items b.excess) rows_are is.excess)));
       cost = cost_first rows' flow'.kept.items b.cost b'.cost row z as_many cost
           (subst (λ (x : List ℤ). IsWrappedCost (rows' ++ row ∷ []) x b.cost) kept
           (subst (λ (r : List ArcRow). IsWrappedCost r flow.kept.items b.cost) rows_are is.cost));
@@ -117,23 +113,23 @@ balance_first I J rows rows' flow flow' b b' row y z many as_many rows_are entri
 -- what stands in the table is kept
 pub balance_kept : (I : Instance) (rows : List ArcRow) (flow flow' : Tracked ℤ) (b b' : Balance) → flow'.entries.items ≡ flow.entries.items → flow'.kept.items ≡ flow.entries.items → b'.excess ≡ b.excess → IsWrappedCost rows flow.entries.items b'.cost → IsBalanceOf I rows flow b → IsBalanceOf I rows flow' b'
 balance_kept I rows flow flow' b b' entries kept same_excess cost is = record {
-  sized = ap (λ v. length v.items) same_excess ∙ is.sized;
-  excess = subst (λ v. IsWrappedExcess rows (sends I) flow'.entries.items v.items) (sym same_excess) (subst (λ (x : List ℤ). IsWrappedExcess rows (sends I) x b.excess.items) (sym entries) is.excess);
+  sized = ap (λ (e : List ℤ). length e) same_excess ∙ is.sized;
+  excess = subst (λ (e : List ℤ). IsWrappedExcess rows (sends I) flow'.entries.items e) (sym same_excess) (subst (λ (x : List ℤ). IsWrappedExcess rows (sends I) x b.excess) (sym entries) is.excess);
   cost = subst (λ (x : List ℤ). IsWrappedCost rows x b'.cost) (sym kept) cost;
 }
 
 -- what was kept comes back
-pub balance_back : (I : Instance) (rows : List ArcRow) (flow flow' : Tracked ℤ) (b b' : Balance) → IsTracked flow → flow.size ≡ length flow.entries.items → flow'.entries.items ≡ kept_in flow → flow'.kept ≡ flow.kept → length b'.excess.items ≡ length b.excess.items → IsWrappedExcess rows (sends I) flow.kept.items b'.excess.items → b'.cost ≡ b.cost → IsBalanceOf I rows flow b → IsBalanceOf I rows flow' b'
+pub balance_back : (I : Instance) (rows : List ArcRow) (flow flow' : Tracked ℤ) (b b' : Balance) → IsTracked flow → flow.size ≡ length flow.entries.items → flow'.entries.items ≡ kept_in flow → flow'.kept ≡ flow.kept → length b'.excess ≡ length b.excess → IsWrappedExcess rows (sends I) flow.kept.items b'.excess → b'.cost ≡ b.cost → IsBalanceOf I rows flow b → IsBalanceOf I rows flow' b'
 balance_back I rows flow flow' b b' tracked size entries kept same_length excess same_cost is =
     let all : kept_in flow ≡ flow.kept.items = take_all flow.size flow.kept.items (omega (arith, tracked.same_length)) in
     record {
       sized = same_length ∙ is.sized;
-      excess = subst (λ (x : List ℤ). IsWrappedExcess rows (sends I) x b'.excess.items) (sym (entries ∙ all)) excess;
+      excess = subst (λ (x : List ℤ). IsWrappedExcess rows (sends I) x b'.excess) (sym (entries ∙ all)) excess;
       cost = same_cost ∙ is.cost ∙ ap (λ v. int_wrap w128 (total_cost rows v.items)) (sym kept);
     }
 
 -- the ends of an arc of the instance are entries of the table
-pub ends_in : (I : Instance) (rows : List ArcRow) (b : Balance) → IsLawful I → rows ≡ (reduced I).arcs → length b.excess.items ≡ I.nodes + 1 → AreEndsIn (length b.excess.items) rows
+pub ends_in : (I : Instance) (rows : List ArcRow) (b : Balance) → IsLawful I → rows ≡ (reduced I).arcs → length b.excess ≡ I.nodes + 1 → AreEndsIn (length b.excess) rows
 ends_in I rows b lawful same sized k lt =
     let row = subst (λ (r : List ArcRow). IsRow (I.nodes + 1) (row_at r k)) (sym same) (rows_of_instance I lawful k (omega (arith, lt, ap (λ (r : List ArcRow). length r) same))) in
     (omega (arith, row.tail_in, sized), omega (arith, row.head_in, sized))
@@ -178,13 +174,13 @@ last_is [] y d = refl
 last_is (x ∷ xs) y d = last_is xs y d
 
 -- the balance of an instance with an arc more
-pub balance_put : (I J : Instance) (rows rows' : List ArcRow) (flow flow' : Tracked ℤ) (b b' : Balance) (row : ArcRow) (y : ℤ) → rows ≡ (reduced I).arcs → rows' ≡ (reduced J).arcs → J ≡ with_last I row → length flow.entries.items ≡ length rows → length flow.kept.items ≡ length rows → flow'.entries.items ≡ flow.entries.items ++ y ∷ [] → flow'.kept.items ≡ flow.kept.items ++ y ∷ [] → IsCarried row (pos 0) y b.excess.items b'.excess.items → b'.cost ≡ int_wrap w128 (b.cost +ℤ (y -ℤ pos 0) *ℤ row.cost) → IsBalanceOf I rows flow b → IsBalanceOf J rows' flow' b'
+pub balance_put : (I J : Instance) (rows rows' : List ArcRow) (flow flow' : Tracked ℤ) (b b' : Balance) (row : ArcRow) (y : ℤ) → rows ≡ (reduced I).arcs → rows' ≡ (reduced J).arcs → J ≡ with_last I row → length flow.entries.items ≡ length rows → length flow.kept.items ≡ length rows → flow'.entries.items ≡ flow.entries.items ++ y ∷ [] → flow'.kept.items ≡ flow.kept.items ++ y ∷ [] → IsCarried row (pos 0) y b.excess b'.excess → b'.cost ≡ int_wrap w128 (b.cost +ℤ (y -ℤ pos 0) *ℤ row.cost) → IsBalanceOf I rows flow b → IsBalanceOf J rows' flow' b'
 balance_put I J rows rows' flow flow' b b' row y before after other many as_many entries kept carried cost is =
     balance_last I J rows rows' flow flow' b b' row y many as_many (after ∙ ap (λ (K : Instance). (reduced K).arcs) other ∙ sym (rows_more I row) ∙ ap (λ (r : List ArcRow). r ++ row ∷ []) (sym before)) entries kept
     (ap (λ (K : Instance). K.nodes) other) (ap (λ (K : Instance). K.demand) other) carried cost is
 
 -- the balance of an instance without its last arc
-pub balance_dropped : (I J : Instance) (rows rows' : List ArcRow) (flow flow' : Tracked ℤ) (b b' : Balance) (row : ArcRow) (y : ℤ) (last : ℕ) → rows ≡ (reduced I).arcs → rows' ≡ (reduced J).arcs → I ≡ with_last J row → IsTracked flow' → length flow.entries.items ≡ length rows → length flow.kept.items ≡ length rows → flow.entries.items ≡ flow'.entries.items ++ y ∷ [] → flow'.kept.items ≡ take (length flow'.entries.items) flow.kept.items → last ≡ length rows - 1 → IsCarried (row_at rows last) (number_at flow.entries.items last) (pos 0) b.excess.items b'.excess.items → b'.cost ≡ int_wrap w128 (b.cost +ℤ (pos 0 -ℤ number_at flow.kept.items last) *ℤ (row_at rows last).cost) → IsBalanceOf I rows flow b → IsBalanceOf J rows' flow' b'
+pub balance_dropped : (I J : Instance) (rows rows' : List ArcRow) (flow flow' : Tracked ℤ) (b b' : Balance) (row : ArcRow) (y : ℤ) (last : ℕ) → rows ≡ (reduced I).arcs → rows' ≡ (reduced J).arcs → I ≡ with_last J row → IsTracked flow' → length flow.entries.items ≡ length rows → length flow.kept.items ≡ length rows → flow.entries.items ≡ flow'.entries.items ++ y ∷ [] → flow'.kept.items ≡ take (length flow'.entries.items) flow.kept.items → last ≡ length rows - 1 → IsCarried (row_at rows last) (number_at flow.entries.items last) (pos 0) b.excess b'.excess → b'.cost ≡ int_wrap w128 (b.cost +ℤ (pos 0 -ℤ number_at flow.kept.items last) *ℤ (row_at rows last).cost) → IsBalanceOf I rows flow b → IsBalanceOf J rows' flow' b'
 balance_dropped I J rows rows' flow flow' b b' row y last before after other tracked sized as_sized entries whole last_at carried cost is =
     let n = length flow'.entries.items in
     let z = number_at flow.kept.items last in
@@ -199,7 +195,7 @@ balance_dropped I J rows rows' flow flow' b b' row y last before after other tra
     let kept : flow.kept.items ≡ flow'.kept.items ++ z ∷ [] = sym (take_all (n + 1) flow.kept.items (omega (arith, as_sized, sized, one_flow_more))) ∙ take_more flow.kept.items n (pos 0) (omega (arith, as_sized, sized, one_flow_more))
     ∙ ap (λ (m : ℕ). take n flow.kept.items ++ number_at flow.kept.items m ∷ []) (sym at_flow) ∙ ap (λ (x : List ℤ). x ++ z ∷ []) (sym whole) in
     balance_first I J rows rows' flow flow' b b' row y z many (tracked.same_length ∙ many) rows_are entries kept (sym (ap (λ (K : Instance). K.nodes) other)) (sym (ap (λ (K : Instance). K.demand) other))
-    (carried_as row (row_at rows last) y (number_at flow.entries.items last) (pos 0) (pos 0) b.excess.items b.excess.items b'.excess.items b'.excess.items row_is entry_is refl refl refl carried)
+    (carried_as row (row_at rows last) y (number_at flow.entries.items last) (pos 0) (pos 0) b.excess b'.excess row_is entry_is refl carried)
     (cost ∙ ap (λ (a : ArcRow). int_wrap w128 (b.cost +ℤ (pos 0 -ℤ z) *ℤ a.cost)) row_is) is
 
 -- the reduced instance has each arc of the instance

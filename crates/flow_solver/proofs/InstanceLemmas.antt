@@ -60,7 +60,7 @@ reduced_rows n (Sides marks) arcs fits keeps k lt = rows_at n (Sides marks) arcs
 pub rows_of_instance : (I : Instance) → IsLawful I → (k : ℕ) → k < length (reduced I).arcs → IsRow (I.nodes + 1) (row_at (reduced I).arcs k)
 rows_of_instance I lawful k lt = reduced_rows I.nodes I.demand I.arcs lawful.demand (rows_of lawful) k lt
 
-rows_counted : (D : Demand) (arcs : List ArcRow) → length (reduced_arcs D arcs) ≤ length arcs + 1
+pub rows_counted : (D : Demand) (arcs : List ArcRow) → length (reduced_arcs D arcs) ≤ length arcs + 1
 rows_counted (Supplies s) arcs = omega arith
 rows_counted (Terminals source sink) arcs = omega arith
 rows_counted (Sides marks) arcs = omega arith

@@ -42,6 +42,6 @@ AreEndsIn nodes arcs = (k : ℕ) → k < length arcs → ((row_at arcs k).tail <
 
 -- the excess of each node is that of the flow which stands in a tracked, the cost that of the flow which was kept
 pub record IsBalanceOf (I : Instance) (rows : List ArcRow) (flow : Tracked ℤ) (b : Balance) : Type 0 where
-  pub sized : length b.excess.items ≡ I.nodes + 1
-  pub excess : IsWrappedExcess rows (held I.nodes (reduced I).supply) flow.entries.items b.excess.items
+  pub sized : length b.excess ≡ I.nodes + 1
+  pub excess : IsWrappedExcess rows (held I.nodes (reduced I).supply) flow.entries.items b.excess
   pub cost : IsWrappedCost rows flow.kept.items b.cost

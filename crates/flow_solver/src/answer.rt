@@ -16,6 +16,7 @@ use crate::verdict::Verdict;
 use augmentation::Tracked;
 use dimacs_text::ArcRow;
 use network::Network;
+use residual_graph::Side;
 
 /// What a node has to send out in the reduced instance; 0 where there is no such node.
 pub fn supply_at(net: &Network, id: u32) -> i64
@@ -82,19 +83,17 @@ pub fn judge(net: &Network, rows: &[ArcRow], flow: &Tracked<i64>, balance: &Bala
     requires tracked { IsTracked flow.now }
     requires bounds { AllWithinBounds rows.now flow.now.entries.items }
     requires cost { IsWrappedCost rows.now flow.now.kept.items balance.now.cost }
-    requires small { AreSmall balance.now.excess.items }
-    requires few { length balance.now.excess.items ≤ entry_limit }
-    requires left_fits { left balance.now.excess.items < 2 ^ 63 }
-    requires lack_fits { left balance.now.excess.items ≡ 0 → lack balance.now.excess.items < 2 ^ 63 }
-    ensures { IsJudged (worth_by net.now.demand rows.now flow.now.entries.items) balance.now.excess.items result }
+    requires small { AreSmall balance.now.excess }
+    requires few { length balance.now.excess ≤ entry_limit }
+    requires left_fits { left balance.now.excess < 2 ^ 63 }
+    requires lack_fits { left balance.now.excess ≡ 0 → lack balance.now.excess < 2 ^ 63 }
+    ensures { IsJudged (worth_by net.now.demand rows.now flow.now.entries.items) balance.now.excess result }
 {
-    let left = sum_excess(&balance.excess);
-    if left > 0 {
-        return Verdict::Infeasible(left as i64);
+    if balance.excess.has_root(Side::Ahead) {
+        return Verdict::Infeasible(sum_excess(balance.excess.entries()) as i64);
     }
-    let lack = sum_deficit(&balance.excess);
-    if lack > 0 {
-        return Verdict::Infeasible(lack as i64);
+    if balance.excess.has_root(Side::Behind) {
+        return Verdict::Infeasible(sum_deficit(balance.excess.entries()) as i64);
     }
     Verdict::Best(worth(net, rows, flow, balance))
 }

@@ -10,7 +10,7 @@ ghost use Rattle.augmentation.specs.Tracked.{IsTracked};
 ghost use Rattle.flow_solver.specs.Balance.{AreEndsIn, AreWrapped, IsCarried, IsRaised, IsWrappedCost, IsWrappedExcess};
 
 use crate::answer::supply_at;
-use augmentation::Tracked;
+use augmentation::{Excess, Tracked};
 use dimacs_text::ArcRow;
 use network::Network;
 use std::alloc::{AllocError, Global};
@@ -20,7 +20,7 @@ use std::alloc::{AllocError, Global};
 /// flow within its bounds it is exact, since it fits. `cost_now` gives the cost of the flow that stands.
 #[derive(Drop)]
 pub struct Balance {
-    pub excess: Vec<i64>,
+    pub excess: Excess,
     pub cost: i128,
 }
 
@@ -35,12 +35,14 @@ impl Balance {
         requires same_length { length flow.now ≡ length rows.now }
         requires ends { AreEndsIn (net.now.nodes + 1) rows.now }
         requires few { net.now.nodes + 1 ≤ entry_limit }
-        ensures sized { IfOk result (λ b. length b.excess.items ≡ net.now.nodes + 1) }
-        ensures excess { IfOk result (λ b. IsWrappedExcess rows.now (held net.now.nodes (reduced net.now).supply) flow.now b.excess.items) }
+        ensures sized { IfOk result (λ b. length b.excess ≡ net.now.nodes + 1) }
+        ensures excess { IfOk result (λ b. IsWrappedExcess rows.now (held net.now.nodes (reduced net.now).supply) flow.now b.excess) }
         ensures cost { IfOk result (λ b. IsWrappedCost rows.now flow.now b.cost) }
     {
-        let mut excess = vec![in alloc; 0; net.nodes() as usize + 1]?;
-        fill(net, rows, flow, &mut excess);
+        let mut entries = vec![in alloc; 0; net.nodes() as usize + 1]?;
+        fill_supplies(net, &mut entries);
+        let mut excess = Excess::new(alloc, entries)?;
+        send(rows, flow, &mut excess);
         Ok(Balance {
             excess,
             cost: cost_of(rows, flow),
@@ -49,15 +51,16 @@ impl Balance {
 }
 
 /// Adds to the entry of a node what `after` exceeds `before` by, as where its supply goes from the one to the other.
-pub fn add_difference(excess: &mut [i64], v: usize, before: i64, after: i64)
+pub fn add_difference(excess: &mut Excess, v: usize, before: i64, after: i64)
     requires { v < length excess.old }
     ensures { IsRaised v before after excess.old excess.new }
 {
-    excess[v] = excess[v].wrapping_add(after.wrapping_sub(before));
+    let raised = excess.entries()[v].wrapping_add(after.wrapping_sub(before));
+    excess.set(v, raised);
 }
 
 /// Carries the excess over as the flow of an arc goes from `before` to `after`.
-pub fn carry_over(excess: &mut [i64], row: &ArcRow, before: i64, after: i64)
+pub fn carry_over(excess: &mut Excess, row: &ArcRow, before: i64, after: i64)
     requires tail_in { row.now.tail < length excess.old }
     requires head_in { row.now.head < length excess.old }
     ensures { IsCarried row.now before after excess.old excess.new }
@@ -94,11 +97,12 @@ pub fn cost_now(rows: &[ArcRow], flow: &Tracked<i64>, cost: i128) -> i128
 }
 
 /// Carries the excess of what stands in the table back to that of what was kept.
-pub fn carry_back(rows: &[ArcRow], flow: &Tracked<i64>, excess: &mut [i64])
+pub fn carry_back(rows: &[ArcRow], flow: &Tracked<i64>, excess: &mut Excess)
     requires tracked { IsTracked flow.now }
     requires as_many { length rows.now ≡ length flow.now.entries.items }
     requires ends { AreEndsIn (length excess.old) rows.now }
-    ensures { (supply : ℕ → ℤ) → IsWrappedExcess rows.now supply flow.now.entries.items excess.old → IsWrappedExcess rows.now supply flow.now.kept.items excess.new }
+    ensures same_length { length excess.new ≡ length excess.old }
+    ensures excess { (supply : ℕ → ℤ) → IsWrappedExcess rows.now supply flow.now.entries.items excess.old → IsWrappedExcess rows.now supply flow.now.kept.items excess.new }
 {
     let places = flow.touched.places();
     for j in 0..places.len() {
@@ -120,15 +124,13 @@ fn fill_supplies(net: &Network, excess: &mut [i64])
     }
 }
 
-/// Fills the table with what each node has to send out beyond what the flow sends.
-fn fill(net: &Network, rows: &[ArcRow], flow: &[i64], excess: &mut [i64])
-    requires sized { length excess.old ≡ net.now.nodes + 1 }
-    requires few { length excess.old ≤ entry_limit }
+/// Takes what a flow sends off what each node has to send out.
+fn send(rows: &[ArcRow], flow: &[i64], excess: &mut Excess)
     requires same_length { length flow.now ≡ length rows.now }
     requires ends { AreEndsIn (length excess.old) rows.now }
-    ensures { IsWrappedExcess rows.now (held net.now.nodes (reduced net.now).supply) flow.now excess.new }
+    ensures same_length { length excess.new ≡ length excess.old }
+    ensures excess { (supply : ℕ → ℤ) → AreWrapped supply excess.old → IsWrappedExcess rows.now supply flow.now excess.new }
 {
-    fill_supplies(net, excess);
     for k in 0..rows.len() {
         carry_over(excess, &rows[k], 0, flow[k]);
     }

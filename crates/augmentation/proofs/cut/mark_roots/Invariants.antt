@@ -1,12 +1,9 @@
-use Rattle.std.proofs.Common.{◌≡◌, ℕ, ◌<◌, ◌≤◌, IsTrue, ◌↔◌, false}
-use Rattle.residual_graph.specs.Residual.{number_at}
-use Rattle.augmentation.specs.Cut.{in_set, IsListOf}
-use Rattle.residual_graph.specs.Side.{IsRoot}
+use Rattle.augmentation.specs.Cut.{IsListOf}
+use Rattle.augmentation.proofs.ExcessLemmas.{AreRootsMarked}
 use Rattle.augmentation.proofs.cut.mark_roots.Given as goal
 
-abbrev pub invariant-loop-v : goal.invariant-loop-v
-invariant-loop-v l = record {
-  marked : (k : ℕ) → k < l.v → IsTrue (in_set l.cut k) ↔ IsRoot l.side (number_at l.excess k);
-  not_yet : (k : ℕ) → l.v ≤ k → in_set l.cut k ≡ false;
+abbrev pub invariant-loop-j : goal.invariant-loop-j
+invariant-loop-j l = record {
+  are : AreRootsMarked l.side l.excess l.places l.j l.cut;
   worklist : IsListOf l.cut l.worklist l.len;
 }

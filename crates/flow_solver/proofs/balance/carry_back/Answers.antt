@@ -1,4 +1,4 @@
-use Rattle.std.proofs.Common.{◌≡◌, ◌∙◌, ℤ, List, pos, ◌<◌, length, arith, subst, sym, slice_index_or, slice_set, w64, SFits, rules, to_z, of_z}
+use Rattle.std.proofs.Common.{◌≡◌, ◌∙◌, ℤ, List, pos, ◌<◌, length, ap, arith, subst, sym, slice_index_or, slice_set, w64, SFits, rules, to_z, of_z}
 use Rattle.std.proofs.lemmas.Int.{to_z-of_z}
 use Rattle.std.proofs.lemmas.List.{get_or_default}
 use Rattle.residual_graph.specs.Residual.{row_at, number_at}
@@ -13,8 +13,8 @@ loop-j-preserved c =
     let rows = c.args.rows.now in
     let kept = c.args.flow.now.kept.items in
     let entries = c.args.flow.now.entries.items in
-    let z = c.loop-j.invariant.0 in
-    let part = c.loop-j.invariant.1 in
+    let z = c.loop-j.invariant.1 in
+    let part = c.loop-j.invariant.2 in
     let apart = c.places-places.ensures.apart in
     let place = slice_index_or c.places-places.result.now c.loop-j.j 0 in
     elim c.if-k-rows.branch [
@@ -28,23 +28,31 @@ loop-j-preserved c =
           let carried : IsCarried (row_at rows place) (number_at entries place) (number_at kept place) c.loop-j.excess w.carry_over.new.excess =
           subst (λ (m : ℤ). IsCarried (row_at rows place) (number_at entries place) m c.loop-j.excess w.carry_over.new.excess) was
           (subst (λ (m : ℤ). IsCarried (row_at rows place) m (to_z w64 (of_z w64 w.index-then-k-rows.result.now)) c.loop-j.excess w.carry_over.new.excess) entry w.carry_over.ensures) in (
+            ap (λ (e : List ℤ). length e) w.excess-is ∙ w.carry_over.ensures.same_length ∙ c.loop-j.invariant.0,
             next,
             part_step places entries kept c.loop-j.j z (omega arith) apart part (omega (arith, c.requires.as_many)),
             λ supply is. subst (λ (e : List ℤ). IsWrappedExcess rows supply next e) (sym w.excess-is)
-                (excess_step places entries kept c.loop-j.j z (omega arith) apart part rows supply c.loop-j.excess f (sym c.requires.as_many) place_in carried (c.loop-j.invariant.2 supply is)),
+                (excess_step places entries kept c.loop-j.j z (omega arith) apart part rows supply c.loop-j.excess f (sym c.requires.as_many) place_in carried (c.loop-j.invariant.3 supply is)),
           ))
       | else-k-rows w ↦ (
+        ap (λ (e : List ℤ). length e) w.excess-is ∙ c.loop-j.invariant.0,
         z,
         part_past places entries kept c.loop-j.j z (omega arith) apart part (omega (arith, c.requires.as_many)) c.requires.tracked.same_length,
-        λ supply is. subst (λ (e : List ℤ). IsWrappedExcess rows supply z e) (sym w.excess-is) (c.loop-j.invariant.2 supply is),
+        λ supply is. subst (λ (e : List ℤ). IsWrappedExcess rows supply z e) (sym w.excess-is) (c.loop-j.invariant.3 supply is),
       )
     ]
 
-pub returns : goal.returns
-returns c =
+pub carry_over-requires-clause-tail_in : goal.carry_over-requires-clause-tail_in
+carry_over-requires-clause-tail_in c = omega (arith, (c.requires.ends _ c.if-k-rows.true).0, c.loop-j.invariant.0)
+
+pub carry_over-requires-clause-head_in : goal.carry_over-requires-clause-head_in
+carry_over-requires-clause-head_in c = omega (arith, (c.requires.ends _ c.if-k-rows.true).1, c.loop-j.invariant.0)
+
+pub returns-clause-excess : goal.returns-clause-excess
+returns-clause-excess c =
     let rows = c.args.rows.now in
     let kept = c.args.flow.now.kept.items in
     let entries = c.args.flow.now.entries.items in
     λ supply is. subst (λ (x : List ℤ). IsWrappedExcess rows supply x c.loop-j.excess)
-    (part_ends c.args.flow.now.touched c.places-places.result.now entries kept c.loop-j.j c.loop-j.invariant.0 (omega arith) (omega arith) c.requires.tracked.same_length c.places-places.ensures.listed c.places-places.ensures.noted (λ k none. sym (c.requires.tracked.elsewhere k none (pos 0))) c.loop-j.invariant.1)
-    (c.loop-j.invariant.2 supply is)
+    (part_ends c.args.flow.now.touched c.places-places.result.now entries kept c.loop-j.j c.loop-j.invariant.1 (omega arith) (omega arith) c.requires.tracked.same_length c.places-places.ensures.listed c.places-places.ensures.noted (λ k none. sym (c.requires.tracked.elsewhere k none (pos 0))) c.loop-j.invariant.2)
+    (c.loop-j.invariant.3 supply is)

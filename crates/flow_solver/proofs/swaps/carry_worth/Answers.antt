@@ -1,6 +1,6 @@
 use Rattle.std.proofs.Common.{◌≡◌, ◌∙◌, ◌<◌, pos, length, arith, refl, rules, sym, ap, w64, SFits, to_z, of_z}
 use Rattle.std.proofs.lemmas.Int.{to_z-of_z}
-use Rattle.std.proofs.lemmas.List.{get_or_default, with_items_is}
+use Rattle.std.proofs.lemmas.List.{get_or_default}
 use Rattle.residual_graph.specs.Residual.{row_at, number_at}
 use Rattle.flow_solver.proofs.CarryLemmas.{balance_set, carried_as}
 use Rattle.flow_solver.proofs.swaps.carry_worth.Goals as goal
@@ -14,6 +14,5 @@ returns-in-Best-clause-balance c =
     let many = c.requires.flow_in ∙ sym (ap length c.requires.rows) in
     let entry_fits : SFits w64 c.index.result.now = search rules in
     let entry : to_z w64 (of_z w64 c.index.result.now) ≡ number_at flow.entries.items 0 = to_z-of_z w64 c.index.result.now entry_fits ∙ c.index.ensures ∙ get_or_default flow.entries.items 0 c.index.result.now (pos 0) (omega (arith, first, many)) in
-    let excess = with_items_is balance.excess c.carry_over.new.excess (c.carry_over.auto.excess ∙ c.deref_mut.ensures.len) in
-    let carried = carried_as (row_at rows 0) _ (number_at flow.entries.items 0) _ _ _ balance.excess.items _ _ _ refl entry refl c.deref_mut.ensures.value (sym excess) c.carry_over.ensures in
+    let carried = carried_as (row_at rows 0) _ (number_at flow.entries.items 0) _ _ _ balance.excess _ refl entry refl c.carry_over.ensures in
     balance_set c.args.net.now rows flow c.set.new.self balance _ 0 _ first many carried refl c.set.ensures.entries c.set.ensures.written.kept c.requires.balance

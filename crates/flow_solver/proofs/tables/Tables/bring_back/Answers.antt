@@ -1,5 +1,4 @@
-use Rattle.std.proofs.Common.{◌≡◌, ◌∙◌, List, ℤ, ap, arith, false, length, refl, subst, sym}
-use Rattle.std.proofs.lemmas.List.{with_items_is}
+use Rattle.std.proofs.Common.{◌≡◌, ◌∙◌, List, ap, arith, false, length, refl, subst, sym}
 use Rattle.dimacs_text.specs.declared.problem.ArcRow.{ArcRow}
 use Rattle.network.specs.Instance.{reduced}
 use Rattle.flow_solver.specs.Balance.{IsWrappedExcess}
@@ -21,11 +20,8 @@ invariant_of-self c =
     let size = sym (length_kept t.flow inv.flow_tracked) ∙ many ∙ sym inv.flow_in in
     let potentials = length_kept t.potentials inv.potentials_in.tracked ∙ inv.potentials_in.size_is in
     let cut = length_kept t.cut inv.cut_in.tracked ∙ inv.cut_in.size_is in
-    let items = with_items_is t.balance.excess c.carry_back.new.excess (c.carry_back.auto.excess ∙ c.deref_mut.ensures.len) in
-    let before = subst (λ (r : List ArcRow). IsWrappedExcess r (sends I) t.flow.entries.items c.deref_mut.result.now) (sym c.rows.ensures)
-    (subst (λ (e : List ℤ). IsWrappedExcess t.graph.rows (sends I) t.flow.entries.items e) (sym c.deref_mut.ensures.value) inv.balance_is.excess) in
-    let after = subst (λ (r : List ArcRow). IsWrappedExcess r (sends I) t.flow.kept.items c.carry_back.new.excess) c.rows.ensures (c.carry_back.ensures (sends I) before) in
-    let excess = subst (λ (e : List ℤ). IsWrappedExcess t.graph.rows (sends I) t.flow.kept.items e) (sym items) after in
+    let before = subst (λ (r : List ArcRow). IsWrappedExcess r (sends I) t.flow.entries.items t.balance.excess) (sym c.rows.ensures) inv.balance_is.excess in
+    let excess = subst (λ (r : List ArcRow). IsWrappedExcess r (sends I) t.flow.kept.items c.carry_back.new.excess) c.rows.ensures (c.carry_back.ensures.excess (sends I) before) in
     record {
       graph = inv.graph;
       flow_tracked = c.bring_back.ensures.tracked;
@@ -35,7 +31,7 @@ invariant_of-self c =
       idle = subst IsIdleEntry (sym c.bring_back-2.ensures.entries) inv.kept_idle;
       kept_idle = subst IsIdleEntry (sym c.bring_back-2.ensures.kept) inv.kept_idle;
       balance_is = balance_back I t.graph.rows t.flow c.bring_back.new.self t.balance _ inv.flow_tracked size c.bring_back.ensures.entries c.bring_back.ensures.whole
-          (ap length items ∙ c.carry_back.auto.excess ∙ ap length c.deref_mut.ensures.value) excess refl inv.balance_is;
+          c.carry_back.ensures.same_length excess refl inv.balance_is;
       cut_in = nodes_alike I.nodes c.bring_back-3.new.self (kept_in t.cut) (kept_in t.cut) c.bring_back-3.ensures.tracked c.bring_back-3.ensures.entries c.bring_back-3.ensures.kept cut cut;
       scratch_in = scratch_told _ t.scratch false inv.scratch_in;
       standing = λ none. cc;

@@ -1,8 +1,7 @@
 use Rattle.std.proofs.Common.{◌≡◌, ◌∙◌, ◌-◌, ◌<◌, ◌∷◌, [], ◌+ℤ◌, ◌-ℤ◌, ◌*ℤ◌, ℕ, ℤ, List, pos, drop, ap, arith, false, length, refl, rules, subst, sym, w64, SFits, to_z, of_z}
 use Rattle.std.specs.Int.{int_wrap, w128}
-use Rattle.std.specs.Vec.{with_items}
 use Rattle.std.proofs.lemmas.Int.{to_z-of_z}
-use Rattle.std.proofs.lemmas.List.{get_or_default, length-append, with_items_is}
+use Rattle.std.proofs.lemmas.List.{get_or_default, length-append}
 use Rattle.dimacs_text.specs.declared.problem.ArcRow.{ArcRow}
 use Rattle.network.specs.Instance.{Instance}
 use Rattle.flow_solver.specs.TablesView.{TablesView}
@@ -27,7 +26,7 @@ carry_over-requires-clause-tail_in c =
     let there = last_place (goal.at.carry_over-requires-clause-tail_in c).After-rows in
     let ends = ends_in t.graph.net t.graph.rows t.balance c.self.invariant.graph.rows.lawful c.self.invariant.graph.rows.rows_are c.self.invariant.balance_is.sized (length c.rows.result.now - 1) there in
     let row : row_at c.rows-2.result.now (length c.rows.result.now - 1) ≡ row_at t.graph.rows (length c.rows.result.now - 1) = ap (λ (r : List ArcRow). row_at r (length c.rows.result.now - 1)) c.rows-2.ensures in
-    omega (arith, ends.0, ap (λ a. a.tail) row, ap length c.deref_mut.ensures.value)
+    omega (arith, ends.0, ap (λ a. a.tail) row)
 
 pub carry_over-requires-clause-head_in : goal.carry_over-requires-clause-head_in
 carry_over-requires-clause-head_in c =
@@ -35,7 +34,7 @@ carry_over-requires-clause-head_in c =
     let there = last_place (goal.at.carry_over-requires-clause-head_in c).After-rows in
     let ends = ends_in t.graph.net t.graph.rows t.balance c.self.invariant.graph.rows.lawful c.self.invariant.graph.rows.rows_are c.self.invariant.balance_is.sized (length c.rows.result.now - 1) there in
     let row : row_at c.rows-2.result.now (length c.rows.result.now - 1) ≡ row_at t.graph.rows (length c.rows.result.now - 1) = ap (λ (r : List ArcRow). row_at r (length c.rows.result.now - 1)) c.rows-2.ensures in
-    omega (arith, ends.1, ap (λ a. a.head) row, ap length c.deref_mut.ensures.value)
+    omega (arith, ends.1, ap (λ a. a.head) row)
 
 pub invariant_of-self : goal.invariant_of-self
 invariant_of-self c =
@@ -57,9 +56,8 @@ invariant_of-self c =
     let old = to_z-of_z w128 t.balance.cost old_fits in
     let cost : to_z w128 (of_z w128 c.reprice-self-inside.result) ≡ int_wrap w128 (t.balance.cost +ℤ (pos 0 -ℤ number_at t.flow.kept.items last) *ℤ (row_at t.graph.rows last).cost) =
     to_z-of_z w128 c.reprice-self-inside.result (record { sfits = c.reprice-self-inside.type_inv }) ∙ c.reprice-self-inside.ensures ∙ (λ i. int_wrap w128 (old i +ℤ (pos 0 -ℤ was i) *ℤ price i)) in
-    let now = record t.balance { excess = with_items t.balance.excess c.carry_over.new.excess; cost = to_z w128 (of_z w128 c.reprice-self-inside.result) } in
-    let excess = with_items_is t.balance.excess c.carry_over.new.excess (c.carry_over.auto.excess ∙ c.deref_mut.ensures.len) in
-    let carried = carried_as (row_at t.graph.rows last) _ (number_at t.flow.entries.items last) _ (pos 0) _ t.balance.excess.items _ now.excess.items _ row entry refl c.deref_mut.ensures.value (sym excess) c.carry_over.ensures in
+    let now = record t.balance { excess = c.carry_over.new.excess; cost = to_z w128 (of_z w128 c.reprice-self-inside.result) } in
+    let carried = carried_as (row_at t.graph.rows last) _ (number_at t.flow.entries.items last) _ (pos 0) _ t.balance.excess now.excess row entry refl c.carry_over.ensures in
     let balance = balance_dropped I J t.graph.rows c.pop_arc-row.new.self.rows t.flow c.pop-flow.new.self t.balance now c.pop_arc-row.result c.pop-flow.result last
     inv.graph.rows.rows_are c.pop_arc-row.ensures.graph.rows.rows_are c.pop_arc-row.ensures.net c.pop-flow.ensures.tracked inv.flow_in (inv.flow_tracked.same_length ∙ inv.flow_in) c.pop-flow.ensures.entries c.pop-flow.ensures.whole
     (ap (λ (n : ℕ). n - 1) many) carried cost inv.balance_is in

@@ -45,9 +45,9 @@ invariant_of-result c =
       kept_idle = subst IsIdleEntry (sym kept_zeros) (idle_zeros c.nodes.result);
       balance_is = record {
         sized = c.in_ok-balance.ensures.sized ∙ ap (λ (I : Instance). I.nodes + 1) c.network-3.ensures;
-        excess = subst (λ (r : List ArcRow). IsWrappedExcess r (sends c.in_ok-graph.graph.net) flow.entries.items balance.excess.items) c.rows-2.ensures
-            (subst (λ (x : List ℤ). IsWrappedExcess c.rows-2.result.now (sends c.in_ok-graph.graph.net) x balance.excess.items) c.deref.ensures.value
-            (subst (λ (I : Instance). IsWrappedExcess c.rows-2.result.now (sends I) c.deref.result.now balance.excess.items) c.network-3.ensures c.in_ok-balance.ensures.excess));
+        excess = subst (λ (r : List ArcRow). IsWrappedExcess r (sends c.in_ok-graph.graph.net) flow.entries.items balance.excess) c.rows-2.ensures
+            (subst (λ (x : List ℤ). IsWrappedExcess c.rows-2.result.now (sends c.in_ok-graph.graph.net) x balance.excess) c.deref.ensures.value
+            (subst (λ (I : Instance). IsWrappedExcess c.rows-2.result.now (sends I) c.deref.result.now balance.excess) c.network-3.ensures c.in_ok-balance.ensures.excess));
         cost = subst (λ (r : List ArcRow). IsWrappedCost r flow.kept.items balance.cost) c.rows-2.ensures
             (subst (λ (x : List ℤ). IsWrappedCost c.rows-2.result.now x balance.cost) (c.deref.ensures.value ∙ c.in_ok-flow.ensures.entries ∙ sym c.in_ok-flow.ensures.whole) c.in_ok-balance.ensures.cost);
       };

@@ -1,10 +1,11 @@
-use Rattle.std.proofs.Common.{◌≡◌, ◌∙◌, ◌+ℤ◌, ◌-ℤ◌, ◌*ℤ◌, ◌++◌, ◌∷◌, [], ℤ, List, pos, ap, arith, false, length, refl, rules, sym, w64, SFits, to_z, of_z}
+use Rattle.std.proofs.Common.{◌≡◌, ◌∙◌, ◌+ℤ◌, ◌-ℤ◌, ◌*ℤ◌, ◌<◌, ◌++◌, ◌∷◌, [], ℤ, List, pos, ap, arith, false, length, refl, rules, subst, sym, w64, SFits, to_z, of_z}
 use Rattle.std.specs.Int.{int_wrap, w128}
-use Rattle.std.specs.Vec.{with_items}
 use Rattle.std.proofs.lemmas.Int.{to_z-of_z}
-use Rattle.std.proofs.lemmas.List.{length-append, with_items_is}
+use Rattle.std.proofs.lemmas.List.{length-append}
 use Rattle.dimacs_text.specs.declared.problem.ArcRow.{ArcRow}
 use Rattle.network.specs.Instance.{Instance}
+use Rattle.flow_solver.specs.TablesView.{TablesView}
+use Rattle.flow_solver.proofs.InstanceLemmas.{rows_counted}
 use Rattle.flow_solver.proofs.CarryLemmas.{balance_put, carried_as}
 use Rattle.flow_solver.proofs.TablesViewLemmas.{tables_with_arcs}
 use Rattle.flow_solver.proofs.StandingLemmas.{scratch_told}
@@ -17,8 +18,7 @@ invariant_of-self c =
     let J = c.push_arc.new.self.net in
     let inv = c.self.invariant in
     let many = ap (λ (xs : List ℤ). length xs) c.push.ensures.entries ∙ length-append t.flow.entries.items _ in
-    let now = record t.balance { excess = with_items t.balance.excess c.carry_over.new.excess; cost = to_z w128 (of_z w128 c.reprice-self-inside.result) } in
-    let excess = with_items_is t.balance.excess c.carry_over.new.excess (c.carry_over.auto.excess ∙ c.deref_mut.ensures.len) in
+    let now = record t.balance { excess = c.carry_over.new.excess; cost = to_z w128 (of_z w128 c.reprice-self-inside.result) } in
     let flow_fits : SFits w64 c.args.flow = search rules in
     let price_fits : SFits w64 c.args.row.cost = search rules in
     let old_fits : SFits w128 t.balance.cost = search rules in
@@ -27,7 +27,7 @@ invariant_of-self c =
     let old = to_z-of_z w128 t.balance.cost old_fits in
     let cost : to_z w128 (of_z w128 c.reprice-self-inside.result) ≡ int_wrap w128 (t.balance.cost +ℤ (c.args.flow -ℤ pos 0) *ℤ c.args.row.cost) =
     to_z-of_z w128 c.reprice-self-inside.result (record { sfits = c.reprice-self-inside.type_inv }) ∙ c.reprice-self-inside.ensures ∙ (λ i. int_wrap w128 (old i +ℤ (flow i -ℤ pos 0) *ℤ price i)) in
-    let carried = carried_as c.args.row _ (pos 0) _ c.args.flow _ t.balance.excess.items _ now.excess.items _ refl refl flow c.deref_mut.ensures.value (sym excess) c.carry_over.ensures in
+    let carried = carried_as c.args.row _ (pos 0) _ c.args.flow _ t.balance.excess now.excess refl refl flow c.carry_over.ensures in
     let balance = balance_put I J t.graph.rows c.push_arc.new.self.rows t.flow c.push.new.self t.balance now c.args.row c.args.flow inv.graph.rows.rows_are c.push_arc.ensures.graph.rows.rows_are c.push_arc.ensures.net
     inv.flow_in (inv.flow_tracked.same_length ∙ inv.flow_in) (c.push.ensures.entries ∙ ap (λ (y : ℤ). t.flow.entries.items ++ y ∷ []) flow) (c.push.ensures.whole ∙ ap (λ (y : ℤ). t.flow.kept.items ++ y ∷ []) flow) carried cost inv.balance_is in
     tables_with_arcs t.graph c.push_arc.new.self t.flow c.push.new.self t.potentials t.balance now t.cut t.scratch _ t.before
@@ -35,3 +35,10 @@ invariant_of-self c =
     c.push.ensures.tracked
     (omega (arith, many, inv.flow_in, ap (λ (r : List ArcRow). length r) c.push_arc.ensures.rows, length-append t.graph.rows (c.args.row ∷ [])))
     c.push.ensures.room balance (scratch_told _ t.scratch false inv.scratch_in) (λ none. cc)
+
+pub push-requires-clause-room : goal.push-requires-clause-room
+push-requires-clause-room c =
+    let I = c.self.inside.graph.net in
+    let inv = c.self.invariant in
+    let room = subst (λ (b : TablesView). length b.moment.instance.arcs < b.moment.instance.room) (sym c.self.view_is) c.requires.room in
+    omega (arith, inv.flow_in, ap (λ (r : List ArcRow). length r) inv.graph.rows.rows_are, rows_counted I.demand I.arcs, room, inv.flow_fits)

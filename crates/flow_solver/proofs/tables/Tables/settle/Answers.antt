@@ -1,6 +1,4 @@
-use Rattle.std.proofs.Common.{◌≡◌, ◌∙◌, ◌+◌, ◌≤◌, ◌<◌, ◌≤ℤ◌, ℕ, ℤ, pos, List, drop, length, arith, refl, sym, ap, subst}
-use Rattle.std.specs.Vec.{with_items}
-use Rattle.std.proofs.lemmas.List.{with_items_is}
+use Rattle.std.proofs.Common.{◌≡◌, ◌∙◌, ◌+◌, ◌≤◌, ◌≤ℤ◌, ℕ, ℤ, pos, List, drop, length, arith, refl, sym, ap, subst}
 use Rattle.std.proofs.lemmas.Int.{ints}
 use Rattle.dimacs_text.specs.declared.problem.ArcRow.{ArcRow}
 use Rattle.network.specs.Flow.{AllWithinBounds, IsCertifiedFlow, total_excess}
@@ -9,9 +7,8 @@ use Rattle.network.proofs.Reduction.{reduced_ends}
 use Rattle.augmentation.specs.Limits.{cap_sum_limit}
 use Rattle.residual_graph.specs.Limits.{entry_limit}
 use Rattle.residual_graph.specs.Residual.{IsReducedCostOptimal}
-use Rattle.augmentation.specs.Push.{AreSmall, IsExcess, Pushes, cap_total, left}
-use Rattle.augmentation.specs.Cut.{lack}
-use Rattle.flow_solver.specs.Balance.{IsBalanceOf, IsWrappedCost, IsWrappedExcess}
+use Rattle.augmentation.specs.Push.{IsExcess, Pushes, cap_total}
+use Rattle.flow_solver.specs.Balance.{IsBalanceOf, IsWrappedCost}
 use Rattle.flow_solver.specs.Answer.{IsJudged, worth_by}
 use Rattle.augmentation.specs.Nodes.{held}
 use Rattle.augmentation.specs.Scratch.{IsScratchFor}
@@ -35,26 +32,19 @@ settle-pushes-requires-clause-potentials_in c =
 
 pub settle-pushes-requires-clause-small : goal.settle-pushes-requires-clause-small
 settle-pushes-requires-clause-small c =
-    subst AreSmall (sym c.deref_mut.ensures.value)
-    (exact_of_certified c.self.inside.graph.net c.self.inside.graph.rows c.self.inside.flow.entries.items c.self.inside.balance.excess.items (at_node (drop 1 c.self.inside.potentials.entries.items)) c.self.invariant.graph.rows.lawful c.self.invariant.graph.rows.rows_are (subst (λ (b : TablesView). IsCertifiedFlow (reduced b.moment.instance) b.moment.flow (at_node b.moment.potentials)) (sym c.self.view_is) c.requires) c.self.invariant.balance_is.excess).small
+    (exact_of_certified c.self.inside.graph.net c.self.inside.graph.rows c.self.inside.flow.entries.items c.self.inside.balance.excess (at_node (drop 1 c.self.inside.potentials.entries.items)) c.self.invariant.graph.rows.lawful c.self.invariant.graph.rows.rows_are (subst (λ (b : TablesView). IsCertifiedFlow (reduced b.moment.instance) b.moment.flow (at_node b.moment.potentials)) (sym c.self.view_is) c.requires) c.self.invariant.balance_is.excess).small
 
 -- the flow is certified before
 certified_in : (c : After-settle-pushes) → IsCertifiedFlow (reduced c.self.inside.graph.net) c.self.inside.flow.entries.items (at_node (drop 1 c.self.inside.potentials.entries.items))
 certified_in c = subst (λ (b : TablesView). IsCertifiedFlow (reduced b.moment.instance) b.moment.flow (at_node b.moment.potentials)) (sym c.self.view_is) c.requires
 
 -- what lay in excess before
-excess_before : (c : After-settle-pushes) → IsExcess c.self.inside.graph.rows (held c.self.inside.graph.net.nodes (reduced c.self.inside.graph.net).supply) c.self.inside.flow.entries.items c.deref_mut.result.now
+excess_before : (c : After-settle-pushes) → IsExcess c.self.inside.graph.rows (held c.self.inside.graph.net.nodes (reduced c.self.inside.graph.net).supply) c.self.inside.flow.entries.items c.self.inside.balance.excess
 excess_before c =
-    let supply = held c.self.inside.graph.net.nodes (reduced c.self.inside.graph.net).supply in
-    subst (λ (e : List ℤ). IsExcess c.self.inside.graph.rows supply c.self.inside.flow.entries.items e) (sym c.deref_mut.ensures.value)
-    (exact_of_certified c.self.inside.graph.net c.self.inside.graph.rows c.self.inside.flow.entries.items c.self.inside.balance.excess.items (at_node (drop 1 c.self.inside.potentials.entries.items)) c.self.invariant.graph.rows.lawful c.self.invariant.graph.rows.rows_are (certified_in c) c.self.invariant.balance_is.excess).excess
-
--- what lies in excess after the searches
-excess_is : (c : After-settle-pushes) → (with_items c.self.inside.balance.excess c.settle-pushes.new.excess).items ≡ c.settle-pushes.new.excess
-excess_is c = with_items_is c.self.inside.balance.excess c.settle-pushes.new.excess (c.settle-pushes.auto.excess ∙ c.deref_mut.ensures.len)
+    (exact_of_certified c.self.inside.graph.net c.self.inside.graph.rows c.self.inside.flow.entries.items c.self.inside.balance.excess (at_node (drop 1 c.self.inside.potentials.entries.items)) c.self.invariant.graph.rows.lawful c.self.invariant.graph.rows.rows_are (certified_in c) c.self.invariant.balance_is.excess).excess
 
 excess_in : (c : After-settle-pushes) → length c.settle-pushes.new.excess ≡ c.self.inside.graph.net.nodes + 1
-excess_in c = c.settle-pushes.auto.excess ∙ ap length c.deref_mut.ensures.value ∙ c.self.invariant.balance_is.sized
+excess_in c = c.settle-pushes.ensures.excess_in ∙ c.self.invariant.balance_is.sized
 
 -- what stands in the tables after the searches
 end : (c : After-settle-pushes) → IsEnd c.self.inside.graph.net c.settle-pushes.new.flow.entries.items c.settle-pushes.new.potentials.entries.items c.settle-pushes.new.excess c.settle-pushes.new.cut.entries.items
@@ -79,31 +69,23 @@ judge-self-inside-requires-clause-bounds c =
     subst (λ (r : List ArcRow). AllWithinBounds r c.settle-pushes.new.flow.entries.items) (sym c.rows.ensures)
     (bounds_from c.self.inside.graph.rows c.settle-pushes.new.flow.entries.items c.settle-pushes.ensures.certified.flow.same_length c.settle-pushes.ensures.certified.flow.within)
 
-pub judge-self-inside-requires-clause-small : goal.judge-self-inside-requires-clause-small
-judge-self-inside-requires-clause-small c =
-    subst AreSmall (sym (excess_is (goal.at.judge-self-inside-requires-clause-small c).After-settle-pushes)) c.settle-pushes.ensures.small
-
 pub judge-self-inside-requires-clause-left_fits : goal.judge-self-inside-requires-clause-left_fits
 judge-self-inside-requires-clause-left_fits c =
     let s = (goal.at.judge-self-inside-requires-clause-left_fits c).After-settle-pushes in
     let supply = held c.self.inside.graph.net.nodes (reduced c.self.inside.graph.net).supply in
-    subst (λ (e : List ℤ). left e < 9223372036854775808) (sym (excess_is s))
     (left_fits c.self.inside.graph.rows supply c.settle-pushes.new.excess c.settle-pushes.new.cut.entries.items (supplies_of_instance c.self.inside.graph.net c.self.invariant.graph.rows.lawful) (rows_in s) (caps s) (omega (arith, few s, (end s).cut_in)) (c.settle-pushes.ensures.cut supply (excess_before s)))
 
 pub judge-self-inside-requires-clause-lack_fits : goal.judge-self-inside-requires-clause-lack_fits
 judge-self-inside-requires-clause-lack_fits c =
     let s = (goal.at.judge-self-inside-requires-clause-lack_fits c).After-settle-pushes in
     let supply = held c.self.inside.graph.net.nodes (reduced c.self.inside.graph.net).supply in
-    subst (λ (e : List ℤ). left e ≡ 0 → lack e < 9223372036854775808) (sym (excess_is s))
     (lack_fits c.self.inside.graph.rows supply c.settle-pushes.new.excess c.settle-pushes.new.cut.entries.items (supplies_of_instance c.self.inside.graph.net c.self.invariant.graph.rows.lawful) (rows_in s) (caps s) (omega (arith, few s, (end s).cut_in)) (c.settle-pushes.ensures.cut supply (excess_before s)))
 
 judged : (c : After-judge-self-inside) → IsJudged (worth_by c.self.inside.graph.net.demand (reduced c.self.inside.graph.net).arcs c.settle-pushes.new.flow.entries.items) c.settle-pushes.new.excess c.judge-self-inside.result
 judged c =
-    let excess_is = with_items_is c.self.inside.balance.excess c.settle-pushes.new.excess (c.settle-pushes.auto.excess ∙ c.deref_mut.ensures.len) in
     subst (λ (r : List ArcRow). IsJudged (worth_by c.self.inside.graph.net.demand r c.settle-pushes.new.flow.entries.items) c.settle-pushes.new.excess c.judge-self-inside.result) c.self.invariant.graph.rows.rows_are
-    (subst (λ (e : List ℤ). IsJudged (worth_by c.self.inside.graph.net.demand c.self.inside.graph.rows c.settle-pushes.new.flow.entries.items) e c.judge-self-inside.result) excess_is
-    (subst (λ (r : List ArcRow). IsJudged (worth_by c.self.inside.graph.net.demand r c.settle-pushes.new.flow.entries.items) (with_items c.self.inside.balance.excess c.settle-pushes.new.excess).items c.judge-self-inside.result) c.rows.ensures
-    (subst (λ (I : Instance). IsJudged (worth_by I.demand c.rows.result.now c.settle-pushes.new.flow.entries.items) (with_items c.self.inside.balance.excess c.settle-pushes.new.excess).items c.judge-self-inside.result) c.network.ensures c.judge-self-inside.ensures)))
+    (subst (λ (r : List ArcRow). IsJudged (worth_by c.self.inside.graph.net.demand r c.settle-pushes.new.flow.entries.items) c.settle-pushes.new.excess c.judge-self-inside.result) c.rows.ensures
+    (subst (λ (I : Instance). IsJudged (worth_by I.demand c.rows.result.now c.settle-pushes.new.flow.entries.items) c.settle-pushes.new.excess c.judge-self-inside.result) c.network.ensures c.judge-self-inside.ensures))
 
 pub invariant_of-self : goal.invariant_of-self
 invariant_of-self c =
@@ -112,11 +94,10 @@ invariant_of-self c =
     let call = c.settle-pushes in
     let s = (goal.at.invariant_of-self c).After-settle-pushes in
     let supply = held t.graph.net.nodes (reduced t.graph.net).supply in
-    let now = record t.balance { excess = with_items t.balance.excess call.new.excess } in
+    let now = record t.balance { excess = call.new.excess } in
     let balance : IsBalanceOf t.graph.net t.graph.rows call.new.flow now = record {
-      sized = ap length (excess_is s) ∙ excess_in s;
-      excess = subst (λ (e : List ℤ). IsWrappedExcess t.graph.rows supply call.new.flow.entries.items e) (sym (excess_is s))
-          (wrapped_small t.graph.rows supply call.new.flow.entries.items call.new.excess (call.ensures.excess supply (excess_before s)) call.ensures.small);
+      sized = excess_in s;
+      excess = (wrapped_small t.graph.rows supply call.new.flow.entries.items call.new.excess (call.ensures.excess supply (excess_before s)) call.ensures.small);
       cost = subst (λ (k : List ℤ). IsWrappedCost t.graph.rows k t.balance.cost) (ap (λ v. v.items) (sym call.ensures.flow_written.kept)) inv.balance_is.cost;
     } in
     let many = call.ensures.potentials_written.same_length ∙ inv.potentials_in.entries_in in
@@ -161,8 +142,8 @@ returns-clause-count c =
     let t = c.self.inside in
     let I = t.graph.net in
     let supply = held I.nodes (reduced I).supply in
-    let e = c.deref_mut.result.now in
+    let e = t.balance.excess in
     let before = subst (λ (r : List ArcRow). IsExcess r supply t.flow.entries.items e) c.self.invariant.graph.rows.rows_are (excess_before s) in
-    let all = left_is (reduced I) t.flow.entries.items e (reduced_ends I c.self.invariant.graph.rows.lawful) before (omega (arith, ap length c.deref_mut.ensures.value, c.self.invariant.balance_is.sized)) in
+    let all = left_is (reduced I) t.flow.entries.items e (reduced_ends I c.self.invariant.graph.rows.lawful) before (omega (arith, c.self.invariant.balance_is.sized)) in
     let most : pos c.settle-pushes.result ≤ℤ total_excess (reduced I) t.flow.entries.items = omega (arith, ints, all, c.settle-pushes.ensures.count) in
     subst (λ (b : TablesView). pos c.settle-pushes.result ≤ℤ total_excess (reduced b.moment.instance) b.moment.flow) c.self.view_is most

@@ -1,7 +1,7 @@
 use Rattle.std.proofs.Common.{◌≡◌, ◌∙◌, ◌≤◌, ◌-◌, ◌+◌, ℕ, ℤ, List, pos, length, slice_set, drop, ap, arith, false, refl, rules, subst, sym, w64, SFits}
 use Rattle.std.specs.Prelude.{slice_index_or}
 use Rattle.std.proofs.lemmas.Int.{to_z-of_z}
-use Rattle.std.proofs.lemmas.List.{get_or_default, with_items_is}
+use Rattle.std.proofs.lemmas.List.{get_or_default}
 use Rattle.dimacs_text.specs.declared.problem.ArcRow.{ArcRow}
 use Rattle.flow_solver.specs.TablesView.{TablesView, flow_index}
 use Rattle.residual_graph.specs.Residual.{row_at, number_at}
@@ -30,7 +30,7 @@ carry_over-requires-clause-tail_in c =
     let there = (place_there before).in_rows in
     let ends = ends_in t.graph.net t.graph.rows t.balance c.self.invariant.graph.rows.lawful c.self.invariant.graph.rows.rows_are c.self.invariant.balance_is.sized place there in
     let row : row_at c.rows.result.now place ≡ row_at t.graph.rows place = ap (λ (r : List ArcRow). row_at r place) c.rows.ensures in
-    omega (arith, ends.0, ap (λ a. a.tail) row, ap length c.deref_mut.ensures.value)
+    omega (arith, ends.0, ap (λ a. a.tail) row)
 
 pub carry_over-requires-clause-head_in : goal.carry_over-requires-clause-head_in
 carry_over-requires-clause-head_in c =
@@ -40,7 +40,7 @@ carry_over-requires-clause-head_in c =
     let there = (place_there before).in_rows in
     let ends = ends_in t.graph.net t.graph.rows t.balance c.self.invariant.graph.rows.lawful c.self.invariant.graph.rows.rows_are c.self.invariant.balance_is.sized place there in
     let row : row_at c.rows.result.now place ≡ row_at t.graph.rows place = ap (λ (r : List ArcRow). row_at r place) c.rows.ensures in
-    omega (arith, ends.1, ap (λ a. a.head) row, ap length c.deref_mut.ensures.value)
+    omega (arith, ends.1, ap (λ a. a.head) row)
 
 pub invariant_of-self : goal.invariant_of-self
 invariant_of-self c =
@@ -54,8 +54,7 @@ invariant_of-self c =
     let entry = to_z-of_z w64 c.index.result.now entry_fits ∙ c.index.ensures ∙ get_or_default t.flow.entries.items place c.index.result.now (pos 0) (omega (arith, there, inv.flow_in)) in
     let value_fits : SFits w64 c.args.value.now = search rules in
     let value = to_z-of_z w64 c.args.value.now value_fits in
-    let excess = with_items_is t.balance.excess c.carry_over.new.excess (c.carry_over.auto.excess ∙ c.deref_mut.ensures.len) in
-    let carried = carried_as (row_at t.graph.rows place) _ (number_at t.flow.entries.items place) _ c.args.value.now _ t.balance.excess.items _ _ _ row entry value c.deref_mut.ensures.value (sym excess) c.carry_over.ensures in
+    let carried = carried_as (row_at t.graph.rows place) _ (number_at t.flow.entries.items place) _ c.args.value.now _ t.balance.excess _ row entry value c.carry_over.ensures in
     let balance = balance_set t.graph.net t.graph.rows t.flow c.exchange.new.self t.balance _ place c.args.value.now there inv.flow_in carried refl c.exchange.ensures.entries c.exchange.ensures.written.kept inv.balance_is in
     tables_written t.graph t.graph t.flow c.exchange.new.self t.potentials t.potentials t.balance _ t.cut t.cut t.scratch _ t.before
     inv refl refl inv.graph refl c.exchange.ensures.written (IsWritten-same t.potentials inv.potentials_in.tracked)

@@ -1,7 +1,5 @@
 use Rattle.std.proofs.Common.{◌∙◌, ◌≡◌, ◌+◌, ◌-◌, ℤ, List, ap, drop, length, refl, rules, slice_index_or, subst, sym, w64, SFits}
-use Rattle.std.specs.Vec.{with_items}
 use Rattle.std.proofs.lemmas.Int.{to_z-of_z}
-use Rattle.std.proofs.lemmas.List.{with_items_is}
 use Rattle.dimacs_text.specs.Lawful.{IsNode}
 use Rattle.dimacs_text.specs.declared.problem.ArcRow.{ArcRow}
 use Rattle.dimacs_text.specs.declared.problem.Kind.TheVariants.{Min}
@@ -32,9 +30,8 @@ invariant_of-self c =
     let after_fits : SFits w64 c.args.value.now = search rules in
     let after = to_z-of_z w64 c.args.value.now after_fits in
     let net : J ≡ supplied I c.args.id c.args.value.now = c.set_supply.ensures.net ∙ ap (λ (z : ℤ). supplied I c.args.id z) after in
-    let excess = with_items_is t.balance.excess c.add_difference.new.excess (c.add_difference.auto.excess ∙ c.deref_mut.ensures.len) in
-    let raised = raised_as c.args.id ((reduced I).supply c.args.id) _ c.args.value.now _ t.balance.excess.items _ _ _ before after c.deref_mut.ensures.value (sym excess) c.add_difference.ensures in
-    let now = record t.balance { excess = with_items t.balance.excess c.add_difference.new.excess } in
+    let raised = raised_as c.args.id ((reduced I).supply c.args.id) _ c.args.value.now _ t.balance.excess _ before after c.add_difference.ensures in
+    let now = record t.balance { excess = c.add_difference.new.excess } in
     let balance = subst (λ (K : Instance). IsBalanceOf K t.graph.rows t.flow now) (sym net) (balance_supplied I t.graph.rows t.flow t.balance now c.args.id c.args.value.now inv.graph.rows.lawful kind node raised refl inv.balance_is) in
     let rows = c.set_supply.ensures.rows in
     tables_written t.graph c.set_supply.new.self t.flow t.flow t.potentials t.potentials t.balance now t.cut t.cut t.scratch t.scratch t.before

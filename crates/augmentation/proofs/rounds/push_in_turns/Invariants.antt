@@ -7,7 +7,7 @@ use Rattle.residual_graph.specs.Rooms.{AreRooms}
 use Rattle.residual_graph.specs.Side.{seen}
 use Rattle.augmentation.specs.Tracked.{IsWritten}
 use Rattle.augmentation.specs.Rounds.{seen_excess}
-use Rattle.augmentation.proofs.rounds.push_all.Given as goal
+use Rattle.augmentation.proofs.rounds.push_in_turns.Given as goal
 
 abbrev pub invariant-loop-reach : goal.invariant-loop-reach
 invariant-loop-reach l = record {

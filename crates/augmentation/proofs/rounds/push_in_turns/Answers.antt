@@ -1,5 +1,4 @@
 use Rattle.std.proofs.Common.{◌≡◌, ◌∙◌, ◌+◌, ◌<◌, ◌^◌, ℕ, ℤ, pos, List, length, refl, ap, sym, subst, arith, rules, w64, to_z, of_z, SFits}
-use Rattle.std.proofs.lemmas.Bool.{false≢true}
 use Rattle.std.proofs.lemmas.Int.{ints, to_z-of_z}
 use Rattle.residual_graph.specs.declared.side.Side.{Side}
 use Rattle.shortest_paths.specs.declared.node_label.NodeLabel.{NodeLabel}
@@ -18,19 +17,14 @@ use Rattle.residual_graph.proofs.SideLemmas.{flow_of_seen}
 use Rattle.augmentation.proofs.SettleLemmas.{left-small, ArePushes-none, ArePushes-more}
 use Rattle.augmentation.specs.Rounds.{seen_excess}
 use Rattle.augmentation.proofs.TrackedLemmas.{IsWritten-same, IsWritten-trans}
-use Rattle.augmentation.proofs.SideLaws.{parted_seen, parted_unless_both, pushes_seen}
-use Rattle.augmentation.proofs.rounds.push_all.Goals as goal
-use Rattle.augmentation.proofs.rounds.push_all.Goals.{After-turn_round-side-in-Some}
+use Rattle.augmentation.proofs.SideLaws.{parted_seen, pushes_seen}
+use Rattle.augmentation.proofs.rounds.push_in_turns.Goals as goal
+use Rattle.augmentation.proofs.rounds.push_in_turns.Goals.{After-turn_round-side-in-Some}
 
 reach_is : (reach : ℤ) (e : List ℤ) (node_labels : List NodeLabel) → HasFound e node_labels reach → to_z w64 (of_z w64 reach) ≡ reach
 reach_is reach e node_labels found =
     let fits : SFits w64 reach = omega (arith, ints, found.front.not_below_0, found.front.settled.not_far) in
     to_z-of_z w64 reach fits
-
-pub returns-then-not-has_both-clause-parted : goal.returns-then-not-has_both-clause-parted
-returns-then-not-has_both-clause-parted c =
-    parted_unless_both c.args.graph.now.rows c.args.flow.now.entries.items c.args.excess.now
-    (rw c.requires.excess_in c.requires.certified.flow) (λ both. false≢true (sym c.if-not-has_both.true ∙ c.has_both.ensures.1 both))
 
 -- of the tables only the rooms are others
 scratch_but_rooms : (n : ℕ) (s s' : Scratch) → s' ≡ record s { walks = record s.walks { rooms = s'.walks.rooms } } → IsScratchFor n s → IsScratchFor n s'

@@ -1,0 +1,72 @@
+-- Lists of the nodes out of balance.
+use Rattle.std.proofs.Common.{◌≡◌, ◌∙◌, ◌<◌, ◌≤◌, ◌+◌, ℕ, ℤ, List, Bool, true, false, pos, length, refl, sym, subst, arith, inl, inr, true≢false}
+use Rattle.std.specs.Prelude.{◌≢◌, Any, slice_set}
+use Rattle.std.specs.List.{AllPairs}
+use Rattle.std.proofs.lemmas.Bool.{cases_eq}
+use Rattle.std.proofs.lemmas.Int.{ints}
+use Rattle.std.proofs.lemmas.List.{get_or_default, get_or-set_same, get_or-set_other, length-set}
+use Rattle.residual_graph.specs.declared.side.Side.{Side}
+use Rattle.residual_graph.specs.declared.side.Side.TheVariants.{Ahead, Behind}
+use Rattle.residual_graph.specs.Residual.{number_at}
+use Rattle.residual_graph.specs.Side.{IsRoot}
+use Rattle.shortest_paths.specs.NodeLists.{IsListed, node_at}
+use Rattle.augmentation.specs.Cut.{in_set}
+use Rattle.augmentation.specs.Excess.{AreUnbalancedListed}
+
+-- a root is out of balance
+root_unbalanced : (side : Side) (z : ℤ) → IsRoot side z → z ≡ pos 0 → ⊥
+root_unbalanced Ahead z root zero = absurd (omega (arith, ints, root, zero))
+root_unbalanced Behind z root zero = absurd (omega (arith, ints, root, zero))
+
+-- the roots of a side are among the nodes out of balance
+pub root_listed : (side : Side) (listed : List Bool) (e : List ℤ) (places : List ℕ) → AreUnbalancedListed listed e → ((k : ℕ) → in_set listed k ≡ true → Any (λ p. p ≡ k) places) → (v : ℕ) → IsRoot side (number_at e v) → IsListed places (length places) v
+root_listed side listed e places are named v root = by_mark (in_set listed v) refl
+  where
+    by_mark : (b : Bool) → in_set listed v ≡ b → IsListed places (length places) v
+    by_mark true is =
+        let there = named v is in
+        record { place = there.0; in_list = omega (arith, there.2); is_there = get_or_default places there.0 0 there.1 there.2 ∙ there.3 ∙ there.4 }
+    by_mark false is = absurd (root_unbalanced side (number_at e v) root (are.balanced v is))
+
+-- a node whose excess is set is listed
+pub set_listed : (listed : List Bool) (e : List ℤ) (v : ℕ) (z : ℤ) → v < length e → AreUnbalancedListed listed e → AreUnbalancedListed (slice_set listed v true) (slice_set e v z)
+set_listed listed e v z lt are = record {
+  one_a_node = length-set listed v true ∙ are.one_a_node ∙ sym (length-set e v z);
+  balanced = λ u out. (elim (cases_eq u v) [
+    | inl same ↦ absurd (true≢false (sym (subst (λ (w : ℕ). in_set (slice_set listed v true) w ≡ true) (sym same) (get_or-set_same listed v true false (omega (arith, are.one_a_node)))) ∙ out))
+    | inr ne ↦ get_or-set_other e v u z (pos 0) ne ∙ are.balanced u (sym (get_or-set_other listed v u true false ne) ∙ out)
+  ]);
+}
+
+-- ---- the roots of a side, marked in the order of a list
+
+-- of the first j places on the list those are marked that are roots, and no later one
+pub record AreRootsMarked (side : Side) (e : List ℤ) (places : List ℕ) (j : ℕ) (set : List Bool) : Type 0 where
+  pub roots : (v : ℕ) → in_set set v ≡ true → IsRoot side (number_at e v)
+  pub marked : (i : ℕ) → i < j → IsRoot side (number_at e (node_at places i)) → in_set set (node_at places i) ≡ true
+  pub not_yet : (i : ℕ) → j ≤ i → i < length places → in_set set (node_at places i) ≡ false
+
+module _ (side : Side) (e : List ℤ) (places : List ℕ) (j : ℕ) (set : List Bool) (are : AreRootsMarked side e places j set) where
+  pub root_marked : AllPairs ◌≢◌ places → j < length places → node_at places j < length set → IsRoot side (number_at e (node_at places j)) → AreRootsMarked side e places (j + 1) (slice_set set (node_at places j) true)
+  root_marked apart j_in there root = record {
+    roots = λ v h. (elim (cases_eq v (node_at places j)) [
+      | inl same ↦ subst (λ (q : ℕ). IsRoot side (number_at e q)) (sym same) root
+      | inr ne ↦ are.roots v (sym (get_or-set_other set (node_at places j) v true false ne) ∙ h)
+    ]);
+    marked = λ i lt is_root. (elim (cases_eq i j) [
+      | inl same ↦ subst (λ (q : ℕ). in_set (slice_set set (node_at places j) true) (node_at places q) ≡ true) (sym same) (get_or-set_same set (node_at places j) true false there)
+      | inr ne ↦ (let before : i < j = omega (arith, lt, ne) in
+          get_or-set_other set (node_at places j) (node_at places i) true false (apart i j 0 before j_in) ∙ are.marked i before is_root)
+    ]);
+    not_yet = λ i le lt. get_or-set_other set (node_at places j) (node_at places i) true false (λ same. apart j i 0 (omega (arith, le)) lt (sym same)) ∙ are.not_yet i (omega (arith, le)) lt;
+  }
+
+  pub no_root_passed : (IsRoot side (number_at e (node_at places j)) → ⊥) → AreRootsMarked side e places (j + 1) set
+  no_root_passed no_root = record {
+    roots = are.roots;
+    marked = λ i lt is_root. (elim (cases_eq i j) [
+      | inl same ↦ absurd (no_root (subst (λ (q : ℕ). IsRoot side (number_at e (node_at places q))) same is_root))
+      | inr ne ↦ are.marked i (omega (arith, lt, ne)) is_root
+    ]);
+    not_yet = λ i le lt. are.not_yet i (omega (arith, le)) lt;
+  }

@@ -1,0 +1,9 @@
+-- Excesses with a list of the nodes out of balance.
+use Rattle.std.specs.Prelude.{◌≡◌, ℕ, ℤ, pos, List, length, Bool, false}
+use Rattle.residual_graph.specs.Residual.{number_at}
+use Rattle.augmentation.specs.Cut.{in_set}
+
+-- every node out of balance is listed: an unlisted one has neither excess nor deficit
+pub record AreUnbalancedListed (listed : List Bool) (e : List ℤ) : Type 0 where
+  pub one_a_node : length listed ≡ length e
+  pub balanced : (v : ℕ) → in_set listed v ≡ false → number_at e v ≡ pos 0

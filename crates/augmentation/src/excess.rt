@@ -1,0 +1,111 @@
+//! The excess of each node, with the nodes out of balance at hand.
+
+ghost use Rattle.std.specs.Prelude.{◌≡◌, ◌<◌, ◌≤◌, IfOk, IsTrue, ◌↔◌, length, slice_set};
+ghost use Rattle.residual_graph.specs.Limits.{row_limit};
+ghost use Rattle.augmentation.specs.Cut.{amount, lack};
+ghost use Rattle.augmentation.specs.Excess.{AreUnbalancedListed};
+ghost use Rattle.augmentation.specs.Push.{left};
+
+use crate::touched::Touched;
+use residual_graph::Side;
+use std::alloc::{AllocError, Global};
+use std::marker::Model;
+
+/// The most places on the list for which it is not searched for balanced nodes.
+const FEW_PLACES: usize = 64;
+
+/// The excess of each node: what lies in excess is above 0, what lies in deficit below. Each node out of balance is
+/// listed, and maybe others, so that few nodes out of balance are found without a look at all. It is seen as the
+/// excesses.
+#[derive(Drop)]
+pub struct Excess {
+    pub(crate) entries: Vec<i64>,
+    pub(crate) unbalanced: Touched,
+}
+
+impl Model for Excess {
+    ghost use Rattle.std.specs.Prelude.{ℤ, List};
+    ghost use Rattle.augmentation.specs.Excess.{AreUnbalancedListed};
+
+    ghost Value = { List ℤ };
+
+    ghost view = { λ e. e.entries.items };
+
+    ghost invariant = { λ e. AreUnbalancedListed e.unbalanced e.entries.items };
+}
+
+impl Excess {
+    /// Excesses, one a node.
+    ///
+    /// # Errors
+    /// Memory for the list was refused.
+    pub fn new(alloc: Global, entries: Vec<i64>) -> Result<Excess, AllocError>
+        requires few { length entries.items ≤ row_limit }
+        ensures { IfOk result (λ e. e ≡ entries.items) }
+    {
+        let mut unbalanced = Touched::new(alloc, entries.len())?;
+        note_unbalanced(&entries, &mut unbalanced);
+        Ok(Excess {
+            entries,
+            unbalanced,
+        })
+    }
+
+    /// The excess of each node.
+    pub fn entries(&self) -> &[i64]
+        ensures { result.now ≡ self.now }
+    {
+        &self.entries
+    }
+
+    /// Sets the excess of a node.
+    pub fn set(&mut self, v: usize, value: i64)
+        requires node { v < length self.old }
+        ensures { self.new ≡ slice_set self.old v value }
+    {
+        self.entries[v] = value;
+        self.unbalanced.note(v);
+    }
+
+    /// Takes balanced nodes off the list, where it has grown long.
+    pub(crate) fn tidy(&mut self)
+        ensures { self.new ≡ self.old }
+    {
+        if self.unbalanced.places().len() > FEW_PLACES {
+            self.unbalanced.clear();
+            note_unbalanced(&self.entries, &mut self.unbalanced);
+        }
+    }
+
+    /// Whether a side has a root: ahead a node in excess, behind a node in deficit.
+    pub fn has_root(&self, side: Side) -> bool
+        ensures { IsTrue result ↔ (0 < amount side self.now) }
+    {
+        let places = self.unbalanced.places();
+        for j in 0..places.len() {
+            if side.is_root(self.entries[places[j] as usize]) {
+                return true;
+            }
+        }
+        false
+    }
+
+    /// Whether there are both nodes in excess and nodes in deficit.
+    pub fn has_both(&self) -> bool
+        ensures { IsTrue result ↔ ((0 < left self.now) × (0 < lack self.now)) }
+    {
+        self.has_root(Side::Ahead) && self.has_root(Side::Behind)
+    }
+}
+
+/// Notes each node out of balance.
+fn note_unbalanced(entries: &[i64], unbalanced: &mut Touched)
+    requires one_a_node { length unbalanced.old ≡ length entries.now }
+    ensures { AreUnbalancedListed unbalanced.new entries.now }
+{
+    for v in 0..entries.len() {
+        if entries[v] != 0 {
+            unbalanced.note(v);
+        }
+    }
+}
