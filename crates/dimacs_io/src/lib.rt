@@ -14,6 +14,3 @@ pub use line::Line;
 pub use stream::{ReadSource, WriteSink};
 pub use testing::{Pad, Script};
 pub use writer::{write_all, write_f, write_i, write_k, write_r, write_s, write_v};
-
-#[cfg(test)]
-mod tests;

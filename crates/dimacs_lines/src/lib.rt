@@ -9,8 +9,6 @@ mod name;
 mod numbers;
 mod reader;
 mod sequence;
-#[cfg(test)]
-mod tests;
 mod words;
 
 pub use cutter::{LINE_LIMIT, LineCutter, ended_lines_stay};

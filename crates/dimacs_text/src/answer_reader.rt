@@ -92,6 +92,3 @@ pub fn answer_decided_for_all()
 {
     decided_for_any_rule::<Answer>();
 }
-
-#[cfg(test)]
-mod tests;

@@ -13,8 +13,6 @@ mod limits;
 mod problem;
 mod problem_reader;
 mod terminals;
-#[cfg(test)]
-mod tests;
 mod turns;
 
 pub use answer::{Answer, FlowLine};

@@ -13,7 +13,7 @@ ghost use Rattle.flow_solver.specs.Part.{return_count};
 
 use crate::balance::Balance;
 use crate::part::{Before, return_count, row_before, supply_before};
-use crate::start::start_flow;
+use crate::start::{no_marks, start_flow, zeros};
 use crate::verdict::Verdict;
 use augmentation::{Scratch, Tracked};
 use dimacs_text::{ArcRow, GROUP_LIMIT, NODE_LIMIT};
@@ -67,15 +67,15 @@ impl Tables {
         ensures certified { IfOk result
             (λ t. IsCertifiedFlow (reduced t.moment.instance) t.moment.flow (at_node t.moment.potentials)) }
     {
+        let log = Vec::with_capacity(alloc, GROUP_LIMIT)?;
         let graph = Graph::new(alloc, net)?;
         let entries = graph.network().nodes() as usize + 1;
         let room = graph.network().room() as usize + 1;
-        let flow = Tracked::new(alloc, start_flow(alloc, graph.rows(), room)?, room)?;
-        let potentials = Tracked::new(alloc, vec![in alloc; 0; entries]?, entries)?;
+        let flow = start_flow(alloc, graph.rows(), room)?;
+        let potentials = zeros(alloc, entries)?;
         let balance = Balance::new(alloc, graph.network(), graph.rows(), &flow.entries)?;
-        let cut = Tracked::new(alloc, vec![in alloc; false; entries]?, entries)?;
+        let cut = no_marks(alloc, entries)?;
         let scratch = Scratch::new(alloc, graph.network().nodes() + 1, 2 * room)?;
-        let log = Vec::with_capacity(alloc, GROUP_LIMIT)?;
         Ok(Tables {
             graph,
             flow,

@@ -11,8 +11,6 @@ mod limits;
 mod net;
 mod signs;
 mod start;
-#[cfg(test)]
-mod tests;
 mod views;
 
 ghost use Rattle.std.specs.Prelude.{vec_capacity};

@@ -6,3 +6,9 @@ returns-clause-name c = search rules
 
 pub returns-clause-value_digits : goal.returns-clause-value_digits
 returns-clause-value_digits c = search rules
+
+pub returns-clause-digits : goal.returns-clause-digits
+returns-clause-digits c = search rules
+
+pub returns-clause-line : goal.returns-clause-line
+returns-clause-line c = search rules

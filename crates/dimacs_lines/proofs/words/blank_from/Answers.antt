@@ -11,3 +11,6 @@ returns-then-is_blank_byte-clause-place c = place_from is_blank c.args.line.now 
 
 pub returns-clause-next : goal.returns-clause-next
 returns-clause-next c = search rules
+
+pub returns-then-is_blank_byte-clause-next : goal.returns-then-is_blank_byte-clause-next
+returns-then-is_blank_byte-clause-next c = search rules

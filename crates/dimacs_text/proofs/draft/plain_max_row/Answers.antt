@@ -1,3 +1,4 @@
+use Rattle.dimacs_text.specs.Problem.{read_max_row}
 use Rattle.std.proofs.Common.{◌≡◌, ◌≤◌, length, drop, w64, refl, sym, ap, ◌∙◌, arith, rules, slice_index_or}
 use Rattle.std.proofs.lemmas.Int.{to_z_pos}
 use Rattle.std.proofs.lemmas.List.{length-drop}
@@ -18,3 +19,7 @@ returns c =
     let head : IsNode c.args.size.nodes (slice_index_or values 1 0) = search rules in
     rw (to_z_pos w64 (slice_index_or values 2 0) (omega arith))
     (plain_max c.args.size.nodes fields (slice_index_or values 0 0) (slice_index_or values 1 0) (slice_index_or values 2 0) len (numbers 0 (omega arith)) (numbers 1 (omega arith)) (numbers 2 (omega arith)) tail head c.if-cap-gt-CAP_LIMIT.false)
+
+pub overflow_cast-result-3 : goal.overflow_cast-result-3
+unfolding read_max_row
+overflow_cast-result-3 c = search rules

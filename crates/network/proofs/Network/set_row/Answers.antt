@@ -1,4 +1,4 @@
-use Rattle.std.proofs.Common.{◌-◌, ◌<◌, length, length-set, arith}
+use Rattle.std.proofs.Common.{◌-◌, ◌<◌, length, length-set, arith, rules}
 use Rattle.network.proofs.EndLinks.{lists_same, end_node-set}
 use Rattle.network.proofs.Growth.{lawful_set}
 use Rattle.network.proofs.Network.set_row.Goals as goal
@@ -21,3 +21,6 @@ invariant_of-self c =
       arcs_fit = sound.arcs_fit;
       ends_fit = sound.ends_fit;
     }
+
+pub returns : goal.returns
+returns c = search rules

@@ -104,3 +104,9 @@ returns-clause-bound c =
     let sum = fit_bound (goal.at.returns-clause-bound c).After-distance_through-distance (start_distance (goal.at.returns-clause-bound c).After-room) in
     word_sum c.distance_through-distance.result (number_at c.args.residual.potentials.now c.args.v) sum.distance_fits sum.potential_fits sum.fits
     ∙ ap (λ (z : ℤ). z +ℤ number_at c.args.residual.potentials.now c.args.v) (sym (to_z-of_z w64 c.distance_through-distance.result sum.distance_fits))
+
+pub offset_bounds-residual-v : goal.offset_bounds-residual-v
+offset_bounds-residual-v c = search rules
+
+pub bounds-residual-v : goal.bounds-residual-v
+bounds-residual-v c = search rules

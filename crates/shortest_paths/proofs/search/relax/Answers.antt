@@ -114,3 +114,6 @@ pub returns-else-has_room_by-clause-relaxed : goal.returns-else-has_room_by-clau
 returns-else-has_room_by-clause-relaxed c = λ residual.
     (let there = subst (λ (a : ResidualArc). IsResidual (seen c.args.residual.side c.args.residual.graph.now.rows) c.args.residual.flow.now a.arc a.way) (sym c.leading-arc.ensures) residual in
     absurd (cc ((c.has_room_by.ensures.seen c.args.residual.side).1 there)))
+
+pub take_path-requires-clause-start : goal.take_path-requires-clause-start
+take_path-requires-clause-start c = search rules

@@ -1,3 +1,4 @@
+use Rattle.std.proofs.Common.{rules}
 use Rattle.dimacs_lines.proofs.PartLemmas.{used_within}
 use Rattle.dimacs_lines.proofs.StreamLemmas as law
 use Rattle.dimacs_lines.proofs.reader.TextReader.feed_part.Goals as goal
@@ -30,3 +31,6 @@ returns-in-Err-clause-text g c =
     let old = c.args.self.now in
     λ setting text stands.
     rw (c.at_line-failure.ensures, c.saturating_add-line.ensures) (law.piece_failed (g.T.LineTaker.rule setting) (g.T.LineTaker.holds setting) c.in-Err.error text c.args.piece.now old.cutter old.taker old.lines c.requires (λ before held. c.in-Err.ensures.taken setting before held) (rw c.in_default.is at stands))
+
+pub returns-in-Err-clause-err : goal.returns-in-Err-clause-err
+returns-in-Err-clause-err g c = search rules

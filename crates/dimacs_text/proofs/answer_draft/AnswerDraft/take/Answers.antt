@@ -1,4 +1,4 @@
-use Rattle.std.proofs.Common.{sym, ◌∙◌}
+use Rattle.std.proofs.Common.{sym, ◌∙◌, rules}
 use Rattle.dimacs_text.proofs.AnswerTakeLemmas as law
 use Rattle.dimacs_text.proofs.answer_draft.AnswerDraft.take.Goals as goal
 
@@ -22,3 +22,6 @@ returns-in-Shortage c = law.taken_shortage c.take_shortage.result c.args.self.no
 
 pub returns-in-CutNode : goal.returns-in-CutNode
 returns-in-CutNode c = law.taken_cut_node c.take_cut_node.result c.args.self.now c.take_cut_node.new.self c.args.line.now c.in-Some.first c.next.new.self (sym c.new-words.ensures ∙ c.in-Some.ensures) (rw c.bytes.ensures at (sym c.of.ensures ∙ c.in-CutNode.is)) c.take_cut_node.ensures
+
+pub returns-in-Unknown : goal.returns-in-Unknown
+returns-in-Unknown c = search rules

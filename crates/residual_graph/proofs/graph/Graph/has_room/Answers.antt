@@ -1,3 +1,4 @@
+use Rattle.std.proofs.lemmas.Grind.{common_steps}
 use Rattle.std.proofs.Common.{◌≡◌, ◌∙◌, ◌<◌, ◌<ℤ◌, ap, arith, length, of_z, pos, rules, subst, sym, to_z, w64, SFits}
 use Rattle.std.proofs.lemmas.Int.{ints, to_z-of_z}
 use Rattle.std.proofs.lemmas.List.{get_or_default}
@@ -22,3 +23,6 @@ returns-clause-seen c side =
       λ is. seen.0 (record { is_arc = c.requires.arc_in; has_room = omega (arith, ints, room, is) }),
       λ residual. let positive : pos 0 <ℤ to_z w64 (of_z w64 c.room.result) = omega (arith, ints, room, (seen.1 residual).has_room) in search (rules, positive),
     )
+
+pub returns-clause-here : goal.returns-clause-here
+returns-clause-here c = grind (arith, common_steps)

@@ -1,4 +1,4 @@
-use Rattle.std.proofs.Common.{◌<◌, ◌++◌, ◌∷◌, [], List, ap, arith, length, subst, sym}
+use Rattle.std.proofs.Common.{◌<◌, ◌++◌, ◌∷◌, [], List, ap, arith, length, subst, sym, rules}
 use Rattle.dimacs_text.specs.declared.problem.ArcRow.{ArcRow}
 use Rattle.dimacs_text.specs.Lawful.{IsLawfulRow}
 use Rattle.network.specs.Instance.{ArcFits, Instance}
@@ -26,3 +26,6 @@ invariant_of-self c = record {
 
 pub returns-clause-graph : goal.returns-clause-graph
 returns-clause-graph c = graph (goal.at.returns-clause-graph c).In-Ok
+
+pub returns-clause-net : goal.returns-clause-net
+returns-clause-net c = search rules

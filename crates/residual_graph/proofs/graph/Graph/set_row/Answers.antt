@@ -33,3 +33,6 @@ invariant_of-self c = record {
 
 pub returns-clause-graph : goal.returns-clause-graph
 returns-clause-graph c = graph (goal.at.returns-clause-graph c).After-set_row
+
+pub set_cost-requires-clause-limit : goal.set_cost-requires-clause-limit
+set_cost-requires-clause-limit c = search rules

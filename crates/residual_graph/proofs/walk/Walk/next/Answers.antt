@@ -1,4 +1,4 @@
-use Rattle.std.proofs.Common.{◌≡◌, ◌∙◌, ap, arith, inl, inr, subst, sym}
+use Rattle.std.proofs.Common.{◌≡◌, ◌∙◌, ap, arith, inl, inr, subst, sym, rules}
 use Rattle.residual_graph.specs.declared.walk.End.{End}
 use Rattle.residual_graph.specs.declared.walk.Stage.TheVariants.{Incidences}
 use Rattle.residual_graph.specs.Ends.{IsEndAt, leaving}
@@ -25,3 +25,6 @@ returns-then-covers-clause-rest c = λ k way come.
       | inl this ↦ inl (this.0 ∙ sym (ap (λ (e : End). (leaving e).arc) c.incidence_end.ensures), this.1 ∙ sym (ap (λ (e : End). (leaving e).way) c.incidence_end.ensures))
       | inr later ↦ inr later
     ])
+
+pub returns-then-covers-clause-shorter : goal.returns-then-covers-clause-shorter
+returns-then-covers-clause-shorter c = search rules

@@ -1,0 +1,186 @@
+//! The two checkers, edits and views of networks, in worked examples.
+
+use dimacs_text::{Edit, Kind, ProblemReader, TextFault};
+use network::{Network, build, check_best, check_cut};
+use std::alloc::Global;
+
+/// The instance of a problem text, with room for one arc more.
+fn network(alloc: Global, text: &[u8]) -> Result<Network, TextFault> {
+    let mut reader = ProblemReader::new(alloc);
+    reader.feed(text)?;
+    let problem = reader.finish()?;
+    match build(alloc, &problem, 1) {
+        Ok(network) => Ok(network),
+        Err(_) => Err(TextFault::Memory),
+    }
+}
+
+/// One arc.
+const SINGLE_ARC: &[u8] = b"p min 2 1\nn 1 3\nn 2 -3\na 1 2 0 5 4\n";
+/// Two ways from node 1 to node 4, joined in the middle.
+const DIAMOND: &[u8] =
+    b"p min 4 5\nn 1 4\nn 4 -4\na 1 2 0 4 2\na 1 3 0 2 2\na 2 3 0 2 1\na 2 4 0 3 3\na 3 4 0 5 1\n";
+/// Node 1 has nowhere to send its unit, and node 2 is fed one of three.
+const BOTH_FORMS: &[u8] = b"p min 3 1\nn 1 1\nn 2 -3\na 3 2 0 1 1\n";
+/// A lower bound that nothing feeds.
+const UNFED: &[u8] = b"p min 2 1\na 1 2 2 5 1\n";
+
+#[test]
+fn best_flows(rt: HostRuntime) -> Result<(), TextFault> {
+    let cases: [(&[u8], &[i64], &[i64], i128, bool); 12] = [
+        (SINGLE_ARC, &[3], &[-4, 0], 12, true),
+        (SINGLE_ARC, &[3], &[-5, -1], 12, true),
+        (SINGLE_ARC, &[3], &[-4, 0], 13, false),
+        (SINGLE_ARC, &[3], &[0, 0], 12, false),
+        (SINGLE_ARC, &[3], &[1, 5], 12, false),
+        (
+            SINGLE_ARC,
+            &[3],
+            &[-50_000_000_000_000_000, -49_999_999_999_999_996],
+            12,
+            true,
+        ),
+        (
+            SINGLE_ARC,
+            &[3],
+            &[-50_000_000_000_000_001, -49_999_999_999_999_997],
+            12,
+            false,
+        ),
+        (SINGLE_ARC, &[2], &[-4, 0], 8, false),
+        (SINGLE_ARC, &[3, 0], &[-4, 0], 12, false),
+        (SINGLE_ARC, &[3], &[-4], 12, false),
+        (DIAMOND, &[2, 2, 2, 0, 4], &[-4, -2, -1, 0], 14, true),
+        (DIAMOND, &[2, 2, 1, 1, 3], &[-4, -2, -1, 0], 15, false),
+    ];
+    for (text, flow, potentials, worth, valid) in cases {
+        let net = network(rt.alloc(), text)?;
+        assert_eq!(rt; check_best(&net, flow, potentials, worth), valid);
+    }
+    Ok(())
+}
+
+#[test]
+fn cuts(rt: HostRuntime) -> Result<(), TextFault> {
+    let cases: [(&[u8], &[bool], i64, bool); 8] = [
+        (BOTH_FORMS, &[true, false, false], 1, true),
+        (BOTH_FORMS, &[false, true, false], 2, true),
+        (BOTH_FORMS, &[true, true, true], 2, true),
+        (BOTH_FORMS, &[false, true, false], 3, false),
+        (BOTH_FORMS, &[false, true], 2, false),
+        (UNFED, &[false, true], 2, true),
+        (UNFED, &[true, false], 2, true),
+        (SINGLE_ARC, &[true, false], 3, false),
+    ];
+    for (text, cut, shortage, valid) in cases {
+        let net = network(rt.alloc(), text)?;
+        assert_eq!(rt; check_cut(&net, cut, shortage), valid);
+    }
+    Ok(())
+}
+
+#[test]
+fn edits(rt: HostRuntime) -> Result<(), TextFault> {
+    let net = network(rt.alloc(), UNFED)?;
+    let cases: [(Edit, Result<(), u8>); 8] = [
+        (Edit::Cap { arc: 1, cap: 2 }, Ok(())),
+        (Edit::Cap { arc: 1, cap: 1 }, Err(22)),
+        (
+            Edit::Cap {
+                arc: 2,
+                cap: 1_000_000_001,
+            },
+            Err(5),
+        ),
+        (Edit::Low { arc: 2, low: 1 }, Err(20)),
+        (Edit::Cost { arc: 0, cost: 1 }, Err(20)),
+        (Edit::Supply { node: 3, value: 1 }, Err(21)),
+        (
+            Edit::Add {
+                tail: 1,
+                head: 2,
+                low: 0,
+                cap: 5,
+                cost: 1,
+            },
+            Ok(()),
+        ),
+        (
+            Edit::Add {
+                tail: 1,
+                head: 2,
+                low: 6,
+                cap: 5,
+                cost: 1,
+            },
+            Err(22),
+        ),
+    ];
+    for (edit, answer) in cases {
+        assert_eq!(rt; net.edited(&edit), answer);
+    }
+    Ok(())
+}
+
+/// The arc that there is room for.
+const ADD: Edit = Edit::Add {
+    tail: 2,
+    head: 1,
+    low: 0,
+    cap: 5,
+    cost: 1,
+};
+
+#[test]
+fn edits_made_together(rt: HostRuntime) -> Result<(), TextFault> {
+    let net = network(rt.alloc(), UNFED)?;
+    let cases: [(&[Edit], Result<(), u8>); 9] = [
+        (&[], Ok(())),
+        (
+            &[Edit::Cap { arc: 1, cap: 3 }, Edit::Low { arc: 1, low: 3 }],
+            Ok(()),
+        ),
+        (
+            &[Edit::Cap { arc: 1, cap: 3 }, Edit::Low { arc: 1, low: 4 }],
+            Err(22),
+        ),
+        (&[ADD, Edit::Cap { arc: 2, cap: 9 }], Ok(())),
+        (&[Edit::Cap { arc: 2, cap: 9 }, ADD], Err(20)),
+        (&[ADD, ADD], Err(24)),
+        (&[ADD, Edit::Close { arc: 2 }, ADD], Err(24)),
+        (
+            &[Edit::Close { arc: 1 }, Edit::Low { arc: 1, low: 1 }],
+            Err(22),
+        ),
+        (
+            &[
+                Edit::Supply { node: 3, value: 1 },
+                Edit::Cap { arc: 7, cap: 1 },
+            ],
+            Err(21),
+        ),
+    ];
+    for (edits, answer) in cases {
+        assert_eq!(rt; net.edited_all(edits), answer);
+    }
+    assert_eq!(rt; net.arcs(), 1);
+    Ok(())
+}
+
+#[test]
+fn parts(rt: HostRuntime) -> Result<(), TextFault> {
+    let net = network(rt.alloc(), DIAMOND)?;
+    assert_eq!(rt; net.kind(), Kind::Min);
+    assert_eq!(rt; (net.nodes(), net.arcs()), (4, 5));
+    assert_eq!(rt;
+        net.arc(5).map(|row| (row.tail, row.head, row.cap)),
+        Some((3, 4, 5))
+    );
+    assert_eq!(rt; net.reduced_arc(6), None);
+    assert_eq!(rt; net.return_arc(), None);
+    assert_eq!(rt;
+        (net.reduced_supply(4), net.reduced_supply(5)),
+        (Some(-4), None)
+    );
+    Ok(())
+}

@@ -1,0 +1,286 @@
+//! Problem texts and commands in pieces, their faults, and groups.
+
+ghost use Rattle.std.specs.Prelude.{◌<◌};
+
+use dimacs_text::{
+    Command, Edit, GROUP_LIMIT, Group, Kind, Name, NodeMark, Problem, ProblemReader, TextFault,
+    is_blank, read_command,
+};
+use std::alloc::Global;
+use std::process::Abort;
+
+/// Reads texts in a row, each in pieces of so many bytes.
+fn read(alloc: Global, texts: [&[u8]; 3], step: usize) -> Result<Problem, TextFault>
+    requires { 0 < step }
+{
+    let mut reader = ProblemReader::new(alloc);
+    for text in texts {
+        for piece in text.chunks(step) {
+            reader.feed(piece)?;
+        }
+    }
+    reader.finish()
+}
+
+/// The text has the fault in pieces of any of these lengths, with its last LF and without, and two lines later after a
+/// blank line and a comment.
+fn expect_fault(rt: &impl Abort, alloc: Global, text: &[u8], number: u8, line: u64)
+    requires { line < 10 }
+{
+    for step in [1, 2, 7, 1024, 1025] {
+        for (before, after, line) in [
+            (&b""[..], &b""[..], line),
+            (b"", b"\n", line),
+            (b" \t\r\nc two lines\n", b"", line + 2),
+            (b" \t\r\nc two lines\n", b"\n", line + 2),
+        ] {
+            match read(alloc, [before, text, after], step) {
+                Ok(_) => panic!(rt; "fault {number} is missed"),
+                Err(fault) => assert_eq!(rt; fault, TextFault::Fault { number, line }),
+            }
+        }
+    }
+}
+
+#[test]
+fn faults(rt: HostRuntime) {
+    let mut long = [b'x'; 1025];
+    long[0] = b'c';
+    expect_fault(&rt, rt.alloc(), &long, 1, 1);
+    let cases: [(&[u8], u8, u64); 21] = [
+        (b"x 1", 2, 1),
+        (b"p min 2", 3, 1),
+        (b"p min +2 1", 4, 1),
+        (b"p min 2 1\na 1 2 -1 1 1", 4, 2),
+        (b"p min 50001 0", 5, 1),
+        (b"p min 2 1\na 1 3 x 1 1", 5, 2),
+        (b"a 1 2 0 1 1", 6, 1),
+        (b"p min 1 0\np min 1 0", 7, 2),
+        (b"p sp 2 1", 8, 1),
+        (b"p min 2 1\na 1 2 0 1 1\nn 1 0", 9, 3),
+        (b"p min 2 0\nn 1 1\nn 1 1", 10, 3),
+        (b"p min 2 0\na 1 2 0 1 1", 12, 2),
+        (b"p min 2 2\na 1 2 0 1 1", 13, 2),
+        (b"c only", 14, 1),
+        (b"p min 2 1\na 1 2 2 1 0", 15, 2),
+        (b"n 1 s\np max 2 0", 6, 1),
+        (b"p max 2 0\nn 1 s\nn 1 t", 10, 3),
+        (b"p max 2 1\nn 1 s\na 1 2 1", 11, 3),
+        (b"p max 2 0\nn 1 s", 11, 2),
+        (b"p asn 2 1\nn 1\na 2 1 0", 16, 3),
+        (b"p max 2 0\nn 1 x", 17, 2),
+    ];
+    for (text, number, line) in cases {
+        expect_fault(&rt, rt.alloc(), text, number, line);
+    }
+}
+
+#[test]
+fn problem(rt: HostRuntime) {
+    let text = b"c a comment\n \t\r\np min 2 1\nn 1 3\nn 2 -3\na 1 2 0 5 4";
+    for step in [1, 2, 7, 1024] {
+        match read(rt.alloc(), [text, b"", b""], step) {
+            Ok(problem) => {
+                assert_eq!(rt; problem.nodes(), 2);
+                assert_eq!(rt; problem.marks().len(), 2);
+                assert_eq!(rt; problem.marks()[1], NodeMark::Supply { id: 2, value: -3 });
+                assert_eq!(rt; problem.arcs().len(), 1);
+                assert_eq!(rt; problem.arcs()[0].cap, 5);
+            }
+            Err(_) => panic!(rt; "the text is read"),
+        }
+    }
+}
+
+#[test]
+fn problem_of_each_kind(rt: HostRuntime) {
+    let cases: [(&[u8], Kind, NodeMark, i64, i64); 3] = [
+        (
+            b"p min 2 1\nn 2 -3\na 1 2 1 5 4",
+            Kind::Min,
+            NodeMark::Supply { id: 2, value: -3 },
+            5,
+            4,
+        ),
+        (
+            b"p max 2 1\nn 2 t\nn 1 s\na 1 2 6",
+            Kind::Max,
+            NodeMark::Sink(2),
+            6,
+            0,
+        ),
+        (
+            b"p asn 2 1\nn 2\na 2 1 -7",
+            Kind::Asn,
+            NodeMark::Side(2),
+            1,
+            -7,
+        ),
+    ];
+    for (text, kind, mark, cap, cost) in cases {
+        match read(rt.alloc(), [text, b"", b""], 7) {
+            Ok(problem) => {
+                assert_eq!(rt; problem.kind(), kind);
+                assert!(rt; !problem.marks().is_empty() && !problem.arcs().is_empty());
+                assert_eq!(rt; problem.marks()[0], mark);
+                assert_eq!(rt; problem.arcs()[0].cap, cap);
+                assert_eq!(rt; problem.arcs()[0].cost, cost);
+            }
+            Err(_) => panic!(rt; "the text is read"),
+        }
+    }
+}
+
+#[test]
+fn nothing_is_read(rt: HostRuntime) {
+    match ProblemReader::new(rt.alloc()).finish() {
+        Ok(_) => panic!(rt; "fault 14 is missed"),
+        Err(fault) => {
+            assert_eq!(rt;
+                fault,
+                TextFault::Fault {
+                    number: 14,
+                    line: 0
+                }
+            );
+        }
+    }
+}
+
+#[test]
+fn commands(rt: HostRuntime) {
+    let cases: [(Kind, &[u8], Result<Command, u8>); 15] = [
+        (
+            Kind::Min,
+            b"cap 2 1",
+            Ok(Command::Edit(Edit::Cap { arc: 2, cap: 1 })),
+        ),
+        (
+            Kind::Min,
+            b" supply 3 -1\r",
+            Ok(Command::Edit(Edit::Supply { node: 3, value: -1 })),
+        ),
+        (
+            Kind::Max,
+            b"add 1 2 5",
+            Ok(Command::Edit(Edit::Add {
+                tail: 1,
+                head: 2,
+                low: 0,
+                cap: 5,
+                cost: 0,
+            })),
+        ),
+        (
+            Kind::Asn,
+            b"close 1",
+            Ok(Command::Edit(Edit::Close { arc: 1 })),
+        ),
+        (Kind::Min, b"undo", Ok(Command::Undo)),
+        (Kind::Max, b"group", Ok(Command::Group)),
+        (Kind::Asn, b"\tend ", Ok(Command::End)),
+        (Kind::Min, b"undone", Err(2)),
+        (Kind::Min, b"group 1", Err(3)),
+        (Kind::Min, b"end x", Err(3)),
+        (Kind::Asn, b"cap 1", Err(23)),
+        (Kind::Min, b"cap 1", Err(3)),
+        (Kind::Min, b"cap x 1000000001", Err(4)),
+        (Kind::Min, b"low 1 -1", Err(4)),
+        (Kind::Min, b"cost 1 -1000000000001", Err(5)),
+    ];
+    for (kind, line, expected) in cases {
+        if !is_blank(line) {
+            assert_eq!(rt; read_command(kind, line), expected);
+        }
+    }
+}
+
+#[test]
+fn names(rt: HostRuntime) {
+    let cases: [(&[u8], Result<&[u8], u8>); 10] = [
+        (b"mark a", Ok(b"a")),
+        (b"mark\tZa\r", Ok(b"Za")),
+        (
+            b"mark abcdefghijklmnopqrstuvwxyzABCDEF",
+            Ok(b"abcdefghijklmnopqrstuvwxyzABCDEF"),
+        ),
+        (b"mark abcdefghijklmnopqrstuvwxyzABCDEFG", Err(32)),
+        (b"mark 1x", Err(32)),
+        (b"mark x1", Err(32)),
+        (b"mark a[", Err(32)),
+        (b"mark", Err(3)),
+        (b"mark 1 2", Err(3)),
+        (b"marks a", Err(2)),
+    ];
+    for (line, expected) in cases {
+        if !is_blank(line) {
+            let expected = match expected {
+                Ok(letters) => match Name::of(letters) {
+                    Some(name) => Ok(Command::Mark(name)),
+                    None => panic!(rt; "the letters are a name"),
+                },
+                Err(number) => Err(number),
+            };
+            for kind in [Kind::Min, Kind::Max, Kind::Asn] {
+                assert_eq!(rt; read_command(kind, line), expected);
+            }
+        }
+    }
+}
+
+#[test]
+fn names_are_told_apart(rt: HostRuntime) {
+    let line = b"back Za";
+    match Name::of(b"Za") {
+        Some(name) => {
+            assert!(rt; name.letters() == b"Za".as_slice());
+            assert!(rt; Name::of(b"ZA") != Some(name) && Name::of(b"Z") != Some(name));
+            assert!(rt; is_blank(line) || read_command(Kind::Max, line) == Ok(Command::Back(name)));
+        }
+        None => panic!(rt; "the letters are a name"),
+    }
+}
+
+#[test]
+fn groups(rt: HostRuntime) {
+    let cases = [
+        ("end", 0, None),
+        ("cap 5 3\nadd 1 2 0 1 1\nend", 2, None),
+        ("cap 5 3\nfly\ncap 5 3\nend", 1, Some(2)),
+        ("end now\nend", 0, Some(3)),
+        ("cap 5 3\ngroup\nfly\nend", 1, Some(29)),
+        ("group 1\nend", 0, Some(3)),
+        ("undo\nend", 0, Some(29)),
+        ("undo 1\nend", 0, Some(3)),
+        ("mark a\nend", 0, Some(29)),
+        ("back 1\nend", 0, Some(32)),
+    ];
+    for (text, edits, fault) in cases {
+        let mut group = Group::new();
+        let mut ended = false;
+        for line in text.lines() {
+            assert!(rt; !ended);
+            ended = group.take(Kind::Min, Some(line.as_bytes()));
+        }
+        assert!(rt; ended);
+        assert_eq!(rt; group.edits().len(), edits);
+        assert_eq!(rt; group.fault(), fault);
+    }
+}
+
+#[test]
+fn longest_group(rt: HostRuntime) {
+    let mut group = Group::new();
+    for _ in 0..GROUP_LIMIT {
+        assert!(rt; !group.take(Kind::Min, Some(b"cap 5 3")));
+    }
+    assert_eq!(rt; group.fault(), None);
+    assert!(rt; !group.take(Kind::Min, None));
+    assert_eq!(rt; group.fault(), Some(1));
+    let mut group = Group::new();
+    for _ in 0..GROUP_LIMIT + 1 {
+        assert!(rt; !group.take(Kind::Max, Some(b"cap 5 3")));
+    }
+    assert_eq!(rt; group.edits().len(), GROUP_LIMIT);
+    assert_eq!(rt; group.fault(), Some(31));
+}

@@ -1,0 +1,5 @@
+use Rattle.std.proofs.Common.{rules}
+use Rattle.residual_graph.proofs.side.Side.is_root.Goals as goal
+
+pub returns-in-Behind : goal.returns-in-Behind
+returns-in-Behind c = search rules
