@@ -11,7 +11,6 @@ use Rattle.dimacs_text.specs.Lawful.{IsLawfulRow}
 use Rattle.network.specs.Edited.{with_arc, edited, has_edit, is_bound, is_within, is_node, is_new_row, is_across, has_room, units, units_of_row}
 use Rattle.dimacs_text.specs.declared.problem.TheConstants.{COST_LIMIT}
 use Rattle.network.specs.Instance.{Instance, IsLawful, ArcFits, arc_at, kind_of, reduced}
-use Rattle.network.proofs.EditedLemmas.{edited_lawful}
 use Rattle.residual_graph.specs.Residual.{IsWithinRow, number_at}
 use Rattle.network.specs.Flow.{IsCertifiedFlow, FollowsSign, reduced_cost}
 use Rattle.flow_solver.proofs.FlowLaws.{bounds_at, bounds_length, signs_at}
@@ -116,13 +115,17 @@ pub row_there : (arcs : List ArcRow) (k : ℕ) (row d : ArcRow) → arc_at arcs 
 row_there arcs zero row d is = cc
 row_there arcs (suc k) row d is = (let e : suc k - 1 ≡ k = omega arith in ap (λ (j : ℕ). slice_index_or arcs j d) e ∙ get_or_from_slice_get arcs k row d is)
 
-pub row_edit : (I : Instance) (edit : Edit) (k : ℕ) (old row : ArcRow) → IsLawful I → arc_at I.arcs k ≡ Some old → row.tail ≡ old.tail → row.head ≡ old.head → edited I edit ≡ Ok (with_arc I k row)
+-- what an edit leads to is lawful, as the law `edits_keep_lawful` of `network` has it
+abbrev pub KeepsLawful : Instance → Edit → Type 0
+KeepsLawful I edit = (after : Instance) → IsLawful I → edited I edit ≡ Ok after → IsLawful after
+
+pub row_edit : (I : Instance) (edit : Edit) (k : ℕ) (old row : ArcRow) → KeepsLawful I edit → IsLawful I → arc_at I.arcs k ≡ Some old → row.tail ≡ old.tail → row.head ≡ old.head → edited I edit ≡ Ok (with_arc I k row)
     → ((J : Instance) (q : ℕ → ℤ) (x start : List ℤ) → GoesToNearest J k q x start → IsAltered J edit q x start)
     → ((q : ℕ → ℤ) (x z : ℤ) → IsWithinRow old x → FollowsSign q old x → IsNearest row (reduced_cost q row) x z → unsigned_abs (z -ℤ x) ≤ units I edit) → IsRowEdit I edit k row
-row_edit I edit k old row lawful is tail head after altered moved =
+row_edit I edit k old row keeps lawful is tail head after altered moved =
     let there = row_there I.arcs k old row is in
     let at = number_in I.arcs k old is in
-    let lawful_after = edited_lawful I edit (with_arc I k row) lawful after in
+    let lawful_after = keeps (with_arc I k row) lawful after in
     let new : slice_index_or (slice_set I.arcs (k - 1) row) (k - 1) row ≡ row = get_or-set_same I.arcs (k - 1) row row (omega (arith, at.0, at.1)) in
     let both = subst (λ (a : ArcRow). IsLawfulRow I.nodes a × ArcFits I.demand a) new (lawful_after.arcs (k - 1) row (omega (arith, at.0, at.1, length-set I.arcs (k - 1) row))) in
     record {
@@ -136,35 +139,35 @@ row_edit I edit k old row lawful is tail head after altered moved =
       moved = λ q x z bounds sign near. moved q x z (subst (λ (a : ArcRow). IsWithinRow a x) there bounds) (subst (λ (a : ArcRow). FollowsSign q a x) there sign) near;
     }
 
-pub cap_edit : (I : Instance) (k : ℕ) (cap : ℤ) (old : ArcRow) → IsLawful I → IsOk (edited I (Cap k cap)) → arc_at I.arcs k ≡ Some old → IsRowEdit I (Cap k cap) k (record old { cap = cap })
-cap_edit I k cap old lawful ok is =
+pub cap_edit : (I : Instance) (k : ℕ) (cap : ℤ) (old : ArcRow) → KeepsLawful I (Cap k cap) → IsLawful I → IsOk (edited I (Cap k cap)) → arc_at I.arcs k ≡ Some old → IsRowEdit I (Cap k cap) k (record old { cap = cap })
+cap_edit I k cap old keeps lawful ok is =
     let J = accepted (edited I (Cap k cap)) ok in
     let units_are : units I (Cap k cap) ≡ unsigned_abs (cap -ℤ old.cap) = ap (λ (o : Option ArcRow). units_of_row o (λ row. cap -ℤ row.cap)) is in
-    row_edit I (Cap k cap) k old (record old { cap = cap }) lawful is refl refl (cap_after I k cap old J.0 is J.1) (λ J q x start h. h)
+    row_edit I (Cap k cap) k old (record old { cap = cap }) keeps lawful is refl refl (cap_after I k cap old J.0 is J.1) (λ J q x start h. h)
     (λ q x z bounds sign near. omega (arith, units_are, cap_moved old q x z bounds sign cap near))
 
-pub low_edit : (I : Instance) (k : ℕ) (low : ℤ) (old : ArcRow) → IsLawful I → IsOk (edited I (Low k low)) → arc_at I.arcs k ≡ Some old → IsRowEdit I (Low k low) k (record old { low = low })
-low_edit I k low old lawful ok is =
+pub low_edit : (I : Instance) (k : ℕ) (low : ℤ) (old : ArcRow) → KeepsLawful I (Low k low) → IsLawful I → IsOk (edited I (Low k low)) → arc_at I.arcs k ≡ Some old → IsRowEdit I (Low k low) k (record old { low = low })
+low_edit I k low old keeps lawful ok is =
     let J = accepted (edited I (Low k low)) ok in
     let units_are : units I (Low k low) ≡ unsigned_abs (low -ℤ old.low) = ap (λ (o : Option ArcRow). units_of_row o (λ row. low -ℤ row.low)) is in
-    row_edit I (Low k low) k old (record old { low = low }) lawful is refl refl (low_after I k low old J.0 is J.1) (λ J q x start h. h)
+    row_edit I (Low k low) k old (record old { low = low }) keeps lawful is refl refl (low_after I k low old J.0 is J.1) (λ J q x start h. h)
     (λ q x z bounds sign near. omega (arith, units_are, low_moved old q x z bounds sign low near))
 
-pub cost_edit : (I : Instance) (k : ℕ) (cost : ℤ) (old : ArcRow) → IsLawful I → IsOk (edited I (Cost k cost)) → arc_at I.arcs k ≡ Some old → IsRowEdit I (Cost k cost) k (record old { cost = cost })
-cost_edit I k cost old lawful ok is =
+pub cost_edit : (I : Instance) (k : ℕ) (cost : ℤ) (old : ArcRow) → KeepsLawful I (Cost k cost) → IsLawful I → IsOk (edited I (Cost k cost)) → arc_at I.arcs k ≡ Some old → IsRowEdit I (Cost k cost) k (record old { cost = cost })
+cost_edit I k cost old keeps lawful ok is =
     let J = accepted (edited I (Cost k cost)) ok in
     let units_are : units I (Cost k cost) ≡ unsigned_abs (old.cap -ℤ old.low) = ap (λ (o : Option ArcRow). units_of_row o (λ row. row.cap -ℤ row.low)) is in
-    row_edit I (Cost k cost) k old (record old { cost = cost }) lawful is refl refl (cost_after I k cost old J.0 is J.1) (λ J q x start h. h)
+    row_edit I (Cost k cost) k old (record old { cost = cost }) keeps lawful is refl refl (cost_after I k cost old J.0 is J.1) (λ J q x start h. h)
     (λ q x z bounds sign near. omega (arith, units_are, cost_moved old cost (reduced_cost q (record old { cost = cost })) x z bounds near))
 
-pub close_edit : (I : Instance) (k : ℕ) (old : ArcRow) → IsLawful I → IsOk (edited I (Close k)) → arc_at I.arcs k ≡ Some old → IsRowEdit I (Close k) k (record old { low = pos 0; cap = pos 0 })
-close_edit I k old lawful ok is =
+pub close_edit : (I : Instance) (k : ℕ) (old : ArcRow) → KeepsLawful I (Close k) → IsLawful I → IsOk (edited I (Close k)) → arc_at I.arcs k ≡ Some old → IsRowEdit I (Close k) k (record old { low = pos 0; cap = pos 0 })
+close_edit I k old keeps lawful ok is =
     let J = accepted (edited I (Close k)) ok in
     let at = number_in I.arcs k old is in
     let there = row_there I.arcs k old old is in
     let low : pos 0 ≤ℤ old.low = subst (λ (a : ArcRow). pos 0 ≤ℤ a.low) there ((lawful.arcs (k - 1) old (omega (arith, at.0, at.1))).0.low) in
     let units_are : units I (Close k) ≡ unsigned_abs old.cap = ap (λ (o : Option ArcRow). units_of_row o (λ row. row.cap)) is in
-    row_edit I (Close k) k old (record old { low = pos 0; cap = pos 0 }) lawful is refl refl (close_after I k old J.0 is J.1) (λ J q x start h. h)
+    row_edit I (Close k) k old (record old { low = pos 0; cap = pos 0 }) keeps lawful is refl refl (close_after I k old J.0 is J.1) (λ J q x start h. h)
     (λ q x z bounds sign near. omega (arith, units_are, close_moved old (reduced_cost q old) x z low bounds near))
 
 -- ---- an accepted arc
@@ -193,12 +196,12 @@ add_met I t h l c k J e = elim (met_or_not (has_edit (kind_of I.demand) (Add t h
   ])
 ]
 
-pub add_edit : (I : Instance) (t h : ℕ) (l c k : ℤ) → IsLawful I → IsOk (edited I (Add t h l c k)) → IsAddEdit I (Add t h l c k) (record { tail = t; head = h; low = l; cap = c; cost = k })
-add_edit I t h l c k lawful ok =
+pub add_edit : (I : Instance) (t h : ℕ) (l c k : ℤ) → KeepsLawful I (Add t h l c k) → IsLawful I → IsOk (edited I (Add t h l c k)) → IsAddEdit I (Add t h l c k) (record { tail = t; head = h; low = l; cap = c; cost = k })
+add_edit I t h l c k keeps lawful ok =
     let J = accepted (edited I (Add t h l c k)) ok in
     let row = new_row t h l c k in
     let after = add_met I t h l c k J.0 J.1 in
-    let lawful_after = edited_lawful I (Add t h l c k) (with_last I row) lawful after in
+    let lawful_after = keeps (with_last I row) lawful after in
     let more = length-append I.arcs (row ∷ []) in
     let last : slice_index_or (I.arcs ++ row ∷ []) (length I.arcs) row ≡ row = get_or_push I.arcs row row (length I.arcs) refl in
     let both = subst (λ (a : ArcRow). IsLawfulRow I.nodes a × ArcFits I.demand a) last (lawful_after.arcs (length I.arcs) row (omega (arith, more))) in

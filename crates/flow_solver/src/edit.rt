@@ -9,7 +9,7 @@ ghost use Rattle.network.specs.Instance.{IsLawful, arc_at, at_node};
 ghost use Rattle.flow_solver.specs.Edit.{IsNearest, IsAddEdit, IsOfAdd, IsOfArc, IsOfSupply, IsSupplyEdit, IsRowEdit};
 
 use dimacs_text::{ArcRow, Edit};
-use network::Network;
+use network::{Network, edits_keep_lawful};
 
 /// The reduced cost of an arc under the potentials of the nodes.
 pub fn reduced_cost(row: &ArcRow, potentials: &[i64]) -> i64
@@ -85,6 +85,7 @@ pub fn edited_row(net: &Network, edit: &Edit) -> (u32, ArcRow)
     requires of_arc { IsOfArc edit.now }
     ensures { IsRowEdit net.now edit.now result.0 result.1 }
 {
+    edits_keep_lawful();
     match *edit {
         Edit::Cap { arc, cap } => {
             let old = arc_of(net, arc);
@@ -139,6 +140,7 @@ pub fn added_row(net: &Network, edit: &Edit) -> ArcRow
     requires of_add { IsOfAdd edit.now }
     ensures { IsAddEdit net.now edit.now result }
 {
+    edits_keep_lawful();
     match *edit {
         Edit::Add {
             tail,

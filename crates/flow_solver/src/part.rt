@@ -9,7 +9,7 @@ use crate::answer::supply_at;
 use crate::edit::{arc_of, edited_row, edited_supply};
 use crate::verdict::Verdict;
 use dimacs_text::{ArcRow, Edit};
-use network::Network;
+use network::{Network, edits_keep_lawful};
 
 /// A place of an instance where another one differs, with what the other one has there.
 #[derive(Clone, Copy, Debug, PartialEq, Eq)]
@@ -41,6 +41,7 @@ pub fn part_of(net: &Network, edit: &Edit) -> Part
     requires accepted { IsOk (edited net.now edit.now) }
     ensures { TakesBack net.now edit.now result }
 {
+    edits_keep_lawful();
     match edit {
         Edit::Supply { .. } => {
             let (id, _) = edited_supply(net, edit);

@@ -8,24 +8,8 @@ ghost use Rattle.checker.specs.End.{status_of};
 
 mod command_line;
 mod commands;
-#[cfg(test)]
-mod device_tests;
-#[cfg(test)]
-mod group_tests;
 mod help;
-#[cfg(test)]
-mod large_tests;
-#[cfg(test)]
-mod mark_tests;
 mod parse;
-#[cfg(test)]
-mod refused_growths;
-#[cfg(test)]
-mod runs;
-#[cfg(test)]
-mod session_tests;
-#[cfg(test)]
-mod tests;
 
 pub use checker::{End, Text, check};
 use clap::error::ErrorKind;

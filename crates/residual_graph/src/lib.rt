@@ -19,5 +19,4 @@ pub use residual::{ResidualArc, Way};
 pub use residual_network::Residual;
 pub use rooms::{is_saturated, note_room, note_rooms};
 pub use side::Side;
-pub use star::{Incidence, Star};
 pub use walk::{End, Place, Walk};

@@ -23,7 +23,7 @@ returns-in-Add c =
     let I = c.args.net.now in
     let ok = subst (λ (d : Edit). IsOk (edited I d)) c.in-Add.is c.requires.accepted in
     subst (λ (d : Edit). TakesBack I d Last) (sym c.in-Add.is)
-    (add_back I (Add c.in-Add.tail c.in-Add.head c.in-Add.low c.in-Add.cap c.in-Add.cost) _ (add_edit I c.in-Add.tail c.in-Add.head c.in-Add.low c.in-Add.cap c.in-Add.cost c.requires.lawful ok))
+    (add_back I (Add c.in-Add.tail c.in-Add.head c.in-Add.low c.in-Add.cap c.in-Add.cost) _ (add_edit I c.in-Add.tail c.in-Add.head c.in-Add.low c.in-Add.cap c.in-Add.cost (c.edits_keep_lawful.ensures I (Add c.in-Add.tail c.in-Add.head c.in-Add.low c.in-Add.cap c.in-Add.cost)) c.requires.lawful ok))
 
 pub returns-in_default : goal.returns-in_default
 returns-in_default c =

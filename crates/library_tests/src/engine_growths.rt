@@ -1,7 +1,7 @@
 //! Each growth of an edit in a session refused in turn.
 
-use crate::End;
-use crate::tests::DIAMOND;
+use crate::engine_problems::DIAMOND;
+use checker::End;
 use dimacs_io::{Pad, Script};
 use engines::run_session_in;
 use refusing::Refusing;

@@ -1,9 +1,11 @@
-use crate::runs::{BYTES, Devices, SESSION, run, session};
-use crate::tests::{
+//! Sessions, from commands to replies.
+
+use crate::engine_problems::{
     CLOSED_PAIR, DIAMOND, EQUAL_ARCS_SAME_BLOCK, MAX_DIAMOND, MAX_WITHOUT_ARCS, PAIRS,
     PARALLEL_ARCS, PIECES, SINGLE_ARC, SURPLUS,
 };
-use crate::{End, Text};
+use crate::engine_runs::{BYTES, Devices, SESSION, run, session};
+use checker::{End, Text};
 use std::test::Fail;
 
 pub const DIAMOND_NARROWED: &[u8] = b"cap 5 3\nundo\nredo\nshow\n";

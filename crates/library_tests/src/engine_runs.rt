@@ -1,7 +1,8 @@
 //! Runs an engine on texts that come and go through devices of the tests.
 
-use crate::{End, check, run_session, solve};
+use checker::{End, check};
 use dimacs_io::{Pad, Script};
+use engines::{run_session, solve};
 
 /// The three engines, each with what it is asked for.
 #[derive(Clone, Copy)]

@@ -1,6 +1,8 @@
-use crate::End;
-use crate::runs::session;
-use crate::tests::{CLOSED_PAIR, DIAMOND, MAX_DIAMOND, PIECES, SINGLE_ARC};
+//! Marks in a session, from commands to replies.
+
+use crate::engine_problems::{CLOSED_PAIR, DIAMOND, MAX_DIAMOND, PIECES, SINGLE_ARC};
+use crate::engine_runs::session;
+use checker::End;
 use std::test::Fail;
 
 /// A problem, commands with marks, and what is written.

@@ -1,7 +1,9 @@
-use crate::runs::{BYTES, Devices, Engine, SESSION, run};
-use crate::session_tests::{DIAMOND_NARROWED, DIAMOND_NARROWED_REPLIES};
-use crate::tests::{DIAMOND, DIAMOND_SOLVED, RIGHT_ANSWER, SINGLE_ARC, SURPLUS};
-use crate::{End, Text};
+//! Devices that fail under an engine, at each call in turn.
+
+use crate::engine_problems::{DIAMOND, DIAMOND_SOLVED, RIGHT_ANSWER, SINGLE_ARC, SURPLUS};
+use crate::engine_runs::{BYTES, Devices, Engine, SESSION, run};
+use crate::engine_sessions::{DIAMOND_NARROWED, DIAMOND_NARROWED_REPLIES};
+use checker::{End, Text};
 
 #[test]
 fn each_failed_read_of_a_problem_is_told(rt: HostRuntime) {

@@ -1,6 +1,8 @@
-use crate::runs::{BYTES, Devices, SESSION, run, session};
-use crate::tests::{CLOSED_PAIR, DIAMOND, MAX_DIAMOND, PIECES, SINGLE_ARC};
-use crate::{End, Text};
+//! Groups of edits in a session, from commands to replies.
+
+use crate::engine_problems::{CLOSED_PAIR, DIAMOND, MAX_DIAMOND, PIECES, SINGLE_ARC};
+use crate::engine_runs::{BYTES, Devices, SESSION, run, session};
+use checker::{End, Text};
 use std::test::Fail;
 
 /// The edits of a group that widen one way and narrow another.

@@ -1,31 +1,19 @@
-use crate::command_line::{Task, Usage};
-use crate::parse::task;
-use crate::runs::{BYTES, Devices, Engine, checked, run, solved};
-use crate::{End, Text};
-use clap::error::ErrorKind;
+//! What `solve` and `check` write, and how they end.
+
+use crate::engine_problems::{
+    CLOSED_PAIR, DIAMOND, DIAMOND_SOLVED, EQUAL_ARCS_SAME_BLOCK, MAX_DIAMOND, MAX_WITHOUT_ARCS,
+    PAIRS, PARALLEL_ARCS, PIECES, RIGHT_ANSWER, SINGLE_ARC, SURPLUS,
+};
+use crate::engine_runs::{BYTES, Devices, Engine, checked, run, solved};
+use checker::{End, Text};
 use dimacs_io::Pad;
-use std::alloc::AllocError;
 use std::test::Fail;
-
-pub const SINGLE_ARC: &[u8] = b"p min 2 1\nn 1 3\nn 2 -3\na 1 2 0 5 4\n";
-
-pub const RIGHT_ANSWER: &[u8] = b"s 12\nf 1 2 3\nv 1 -4\nv 2 0\n";
 
 const LONE_NODE: &[u8] = b"p min 1 0\n";
 
-pub const DIAMOND: &[u8] =
-    b"p min 4 5\nn 1 4\nn 4 -4\na 1 2 0 4 2\na 1 3 0 2 2\na 2 3 0 2 1\na 2 4 0 3 3\na 3 4 0 5 1\n";
-
-pub const DIAMOND_SOLVED: &[u8] =
-    b"s 14\nf 1 2 2\nf 1 3 2\nf 2 3 2\nf 2 4 0\nf 3 4 4\nv 1 -4\nv 2 -2\nv 3 -1\nv 4 0\n";
-
 const GAINFUL_CYCLE: &[u8] = b"p min 2 2\na 1 2 0 3 -2\na 2 1 0 4 1\n";
 
-pub const SURPLUS: &[u8] = b"p min 2 1\nn 1 1\na 1 2 0 5 1\n";
-
 const DEFICIT: &[u8] = b"p min 2 1\nn 2 -1\na 1 2 0 5 1\n";
-
-pub const PARALLEL_ARCS: &[u8] = b"p min 2 2\nn 1 2\nn 2 -2\na 1 2 0 2 1\na 1 2 1 2 5\n";
 
 const GREATEST_PRODUCT: &[u8] =
     b"p min 2 1\nn 1 1000000000\nn 2 -1000000000\na 1 2 0 1000000000 1000000000\n";
@@ -40,20 +28,8 @@ const UNFED_LOWER_BOUND: &[u8] = b"p min 2 1\na 1 2 2 5 1\n";
 
 const FIRST_FORM_COMES_FIRST: &[u8] = b"p min 3 1\nn 1 1\nn 2 -3\na 3 2 0 1 1\n";
 
-/// Two arcs that serve equally well.
-pub const EQUAL_ARCS_SAME_BLOCK: &[u8] = b"p min 2 2\nn 1 3\nn 2 -3\na 1 2 0 5 4\na 1 2 0 5 4\n";
-
-pub const MAX_DIAMOND: &[u8] =
-    b"p max 4 5\nn 1 s\nn 4 t\na 1 2 3\na 1 3 2\na 2 3 1\na 2 4 2\na 3 4 3\n";
-
-pub const MAX_WITHOUT_ARCS: &[u8] = b"p max 2 0\nn 1 s\nn 2 t\n";
-
 /// Its first two arcs may carry one unit round, or none.
 const MAX_TWO_BEST_FLOWS: &[u8] = b"p max 3 3\nn 1 s\nn 3 t\na 1 2 2\na 2 1 1\na 2 3 1\n";
-
-pub const PAIRS: &[u8] = b"p asn 4 4\nn 1\nn 2\na 1 3 5\na 1 4 2\na 2 3 1\na 2 4 4\n";
-
-pub const CLOSED_PAIR: &[u8] = b"p asn 2 1\nn 1\na 1 2 -5\n";
 
 const LONE_SINK_SIDE_NODE: &[u8] = b"p asn 1 0\n";
 
@@ -86,9 +62,6 @@ const FAULTY_PROBLEMS: [(&[u8], u8, u32); 24] = [
     (b"n 1 s\np max 2 0", 6, 1),
     (b"p max 2 0\nn 1 s\nn 1 t", 10, 3),
 ];
-
-/// How many bytes a device passes in one call.
-pub const PIECES: [usize; 6] = [1, 2, 7, 1024, 1025, 100_000];
 
 fn refused(input: Text, number: u8, line: u64) -> End {
     End::Refused {
@@ -442,115 +415,4 @@ fn an_end_has_a_status_and_a_line(rt: HostRuntime) {
         assert_eq!(rt; err.held(), line);
         assert_eq!(rt; end.status(), status);
     }
-}
-
-fn words(rt: &HostRuntime, line: &str) -> Result<Vec<String>, AllocError> {
-    let mut words = Vec::new(rt.alloc());
-    for word in line.split(' ') {
-        words.push(String::from_str(rt.alloc(), word)?)?;
-    }
-    Ok(words)
-}
-
-/// A command line, and the task that it names.
-const TASKS: [(&str, Task); 7] = [
-    (
-        "mcf solve --proof net.min",
-        Task::Solve {
-            proof: true,
-            file: Some("net.min"),
-        },
-    ),
-    (
-        "mcf solve",
-        Task::Solve {
-            proof: false,
-            file: None,
-        },
-    ),
-    (
-        "mcf check net.min net.sol",
-        Task::Check {
-            problem: "net.min",
-            answer: "net.sol",
-        },
-    ),
-    (
-        "mcf check -- --proof -",
-        Task::Check {
-            problem: "--proof",
-            answer: "-",
-        },
-    ),
-    (
-        "mcf session net.min",
-        Task::Session {
-            problem: "net.min",
-            extra: 1000,
-        },
-    ),
-    (
-        "mcf session --extra 0 net.min",
-        Task::Session {
-            problem: "net.min",
-            extra: 0,
-        },
-    ),
-    (
-        "mcf session net.min --extra=100000",
-        Task::Session {
-            problem: "net.min",
-            extra: 100_000,
-        },
-    ),
-];
-
-#[test]
-fn words_name_a_task(rt: HostRuntime) -> Result<(), Fail> {
-    for (line, want) in TASKS {
-        let line = words(&rt, line)?;
-        assert!(rt; matches!(task(rt.alloc(), &line), Ok(found) if found == want));
-    }
-    Ok(())
-}
-
-/// A command line that names no task, and why.
-const REFUSED_WORDS: [(&str, ErrorKind); 16] = [
-    ("mcf", ErrorKind::MissingSubcommand),
-    ("mcf check", ErrorKind::MissingRequiredArgument),
-    ("mcf check net.min", ErrorKind::MissingRequiredArgument),
-    ("mcf check net.min net.sol more", ErrorKind::UnknownArgument),
-    (
-        "mcf check --proof net.min net.sol",
-        ErrorKind::UnknownArgument,
-    ),
-    ("mcf session", ErrorKind::MissingRequiredArgument),
-    ("mcf session net.min more", ErrorKind::UnknownArgument),
-    ("mcf session --proof net.min", ErrorKind::UnknownArgument),
-    (
-        "mcf session --extra 100001 net.min",
-        ErrorKind::ValueValidation,
-    ),
-    (
-        "mcf session --extra many net.min",
-        ErrorKind::ValueValidation,
-    ),
-    ("mcf session net.min --extra", ErrorKind::InvalidValue),
-    ("mcf chek net.min net.sol", ErrorKind::InvalidSubcommand),
-    ("mcf --help", ErrorKind::DisplayHelp),
-    ("mcf session --help", ErrorKind::DisplayHelp),
-    ("mcf help", ErrorKind::DisplayHelp),
-    ("mcf --version", ErrorKind::DisplayVersion),
-];
-
-#[test]
-fn other_words_are_refused(rt: HostRuntime) -> Result<(), Fail> {
-    for (line, want) in REFUSED_WORDS {
-        let line = words(&rt, line)?;
-        match task(rt.alloc(), &line) {
-            Err(Usage::Words(error)) => assert_eq!(rt; error.kind(), want),
-            _ => assert!(rt; false),
-        }
-    }
-    Ok(())
 }
