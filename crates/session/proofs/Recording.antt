@@ -25,7 +25,7 @@ use Rattle.session.specs.ReturnLaws.{returned-swapped, verdict_fits-swapped}
 use Rattle.session.proofs.Returns.{length-numbered}
 use Rattle.session.specs.RecordLaws.{moment_is}
 use Rattle.session.specs.Session.{AreAcceptedEdits}
-use Rattle.session.proofs.Leading.{LeadsBack, leads_back, nodes_are_there, arcs_are_there}
+use Rattle.session.proofs.Leading.{KeepLawful, LeadsBack, leads_back, nodes_are_there, arcs_are_there}
 use Rattle.session.proofs.Names.{names_are}
 
 -- an answered moment is within the limits
@@ -119,7 +119,7 @@ is_record_of parts old m flows potentials marks old_answered answered leads flow
 
 -- ---- what the tables tell of the last change
 
-module _ (before : Option Moment) (m : Moment) (edits : List Edit) (some : IsSome before) (change : AreAcceptedEdits edits (unwrap_or before m) m) where
+module _ (keep : KeepLawful) (before : Option Moment) (m : Moment) (edits : List Edit) (some : IsSome before) (change : AreAcceptedEdits edits (unwrap_or before m) m) where
   abbrev was_moment : Moment
   was_moment = unwrap_or before m
 
@@ -143,7 +143,7 @@ module _ (before : Option Moment) (m : Moment) (edits : List Edit) (some : IsSom
   -- the places that the edits name are there
   pub nodes_named : (names : List ℕ) → AreNames names (nodes_of edits) → ArePlaces (length (supplies_in was_moment.instance.demand)) names
   nodes_named names are =
-      names_are (λ (k : ℕ). (1 ≤ k) × (k ≤ length (supplies_in was_moment.instance.demand))) names (nodes_of edits) are (nodes_are_there edits was_moment.instance m.instance was_lawful change.accepted)
+      names_are (λ (k : ℕ). (1 ≤ k) × (k ≤ length (supplies_in was_moment.instance.demand))) names (nodes_of edits) are (nodes_are_there edits was_moment.instance m.instance keep was_lawful change.accepted)
 
   -- how many arcs there were
   pub old_arcs : (xs : List ℤ) → IfSome before (λ old. xs ≡ flow_of old) → length xs ≡ length was_moment.instance.arcs
@@ -154,11 +154,11 @@ module _ (before : Option Moment) (m : Moment) (edits : List Edit) (some : IsSom
   pub arcs_named : (names : List ℕ) → AreNames names (arcs_of (length was_moment.instance.arcs) edits) → ArePlaces (length was_moment.instance.arcs) names
   arcs_named names are =
       names_are (λ (k : ℕ). (1 ≤ k) × (k ≤ length was_moment.instance.arcs)) names (arcs_of (length was_moment.instance.arcs) edits) are
-      (arcs_are_there (length was_moment.instance.arcs) edits was_moment.instance m.instance (omega arith) was_lawful change.accepted)
+      (arcs_are_there (length was_moment.instance.arcs) edits was_moment.instance m.instance keep (omega arith) was_lawful change.accepted)
 
   module _ (parts : List Part) (are : ArePartsOf edits was_moment.instance parts) where
     back : LeadsBack parts was_moment.instance m.instance
-    back = leads_back edits was_moment.instance m.instance parts was_lawful (in_range_answered m change.after).lawful change.accepted are
+    back = leads_back keep edits was_moment.instance m.instance parts was_lawful (in_range_answered m change.after).lawful change.accepted are
 
     pub fewer_flows : (xs ys : List ℤ) → IfSome before (λ old. xs ≡ flow_of old) → ys ≡ flow_of m → length xs ≤ length ys
     fewer_flows xs ys is_xs is_ys =

@@ -14,6 +14,7 @@ use building::parts_before;
 use dimacs_text::Edit;
 use flow_solver::{Part, Tables, Verdict};
 use history::Change;
+use network::edits_keep_lawful;
 use std::alloc::{AllocError, Allocator, Global};
 use std::marker::Model;
 
@@ -58,6 +59,7 @@ impl<A: Allocator + Copy> Record<A> {
         ensures leads { IfOk result (λ r. tables.now.before ≡ Some (swapped r tables.now.moment)) }
         ensures exact { IfOk result (λ r. Differs r tables.now.moment) }
     {
+        edits_keep_lawful();
         let parts = parts_before(alloc, edits, tables)?;
         let flows = differences(
             alloc,
