@@ -7,24 +7,6 @@ mod answers;
 #[cfg(test)]
 mod devices;
 #[cfg(test)]
-mod engine_answers;
-#[cfg(test)]
-mod engine_devices;
-#[cfg(test)]
-mod engine_groups;
-#[cfg(test)]
-mod engine_growths;
-#[cfg(test)]
-mod engine_marks;
-#[cfg(test)]
-mod engine_problems;
-#[cfg(test)]
-mod engine_runs;
-#[cfg(test)]
-mod engine_sessions;
-#[cfg(test)]
-mod large_texts;
-#[cfg(test)]
 mod lines;
 #[cfg(test)]
 mod networks;

@@ -1,10 +1,10 @@
 //! What `solve` and `check` write, and how they end.
 
-use crate::engine_problems::{
+use crate::problems::{
     CLOSED_PAIR, DIAMOND, DIAMOND_SOLVED, EQUAL_ARCS_SAME_BLOCK, MAX_DIAMOND, MAX_WITHOUT_ARCS,
     PAIRS, PARALLEL_ARCS, PIECES, RIGHT_ANSWER, SINGLE_ARC, SURPLUS,
 };
-use crate::engine_runs::{BYTES, Devices, Engine, checked, run, solved};
+use crate::runs::{BYTES, Devices, Engine, checked, run, solved};
 use checker::{End, Text};
 use dimacs_io::Pad;
 use std::test::Fail;

@@ -1,6 +1,6 @@
 //! Texts at the limits of the program: the most arcs, the most nodes, and a session of 30,000 commands.
 
-use crate::engine_problems::{DIAMOND, RIGHT_ANSWER, SINGLE_ARC};
+use crate::problems::{DIAMOND, RIGHT_ANSWER, SINGLE_ARC};
 use checker::{End, check};
 use dimacs_io::{ReadSource, WriteSink};
 use engines::{run_session, solve};

@@ -1,8 +1,8 @@
 //! Devices that fail under an engine, at each call in turn.
 
-use crate::engine_problems::{DIAMOND, DIAMOND_SOLVED, RIGHT_ANSWER, SINGLE_ARC, SURPLUS};
-use crate::engine_runs::{BYTES, Devices, Engine, SESSION, run};
-use crate::engine_sessions::{DIAMOND_NARROWED, DIAMOND_NARROWED_REPLIES};
+use crate::problems::{DIAMOND, DIAMOND_SOLVED, RIGHT_ANSWER, SINGLE_ARC, SURPLUS};
+use crate::runs::{BYTES, Devices, Engine, SESSION, run};
+use crate::sessions::{DIAMOND_NARROWED, DIAMOND_NARROWED_REPLIES};
 use checker::{End, Text};
 
 #[test]

@@ -1,6 +1,6 @@
 //! Each growth of an edit in a session refused in turn.
 
-use crate::engine_problems::DIAMOND;
+use crate::problems::DIAMOND;
 use checker::End;
 use dimacs_io::{Pad, Script};
 use engines::run_session_in;

@@ -1,7 +1,7 @@
 //! Marks in a session, from commands to replies.
 
-use crate::engine_problems::{CLOSED_PAIR, DIAMOND, MAX_DIAMOND, PIECES, SINGLE_ARC};
-use crate::engine_runs::session;
+use crate::problems::{CLOSED_PAIR, DIAMOND, MAX_DIAMOND, PIECES, SINGLE_ARC};
+use crate::runs::session;
 use checker::End;
 use std::test::Fail;
 

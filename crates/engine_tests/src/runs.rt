@@ -6,7 +6,7 @@ use engines::{run_session, solve};
 
 /// The three engines, each with what it is asked for.
 #[derive(Clone, Copy)]
-pub enum Engine {
+pub(crate) enum Engine {
     Solve { proof: bool },
     Session { extra: u32 },
     Check,
@@ -15,7 +15,7 @@ pub enum Engine {
 /// How many bytes a device passes in one call at most, and from which call on each fails, counted from 1 (`None`:
 /// never).
 #[derive(Clone, Copy)]
-pub struct Devices {
+pub(crate) struct Devices {
     pub most: usize,
     pub problem_fails: Option<u64>,
     pub other_fails: Option<u64>,
@@ -23,7 +23,7 @@ pub struct Devices {
 }
 
 /// Devices that pass a byte a call and never fail.
-pub const BYTES: Devices = Devices {
+pub(crate) const BYTES: Devices = Devices {
     most: 1,
     problem_fails: None,
     other_fails: None,
@@ -31,11 +31,11 @@ pub const BYTES: Devices = Devices {
 };
 
 /// A session with the usual room.
-pub const SESSION: Engine = Engine::Session { extra: 1000 };
+pub(crate) const SESSION: Engine = Engine::Session { extra: 1000 };
 
 /// Runs an engine, and says how that ends and what is written. The other text is the answer of `check` or the commands
 /// of a session.
-pub fn run(
+pub(crate) fn run(
     rt: &HostRuntime,
     engine: Engine,
     problem: &[u8],
@@ -57,7 +57,7 @@ pub fn run(
 }
 
 /// Solves a text in pieces of at most `most` bytes.
-pub fn solved(rt: &HostRuntime, problem: &[u8], proof: bool, most: usize) -> (End, Pad) {
+pub(crate) fn solved(rt: &HostRuntime, problem: &[u8], proof: bool, most: usize) -> (End, Pad) {
     run(
         rt,
         Engine::Solve { proof },
@@ -68,7 +68,7 @@ pub fn solved(rt: &HostRuntime, problem: &[u8], proof: bool, most: usize) -> (En
 }
 
 /// Checks texts in pieces of at most `most` bytes.
-pub fn checked(rt: &HostRuntime, problem: &[u8], answer: &[u8], most: usize) -> (End, Pad) {
+pub(crate) fn checked(rt: &HostRuntime, problem: &[u8], answer: &[u8], most: usize) -> (End, Pad) {
     run(
         rt,
         Engine::Check,
@@ -79,7 +79,7 @@ pub fn checked(rt: &HostRuntime, problem: &[u8], answer: &[u8], most: usize) -> 
 }
 
 /// Runs a session in pieces of at most `most` bytes.
-pub fn session(
+pub(crate) fn session(
     rt: &HostRuntime,
     problem: &[u8],
     extra: u32,

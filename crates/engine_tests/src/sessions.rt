@@ -1,16 +1,16 @@
 //! Sessions, from commands to replies.
 
-use crate::engine_problems::{
+use crate::problems::{
     CLOSED_PAIR, DIAMOND, EQUAL_ARCS_SAME_BLOCK, MAX_DIAMOND, MAX_WITHOUT_ARCS, PAIRS,
     PARALLEL_ARCS, PIECES, SINGLE_ARC, SURPLUS,
 };
-use crate::engine_runs::{BYTES, Devices, SESSION, run, session};
+use crate::runs::{BYTES, Devices, SESSION, run, session};
 use checker::{End, Text};
 use std::test::Fail;
 
-pub const DIAMOND_NARROWED: &[u8] = b"cap 5 3\nundo\nredo\nshow\n";
+pub(crate) const DIAMOND_NARROWED: &[u8] = b"cap 5 3\nundo\nredo\nshow\n";
 
-pub const DIAMOND_NARROWED_REPLIES: &[u8] =
+pub(crate) const DIAMOND_NARROWED_REPLIES: &[u8] =
     b"s 14\ns 15\ns 14\ns 15\ns 15\nf 1 2 2\nf 1 3 2\nf 2 3 1\nf 2 4 1\nf 3 4 3\n";
 
 /// A problem, how many arcs there is room for beside its own, commands, and what is written.

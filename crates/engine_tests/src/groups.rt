@@ -1,14 +1,14 @@
 //! Groups of edits in a session, from commands to replies.
 
-use crate::engine_problems::{CLOSED_PAIR, DIAMOND, MAX_DIAMOND, PIECES, SINGLE_ARC};
-use crate::engine_runs::{BYTES, Devices, SESSION, run, session};
+use crate::problems::{CLOSED_PAIR, DIAMOND, MAX_DIAMOND, PIECES, SINGLE_ARC};
+use crate::runs::{BYTES, Devices, SESSION, run, session};
 use checker::{End, Text};
 use std::test::Fail;
 
 /// The edits of a group that widen one way and narrow another.
-pub const CAPACITIES: &[u8] = b"group\ncap 1 1\ncap 2 3\nend\nshow\n";
+pub(crate) const CAPACITIES: &[u8] = b"group\ncap 1 1\ncap 2 3\nend\nshow\n";
 
-pub const CAPACITIES_REPLIES: &[u8] =
+pub(crate) const CAPACITIES_REPLIES: &[u8] =
     b"s 14\ns 13\ns 13\nf 1 2 1\nf 1 3 3\nf 2 3 1\nf 2 4 0\nf 3 4 4\n";
 
 /// A problem, commands with groups, and what is written.
