@@ -1,9 +1,10 @@
 //! Devices that fail under an engine, at each call in turn.
 
 use crate::problems::{DIAMOND, DIAMOND_SOLVED, RIGHT_ANSWER, SINGLE_ARC, SURPLUS};
-use crate::runs::{BYTES, Devices, Engine, SESSION, run};
+use crate::runs::{BYTES, Devices, Engine, SESSION, expect, run};
 use crate::sessions::{DIAMOND_NARROWED, DIAMOND_NARROWED_REPLIES};
 use checker::{End, Text};
+use std::process::Abort;
 
 #[test]
 fn each_failed_read_of_a_problem_is_told(rt: HostRuntime) {
@@ -14,9 +15,8 @@ fn each_failed_read_of_a_problem_is_told(rt: HostRuntime) {
                 problem_fails: Some(given as u64 + 1),
                 ..BYTES
             };
-            let (end, out) = run(&rt, engine, SINGLE_ARC, RIGHT_ANSWER, devices);
-            assert_eq!(rt; end, End::ReadFailed(Text::Problem));
-            assert!(rt; out.held().is_empty());
+            let ran = run(rt.alloc(), engine, SINGLE_ARC, RIGHT_ANSWER, devices);
+            expect(&rt, ran, End::ReadFailed(Text::Problem), b"", "a problem");
         }
     }
 }
@@ -28,9 +28,8 @@ fn each_failed_read_of_an_answer_is_told(rt: HostRuntime) {
             other_fails: Some(given as u64 + 1),
             ..BYTES
         };
-        let (end, out) = run(&rt, Engine::Check, SINGLE_ARC, RIGHT_ANSWER, devices);
-        assert_eq!(rt; end, End::ReadFailed(Text::Answer));
-        assert!(rt; out.held().is_empty());
+        let ran = run(rt.alloc(), Engine::Check, SINGLE_ARC, RIGHT_ANSWER, devices);
+        expect(&rt, ran, End::ReadFailed(Text::Answer), b"", "an answer");
     }
 }
 
@@ -43,6 +42,20 @@ const WRITTEN_SO_FAR: [&[u8]; 5] = [
     DIAMOND_NARROWED_REPLIES,
 ];
 
+/// What is written once so much of the commands is read.
+fn written_after(rt: &impl Abort, commands: &[u8]) -> &'static [u8] {
+    let mut ended = 0usize;
+    for byte in commands {
+        if *byte == b'\n' {
+            ended = ended.saturating_add(1);
+        }
+    }
+    match WRITTEN_SO_FAR.get(ended) {
+        Some(written) => written,
+        None => panic!(rt; "there are four commands"),
+    }
+}
+
 #[test]
 fn each_failed_read_of_commands_comes_after_the_replies(rt: HostRuntime) {
     for given in 0..=DIAMOND_NARROWED.len() {
@@ -50,13 +63,15 @@ fn each_failed_read_of_commands_comes_after_the_replies(rt: HostRuntime) {
             other_fails: Some(given as u64 + 1),
             ..BYTES
         };
-        let (end, out) = run(&rt, SESSION, DIAMOND, DIAMOND_NARROWED, devices);
-        assert_eq!(rt; end, End::ReadFailed(Text::Commands));
-        let ended = DIAMOND_NARROWED[..given]
-            .iter()
-            .filter(|b| **b == b'\n')
-            .count();
-        assert_eq!(rt; Some(out.held()), WRITTEN_SO_FAR.get(ended).copied());
+        let ran = run(rt.alloc(), SESSION, DIAMOND, DIAMOND_NARROWED, devices);
+        let written = written_after(&rt, &DIAMOND_NARROWED[..given]);
+        expect(
+            &rt,
+            ran,
+            End::ReadFailed(Text::Commands),
+            written,
+            "a command",
+        );
     }
 }
 
@@ -82,9 +97,14 @@ fn nothing_follows_a_failed_write(rt: HostRuntime) {
                 out_fails: Some(written as u64 + 1),
                 ..BYTES
             };
-            let (end, out) = run(&rt, engine, problem, other, devices);
-            assert_eq!(rt; end, End::WriteFailed);
-            assert_eq!(rt; out.held(), &text[..written]);
+            let ran = run(rt.alloc(), engine, problem, other, devices);
+            expect(
+                &rt,
+                ran,
+                End::WriteFailed,
+                &text[..written],
+                "a failed write",
+            );
         }
     }
 }

@@ -1,8 +1,12 @@
 //! Groups of edits in a session, from commands to replies.
 
-use crate::problems::{CLOSED_PAIR, DIAMOND, MAX_DIAMOND, PIECES, SINGLE_ARC};
-use crate::runs::{BYTES, Devices, SESSION, run, session};
+use crate::problems::DIAMOND;
+use crate::runs::{
+    BYTES, Devices, SESSION, expect, expect_beginning, expect_dialogues, expect_replies, run,
+};
 use checker::{End, Text};
+use std::alloc::Global;
+use std::process::Abort;
 use std::test::Fail;
 
 /// The edits of a group that widen one way and narrow another.
@@ -12,112 +16,51 @@ pub(crate) const CAPACITIES_REPLIES: &[u8] =
     b"s 14\ns 13\ns 13\nf 1 2 1\nf 1 3 3\nf 2 3 1\nf 2 4 0\nf 3 4 4\n";
 
 /// A problem, commands with groups, and what is written.
-const GROUPS: [(&[u8], &[u8], &[u8]); 16] = [
-    (
-        SINGLE_ARC,
-        b"group\nsupply 1 4\nsupply 2 -4\nend\nundo\nredo\nundo\nundo\n",
-        b"s 12\ns 16\ns 12\ns 16\ns 12\nr 25\n",
-    ),
-    (DIAMOND, CAPACITIES, CAPACITIES_REPLIES),
-    (
-        DIAMOND,
-        b"group\ncap 5 3\ncap 9 1\nfly\nend\nend\nundo\ngroup\nundo\nend\ngroup\ncap 5 3\n",
-        b"s 14\nr 20\nr 29\nr 25\nr 29\n",
-    ),
-    // A group without edits is a step.
-    (
-        DIAMOND,
-        b"group\nend\nundo\nredo\nundo\nundo\n",
-        b"s 14\ns 14\ns 14\ns 14\ns 14\nr 25\n",
-    ),
-    // One arc edited twice in a group, and undone at once.
-    (
-        DIAMOND,
-        b"group\ncap 5 0\ncap 5 3\nend\nshow\nundo\nshow\n",
-        b"s 14\ns 15\ns 15\nf 1 2 2\nf 1 3 2\nf 2 3 1\nf 2 4 1\nf 3 4 3\ns 14\ns 14\nf 1 2 2\nf 1 3 2\nf 2 3 2\nf 2 4 0\nf 3 4 4\n",
-    ),
-    // An arc that a group adds and edits; undone, its number is free, and redone, it is there with its row and flow.
-    (
-        SINGLE_ARC,
-        b"group\nadd 1 2 0 5 1\ncap 2 2\ncost 2 2\nend\nshow\nundo\ncap 2 1\nredo\nshow\n",
-        b"s 12\ns 8\ns 8\nf 1 2 1\nf 1 2 2\ns 12\nr 20\ns 8\ns 8\nf 1 2 1\nf 1 2 2\n",
-    ),
-    // Two arcs that a group adds.
-    (
-        SINGLE_ARC,
-        b"group\nadd 1 2 0 1 1\nadd 1 2 0 1 2\nclose 1\ncap 1 9\nend\nshow\nundo\nredo\nclose 3\n",
-        b"s 12\ns 7\ns 7\nf 1 2 1\nf 1 2 1\nf 1 2 1\ns 12\ns 7\ns 9\n",
-    ),
-    // A group that leaves no legal flow, and one that leaves one again.
-    (
-        SINGLE_ARC,
-        b"group\ncap 1 1\nend\nshow\ngroup\ncap 1 9\nsupply 1 4\nsupply 2 -4\nend\nundo\nshow\n",
-        b"s 12\ni 2\ni 2\nk 1\ns 16\ni 2\ni 2\nk 1\n",
-    ),
-    // The first refused line decides, by itself or by the edits before it, and nothing changes.
-    (
-        DIAMOND,
-        b"group\ncap 5 3\nfly\ncap 9 1\nend\nshow\nundo\n",
-        b"s 14\nr 2\ns 14\nf 1 2 2\nf 1 3 2\nf 2 3 2\nf 2 4 0\nf 3 4 4\nr 25\n",
-    ),
-    (
-        SINGLE_ARC,
-        b"group\nlow 1 5\ncap 1 4\nend\ngroup\ncap 1 4\nlow 1 5\nend\ngroup\ncap 2 1\nadd 1 2 0 5 1\nend\n",
-        b"s 12\nr 22\nr 22\nr 20\n",
-    ),
-    // What is no edit, in a group: a group goes into none.
-    (
-        DIAMOND,
-        b"group\ngroup\ncap 5 3\nend\nend\ngroup\nredo\nend\ngroup\nshow\nend\ngroup\nproof\nend\n",
-        b"s 14\nr 29\nr 29\nr 29\nr 29\nr 29\n",
-    ),
-    // `group` and `end` have no fields: the group goes on to its end.
-    (
-        DIAMOND,
-        b"group 1\nend 1\ngroup\nend 1\ncap 5 3\nend\ngroup\ncap 5 3\nend\n",
-        b"s 14\nr 3\nr 3\nr 3\ns 15\n",
-    ),
-    // Blank lines are passed over, and a last line needs no LF.
-    (
-        DIAMOND,
-        b"\n group\r\n\n \tcap  5 3 \r\n\t\n\r\n end\t",
-        b"s 14\ns 15\n",
-    ),
-    // A group that the text does not end is no step.
-    (DIAMOND, b"cap 5 3\ngroup\nundo\nen", b"s 14\ns 15\n"),
-    // The other kinds.
-    (
-        MAX_DIAMOND,
-        b"group\nclose 5\nend\ngroup\nclose 4\ncost 1 2\nend\nundo\ngroup\ncap 4 3\nadd 1 4 2\nend\n",
-        b"s 5\ns 2\nr 23\ns 5\ns 7\n",
-    ),
-    (
-        CLOSED_PAIR,
-        b"group\nclose 1\nadd 1 2 3\nend\nundo\ngroup\ncost 1 3\nadd 2 1 0\nend\n",
-        b"s -5\ns 3\ns -5\nr 27\n",
-    ),
-];
+const GROUPS: &str = "\
+SINGLE_ARC|group/supply 1 4/supply 2 -4/end/undo/redo/undo/undo/|s 12/s 16/s 12/s 16/s 12/r 25/
+DIAMOND|group/cap 1 1/cap 2 3/end/show/|s 14/s 13/s 13/f 1 2 1/f 1 3 3/f 2 3 1/f 2 4 0/f 3 4 4/
+DIAMOND|group/cap 5 3/cap 9 1/fly/end/end/undo/group/undo/end/group/cap 5 3/|s 14/r 20/r 29/r 25/r 29/
+# A group without edits is a step.
+DIAMOND|group/end/undo/redo/undo/undo/|s 14/s 14/s 14/s 14/s 14/r 25/
+# One arc edited twice in a group, and undone at once.
+DIAMOND|group/cap 5 0/cap 5 3/end/show/undo/show/|s 14/s 15/s 15/f 1 2 2/f 1 3 2/f 2 3 1/f 2 4 1/f 3 4 3/s 14/s 14/f 1 2 2/f 1 3 2/f 2 3 2/f 2 4 0/f 3 4 4/
+# An arc that a group adds and edits; undone, its number is free, and redone, it is there with its row and flow.
+SINGLE_ARC|group/add 1 2 0 5 1/cap 2 2/cost 2 2/end/show/undo/cap 2 1/redo/show/|s 12/s 8/s 8/f 1 2 1/f 1 2 2/s 12/r 20/s 8/s 8/f 1 2 1/f 1 2 2/
+# Two arcs that a group adds.
+SINGLE_ARC|group/add 1 2 0 1 1/add 1 2 0 1 2/close 1/cap 1 9/end/show/undo/redo/close 3/|s 12/s 7/s 7/f 1 2 1/f 1 2 1/f 1 2 1/s 12/s 7/s 9/
+# A group that leaves no legal flow, and one that leaves one again.
+SINGLE_ARC|group/cap 1 1/end/show/group/cap 1 9/supply 1 4/supply 2 -4/end/undo/show/|s 12/i 2/i 2/k 1/s 16/i 2/i 2/k 1/
+# The first refused line decides, by itself or by the edits before it, and nothing changes.
+DIAMOND|group/cap 5 3/fly/cap 9 1/end/show/undo/|s 14/r 2/s 14/f 1 2 2/f 1 3 2/f 2 3 2/f 2 4 0/f 3 4 4/r 25/
+SINGLE_ARC|group/low 1 5/cap 1 4/end/group/cap 1 4/low 1 5/end/group/cap 2 1/add 1 2 0 5 1/end/|s 12/r 22/r 22/r 20/
+# What is no edit, in a group: a group goes into none.
+DIAMOND|group/group/cap 5 3/end/end/group/redo/end/group/show/end/group/proof/end/|s 14/r 29/r 29/r 29/r 29/r 29/
+# `group` and `end` have no fields: the group goes on to its end.
+DIAMOND|group 1/end 1/group/end 1/cap 5 3/end/group/cap 5 3/end/|s 14/r 3/r 3/r 3/s 15/
+# Blank lines are passed over, and a last line needs no LF.
+DIAMOND|/ group\r// \tcap  5 3 \r/\t/\r/ end\t|s 14/s 15/
+# A group that the text does not end is no step.
+DIAMOND|cap 5 3/group/undo/en|s 14/s 15/
+# The other kinds.
+MAX_DIAMOND|group/close 5/end/group/close 4/cost 1 2/end/undo/group/cap 4 3/add 1 4 2/end/|s 5/s 2/r 23/s 5/s 7/
+CLOSED_PAIR|group/close 1/add 1 2 3/end/undo/group/cost 1 3/add 2 1 0/end/|s -5/s 3/s -5/r 27/
+";
 
 #[test]
 fn groups_are_answered_so_in_any_pieces(rt: HostRuntime) {
-    for (problem, commands, replies) in GROUPS {
-        for most in PIECES {
-            let (end, out) = session(&rt, problem, 1000, commands, most);
-            assert_eq!(rt; end, End::Ended);
-            assert_eq!(rt; out.held(), replies);
-        }
-    }
+    expect_dialogues(&rt, rt.alloc(), 1000, "", "", GROUPS);
 }
 
-/// What a session on the diamond writes for a group of these lines: the first, so many times the second, and the third.
-fn long_group_writes(
-    rt: &HostRuntime,
+/// A session on the diamond answers so to a group of these lines: the first, so many edits, and the last.
+fn expect_long_group(
+    rt: &impl Abort,
+    alloc: Global,
     first: &[u8],
     count: usize,
     last: &[u8],
     replies: &[u8],
-) -> Result<bool, Fail> {
-    let mut text = Vec::new(rt.alloc());
+) -> Result<(), Fail> {
+    let mut text = Vec::new(alloc);
     text.extend_from_slice(b"group\n")?;
     text.extend_from_slice(first)?;
     for _ in 0..count {
@@ -125,45 +68,19 @@ fn long_group_writes(
     }
     text.extend_from_slice(last)?;
     text.extend_from_slice(b"end\n")?;
-    for most in PIECES {
-        let (end, out) = session(rt, DIAMOND, 1000, text.as_slice(), most);
-        if end != End::Ended || out.held() != replies {
-            return Ok(false);
-        }
-    }
-    Ok(true)
-}
-
-#[test]
-fn the_longest_group_has_a_thousand_edits(rt: HostRuntime) -> Result<(), Fail> {
-    assert!(rt; long_group_writes(&rt, b"", 1000, b"", b"s 14\ns 15\n")?);
-    assert!(rt; long_group_writes(&rt, b"", 1001, b"", b"s 14\nr 31\n")?);
-    // Too many edits come after an edit that is refused, and before a line that is.
-    assert!(rt; long_group_writes(&rt, b"cap 9 1\n", 1000, b"", b"s 14\nr 20\n")?);
-    assert!(rt; long_group_writes(&rt, b"", 1001, b"fly\n", b"s 14\nr 31\n")?);
-    // A line that is no edit is refused as such, whatever stands before it.
-    assert!(rt; long_group_writes(&rt, b"", 1000, b"fly\n", b"s 14\nr 2\n")?);
+    expect_replies(rt, alloc, DIAMOND, 1000, &text, replies, "a long group");
     Ok(())
 }
 
 #[test]
-fn a_line_of_1025_bytes_in_a_group_is_refused(rt: HostRuntime) -> Result<(), Fail> {
-    for (spaces, replies) in [
-        (1016, b"s 14\ns 15\ns 14\n".as_slice()),
-        (1017, b"s 14\nr 1\nr 25\n"),
-    ] {
-        let mut text = Vec::new(rt.alloc());
-        text.extend_from_slice(b"group\n")?;
-        for _ in 0..spaces {
-            text.push(b' ')?;
-        }
-        text.extend_from_slice(b"cap 5  3\nend\nundo\n")?;
-        for most in PIECES {
-            let (end, out) = session(&rt, DIAMOND, 1000, text.as_slice(), most);
-            assert_eq!(rt; end, End::Ended);
-            assert_eq!(rt; out.held(), replies);
-        }
-    }
+fn the_longest_group_has_a_thousand_edits(rt: HostRuntime) -> Result<(), Fail> {
+    expect_long_group(&rt, rt.alloc(), b"", 1000, b"", b"s 14\ns 15\n")?;
+    expect_long_group(&rt, rt.alloc(), b"", 1001, b"", b"s 14\nr 31\n")?;
+    // Too many edits come after an edit that is refused, and before a line that is.
+    expect_long_group(&rt, rt.alloc(), b"cap 9 1\n", 1000, b"", b"s 14\nr 20\n")?;
+    expect_long_group(&rt, rt.alloc(), b"", 1001, b"fly\n", b"s 14\nr 31\n")?;
+    // A line that is no edit is refused as such, whatever stands before it.
+    expect_long_group(&rt, rt.alloc(), b"", 1000, b"fly\n", b"s 14\nr 2\n")?;
     Ok(())
 }
 
@@ -176,13 +93,13 @@ fn nothing_follows_a_failed_write_at_the_end_of_a_group(rt: HostRuntime) {
             out_fails: Some(fails),
             ..BYTES
         };
-        let (end, out) = run(&rt, SESSION, DIAMOND, CAPACITIES, devices);
-        assert!(rt; CAPACITIES_REPLIES.starts_with(out.held()));
-        if fails > calls {
-            assert_eq!(rt; end, End::Ended);
+        let ran = run(rt.alloc(), SESSION, DIAMOND, CAPACITIES, devices);
+        let end = if fails > calls {
+            End::Ended
         } else {
-            assert_eq!(rt; end, End::WriteFailed);
-        }
+            End::WriteFailed
+        };
+        expect_beginning(&rt, ran, end, CAPACITIES_REPLIES);
     }
 }
 
@@ -194,13 +111,18 @@ fn each_failed_read_in_a_group_is_told(rt: HostRuntime) {
             other_fails: Some(given + 1),
             ..BYTES
         };
-        let (end, out) = run(&rt, SESSION, DIAMOND, CAPACITIES, devices);
-        assert_eq!(rt; end, End::ReadFailed(Text::Commands));
+        let ran = run(rt.alloc(), SESSION, DIAMOND, CAPACITIES, devices);
         let written = if given < 26 {
             b"s 14\n".as_slice()
         } else {
             b"s 14\ns 13\n"
         };
-        assert_eq!(rt; out.held(), written);
+        expect(
+            &rt,
+            ran,
+            End::ReadFailed(Text::Commands),
+            written,
+            "a group",
+        );
     }
 }

@@ -1,8 +1,11 @@
 //! Runs an engine on texts that come and go through devices of the tests.
 
+use crate::problems::{PIECES, problem_of};
 use checker::{End, check};
 use dimacs_io::{Pad, Script};
 use engines::{run_session, solve};
+use std::alloc::Global;
+use std::process::Abort;
 
 /// The three engines, each with what it is asked for.
 #[derive(Clone, Copy)]
@@ -36,7 +39,7 @@ pub(crate) const SESSION: Engine = Engine::Session { extra: 1000 };
 /// Runs an engine, and says how that ends and what is written. The other text is the answer of `check` or the commands
 /// of a session.
 pub(crate) fn run(
-    rt: &HostRuntime,
+    alloc: Global,
     engine: Engine,
     problem: &[u8],
     other: &[u8],
@@ -47,19 +50,19 @@ pub(crate) fn run(
     let mut other = Script::new(other, most, devices.other_fails);
     let mut out = Pad::new(most, devices.out_fails);
     let end = match engine {
-        Engine::Solve { proof } => solve(rt.alloc(), &mut problem, &mut out, proof),
+        Engine::Solve { proof } => solve(alloc, &mut problem, &mut out, proof),
         Engine::Session { extra } => {
-            run_session(rt.alloc(), &mut problem, &mut other, &mut out, extra)
+            run_session(alloc, &mut problem, &mut other, &mut out, extra)
         }
-        Engine::Check => check(rt.alloc(), &mut problem, &mut other, &mut out),
+        Engine::Check => check(alloc, &mut problem, &mut other, &mut out),
     };
     (end, out)
 }
 
 /// Solves a text in pieces of at most `most` bytes.
-pub(crate) fn solved(rt: &HostRuntime, problem: &[u8], proof: bool, most: usize) -> (End, Pad) {
+pub(crate) fn solved(alloc: Global, problem: &[u8], proof: bool, most: usize) -> (End, Pad) {
     run(
-        rt,
+        alloc,
         Engine::Solve { proof },
         problem,
         b"",
@@ -68,9 +71,9 @@ pub(crate) fn solved(rt: &HostRuntime, problem: &[u8], proof: bool, most: usize)
 }
 
 /// Checks texts in pieces of at most `most` bytes.
-pub(crate) fn checked(rt: &HostRuntime, problem: &[u8], answer: &[u8], most: usize) -> (End, Pad) {
+pub(crate) fn checked(alloc: Global, problem: &[u8], answer: &[u8], most: usize) -> (End, Pad) {
     run(
-        rt,
+        alloc,
         Engine::Check,
         problem,
         answer,
@@ -80,17 +83,118 @@ pub(crate) fn checked(rt: &HostRuntime, problem: &[u8], answer: &[u8], most: usi
 
 /// Runs a session in pieces of at most `most` bytes.
 pub(crate) fn session(
-    rt: &HostRuntime,
+    alloc: Global,
     problem: &[u8],
     extra: u32,
     commands: &[u8],
     most: usize,
 ) -> (End, Pad) {
     run(
-        rt,
+        alloc,
         Engine::Session { extra },
         problem,
         commands,
         Devices { most, ..BYTES },
     )
+}
+
+/// The cell before the first `|` of a row, and the rest.
+pub(crate) fn cut<'a>(rt: &impl Abort, row: &'a str) -> (&'a str, &'a str) {
+    row.split_once('|').expect(rt, "a row has one cell more")
+}
+
+/// The text of a cell, where a `/` stands for an LF.
+pub(crate) fn text_of(rt: &impl Abort, alloc: Global, cell: &str) -> String {
+    let text = cell.replace(alloc, '/', "\n");
+    text.expect(rt, "there is memory for a text")
+}
+
+/// An engine ended so.
+pub(crate) fn expect_end(rt: &impl Abort, ended: End, end: End, row: &str) {
+    assert_eq!(rt; ended, end, "{row}");
+}
+
+/// An engine ended so, and wrote this.
+pub(crate) fn expect(rt: &impl Abort, ran: (End, Pad), end: End, written: &[u8], row: &str) {
+    expect_end(rt, ran.0, end, row);
+    assert_eq!(rt; ran.1.held(), written, "{row}");
+}
+
+/// An engine ended so, and wrote this or a beginning of it.
+pub(crate) fn expect_beginning(rt: &impl Abort, ran: (End, Pad), end: End, whole: &[u8]) {
+    expect_end(rt, ran.0, end, "a beginning");
+    assert!(rt; whole.starts_with(ran.1.held()));
+}
+
+/// An engine ended so, and wrote what starts so.
+pub(crate) fn expect_start(rt: &impl Abort, ran: (End, Pad), end: End, start: &[u8]) {
+    expect_end(rt, ran.0, end, "a start");
+    assert!(rt; ran.1.held().starts_with(start));
+}
+
+/// An engine ended so, and wrote one of these texts.
+pub(crate) fn expect_one_of(rt: &impl Abort, ran: (End, Pad), end: End, texts: &[&[u8]]) {
+    expect_end(rt, ran.0, end, "one of some texts");
+    let written = ran.1.held();
+    let mut lawful = false;
+    for text in texts {
+        if written == *text {
+            lawful = true;
+        }
+    }
+    assert!(rt; lawful);
+}
+
+/// A session answers so in any pieces.
+pub(crate) fn expect_replies(
+    rt: &impl Abort,
+    alloc: Global,
+    problem: &[u8],
+    extra: u32,
+    commands: &[u8],
+    replies: &[u8],
+    row: &str,
+) {
+    for most in PIECES {
+        let ran = session(alloc, problem, extra, commands, most);
+        expect(rt, ran, End::Ended, replies, row);
+    }
+}
+
+/// Two cells, one after the other.
+fn joined(rt: &impl Abort, alloc: Global, first: &str, second: &str) -> String {
+    let mut text = text_of(rt, alloc, first);
+    let pushed = text.push_str(&text_of(rt, alloc, second));
+    pushed.expect(rt, "there is memory for a text");
+    text
+}
+
+/// Sessions answer so in any pieces, after the same commands and replies. A row is a problem's name, commands, and what
+/// is written; a line that starts with `#` is a remark.
+pub(crate) fn expect_dialogues(
+    rt: &impl Abort,
+    alloc: Global,
+    extra: u32,
+    before: &str,
+    written_before: &str,
+    rows: &str,
+) {
+    for row in rows.lines() {
+        if !row.starts_with('#') {
+            let (name, dialogue) = cut(rt, row);
+            let (commands, replies) = cut(rt, dialogue);
+            let commands = joined(rt, alloc, before, commands);
+            let replies = joined(rt, alloc, written_before, replies);
+            let problem = problem_of(rt, name);
+            expect_replies(
+                rt,
+                alloc,
+                problem,
+                extra,
+                commands.as_bytes(),
+                replies.as_bytes(),
+                row,
+            );
+        }
+    }
 }

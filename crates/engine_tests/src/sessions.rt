@@ -1,11 +1,13 @@
 //! Sessions, from commands to replies.
 
-use crate::problems::{
-    CLOSED_PAIR, DIAMOND, EQUAL_ARCS_SAME_BLOCK, MAX_DIAMOND, MAX_WITHOUT_ARCS, PAIRS,
-    PARALLEL_ARCS, PIECES, SINGLE_ARC, SURPLUS,
+use crate::problems::{DIAMOND, EQUAL_ARCS_SAME_BLOCK, PIECES};
+use crate::runs::{
+    BYTES, Devices, SESSION, expect, expect_beginning, expect_dialogues, expect_one_of,
+    expect_replies, run, session,
 };
-use crate::runs::{BYTES, Devices, SESSION, run, session};
 use checker::{End, Text};
+use std::alloc::Global;
+use std::process::Abort;
 use std::test::Fail;
 
 pub(crate) const DIAMOND_NARROWED: &[u8] = b"cap 5 3\nundo\nredo\nshow\n";
@@ -13,107 +15,36 @@ pub(crate) const DIAMOND_NARROWED: &[u8] = b"cap 5 3\nundo\nredo\nshow\n";
 pub(crate) const DIAMOND_NARROWED_REPLIES: &[u8] =
     b"s 14\ns 15\ns 14\ns 15\ns 15\nf 1 2 2\nf 1 3 2\nf 2 3 1\nf 2 4 1\nf 3 4 3\n";
 
-/// A problem, how many arcs there is room for beside its own, commands, and what is written.
-const SESSIONS: [(&[u8], u32, &[u8], &[u8]); 18] = [
-    (DIAMOND, 1000, DIAMOND_NARROWED, DIAMOND_NARROWED_REPLIES),
-    (
-        DIAMOND,
-        1000,
-        b"cap 5 3\nproof\n",
-        b"s 14\ns 15\ns 15\nf 1 2 2\nf 1 3 2\nf 2 3 1\nf 2 4 1\nf 3 4 3\nv 1 -5\nv 2 -3\nv 3 -2\nv 4 0\n",
-    ),
-    (
-        DIAMOND,
-        1000,
-        b"cap 1 1\nshow\nundo\n",
-        b"s 14\ni 1\ni 1\nk 1\ns 14\n",
-    ),
-    (DIAMOND, 1000, b"cap 5", b"s 14\nr 3\n"),
-    (DIAMOND, 1000, b"cap 5 3", b"s 14\ns 15\n"),
-    (
-        DIAMOND,
-        1000,
-        b"\n \t\r\ncap  5 3 \r\n\n\tundo",
-        b"s 14\ns 15\ns 14\n",
-    ),
-    (
-        SINGLE_ARC,
-        1000,
-        b"supply 1 4\nsupply 2 -4\nundo\nshow\nsupply 3 1\nredo\n",
-        b"s 12\ni 1\ns 16\ni 1\ni 1\nk 1\nk 2\nr 21\ns 16\n",
-    ),
-    (
-        SINGLE_ARC,
-        1000,
-        b"undo\ncap 9 1\nlow 1 6\ncap 1 1000000001\ncost 1 1000000000001\nfly\nshow\n",
-        b"s 12\nr 25\nr 20\nr 22\nr 5\nr 5\nr 2\ns 12\nf 1 2 3\n",
-    ),
-    (
-        SINGLE_ARC,
-        1000,
-        b"add 1 2 0 5 1\nundo\ncap 2 1\nredo\nundo\ncost 1 3\nredo\n",
-        b"s 12\ns 3\ns 12\nr 20\ns 3\ns 12\ns 9\nr 26\n",
-    ),
-    (
-        SINGLE_ARC,
-        0,
-        b"add 1 2 0 5 1\nadd 1 3 0 5 1\ncap 1 5\nundo\nundo\n",
-        b"s 12\nr 24\nr 21\ns 12\ns 12\nr 25\n",
-    ),
-    (
-        PARALLEL_ARCS,
-        1000,
-        b"low 2 2\nlow 2 3\nclose 2\nundo\n",
-        b"s 6\ns 10\nr 22\ns 2\ns 10\n",
-    ),
-    (
-        SINGLE_ARC,
-        1000,
-        b"add 1 1 0 3 -2\nshow\n",
-        b"s 12\ns 6\ns 6\nf 1 2 3\nf 1 1 3\n",
-    ),
-    (
-        SINGLE_ARC,
-        1000,
-        b"close 1\ncap 1 3\nclose 2\n",
-        b"s 12\ni 3\ns 12\nr 20\n",
-    ),
-    (
-        SURPLUS,
-        1000,
-        b"proof\nsupply 2 -1\n",
-        b"i 1\ni 1\nk 1\nk 2\ns 1\n",
-    ),
-    (
-        MAX_DIAMOND,
-        1000,
-        b"cost 1 2\nclose 5\nshow\nundo\ncap 4 3\nadd 1 4 2\n",
-        b"s 5\nr 23\ns 2\ns 2\nf 1 2 2\nf 1 3 0\nf 2 3 0\nf 2 4 2\nf 3 4 0\ns 5\ns 5\ns 7\n",
-    ),
-    (MAX_WITHOUT_ARCS, 1000, b"", b"s 0\n"),
-    (
-        PAIRS,
-        1000,
-        b"close 2\nadd 3 1 7\ncap 1 1\nundo\nadd 1 4 1\n",
-        b"s 3\ns 9\nr 27\nr 23\ns 3\ns 2\n",
-    ),
-    (
-        CLOSED_PAIR,
-        1000,
-        b"close 1\ncost 1 3\nshow\nundo\nundo\n",
-        b"s -5\ni 1\ni 1\ni 1\nk 1\ni 1\ns -5\n",
-    ),
-];
+/// A problem, commands, and what is written.
+const SESSIONS: &str = "\
+DIAMOND|cap 5 3/undo/redo/show/|s 14/s 15/s 14/s 15/s 15/f 1 2 2/f 1 3 2/f 2 3 1/f 2 4 1/f 3 4 3/
+DIAMOND|cap 5 3/proof/|s 14/s 15/s 15/f 1 2 2/f 1 3 2/f 2 3 1/f 2 4 1/f 3 4 3/v 1 -5/v 2 -3/v 3 -2/v 4 0/
+DIAMOND|cap 1 1/show/undo/|s 14/i 1/i 1/k 1/s 14/
+DIAMOND|cap 5|s 14/r 3/
+DIAMOND|cap 5 3|s 14/s 15/
+DIAMOND|/ \t\r/cap  5 3 \r//\tundo|s 14/s 15/s 14/
+SINGLE_ARC|supply 1 4/supply 2 -4/undo/show/supply 3 1/redo/|s 12/i 1/s 16/i 1/i 1/k 1/k 2/r 21/s 16/
+SINGLE_ARC|undo/cap 9 1/low 1 6/cap 1 1000000001/cost 1 1000000000001/fly/show/|s 12/r 25/r 20/r 22/r 5/r 5/r 2/s 12/f 1 2 3/
+SINGLE_ARC|add 1 2 0 5 1/undo/cap 2 1/redo/undo/cost 1 3/redo/|s 12/s 3/s 12/r 20/s 3/s 12/s 9/r 26/
+PARALLEL_ARCS|low 2 2/low 2 3/close 2/undo/|s 6/s 10/r 22/s 2/s 10/
+SINGLE_ARC|add 1 1 0 3 -2/show/|s 12/s 6/s 6/f 1 2 3/f 1 1 3/
+SINGLE_ARC|close 1/cap 1 3/close 2/|s 12/i 3/s 12/r 20/
+SURPLUS|proof/supply 2 -1/|i 1/i 1/k 1/k 2/s 1/
+MAX_DIAMOND|cost 1 2/close 5/show/undo/cap 4 3/add 1 4 2/|s 5/r 23/s 2/s 2/f 1 2 2/f 1 3 0/f 2 3 0/f 2 4 2/f 3 4 0/s 5/s 5/s 7/
+MAX_WITHOUT_ARCS||s 0/
+PAIRS|close 2/add 3 1 7/cap 1 1/undo/add 1 4 1/|s 3/s 9/r 27/r 23/s 3/s 2/
+CLOSED_PAIR|close 1/cost 1 3/show/undo/undo/|s -5/i 1/i 1/i 1/k 1/i 1/s -5/
+";
+
+/// The same, where there is room for no arc beside the problem's own.
+const WITHOUT_ROOM: &str = "\
+SINGLE_ARC|add 1 2 0 5 1/add 1 3 0 5 1/cap 1 5/undo/undo/|s 12/r 24/r 21/s 12/s 12/r 25/
+";
 
 #[test]
 fn sessions_answer_so_in_any_pieces(rt: HostRuntime) {
-    for (problem, extra, commands, replies) in SESSIONS {
-        for most in PIECES {
-            let (end, out) = session(&rt, problem, extra, commands, most);
-            assert_eq!(rt; end, End::Ended);
-            assert_eq!(rt; out.held(), replies);
-        }
-    }
+    expect_dialogues(&rt, rt.alloc(), 1000, "", "", SESSIONS);
+    expect_dialogues(&rt, rt.alloc(), 0, "", "", WITHOUT_ROOM);
 }
 
 #[test]
@@ -127,27 +58,39 @@ fn undo_brings_back_the_very_flow(rt: HostRuntime) {
     ];
     let commands = b"show\ncost 1 9\nundo\nshow\n";
     for most in PIECES {
-        let (end, out) = session(&rt, EQUAL_ARCS_SAME_BLOCK, 1000, commands, most);
-        assert_eq!(rt; end, End::Ended);
-        assert!(rt; lawful.contains(&out.held()));
+        let ran = session(rt.alloc(), EQUAL_ARCS_SAME_BLOCK, 1000, commands, most);
+        expect_one_of(&rt, ran, End::Ended, lawful.as_slice());
     }
+}
+
+/// A session on the diamond answers so, where so many spaces stand before a command.
+fn expect_long_command(
+    rt: &impl Abort,
+    alloc: Global,
+    before: &[u8],
+    spaces: usize,
+    after: &[u8],
+    replies: &[u8],
+) -> Result<(), Fail> {
+    let mut text = Vec::new(alloc);
+    text.extend_from_slice(before)?;
+    for _ in 0..spaces {
+        text.push(b' ')?;
+    }
+    text.extend_from_slice(after)?;
+    expect_replies(rt, alloc, DIAMOND, 1000, &text, replies, "a long command");
+    Ok(())
 }
 
 #[test]
 fn a_command_of_1025_bytes_is_refused(rt: HostRuntime) -> Result<(), Fail> {
-    for (spaces, replies) in [
-        (1016, b"s 14\ns 15\ns 14\n".as_slice()),
-        (1017, b"s 14\nr 1\nr 25\n"),
-    ] {
-        let mut text = vec![in rt.alloc(); b' '; spaces]?;
-        text.extend_from_slice(b"cap 5  3\nundo\n")?;
-        for most in PIECES {
-            let (end, out) = session(&rt, DIAMOND, 1000, text.as_slice(), most);
-            assert_eq!(rt; end, End::Ended);
-            assert_eq!(rt; out.held(), replies);
-        }
-    }
-    Ok(())
+    let alone = b"cap 5  3\nundo\n";
+    let grouped = b"cap 5  3\nend\nundo\n";
+    let (taken, refused) = (b"s 14\ns 15\ns 14\n", b"s 14\nr 1\nr 25\n");
+    expect_long_command(&rt, rt.alloc(), b"", 1016, alone, taken)?;
+    expect_long_command(&rt, rt.alloc(), b"", 1017, alone, refused)?;
+    expect_long_command(&rt, rt.alloc(), b"group\n", 1016, grouped, taken)?;
+    expect_long_command(&rt, rt.alloc(), b"group\n", 1017, grouped, refused)
 }
 
 #[test]
@@ -158,9 +101,8 @@ fn a_reply_comes_before_the_next_read(rt: HostRuntime) {
         out_fails: Some(7),
         ..BYTES
     };
-    let (end, out) = run(&rt, SESSION, DIAMOND, DIAMOND_NARROWED, devices);
-    assert_eq!(rt; end, End::WriteFailed);
-    assert_eq!(rt; out.held(), b"s 14\n".as_slice());
+    let ran = run(rt.alloc(), SESSION, DIAMOND, DIAMOND_NARROWED, devices);
+    expect(&rt, ran, End::WriteFailed, b"s 14\n", "the diamond");
 }
 
 /// A problem, from which call on its reading fails, commands of which 100 bytes are read, how the session ends, and what is written.
@@ -201,9 +143,8 @@ fn a_failed_read_ends_a_session(rt: HostRuntime) {
             other_fails: Some(2),
             out_fails: None,
         };
-        let (end, out) = run(&rt, SESSION, problem, commands, devices);
-        assert_eq!(rt; end, want);
-        assert_eq!(rt; out.held(), replies);
+        let ran = run(rt.alloc(), SESSION, problem, commands, devices);
+        expect(&rt, ran, want, replies, "a failed read");
     }
 }
 
@@ -216,16 +157,13 @@ fn nothing_follows_a_failed_write_in_a_session(rt: HostRuntime) {
             out_fails: Some(fails),
             ..BYTES
         };
-        let (end, out) = run(&rt, SESSION, DIAMOND, DIAMOND_NARROWED, devices);
-        assert!(rt; DIAMOND_NARROWED_REPLIES.starts_with(out.held()));
-        assert_eq!(rt;
-            end,
-            if fails > calls {
-                End::Ended
-            } else {
-                End::WriteFailed
-            }
-        );
+        let ran = run(rt.alloc(), SESSION, DIAMOND, DIAMOND_NARROWED, devices);
+        let end = if fails > calls {
+            End::Ended
+        } else {
+            End::WriteFailed
+        };
+        expect_beginning(&rt, ran, end, DIAMOND_NARROWED_REPLIES);
     }
     // The first flush fails.
     let devices = Devices {
@@ -233,7 +171,6 @@ fn nothing_follows_a_failed_write_in_a_session(rt: HostRuntime) {
         out_fails: Some(2),
         ..BYTES
     };
-    let (end, out) = run(&rt, SESSION, DIAMOND, DIAMOND_NARROWED, devices);
-    assert_eq!(rt; end, End::WriteFailed);
-    assert_eq!(rt; out.held(), b"s 14\n".as_slice());
+    let ran = run(rt.alloc(), SESSION, DIAMOND, DIAMOND_NARROWED, devices);
+    expect(&rt, ran, End::WriteFailed, b"s 14\n", "the diamond");
 }

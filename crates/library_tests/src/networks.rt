@@ -3,6 +3,7 @@
 use dimacs_text::{Edit, Kind, ProblemReader, TextFault};
 use network::{Network, build, check_best, check_cut};
 use std::alloc::Global;
+use std::process::Abort;
 
 /// The instance of a problem text, with room for one arc more.
 fn network(alloc: Global, text: &[u8]) -> Result<Network, TextFault> {
@@ -24,6 +25,11 @@ const DIAMOND: &[u8] =
 const BOTH_FORMS: &[u8] = b"p min 3 1\nn 1 1\nn 2 -3\na 3 2 0 1 1\n";
 /// A lower bound that nothing feeds.
 const UNFED: &[u8] = b"p min 2 1\na 1 2 2 5 1\n";
+
+/// A checker answers so.
+fn expect(rt: &impl Abort, answer: bool, valid: bool) {
+    assert!(rt; answer == valid);
+}
 
 #[test]
 fn best_flows(rt: HostRuntime) -> Result<(), TextFault> {
@@ -55,7 +61,7 @@ fn best_flows(rt: HostRuntime) -> Result<(), TextFault> {
     ];
     for (text, flow, potentials, worth, valid) in cases {
         let net = network(rt.alloc(), text)?;
-        assert_eq!(rt; check_best(&net, flow, potentials, worth), valid);
+        expect(&rt, check_best(&net, flow, potentials, worth), valid);
     }
     Ok(())
 }
@@ -74,9 +80,14 @@ fn cuts(rt: HostRuntime) -> Result<(), TextFault> {
     ];
     for (text, cut, shortage, valid) in cases {
         let net = network(rt.alloc(), text)?;
-        assert_eq!(rt; check_cut(&net, cut, shortage), valid);
+        expect(&rt, check_cut(&net, cut, shortage), valid);
     }
     Ok(())
+}
+
+/// Edits are answered so.
+fn expect_answer(rt: &impl Abort, answer: Result<(), u8>, expected: Result<(), u8>) {
+    assert_eq!(rt; answer, expected);
 }
 
 #[test]
@@ -117,7 +128,7 @@ fn edits(rt: HostRuntime) -> Result<(), TextFault> {
         ),
     ];
     for (edit, answer) in cases {
-        assert_eq!(rt; net.edited(&edit), answer);
+        expect_answer(&rt, net.edited(&edit), answer);
     }
     Ok(())
 }
@@ -161,26 +172,24 @@ fn edits_made_together(rt: HostRuntime) -> Result<(), TextFault> {
         ),
     ];
     for (edits, answer) in cases {
-        assert_eq!(rt; net.edited_all(edits), answer);
+        expect_answer(&rt, net.edited_all(edits), answer);
     }
-    assert_eq!(rt; net.arcs(), 1);
+    assert!(rt; net.arcs() == 1);
     Ok(())
 }
 
 #[test]
 fn parts(rt: HostRuntime) -> Result<(), TextFault> {
     let net = network(rt.alloc(), DIAMOND)?;
-    assert_eq!(rt; net.kind(), Kind::Min);
-    assert_eq!(rt; (net.nodes(), net.arcs()), (4, 5));
-    assert_eq!(rt;
-        net.arc(5).map(|row| (row.tail, row.head, row.cap)),
-        Some((3, 4, 5))
-    );
-    assert_eq!(rt; net.reduced_arc(6), None);
-    assert_eq!(rt; net.return_arc(), None);
-    assert_eq!(rt;
-        (net.reduced_supply(4), net.reduced_supply(5)),
-        (Some(-4), None)
-    );
+    assert!(rt; net.kind() == Kind::Min);
+    assert!(rt; net.nodes() == 4 && net.arcs() == 5);
+    match net.arc(5) {
+        Some(row) => assert!(rt; row.tail == 3 && row.head == 4 && row.cap == 5),
+        None => panic!(rt; "there are five arcs"),
+    }
+    assert!(rt; net.reduced_arc(6).is_none());
+    assert!(rt; net.return_arc().is_none());
+    assert!(rt; net.reduced_supply(4) == Some(-4));
+    assert!(rt; net.reduced_supply(5).is_none());
     Ok(())
 }

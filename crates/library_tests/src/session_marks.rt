@@ -10,13 +10,12 @@ use std::process::Abort;
 
 /// The diamond's fourth arc is as wide as it was.
 const SAME: Edit = Edit::Cap { arc: 4, cap: 3 };
+/// The diamond's last arc is as wide as at first.
+const WIDEN: Edit = Edit::Cap { arc: 5, cap: 5 };
 /// A group whose second edit names no arc.
 const NO_ARC: &[Edit] = &[STARVE, Edit::Cap { arc: 9, cap: 1 }];
-/// Sixteen names, and one more.
-const NAMES: [&[u8]; 17] = [
-    b"a", b"b", b"c", b"d", b"e", b"f", b"g", b"h", b"i", b"j", b"k", b"l", b"m", b"n", b"o", b"p",
-    b"q",
-];
+/// Sixteen names of a letter each, and one more.
+const NAMES: &[u8] = b"abcdefghijklmnopq";
 
 /// What is asked of a session that has marks.
 #[derive(Clone, Copy)]
@@ -176,16 +175,22 @@ const DIALOGUES: [Dialogue; 6] = [
     },
 ];
 
+/// Asks it all of the session in turn, and compares the replies.
+fn follow<A: Allocator + Copy>(
+    rt: &impl Abort,
+    session: &mut Session<A>,
+    turns: &[(Asked, Reply)],
+    shows: &str,
+) {
+    for (asked, expected) in turns {
+        assert!(rt; answered(rt, session, asked) == *expected, "{shows}");
+    }
+}
+
 /// Holds the dialogue with a session.
 fn converse(rt: &impl Abort, alloc: Global, dialogue: &Dialogue) {
     let mut session = opened(rt, alloc, alloc, DIAMOND, 1000);
-    for (asked, expected) in dialogue.turns {
-        assert!(rt;
-            answered(rt, &mut session, asked) == *expected,
-            "{}",
-            dialogue.shows
-        );
-    }
+    follow(rt, &mut session, dialogue.turns, dialogue.shows);
 }
 
 #[test]
@@ -197,85 +202,88 @@ fn marks_and_back(rt: HostRuntime) {
 
 /// Puts marks of sixteen names on the present moment.
 fn mark_all(rt: &impl Abort, session: &mut Session) {
-    for letters in &NAMES[..MARK_LIMIT] {
+    for letters in NAMES[..MARK_LIMIT].chunks(1) {
         assert!(rt; marked(rt, session, letters) == FIRST);
     }
 }
 
-/// Where sixteen names have marks, only they can be marked.
-fn fill(rt: &impl Abort, session: &mut Session) {
-    mark_all(rt, session);
-    assert!(rt; marked(rt, session, NAMES[16]) == NO_PLACE);
-    assert!(rt; moved(rt, session, NAMES[16]) == NO_MARK);
-    assert!(rt; answered(rt, session, &EDIT) == NARROWED);
-    assert!(rt; marked(rt, session, NAMES[16]) == NO_PLACE);
-    assert!(rt; marked(rt, session, NAMES[15]) == NARROWED);
-    assert!(rt; moved(rt, session, NAMES[14]) == FIRST);
-    assert!(rt; moved(rt, session, NAMES[15]) == NARROWED);
-}
-
-/// A name whose mark is taken away leaves its place to another.
-fn free(rt: &impl Abort, session: &mut Session) {
-    assert!(rt; answered(rt, session, &UNDO) == FIRST);
-    assert!(rt; answered(rt, session, &Asked::Step(Command::Apply(SAME))) == FIRST);
-    assert!(rt; moved(rt, session, NAMES[15]) == NO_MARK);
-    assert!(rt; marked(rt, session, NAMES[16]) == FIRST);
-    assert!(rt; marked(rt, session, NAMES[15]) == NO_PLACE);
-}
+/// Where sixteen names have marks, only they can be marked. A name whose mark is taken away leaves its place to another.
+const AT_THE_LIMIT: &[(Asked, Reply)] = &[
+    (Asked::Mark(b"q"), NO_PLACE),
+    (Asked::Back(b"q"), NO_MARK),
+    (EDIT, NARROWED),
+    (Asked::Mark(b"q"), NO_PLACE),
+    (Asked::Mark(b"p"), NARROWED),
+    (Asked::Back(b"o"), FIRST),
+    (Asked::Back(b"p"), NARROWED),
+    (UNDO, FIRST),
+    (Asked::Step(Command::Apply(SAME)), FIRST),
+    (Asked::Back(b"p"), NO_MARK),
+    (Asked::Mark(b"q"), FIRST),
+    (Asked::Mark(b"p"), NO_PLACE),
+];
 
 #[test]
 fn seventeen_names(rt: HostRuntime) {
     let mut session = opened(&rt, rt.alloc(), rt.alloc(), DIAMOND, 1000);
-    fill(&rt, &mut session);
-    free(&rt, &mut session);
+    mark_all(&rt, &mut session);
+    follow(&rt, &mut session, AT_THE_LIMIT, "seventeen names");
 }
+
+/// The diamond is narrowed and widened again.
+const TO_AND_FRO: &[(Asked, Reply)] = &[
+    (EDIT, NARROWED),
+    (Asked::Step(Command::Apply(WIDEN)), FIRST),
+];
 
 /// Narrows the diamond and widens it again, so many times.
 fn narrow_and_widen(rt: &impl Abort, session: &mut Session, times: usize) {
     for _ in 0..times {
-        assert!(rt; answered(rt, session, &EDIT) == NARROWED);
-        let widened = replied(session, &Command::Apply(Edit::Cap { arc: 5, cap: 5 }));
-        assert!(rt; widened == FIRST);
+        follow(rt, session, TO_AND_FRO, "many steps");
     }
 }
+
+/// The last of many steps, which has a mark, and the way back to the mark before them.
+const TO_THE_START: &[(Asked, Reply)] = &[
+    (EDIT, NARROWED),
+    (Asked::Mark(b"end"), NARROWED),
+    (Asked::Back(b"start"), FIRST),
+];
 
 #[test]
 fn back_over_many_steps(rt: HostRuntime) {
     let mut session = opened(&rt, rt.alloc(), rt.alloc(), DIAMOND, 1000);
     assert!(rt; marked(&rt, &mut session, b"start") == FIRST);
     narrow_and_widen(&rt, &mut session, 150);
-    assert!(rt; answered(&rt, &mut session, &EDIT) == NARROWED);
-    assert!(rt; marked(&rt, &mut session, b"end") == NARROWED);
-    assert!(rt; moved(&rt, &mut session, b"start") == FIRST);
+    follow(&rt, &mut session, TO_THE_START, "back over many steps");
     assert!(rt; session.steps() == (0, 301));
     assert!(rt; moved(&rt, &mut session, b"end") == NARROWED);
     assert!(rt; session.steps() == (301, 0));
 }
 
 /// Narrows the diamond, with a mark before and after, and goes back.
-fn bring<A: Allocator + Copy>(rt: &impl Abort, session: &mut Session<A>) {
-    assert!(rt; marked(rt, session, b"wide") == FIRST);
-    assert!(rt; answered(rt, session, &EDIT) == NARROWED);
-    assert!(rt; marked(rt, session, b"narrow") == NARROWED);
-    assert!(rt; moved(rt, session, b"wide") == FIRST);
-}
+const MARKED: &[(Asked, Reply)] = &[
+    (Asked::Mark(b"wide"), FIRST),
+    (EDIT, NARROWED),
+    (Asked::Mark(b"narrow"), NARROWED),
+    (Asked::Back(b"wide"), FIRST),
+];
 
 /// Where no growth is served, what takes memory is refused, and keeps all marks.
-fn refuse<A: Allocator + Copy>(rt: &impl Abort, session: &mut Session<A>) {
-    let group = replied(session, &Command::Group(CAPACITIES));
-    assert!(rt; group == Reply::NoMemory);
-    assert!(rt; moved(rt, session, b"narrow") == NARROWED);
-    assert!(rt; marked(rt, session, b"more") == NARROWED);
-    assert!(rt; moved(rt, session, b"wide") == FIRST);
-    assert!(rt; moved(rt, session, b"more") == NARROWED);
-    assert!(rt; session.steps() == (1, 0));
-}
+const REFUSED: &[(Asked, Reply)] = &[
+    (Asked::Step(Command::Group(CAPACITIES)), Reply::NoMemory),
+    (Asked::Back(b"narrow"), NARROWED),
+    (Asked::Mark(b"more"), NARROWED),
+    (Asked::Back(b"wide"), FIRST),
+    (Asked::Back(b"more"), NARROWED),
+];
 
 #[test]
 fn refused_growths_keep_marks(rt: HostRuntime) {
     let memory = Refusing::new(rt.alloc());
     let mut session = opened(&rt, rt.alloc(), &memory, DIAMOND, 1000);
-    bring(&rt, &mut session);
+    follow(&rt, &mut session, MARKED, "marks");
     memory.plan(0, u64::MAX);
-    refuse(&rt, &mut session);
+    follow(&rt, &mut session, REFUSED, "refused growths");
+    assert!(rt; session.steps() == (1, 0));
 }

@@ -22,6 +22,14 @@ fn read(alloc: Global, texts: [&[u8]; 3], step: usize) -> Result<Problem, TextFa
     reader.finish()
 }
 
+/// The reading of a text ended with this fault.
+fn expect_told(rt: &impl Abort, ended: Result<Problem, TextFault>, number: u8, line: u64) {
+    match ended {
+        Ok(_) => panic!(rt; "fault {number} is missed"),
+        Err(fault) => assert_eq!(rt; fault, TextFault::Fault { number, line }),
+    }
+}
+
 /// The text has the fault in pieces of any of these lengths, with its last LF and without, and two lines later after a
 /// blank line and a comment.
 fn expect_fault(rt: &impl Abort, alloc: Global, text: &[u8], number: u8, line: u64)
@@ -34,10 +42,8 @@ fn expect_fault(rt: &impl Abort, alloc: Global, text: &[u8], number: u8, line: u
             (b" \t\r\nc two lines\n", b"", line + 2),
             (b" \t\r\nc two lines\n", b"\n", line + 2),
         ] {
-            match read(alloc, [before, text, after], step) {
-                Ok(_) => panic!(rt; "fault {number} is missed"),
-                Err(fault) => assert_eq!(rt; fault, TextFault::Fault { number, line }),
-            }
+            let ended = read(alloc, [before, text, after], step);
+            expect_told(rt, ended, number, line);
         }
     }
 }
@@ -75,21 +81,40 @@ fn faults(rt: HostRuntime) {
     }
 }
 
+/// The problem of the text below.
+fn expect_problem(rt: &impl Abort, problem: &Problem) {
+    assert!(rt; problem.nodes() == 2);
+    assert!(rt; problem.marks().len() == 2);
+    assert!(rt; problem.marks()[1] == NodeMark::Supply { id: 2, value: -3 });
+    assert!(rt; problem.arcs().len() == 1);
+    assert!(rt; problem.arcs()[0].cap == 5);
+}
+
 #[test]
 fn problem(rt: HostRuntime) {
     let text = b"c a comment\n \t\r\np min 2 1\nn 1 3\nn 2 -3\na 1 2 0 5 4";
     for step in [1, 2, 7, 1024] {
         match read(rt.alloc(), [text, b"", b""], step) {
-            Ok(problem) => {
-                assert_eq!(rt; problem.nodes(), 2);
-                assert_eq!(rt; problem.marks().len(), 2);
-                assert_eq!(rt; problem.marks()[1], NodeMark::Supply { id: 2, value: -3 });
-                assert_eq!(rt; problem.arcs().len(), 1);
-                assert_eq!(rt; problem.arcs()[0].cap, 5);
-            }
+            Ok(problem) => expect_problem(&rt, &problem),
             Err(_) => panic!(rt; "the text is read"),
         }
     }
+}
+
+/// The kind of a problem, its first mark, and the capacity and the cost of its first arc.
+fn expect_first(
+    rt: &impl Abort,
+    problem: &Problem,
+    kind: Kind,
+    mark: NodeMark,
+    cap: i64,
+    cost: i64,
+) {
+    assert!(rt; problem.kind() == kind);
+    assert!(rt; !problem.marks().is_empty() && !problem.arcs().is_empty());
+    assert!(rt; problem.marks()[0] == mark);
+    assert!(rt; problem.arcs()[0].cap == cap);
+    assert!(rt; problem.arcs()[0].cost == cost);
 }
 
 #[test]
@@ -119,13 +144,7 @@ fn problem_of_each_kind(rt: HostRuntime) {
     ];
     for (text, kind, mark, cap, cost) in cases {
         match read(rt.alloc(), [text, b"", b""], 7) {
-            Ok(problem) => {
-                assert_eq!(rt; problem.kind(), kind);
-                assert!(rt; !problem.marks().is_empty() && !problem.arcs().is_empty());
-                assert_eq!(rt; problem.marks()[0], mark);
-                assert_eq!(rt; problem.arcs()[0].cap, cap);
-                assert_eq!(rt; problem.arcs()[0].cost, cost);
-            }
+            Ok(problem) => expect_first(&rt, &problem, kind, mark, cap, cost),
             Err(_) => panic!(rt; "the text is read"),
         }
     }
@@ -133,17 +152,14 @@ fn problem_of_each_kind(rt: HostRuntime) {
 
 #[test]
 fn nothing_is_read(rt: HostRuntime) {
-    match ProblemReader::new(rt.alloc()).finish() {
-        Ok(_) => panic!(rt; "fault 14 is missed"),
-        Err(fault) => {
-            assert_eq!(rt;
-                fault,
-                TextFault::Fault {
-                    number: 14,
-                    line: 0
-                }
-            );
-        }
+    let ended = ProblemReader::new(rt.alloc()).finish();
+    expect_told(&rt, ended, 14, 0);
+}
+
+/// A line reads so on problems of a kind.
+fn expect_command(rt: &impl Abort, kind: Kind, line: &[u8], expected: &Result<Command, u8>) {
+    if !is_blank(line) {
+        assert_eq!(rt; read_command(kind, line), *expected);
     }
 }
 
@@ -189,9 +205,18 @@ fn commands(rt: HostRuntime) {
         (Kind::Min, b"cost 1 -1000000000001", Err(5)),
     ];
     for (kind, line, expected) in cases {
-        if !is_blank(line) {
-            assert_eq!(rt; read_command(kind, line), expected);
-        }
+        expect_command(&rt, kind, line, &expected);
+    }
+}
+
+/// The mark of a name of these letters, or the number of a refusal.
+fn mark_of(rt: &impl Abort, name: Result<&[u8], u8>) -> Result<Command, u8> {
+    match name {
+        Ok(letters) => match Name::of(letters) {
+            Some(name) => Ok(Command::Mark(name)),
+            None => panic!(rt; "the letters are a name"),
+        },
+        Err(number) => Err(number),
     }
 }
 
@@ -213,17 +238,9 @@ fn names(rt: HostRuntime) {
         (b"marks a", Err(2)),
     ];
     for (line, expected) in cases {
-        if !is_blank(line) {
-            let expected = match expected {
-                Ok(letters) => match Name::of(letters) {
-                    Some(name) => Ok(Command::Mark(name)),
-                    None => panic!(rt; "the letters are a name"),
-                },
-                Err(number) => Err(number),
-            };
-            for kind in [Kind::Min, Kind::Max, Kind::Asn] {
-                assert_eq!(rt; read_command(kind, line), expected);
-            }
+        let expected = mark_of(&rt, expected);
+        for kind in [Kind::Min, Kind::Max, Kind::Asn] {
+            expect_command(&rt, kind, line, &expected);
         }
     }
 }
@@ -241,6 +258,19 @@ fn names_are_told_apart(rt: HostRuntime) {
     }
 }
 
+/// A group of these lines ends at the last, with so many edits and this fault.
+fn expect_group(rt: &impl Abort, text: &str, edits: usize, fault: Option<u8>) {
+    let mut group = Group::new();
+    let mut ended = false;
+    for line in text.lines() {
+        assert!(rt; !ended);
+        ended = group.take(Kind::Min, Some(line.as_bytes()));
+    }
+    assert!(rt; ended);
+    assert!(rt; group.edits().len() == edits);
+    assert_eq!(rt; group.fault(), fault);
+}
+
 #[test]
 fn groups(rt: HostRuntime) {
     let cases = [
@@ -256,31 +286,26 @@ fn groups(rt: HostRuntime) {
         ("back 1\nend", 0, Some(32)),
     ];
     for (text, edits, fault) in cases {
-        let mut group = Group::new();
-        let mut ended = false;
-        for line in text.lines() {
-            assert!(rt; !ended);
-            ended = group.take(Kind::Min, Some(line.as_bytes()));
-        }
-        assert!(rt; ended);
-        assert_eq!(rt; group.edits().len(), edits);
-        assert_eq!(rt; group.fault(), fault);
+        expect_group(&rt, text, edits, fault);
+    }
+}
+
+/// Gives a group so many edits, none of which ends it.
+fn fill(rt: &impl Abort, group: &mut Group, kind: Kind, count: usize) {
+    for _ in 0..count {
+        assert!(rt; !group.take(kind, Some(b"cap 5 3")));
     }
 }
 
 #[test]
 fn longest_group(rt: HostRuntime) {
     let mut group = Group::new();
-    for _ in 0..GROUP_LIMIT {
-        assert!(rt; !group.take(Kind::Min, Some(b"cap 5 3")));
-    }
-    assert_eq!(rt; group.fault(), None);
+    fill(&rt, &mut group, Kind::Min, GROUP_LIMIT);
+    assert!(rt; group.fault().is_none());
     assert!(rt; !group.take(Kind::Min, None));
-    assert_eq!(rt; group.fault(), Some(1));
+    assert!(rt; group.fault() == Some(1));
     let mut group = Group::new();
-    for _ in 0..GROUP_LIMIT + 1 {
-        assert!(rt; !group.take(Kind::Max, Some(b"cap 5 3")));
-    }
-    assert_eq!(rt; group.edits().len(), GROUP_LIMIT);
-    assert_eq!(rt; group.fault(), Some(31));
+    fill(&rt, &mut group, Kind::Max, GROUP_LIMIT + 1);
+    assert!(rt; group.edits().len() == GROUP_LIMIT);
+    assert!(rt; group.fault() == Some(31));
 }
