@@ -97,7 +97,7 @@ fn flow(rt: HostRuntime) {
                     potentials,
                 },
             ) => {
-                assert!(rt; value == -123456789012345678901234567890);
+                assert_eq!(rt; value, -123456789012345678901234567890);
                 assert!(rt;
                     flows.as_slice()
                         == [FlowLine {
@@ -118,7 +118,7 @@ fn flow(rt: HostRuntime) {
 fn cut(rt: HostRuntime) {
     match read(rt.alloc(), [b"i 3\nk 1\n", b"c the last node\nk 2"], 7) {
         Ok(Answer::Cut { shortage, nodes }) => {
-            assert!(rt; shortage == 3);
+            assert_eq!(rt; shortage, 3);
             assert!(rt; nodes.as_slice() == [1, 2].as_slice());
         }
         _ => panic!(rt; "the text is read"),

@@ -8,7 +8,6 @@ use dimacs_io::{
 };
 use std::io;
 use std::io::{ErrorKind, Read, Write};
-use std::process::Abort;
 use std::test::Fail;
 
 /// Takes or gives at most so many bytes a call, counts its calls, and fails at one of them (at call 0: never).
@@ -65,16 +64,6 @@ impl Write for Device {
     }
 }
 
-/// The device was called so often.
-fn expect_calls(rt: &impl Abort, device: &Device, moves: u64, flushes: u64) {
-    assert_eq!(rt; (device.moves, device.flushes), (moves, flushes));
-}
-
-/// The pad holds this.
-fn expect_held(rt: &impl Abort, pad: &Pad, held: &[u8]) {
-    assert_eq!(rt; pad.held(), held);
-}
-
 #[test]
 fn each_line_is_written(rt: HostRuntime) {
     let mut pad = Pad::new(7, None);
@@ -87,7 +76,7 @@ fn each_line_is_written(rt: HostRuntime) {
     assert!(rt; write_r(&mut pad, 30).is_ok());
     let want = b"s -100000000000000000000000\ns -170141183460469231731687303715884105728\n\
         f 1 4294967295 -9223372036854775808\nv 10000 -10000000000000\ni 0\nk 7\nr 30\n";
-    expect_held(&rt, &pad, want);
+    assert_eq!(rt; pad.held(), want.as_slice());
     assert!(rt; pad.flush().is_ok());
 }
 
@@ -95,7 +84,7 @@ fn each_line_is_written(rt: HostRuntime) {
 fn a_failed_write_leaves_a_beginning(rt: HostRuntime) {
     let mut pad = Pad::new(3, Some(3));
     assert!(rt; write_s(&mut pad, 1_234_567).is_err());
-    expect_held(&rt, &pad, b"s 1234");
+    assert_eq!(rt; pad.held(), b"s 1234".as_slice());
     assert!(rt; pad.flush().is_err());
 }
 
@@ -111,36 +100,18 @@ fn a_full_pad_fails(rt: HostRuntime) {
 // No clause ties the answer of a wrapper to that of the reader or the writer, nor counts their calls: the tests below
 // do.
 
-/// Writes the lines of a flow to a device.
-fn send_flow(rt: &impl Abort, device: &mut Device) {
-    assert!(rt; write_s(&mut WriteSink::new(&mut *device), i128::MIN).is_ok());
-    assert!(rt; write_f(&mut WriteSink::new(&mut *device), 1, 2, i64::MIN).is_ok());
-    assert!(rt; write_v(&mut WriteSink::new(&mut *device), 1, -1).is_ok());
-}
-
-/// Writes the lines of a cut and of a refusal to a device.
-fn send_cut(rt: &impl Abort, device: &mut Device) {
-    assert!(rt; write_i(&mut WriteSink::new(&mut *device), 1).is_ok());
-    assert!(rt; write_k(&mut WriteSink::new(&mut *device), 1).is_ok());
-    assert!(rt; write_r(&mut WriteSink::new(&mut *device), 1).is_ok());
-}
-
 #[test]
 fn each_line_is_one_write(rt: HostRuntime) {
     let mut device = Device::new(64, 0);
-    send_flow(&rt, &mut device);
-    send_cut(&rt, &mut device);
-    expect_calls(&rt, &device, 6, 0);
+    assert!(rt; write_s(&mut WriteSink::new(&mut device), i128::MIN).is_ok());
+    assert!(rt; write_f(&mut WriteSink::new(&mut device), 1, 2, i64::MIN).is_ok());
+    assert!(rt; write_v(&mut WriteSink::new(&mut device), 1, -1).is_ok());
+    assert!(rt; write_i(&mut WriteSink::new(&mut device), 1).is_ok());
+    assert!(rt; write_k(&mut WriteSink::new(&mut device), 1).is_ok());
+    assert!(rt; write_r(&mut WriteSink::new(&mut device), 1).is_ok());
+    assert_eq!(rt; (device.moves, device.flushes), (6, 0));
     assert!(rt; WriteSink::new(&mut device).flush().is_ok());
-    expect_calls(&rt, &device, 6, 1);
-}
-
-/// A read and two writes of this length are served.
-fn pass(rt: &impl Abort, device: &mut Device, piece: &mut [u8]) {
-    let length = piece.len();
-    assert!(rt; ReadSource::new(&mut *device).read(piece) == Ok(length));
-    assert!(rt; WriteSink::new(&mut *device).write(piece) == Ok(length));
-    assert!(rt; write_all(&mut WriteSink::new(&mut *device), piece).is_ok());
+    assert_eq!(rt; (device.moves, device.flushes), (6, 1));
 }
 
 #[test]
@@ -148,9 +119,11 @@ fn no_failure_is_made_up(rt: HostRuntime) {
     let mut device = Device::new(5_000, 0);
     let mut piece = [b'x'; 5_000];
     for length in 1..=5_000usize {
-        pass(&rt, &mut device, &mut piece[..length]);
+        assert!(rt; ReadSource::new(&mut device).read(&mut piece[..length]) == Ok(length));
+        assert!(rt; WriteSink::new(&mut device).write(&piece[..length]) == Ok(length));
+        assert!(rt; write_all(&mut WriteSink::new(&mut device), &piece[..length]).is_ok());
     }
-    expect_calls(&rt, &device, 15_000, 0);
+    assert_eq!(rt; (device.moves, device.flushes), (15_000, 0));
 }
 
 // `s 12345678` with its LF is written by six calls, and each is the one that fails in turn.
@@ -159,12 +132,12 @@ fn the_first_failed_call_ends_a_line(rt: HostRuntime) {
     for fails_at in 1..=6u64 {
         let mut device = Device::new(2, fails_at);
         assert!(rt; write_s(&mut WriteSink::new(&mut device), 12_345_678) == Err(Broken));
-        expect_calls(&rt, &device, fails_at, 0);
+        assert_eq!(rt; (device.moves, device.flushes), (fails_at, 0));
     }
     let mut device = Device::new(2, 7);
     assert!(rt; write_s(&mut WriteSink::new(&mut device), 12_345_678).is_ok());
     assert!(rt; WriteSink::new(&mut device).flush() == Err(Broken));
-    expect_calls(&rt, &device, 6, 1);
+    assert_eq!(rt; (device.moves, device.flushes), (6, 1));
 }
 
 #[test]
@@ -173,36 +146,31 @@ fn a_writer_that_takes_nothing_is_broken(rt: HostRuntime) {
     assert!(rt; WriteSink::new(&mut device).write(b"") == Ok(0));
     assert!(rt; WriteSink::new(&mut device).write(b"s") == Err(Broken));
     assert!(rt; write_s(&mut WriteSink::new(&mut device), 1) == Err(Broken));
-    expect_calls(&rt, &device, 3, 0);
-}
-
-/// A device whose first call fails so.
-fn failing(kind: ErrorKind) -> Device {
-    let mut device = Device::new(2, 1);
-    device.kind = kind;
-    device
-}
-
-/// A failed call of each sort is told at once.
-fn expect_told(rt: &impl Abort, kind: ErrorKind) {
-    let mut reader = failing(kind);
-    let mut piece = [0u8; 2];
-    assert!(rt; ReadSource::new(&mut reader).read(&mut piece) == Err(Broken));
-    expect_calls(rt, &reader, 1, 0);
-    let mut writer = failing(kind);
-    assert!(rt; WriteSink::new(&mut writer).write(b"s 1") == Err(Broken));
-    expect_calls(rt, &writer, 1, 0);
-    let mut flushed = failing(kind);
-    assert!(rt; WriteSink::new(&mut flushed).flush() == Err(Broken));
-    expect_calls(rt, &flushed, 0, 1);
+    assert_eq!(rt; (device.moves, device.flushes), (3, 0));
 }
 
 // An interruption too is a failed call, told at once.
 #[test]
 fn no_call_is_made_again(rt: HostRuntime) {
-    expect_told(&rt, ErrorKind::Interrupted);
-    expect_told(&rt, ErrorKind::WouldBlock);
-    expect_told(&rt, ErrorKind::Other);
+    for kind in [
+        ErrorKind::Interrupted,
+        ErrorKind::WouldBlock,
+        ErrorKind::Other,
+    ] {
+        let mut reader = Device::new(2, 1);
+        reader.kind = kind;
+        let mut piece = [0u8; 2];
+        assert!(rt; ReadSource::new(&mut reader).read(&mut piece) == Err(Broken));
+        assert_eq!(rt; (reader.moves, reader.flushes), (1, 0));
+        let mut writer = Device::new(2, 1);
+        writer.kind = kind;
+        assert!(rt; WriteSink::new(&mut writer).write(b"s 1") == Err(Broken));
+        assert_eq!(rt; (writer.moves, writer.flushes), (1, 0));
+        let mut flushed = Device::new(2, 1);
+        flushed.kind = kind;
+        assert!(rt; WriteSink::new(&mut flushed).flush() == Err(Broken));
+        assert_eq!(rt; (flushed.moves, flushed.flushes), (0, 1));
+    }
 }
 
 #[test]
@@ -213,9 +181,9 @@ fn streams_carry_bytes(rt: HostRuntime) -> Result<(), Fail> {
     let mut source = ReadSource::new(b"p min".as_slice());
     let mut piece = [0u8; 3];
     assert!(rt; source.read(&mut piece) == Ok(3));
-    assert!(rt; piece.as_slice() == b"p m".as_slice());
+    assert_eq!(rt; piece, *b"p m");
     assert!(rt; source.read(&mut piece) == Ok(2));
-    assert!(rt; piece.as_slice() == b"inm".as_slice());
+    assert_eq!(rt; piece, *b"inm");
     assert!(rt; source.read(&mut piece) == Ok(0));
     Ok(())
 }
