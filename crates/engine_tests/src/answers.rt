@@ -197,16 +197,16 @@ ONE_AGAINST_TWO|i 1/k 1/k 2/k 3/
 LONE_SINK_SIDE_NODE|i 1/k 1/
 ";
 
-/// The solution of a problem ends so in any pieces, and writes this. The last line may lack its LF.
-fn expect_solved(
-    rt: &impl Abort,
-    alloc: Global,
-    problem: &[u8],
+/// A problem, and whether a proof is asked for.
+#[derive(Clone, Copy)]
+struct Asked<'a> {
+    problem: &'a [u8],
     proof: bool,
-    want: End,
-    text: &[u8],
-    row: &str,
-) {
+}
+
+/// The solution of a problem ends so in any pieces, and writes this. The last line may lack its LF.
+fn expect_solved(rt: &impl Abort, alloc: Global, asked: Asked, want: End, text: &[u8], row: &str) {
+    let Asked { problem, proof } = asked;
     for input in [problem, problem.strip_suffix(b"\n").unwrap_or(problem)] {
         for most in PIECES {
             expect(rt, solved(alloc, input, proof, most), want, text, row);
@@ -219,15 +219,11 @@ fn expect_all_solved(rt: &impl Abort, alloc: Global, rows: &str, proof: bool, wa
     for row in rows.lines() {
         let (name, text) = cut(rt, row);
         let text = text_of(rt, alloc, text);
-        expect_solved(
-            rt,
-            alloc,
-            problem_of(rt, name),
+        let asked = Asked {
+            problem: problem_of(rt, name),
             proof,
-            want,
-            text.as_bytes(),
-            row,
-        );
+        };
+        expect_solved(rt, alloc, asked, want, text.as_bytes(), row);
     }
 }
 
@@ -243,15 +239,11 @@ fn problems_are_solved_in_any_pieces(rt: HostRuntime) {
         true,
         End::Infeasible,
     );
-    expect_solved(
-        &rt,
-        rt.alloc(),
-        MORE_NODES,
-        false,
-        End::Solved,
-        b"s 0\n",
-        "MORE_NODES",
-    );
+    let asked = Asked {
+        problem: MORE_NODES,
+        proof: false,
+    };
+    expect_solved(&rt, rt.alloc(), asked, End::Solved, b"s 0\n", "MORE_NODES");
 }
 
 #[test]

@@ -2,7 +2,8 @@
 
 use crate::problems::DIAMOND;
 use crate::runs::{
-    BYTES, Devices, SESSION, expect, expect_beginning, expect_dialogues, expect_replies, run,
+    BYTES, Devices, Opening, SESSION, expect, expect_beginning, expect_dialogues, expect_replies,
+    run,
 };
 use checker::{End, Text};
 use std::alloc::Global;
@@ -68,7 +69,11 @@ fn expect_long_group(
     }
     text.extend_from_slice(last)?;
     text.extend_from_slice(b"end\n")?;
-    expect_replies(rt, alloc, DIAMOND, 1000, &text, replies, "a long group");
+    let opening = Opening {
+        problem: DIAMOND,
+        extra: 1000,
+    };
+    expect_replies(rt, alloc, opening, &text, replies, "a long group");
     Ok(())
 }
 

@@ -145,18 +145,24 @@ pub(crate) fn expect_one_of(rt: &impl Abort, ran: (End, Pad), end: End, texts: &
     assert!(rt; lawful);
 }
 
+/// A problem, and the room for more arcs that a session on it has.
+#[derive(Clone, Copy)]
+pub(crate) struct Opening<'a> {
+    pub problem: &'a [u8],
+    pub extra: u32,
+}
+
 /// A session answers so in any pieces.
 pub(crate) fn expect_replies(
     rt: &impl Abort,
     alloc: Global,
-    problem: &[u8],
-    extra: u32,
+    opening: Opening,
     commands: &[u8],
     replies: &[u8],
     row: &str,
 ) {
     for most in PIECES {
-        let ran = session(alloc, problem, extra, commands, most);
+        let ran = session(alloc, opening.problem, opening.extra, commands, most);
         expect(rt, ran, End::Ended, replies, row);
     }
 }
@@ -185,12 +191,14 @@ pub(crate) fn expect_dialogues(
             let (commands, replies) = cut(rt, dialogue);
             let commands = joined(rt, alloc, before, commands);
             let replies = joined(rt, alloc, written_before, replies);
-            let problem = problem_of(rt, name);
+            let opening = Opening {
+                problem: problem_of(rt, name),
+                extra,
+            };
             expect_replies(
                 rt,
                 alloc,
-                problem,
-                extra,
+                opening,
                 commands.as_bytes(),
                 replies.as_bytes(),
                 row,

@@ -2,7 +2,7 @@
 
 use crate::problems::{DIAMOND, EQUAL_ARCS_SAME_BLOCK, PIECES};
 use crate::runs::{
-    BYTES, Devices, SESSION, expect, expect_beginning, expect_dialogues, expect_one_of,
+    BYTES, Devices, Opening, SESSION, expect, expect_beginning, expect_dialogues, expect_one_of,
     expect_replies, run, session,
 };
 use checker::{End, Text};
@@ -78,7 +78,11 @@ fn expect_long_command(
         text.push(b' ')?;
     }
     text.extend_from_slice(after)?;
-    expect_replies(rt, alloc, DIAMOND, 1000, &text, replies, "a long command");
+    let opening = Opening {
+        problem: DIAMOND,
+        extra: 1000,
+    };
+    expect_replies(rt, alloc, opening, &text, replies, "a long command");
     Ok(())
 }
 
