@@ -27,9 +27,9 @@ use Rattle.session.specs.declared.refusal.Refusal.TheVariants as refusal
 use Rattle.session.specs.Marks.{IsMovedTo, up_to, with_mark}
 use Rattle.session.specs.Session.{AreEdited, IsEdited, Stack}
 use Rattle.session.specs.Step.{IsApplied, IsRefused, Refuses, Reply, SessionState, Shows, Step, StepBy, StepOfBack, StepOfEdit, StepOfEdits, StepOfGroup, StepOfMark, TellsVerdict, TurnStep, state_of}
-use Rattle.engines.specs.Printing.{reply_text}
+use Rattle.engines.specs.Printing.{outcome_line, reply_text}
 use Rattle.engines.specs.Run.{AnswersTurns, asks, turns_by}
-use Rattle.engines.specs.Serving.{ServesLine, gathered_in, number_of}
+use Rattle.engines.specs.Serving.{Replies, ServesLine, gathered_in, number_of}
 
 -- ---- the steps of the commands
 
@@ -85,6 +85,11 @@ group_step c s e = subst (λ (k : Command). StepBy k s (Refuses 29) s) (sym e) (
 
 pub end_step : (c : Command) (s : SessionState) → c ≡ commands.End → StepBy c s (Refuses 29) s
 end_step c s e = subst (λ (k : Command). StepBy k s (Refuses 29) s) (sym e) (record { reply_is = refl; unchanged = refl })
+
+-- an `end` that ends no group is answered by its refusal alone
+pub end_replies : {E : Type 0} (r : Result (Unit {0}) E) (c : Command) (s : SessionState) (before after : Option (List ℕ)) → c ≡ commands.End
+    → WritesUpTo r before after (refusal_line 29) → Replies r (StepBy c s) s before after
+end_replies r c s before after is writes = record { reply = Refuses 29; step = end_step c s is; writes = writes }
 
 -- a name has a place, or none
 pub mark_put : (place : Bool) (name : List ℕ) (old new : Stack) → ◌≡◌ {A = Result (Unit {0}) ℕ} (Ok tt) (if place then Ok tt else Err 33)
@@ -319,6 +324,17 @@ pub group_applied : (group : Gathered) (old new : SessionState) → option_map f
 group_applied group old new none to advances marks =
     group_by (Ok new.moments.present.instance) group old TellsVerdict new to.instance
     (edits_by None group old TellsVerdict new (no_fault group.fault none) (inl (record { reply_is = refl; edited_to = to; advances = advances; marks = marks })))
+
+-- the session took these edits, and they are the group's
+pub group_replies : {E : Type 0} (r : Result (Unit {0}) E) (group : Gathered) (edits : List Edit) (fault : Option ℕ) (old new : SessionState) (before after : Option (List ℕ))
+    → fault ≡ option_map fault_number group.fault → fault ≡ None → edits ≡ group.edits → AreEdited edits old.moments.present new.moments.present
+    → Advances old.moments new.moments → new.marks ≡ up_to (length old.moments.past) old.marks → WritesUpTo r before after (outcome_line new.moments.present.verdict)
+    → Replies r (StepOfGroup group old) new before after
+group_replies r group edits fault old new before after is none same to advances marks writes = record {
+  reply = TellsVerdict;
+  step = group_applied group old new (sym is ∙ none) (subst (λ (these : List Edit). AreEdited these old.moments.present new.moments.present) same to) advances marks;
+  writes = writes;
+}
 
 -- one of its lines is refused by itself, and an edit before it, or no such edit
 pub group_faulty : (group : Gathered) (s : SessionState) (number first : ℕ) → option_map fault_number group.fault ≡ Some number

@@ -1,7 +1,7 @@
-use Rattle.std.proofs.Common.{◌∙◌, sym, ap}
-use Rattle.session.specs.Step.{Refuses, TellsVerdict, state_of}
+use Rattle.std.proofs.Common.{rules, ◌∙◌, sym, ap}
+use Rattle.session.specs.Step.{Refuses, state_of}
 use Rattle.engines.specs.Serving.{number_of}
-use Rattle.engines.proofs.ReplyLemmas.{group_applied, group_faulty, group_refused}
+use Rattle.engines.proofs.ReplyLemmas.{group_replies, group_faulty, group_refused}
 use Rattle.engines.proofs.reply.apply_group.Goals as goal
 
 -- one of its lines is refused by itself
@@ -14,12 +14,7 @@ returns-in-Some-clause-replies g c = record {
 }
 
 pub returns-in-Ok-clause-replies : goal.returns-in-Ok-clause-replies
-returns-in-Ok-clause-replies g c = record {
-  reply = TellsVerdict;
-  step = group_applied c.args.group.now (state_of c.args.session.now) (state_of c.apply_group.new.self) (sym c.fault.ensures ∙ c.in-None.is)
-      (rw (c.edits-in-None.ensures.edits) at c.in-Ok.ensures.edited) c.in-Ok.ensures.advances c.in-Ok.ensures.marks;
-  writes = c.write_outcome.ensures.bytes;
-}
+returns-in-Ok-clause-replies g c = search (rules, group_replies)
 
 pub returns-in-Err-clause-replies : goal.returns-in-Err-clause-replies
 returns-in-Err-clause-replies g c =

@@ -1,6 +1,6 @@
 use Rattle.std.proofs.Common.{false, rules, true}
 use Rattle.session.specs.Step.{Refuses, Shows, state_of}
-use Rattle.engines.proofs.ReplyLemmas.{end_step, group_step, proof_step, show_step}
+use Rattle.engines.proofs.ReplyLemmas.{end_replies, group_step, proof_step, show_step}
 use Rattle.engines.proofs.reply.serve.Goals as goal
 
 pub returns-in-Show-clause-replies : goal.returns-in-Show-clause-replies
@@ -25,11 +25,7 @@ returns-in-Group-clause-replies g c = record {
 }
 
 pub returns-in-End-clause-replies : goal.returns-in-End-clause-replies
-returns-in-End-clause-replies g c = record {
-  reply = Refuses 29;
-  step = end_step c.args.command (state_of c.args.session.now) c.in-End.is;
-  writes = c.write_r-in-End.ensures.bytes;
-}
+returns-in-End-clause-replies g c = search (rules, end_replies)
 
 pub returns-in-Undo-clause-replies : goal.returns-in-Undo-clause-replies
 returns-in-Undo-clause-replies g c = search rules
