@@ -1,12 +1,17 @@
 //! What the tables begin with.
 
-ghost use Rattle.std.specs.Prelude.{◌≡◌, ◌≤◌, IfOk, false, length, map, pos, replicate, vec_capacity};
+ghost use Rattle.std.specs.Prelude.{◌≡◌, ◌≤◌, ◌+◌, IfOk, false, length, map, pos, replicate, vec_capacity};
+ghost use Rattle.augmentation.specs.Scratch.{IsScratchFor};
 ghost use Rattle.augmentation.specs.Tracked.{IsTracked, kept_in};
+ghost use Rattle.flow_solver.specs.Balance.{IsBalanceOf};
 ghost use Rattle.flow_solver.specs.Moment.{start};
+ghost use Rattle.residual_graph.specs.Graph.{IsGraph};
 ghost use Rattle.residual_graph.specs.Limits.{row_limit};
 
-use augmentation::Tracked;
+use crate::balance::Balance;
+use augmentation::{Scratch, Tracked};
 use dimacs_text::ArcRow;
+use residual_graph::Graph;
 use std::alloc::{AllocError, Global};
 
 /// The flow of an arc at the start, which keeps the sign rule under potentials 0.
@@ -29,7 +34,7 @@ fn flow_at_start(alloc: Global, rows: &[ArcRow], room: usize) -> Result<Vec<i64>
 }
 
 /// The start flow, with room for so many arcs.
-pub fn start_flow(alloc: Global, rows: &[ArcRow], room: usize) -> Result<Tracked<i64>, AllocError>
+fn start_flow(alloc: Global, rows: &[ArcRow], room: usize) -> Result<Tracked<i64>, AllocError>
     requires fits { length rows.now ≤ room }
     requires few { room ≤ row_limit }
     ensures tracked { IfOk result (λ flow. IsTracked flow) }
@@ -41,7 +46,7 @@ pub fn start_flow(alloc: Global, rows: &[ArcRow], room: usize) -> Result<Tracked
 }
 
 /// The potentials at the start.
-pub fn zeros(alloc: Global, entries: usize) -> Result<Tracked<i64>, AllocError>
+fn zeros(alloc: Global, entries: usize) -> Result<Tracked<i64>, AllocError>
     requires few { entries ≤ row_limit }
     ensures tracked { IfOk result (λ potentials. IsTracked potentials) }
     ensures entries { IfOk result (λ potentials. potentials.entries.items ≡ replicate entries (pos 0)) }
@@ -52,7 +57,7 @@ pub fn zeros(alloc: Global, entries: usize) -> Result<Tracked<i64>, AllocError>
 }
 
 /// A cut that marks no node.
-pub fn no_marks(alloc: Global, entries: usize) -> Result<Tracked<bool>, AllocError>
+fn no_marks(alloc: Global, entries: usize) -> Result<Tracked<bool>, AllocError>
     requires few { entries ≤ row_limit }
     ensures tracked { IfOk result (λ cut. IsTracked cut) }
     ensures entries { IfOk result (λ cut. cut.entries.items ≡ replicate entries false) }
@@ -60,4 +65,42 @@ pub fn no_marks(alloc: Global, entries: usize) -> Result<Tracked<bool>, AllocErr
     ensures room { IfOk result (λ cut. length cut.touched ≡ entries) }
 {
     Tracked::new(alloc, vec![in alloc; false; entries]?, entries)
+}
+
+/// The start flow of a network, with room for each arc that it may have, and the balance of that flow.
+pub fn start_balance(alloc: Global, graph: &Graph) -> Result<(Tracked<i64>, Balance), AllocError>
+    requires { IsGraph graph.now }
+    ensures tracked { IfOk result (λ t. IsTracked t.0) }
+    ensures flow { IfOk result (λ t. t.0.entries.items ≡ map start graph.now.rows) }
+    ensures room { IfOk result (λ t. length t.0.touched ≡ graph.now.net.room + 1) }
+    ensures balance { IfOk result (λ t. IsBalanceOf graph.now.net graph.now.rows t.0 t.1) }
+{
+    let room = graph.network().room() as usize + 1;
+    let flow = start_flow(alloc, graph.rows(), room)?;
+    let balance = Balance::new(alloc, graph.network(), graph.rows(), &flow.entries)?;
+    Ok((flow, balance))
+}
+
+/// What there is for each node at the start, with an entry for no node in front: potentials, a cut, and the room of the
+/// searches.
+pub fn start_nodes(
+    alloc: Global,
+    nodes: u32,
+    arcs: usize,
+) -> Result<(Tracked<i64>, Tracked<bool>, Scratch), AllocError>
+    requires few { nodes + 1 ≤ row_limit }
+    ensures potentials_tracked { IfOk result (λ t. IsTracked t.0) }
+    ensures potentials { IfOk result (λ t. t.0.entries.items ≡ replicate (nodes + 1) (pos 0)) }
+    ensures potentials_kept { IfOk result (λ t. kept_in t.0 ≡ replicate (nodes + 1) (pos 0)) }
+    ensures cut_tracked { IfOk result (λ t. IsTracked t.1) }
+    ensures cut { IfOk result (λ t. t.1.entries.items ≡ replicate (nodes + 1) false) }
+    ensures cut_kept { IfOk result (λ t. kept_in t.1 ≡ replicate (nodes + 1) false) }
+    ensures scratch { IfOk result (λ t. IsScratchFor (nodes + 1) t.2) }
+    ensures standing { IfOk result (λ t. t.2.labels.standing ≡ false) }
+{
+    let entries = nodes as usize + 1;
+    let potentials = zeros(alloc, entries)?;
+    let cut = no_marks(alloc, entries)?;
+    let scratch = Scratch::new(alloc, nodes + 1, arcs)?;
+    Ok((potentials, cut, scratch))
 }

@@ -13,7 +13,7 @@ ghost use Rattle.flow_solver.specs.Part.{return_count};
 
 use crate::balance::Balance;
 use crate::part::{Before, return_count, row_before, supply_before};
-use crate::start::{no_marks, start_flow, zeros};
+use crate::start::{start_balance, start_nodes};
 use crate::verdict::Verdict;
 use augmentation::{Scratch, Tracked};
 use dimacs_text::{ArcRow, GROUP_LIMIT, NODE_LIMIT};
@@ -69,13 +69,9 @@ impl Tables {
     {
         let log = Vec::with_capacity(alloc, GROUP_LIMIT)?;
         let graph = Graph::new(alloc, net)?;
-        let entries = graph.network().nodes() as usize + 1;
-        let room = graph.network().room() as usize + 1;
-        let flow = start_flow(alloc, graph.rows(), room)?;
-        let potentials = zeros(alloc, entries)?;
-        let balance = Balance::new(alloc, graph.network(), graph.rows(), &flow.entries)?;
-        let cut = no_marks(alloc, entries)?;
-        let scratch = Scratch::new(alloc, graph.network().nodes() + 1, 2 * room)?;
+        let (flow, balance) = start_balance(alloc, &graph)?;
+        let arcs = 2 * (graph.network().room() as usize + 1);
+        let (potentials, cut, scratch) = start_nodes(alloc, graph.network().nodes(), arcs)?;
         Ok(Tables {
             graph,
             flow,
