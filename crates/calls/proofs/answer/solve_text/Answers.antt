@@ -1,4 +1,5 @@
-use Rattle.std.proofs.Common.{rules}
+use Rattle.std.proofs.Common.{◌∙◌, ap₂, refl, rules, sym}
+use Rattle.std.proofs.lemmas.Bool.{false≢true}
 use Rattle.session.specs.Step.{state_of}
 use Rattle.calls.specs.Library.{IsOpening}
 use Rattle.calls.proofs.answer.solve_text.Goals as goal
@@ -11,7 +12,13 @@ returns-clause-solved c done =
     record { session = state_of c.in-Ok-open.session; opening = opening; room = search rules; view = c.give_answer.ensures.view; lists = c.give_answer.ensures.lists }
 
 pub returns-then-not-has_room-clause-too_short : goal.returns-then-not-has_room-clause-too_short
-returns-then-not-has_room-clause-too_short c = search rules
+returns-then-not-has_room-clause-too_short c same =
+    record {
+      problem = c.in-Ok.problem;
+      problem_read = c.in-Ok.ensures;
+      no_room = λ room. false≢true (sym c.if-not-has_room.true ∙ c.has_room.ensures.1 room);
+      sizes = ap₂ (λ nodes arcs. record c.args.answer.now.view { nodes = nodes; arcs = arcs }) c.nodes-answer.ensures.value (search rules depth 2);
+    }
 
 pub returns-then-not-has_room-clause-refused : goal.returns-then-not-has_room-clause-refused
-returns-then-not-has_room-clause-refused c = search rules
+returns-then-not-has_room-clause-refused c other = record { flow = refl; potentials = refl; cut = refl }
