@@ -2,9 +2,21 @@
 
 ghost use Rattle.std.specs.Prelude.{◌<◌};
 
+use crate::rows::{Faulty, faulty_of};
 use dimacs_text::{Answer, AnswerReader, FlowLine, TextFault};
 use std::alloc::Global;
 use std::process::Abort;
+use std::test::Fail;
+
+/// Feeds a text in pieces of so many bytes.
+fn feed(reader: &mut AnswerReader, text: &[u8], step: usize) -> Result<(), TextFault>
+    requires { 0 < step }
+{
+    for piece in text.chunks(step) {
+        reader.feed(piece)?;
+    }
+    Ok(())
+}
 
 /// Reads texts in a row, in pieces of so many bytes, as an answer to a problem with two nodes and an arc.
 fn read(alloc: Global, texts: [&[u8]; 2], step: usize) -> Result<Answer, TextFault>
@@ -12,77 +24,89 @@ fn read(alloc: Global, texts: [&[u8]; 2], step: usize) -> Result<Answer, TextFau
 {
     let mut reader = AnswerReader::new(alloc, 2, 1);
     for text in texts {
-        for piece in text.chunks(step) {
-            reader.feed(piece)?;
-        }
+        feed(&mut reader, text, step)?;
     }
     reader.finish()
+}
+
+/// The reading of a text ended with this fault.
+fn expect_told(rt: &impl Abort, ended: Result<Answer, TextFault>, number: u8, line: u64) {
+    match ended {
+        Ok(_) => panic!(rt; "fault {number} is missed"),
+        Err(fault) => assert_eq!(rt; fault, TextFault::Fault { number, line }),
+    }
 }
 
 /// The text has the fault in pieces of any of these lengths, with its last LF and without.
 fn expect_fault(rt: &impl Abort, alloc: Global, text: &[u8], number: u8, line: u64) {
     for step in [1, 2, 7, 1024, 1025] {
-        for after in [&b""[..], b"\n"] {
-            match read(alloc, [text, after], step) {
-                Ok(_) => panic!(rt; "fault {number} is missed"),
-                Err(fault) => assert_eq!(rt; fault, TextFault::Fault { number, line }),
-            }
+        for after in [b"".as_slice(), b"\n"] {
+            expect_told(rt, read(alloc, [text, after], step), number, line);
         }
     }
 }
 
+/// Each text of the rows has the fault.
+fn expect_faults(rt: &impl Abort, alloc: Global, rows: &str) -> Result<(), Fail> {
+    for row in rows.lines() {
+        let Faulty { number, line, text } = faulty_of(rt, alloc, row)?;
+        expect_fault(rt, alloc, text.as_bytes(), number, line);
+    }
+    Ok(())
+}
+
+/// The number of a fault, the faulty line, and a text that has it.
+const FAULTS_OF_LINES: &str = "\
+2 2 s 1/x 1
+3 2 i 1/k
+4 1 i -1
+5 2 i 1/k 3
+3 1 s
+3 3 c//s 1 2
+3 2 s 1/f 1 2
+3 3 s 1/f 1 2 3/v 1
+4 1 s +1
+4 1 s -
+4 1 s 1234567890123456789012345678901
+4 2 s 1/f 1 2 -3
+4 2 s 1/f x 3 1
+4 2 s 1/f 1 2 1234567890123456789
+5 2 s 1/f 1 3 x
+5 2 s 1/f 0 2 3
+5 3 s 1/f 1 2 3/v 3 x
+";
+
+/// The same, where the lines are out of order or one is missing.
+const FAULTS_OF_ORDER: &str = "\
+40 1 f 1 2
+40 1 v 1 0
+40 2 s 1/s 1
+40 3 s 1/f 1 2 3/f 1 2 3
+40 2 s 1/v 1 0
+40 3 s 1/f 1 2 3/v 2 0
+40 4 s 1/f 1 2 3/v 1 0/v 1 0
+40 5 s 1/f 1 2 3/v 1 0/v 2 0/v 2 0
+40 1 c only
+40 1 s 1
+40 3 s 1/f 1 2 3/v 1 0
+40 1 k 1
+40 2 s 1/i 1
+40 2 i 1/s 1
+40 2 i 1/i 1
+40 3 i 1/k 2/k 1
+";
+
 #[test]
-fn faults_of_lines(rt: HostRuntime) {
+fn faults_of_lines(rt: HostRuntime) -> Result<(), Fail> {
     let mut long = [b'x'; 1025];
     long[0] = b'c';
     expect_fault(&rt, rt.alloc(), &long, 1, 1);
-    let cases: [(&[u8], u8, u64); 17] = [
-        (b"s 1\nx 1", 2, 2),
-        (b"i 1\nk", 3, 2),
-        (b"i -1", 4, 1),
-        (b"i 1\nk 3", 5, 2),
-        (b"s", 3, 1),
-        (b"c\n\ns 1 2", 3, 3),
-        (b"s 1\nf 1 2", 3, 2),
-        (b"s 1\nf 1 2 3\nv 1", 3, 3),
-        (b"s +1", 4, 1),
-        (b"s -", 4, 1),
-        (b"s 1234567890123456789012345678901", 4, 1),
-        (b"s 1\nf 1 2 -3", 4, 2),
-        (b"s 1\nf x 3 1", 4, 2),
-        (b"s 1\nf 1 2 1234567890123456789", 4, 2),
-        (b"s 1\nf 1 3 x", 5, 2),
-        (b"s 1\nf 0 2 3", 5, 2),
-        (b"s 1\nf 1 2 3\nv 3 x", 5, 3),
-    ];
-    for (text, number, line) in cases {
-        expect_fault(&rt, rt.alloc(), text, number, line);
-    }
+    expect_faults(&rt, rt.alloc(), FAULTS_OF_LINES)
 }
 
 #[test]
-fn faults_of_order(rt: HostRuntime) {
-    let cases: [(&[u8], u64); 16] = [
-        (b"f 1 2", 1),
-        (b"v 1 0", 1),
-        (b"s 1\ns 1", 2),
-        (b"s 1\nf 1 2 3\nf 1 2 3", 3),
-        (b"s 1\nv 1 0", 2),
-        (b"s 1\nf 1 2 3\nv 2 0", 3),
-        (b"s 1\nf 1 2 3\nv 1 0\nv 1 0", 4),
-        (b"s 1\nf 1 2 3\nv 1 0\nv 2 0\nv 2 0", 5),
-        (b"c only", 1),
-        (b"s 1", 1),
-        (b"s 1\nf 1 2 3\nv 1 0", 3),
-        (b"k 1", 1),
-        (b"s 1\ni 1", 2),
-        (b"i 1\ns 1", 2),
-        (b"i 1\ni 1", 2),
-        (b"i 1\nk 2\nk 1", 3),
-    ];
-    for (text, line) in cases {
-        expect_fault(&rt, rt.alloc(), text, 40, line);
-    }
+fn faults_of_order(rt: HostRuntime) -> Result<(), Fail> {
+    expect_faults(&rt, rt.alloc(), FAULTS_OF_ORDER)
 }
 
 #[test]

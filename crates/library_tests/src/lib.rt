@@ -11,6 +11,8 @@ mod lines;
 #[cfg(test)]
 mod networks;
 #[cfg(test)]
+mod rows;
+#[cfg(test)]
 mod session_groups;
 #[cfg(test)]
 mod session_growths;

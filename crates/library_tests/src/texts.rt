@@ -2,12 +2,24 @@
 
 ghost use Rattle.std.specs.Prelude.{◌<◌};
 
+use crate::rows::{Faulty, faulty_of};
 use dimacs_text::{
     Command, Edit, GROUP_LIMIT, Group, Kind, Name, NodeMark, Problem, ProblemReader, TextFault,
     is_blank, read_command,
 };
 use std::alloc::Global;
 use std::process::Abort;
+use std::test::Fail;
+
+/// Feeds a text in pieces of so many bytes.
+fn feed(reader: &mut ProblemReader, text: &[u8], step: usize) -> Result<(), TextFault>
+    requires { 0 < step }
+{
+    for piece in text.chunks(step) {
+        reader.feed(piece)?;
+    }
+    Ok(())
+}
 
 /// Reads texts in a row, each in pieces of so many bytes.
 fn read(alloc: Global, texts: [&[u8]; 3], step: usize) -> Result<Problem, TextFault>
@@ -15,9 +27,7 @@ fn read(alloc: Global, texts: [&[u8]; 3], step: usize) -> Result<Problem, TextFa
 {
     let mut reader = ProblemReader::new(alloc);
     for text in texts {
-        for piece in text.chunks(step) {
-            reader.feed(piece)?;
-        }
+        feed(&mut reader, text, step)?;
     }
     reader.finish()
 }
@@ -30,55 +40,64 @@ fn expect_told(rt: &impl Abort, ended: Result<Problem, TextFault>, number: u8, l
     }
 }
 
-/// The text has the fault in pieces of any of these lengths, with its last LF and without, and two lines later after a
-/// blank line and a comment.
-fn expect_fault(rt: &impl Abort, alloc: Global, text: &[u8], number: u8, line: u64)
-    requires { line < 10 }
-{
+/// The texts in a row have the fault in pieces of any of these lengths.
+fn expect_fault_in_pieces(
+    rt: &impl Abort,
+    alloc: Global,
+    texts: [&[u8]; 3],
+    number: u8,
+    line: u64,
+) {
     for step in [1, 2, 7, 1024, 1025] {
-        for (before, after, line) in [
-            (&b""[..], &b""[..], line),
-            (b"", b"\n", line),
-            (b" \t\r\nc two lines\n", b"", line + 2),
-            (b" \t\r\nc two lines\n", b"\n", line + 2),
-        ] {
-            let ended = read(alloc, [before, text, after], step);
-            expect_told(rt, ended, number, line);
+        expect_told(rt, read(alloc, texts, step), number, line);
+    }
+}
+
+/// The text has the fault with its last LF and without, and two lines later after a blank line and a comment.
+fn expect_fault(rt: &impl Abort, alloc: Global, text: &[u8], number: u8, line: u64) {
+    for (before, lines) in [(b"".as_slice(), 0), (b" \t\r\nc two lines\n", 2)] {
+        let line = line.saturating_add(lines);
+        for after in [b"".as_slice(), b"\n"] {
+            expect_fault_in_pieces(rt, alloc, [before, text, after], number, line);
         }
     }
 }
 
+/// The number of a fault, the faulty line, and a text that has it.
+const FAULTS: &str = "\
+2 1 x 1
+3 1 p min 2
+4 1 p min +2 1
+4 2 p min 2 1/a 1 2 -1 1 1
+5 1 p min 50001 0
+5 2 p min 2 1/a 1 3 x 1 1
+6 1 a 1 2 0 1 1
+7 2 p min 1 0/p min 1 0
+8 1 p sp 2 1
+9 3 p min 2 1/a 1 2 0 1 1/n 1 0
+10 3 p min 2 0/n 1 1/n 1 1
+12 2 p min 2 0/a 1 2 0 1 1
+13 2 p min 2 2/a 1 2 0 1 1
+14 1 c only
+15 2 p min 2 1/a 1 2 2 1 0
+6 1 n 1 s/p max 2 0
+10 3 p max 2 0/n 1 s/n 1 t
+11 3 p max 2 1/n 1 s/a 1 2 1
+11 2 p max 2 0/n 1 s
+16 3 p asn 2 1/n 1/a 2 1 0
+17 2 p max 2 0/n 1 x
+";
+
 #[test]
-fn faults(rt: HostRuntime) {
+fn faults(rt: HostRuntime) -> Result<(), Fail> {
     let mut long = [b'x'; 1025];
     long[0] = b'c';
     expect_fault(&rt, rt.alloc(), &long, 1, 1);
-    let cases: [(&[u8], u8, u64); 21] = [
-        (b"x 1", 2, 1),
-        (b"p min 2", 3, 1),
-        (b"p min +2 1", 4, 1),
-        (b"p min 2 1\na 1 2 -1 1 1", 4, 2),
-        (b"p min 50001 0", 5, 1),
-        (b"p min 2 1\na 1 3 x 1 1", 5, 2),
-        (b"a 1 2 0 1 1", 6, 1),
-        (b"p min 1 0\np min 1 0", 7, 2),
-        (b"p sp 2 1", 8, 1),
-        (b"p min 2 1\na 1 2 0 1 1\nn 1 0", 9, 3),
-        (b"p min 2 0\nn 1 1\nn 1 1", 10, 3),
-        (b"p min 2 0\na 1 2 0 1 1", 12, 2),
-        (b"p min 2 2\na 1 2 0 1 1", 13, 2),
-        (b"c only", 14, 1),
-        (b"p min 2 1\na 1 2 2 1 0", 15, 2),
-        (b"n 1 s\np max 2 0", 6, 1),
-        (b"p max 2 0\nn 1 s\nn 1 t", 10, 3),
-        (b"p max 2 1\nn 1 s\na 1 2 1", 11, 3),
-        (b"p max 2 0\nn 1 s", 11, 2),
-        (b"p asn 2 1\nn 1\na 2 1 0", 16, 3),
-        (b"p max 2 0\nn 1 x", 17, 2),
-    ];
-    for (text, number, line) in cases {
-        expect_fault(&rt, rt.alloc(), text, number, line);
+    for row in FAULTS.lines() {
+        let Faulty { number, line, text } = faulty_of(&rt, rt.alloc(), row)?;
+        expect_fault(&rt, rt.alloc(), text.as_bytes(), number, line);
     }
+    Ok(())
 }
 
 /// The problem of the text below.
