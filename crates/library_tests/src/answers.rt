@@ -2,7 +2,7 @@
 
 ghost use Rattle.std.specs.Prelude.{◌<◌};
 
-use crate::rows::{Faulty, faulty_of};
+use crate::rows::{Faulty, faulty_of, long_comment};
 use dimacs_text::{Answer, AnswerReader, FlowLine, TextFault};
 use std::alloc::Global;
 use std::process::Abort;
@@ -56,7 +56,7 @@ fn expect_faults(rt: &impl Abort, alloc: Global, rows: &str) -> Result<(), Fail>
 }
 
 /// The number of a fault, the faulty line, and a text that has it.
-const FAULTS_OF_LINES: &str = "\
+static FAULTS_OF_LINES: &str = "\
 2 2 s 1/x 1
 3 2 i 1/k
 4 1 i -1
@@ -77,7 +77,7 @@ const FAULTS_OF_LINES: &str = "\
 ";
 
 /// The same, where the lines are out of order or one is missing.
-const FAULTS_OF_ORDER: &str = "\
+static FAULTS_OF_ORDER: &str = "\
 40 1 f 1 2
 40 1 v 1 0
 40 2 s 1/s 1
@@ -98,9 +98,7 @@ const FAULTS_OF_ORDER: &str = "\
 
 #[test]
 fn faults_of_lines(rt: HostRuntime) -> Result<(), Fail> {
-    let mut long = [b'x'; 1025];
-    long[0] = b'c';
-    expect_fault(&rt, rt.alloc(), &long, 1, 1);
+    expect_fault(&rt, rt.alloc(), &long_comment(), 1, 1);
     expect_faults(&rt, rt.alloc(), FAULTS_OF_LINES)
 }
 

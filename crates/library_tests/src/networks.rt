@@ -31,56 +31,60 @@ fn expect(rt: &impl Abort, answer: bool, valid: bool) {
     assert!(rt; answer == valid);
 }
 
+/// A problem, a flow, potentials and a worth, and whether the checker takes them.
+static FLOWS: [(&[u8], &[i64], &[i64], i128, bool); 12] = [
+    (SINGLE_ARC, &[3], &[-4, 0], 12, true),
+    (SINGLE_ARC, &[3], &[-5, -1], 12, true),
+    (SINGLE_ARC, &[3], &[-4, 0], 13, false),
+    (SINGLE_ARC, &[3], &[0, 0], 12, false),
+    (SINGLE_ARC, &[3], &[1, 5], 12, false),
+    (
+        SINGLE_ARC,
+        &[3],
+        &[-50_000_000_000_000_000, -49_999_999_999_999_996],
+        12,
+        true,
+    ),
+    (
+        SINGLE_ARC,
+        &[3],
+        &[-50_000_000_000_000_001, -49_999_999_999_999_997],
+        12,
+        false,
+    ),
+    (SINGLE_ARC, &[2], &[-4, 0], 8, false),
+    (SINGLE_ARC, &[3, 0], &[-4, 0], 12, false),
+    (SINGLE_ARC, &[3], &[-4], 12, false),
+    (DIAMOND, &[2, 2, 2, 0, 4], &[-4, -2, -1, 0], 14, true),
+    (DIAMOND, &[2, 2, 1, 1, 3], &[-4, -2, -1, 0], 15, false),
+];
+
 #[test]
 fn best_flows(rt: HostRuntime) -> Result<(), TextFault> {
-    let cases: [(&[u8], &[i64], &[i64], i128, bool); 12] = [
-        (SINGLE_ARC, &[3], &[-4, 0], 12, true),
-        (SINGLE_ARC, &[3], &[-5, -1], 12, true),
-        (SINGLE_ARC, &[3], &[-4, 0], 13, false),
-        (SINGLE_ARC, &[3], &[0, 0], 12, false),
-        (SINGLE_ARC, &[3], &[1, 5], 12, false),
-        (
-            SINGLE_ARC,
-            &[3],
-            &[-50_000_000_000_000_000, -49_999_999_999_999_996],
-            12,
-            true,
-        ),
-        (
-            SINGLE_ARC,
-            &[3],
-            &[-50_000_000_000_000_001, -49_999_999_999_999_997],
-            12,
-            false,
-        ),
-        (SINGLE_ARC, &[2], &[-4, 0], 8, false),
-        (SINGLE_ARC, &[3, 0], &[-4, 0], 12, false),
-        (SINGLE_ARC, &[3], &[-4], 12, false),
-        (DIAMOND, &[2, 2, 2, 0, 4], &[-4, -2, -1, 0], 14, true),
-        (DIAMOND, &[2, 2, 1, 1, 3], &[-4, -2, -1, 0], 15, false),
-    ];
-    for (text, flow, potentials, worth, valid) in cases {
+    for (text, flow, potentials, worth, valid) in &FLOWS {
         let net = network(rt.alloc(), text)?;
-        expect(&rt, check_best(&net, flow, potentials, worth), valid);
+        expect(&rt, check_best(&net, flow, potentials, *worth), *valid);
     }
     Ok(())
 }
 
+/// A problem, a set of nodes and a shortage, and whether the checker takes them.
+static CUTS: [(&[u8], &[bool], i64, bool); 8] = [
+    (BOTH_FORMS, &[true, false, false], 1, true),
+    (BOTH_FORMS, &[false, true, false], 2, true),
+    (BOTH_FORMS, &[true, true, true], 2, true),
+    (BOTH_FORMS, &[false, true, false], 3, false),
+    (BOTH_FORMS, &[false, true], 2, false),
+    (UNFED, &[false, true], 2, true),
+    (UNFED, &[true, false], 2, true),
+    (SINGLE_ARC, &[true, false], 3, false),
+];
+
 #[test]
 fn cuts(rt: HostRuntime) -> Result<(), TextFault> {
-    let cases: [(&[u8], &[bool], i64, bool); 8] = [
-        (BOTH_FORMS, &[true, false, false], 1, true),
-        (BOTH_FORMS, &[false, true, false], 2, true),
-        (BOTH_FORMS, &[true, true, true], 2, true),
-        (BOTH_FORMS, &[false, true, false], 3, false),
-        (BOTH_FORMS, &[false, true], 2, false),
-        (UNFED, &[false, true], 2, true),
-        (UNFED, &[true, false], 2, true),
-        (SINGLE_ARC, &[true, false], 3, false),
-    ];
-    for (text, cut, shortage, valid) in cases {
+    for (text, cut, shortage, valid) in &CUTS {
         let net = network(rt.alloc(), text)?;
-        expect(&rt, check_cut(&net, cut, shortage), valid);
+        expect(&rt, check_cut(&net, cut, *shortage), *valid);
     }
     Ok(())
 }
@@ -90,45 +94,47 @@ fn expect_answer(rt: &impl Abort, answer: Result<(), u8>, expected: Result<(), u
     assert_eq!(rt; answer, expected);
 }
 
+/// An edit, and its answer.
+static EDITS: [(Edit, Result<(), u8>); 8] = [
+    (Edit::Cap { arc: 1, cap: 2 }, Ok(())),
+    (Edit::Cap { arc: 1, cap: 1 }, Err(22)),
+    (
+        Edit::Cap {
+            arc: 2,
+            cap: 1_000_000_001,
+        },
+        Err(5),
+    ),
+    (Edit::Low { arc: 2, low: 1 }, Err(20)),
+    (Edit::Cost { arc: 0, cost: 1 }, Err(20)),
+    (Edit::Supply { node: 3, value: 1 }, Err(21)),
+    (
+        Edit::Add {
+            tail: 1,
+            head: 2,
+            low: 0,
+            cap: 5,
+            cost: 1,
+        },
+        Ok(()),
+    ),
+    (
+        Edit::Add {
+            tail: 1,
+            head: 2,
+            low: 6,
+            cap: 5,
+            cost: 1,
+        },
+        Err(22),
+    ),
+];
+
 #[test]
 fn edits(rt: HostRuntime) -> Result<(), TextFault> {
     let net = network(rt.alloc(), UNFED)?;
-    let cases: [(Edit, Result<(), u8>); 8] = [
-        (Edit::Cap { arc: 1, cap: 2 }, Ok(())),
-        (Edit::Cap { arc: 1, cap: 1 }, Err(22)),
-        (
-            Edit::Cap {
-                arc: 2,
-                cap: 1_000_000_001,
-            },
-            Err(5),
-        ),
-        (Edit::Low { arc: 2, low: 1 }, Err(20)),
-        (Edit::Cost { arc: 0, cost: 1 }, Err(20)),
-        (Edit::Supply { node: 3, value: 1 }, Err(21)),
-        (
-            Edit::Add {
-                tail: 1,
-                head: 2,
-                low: 0,
-                cap: 5,
-                cost: 1,
-            },
-            Ok(()),
-        ),
-        (
-            Edit::Add {
-                tail: 1,
-                head: 2,
-                low: 6,
-                cap: 5,
-                cost: 1,
-            },
-            Err(22),
-        ),
-    ];
-    for (edit, answer) in cases {
-        expect_answer(&rt, net.edited(&edit), answer);
+    for (edit, answer) in &EDITS {
+        expect_answer(&rt, net.edited(edit), *answer);
     }
     Ok(())
 }
@@ -142,37 +148,39 @@ const ADD: Edit = Edit::Add {
     cost: 1,
 };
 
+/// Edits that are made together, and their answer.
+static EDITS_TOGETHER: [(&[Edit], Result<(), u8>); 9] = [
+    (&[], Ok(())),
+    (
+        &[Edit::Cap { arc: 1, cap: 3 }, Edit::Low { arc: 1, low: 3 }],
+        Ok(()),
+    ),
+    (
+        &[Edit::Cap { arc: 1, cap: 3 }, Edit::Low { arc: 1, low: 4 }],
+        Err(22),
+    ),
+    (&[ADD, Edit::Cap { arc: 2, cap: 9 }], Ok(())),
+    (&[Edit::Cap { arc: 2, cap: 9 }, ADD], Err(20)),
+    (&[ADD, ADD], Err(24)),
+    (&[ADD, Edit::Close { arc: 2 }, ADD], Err(24)),
+    (
+        &[Edit::Close { arc: 1 }, Edit::Low { arc: 1, low: 1 }],
+        Err(22),
+    ),
+    (
+        &[
+            Edit::Supply { node: 3, value: 1 },
+            Edit::Cap { arc: 7, cap: 1 },
+        ],
+        Err(21),
+    ),
+];
+
 #[test]
 fn edits_made_together(rt: HostRuntime) -> Result<(), TextFault> {
     let net = network(rt.alloc(), UNFED)?;
-    let cases: [(&[Edit], Result<(), u8>); 9] = [
-        (&[], Ok(())),
-        (
-            &[Edit::Cap { arc: 1, cap: 3 }, Edit::Low { arc: 1, low: 3 }],
-            Ok(()),
-        ),
-        (
-            &[Edit::Cap { arc: 1, cap: 3 }, Edit::Low { arc: 1, low: 4 }],
-            Err(22),
-        ),
-        (&[ADD, Edit::Cap { arc: 2, cap: 9 }], Ok(())),
-        (&[Edit::Cap { arc: 2, cap: 9 }, ADD], Err(20)),
-        (&[ADD, ADD], Err(24)),
-        (&[ADD, Edit::Close { arc: 2 }, ADD], Err(24)),
-        (
-            &[Edit::Close { arc: 1 }, Edit::Low { arc: 1, low: 1 }],
-            Err(22),
-        ),
-        (
-            &[
-                Edit::Supply { node: 3, value: 1 },
-                Edit::Cap { arc: 7, cap: 1 },
-            ],
-            Err(21),
-        ),
-    ];
-    for (edits, answer) in cases {
-        expect_answer(&rt, net.edited_all(edits), answer);
+    for (edits, answer) in &EDITS_TOGETHER {
+        expect_answer(&rt, net.edited_all(edits), *answer);
     }
     assert!(rt; net.arcs() == 1);
     Ok(())

@@ -15,6 +15,13 @@ pub(crate) fn text_of(rt: &impl Abort, alloc: Global, cell: &str) -> String {
     text.expect(rt, "there is memory for a text")
 }
 
+/// A comment of one byte more than a line may have.
+pub(crate) fn long_comment() -> [u8; 1025] {
+    let mut text = [b'x'; 1025];
+    text[0] = b'c';
+    text
+}
+
 /// A text that has a fault: the number of the fault, and the faulty line.
 #[derive(Drop)]
 pub(crate) struct Faulty {

@@ -19,7 +19,7 @@ struct GroupStep {
     undone: Differences<'static>,
 }
 
-const GROUP_STEPS: [GroupStep; 5] = [
+static GROUP_STEPS: [GroupStep; 5] = [
     GroupStep {
         shows: "two arcs, each with its row",
         text: DIAMOND,

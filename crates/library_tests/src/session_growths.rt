@@ -22,7 +22,7 @@ struct Case {
     edit: Edit,
 }
 
-const CASES: [Case; 7] = [
+static CASES: [Case; 7] = [
     Case {
         shows: "a flow, potentials and a place in an empty history",
         text: DIAMOND,
@@ -76,7 +76,7 @@ struct Trial {
     asked: Command,
 }
 
-const GROUPS: [Trial; 2] = [
+static GROUPS: [Trial; 2] = [
     Trial {
         shows: "the rows of two arcs",
         text: DIAMOND,

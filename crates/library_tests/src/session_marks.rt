@@ -91,7 +91,7 @@ struct Dialogue {
     turns: &'static [(Asked, Reply)],
 }
 
-const DIALOGUES: [Dialogue; 6] = [
+static DIALOGUES: [Dialogue; 6] = [
     Dialogue {
         shows: "marks are moved to and fro; an edit takes away those of the moments that it drops",
         turns: &[
@@ -208,7 +208,7 @@ fn mark_all(rt: &impl Abort, session: &mut Session) {
 }
 
 /// Where sixteen names have marks, only they can be marked. A name whose mark is taken away leaves its place to another.
-const AT_THE_LIMIT: &[(Asked, Reply)] = &[
+static AT_THE_LIMIT: &[(Asked, Reply)] = &[
     (Asked::Mark(b"q"), NO_PLACE),
     (Asked::Back(b"q"), NO_MARK),
     (EDIT, NARROWED),
@@ -231,7 +231,7 @@ fn seventeen_names(rt: HostRuntime) {
 }
 
 /// The diamond is narrowed and widened again.
-const TO_AND_FRO: &[(Asked, Reply)] = &[
+static TO_AND_FRO: &[(Asked, Reply)] = &[
     (EDIT, NARROWED),
     (Asked::Step(Command::Apply(WIDEN)), FIRST),
 ];
@@ -244,7 +244,7 @@ fn narrow_and_widen(rt: &impl Abort, session: &mut Session, times: usize) {
 }
 
 /// The last of many steps, which has a mark, and the way back to the mark before them.
-const TO_THE_START: &[(Asked, Reply)] = &[
+static TO_THE_START: &[(Asked, Reply)] = &[
     (EDIT, NARROWED),
     (Asked::Mark(b"end"), NARROWED),
     (Asked::Back(b"start"), FIRST),
@@ -262,7 +262,7 @@ fn back_over_many_steps(rt: HostRuntime) {
 }
 
 /// Narrows the diamond, with a mark before and after, and goes back.
-const MARKED: &[(Asked, Reply)] = &[
+static MARKED: &[(Asked, Reply)] = &[
     (Asked::Mark(b"wide"), FIRST),
     (EDIT, NARROWED),
     (Asked::Mark(b"narrow"), NARROWED),
@@ -270,7 +270,7 @@ const MARKED: &[(Asked, Reply)] = &[
 ];
 
 /// Where no growth is served, what takes memory is refused, and keeps all marks.
-const REFUSED: &[(Asked, Reply)] = &[
+static REFUSED: &[(Asked, Reply)] = &[
     (Asked::Step(Command::Group(CAPACITIES)), Reply::NoMemory),
     (Asked::Back(b"narrow"), NARROWED),
     (Asked::Mark(b"more"), NARROWED),

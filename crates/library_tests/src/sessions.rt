@@ -162,7 +162,7 @@ struct Dialogue {
     turns: &'static [(Command, Reply)],
 }
 
-const DIALOGUES: [Dialogue; 7] = [
+static DIALOGUES: [Dialogue; 7] = [
     Dialogue {
         shows: "an undone arc is out of the numbering; a refusal keeps the future, a new edit drops it",
         text: SINGLE_ARC,
@@ -321,7 +321,7 @@ struct Work {
     most: u64,
 }
 
-const WORK: [Work; 3] = [
+static WORK: [Work; 3] = [
     Work {
         shows: "what the narrowed arc loses is one unit, sent another way",
         text: DIAMOND,
@@ -425,7 +425,7 @@ struct Step {
     undone: Differences<'static>,
 }
 
-const STEPS: [Step; 4] = [
+static STEPS: [Step; 4] = [
     Step {
         shows: "the flow, the potentials and the capacity that a narrowed arc gave up",
         text: DIAMOND,

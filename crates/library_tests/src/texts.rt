@@ -2,7 +2,7 @@
 
 ghost use Rattle.std.specs.Prelude.{◌<◌};
 
-use crate::rows::{Faulty, faulty_of};
+use crate::rows::{Faulty, faulty_of, long_comment};
 use dimacs_text::{
     Command, Edit, GROUP_LIMIT, Group, Kind, Name, NodeMark, Problem, ProblemReader, TextFault,
     is_blank, read_command,
@@ -64,7 +64,7 @@ fn expect_fault(rt: &impl Abort, alloc: Global, text: &[u8], number: u8, line: u
 }
 
 /// The number of a fault, the faulty line, and a text that has it.
-const FAULTS: &str = "\
+static FAULTS: &str = "\
 2 1 x 1
 3 1 p min 2
 4 1 p min +2 1
@@ -90,9 +90,7 @@ const FAULTS: &str = "\
 
 #[test]
 fn faults(rt: HostRuntime) -> Result<(), Fail> {
-    let mut long = [b'x'; 1025];
-    long[0] = b'c';
-    expect_fault(&rt, rt.alloc(), &long, 1, 1);
+    expect_fault(&rt, rt.alloc(), &long_comment(), 1, 1);
     for row in FAULTS.lines() {
         let Faulty { number, line, text } = faulty_of(&rt, rt.alloc(), row)?;
         expect_fault(&rt, rt.alloc(), text.as_bytes(), number, line);
@@ -136,34 +134,36 @@ fn expect_first(
     assert!(rt; problem.arcs()[0].cost == cost);
 }
 
+/// A problem of each kind, its first mark, and the capacity and the cost of its first arc.
+static EACH_KIND: [(&[u8], Kind, NodeMark, i64, i64); 3] = [
+    (
+        b"p min 2 1\nn 2 -3\na 1 2 1 5 4",
+        Kind::Min,
+        NodeMark::Supply { id: 2, value: -3 },
+        5,
+        4,
+    ),
+    (
+        b"p max 2 1\nn 2 t\nn 1 s\na 1 2 6",
+        Kind::Max,
+        NodeMark::Sink(2),
+        6,
+        0,
+    ),
+    (
+        b"p asn 2 1\nn 2\na 2 1 -7",
+        Kind::Asn,
+        NodeMark::Side(2),
+        1,
+        -7,
+    ),
+];
+
 #[test]
 fn problem_of_each_kind(rt: HostRuntime) {
-    let cases: [(&[u8], Kind, NodeMark, i64, i64); 3] = [
-        (
-            b"p min 2 1\nn 2 -3\na 1 2 1 5 4",
-            Kind::Min,
-            NodeMark::Supply { id: 2, value: -3 },
-            5,
-            4,
-        ),
-        (
-            b"p max 2 1\nn 2 t\nn 1 s\na 1 2 6",
-            Kind::Max,
-            NodeMark::Sink(2),
-            6,
-            0,
-        ),
-        (
-            b"p asn 2 1\nn 2\na 2 1 -7",
-            Kind::Asn,
-            NodeMark::Side(2),
-            1,
-            -7,
-        ),
-    ];
-    for (text, kind, mark, cap, cost) in cases {
+    for (text, kind, mark, cap, cost) in &EACH_KIND {
         match read(rt.alloc(), [text, b"", b""], 7) {
-            Ok(problem) => expect_first(&rt, &problem, kind, mark, cap, cost),
+            Ok(problem) => expect_first(&rt, &problem, *kind, *mark, *cap, *cost),
             Err(_) => panic!(rt; "the text is read"),
         }
     }
@@ -182,49 +182,51 @@ fn expect_command(rt: &impl Abort, kind: Kind, line: &[u8], expected: &Result<Co
     }
 }
 
+/// A line, and what it reads as on problems of a kind.
+const COMMANDS: [(Kind, &[u8], Result<Command, u8>); 15] = [
+    (
+        Kind::Min,
+        b"cap 2 1",
+        Ok(Command::Edit(Edit::Cap { arc: 2, cap: 1 })),
+    ),
+    (
+        Kind::Min,
+        b" supply 3 -1\r",
+        Ok(Command::Edit(Edit::Supply { node: 3, value: -1 })),
+    ),
+    (
+        Kind::Max,
+        b"add 1 2 5",
+        Ok(Command::Edit(Edit::Add {
+            tail: 1,
+            head: 2,
+            low: 0,
+            cap: 5,
+            cost: 0,
+        })),
+    ),
+    (
+        Kind::Asn,
+        b"close 1",
+        Ok(Command::Edit(Edit::Close { arc: 1 })),
+    ),
+    (Kind::Min, b"undo", Ok(Command::Undo)),
+    (Kind::Max, b"group", Ok(Command::Group)),
+    (Kind::Asn, b"\tend ", Ok(Command::End)),
+    (Kind::Min, b"undone", Err(2)),
+    (Kind::Min, b"group 1", Err(3)),
+    (Kind::Min, b"end x", Err(3)),
+    (Kind::Asn, b"cap 1", Err(23)),
+    (Kind::Min, b"cap 1", Err(3)),
+    (Kind::Min, b"cap x 1000000001", Err(4)),
+    (Kind::Min, b"low 1 -1", Err(4)),
+    (Kind::Min, b"cost 1 -1000000000001", Err(5)),
+];
+
 #[test]
 fn commands(rt: HostRuntime) {
-    let cases: [(Kind, &[u8], Result<Command, u8>); 15] = [
-        (
-            Kind::Min,
-            b"cap 2 1",
-            Ok(Command::Edit(Edit::Cap { arc: 2, cap: 1 })),
-        ),
-        (
-            Kind::Min,
-            b" supply 3 -1\r",
-            Ok(Command::Edit(Edit::Supply { node: 3, value: -1 })),
-        ),
-        (
-            Kind::Max,
-            b"add 1 2 5",
-            Ok(Command::Edit(Edit::Add {
-                tail: 1,
-                head: 2,
-                low: 0,
-                cap: 5,
-                cost: 0,
-            })),
-        ),
-        (
-            Kind::Asn,
-            b"close 1",
-            Ok(Command::Edit(Edit::Close { arc: 1 })),
-        ),
-        (Kind::Min, b"undo", Ok(Command::Undo)),
-        (Kind::Max, b"group", Ok(Command::Group)),
-        (Kind::Asn, b"\tend ", Ok(Command::End)),
-        (Kind::Min, b"undone", Err(2)),
-        (Kind::Min, b"group 1", Err(3)),
-        (Kind::Min, b"end x", Err(3)),
-        (Kind::Asn, b"cap 1", Err(23)),
-        (Kind::Min, b"cap 1", Err(3)),
-        (Kind::Min, b"cap x 1000000001", Err(4)),
-        (Kind::Min, b"low 1 -1", Err(4)),
-        (Kind::Min, b"cost 1 -1000000000001", Err(5)),
-    ];
-    for (kind, line, expected) in cases {
-        expect_command(&rt, kind, line, &expected);
+    for (kind, line, expected) in &COMMANDS {
+        expect_command(&rt, *kind, line, expected);
     }
 }
 
@@ -239,25 +241,27 @@ fn mark_of(rt: &impl Abort, name: Result<&[u8], u8>) -> Result<Command, u8> {
     }
 }
 
+/// A line, and the letters of its name, or the number of its refusal.
+static NAMES: [(&[u8], Result<&[u8], u8>); 10] = [
+    (b"mark a", Ok(b"a")),
+    (b"mark\tZa\r", Ok(b"Za")),
+    (
+        b"mark abcdefghijklmnopqrstuvwxyzABCDEF",
+        Ok(b"abcdefghijklmnopqrstuvwxyzABCDEF"),
+    ),
+    (b"mark abcdefghijklmnopqrstuvwxyzABCDEFG", Err(32)),
+    (b"mark 1x", Err(32)),
+    (b"mark x1", Err(32)),
+    (b"mark a[", Err(32)),
+    (b"mark", Err(3)),
+    (b"mark 1 2", Err(3)),
+    (b"marks a", Err(2)),
+];
+
 #[test]
 fn names(rt: HostRuntime) {
-    let cases: [(&[u8], Result<&[u8], u8>); 10] = [
-        (b"mark a", Ok(b"a")),
-        (b"mark\tZa\r", Ok(b"Za")),
-        (
-            b"mark abcdefghijklmnopqrstuvwxyzABCDEF",
-            Ok(b"abcdefghijklmnopqrstuvwxyzABCDEF"),
-        ),
-        (b"mark abcdefghijklmnopqrstuvwxyzABCDEFG", Err(32)),
-        (b"mark 1x", Err(32)),
-        (b"mark x1", Err(32)),
-        (b"mark a[", Err(32)),
-        (b"mark", Err(3)),
-        (b"mark 1 2", Err(3)),
-        (b"marks a", Err(2)),
-    ];
-    for (line, expected) in cases {
-        let expected = mark_of(&rt, expected);
+    for (line, expected) in &NAMES {
+        let expected = mark_of(&rt, *expected);
         for kind in [Kind::Min, Kind::Max, Kind::Asn] {
             expect_command(&rt, kind, line, &expected);
         }
@@ -290,22 +294,24 @@ fn expect_group(rt: &impl Abort, text: &str, edits: usize, fault: Option<u8>) {
     assert_eq!(rt; group.fault(), fault);
 }
 
+/// The lines of a group, how many edits it takes, and its fault.
+static GROUPS: [(&str, usize, Option<u8>); 10] = [
+    ("end", 0, None),
+    ("cap 5 3\nadd 1 2 0 1 1\nend", 2, None),
+    ("cap 5 3\nfly\ncap 5 3\nend", 1, Some(2)),
+    ("end now\nend", 0, Some(3)),
+    ("cap 5 3\ngroup\nfly\nend", 1, Some(29)),
+    ("group 1\nend", 0, Some(3)),
+    ("undo\nend", 0, Some(29)),
+    ("undo 1\nend", 0, Some(3)),
+    ("mark a\nend", 0, Some(29)),
+    ("back 1\nend", 0, Some(32)),
+];
+
 #[test]
 fn groups(rt: HostRuntime) {
-    let cases = [
-        ("end", 0, None),
-        ("cap 5 3\nadd 1 2 0 1 1\nend", 2, None),
-        ("cap 5 3\nfly\ncap 5 3\nend", 1, Some(2)),
-        ("end now\nend", 0, Some(3)),
-        ("cap 5 3\ngroup\nfly\nend", 1, Some(29)),
-        ("group 1\nend", 0, Some(3)),
-        ("undo\nend", 0, Some(29)),
-        ("undo 1\nend", 0, Some(3)),
-        ("mark a\nend", 0, Some(29)),
-        ("back 1\nend", 0, Some(32)),
-    ];
-    for (text, edits, fault) in cases {
-        expect_group(&rt, text, edits, fault);
+    for (text, edits, fault) in &GROUPS {
+        expect_group(&rt, text, *edits, *fault);
     }
 }
 
