@@ -7,7 +7,7 @@ use Rattle.flow_solver.specs.declared.verdict.Verdict.TheVariants.{Best, Infeasi
 use Rattle.network.specs.Instance.{IsBest, IsBreach, IsCertified, IsLegal, at_node, is_marked}
 use Rattle.session.specs.Parts.{flow_of}
 use Rattle.session.specs.Step.{SessionState}
-use Rattle.calls.specs.Library.{IsOpening, IsViewOf}
+use Rattle.calls.specs.Library.{IsOpeningOf, IsViewOf}
 use Rattle.calls.specs.declared.answer.Answer.{Answer}
 
 -- room for each list of the problem's answer
@@ -44,20 +44,30 @@ IsGivenBy (Infeasible shortage) m old new = IsCutGiven m shortage old new
 abbrev pub IsGiven : Moment → Answer → Answer → Type 0
 IsGiven m old new = IsGivenBy m.verdict m old new
 
--- what opening a session on the text and looking gives
-pub record IsSolved (text : List ℕ) (old new : Answer) : Type 0 where
+-- what opening a session on the problem and looking gives
+pub record IsProblemSolved (problem : ProblemValue) (old new : Answer) : Type 0 where
   pub session : SessionState
-  pub opening : IsOpening text 0 session
-  pub room : HasRoom opening.problem old
+  pub opening : IsOpeningOf problem 0 session
+  pub room : HasRoom problem old
   pub view : IsViewOf session.moments new.view
   pub lists : IsGiven session.moments.present old new
 
--- the text has a problem whose lists have no room, and its sizes are told
+-- the problem of the text is solved so
+pub record IsSolved (text : List ℕ) (old new : Answer) : Type 0 where
+  pub problem : ProblemValue
+  pub problem_read : reads text ≡ Ok problem
+  pub solved : IsProblemSolved problem old new
+
+-- the problem's lists have no room, and its sizes are told
+pub record IsProblemTooLong (problem : ProblemValue) (old new : Answer) : Type 0 where
+  pub no_room : HasRoom problem old → ⊥
+  pub sizes : new.view ≡ record old.view { nodes = problem.nodes; arcs = length problem.arcs }
+
+-- the problem of the text is told so
 pub record IsTooShort (text : List ℕ) (old new : Answer) : Type 0 where
   pub problem : ProblemValue
   pub problem_read : reads text ≡ Ok problem
-  pub no_room : HasRoom problem old → ⊥
-  pub sizes : new.view ≡ record old.view { nodes = problem.nodes; arcs = length problem.arcs }
+  pub too_long : IsProblemTooLong problem old new
 
 -- nothing is written to the lists
 pub record AreListsKept (old new : Answer) : Type 0 where

@@ -30,15 +30,19 @@ abbrev pub IsToldAs : TextFault → ℤ → Fault → Fault → Type 0
 IsToldAs (text_fault.Fault number line) status old new = (status ≡ FAULT) × (new.number ≡ number) × (new.line ≡ line)
 IsToldAs text_fault.Memory status old new = (status ≡ MEMORY) × (new ≡ old)
 
--- a session begins with the problem of the text, answered, with room for so many arcs more, and without marks
-pub record IsOpening (text : List ℕ) (extra : ℕ) (s : SessionState) : Type 0 where
-  pub problem : ProblemValue
-  pub problem_read : reads text ≡ Ok problem
+-- a session begins with the problem, answered, with room for so many arcs more, and without marks
+pub record IsOpeningOf (problem : ProblemValue) (extra : ℕ) (s : SessionState) : Type 0 where
   pub instance_is : s.moments.present.instance ≡ first problem extra
   pub answered : IsAnswered s.moments.present
   pub no_past : s.moments.past ≡ []
   pub no_future : s.moments.future ≡ []
   pub no_marks : s.marks ≡ []
+
+-- it begins with the problem of the text
+pub record IsOpening (text : List ℕ) (extra : ℕ) (s : SessionState) : Type 0 where
+  pub problem : ProblemValue
+  pub problem_read : reads text ≡ Ok problem
+  pub opening : IsOpeningOf problem extra s
 
 -- no session begins: by a fault of the text, which is put where C looks for it, or for want of memory
 abbrev pub IsNotOpened : List ℕ → ℤ → Fault → Fault → Type 0

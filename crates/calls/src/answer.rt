@@ -4,7 +4,7 @@ ghost use Rattle.std.specs.Prelude.{◌≡◌, ◌≢◌, ◌≤◌, ◌↔◌, 
 ghost use Rattle.dimacs_lines.specs.declared.fault.TextFault.TheVariants as faults;
 ghost use Rattle.dimacs_text.specs.Reading.{reads};
 ghost use Rattle.calls.specs.Library.{IsViewOf};
-ghost use Rattle.calls.specs.Answer.{AreListsKept, HasRoom, IsGiven, IsSameRoom, IsSolved, IsTooShort, filled};
+ghost use Rattle.calls.specs.Answer.{AreListsKept, HasRoom, IsGiven, IsProblemSolved, IsProblemTooLong, IsSameRoom, IsSolved, IsTooShort, filled};
 ghost use Rattle.calls.specs.declared.status.TheConstants.{FAULT, MEMORY, TOO_SHORT};
 
 use crate::fault::{Fault, tell_refusal};
@@ -44,21 +44,36 @@ pub fn solve_text(alloc: Global, text: &[u8], answer: &mut Answer) -> i32
     ensures no_fault { result ≢ FAULT → answer.new.fault ≡ answer.old.fault }
     ensures same_room { IsSameRoom answer.old answer.new }
 {
-    let problem = match read_problem(alloc, text) {
-        Ok(problem) => problem,
-        Err(refused) => return tell_refusal(refused, &mut answer.fault),
-    };
-    if !has_room(answer, &problem) {
+    match read_problem(alloc, text) {
+        Ok(problem) => solve_problem(alloc, &problem, answer),
+        Err(refused) => tell_refusal(refused, &mut answer.fault),
+    }
+}
+
+/// Answers a problem, as `solve_text` does of a text that has one.
+fn solve_problem(alloc: Global, problem: &Problem, answer: &mut Answer) -> i32
+    ensures solved { result ≡ pos 0 → IsProblemSolved problem.now answer.old answer.new }
+    ensures too_short { result ≡ TOO_SHORT → IsProblemTooLong problem.now answer.old answer.new }
+    ensures otherwise { result ≢ pos 0 → result ≢ TOO_SHORT → result ≡ MEMORY }
+    ensures refused { result ≢ pos 0 → AreListsKept answer.old answer.new }
+    ensures view { result ≢ pos 0 → result ≢ TOO_SHORT → answer.new.view ≡ answer.old.view }
+    ensures no_fault { answer.new.fault ≡ answer.old.fault }
+    ensures same_room { IsSameRoom answer.old answer.new }
+{
+    if !has_room(answer, problem) {
         answer.view.nodes = problem.nodes();
         answer.view.arcs = problem.arcs().len() as u32;
         return TOO_SHORT;
     }
-    let session = match Session::open(alloc, &problem, 0) {
-        Ok(session) => session,
-        Err(_) => return MEMORY,
-    };
-    give_answer(&session, answer);
-    0
+    match Session::open(alloc, problem, 0) {
+        Ok(session) => {
+            give_answer(&session, answer);
+            // By a call, whose steps are proved once. At the end of a block they are proved again for each of its exits.
+            drop(session);
+            0
+        }
+        Err(_) => MEMORY,
+    }
 }
 
 /// Whether there is room for each list of a problem's answer.

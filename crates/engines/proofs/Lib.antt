@@ -1,4 +1,5 @@
 pub mod PrintingLemmas
+pub mod OpeningLemmas
 pub mod SolveLemmas
 pub mod LineLemmas
 pub mod RunLemmas

@@ -18,7 +18,8 @@ use Rattle.engines.specs.Printing.{outcome_line}
 use Rattle.checker.specs.Reading.{Gives, ReadsKnown, ReadsWhole, end_of}
 use Rattle.engines.specs.Run.{Answers}
 use Rattle.engines.specs.Serving.{CommandsEnd, CommandsFail, Stopped}
-use Rattle.engines.specs.Session.{Opens, PrintsBeginning, PrintsRun, SessionOnDevices, SessionWrites, command_failures}
+use Rattle.engines.specs.Opening.{IsNotOpened, Opens}
+use Rattle.engines.specs.Session.{PrintsBeginning, PrintsRun, SessionOnDevices, SessionWrites, command_failures}
 use Rattle.checker.proofs.SourceLemmas.{all_given, text_at_end, text_given}
 use Rattle.engines.proofs.PrintingLemmas.{appended, stopped_after}
 
@@ -30,13 +31,27 @@ problem_end (read_error.Text text_fault.Memory) extra text given commands comman
 problem_end (read_error.Text (text_fault.Fault number line)) extra text given commands commands_given is = (is, refl)
 problem_end read_error.Source extra text given commands commands_given is = (is, refl)
 
-pub SessionOnDevices-problem : (e : ReadError) (extra : ℕ) (known : Option (List ℕ)) (read_count : ℕ) (commands : Option (List ℕ)) (count : ℕ) (before : Option (List ℕ))
+SessionOnDevices-problem : (e : ReadError) (extra : ℕ) (known : Option (List ℕ)) (read_count : ℕ) (commands : Option (List ℕ)) (count : ℕ) (before : Option (List ℕ))
     → ReadsKnown (decided problem_rule) reads (Err e) known read_count → SessionOnDevices (end_of the.Problem e) extra known read_count commands count before before
 SessionOnDevices-problem e extra None read_count commands count before is = tt
 SessionOnDevices-problem e extra (Some text) read_count None count before is = tt
 SessionOnDevices-problem e extra (Some text) read_count (Some commands) count None is = tt
 SessionOnDevices-problem e extra (Some text) read_count (Some commands) count (Some held) is =
     ([], ap (λ l. Some l) (sym (append-nil held)), problem_end e extra text (take read_count text) commands (take count commands) is)
+
+memory_end : (extra : ℕ) (known : Option (List ℕ)) (read_count : ℕ) (commands : Option (List ℕ)) (count : ℕ) (before : Option (List ℕ))
+    → SessionOnDevices Memory extra known read_count commands count before before
+memory_end extra None read_count commands count before = tt
+memory_end extra (Some text) read_count None count before = tt
+memory_end extra (Some text) read_count (Some commands) count None = tt
+memory_end extra (Some text) read_count (Some commands) count (Some held) = ([], ap (λ l. Some l) (sym (append-nil held)), refl)
+
+-- no session was opened
+pub SessionOnDevices-unopened : (end : End) (extra : ℕ) (known : Option (List ℕ)) (read_count : ℕ) (commands : Option (List ℕ)) (count : ℕ) (before : Option (List ℕ))
+    → IsNotOpened known read_count end → SessionOnDevices end extra known read_count commands count before before
+SessionOnDevices-unopened end extra known read_count commands count before (inl ends) =
+    rw ends.1 (SessionOnDevices-problem ends.0 extra known read_count commands count before ends.2)
+SessionOnDevices-unopened end extra known read_count commands count before (inr memory) = rw memory (memory_end extra known read_count commands count before)
 
 problem_text : (text given : List ℕ) (problem : ProblemValue) → ReadsWhole (decided problem_rule) reads (Ok problem) text given → IsProblemText text given problem
 problem_text text given problem read = record { whole = read.0; problem_is = read.1 }

@@ -1,5 +1,5 @@
 -- What a whole run of `solve` has written, by where it ends.
-use Rattle.std.proofs.Common.{◌≡◌, ℕ, ◌+◌, arith, Bool, List, [], take, Option, None, Some, Ok, Err, refl, sym, ap, append-nil}
+use Rattle.std.proofs.Common.{◌≡◌, ℕ, ◌+◌, arith, Bool, List, [], take, Option, None, Some, Ok, Err, inl, inr, refl, sym, ap, append-nil}
 use Rattle.std.specs.Io.KnownBytes.{Appends}
 use Rattle.dimacs_io.specs.Device.{AppendsBeginning}
 use Rattle.dimacs_lines.specs.declared.fault.TextFault.TheVariants as text_fault
@@ -10,12 +10,14 @@ use Rattle.flow_solver.specs.declared.verdict.Verdict.{Verdict}
 use Rattle.flow_solver.specs.declared.verdict.Verdict.TheVariants as verdict
 use Rattle.flow_solver.specs.Moment.{Moment}
 use Rattle.checker.specs.declared.end.Text.TheVariants as the
-use Rattle.checker.specs.declared.end.End.TheVariants.{WriteFailed}
+use Rattle.checker.specs.declared.end.End.{End}
+use Rattle.checker.specs.declared.end.End.TheVariants.{Memory, WriteFailed}
 use Rattle.checker.specs.declared.read.ReadError.{ReadError}
 use Rattle.checker.specs.declared.read.ReadError.TheVariants as read_error
 use Rattle.checker.specs.Check.{write_failures}
 use Rattle.checker.specs.Reading.{ReadsKnown, ReadsWhole, end_of}
 use Rattle.engines.specs.Printing.{solution}
+use Rattle.engines.specs.Opening.{IsNotOpened}
 use Rattle.engines.specs.Solve.{IsSettled, Solves, Prints, SolveWrites, SolveOnDevices, end_by}
 use Rattle.engines.proofs.PrintingLemmas.{appended}
 
@@ -25,11 +27,22 @@ problem_end (read_error.Text text_fault.Memory) proof text given is = refl
 problem_end (read_error.Text (text_fault.Fault number line)) proof text given is = (is, refl)
 problem_end read_error.Source proof text given is = (is, refl)
 
-pub SolveOnDevices-problem : (e : ReadError) (proof : Bool) (known : Option (List ℕ)) (count : ℕ) (before : Option (List ℕ)) → ReadsKnown (decided problem_rule) reads (Err e) known count
+SolveOnDevices-problem : (e : ReadError) (proof : Bool) (known : Option (List ℕ)) (count : ℕ) (before : Option (List ℕ)) → ReadsKnown (decided problem_rule) reads (Err e) known count
     → SolveOnDevices (end_of the.Problem e) proof known count before before
 SolveOnDevices-problem e proof None count before is = tt
 SolveOnDevices-problem e proof (Some text) count None is = tt
 SolveOnDevices-problem e proof (Some text) count (Some held) is = ([], ap (λ l. Some l) (sym (append-nil held)), problem_end e proof text (take count text) is)
+
+memory_end : (proof : Bool) (known : Option (List ℕ)) (count : ℕ) (before : Option (List ℕ)) → SolveOnDevices Memory proof known count before before
+memory_end proof None count before = tt
+memory_end proof (Some text) count None = tt
+memory_end proof (Some text) count (Some held) = ([], ap (λ l. Some l) (sym (append-nil held)), refl)
+
+-- no session was opened
+pub SolveOnDevices-unopened : (end : End) (proof : Bool) (known : Option (List ℕ)) (count : ℕ) (before : Option (List ℕ)) → IsNotOpened known count end
+    → SolveOnDevices end proof known count before before
+SolveOnDevices-unopened end proof known count before (inl ends) = rw ends.1 (SolveOnDevices-problem ends.0 proof known count before ends.2)
+SolveOnDevices-unopened end proof known count before (inr memory) = rw memory (memory_end proof known count before)
 
 solves : (problem : ProblemValue) (m : Moment) (text given : List ℕ) → ReadsWhole (decided problem_rule) reads (Ok problem) text given → IsSettled (first problem 0) m → Solves text given m
 solves problem m text given read settled = record {

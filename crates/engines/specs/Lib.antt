@@ -1,5 +1,6 @@
 pub mod Printing
 pub mod Solve
+pub mod Opening
 pub mod Run
 pub mod Session
 pub mod Serving

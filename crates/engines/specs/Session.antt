@@ -5,7 +5,6 @@ use Rattle.dimacs_lines.specs.declared.fault.TextFault.TheVariants.{Fault}
 use Rattle.dimacs_lines.specs.Lines.{Line, parts_of, lines_of}
 use Rattle.dimacs_lines.specs.Stream.{decided}
 use Rattle.dimacs_text.specs.Reading.{ProblemValue, problem_rule, reads}
-use Rattle.network.specs.Instance.{first}
 use Rattle.session.specs.Step.{SessionState}
 use Rattle.checker.specs.declared.end.Text.TheVariants as the
 use Rattle.checker.specs.declared.end.End.{End}
@@ -13,14 +12,7 @@ use Rattle.checker.specs.declared.end.End.TheVariants.{Solved, Infeasible, Ended
 use Rattle.checker.specs.Check.{IsProblemText}
 use Rattle.engines.specs.Printing.{outcome_line}
 use Rattle.engines.specs.Run.{Answers}
-use Rattle.engines.specs.Solve.{IsSettled}
-
--- a session on a problem, with room for so many arcs more, begins with an answer to it, with nothing to undo or redo, and without marks
-pub record Opens (problem : ProblemValue) (extra : ℕ) (opening : SessionState) : Type 0 where
-  pub past : opening.moments.past ≡ []
-  pub settled : IsSettled (first problem extra) opening.moments.present
-  pub future : opening.moments.future ≡ []
-  pub marks : opening.marks ≡ []
+use Rattle.engines.specs.Opening.{Opens}
 
 -- the printing of a run over these lines: what is told of the opening, and the replies
 pub record PrintsRun (problem : ProblemValue) (extra : ℕ) (lines : List Line) (written : List ℕ) : Type 0 where

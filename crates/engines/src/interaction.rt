@@ -8,9 +8,10 @@ ghost use Rattle.checker.specs.Reading.{Gives};
 ghost use Rattle.engines.specs.Serving.{CommandsEnd, CommandsFail, Finishes, GoesOn, Stands};
 ghost use Rattle.engines.specs.Session.{SessionOnDevices, command_failures};
 
+use crate::opening::open_text;
 use crate::reply::serve_line;
 use crate::solution::write_outcome;
-use checker::{End, Text, read_problem};
+use checker::{End, Text};
 use dimacs_io::{Broken, Sink, Source};
 use dimacs_lines::ended_lines_stay;
 use dimacs_text::{Group, LineCutter};
@@ -75,17 +76,21 @@ pub fn run_session_in<A: Allocator + Copy, P: Source, C: Source, O: Sink>(
     ensures script_failed { C.failures script.new ≡ C.failures script.old + command_failures result }
     ensures out_failed { O.failures out.new ≡ O.failures out.old + write_failures result }
 {
-    let problem = match read_problem(alloc, problem) {
-        Ok(problem) => problem,
-        Err(error) => return error.end(Text::Problem),
-    };
-    let mut session = match Session::open_in(alloc, steps, &problem, extra) {
+    let mut session = match open_text(alloc, steps, problem, extra) {
         Ok(session) => session,
-        Err(_) => return End::Memory,
+        Err(end) => return end,
     };
     match tell_opening(&session, out) {
-        Ok(()) => serve_commands(&mut session, script, out),
-        Err(_) => End::WriteFailed,
+        Ok(()) => {
+            let end = serve_commands(&mut session, script, out);
+            // By a call, whose steps are proved once. At the end of a block they are proved again for each of its exits.
+            drop(session);
+            end
+        }
+        Err(_) => {
+            drop(session);
+            End::WriteFailed
+        }
     }
 }
 

@@ -2,6 +2,7 @@
 #![tactic(auto)]
 
 mod interaction;
+mod opening;
 mod reply;
 mod solution;
 mod solving;

@@ -5,8 +5,9 @@ ghost use Rattle.checker.specs.Check.{problem_failures, write_failures};
 ghost use Rattle.engines.specs.Printing.{solution};
 ghost use Rattle.engines.specs.Solve.{SolveOnDevices, end_by};
 
+use crate::opening::open_text;
 use crate::solution::write_solution;
-use checker::{End, Text, read_problem};
+use checker::End;
 use dimacs_io::{Broken, Sink, Source};
 use flow_solver::Verdict;
 use session::Session;
@@ -29,17 +30,21 @@ pub fn solve<P: Source, O: Sink>(alloc: Global, input: &mut P, out: &mut O, proo
     ensures input_failed { P.failures input.new ≡ P.failures input.old + problem_failures result }
     ensures out_failed { O.failures out.new ≡ O.failures out.old + write_failures result }
 {
-    let problem = match read_problem(alloc, input) {
-        Ok(problem) => problem,
-        Err(error) => return error.end(Text::Problem),
-    };
-    let session = match Session::open(alloc, &problem, 0) {
+    let session = match open_text(alloc, alloc, input, 0) {
         Ok(session) => session,
-        Err(_) => return End::Memory,
+        Err(end) => return end,
     };
     match tell_solution(&session, proof, out) {
-        Ok(()) => end_by(session.verdict()),
-        Err(_) => End::WriteFailed,
+        Ok(()) => {
+            let end = end_by(session.verdict());
+            // By a call, whose steps are proved once. At the end of a block they are proved again for each of its exits.
+            drop(session);
+            end
+        }
+        Err(_) => {
+            drop(session);
+            End::WriteFailed
+        }
     }
 }
 

@@ -1,5 +1,5 @@
 use Rattle.std.proofs.Common.{Ok, Err, ap, length, rules}
-use Rattle.checker.proofs.CheckLemmas.{AreJudged, CheckOnDevices-problem, CheckOnDevices-answer, CheckOnDevices-stopped, CheckOnDevices-judged, ReadsKnown-sized}
+use Rattle.checker.proofs.CheckLemmas.{AreJudged, CheckOnDevices-problem, CheckOnDevices-answer, CheckOnDevices-stopped, ReadsKnown-sized}
 use Rattle.checker.proofs.checking.check.Goals as goal
 
 pub returns-in-Err-clause-check : goal.returns-in-Err-clause-check
@@ -16,3 +16,9 @@ returns-clause-check g c =
     let judged : AreJudged c.in-Ok-is_right.right _ _ _ _ =
     record { problem = c.in-Ok.problem; problem_read = c.in-Ok.ensures.known; answer = c.in-Ok-read_answer.answer; answer_read = sized; exact = c.in-Ok-is_right.ensures.exact } in
     CheckOnDevices-stopped c.in-Ok-is_right.right _ _ _ _ _ _ judged c.in-Err-write_verdict.ensures.bytes
+
+pub returns-in-Err-is_right-clause-check : goal.returns-in-Err-is_right-clause-check
+returns-in-Err-is_right-clause-check g c = search rules
+
+pub returns-in-Err-is_right-clause-out_failed : goal.returns-in-Err-is_right-clause-out_failed
+returns-in-Err-is_right-clause-out_failed g c = search rules

@@ -9,3 +9,12 @@ returns-clause-cap c = search rules
 
 pub returns-clause-group : goal.returns-clause-group
 returns-clause-group c = search rules
+
+pub returns-clause-cost : goal.returns-clause-cost
+returns-clause-cost c = search rules
+
+pub returns-clause-nodes : goal.returns-clause-nodes
+returns-clause-nodes c = search rules
+
+pub returns-clause-supply : goal.returns-clause-supply
+returns-clause-supply c = search rules

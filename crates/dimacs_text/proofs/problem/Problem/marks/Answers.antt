@@ -1,0 +1,5 @@
+use Rattle.std.proofs.Common.{rules}
+use Rattle.dimacs_text.proofs.problem.Problem.marks.Goals as goal
+
+pub returns : goal.returns
+returns c = search rules

@@ -1,0 +1,31 @@
+-- What a run that ends without a session has counted.
+use Rattle.std.proofs.Common.{◌≡◌, ℕ, ◌+◌, arith, List, Option, inl, inr, refl}
+use Rattle.dimacs_lines.specs.declared.fault.TextFault.TheVariants as text_fault
+use Rattle.checker.specs.declared.end.Text.TheVariants as the
+use Rattle.checker.specs.declared.end.End.{End}
+use Rattle.checker.specs.declared.read.ReadError.{ReadError}
+use Rattle.checker.specs.declared.read.ReadError.TheVariants as read_error
+use Rattle.checker.specs.Check.{write_failures}
+use Rattle.checker.specs.Reading.{end_of}
+use Rattle.engines.specs.Opening.{IsNotOpened}
+use Rattle.engines.specs.Session.{command_failures}
+
+unread_writes : (e : ReadError) → write_failures (end_of the.Problem e) ≡ 0
+unread_writes (read_error.Text text_fault.Memory) = refl
+unread_writes (read_error.Text (text_fault.Fault number line)) = refl
+unread_writes read_error.Source = refl
+
+unread_commands : (e : ReadError) → command_failures (end_of the.Problem e) ≡ 0
+unread_commands (read_error.Text text_fault.Memory) = refl
+unread_commands (read_error.Text (text_fault.Fault number line)) = refl
+unread_commands read_error.Source = refl
+
+-- nothing was written that could have failed
+pub unopened_writes : (known : Option (List ℕ)) (count : ℕ) (end : End) (failures : ℕ) → IsNotOpened known count end → failures ≡ failures + write_failures end
+unopened_writes known count end failures (inl ends) = rw ends.1 (omega (arith, unread_writes ends.0))
+unopened_writes known count end failures (inr memory) = rw memory (omega arith)
+
+-- no command was read
+pub unopened_commands : (known : Option (List ℕ)) (count : ℕ) (end : End) (failures : ℕ) → IsNotOpened known count end → failures ≡ failures + command_failures end
+unopened_commands known count end failures (inl ends) = rw ends.1 (omega (arith, unread_commands ends.0))
+unopened_commands known count end failures (inr memory) = rw memory (omega arith)

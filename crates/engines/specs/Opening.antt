@@ -1,0 +1,30 @@
+-- How a run opens its session.
+use Rattle.std.specs.Prelude.{◌≡◌, ℕ, List, [], ◌⊎◌, Option, Ok, Err}
+use Rattle.dimacs_lines.specs.Stream.{decided}
+use Rattle.dimacs_text.specs.Reading.{ProblemValue, problem_rule, reads}
+use Rattle.network.specs.Instance.{first}
+use Rattle.session.specs.Step.{SessionState}
+use Rattle.checker.specs.declared.end.Text.TheVariants as the
+use Rattle.checker.specs.declared.end.End.{End}
+use Rattle.checker.specs.declared.end.End.TheVariants.{Memory}
+use Rattle.checker.specs.declared.read.ReadError.{ReadError}
+use Rattle.checker.specs.Reading.{ReadsKnown, end_of}
+use Rattle.engines.specs.Solve.{IsSettled}
+
+-- a session on a problem, with room for so many arcs more, begins with an answer to it, with nothing to undo or redo, and without marks
+pub record Opens (problem : ProblemValue) (extra : ℕ) (opening : SessionState) : Type 0 where
+  pub past : opening.moments.past ≡ []
+  pub settled : IsSettled (first problem extra) opening.moments.present
+  pub future : opening.moments.future ≡ []
+  pub marks : opening.marks ≡ []
+
+-- a problem was read, and a session on it begins
+pub record IsOpened (known : Option (List ℕ)) (count extra : ℕ) (opening : SessionState) : Type 0 where
+  pub problem : ProblemValue
+  pub problem_read : ReadsKnown (decided problem_rule) reads (Ok problem) known count
+  pub opens : Opens problem extra opening
+
+-- the run ends without a session: no problem was read, or memory was refused
+abbrev pub IsNotOpened : Option (List ℕ) → ℕ → End → Type 0
+IsNotOpened known count end =
+    ((error : ReadError) × (end ≡ end_of the.Problem error) × ReadsKnown (decided problem_rule) reads (Err error) known count) ⊎ (end ≡ Memory)
