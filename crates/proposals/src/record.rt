@@ -1,0 +1,58 @@
+//! What a search knows of a node.
+
+ghost use Rattle.std.specs.Prelude.{pos, ◌≤ℤ◌};
+ghost use Rattle.proposals.specs.Keys.{key_limit};
+
+/// How far a search or a walk has come with a node.
+#[derive(Clone, Copy, PartialEq, Eq)]
+pub enum State {
+    /// No path to it is known.
+    New,
+    /// It waits with the best path so far.
+    Open,
+    /// Its shortest path is known.
+    Done,
+    /// It is on the walk.
+    Walked,
+    /// No walk gets on from it.
+    Dead,
+}
+
+/// What a search and the walks after it know of a node.
+#[derive(Clone, Copy)]
+pub struct Record {
+    /// The length of the best path so far.
+    pub key: i64,
+    /// The number of arcs of that path; later the level of the node.
+    pub depth: u32,
+    /// The place, at this node, of the last arc of that path.
+    pub parent: u32,
+    /// How many of the node's ends walks have done with.
+    pub current: u32,
+    pub state: State,
+    /// How often it got a new level.
+    pub renewed: u8,
+    /// A search found it out of reach of all nodes on the other side.
+    pub gone: bool,
+    ghost key_low: { pos 0 ≤ℤ key },
+    ghost key_high: { key ≤ℤ pos key_limit },
+}
+
+/// The length of no path.
+pub const FAR: i64 = 4_000_000_000_000_000_000;
+
+/// The place of no arc.
+pub const NO_PLACE: u32 = u32::MAX;
+
+impl Record {
+    /// What is known of a node at first.
+    pub const NEW: Record = Record {
+        key: FAR,
+        depth: 0,
+        parent: NO_PLACE,
+        current: 0,
+        state: State::New,
+        renewed: 0,
+        gone: false,
+    };
+}

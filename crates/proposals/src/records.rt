@@ -1,0 +1,174 @@
+//! What a search knows of each node.
+
+ghost use Rattle.std.specs.Prelude.{◌≡◌, ◌<◌, ℕ, IfOk, length, pos, ◌≤ℤ◌};
+ghost use Rattle.proposals.specs.Keys.{key_limit};
+
+use crate::record::{FAR, NO_PLACE, Record, State};
+use std::alloc::{AllocError, Global};
+use std::marker::Model;
+
+/// A record of each node. It is seen as the number of entries that a table of nodes has.
+#[derive(Drop)]
+pub struct Records {
+    table: Vec<Record>,
+}
+
+impl Model for Records {
+    ghost use Rattle.std.specs.Prelude.{ℕ, length};
+
+    ghost Value = { ℕ };
+
+    ghost view = { λ r. length r.table.items };
+}
+
+impl Records {
+    /// Records of nodes of which nothing is known.
+    ///
+    /// # Errors
+    /// Memory for the table was refused.
+    pub fn new(alloc: Global, entries: usize) -> Result<Records, AllocError>
+        ensures { IfOk result (λ r. r ≡ entries) }
+    {
+        let table = vec![in alloc; Record::NEW; entries]?;
+        Ok(Records { table })
+    }
+
+    /// How many records there are.
+    #[inline(always)]
+    pub fn entries(&self) -> usize
+        ensures { result ≡ self.now }
+    {
+        self.table.len()
+    }
+
+    /// The record of a node.
+    #[inline(always)]
+    pub fn get(&self, v: usize) -> Record
+        requires { v < self.now }
+    {
+        self.table[v]
+    }
+
+    #[inline(always)]
+    pub fn state(&self, v: usize) -> State
+        requires { v < self.now }
+    {
+        self.table[v].state
+    }
+
+    #[inline(always)]
+    pub fn key(&self, v: usize) -> i64
+        requires { v < self.now }
+        ensures low { pos 0 ≤ℤ result }
+        ensures high { result ≤ℤ pos key_limit }
+    {
+        let record = self.table[v];
+        record.key
+    }
+
+    /// Whether the shortest path to a node is not known yet.
+    #[inline(always)]
+    pub fn waits(&self, v: usize) -> bool
+        requires { v < self.now }
+    {
+        self.table[v].state == State::New || self.table[v].state == State::Open
+    }
+
+    #[inline(always)]
+    pub fn depth(&self, v: usize) -> u32
+        requires { v < self.now }
+    {
+        self.table[v].depth
+    }
+
+    #[inline(always)]
+    pub fn is_gone(&self, v: usize) -> bool
+        requires { v < self.now }
+    {
+        self.table[v].gone
+    }
+
+    /// Writes down a path to a node.
+    #[inline(always)]
+    pub fn open(&mut self, v: usize, key: i64, depth: u32, parent: u32)
+        requires node { v < self.old }
+        requires low { pos 0 ≤ℤ key }
+        requires high { key ≤ℤ pos key_limit }
+        ensures { self.new ≡ self.old }
+    {
+        self.table[v].key = key;
+        self.table[v].depth = depth;
+        self.table[v].parent = parent;
+        self.table[v].state = State::Open;
+    }
+
+    /// Forgets the path to a node.
+    pub fn forget(&mut self, v: usize)
+        requires { v < self.old }
+        ensures { self.new ≡ self.old }
+    {
+        self.table[v].key = FAR;
+        self.table[v].state = State::New;
+    }
+
+    #[inline(always)]
+    pub fn set_state(&mut self, v: usize, state: State)
+        requires { v < self.old }
+        ensures { self.new ≡ self.old }
+    {
+        self.table[v].state = state;
+    }
+
+    /// Lets walks begin anew at a node.
+    pub fn begin_walks(&mut self, v: usize)
+        requires { v < self.old }
+        ensures { self.new ≡ self.old }
+    {
+        self.table[v].current = 0;
+        self.table[v].renewed = 0;
+    }
+
+    /// Walks do not use the search's own arc to a node any more.
+    #[inline(always)]
+    pub fn drop_parent(&mut self, v: usize)
+        requires { v < self.old }
+        ensures { self.new ≡ self.old }
+    {
+        self.table[v].parent = NO_PLACE;
+    }
+
+    #[inline(always)]
+    pub fn set_current(&mut self, v: usize, current: u32)
+        requires { v < self.old }
+        ensures { self.new ≡ self.old }
+    {
+        self.table[v].current = current;
+    }
+
+    /// Gives a node a new level.
+    pub fn renew(&mut self, v: usize, depth: u32)
+        requires { v < self.old }
+        ensures { self.new ≡ self.old }
+    {
+        self.table[v].depth = depth;
+        self.table[v].parent = NO_PLACE;
+        self.table[v].current = 0;
+        self.table[v].renewed = self.table[v].renewed.saturating_add(1);
+    }
+
+    /// Leaves a node out of all searches.
+    pub fn leave_out(&mut self, v: usize)
+        requires { v < self.old }
+        ensures { self.new ≡ self.old }
+    {
+        self.table[v].gone = true;
+    }
+
+    /// Takes a node into searches again.
+    pub fn call_back(&mut self, v: usize)
+        requires { v < self.old }
+        ensures { self.new ≡ self.old }
+    {
+        self.table[v].gone = false;
+    }
+}

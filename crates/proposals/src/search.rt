@@ -1,0 +1,415 @@
+//! A search for shortest paths from all nodes in excess, as a side sees it.
+
+ghost use Rattle.std.specs.Prelude.{◌≡◌, ◌<◌, ◌≤◌, ◌^◌, ℕ, IfOk, IfSome, length, pos, ◌≤ℤ◌};
+ghost use Rattle.relaxation.specs.Limits.{IsWithin, rest_limit};
+ghost use Rattle.proposals.specs.Keys.{key_limit};
+
+use crate::heap::Heap;
+use crate::record::{NO_PLACE, Record, State};
+use crate::records::Records;
+use relaxation::{Link, Nodes, Places, Proposal};
+use std::alloc::{AllocError, Global};
+use std::marker::Model;
+
+/// What was done.
+#[derive(Clone, Copy, Debug, PartialEq, Eq)]
+pub struct Counts {
+    /// Searches.
+    pub rounds: u64,
+    /// Nodes that searches settled.
+    pub settled: u64,
+    /// Pushes along walks.
+    pub pushes: u64,
+}
+
+impl Counts {
+    const NONE: Counts = Counts {
+        rounds: 0,
+        settled: 0,
+        pushes: 0,
+    };
+}
+
+/// A search, and the walks after it. It is seen as the number of entries that a table of nodes has.
+#[derive(Drop)]
+pub struct Search {
+    pub(crate) records: Records,
+    heap: Heap,
+    /// Nodes whose key is that of the node taken out of the heap last.
+    queue: Nodes,
+    /// The nodes that are settled, in order.
+    pub(crate) settled: Nodes,
+    /// The nodes to which a path was found.
+    touched: Nodes,
+    /// The places of the walk's arcs, each at the node that the walk came from.
+    pub(crate) walk: Places,
+    /// What lay at each node at the start.
+    pub(crate) home: Vec<i64>,
+    /// What is kept apart at each node while leftovers go home.
+    pub(crate) apart: Vec<i64>,
+    /// The key of the node taken out of the heap last.
+    last: i64,
+    pub(crate) counts: Counts,
+}
+
+impl Model for Search {
+    ghost use Rattle.std.specs.Prelude.{ℕ, ◌≡◌, ◌<◌, ◌^◌, length};
+
+    ghost Value = { ℕ };
+
+    ghost view = { λ s. s.records };
+
+    ghost invariant = { λ s. (s.records < 2 ^ 31)
+        × (s.heap ≡ s.records)
+        × (s.queue ≡ s.records)
+        × (s.settled ≡ s.records)
+        × (s.touched ≡ s.records)
+        × (length s.home.items ≡ s.records)
+        × (length s.apart.items ≡ s.records) };
+}
+
+impl Search {
+    /// A search of which nothing is begun.
+    ///
+    /// # Errors
+    /// Memory for a table was refused.
+    pub fn new(alloc: Global, entries: usize) -> Result<Search, AllocError>
+        requires { entries < 2 ^ 31 }
+        ensures { IfOk result (λ s. s ≡ entries) }
+    {
+        let records = Records::new(alloc, entries)?;
+        let heap = Heap::new(alloc, entries)?;
+        let queue = Nodes::new(alloc, entries)?;
+        let settled = Nodes::new(alloc, entries)?;
+        let touched = Nodes::new(alloc, entries)?;
+        let walk = Places::new(alloc, entries)?;
+        let home = vec![in alloc; 0; entries]?;
+        let apart = vec![in alloc; 0; entries]?;
+        Ok(Search {
+            records,
+            heap,
+            queue,
+            settled,
+            touched,
+            walk,
+            home,
+            apart,
+            last: 0,
+            counts: Counts::NONE,
+        })
+    }
+
+    /// What was done since the last start.
+    pub fn counts(&self) -> Counts {
+        self.counts
+    }
+
+    /// Counts from 0 again.
+    pub fn forget_counts(&mut self)
+        ensures { self.new ≡ self.old }
+    {
+        self.counts = Counts::NONE;
+    }
+
+    /// Takes all nodes into searches again.
+    pub fn start(&mut self)
+        ensures { self.new ≡ self.old }
+    {
+        call_back_all(&mut self.records);
+    }
+
+    /// Looks for paths from the nodes in excess until so many nodes in deficit are reached, or none is left to be settled;
+    /// then those that were not reached are left out of further searches. Gives the greatest length where one was reached.
+    pub fn search<const AHEAD: bool>(&mut self, proposal: &Proposal, most: usize) -> Option<i64>
+        requires { proposal.now ≡ self.old }
+        ensures { self.new ≡ self.old }
+    {
+        self.counts.rounds = self.counts.rounds.saturating_add(1);
+        let goals = self.begin::<AHEAD>(proposal).min(most);
+        if goals == 0 {
+            return None;
+        }
+        let mut got: usize = 0;
+        for _ in 0..=2 * self.entries() {
+            let Some(u) = self.next() else {
+                break;
+            };
+            if !self.waits(u) {
+                continue;
+            }
+            self.settle(u);
+            if proposal.excess::<AHEAD>(u) < 0 && !self.is_gone(u) {
+                got = got.saturating_add(1);
+                if got >= goals {
+                    return Some(self.last);
+                }
+            }
+            self.look_on::<AHEAD>(proposal, u);
+        }
+        self.leave_out::<AHEAD>(proposal);
+        if got > 0 { Some(self.last) } else { None }
+    }
+
+    /// Begins at all nodes in excess, and gives the number of nodes in deficit; none where no node is in excess.
+    fn begin<const AHEAD: bool>(&mut self, proposal: &Proposal) -> usize
+        requires { proposal.now ≡ self.old }
+        ensures { self.new ≡ self.old }
+    {
+        self.forget();
+        let mut goals: usize = 0;
+        let mut some = false;
+        for v in 0..self.entries() {
+            let excess = proposal.excess::<AHEAD>(v);
+            if excess == 0 || self.is_gone(v) {
+                continue;
+            }
+            if excess > 0 {
+                self.begin_at(v);
+                some = true;
+            } else {
+                goals = goals.saturating_add(1);
+            }
+        }
+        if some { goals } else { 0 }
+    }
+
+    /// Begins at a node.
+    fn begin_at(&mut self, v: usize)
+        requires { v < self.old }
+        ensures { self.new ≡ self.old }
+    {
+        self.records.open(v, 0, 0, NO_PLACE);
+        self.touched.add(v);
+        self.queue.add(v);
+    }
+
+    /// The number of entries of a table of nodes.
+    pub fn entries(&self) -> usize
+        ensures { result ≡ self.now }
+    {
+        self.records.entries()
+    }
+
+    #[inline(always)]
+    fn is_gone(&self, v: usize) -> bool
+        requires { v < self.now }
+    {
+        self.records.is_gone(v)
+    }
+
+    /// Whether the shortest path to a node is not known yet.
+    #[inline(always)]
+    fn waits(&self, v: usize) -> bool
+        requires { v < self.now }
+    {
+        self.records.waits(v)
+    }
+
+    #[inline(always)]
+    fn key(&self, v: usize) -> i64
+        requires { v < self.now }
+        ensures low { pos 0 ≤ℤ result }
+        ensures high { result ≤ℤ pos key_limit }
+    {
+        self.records.key(v)
+    }
+
+    #[inline(always)]
+    fn depth(&self, v: usize) -> u32
+        requires { v < self.now }
+    {
+        self.records.depth(v)
+    }
+
+    /// Forgets the search before.
+    fn forget(&mut self)
+        ensures { self.new ≡ self.old }
+    {
+        forget_all(&mut self.records, &self.touched);
+        self.touched.clear();
+        self.settled.clear();
+        self.queue.clear();
+        self.heap.clear();
+        self.last = 0;
+    }
+
+    /// Takes the node that comes next, which may be settled already.
+    #[inline(always)]
+    fn next(&mut self) -> Option<usize>
+        ensures kept { self.new ≡ self.old }
+        ensures node { IfSome result (λ v. v < self.old) }
+    {
+        if let Some(u) = self.queue.take() {
+            return Some(u);
+        }
+        let u = self.heap.take()?;
+        if self.records.state(u) == State::Open {
+            self.last = self.records.key(u);
+            self.queue.clear();
+        }
+        Some(u)
+    }
+
+    /// Writes down that the shortest path to a node is known.
+    #[inline(always)]
+    fn settle(&mut self, u: usize)
+        requires { u < self.old }
+        ensures { self.new ≡ self.old }
+    {
+        self.records.set_state(u, State::Done);
+        self.settled.add(u);
+        self.counts.settled = self.counts.settled.saturating_add(1);
+    }
+
+    /// Looks at the residual arcs that lead on from a node.
+    #[inline(always)]
+    fn look_on<const AHEAD: bool>(&mut self, proposal: &Proposal, u: usize)
+        requires proposal { proposal.now ≡ self.old }
+        requires node { u < self.old }
+        ensures { self.new ≡ self.old }
+    {
+        let key = self.key(u);
+        let depth = self.depth(u).saturating_add(1);
+        let potential = proposal.potential(u);
+        for link in proposal.ends_at(u).links {
+            if link.room::<AHEAD>() > 0 && self.waits(link.other as usize) {
+                let reduced_cost = proposal.reduced_cost::<AHEAD>(potential, link);
+                self.note(link, length_on(key, reduced_cost), depth);
+            }
+        }
+    }
+
+    /// Writes down a path that ends with this arc, if it is the best so far.
+    #[inline(always)]
+    fn note(&mut self, link: &Link, key: i64, depth: u32)
+        requires node { link.now.other < self.old }
+        requires low { pos 0 ≤ℤ key }
+        ensures { self.new ≡ self.old }
+    {
+        let v = link.other as usize;
+        let record = self.record(v);
+        if key >= record.key {
+            return;
+        }
+        self.write_path(v, key, depth, link.opposite);
+        if record.state != State::Open {
+            self.touch(v);
+            if key != self.last {
+                self.wait(v, key);
+                return;
+            }
+        } else if key != self.last {
+            self.wait_less(v, key);
+            return;
+        }
+        self.wait_no_more(v);
+    }
+
+    #[inline(always)]
+    fn record(&self, v: usize) -> Record
+        requires { v < self.now }
+    {
+        self.records.get(v)
+    }
+
+    /// Writes down a path to a node.
+    #[inline(always)]
+    fn write_path(&mut self, v: usize, key: i64, depth: u32, parent: u32)
+        requires node { v < self.old }
+        requires low { pos 0 ≤ℤ key }
+        requires high { key ≤ℤ pos key_limit }
+        ensures { self.new ≡ self.old }
+    {
+        self.records.open(v, key, depth, parent);
+    }
+
+    /// Lists a node as one to which a path was found.
+    #[inline(always)]
+    fn touch(&mut self, v: usize)
+        requires { v < self.old }
+        ensures { self.new ≡ self.old }
+    {
+        self.touched.add(v);
+    }
+
+    /// Puts a node into the heap.
+    #[inline(always)]
+    fn wait(&mut self, v: usize, key: i64)
+        requires { v < self.old }
+        ensures { self.new ≡ self.old }
+    {
+        self.heap.add(v, key);
+    }
+
+    /// Gives a node in the heap a lower key.
+    #[inline(always)]
+    fn wait_less(&mut self, v: usize, key: i64)
+        requires { v < self.old }
+        ensures { self.new ≡ self.old }
+    {
+        self.heap.lower(v, key);
+    }
+
+    /// Puts a node into the queue.
+    #[inline(always)]
+    fn wait_no_more(&mut self, v: usize)
+        requires { v < self.old }
+        ensures { self.new ≡ self.old }
+    {
+        self.queue.add(v);
+    }
+
+    /// Leaves out of further searches the nodes in deficit that were not settled.
+    fn leave_out<const AHEAD: bool>(&mut self, proposal: &Proposal)
+        requires { proposal.now ≡ self.old }
+        ensures { self.new ≡ self.old }
+    {
+        leave_out_all::<AHEAD>(&mut self.records, proposal);
+    }
+}
+
+/// The length of a path that goes on over an arc of this reduced cost: one below 0 counts as 0.
+#[inline(always)]
+fn length_on(key: i64, reduced_cost: i64) -> i64
+    requires low { pos 0 ≤ℤ key }
+    requires high { key ≤ℤ pos key_limit }
+    requires reduced { IsWithin rest_limit reduced_cost }
+    ensures { pos 0 ≤ℤ result }
+{
+    if reduced_cost > 0 {
+        key + reduced_cost
+    } else {
+        key
+    }
+}
+
+/// Forgets the paths to these nodes.
+fn forget_all(records: &mut Records, touched: &Nodes)
+    requires { touched.now ≡ records.old }
+    ensures { records.new ≡ records.old }
+{
+    for v in touched.listed() {
+        records.forget(*v as usize);
+    }
+}
+
+/// Takes all nodes into searches again.
+fn call_back_all(records: &mut Records)
+    ensures { records.new ≡ records.old }
+{
+    for v in 0..records.entries() {
+        records.call_back(v);
+    }
+}
+
+/// Leaves out of further searches the nodes in deficit that were not settled.
+fn leave_out_all<const AHEAD: bool>(records: &mut Records, proposal: &Proposal)
+    requires { proposal.now ≡ records.old }
+    ensures { records.new ≡ records.old }
+{
+    for v in 0..records.entries() {
+        if proposal.excess::<AHEAD>(v) < 0 && records.state(v) != State::Done {
+            records.leave_out(v);
+        }
+    }
+}

@@ -1,0 +1,161 @@
+//! The tables in which proposals are made.
+
+ghost use Rattle.std.specs.Prelude.{◌≡◌, ◌<◌, ◌^◌, ◌*◌, IfOk, length};
+
+use crate::search::Search;
+use crate::solving::{Fuel, solve, take_turns};
+use crate::wanted::Wanted;
+use dimacs_text::ArcRow;
+use relaxation::{Limits, Proposal, Ring, Sets};
+use std::alloc::{AllocError, Global};
+use std::marker::Model;
+
+/// With more nodes out of balance than these a proposal pays; fewer pushes are quicker than one look at all arcs.
+const FEW: usize = 32;
+
+/// What a proposal is to reach.
+#[derive(Clone, Copy, PartialEq, Eq)]
+pub enum Aim {
+    /// A flow of least cost.
+    LeastCost,
+    /// A greatest flow: the first arc is the return arc.
+    GreatestFlow,
+}
+
+/// A proposal, and what the methods write in that lead it on. It is seen as the number of entries that a table of nodes
+/// has.
+#[derive(Drop)]
+pub struct Proposals {
+    proposal: Proposal,
+    ring: Ring,
+    sets: Sets,
+    search: Search,
+    /// Nothing was proposed yet.
+    fresh: bool,
+}
+
+impl Model for Proposals {
+    ghost use Rattle.std.specs.Prelude.{ℕ, ◌≡◌, ◌<◌, ◌^◌};
+
+    ghost Value = { ℕ };
+
+    ghost view = { λ p. p.proposal };
+
+    ghost invariant = { λ p. (p.ring ≡ p.proposal)
+        × (p.sets.reach ≡ p.proposal)
+        × (p.search ≡ p.proposal)
+        × (p.proposal < 2 ^ 32) };
+}
+
+impl Proposals {
+    /// Tables for so many entries of nodes, and for so many arcs.
+    ///
+    /// # Errors
+    /// Memory for a table was refused.
+    pub fn new(alloc: Global, entries: usize, arcs: usize) -> Result<Proposals, AllocError>
+        requires entries { entries < 2 ^ 31 }
+        requires arcs { arcs < 2 ^ 31 }
+        ensures { IfOk result (λ p. p ≡ entries) }
+    {
+        let proposal = Proposal::new(alloc, entries, arcs)?;
+        let ring = Ring::new(alloc, entries)?;
+        let sets = Sets::new(alloc, entries, arcs)?;
+        let search = Search::new(alloc, entries)?;
+        Ok(Proposals {
+            proposal,
+            ring,
+            sets,
+            search,
+            fresh: true,
+        })
+    }
+
+    /// The number of entries of a table of nodes.
+    pub fn entries(&self) -> usize
+        ensures { result ≡ self.now }
+    {
+        self.proposal.entries()
+    }
+
+    /// Whether a proposal pays: it is the first one, or many nodes are out of balance.
+    pub fn pays(&self, excess: &[i64]) -> bool {
+        self.fresh || are_many(excess)
+    }
+
+    /// Leads a flow, what it leaves at each node and potentials on towards the aim. It takes no memory: an arc for which
+    /// there is no room is left out.
+    pub fn propose(
+        &mut self,
+        rows: &[ArcRow],
+        flow: &[i64],
+        excess: &[i64],
+        potentials: &[i64],
+        aim: Aim,
+    )
+        requires flow { length flow.now ≡ length rows.now }
+        requires excess { length excess.now ≡ self.old }
+        requires potentials { length potentials.now ≡ self.old }
+        ensures { self.new ≡ self.old }
+    {
+        self.fresh = false;
+        self.proposal.load(rows, flow, excess, potentials);
+        match aim {
+            Aim::LeastCost => solve(
+                &mut self.proposal,
+                &mut self.ring,
+                &mut self.sets,
+                &mut self.search,
+                Limits::USUAL,
+                Fuel::USUAL,
+            ),
+            Aim::GreatestFlow => {
+                let _ending = take_turns(&mut self.proposal, &mut self.search, Fuel::GREATEST);
+            }
+        }
+    }
+
+    /// Writes down where the proposal stands, less than all where there is no room for it.
+    pub fn write(&self, rows: &[ArcRow], flow: &[i64], aim: Aim, wanted: &mut Wanted) {
+        let _whole = write_flow(wanted, &self.proposal, rows).and(wanted.take_nodes(
+            &self.proposal,
+        ));
+        if aim == Aim::GreatestFlow && !rows.is_empty() && !flow.is_empty() {
+            let row = &rows[0];
+            wanted.lead_back(
+                row.tail as usize,
+                row.head as usize,
+                flow[0],
+                (row.low, row.cap),
+            );
+        }
+    }
+}
+
+/// Whether many nodes are out of balance.
+fn are_many(excess: &[i64]) -> bool {
+    let mut count: usize = 0;
+    for amount in excess {
+        if *amount != 0 {
+            count = count.saturating_add(1);
+        }
+    }
+    count > FEW
+}
+
+/// Writes down the flow of each arc.
+fn write_flow(wanted: &mut Wanted, proposal: &Proposal, rows: &[ArcRow]) -> Option<()> {
+    wanted.flow.clear();
+    for k in 0..rows.len() {
+        wanted.flow.push(flow_of(proposal, k, &rows[k])).ok()?;
+    }
+    Some(())
+}
+
+/// The flow that is wanted of an arc.
+fn flow_of(proposal: &Proposal, k: usize, row: &ArcRow) -> i64 {
+    if row.low <= row.cap {
+        proposal.wanted(k, row)
+    } else {
+        row.low
+    }
+}

@@ -1,0 +1,32 @@
+-- The ranges of numbers.
+use Rattle.std.specs.Prelude.{ℕ, ℤ, pos, neg_ℤ, ◌≤ℤ◌}
+use Rattle.dimacs_text.specs.declared.problem.ArcRow.{ArcRow}
+
+-- a cost, either way
+abbrev pub cost_limit : ℕ
+cost_limit = 1000000000000
+
+-- the rooms of an arc, both ways together
+abbrev pub room_limit : ℕ
+room_limit = 1000000000
+
+-- a potential, either way
+abbrev pub potential_limit : ℕ
+potential_limit = 150000000000000000
+
+-- what lies at a node, either way
+abbrev pub rest_limit : ℕ
+rest_limit = 4000000000000000000
+
+-- a number of at most this size
+pub record IsWithin (limit : ℕ) (x : ℤ) : Type 0 where
+  pub low : neg_ℤ (pos limit) ≤ℤ x
+  pub high : x ≤ℤ pos limit
+
+-- the numbers of an arc and its flow are within the limits
+pub record IsInLimits (row : ArcRow) (flow : ℤ) : Type 0 where
+  pub cost : IsWithin cost_limit row.cost
+  pub low : pos 0 ≤ℤ row.low
+  pub above : row.low ≤ℤ flow
+  pub below : flow ≤ℤ row.cap
+  pub cap : row.cap ≤ℤ pos room_limit

@@ -1,0 +1,20 @@
+-- The ends of arcs at each node, as steps read them.
+use Rattle.std.specs.Prelude.{ℕ, ◌<◌, ◌≤◌, ℤ, pos, List, length, slice_index, slice_index_or}
+use Rattle.relaxation.specs.declared.link.Link.{Link}
+use Rattle.relaxation.specs.Limits.{IsWithin}
+
+-- each link leads to a node that has an entry in tables of so many
+abbrev pub AreLinks : ℕ → List Link → Type 0
+AreLinks entries links = (i : ℕ) (d : Link) → i < length links → (slice_index_or links i d).other < entries
+
+-- each of them is a place in a table of this length, or its end
+abbrev pub AreBegins : ℕ → List ℕ → Type 0
+AreBegins places begin = (v : ℕ) → slice_index begin v ≤ places
+
+-- the links lead to nodes that have an entry in tables of so many
+abbrev pub LeadTo : ℕ → List Link → Type 0
+LeadTo entries links = AreLinks entries links
+
+-- each of the numbers is of at most this size
+abbrev pub AreWithin : ℕ → List ℤ → Type 0
+AreWithin limit xs = (v : ℕ) → v < length xs → IsWithin limit (slice_index_or xs v (pos 0))

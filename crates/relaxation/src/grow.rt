@@ -1,0 +1,242 @@
+//! A step at a set of nodes.
+
+ghost use Rattle.std.specs.Prelude.{◌≡◌, ◌<◌, ◌^◌, ℕ, IfSome, length};
+ghost use Rattle.relaxation.specs.Nodes.{AreNodes};
+ghost use Rattle.relaxation.specs.Grow.{MetIn};
+
+use crate::candidates::{Candidate, Candidates};
+use crate::places::Places;
+use crate::proposal::Proposal;
+use crate::reach::Reach;
+use crate::ring::Ring;
+use crate::sets::Sets;
+use crate::step::{fill_below, wake};
+
+/// Why a set grows no more.
+enum Growth {
+    /// It met this node in deficit.
+    Met(usize),
+    /// What lies in it is more than the tight residual arcs out of it carry.
+    Short,
+    /// It has as many nodes as it may have.
+    Large,
+}
+
+/// Grows a set from a node over tight residual arcs until it meets a node in deficit, to which it pushes, or holds more
+/// than they can carry, when the potentials of the set fall.
+pub fn grow<const AHEAD: bool>(
+    proposal: &mut Proposal,
+    ring: &mut Ring,
+    sets: &mut Sets,
+    s: usize,
+    most: usize,
+)
+    requires node { s < proposal.old }
+    requires ring { ring.old ≡ proposal.old }
+    requires sets { sets.old.reach ≡ proposal.old }
+    requires few { proposal.old < 2 ^ 32 }
+    ensures proposal { proposal.new ≡ proposal.old }
+    ensures ring { ring.new ≡ ring.old }
+    ensures sets { sets.new.reach ≡ sets.old.reach }
+{
+    match spread::<AHEAD>(proposal, sets, s, most) {
+        Growth::Met(target) => push_back::<AHEAD>(proposal, &sets.reach, s, target),
+        Growth::Short => lower_set::<AHEAD>(proposal, ring, sets, s),
+        Growth::Large => ring.leave(s),
+    }
+    sets.reach.clear();
+}
+
+/// Grows the set.
+fn spread<const AHEAD: bool>(proposal: &Proposal, sets: &mut Sets, s: usize, most: usize) -> Growth
+    requires node { s < proposal.now }
+    requires sets { sets.old.reach ≡ proposal.now }
+    requires few { proposal.now < 2 ^ 32 }
+    ensures sets { sets.new.reach ≡ sets.old.reach }
+    ensures met { MetIn proposal.now result }
+{
+    let mut held = proposal.excess::<AHEAD>(s);
+    let mut carried = begin::<AHEAD>(proposal, &sets.tight, &mut sets.reach, s);
+    for _ in 1..most {
+        if held > carried {
+            return Growth::Short;
+        }
+        let Some((u, room)) = sets.reach.take_in() else {
+            return Growth::Short;
+        };
+        sets.count(proposal.ends_at(u).links.len());
+        held = held.wrapping_add(proposal.excess::<AHEAD>(u));
+        carried = carried.wrapping_sub(room);
+        let found = look_on::<AHEAD>(proposal, &mut sets.reach, u);
+        if let Some(target) = found.met {
+            return Growth::Met(target);
+        }
+        carried = carried.wrapping_add(found.room);
+    }
+    Growth::Large
+}
+
+/// Begins the set with a node, notes where the tight residual arcs lead that were listed of it, and gives their room.
+fn begin<const AHEAD: bool>(proposal: &Proposal, tight: &Places, reach: &mut Reach, s: usize) -> i64
+    requires node { s < proposal.now }
+    requires reach { reach.old ≡ proposal.now }
+    requires few { proposal.now < 2 ^ 32 }
+    ensures { reach.new ≡ reach.old }
+{
+    let _new = reach.note(s, 0, 0);
+    let _first = reach.take_in();
+    let mut carried: i64 = 0;
+    for place in tight.listed() {
+        let Some(link) = proposal.link(*place) else {
+            continue;
+        };
+        let room = link.room::<AHEAD>();
+        if room > 0 {
+            let _new = reach.note(link.other as usize, *place, room);
+            carried = carried.wrapping_add(room);
+        }
+    }
+    carried
+}
+
+/// What a node of the set reaches: a node in deficit, or so much room of tight residual arcs.
+#[derive(Clone, Copy)]
+struct Found {
+    met: Option<usize>,
+    room: i64,
+}
+
+/// Notes the nodes outside the set to which tight residual arcs lead on from a node of it.
+fn look_on<const AHEAD: bool>(proposal: &Proposal, reach: &mut Reach, u: usize) -> Found
+    requires node { u < proposal.now }
+    requires reach { reach.old ≡ proposal.now }
+    requires few { proposal.now < 2 ^ 32 }
+    ensures reach { reach.new ≡ reach.old }
+    ensures met { IfSome result.met (λ v. v < proposal.now) }
+{
+    let potential = proposal.potential(u);
+    let ends = proposal.ends_at(u);
+    let mut room: i64 = 0;
+    for (k, link) in ends.links.iter().enumerate() {
+        let more = link.room::<AHEAD>();
+        let v = link.other as usize;
+        if more <= 0 || proposal.potential(v) != potential + link.cost || reach.is_inside(v) {
+            continue;
+        }
+        if reach.note(v, ends.first + k as u32, more) && proposal.excess::<AHEAD>(v) < 0 {
+            return Found { met: Some(v), room };
+        }
+        room += more;
+    }
+    Found { met: None, room }
+}
+
+/// Pushes what fits from `s` to `target` along the arcs by which the nodes between them were reached.
+fn push_back<const AHEAD: bool>(proposal: &mut Proposal, reach: &Reach, s: usize, target: usize)
+    requires s { s < proposal.old }
+    requires target { target < proposal.old }
+    requires reach { reach.now ≡ proposal.old }
+    ensures { proposal.new ≡ proposal.old }
+{
+    let lack = -proposal.excess::<AHEAD>(target);
+    let mut amount = proposal.excess::<AHEAD>(s).min(lack);
+    let mut v = target;
+    for _ in 0..proposal.entries() {
+        if v == s {
+            break;
+        }
+        let Some((start, room)) = arc_to::<AHEAD>(proposal, reach, v) else {
+            return;
+        };
+        amount = amount.min(room);
+        v = start;
+    }
+    let mut v = target;
+    for _ in 0..proposal.entries() {
+        if v == s {
+            break;
+        }
+        let Some((start, _)) = arc_to::<AHEAD>(proposal, reach, v) else {
+            return;
+        };
+        proposal.push::<AHEAD>(reach.parent(v), amount);
+        v = start;
+    }
+}
+
+/// The node from which a node was reached, and the room of the arc between them.
+fn arc_to<const AHEAD: bool>(proposal: &Proposal, reach: &Reach, v: usize) -> Option<(usize, i64)>
+    requires node { v < proposal.now }
+    requires reach { reach.now ≡ proposal.now }
+    ensures { IfSome result (λ arc. arc.0 < proposal.now) }
+{
+    let link = proposal.link(reach.parent(v))?;
+    let opposite = proposal.link(link.opposite)?;
+    Some((opposite.other as usize, link.room::<AHEAD>()))
+}
+
+/// Lowers the potentials of the set to where the residual arcs out of it can carry what lies there, and fills those that
+/// would be of negative reduced cost. Where none can, it leaves the node from which the set grew.
+fn lower_set<const AHEAD: bool>(proposal: &mut Proposal, ring: &mut Ring, sets: &mut Sets, s: usize)
+    requires node { s < proposal.old }
+    requires ring { ring.old ≡ proposal.old }
+    requires sets { sets.old.reach ≡ proposal.old }
+    requires few { proposal.old < 2 ^ 32 }
+    ensures proposal { proposal.new ≡ proposal.old }
+    ensures ring { ring.new ≡ ring.old }
+    ensures sets { sets.new.reach ≡ sets.old.reach }
+{
+    let held = survey_set::<AHEAD>(proposal, sets);
+    let Some(shift) = sets.candidates.least_shift(held) else {
+        ring.leave(s);
+        return;
+    };
+    fill_below::<AHEAD>(proposal, ring, &sets.candidates, shift);
+    for u in sets.reach.inside() {
+        let _lowered = proposal.lower::<AHEAD>(*u as usize, shift);
+        wake(proposal, ring, *u as usize);
+    }
+}
+
+/// Lists the residual arcs out of the set, and gives what lies in it.
+fn survey_set<const AHEAD: bool>(proposal: &Proposal, sets: &mut Sets) -> i64
+    requires sets { sets.old.reach ≡ proposal.now }
+    ensures { sets.new.reach ≡ sets.old.reach }
+{
+    sets.candidates.clear();
+    let mut held: i64 = 0;
+    let mut looks: usize = 0;
+    for u in sets.reach.inside() {
+        held = held.wrapping_add(proposal.excess::<AHEAD>(*u as usize));
+        let more = survey_out::<AHEAD>(proposal, &sets.reach, &mut sets.candidates, *u as usize);
+        looks = looks.saturating_add(more);
+    }
+    sets.count(looks);
+    held
+}
+
+/// Lists the residual arcs that lead from a node of the set out of it, and gives how many ends were looked at.
+fn survey_out<const AHEAD: bool>(
+    proposal: &Proposal,
+    reach: &Reach,
+    candidates: &mut Candidates,
+    u: usize,
+) -> usize
+    requires node { u < proposal.now }
+    requires reach { reach.now ≡ proposal.now }
+{
+    let potential = proposal.potential(u);
+    let ends = proposal.ends_at(u);
+    for (k, link) in ends.links.iter().enumerate() {
+        let room = link.room::<AHEAD>();
+        if room <= 0 || reach.is_inside(link.other as usize) {
+            continue;
+        }
+        candidates.add(Candidate::new(
+            proposal.reduced_cost::<AHEAD>(potential, link),
+            ends.first + k as u32,
+            room,
+        ));
+    }
+    ends.links.len()
+}
