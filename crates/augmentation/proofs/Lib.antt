@@ -12,3 +12,6 @@ pub mod TrackedLemmas
 pub mod NotedLemmas
 pub mod LabelLaws
 pub mod SideLaws
+pub mod DifferenceLemmas
+pub mod TrailLemmas
+pub mod DecompositionLemmas

@@ -2,8 +2,9 @@
 use Rattle.residual_graph.specs.Limits.{potential_floor, entry_limit}
 use Rattle.augmentation.specs.Limits.{left_limit, excess_limit}
 use Rattle.shortest_paths.specs.Limits.{label_floor}
-use Rattle.std.proofs.Common.{◌≡◌, ℕ, zero, suc, ◌+◌, ◌<◌, ◌≤◌, ℤ, pos, negsuc, neg_ℤ, ◌-ℤ◌, ◌+ℤ◌, ◌≤ℤ◌, List, [], ◌∷◌, length, map, refl, sym, ap, subst, ◌∙◌, inl, inr, arith}
+use Rattle.std.proofs.Common.{◌≡◌, ◌≢◌, ℕ, zero, suc, ◌+◌, ◌<◌, ◌≤◌, ℤ, pos, negsuc, neg_ℤ, ◌-ℤ◌, ◌+ℤ◌, ◌≤ℤ◌, List, [], ◌∷◌, length, map, refl, sym, ap, subst, ◌∙◌, inl, inr, arith}
 use Rattle.std.specs.Prelude.{◌<ℤ◌, slice_index_or}
+use Rattle.std.specs.List.{AllPairs}
 use Rattle.std.proofs.lemmas.Int.{ints}
 use Rattle.std.proofs.lemmas.Bool.{cases_eq, cases_lt}
 use Rattle.std.proofs.lemmas.List.{get_or_default, get_or_past, length-map}
@@ -12,17 +13,17 @@ use Rattle.dimacs_text.specs.declared.problem.ArcRow.{ArcRow}
 use Rattle.shortest_paths.specs.declared.node_label.State.{State}
 use Rattle.shortest_paths.specs.declared.node_label.State.TheVariants.{Unreached, Open, Settled}
 use Rattle.shortest_paths.specs.declared.node_label.NodeLabel.{NodeLabel}
-use Rattle.residual_graph.specs.Residual.{IsReducedCostOptimal, ArePotentials, NoneBelow, number_at, end_at}
+use Rattle.residual_graph.specs.Residual.{IsPseudoflow, IsReducedCostOptimal, ArePotentials, NoneBelow, number_at, end_at}
 use Rattle.shortest_paths.specs.Search.{state_at, distance_at, depth_at, IsSearch, AllRelaxed, IsFromExcess, IsFoundDeficit, IsFront, IsLowered, lowered_by}
 use Rattle.network.specs.Flow.{net}
-use Rattle.augmentation.specs.Push.{IsExcess, IsPush, Pushes, path_of, root_to, HavePaths, ArePathsTight, HasRoom, IsTransfer, IsUnderWay, ArePushes, CanPush, push_along, at_node, AreSmall, positive_part, left, lack}
+use Rattle.augmentation.specs.Push.{IsExcess, IsPath, IsPush, Pushes, nodes_on, path_of, root_to, HavePaths, ArePathsTight, HasRoom, IsTransfer, IsUnderWay, ArePushes, CanPush, push_along, at_node, AreSmall, positive_part, left, lack}
 use Rattle.residual_graph.specs.declared.residual.ResidualArc.{ResidualArc}
 use Rattle.augmentation.specs.Settle.{IsNear}
 use Rattle.shortest_paths.proofs.SearchLemmas.{settled_is_reached}
 use Rattle.shortest_paths.proofs.RunLemmas.{lowered_none_below}
 use Rattle.augmentation.proofs.TurnLemmas.{number_at-neg, left-neg}
 use Rattle.augmentation.proofs.BlockingLemmas.{IsAlong}
-use Rattle.augmentation.proofs.PushLemmas.{arc_to, way_to, before, root_reached, IsShift-along, IsFlow-along, NoneBelow-along, net-along, at_same, at_other}
+use Rattle.augmentation.proofs.PushLemmas.{AreApart, arc_to, way_to, before, root_reached, IsShift-along, IsFlow-along, NoneBelow-along, net-along, at_same, at_other}
 
 -- the paths behind the nodes that the search settled
 pub paths_of_search : {arcs : List ArcRow} {x p : List ℤ} {s : List NodeLabel} → IsSearch arcs x p s → HavePaths arcs s
@@ -141,9 +142,28 @@ module _ (arcs : List ArcRow) (x p e : List ℤ) (s : List NodeLabel) (t : ℕ)
           in_excess = (from.roots (root_to arcs s t) (settled_is_reached s _ root.0) root.1).0;
         }
 
+-- a flow within the bounds, and what lies in excess
+pub record IsMoving (nodes : ℕ) (arcs : List ArcRow) (x e : List ℤ) : Type 0 where
+  pub flow : IsPseudoflow nodes arcs x
+  pub excess_sized : length e ≡ nodes
+  pub small : AreSmall e
+
+pub moving : {nodes : ℕ} {arcs : List ArcRow} {q x e : List ℤ} → IsUnderWay nodes arcs q x e → IsMoving nodes arcs x e
+moving state = record { flow = state.flow; excess_sized = state.excess_sized; small = state.small }
+
+-- a path on which m more fits
+pub record IsRoom (arcs : List ArcRow) (x : List ℤ) (m : ℤ) (hops : List ResidualArc) (root t : ℕ) : Type 0 where
+  pub leads : IsPath arcs hops root t
+  pub simple : AllPairs ◌≢◌ (nodes_on arcs hops root)
+  pub apart : AreApart arcs hops
+  pub room : HasRoom arcs x m hops
+
+pub room_along : {arcs : List ArcRow} {q x : List ℤ} {m : ℤ} {hops : List ResidualArc} {root t : ℕ} → IsAlong arcs q x m hops root t → IsRoom arcs x m hops root t
+room_along is = record { leads = is.leads; simple = is.simple; apart = is.apart; room = is.room }
+
 -- flow moved along a path from a node in excess to a node in deficit
-module _ (nodes : ℕ) (arcs : List ArcRow) (q x e : List ℤ) (hops : List ResidualArc) (root t : ℕ) (m : ℤ) (f : List ℤ)
-    (state : IsUnderWay nodes arcs q x e) (is : IsAlong arcs q x m hops root t)
+module _ (nodes : ℕ) (arcs : List ArcRow) (x e : List ℤ) (hops : List ResidualArc) (root t : ℕ) (m : ℤ) (f : List ℤ)
+    (state : IsMoving nodes arcs x e) (is : IsRoom arcs x m hops root t)
     (at_least_1 : pos 1 ≤ℤ m) (root_in : root < nodes) (in_excess : m ≤ℤ number_at e root) (in_deficit : number_at e t ≤ℤ neg_ℤ m)
     (transfer : IsTransfer root t m e f)
   where
@@ -203,10 +223,9 @@ module _ (nodes : ℕ) (arcs : List ArcRow) (q x e : List ℤ) (hops : List Resi
     net_after : (v : ℕ) → net arcs (push_along hops m x) v ≡ (net arcs x v +ℤ at_node root m v) -ℤ at_node t m v
     net_after v = net-along arcs hops m x root t v is.leads is.apart state.flow.same_length
 
-    pub state_after : IsUnderWay nodes arcs q (push_along hops m x) f
-    state_after = record {
+    pub moving_after : IsMoving nodes arcs (push_along hops m x) f
+    moving_after = record {
       flow = IsFlow-along nodes arcs hops m x state.flow at_least_1 is.apart is.room;
-      none_below = NoneBelow-along arcs q hops m x state.none_below is.tight;
       excess_sized = transfer.same_length ∙ state.excess_sized;
       small = small_after;
     }
@@ -236,6 +255,18 @@ module _ (nodes : ℕ) (arcs : List ArcRow) (q x e : List ℤ) (hops : List Resi
           (λ h. absurd (omega (arith, ints, h, in_excess, at_least_1)))
           (λ h. absurd (omega (arith, ints, h, in_deficit, at_least_1)))
           (λ v same h. omega (arith, ints, h, same));
+    }
+
+-- the same under potentials, along hops that cost nothing
+pub state_after : (nodes : ℕ) (arcs : List ArcRow) (q x e : List ℤ) (hops : List ResidualArc) (root t : ℕ) (m : ℤ) (f : List ℤ) → IsUnderWay nodes arcs q x e → IsAlong arcs q x m hops root t
+    → pos 1 ≤ℤ m → root < nodes → m ≤ℤ number_at e root → number_at e t ≤ℤ neg_ℤ m → IsTransfer root t m e f → IsUnderWay nodes arcs q (push_along hops m x) f
+state_after nodes arcs q x e hops root t m f state is at_least_1 root_in in_excess in_deficit transfer =
+    let after = moving_after nodes arcs x e hops root t m f (moving state) (room_along is) at_least_1 root_in in_excess in_deficit transfer in
+    record {
+      flow = after.flow;
+      none_below = NoneBelow-along arcs q hops m x state.none_below is.tight;
+      excess_sized = after.excess_sized;
+      small = after.small;
     }
 
 -- ---- pushes one after the other

@@ -10,3 +10,9 @@ pub mod Blocking
 pub mod Scratch
 pub mod Turn
 pub mod Rounds
+pub mod Difference
+pub mod Trail
+pub mod Decomposition
+pub mod Certificate
+pub mod Wanted
+pub mod Adoption

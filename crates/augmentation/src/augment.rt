@@ -21,9 +21,9 @@ use shortest_paths::SettledOrder;
 
 /// The path on which a walk came from `target`, a node in deficit, to `root`, one in excess.
 #[derive(Clone, Copy)]
-struct FoundPath {
-    root: usize,
-    target: usize,
+pub struct FoundPath {
+    pub root: usize,
+    pub target: usize,
 }
 
 /// How much fits along a residual arc, at most `limit`.
@@ -155,7 +155,7 @@ fn shifted(row: &ArcRow, flow: i64, way: Way, amount: i64) -> i64
 }
 
 /// Moves `amount` from the excess of `source` to the deficit of `target`.
-fn transfer(excess: &mut [i64], source: usize, target: usize, amount: i64)
+pub fn transfer(excess: &mut [i64], source: usize, target: usize, amount: i64)
     requires source_in { source < length excess.old }
     requires target_in { target < length excess.old }
     requires small { AreSmall excess.old }

@@ -1,26 +1,37 @@
 //! Flow sent from nodes in excess to nodes in deficit: pushes along the shortest paths that searches found, searches and
 //! pushes in turn until no node in excess reaches one in deficit, the greatest potentials of the flow, and the sets of
-//! nodes that residual arcs reach.
+//! nodes that residual arcs reach. A flow that another method wants is taken where its potentials certify it.
 //!
 //! A table of nodes has one entry a node, by the node's number, and entry 0 stands for no node; a table of arcs has one
 //! entry a row of the graph. Flow and excess are in units of flow; costs, potentials and distances in cost a unit of flow.
 #![tactic(auto)]
 
+mod adoption;
 mod augment;
 mod blocking;
+mod certificate;
 mod cut;
+mod decomposition;
+mod difference;
+mod draft;
 mod excess;
 mod levels;
 mod potentials;
 mod rounds;
+mod route;
 mod scratch;
+mod setting;
 mod touched;
 mod tracked;
+mod trail;
 mod turn;
+mod wanted;
 
+pub use adoption::push_all_from;
 pub use augment::push_found;
 pub use blocking::Walks;
 pub use cut::{mark_side, take_marks};
+pub use draft::Draft;
 pub use excess::Excess;
 pub use levels::Levels;
 pub use potentials::write_potentials;
@@ -28,3 +39,5 @@ pub use rounds::push_all;
 pub use scratch::Scratch;
 pub use touched::Touched;
 pub use tracked::Tracked;
+pub use trail::Trail;
+pub use wanted::Wanted;

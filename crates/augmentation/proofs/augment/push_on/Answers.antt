@@ -6,7 +6,7 @@ use Rattle.augmentation.specs.Push.{IsUnderWay, ArePushes, IsTransfer, HasRoom}
 use Rattle.residual_graph.specs.Residual.{number_at}
 use Rattle.residual_graph.specs.Side.{seen}
 use Rattle.augmentation.proofs.BlockingLemmas.{IsAlong, along, along_more}
-use Rattle.augmentation.proofs.SettleLemmas.{state_after, one_push}
+use Rattle.augmentation.proofs.SettleLemmas.{moving, one_push, room_along, state_after}
 use Rattle.augmentation.proofs.augment.push_on.Goals as goal
 use Rattle.augmentation.proofs.augment.push_on.Goals.{After-transfer}
 
@@ -40,7 +40,7 @@ is_pushed c =
     let root_in = c.requires.found.on_walk.node_in in
     record {
       state = subst (λ (y : List ℤ). IsUnderWay (length s) rows q y f) (sym c.shift.ensures.flow) (state_after (length s) rows q x e hops root t m f c.requires.state is at_least_1 root_in in_excess in_deficit transfer);
-      pushes = subst (λ (y : List ℤ). ArePushes rows 1 x e y f) (sym c.shift.ensures.flow) (one_push (length s) rows q x e hops root t m f c.requires.state is at_least_1 root_in in_excess in_deficit transfer);
+      pushes = subst (λ (y : List ℤ). ArePushes rows 1 x e y f) (sym c.shift.ensures.flow) (one_push (length s) rows x e hops root t m f (moving c.requires.state) (room_along is) at_least_1 root_in in_excess in_deficit transfer);
     }
 
 pub returns-clause-state : goal.returns-clause-state

@@ -1,0 +1,63 @@
+-- Pushes one after the other on the way to a wanted flow.
+use Rattle.std.proofs.Common.{ℕ, ◌+◌, ◌<◌, ℤ, pos, negsuc, neg_ℤ, ◌-ℤ◌, ◌≤ℤ◌, List, arith}
+use Rattle.std.proofs.lemmas.Int.{ints}
+use Rattle.dimacs_text.specs.declared.problem.ArcRow.{ArcRow}
+use Rattle.residual_graph.specs.declared.residual.ResidualArc.{ResidualArc}
+use Rattle.residual_graph.specs.Residual.{number_at}
+use Rattle.augmentation.specs.Push.{IsTransfer, positive_part, push_along}
+use Rattle.augmentation.proofs.SettleLemmas.{ArePushes-more, ArePushes-none, IsMoving, IsRoom, moving_after, one_push}
+use Rattle.augmentation.specs.Decomposition.{IsLedOn, IsOnTheWay}
+use Rattle.augmentation.specs.Trail.{IsRoute, Wants}
+use Rattle.std.specs.List.{All}
+use Rattle.augmentation.specs.Difference.{AreNearer, lack_of, spare_of}
+use Rattle.augmentation.proofs.TrailLemmas.{apart_of, nearer_along}
+use Rattle.augmentation.proofs.DifferenceLemmas.{are_nearer-none, are_nearer-trans, plan_nearer}
+
+pub led-none : (nodes : ℕ) (rows : List ArcRow) (x y e : List ℤ) → IsOnTheWay nodes rows x y e → IsLedOn nodes rows 0 x y e x y e
+led-none nodes rows x y e state = record { state = state; nearer = are_nearer-none x y; pushes = ArePushes-none rows x e }
+
+pub led-more : {nodes : ℕ} {rows : List ArcRow} {m n : ℕ} {x y e x' y' e' x'' y'' e'' : List ℤ} → IsLedOn nodes rows m x y e x' y' e' → IsLedOn nodes rows n x' y' e' x'' y'' e'' → IsLedOn nodes rows (m + n) x y e x'' y'' e''
+led-more one two = record {
+  state = two.state;
+  nearer = are_nearer-trans one.nearer two.nearer;
+  pushes = ArePushes-more one.pushes two.pushes;
+}
+
+-- the wanted flow alone comes nearer
+pub led-wanted : {nodes : ℕ} {rows : List ArcRow} {n : ℕ} {x y e x' y' e' : List ℤ} (y'' : List ℤ) → IsLedOn nodes rows n x y e x' y' e' → AreNearer x' y' x' y'' → IsLedOn nodes rows n x y e x' y'' e'
+led-wanted {nodes} {rows} {n} {x} {y} {e} {x'} {y'} {e'} y'' one near = record {
+  state = record { plan = plan_nearer nodes rows x' y' x' y'' one.state.plan near; excess_sized = one.state.excess_sized; small = one.state.small };
+  nearer = are_nearer-trans one.nearer near;
+  pushes = one.pushes;
+}
+
+part_of : (z m : ℤ) → pos 1 ≤ℤ m → m ≤ℤ pos (positive_part z) → m ≤ℤ z
+part_of (pos n) m at_least le = le
+part_of (negsuc n) m at_least le = absurd (omega (arith, ints, at_least, le))
+
+part_not_below : (r : ℤ) → pos 0 ≤ℤ pos (positive_part r)
+part_not_below r = omega (arith, ints)
+
+pub spare_in : (e r m : ℤ) → pos 1 ≤ℤ m → m ≤ℤ spare_of e r → m ≤ℤ e
+spare_in e r m at_least le =
+    let part = part_of (e -ℤ pos (positive_part r)) m at_least le in
+    omega (arith, ints, part, part_not_below r)
+
+pub lack_in : (e r m : ℤ) → pos 1 ≤ℤ m → m ≤ℤ lack_of e r → e ≤ℤ neg_ℤ m
+lack_in e r m at_least le =
+    let part = spare_in (neg_ℤ e) (neg_ℤ r) m at_least le in
+    omega (arith, ints, part)
+
+-- m units are pushed along a route on which so much is wanted
+pub led_one : (nodes : ℕ) (rows : List ArcRow) (x y e f : List ℤ) (hops : List ResidualArc) (root t : ℕ) (m : ℤ) → IsOnTheWay nodes rows x y e → IsRoute rows x m hops root t → All (Wants x y m) hops
+    → pos 1 ≤ℤ m → root < nodes → m ≤ℤ number_at e root → number_at e t ≤ℤ neg_ℤ m → IsTransfer root t m e f → IsLedOn nodes rows 1 x y e (push_along hops m x) y f
+led_one nodes rows x y e f hops root t m state route all at_least_1 root_in in_excess in_deficit transfer =
+    let apart = apart_of rows hops root t route.leads route.simple route.arcs in
+    let moving : IsMoving nodes rows x e = record { flow = state.plan.flow; excess_sized = state.excess_sized; small = state.small } in
+    let room : IsRoom rows x m hops root t = record { leads = route.leads; simple = route.simple; apart = apart; room = route.room } in
+    let after = moving_after nodes rows x e hops root t m f moving room at_least_1 root_in in_excess in_deficit transfer in
+    record {
+      state = record { plan = record { flow = after.flow; wanted = state.plan.wanted }; excess_sized = after.excess_sized; small = after.small };
+      nearer = nearer_along rows x y m hops state.plan.flow.same_length at_least_1 apart all;
+      pushes = one_push nodes rows x e hops root t m f moving room at_least_1 root_in in_excess in_deficit transfer;
+    }

@@ -1,0 +1,31 @@
+use Rattle.std.proofs.Common.{◌≤◌, ◌<◌, ◌+◌, ◌^◌, arith, rules}
+use Rattle.augmentation.specs.Limits.{left_limit}
+use Rattle.augmentation.specs.Push.{left}
+use Rattle.augmentation.proofs.SettleLemmas.{left-small}
+use Rattle.augmentation.specs.Decomposition.{entries_of}
+use Rattle.augmentation.proofs.DecompositionLemmas.{led-more, led-none}
+use Rattle.augmentation.proofs.DifferenceLemmas.{between_nearer}
+use Rattle.augmentation.proofs.decomposition.push_towards.Goals as goal
+
+pub loop-target-init : goal.loop-target-init
+loop-target-init c = record {
+  led = led-none (entries_of c.args.setting.graph.now) c.args.setting.graph.now.rows c.args.flow.now c.args.wanted.now c.args.excess.now c.requires.state;
+  trail = c.refresh.ensures.trail (entries_of c.args.setting.graph.now) c.requires.trail;
+}
+
+pub overflow_add-pushes : goal.overflow_add-pushes
+overflow_add-pushes c =
+    let small : left c.args.excess.now ≤ left_limit = left-small (entries_of c.args.setting.graph.now) c.args.excess.now c.requires.state.small c.requires.state.excess_sized c.requires.state.plan.flow.few_nodes in
+    let count = c.loop-target.invariant.led.pushes.count in
+    let more = c.push_to-pushes.ensures.led.pushes.count in
+    let bound : c.loop-target.pushes + c.push_to-pushes.result < 2 ^ 64 = omega (arith, small, count, more) in
+    search (rules, bound)
+
+pub loop-target-preserved : goal.loop-target-preserved
+loop-target-preserved c = record {
+  led = led-more c.loop-target.invariant.led c.push_to-pushes.ensures.led;
+  trail = c.push_to-pushes.ensures.trail;
+}
+
+pub returns-clause-between : goal.returns-clause-between
+returns-clause-between c = between_nearer c.args.flow.now c.args.wanted.now c.loop-target.flow c.loop-target.wanted c.loop-target.invariant.led.nearer

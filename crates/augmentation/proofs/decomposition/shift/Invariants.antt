@@ -1,0 +1,14 @@
+use Rattle.std.proofs.Common.{◌≡◌, ◌≤◌}
+use Rattle.augmentation.specs.Push.{push_along}
+use Rattle.augmentation.specs.Trail.{IsShiftable, hops_back}
+use Rattle.augmentation.proofs.decomposition.shift.Given as goal
+
+abbrev pub invariant-loop-j : goal.invariant-loop-j
+invariant-loop-j l = record {
+  left : l.j ≤ l.trail.len;
+  can : IsShiftable l.flow l.amount (hops_back l.trail.hops.items l.j);
+  same : push_along (hops_back l.trail.hops.items l.j) l.amount l.flow ≡ push_along (hops_back l.trail.hops.items l.trail.len) l.amount l.initial.flow;
+}
+
+abbrev pub decreases-loop-j : goal.decreases-loop-j
+decreases-loop-j l = l.j

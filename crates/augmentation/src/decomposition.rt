@@ -1,0 +1,137 @@
+//! Pushes that lead a flow towards a wanted one.
+
+ghost use Rattle.std.specs.Prelude.{◌≡◌, ℕ, length, slice_set, pos, ◌≤ℤ◌, ◌<◌, ◌≤◌, All};
+ghost use Rattle.residual_graph.specs.Residual.{number_at};
+ghost use Rattle.augmentation.specs.Push.{ArePushes, moved, push_along};
+ghost use Rattle.augmentation.specs.Decomposition.{IsFoundRoute, IsLedOn, IsOnTheWay, entries_of};
+ghost use Rattle.augmentation.specs.Trail.{CanMove, IsShiftable, IsTrailFor, Wants, hops_back};
+ghost use Rattle.augmentation.specs.Difference.{AreBetween, IsPlanned, lack_of};
+
+use crate::augment::{FoundPath, transfer};
+use crate::difference::{lacking, spare, want_on};
+use crate::route::find_route;
+use crate::setting::Setting;
+use crate::trail::Trail;
+use residual_graph::{ResidualArc, Way};
+
+/// How much is wanted along each hop of the walk, and at most `limit`.
+fn bottleneck(flow: &[i64], wanted: &[i64], trail: &Trail, limit: i64) -> i64
+    requires fits { trail.now.len ≤ length trail.now.hops.items }
+    requires plan { All (λ h. IsPlanned flow.now wanted.now h.arc) (hops_back trail.now.hops.items trail.now.len) }
+    ensures at_most { result ≤ℤ limit }
+    ensures wanted { All (Wants flow.now wanted.now result) (hops_back trail.now.hops.items trail.now.len) }
+    ensures at_least_1 { pos 1 ≤ℤ limit → All (Wants flow.now wanted.now (pos 1)) (hops_back trail.now.hops.items trail.now.len) → pos 1 ≤ℤ result }
+{
+    let mut room = limit;
+    for j in 0..trail.len {
+        room = room.min(want_on(flow, wanted, trail.hop(j)));
+    }
+    room
+}
+
+/// Moves `amount` along a residual arc.
+fn shift_on(flow: &mut [i64], hop: ResidualArc, amount: i64)
+    requires { CanMove flow.old amount hop }
+    ensures { flow.new ≡ slice_set flow.old hop.arc (moved hop.way (number_at flow.old hop.arc) amount) }
+{
+    let k = hop.arc as usize;
+    match hop.way {
+        Way::Forward => flow[k] += amount,
+        Way::Backward => flow[k] -= amount,
+    }
+}
+
+/// Moves `amount` along the hops of the walk.
+fn shift(flow: &mut [i64], trail: &Trail, amount: i64)
+    requires fits { trail.now.len ≤ length trail.now.hops.items }
+    requires route { IsShiftable flow.old amount (hops_back trail.now.hops.items trail.now.len) }
+    ensures { flow.new ≡ push_along (hops_back trail.now.hops.items trail.now.len) amount flow.old }
+{
+    let mut j = trail.len;
+    while j > 0 {
+        j -= 1;
+        shift_on(flow, trail.hop(j), amount);
+    }
+}
+
+/// Pushes what is wanted along the path that a walk found.
+fn push_route(
+    setting: Setting<'_>,
+    flow: &mut [i64],
+    wanted: &[i64],
+    excess: &mut [i64],
+    trail: &Trail,
+    path: FoundPath,
+)
+    requires state { IsOnTheWay (entries_of setting.graph.now) setting.graph.now.rows flow.old wanted.now excess.old }
+    requires target_in { path.target < entries_of setting.graph.now }
+    requires takes { pos 1 ≤ℤ lack_of (number_at excess.old path.target) (number_at setting.rests.now path.target) }
+    requires found { IsFoundRoute setting.graph.now.rows flow.old wanted.now excess.old setting.rests.now trail.now path.target path.root }
+    ensures { IsLedOn (entries_of setting.entry.graph.now) setting.entry.graph.now.rows 1 flow.old wanted.now excess.old flow.new wanted.now excess.new }
+{
+    let gives = spare(excess[path.root], setting.rests[path.root]);
+    let takes = lacking(excess[path.target], setting.rests[path.target]);
+    let amount = bottleneck(flow, wanted, trail, gives.min(takes));
+    shift(flow, trail, amount);
+    transfer(excess, path.root, path.target, amount);
+}
+
+/// Pushes to a node until it has what it is to have or nothing more is to be had, and counts the pushes.
+fn push_to(
+    setting: Setting<'_>,
+    flow: &mut [i64],
+    wanted: &mut [i64],
+    excess: &mut [i64],
+    trail: &mut Trail,
+    target: usize,
+) -> u64
+    requires state { IsOnTheWay (entries_of setting.graph.now) setting.graph.now.rows flow.old wanted.old excess.old }
+    requires trail { IsTrailFor (entries_of setting.graph.now) trail.old }
+    requires target_in { target < entries_of setting.graph.now }
+    ensures led { IsLedOn (entries_of setting.entry.graph.now) setting.entry.graph.now.rows result flow.old wanted.old excess.old flow.new wanted.new excess.new }
+    ensures trail { IsTrailFor (entries_of setting.entry.graph.now) trail.new }
+{
+    let mut pushes = 0;
+    while lacking(excess[target], setting.rests[target]) > 0 {
+        match find_route(setting, excess, flow, wanted, trail, target) {
+            Some(root) => {
+                push_route(
+                    setting,
+                    flow,
+                    wanted,
+                    excess,
+                    trail,
+                    FoundPath { root, target },
+                );
+                pushes += 1;
+            }
+            None => return pushes,
+        }
+    }
+    pushes
+}
+
+/// Pushes flow towards a wanted one, and counts the pushes: along paths on which the wanted flow has more, from nodes in
+/// excess to nodes in deficit, of which so much is left alone as is to rest there. Circles are left out, and taken off the
+/// wanted flow.
+pub fn push_towards(
+    setting: Setting<'_>,
+    flow: &mut [i64],
+    wanted: &mut [i64],
+    excess: &mut [i64],
+    trail: &mut Trail,
+) -> u64
+    requires state { IsOnTheWay (entries_of setting.graph.now) setting.graph.now.rows flow.old wanted.old excess.old }
+    requires trail { IsTrailFor (entries_of setting.graph.now) trail.old }
+    ensures state { IsOnTheWay (entries_of setting.entry.graph.now) setting.entry.graph.now.rows flow.new wanted.new excess.new }
+    ensures between { AreBetween flow.old flow.new wanted.old }
+    ensures pushes { ArePushes setting.entry.graph.now.rows result flow.old excess.old flow.new excess.new }
+    ensures trail { IsTrailFor (entries_of setting.entry.graph.now) trail.new }
+{
+    trail.refresh();
+    let mut pushes = 0;
+    for target in 0..excess.len() {
+        pushes += push_to(setting, flow, wanted, excess, trail, target);
+    }
+    pushes
+}
