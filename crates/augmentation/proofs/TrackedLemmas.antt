@@ -43,7 +43,7 @@ module _ {T : Type 0} where
     same_room = then.same_room ∙ first.same_room;
   }
 
-  -- a tracked whose entries were written at noted places alone
+  -- a `Tracked` table whose entries were written at noted places alone
   pub IsWritten-noted : (l m : Tracked T) → IsTracked l → m.kept ≡ l.kept → m.size ≡ l.size → vec_capacity l.entries ≤ vec_capacity m.entries → AreNoted l.touched l.entries.items m.touched m.entries.items → IsWritten l m
   IsWritten-noted l m tracked kept size room noted = record {
     tracked = record {
@@ -61,7 +61,7 @@ module _ {T : Type 0} where
     same_room = noted.same_size;
   }
 
-  -- places that name all that is noted name each place at which a tracked differs from what it kept
+  -- places that name all that is noted name each place at which a `Tracked` table differs from its snapshot
   pub kept_named : (l : Tracked T) (places : List ℕ) → IsTracked l → ((k : ℕ) → in_set l.touched k ≡ true → Any (λ p. p ≡ k) places) → NameChanges 0 places (kept_in l) l.entries.items
   kept_named l places tracked listed = λ k lt. elim (noted_or_not l.touched k) [
     | inl noted ↦ inl (subst (λ (q : ℕ). Any (λ p. p ≡ q) places) (omega arith) (listed k noted))

@@ -15,4 +15,5 @@ pub mod Trail
 pub mod Decomposition
 pub mod Certificate
 pub mod Wanted
+pub mod Attempt
 pub mod Adoption

@@ -5,6 +5,7 @@ use Rattle.augmentation.specs.declared.scratch.Scratch.{Scratch}
 use Rattle.residual_graph.specs.declared.side.Side.{Side}
 use Rattle.residual_graph.specs.declared.side.Side.TheVariants.{Ahead, Behind}
 use Rattle.shortest_paths.specs.declared.node_label.NodeLabel.{NodeLabel}
+use Rattle.augmentation.specs.Attempt.{IsAttemptFor}
 use Rattle.augmentation.specs.Blocking.{IsWalksFor}
 use Rattle.shortest_paths.specs.Labels.{IsLabelsFor}
 use Rattle.shortest_paths.specs.Queue.{IsQueueOf}
@@ -24,6 +25,7 @@ pub record HoldsSearch (arcs : List ArcRow) (x e : List ℤ) (s : Scratch) (reac
   pub settled_order : IsSettledOrderOf s.node_labels.items s.settled_order
   pub labels : IsLabelsFor (length s.potentials.items) s.labels
   pub walks : IsWalksFor (length s.potentials.items) s.walks
+  pub attempt : IsAttemptFor (length s.potentials.items) s.attempt
 
 -- a search over the potentials p has settled all nodes: their labels are found
 pub record AreLabelled (arcs : List ArcRow) (x p : List ℤ) (s : List NodeLabel) : Type 0 where

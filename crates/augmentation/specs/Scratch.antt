@@ -1,6 +1,7 @@
 -- The tables that searches write in.
 use Rattle.std.specs.Prelude.{◌≡◌, ℕ, length}
 use Rattle.augmentation.specs.declared.scratch.Scratch.{Scratch}
+use Rattle.augmentation.specs.Attempt.{IsAttemptFor}
 use Rattle.augmentation.specs.Blocking.{IsWalksFor}
 use Rattle.shortest_paths.specs.Labels.{IsLabelsFor}
 use Rattle.shortest_paths.specs.Queue.{IsQueueFor}
@@ -15,3 +16,4 @@ pub record IsScratchFor (entries : ℕ) (s : Scratch) : Type 0 where
   pub queue : IsQueueFor entries s.queue
   pub settled_order : IsSettledOrderFor entries s.settled_order
   pub walks : IsWalksFor entries s.walks
+  pub attempt : IsAttemptFor entries s.attempt

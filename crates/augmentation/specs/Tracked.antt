@@ -20,7 +20,7 @@ module _ {T : Type 0} where
   abbrev pub kept_in : Tracked T → List T
   kept_in l = take l.size l.kept.items
 
-  -- the tracked l became m: entries were written, and nothing else
+  -- the `Tracked` table l became m: entries were written, and nothing else
   pub record IsWritten (l m : Tracked T) : Type 0 where
     pub tracked : IsTracked m
     pub kept : m.kept ≡ l.kept

@@ -16,13 +16,17 @@ use crate::certificate::{certifies, is_within};
 use crate::decomposition::push_towards;
 use crate::draft::Draft;
 use crate::excess::Excess;
-use crate::rounds::push_all;
+use crate::rounds::finish;
 use crate::scratch::Scratch;
 use crate::setting::Setting;
 use crate::tracked::Tracked;
 use crate::trail::Trail;
-use crate::wanted::{Wanted, shift_potentials};
+use crate::wanted::shift_potentials;
+use proposals::Wanted;
 use residual_graph::Graph;
+
+/// With no more nodes out of balance than these no proposal is made: so few pushes are quicker than one look at all arcs.
+const FEW: usize = 32;
 
 /// Whether a proposal has an entry for each arc and each node, and its flow keeps the bounds.
 fn fits(graph: &Graph, excess: &[i64], wanted: &Wanted) -> bool
@@ -125,15 +129,13 @@ fn take_excess(excess: &mut Excess, copy: &[i64])
     }
 }
 
-/// Takes what a proposal leads to where its potentials certify that, and counts the pushes that lead there; else leaves all
-/// as it was.
+/// Takes what the proposal at hand leads to where its potentials certify that, and counts the pushes that lead there; else
+/// leaves all as it was.
 pub fn adopt(
     graph: &Graph,
     flow: &mut Tracked<i64>,
     excess: &mut Excess,
     scratch: &mut Scratch,
-    wanted: &mut Wanted,
-    draft: &mut Draft,
 ) -> Option<u64>
     requires flow_tracked { IsTracked flow.old }
     requires graph { HasEntries (length scratch.old.potentials.items) graph.now }
@@ -142,28 +144,33 @@ pub fn adopt(
     requires excess_in { length excess.old ≡ length scratch.old.potentials.items }
     requires scratch { IsScratchFor (length scratch.old.potentials.items) scratch.old }
     requires small { AreSmall excess.old }
-    requires draft { IsTrailFor (length scratch.old.potentials.items) draft.old.trail }
     ensures flow_written { IsWritten flow.old flow.new }
-    ensures adopted { MatchOption result (IsAsBefore flow.old flow.new excess.old excess.new scratch.old scratch.new) (λ n. IsCertifiedBy graph.now n flow.old.entries.items excess.old flow.new.entries.items excess.new scratch.new.potentials.items) }
+    ensures adopted { MatchOption result (IsAsBefore flow.old flow.new excess.old excess.new scratch.old.potentials.items scratch.new.potentials.items) (λ n. IsCertifiedBy graph.now n flow.old.entries.items excess.old flow.new.entries.items excess.new scratch.new.potentials.items) }
     ensures scratch { IsScratchFor (length scratch.old.potentials.items) scratch.new }
-    ensures draft { IsTrailFor (length scratch.old.potentials.items) draft.new.trail }
 {
-    let pushes = draw(graph, &flow.entries, excess.entries(), wanted, draft)?;
-    take_flow(flow, &draft.flow);
-    take_excess(excess, &draft.excess);
-    scratch.potentials.copy_from_slice(&wanted.potentials);
+    let attempt = &mut scratch.attempt;
+    let pushes = draw(
+        graph,
+        &flow.entries,
+        excess.entries(),
+        &mut attempt.wanted,
+        &mut attempt.draft,
+    )?;
+    take_flow(flow, &attempt.draft.flow);
+    take_excess(excess, &attempt.draft.excess);
+    scratch
+        .potentials
+        .copy_from_slice(&scratch.attempt.wanted.potentials);
     Some(pushes)
 }
 
-/// Takes what a proposal leads to, where that is certified, and then pushes flow along shortest paths until no node in
-/// excess reaches a node in deficit; counts all pushes.
-pub fn push_all_from(
+/// Takes what the proposal at hand leads to, where that is certified, and then pushes flow along shortest paths until no
+/// node in excess reaches a node in deficit; counts all pushes.
+fn push_from_proposal(
     graph: &Graph,
     flow: &mut Tracked<i64>,
     excess: &mut Excess,
     scratch: &mut Scratch,
-    wanted: &mut Wanted,
-    draft: &mut Draft,
 ) -> u64
     requires flow_tracked { IsTracked flow.old }
     requires graph { HasEntries (length scratch.old.potentials.items) graph.now }
@@ -172,7 +179,6 @@ pub fn push_all_from(
     requires excess_in { length excess.old ≡ length scratch.old.potentials.items }
     requires scratch { IsScratchFor (length scratch.old.potentials.items) scratch.old }
     requires small { AreSmall excess.old }
-    requires draft { IsTrailFor (length scratch.old.potentials.items) draft.old.trail }
     ensures flow_written { IsWritten flow.old flow.new }
     ensures certified { IsReducedCostOptimal graph.now.rows flow.new.entries.items scratch.new.potentials.items }
     ensures excess_in { length excess.new ≡ length excess.old }
@@ -180,10 +186,39 @@ pub fn push_all_from(
     ensures pushed { ArePushes graph.now.rows result flow.old.entries.items excess.old flow.new.entries.items excess.new }
     ensures parted { IsParted graph.now.rows flow.new.entries.items excess.new }
     ensures scratch { IsScratchFor (length scratch.old.potentials.items) scratch.new }
-    ensures draft { IsTrailFor (length scratch.old.potentials.items) draft.new.trail }
 {
-    match adopt(graph, flow, excess, scratch, wanted, draft) {
-        Some(adopted) => adopted + push_all(graph, flow, excess, scratch),
-        None => push_all(graph, flow, excess, scratch),
+    match adopt(graph, flow, excess, scratch) {
+        Some(adopted) => adopted + finish(graph, flow, excess, scratch),
+        None => finish(graph, flow, excess, scratch),
     }
+}
+
+/// Pushes flow until no node in excess reaches a node in deficit, and counts the pushes. The first time, and where many
+/// nodes are out of balance, a proposal is made and tried before.
+pub fn push_all(
+    graph: &Graph,
+    flow: &mut Tracked<i64>,
+    excess: &mut Excess,
+    scratch: &mut Scratch,
+) -> u64
+    requires flow_tracked { IsTracked flow.old }
+    requires graph { HasEntries (length scratch.old.potentials.items) graph.now }
+    requires certified { IsReducedCostOptimal graph.now.rows flow.old.entries.items scratch.old.potentials.items }
+    requires potentials_in { ArePotentials (length scratch.old.potentials.items) label_floor scratch.old.potentials.items }
+    requires excess_in { length excess.old ≡ length scratch.old.potentials.items }
+    requires scratch { IsScratchFor (length scratch.old.potentials.items) scratch.old }
+    requires small { AreSmall excess.old }
+    ensures flow_written { IsWritten flow.old flow.new }
+    ensures certified { IsReducedCostOptimal graph.now.rows flow.new.entries.items scratch.new.potentials.items }
+    ensures excess_in { length excess.new ≡ length excess.old }
+    ensures small { AreSmall excess.new }
+    ensures pushed { ArePushes graph.now.rows result flow.old.entries.items excess.old flow.new.entries.items excess.new }
+    ensures parted { IsParted graph.now.rows flow.new.entries.items excess.new }
+    ensures scratch { IsScratchFor (length scratch.old.potentials.items) scratch.new }
+{
+    if !scratch.attempt.proposals.is_fresh() && !excess.are_more_than(FEW) {
+        return finish(graph, flow, excess, scratch);
+    }
+    scratch.attempt.propose(graph, &flow.entries, excess.entries(), &scratch.potentials);
+    push_from_proposal(graph, flow, excess, scratch)
 }

@@ -7,6 +7,7 @@
 #![tactic(auto)]
 
 mod adoption;
+mod attempt;
 mod augment;
 mod blocking;
 mod certificate;
@@ -27,7 +28,8 @@ mod trail;
 mod turn;
 mod wanted;
 
-pub use adoption::push_all_from;
+pub use adoption::{adopt, push_all};
+pub use attempt::Attempt;
 pub use augment::push_found;
 pub use blocking::Walks;
 pub use cut::{mark_side, take_marks};
@@ -35,9 +37,8 @@ pub use draft::Draft;
 pub use excess::Excess;
 pub use levels::Levels;
 pub use potentials::write_potentials;
-pub use rounds::push_all;
+pub use rounds::finish;
 pub use scratch::Scratch;
 pub use touched::Touched;
 pub use tracked::Tracked;
 pub use trail::Trail;
-pub use wanted::Wanted;

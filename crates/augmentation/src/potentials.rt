@@ -91,7 +91,7 @@ fn write_labels(
     }
 }
 
-/// Writes the shortest labels into the tracked: the greatest potentials that certify the flow, as those in the scratch do.
+/// Writes the shortest labels into the `Tracked` table: the greatest potentials that certify the flow.
 pub fn write_potentials(
     graph: &Graph,
     flow: &Tracked<i64>,

@@ -31,8 +31,9 @@ pub const FALL_LIMIT: i64 = 70_000_000_000_000_000;
 /// The most pushes of a run for which no table of rooms is filled: few edits need more.
 const FEW_PUSHES: u64 = 32;
 
-/// Pushes flow along shortest paths until no node in excess reaches a node in deficit, and counts the pushes.
-pub fn push_all(
+/// Pushes flow along shortest paths until no node in excess reaches a node in deficit, and counts the pushes: where a
+/// proposal was right, one search that finds nothing is all that it does.
+pub fn finish(
     graph: &Graph,
     flow: &mut Tracked<i64>,
     excess: &mut Excess,
@@ -58,7 +59,7 @@ pub fn push_all(
     pushes
 }
 
-/// Pushes as `push_all` does. The searches go from the two sides in turn, and each forgets what it reached before the next.
+/// Pushes as `finish` does. The searches go from the two sides in turn, and each forgets what it reached before the next.
 fn push_in_turns(
     graph: &Graph,
     flow: &mut Tracked<i64>,

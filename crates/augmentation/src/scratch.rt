@@ -1,8 +1,10 @@
 //! The tables that searches write in.
 
-ghost use Rattle.std.specs.Prelude.{◌≡◌, false, IfOk};
+ghost use Rattle.std.specs.Prelude.{◌≡◌, ◌≤◌, false, IfOk};
+ghost use Rattle.residual_graph.specs.Limits.{row_limit};
 ghost use Rattle.augmentation.specs.Scratch.{IsScratchFor};
 
+use crate::attempt::Attempt;
 use crate::blocking::Walks;
 use shortest_paths::{Labels, NodeLabel, Queue, SettledOrder};
 use std::alloc::{AllocError, Global};
@@ -18,6 +20,7 @@ pub struct Scratch {
     pub queue: Queue,
     pub settled_order: SettledOrder,
     pub walks: Walks,
+    pub attempt: Attempt,
 }
 
 impl Scratch {
@@ -26,6 +29,7 @@ impl Scratch {
     /// # Errors
     /// Memory for a table was refused.
     pub fn new(alloc: Global, entries: u32, arcs: usize) -> Result<Scratch, AllocError>
+        requires { entries ≤ row_limit }
         ensures sized { IfOk result (λ s. IsScratchFor entries s) }
         ensures standing { IfOk result (λ s. s.labels.standing ≡ false) }
     {
@@ -35,6 +39,7 @@ impl Scratch {
         let queue = Queue::new(alloc, entries as usize)?;
         let settled_order = SettledOrder::new(alloc, entries as usize)?;
         let walks = Walks::new(alloc, entries as usize, arcs)?;
+        let attempt = Attempt::new(alloc, entries as usize, arcs / 2)?;
         Ok(Scratch {
             node_labels,
             potentials,
@@ -42,6 +47,7 @@ impl Scratch {
             queue,
             settled_order,
             walks,
+            attempt,
         })
     }
 }

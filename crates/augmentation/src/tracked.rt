@@ -23,7 +23,7 @@ pub struct Tracked<T> {
 ghost use Rattle.augmentation.specs.Tracked.{IsTracked, IsWritten, kept_in};
 
 impl<T: Copy> Tracked<T> {
-    /// A tracked with these entries, which has room for as many as they have.
+    /// A `Tracked` table with these entries, with room for as many as they have.
     pub fn new(alloc: Global, entries: Vec<T>, room: usize) -> Result<Tracked<T>, AllocError>
         requires fits { length entries.items ≤ room }
         requires few { room ≤ row_limit }

@@ -1,4 +1,4 @@
-//! What another method proposes.
+//! The potentials of a proposal.
 
 ghost use Rattle.std.specs.Prelude.{◌≡◌, ℕ, ◌<◌, pos, neg_ℤ, ◌-ℤ◌, ◌≤ℤ◌, length};
 ghost use Rattle.residual_graph.specs.Residual.{number_at};
@@ -6,15 +6,6 @@ ghost use Rattle.augmentation.specs.Wanted.{AreAlike, AreModerate, shift_limit};
 
 /// How far from 0 potentials may lie that are shifted.
 const SHIFT_LIMIT: i64 = 4_000_000_000_000_000_000;
-
-/// A flow that is wanted, the excess that it is to leave at each node, and potentials. Nothing is known of the numbers.
-#[derive(Drop)]
-pub struct Wanted {
-    /// The wanted flow. What goes round in circles on the way to it is taken off when the proposal is tried.
-    pub flow: Vec<i64>,
-    pub rests: Vec<i64>,
-    pub potentials: Vec<i64>,
-}
 
 /// Lowers or raises all potentials alike, so that the greatest is 0.
 pub fn shift_potentials(potentials: &mut [i64])

@@ -45,7 +45,8 @@ impl NodeMark {
 }
 
 /// An arc: nodes counted from 1; bounds in units of flow, `0 <= low <= cap <= CAP_LIMIT`; cost a unit of flow. `max`:
-/// low and cost 0; `asn`: low 0, cap 1, or 0 once closed. A return arc has a greater cap, and cost -1.
+/// low and cost 0; `asn`: low 0, cap 1, or 0 once closed. The return arc of `network` is of this type too, but
+/// belongs to no problem: its cap is greater than `CAP_LIMIT`, its cost -1.
 #[derive(Clone, Copy, Debug, PartialEq, Eq)]
 pub struct ArcRow {
     pub tail: u32,

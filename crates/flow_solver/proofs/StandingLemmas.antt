@@ -236,6 +236,7 @@ scratch_told n s told of = record {
   queue = of.queue;
   settled_order = of.settled_order;
   walks = of.walks;
+  attempt = of.attempt;
 }
 
 -- the tables stay tables where nothing is told of the potentials, or what is true of them

@@ -40,7 +40,7 @@ module _ {T : Type 0} where
     size_is = written.size ∙ of.size_is;
   }
 
-  -- a tracked of nodes is one still where its entries and what was kept are as many
+  -- a `Tracked` table of nodes is one still where its entries and its snapshot are as many
   pub nodes_alike : (nodes : ℕ) (m : Tracked T) (entries kept : List T) → IsTracked m → m.entries.items ≡ entries → kept_in m ≡ kept → length entries ≡ nodes + 1 → length kept ≡ nodes + 1 → IsOfNodes nodes m
   nodes_alike nodes m entries kept tracked entries_are kept_is many as_many = record {
     tracked = tracked;

@@ -40,7 +40,7 @@ pub record IsCarried (row : ArcRow) (before after : ℤ) (e f : List ℤ) : Type
 abbrev pub AreEndsIn : ℕ → List ArcRow → Type 0
 AreEndsIn nodes arcs = (k : ℕ) → k < length arcs → ((row_at arcs k).tail < nodes) × ((row_at arcs k).head < nodes)
 
--- the excess of each node is that of the flow which stands in a tracked, the cost that of the flow which was kept
+-- the excess of each node is that of the present flow of a `Tracked` table, the cost that of the flow in its snapshot
 pub record IsBalanceOf (I : Instance) (rows : List ArcRow) (flow : Tracked ℤ) (b : Balance) : Type 0 where
   pub sized : length b.excess ≡ I.nodes + 1
   pub excess : IsWrappedExcess rows (held I.nodes (reduced I).supply) flow.entries.items b.excess

@@ -17,13 +17,13 @@ use Rattle.augmentation.specs.Tracked.{IsTracked, kept_in}
 use Rattle.flow_solver.specs.Moment.{Snapshot}
 use Rattle.flow_solver.specs.Part.{IsKept}
 
--- a tracked of nodes: one entry for each node and one for no node, now and when it was kept
+-- a `Tracked` table of nodes: one entry for each node and one for no node, now and in its last snapshot
 pub record IsOfNodes {T : Type 0} (nodes : ℕ) (l : Tracked T) : Type 0 where
   pub tracked : IsTracked l
   pub entries_in : length l.entries.items ≡ nodes + 1
   pub size_is : l.size ≡ nodes + 1
 
--- what the tracked_tables and the log keep of a moment
+-- what the snapshots of the `Tracked` tables and the log keep of a moment
 abbrev pub kept_by : Tracked ℤ → Tracked ℤ → Tracked Bool → List Part → Snapshot
 kept_by flow potentials cut log = record { flow = kept_in flow; potentials = drop 1 (kept_in potentials); cut = drop 1 (kept_in cut); log = log }
 

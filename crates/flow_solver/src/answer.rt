@@ -61,7 +61,7 @@ fn sum_deficit(excess: &[i64]) -> u64
     sum
 }
 
-/// The cost of the flow that stands in a tracked, or what its return arc carries.
+/// The cost of the present flow of a `Tracked` table, or what its return arc carries.
 fn worth(net: &Network, rows: &[ArcRow], flow: &Tracked<i64>, balance: &Balance) -> i128
     requires lawful { IsLawful net.now }
     requires rows { rows.now ≡ (reduced net.now).arcs }

@@ -15,9 +15,9 @@ use dimacs_text::ArcRow;
 use network::Network;
 use std::alloc::{AllocError, Global};
 
-/// The excess of each node under the flow that stands in a tracked, and the cost of the flow that the tracked kept. Both are
-/// sums that wrap: so each is carried over as one arc or one supply changes, whatever the flows are in between, and of a
-/// flow within its bounds it is exact, since it fits. `cost_now` gives the cost of the flow that stands.
+/// The excess of each node under the present flow of a `Tracked` table, and the cost of the flow in its last snapshot.
+/// Both are sums that wrap: each is carried over as one arc or supply changes, whatever the flows are in between, and
+/// of a flow within its bounds it is exact, since it fits. `cost_now` gives the cost of the present flow.
 #[derive(Drop)]
 pub struct Balance {
     pub excess: Excess,

@@ -24,7 +24,7 @@ pub enum Part {
     Gone { row: ArcRow, flow: i64 },
 }
 
-/// What stood before a change, beside what the tracked_tables kept.
+/// What a change replaced, beside the snapshots of the `Tracked` tables.
 #[derive(Drop)]
 pub struct Before {
     /// What each edit since then replaced, one after the other. No edit takes an arc off, so none is gone.

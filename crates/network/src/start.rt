@@ -98,7 +98,7 @@ fn without_arcs(alloc: Global, problem: &Problem, extra: u32) -> Result<Network,
     Network::new(alloc, goal_of(kind, marks), supplies, room)
 }
 
-/// The problem's arcs, with room for `extra` more, up to the limit. All room for arcs is taken here.
+/// The network of a problem, with room for `extra` arcs more, up to the limit. All room for arcs is taken here.
 pub fn build(alloc: Global, problem: &Problem, extra: u32) -> Result<Network, AllocError>
     ensures { IfOk result (λ network. network ≡ first problem.now extra) }
 {

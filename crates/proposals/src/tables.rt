@@ -10,9 +10,6 @@ use relaxation::{Limits, Proposal, Ring, Sets};
 use std::alloc::{AllocError, Global};
 use std::marker::Model;
 
-/// With more nodes out of balance than these a proposal pays; fewer pushes are quicker than one look at all arcs.
-const FEW: usize = 32;
-
 /// What a proposal is to reach.
 #[derive(Clone, Copy, PartialEq, Eq)]
 pub enum Aim {
@@ -77,9 +74,9 @@ impl Proposals {
         self.proposal.entries()
     }
 
-    /// Whether a proposal pays: it is the first one, or many nodes are out of balance.
-    pub fn pays(&self, excess: &[i64]) -> bool {
-        self.fresh || are_many(excess)
+    /// Whether nothing was proposed yet.
+    pub fn is_fresh(&self) -> bool {
+        self.fresh
     }
 
     /// Leads a flow, what it leaves at each node and potentials on towards the aim. It takes no memory: an arc for which
@@ -129,17 +126,6 @@ impl Proposals {
             );
         }
     }
-}
-
-/// Whether many nodes are out of balance.
-fn are_many(excess: &[i64]) -> bool {
-    let mut count: usize = 0;
-    for amount in excess {
-        if *amount != 0 {
-            count = count.saturating_add(1);
-        }
-    }
-    count > FEW
 }
 
 /// Writes down the flow of each arc.

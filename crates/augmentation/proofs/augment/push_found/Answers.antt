@@ -22,7 +22,7 @@ use Rattle.augmentation.proofs.TouchedLemmas.{AreNoted-none, AreNoted-trans}
 use Rattle.augmentation.proofs.augment.push_found.Goals as goal
 use Rattle.augmentation.proofs.augment.push_found.Goals.{After-index, After-push_to-pushes}
 
--- the settled_order lists nodes alone
+-- the settled order lists nodes alone
 node_in : (s : List NodeLabel) (t : SettledOrder) → IsSettledOrderOf s t → (j : ℕ) → j < t.len → node_at t.nodes.items j < length s
 node_in s t settled_order j lt = in_range s (node_at t.nodes.items j) (settled_is_reached s (node_at t.nodes.items j) (settled_order.settled j lt))
 

@@ -10,7 +10,7 @@ use Rattle.shortest_paths.proofs.SettledOrderLemmas.{IsWrittenAlong, IsWrittenAl
 use Rattle.augmentation.proofs.potentials.lower.Goals as goal
 use Rattle.augmentation.proofs.potentials.lower.Goals.{After-index}
 
--- the node in the settled_order, which is one of the nodes, and whose potential stands yet
+-- the node in the settled order, which is one of the nodes, and whose potential is the old one yet
 node_is : (c : After-index) → node_at c.args.settled_order.now.nodes.items c.loop-j.j ≡ c.index.result.now
 node_is c = sym (get_or_read c.args.settled_order.now.nodes.items c.loop-j.j c.index.result.now (omega (arith, c.loop-j-test.true, c.requires.settled_order.counted, c.requires.settled_order.sized.nodes_sized)) c.index.ensures 0)
 

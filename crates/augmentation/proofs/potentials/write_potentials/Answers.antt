@@ -18,7 +18,7 @@ write_labels-requires-clause-fits c = λ v.
     (subst (λ (p : List ℤ). FitsSigned w64 (number_at p v +ℤ distance_at c.find_labels.new.scratch.labels.node_labels.items v)) (sym c.deref.ensures.value)
     (label_is_number _ _ _ _ (certified f) c.find_labels.ensures.labels v)))
 
--- the labels as they stand in the tracked
+-- the labels in the `Tracked` table
 shortest : (c : After-write_labels) → IsReducedCostOptimal c.args.graph.now.rows c.args.flow.now.entries.items c.find_labels.new.scratch.potentials.items → AreShortest c.args.graph.now.rows c.args.flow.now.entries.items (with_items c.args.potentials.now.entries c.write_labels.new.table).items
 shortest c before =
     let p = c.find_labels.new.scratch.potentials.items in

@@ -36,6 +36,7 @@ scratch_but_rooms n s s' same is = subst (IsScratchFor n) (sym same) (record {
   queue = is.queue;
   settled_order = is.settled_order;
   walks = record { dead_sized = is.walks.dead_sized; current_sized = is.walks.current_sized; back_sized = is.walks.back_sized };
+  attempt = is.attempt;
 })
 
 pub loop-reach-init : goal.loop-reach-init

@@ -156,6 +156,7 @@ returns-clause-scratch c =
       };
       settled_order = record { nodes_sized = c.requires.found.settled_order.sized.nodes_sized ∙ many };
       walks = subst (λ (n : ℕ). IsWalksFor n c.push_found-pushes.new.walks) (ap (λ (s : List NodeLabel). length s) c.deref-3.ensures.value ∙ many) c.push_found-pushes.ensures.walks;
+      attempt = c.requires.found.attempt;
     }
 
 pub returns-clause-rooms : goal.returns-clause-rooms

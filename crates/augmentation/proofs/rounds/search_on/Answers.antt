@@ -36,7 +36,7 @@ pub returns-then-is_none-clause-found : goal.returns-then-is_none-clause-found
 returns-then-is_none-clause-found c = by_result c.find_deficits-reach.result c.find_deficits-reach.ensures.found (search rules)
   where
     by_result : (found : Option ℤ) → MatchOption found (IsExhausted c.args.excess.now c.find_deficits-reach.new.node_labels) (HasFound c.args.excess.now c.find_deficits-reach.new.node_labels) → is_some found ≡ false
-        → MatchOption found (IsParted (seen c.args.side c.args.graph.now.rows) c.args.flow.now.entries.items c.args.excess.now) (HoldsSearch (seen c.args.side c.args.graph.now.rows) c.args.flow.now.entries.items c.args.excess.now (record { node_labels = with_items (with_items c.args.scratch.now.node_labels c.find_deficits-reach.new.node_labels) c.forget.new.node_labels; potentials = c.args.scratch.now.potentials; labels = c.args.scratch.now.labels; queue = c.find_deficits-reach.new.queue; settled_order = c.find_deficits-reach.new.settled_order; walks = c.args.scratch.now.walks }))
+        → MatchOption found (IsParted (seen c.args.side c.args.graph.now.rows) c.args.flow.now.entries.items c.args.excess.now) (HoldsSearch (seen c.args.side c.args.graph.now.rows) c.args.flow.now.entries.items c.args.excess.now (record { node_labels = with_items (with_items c.args.scratch.now.node_labels c.find_deficits-reach.new.node_labels) c.forget.new.node_labels; potentials = c.args.scratch.now.potentials; labels = c.args.scratch.now.labels; queue = c.find_deficits-reach.new.queue; settled_order = c.find_deficits-reach.new.settled_order; walks = c.args.scratch.now.walks; attempt = c.args.scratch.now.attempt }))
     by_result None done none = subst (λ (x : List ℤ). IsParted (seen c.args.side c.args.graph.now.rows) x c.args.excess.now) c.deref.ensures.value
         (parted_exhausted (seen c.args.side c.args.graph.now.rows) c.deref.result.now c.deref-2.result.now c.args.excess.now c.find_deficits-reach.new.node_labels c.find_deficits-reach.ensures.relaxed c.find_deficits-reach.ensures.from_excess done)
     by_result (Some reach) found none = absurd (false≢true (sym none))
@@ -45,7 +45,7 @@ pub returns-else-is_none-clause-found : goal.returns-else-is_none-clause-found
 returns-else-is_none-clause-found c = by_result c.find_deficits-reach.result c.find_deficits-reach.ensures.found (search rules)
   where
     by_result : (found : Option ℤ) → MatchOption found (IsExhausted c.args.excess.now c.find_deficits-reach.new.node_labels) (HasFound c.args.excess.now c.find_deficits-reach.new.node_labels) → IsTrue (is_some found)
-        → MatchOption found (IsParted (seen c.args.side c.args.graph.now.rows) c.args.flow.now.entries.items c.args.excess.now) (HoldsSearch (seen c.args.side c.args.graph.now.rows) c.args.flow.now.entries.items c.args.excess.now (record { node_labels = with_items c.args.scratch.now.node_labels c.find_deficits-reach.new.node_labels; potentials = c.args.scratch.now.potentials; labels = c.args.scratch.now.labels; queue = c.find_deficits-reach.new.queue; settled_order = c.find_deficits-reach.new.settled_order; walks = c.args.scratch.now.walks }))
+        → MatchOption found (IsParted (seen c.args.side c.args.graph.now.rows) c.args.flow.now.entries.items c.args.excess.now) (HoldsSearch (seen c.args.side c.args.graph.now.rows) c.args.flow.now.entries.items c.args.excess.now (record { node_labels = with_items c.args.scratch.now.node_labels c.find_deficits-reach.new.node_labels; potentials = c.args.scratch.now.potentials; labels = c.args.scratch.now.labels; queue = c.find_deficits-reach.new.queue; settled_order = c.find_deficits-reach.new.settled_order; walks = c.args.scratch.now.walks; attempt = c.args.scratch.now.attempt }))
     by_result None done some = absurd (false≢true some)
     by_result (Some reach) found some =
         let is = node_labels_are (goal.at.returns-else-is_none-clause-found c).After-find_deficits-reach in
@@ -64,4 +64,5 @@ returns-else-is_none-clause-found c = by_result c.find_deficits-reach.result c.f
           settled_order = subst (λ (s : List NodeLabel). IsSettledOrderOf s c.find_deficits-reach.new.settled_order) (sym is) c.find_deficits-reach.ensures.settled_order;
           labels = c.requires.scratch.labels;
           walks = c.requires.scratch.walks;
+          attempt = c.requires.scratch.attempt;
         }

@@ -14,4 +14,5 @@ returns-clause-sized c =
       queue = search rules;
       settled_order = search rules;
       walks = search rules;
+      attempt = search rules;
     }

@@ -1,5 +1,40 @@
-use Rattle.std.proofs.Common.{rules}
+use Rattle.std.proofs.Common.{rules, ◌≡◌, ℕ, zero, suc, ◌++◌, ◌∷◌, [], ◌<◌, List, length, reverse, sym, subst, arith}
+use Rattle.std.proofs.lemmas.List.Elements.{All-nil}
+use Rattle.std.specs.List.{All}
+use Rattle.history.specs.Boards.{Changes, FitInTurn, all_boards, boards, met}
+use Rattle.flow_solver.specs.Answer.{IsAnswered}
+use Rattle.flow_solver.specs.Moment.{Moment}
+use Rattle.session.specs.declared.marks.Mark.{Mark}
+use Rattle.session.specs.Marks.{AreOn}
+use Rattle.session.specs.Record.{Recorded, RecordFits, Differs, swapped}
+use Rattle.session.specs.Session.{IsHeld}
 use Rattle.session.proofs.session.Session.open_in.Goals as goal
+
+-- so is each of one moment
+all_one : (m : Moment) → IsAnswered m → All IsAnswered (m ∷ [])
+all_one m answered zero d below = answered
+all_one m answered (suc i) d below = absurd (omega arith)
+
+-- with no change and no mark an answered moment is all that is held
+held_fresh : (h : Changes Recorded) (m : Moment) (marks : List Mark) → h.past ≡ [] → h.future ≡ [] → IsAnswered m → marks ≡ [] → IsHeld h m marks
+held_fresh h m marks past future answered none = record {
+  kept = record {
+    stands = record {
+      back = subst (λ (p : List Recorded). FitInTurn RecordFits swapped (reverse p) m) (sym past) tt;
+      forward = subst (λ (p : List Recorded). FitInTurn RecordFits swapped p m) (sym future) tt;
+    };
+    exact = record {
+      back = subst (λ (p : List Recorded). FitInTurn Differs swapped (reverse p) m) (sym past) tt;
+      forward = subst (λ (p : List Recorded). FitInTurn Differs swapped p m) (sym future) tt;
+    };
+    answered = subst (λ (p : List Recorded). All IsAnswered (reverse (met swapped (reverse p) m) ++ m ∷ met swapped h.future m)) (sym past)
+        (subst (λ (p : List Recorded). All IsAnswered (m ∷ met swapped p m)) (sym future) (all_one m answered));
+  };
+  marked = subst (λ (ms : List Mark). AreOn (boards swapped h m) ms) (sym none) (All-nil (λ (mark : Mark). mark.moment < length (all_boards (boards swapped h m))));
+}
+
+pub invariant_of-result : goal.invariant_of-result
+invariant_of-result g c = held_fresh c.new-2.result c.settle.new.self.moment c.new-3.result c.new-2.ensures.past c.new-2.ensures.future c.settle.ensures.answered c.new-3.ensures
 
 pub returns-clause-instance : goal.returns-clause-instance
 returns-clause-instance g c = search rules

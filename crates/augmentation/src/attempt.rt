@@ -1,0 +1,68 @@
+//! The tables in which proposals are made and tried.
+
+ghost use Rattle.std.specs.Prelude.{◌≡◌, ◌<◌, ◌^◌, IfOk, length};
+ghost use Rattle.residual_graph.specs.Graph.{HasEntries};
+ghost use Rattle.residual_graph.specs.Residual.{IsPseudoflow};
+ghost use Rattle.augmentation.specs.Attempt.{IsAttemptFor};
+
+use crate::draft::Draft;
+use proposals::{Aim, Proposals, Wanted};
+use residual_graph::Graph;
+use std::alloc::{AllocError, Global};
+
+/// The most arcs for which a proposal has room.
+const MOST_ARCS: usize = 1_000_000_000;
+
+/// A proposal: what makes it, what it comes to, and the copies on which it is tried.
+#[derive(Drop)]
+pub struct Attempt {
+    pub proposals: Proposals,
+    pub wanted: Wanted,
+    pub draft: Draft,
+}
+
+impl Attempt {
+    /// Tables for so many entries, and for the flows of so many arcs.
+    ///
+    /// # Errors
+    /// Memory for a table was refused.
+    pub fn new(alloc: Global, entries: usize, arcs: usize) -> Result<Attempt, AllocError>
+        requires { entries < 2 ^ 31 }
+        ensures { IfOk result (λ a. IsAttemptFor entries a) }
+    {
+        let arcs = arcs.min(MOST_ARCS);
+        let proposals = Proposals::new(alloc, entries, arcs)?;
+        let wanted = Wanted::new(alloc, entries, arcs)?;
+        let draft = Draft::new(alloc, entries, arcs)?;
+        Ok(Attempt {
+            proposals,
+            wanted,
+            draft,
+        })
+    }
+
+    /// Proposes where to lead a flow, its excess and potentials.
+    pub(crate) fn propose(
+        &mut self,
+        graph: &Graph,
+        flow: &[i64],
+        excess: &[i64],
+        potentials: &[i64],
+    )
+        requires tables { IsAttemptFor (length potentials.now) self.old }
+        requires graph { HasEntries (length potentials.now) graph.now }
+        requires flow { IsPseudoflow (length potentials.now) graph.now.rows flow.now }
+        requires excess { length excess.now ≡ length potentials.now }
+        ensures { IsAttemptFor (length potentials.now) self.new }
+    {
+        let aim = if graph.first_row() > 0 {
+            Aim::GreatestFlow
+        } else {
+            Aim::LeastCost
+        };
+        self.proposals
+            .propose(graph.rows(), flow, excess, potentials, aim);
+        self.proposals
+            .write(graph.rows(), flow, aim, &mut self.wanted);
+    }
+}
