@@ -1,5 +1,6 @@
-"""What the documents say of the code, held against the code: functions with the names of their clauses, definitions, and
-what refused each must-fail edit in a log of the gate."""
+"""What the documents say of the code, held against the code: functions with the names of their clauses, definitions,
+quoted lines, and lists that logs of the kit have. Each function `wrong_..` gives what is wrong, in words, and how many names
+it looked at."""
 import re
 from collections import defaultdict
 from pathlib import Path
@@ -51,39 +52,43 @@ def definitions():
 
 
 def promises(text):
-    """What each `By` of a page cites: pairs of a place, as it is written, and (crate, functions, clauses, definitions)."""
-    for item in re.findall(r"(?s)\bBy (`\w+`: .*?)(?=\n\n|\n- |\Z)", text):
-        crate = None
-        for part in re.sub(r"\s+", " ", item).split(";"):
-            named = re.match(r" ?`(\w+)`:(.*)", part)
-            if named:
-                crate, part = named.groups()
-            part, _, cited = part.partition("(")
-            names, _, clauses = re.sub(r"\bclauses?\b", "|", part).partition("|")
-            yield part.strip(), (crate, re.findall(NAME, names), re.findall(NAME, clauses), re.findall(NAME, cited))
+    """What each `By` of a page cites: pairs of a place, as it is written, and (crate, functions, clauses, definitions). The
+    crate is that of the section's heading where none is named."""
+    for heading, section in re.findall(r"(?ms)^## ([^\n]*)\n(.*?)(?=^## |\Z)", text):
+        of_section = (re.findall(NAME, heading) or [None])[-1]
+        for item in re.findall(r"(?s)\bBy (`.*?)(?=\n\n|\n- |\Z)", section):
+            crate = of_section
+            for part in re.sub(r"\s+", " ", item).split(";"):
+                named = re.match(r" ?`(\w+)`:(.*)", part)
+                if named:
+                    crate, part = named.groups()
+                whole, (part, _, cited) = part, part.partition("(")
+                names, _, clauses = re.sub(r"\bclauses?\b", "|", part).partition("|")
+                yield whole.strip(), (crate, re.findall(NAME, names), re.findall(NAME, clauses), re.findall(NAME, cited))
+
+
+def named(its, name):
+    """Those of a crate's names that are this one, or that begin as `name*` does."""
+    return [each for each in its if each == name or name.endswith("*") and each.startswith(name[:-1])]
 
 
 def wrong_promises(text):
-    """What PROOFS cites that is not in the code. Gives what is wrong, and how many functions, clauses and definitions it cites."""
-    known, specs, wrong, count = {}, definitions(), [], [0, 0, 0]
+    """What PROOFS cites of functions, clauses and definitions that is not in the code."""
+    known, specs, wrong, count = {crate: functions(crate) for crate in CRATES}, definitions(), [], 0
     for place, (crate, names, clauses, cited) in promises(text):
         if crate not in CRATES:
             wrong.append(f"{place}: no crate {crate}")
             continue
-        its = known.setdefault(crate, None) or functions(crate)
-        known[crate] = its
-        count[0] += len(names)
-        count[1] += len(clauses) * len(names)
-        count[2] += len(cited)
-        wrong += [f"{crate}: no function {name}" for name in names if name not in its]
-        wrong += [f"{crate}: {name} has no clause {clause}" for name in names if name in its for clause in clauses
-                  if not any(clause in one for one in its[name])]
+        count += len(names) + len(clauses) * len(names) + len(cited)
+        wrong += [f"{crate}: no function {name}" for name in names if not named(known[crate], name)]
+        wrong += [f"{crate}: {each} has no clause {clause}" for name in names for each in named(known[crate], name)
+                  for clause in clauses if not any(clause in one for one in known[crate][each])]
         wrong += [f"{crate}: no definition {name}" for name in cited if name not in specs]
     return wrong, count
 
 
 def wrong_definitions(text):
-    """What DEFINITIONS says stands in a file of the crates and does not. Gives what is wrong, and how many names it has."""
+    """What DEFINITIONS says that a file of the crates has, and it has not."""
     specs, wrong, count = definitions(), [], 0
     for place, names in re.findall(r"`(\w+/(?:specs|src)/[\w/]+\.\w+)`(?:\s+\(((?:`\w+`,?\s*)+)\))?", text):
         if not (TOP / "crates" / place).is_file():
@@ -92,6 +97,58 @@ def wrong_definitions(text):
             count += 1
             if place not in specs[name]:
                 wrong.append(f"{place} has no {name}")
+    return wrong, count
+
+
+def wrong_claim(text):
+    """What CLAIM quotes or names that is not in the code: blocks of code, clauses, functions and definitions. The section on
+    how to read a contract names what the kit has."""
+    sources = {file: file.read_text() for file in sorted(TOP.glob("crates/*/src/**/*.rt"))}
+    specs, known = definitions(), defaultdict(list)
+    for crate in CRATES:
+        for name, clauses in functions(crate).items():
+            known[name] += clauses
+    text = re.sub(r"(?s)### How to read a contract.*?(?=\n### )|## What is assumed.*", "", text)
+    quoted = re.findall(r"(?m)^```rust\n((?:.*\n)*?)```$", text) + re.findall(r"`(ensures \w+ \{[^`]*\})`", text)
+    wrong = [f"no source has: {code}" for code in quoted if not any(code in source for source in sources.values())]
+    count = len(quoted)
+    for path in re.findall(r"`(?:crates/)?(\w+/(?:src|specs|must-fail)/[\w./-]+)`", text):
+        count += 1
+        wrong += [] if (TOP / "crates" / path).is_file() else [f"no file {path}"]
+    for clauses, name in re.findall(r"((?:`\w+`(?: and )?)+) of `([\w:]+)`", re.sub(r"\s+", " ", text)):
+        for clause in re.findall(NAME, clauses):
+            count += 1
+            wrong += [] if any(clause in one for one in known[name]) else [f"{name} has no clause {clause}"]
+    for name in re.findall(r"`([A-Z]\w+|\w+_\w+|\w+::\w+)`", text):
+        count += 1
+        wrong += [] if name in specs or name in known else [f"no crate has {name}"]
+    return wrong, count
+
+
+def wrong_rows(readme, architecture):
+    """Which crates have no row, or no row of a line, in the tables of README and ARCHITECTURE, and what these rows and the
+    lists of ARCHITECTURE name that a crate has not."""
+    known, wrong, count = {crate: functions(crate) for crate in CRATES}, [], 0
+    for page, text, cells in [("README", readme, 3), ("ARCHITECTURE", architecture, 2)]:
+        rows = [row for row in re.findall(r"(?m)^\| `.*\|$", text) if row.count("|") == cells + 1]
+        of = [(re.findall(NAME, row.split("|")[1]), row) for row in rows]
+        for crate in CRATES:
+            its = [row for names, row in of if crate in names]
+            count += 1
+            if len(its) != 1 or len(its[0]) > 120:
+                wrong.append(f"{page}: {crate} has no row of one line of at most 120 characters: {its}")
+            elif cells == 3:
+                of_row = re.findall(NAME, its[0].split("|")[3])
+                count += len(of_row)
+                wrong += [f"README: {crate} has no {name}" for name in of_row if not named(known[crate], name)]
+    calls = architecture.split("## One run, function by function")[1].split("\n## ")[0]
+    for crate, names in re.findall(r"(?m)^- `(\w+)`: (.*(?:\n  .*)*)", calls):
+        names = re.findall(r"`([\w:]+)`", names)
+        count += len(names)
+        wrong += [f"ARCHITECTURE: {crate} has no {name}" for name in names if not named(known.get(crate, {}), name)]
+    for source in sorted(TOP.glob("crates/*/src/**/*.rt")):
+        if source.name != "tests.rt" and not source.read_text().startswith("//! "):
+            wrong.append(f"{source.relative_to(TOP)} does not say in its first line what it is")
     return wrong, count
 
 
@@ -123,11 +180,11 @@ def refusal(crate, said):
 
 def must_fail_table(log):
     """A table of what refused each must-fail edit that a log of the gate names; for each crate the edits that it names; and
-    those that it does not call refused, or refused for a name or by a limit alone, which says nothing of a contract."""
+    those that are not refused, or for a missing name alone, which says nothing of a contract."""
     rows, weak = defaultdict(dict), []
     for crate, edit, said in re.findall(r"must-fail (\w+)/(\S+)\.edit: (.*)", log):
         refused = re.match(r"refused, as it must be(?:: (.*))?$", said)
-        if not refused:
+        if not refused and "(only by a limit" not in said:
             weak.append(f"{crate}/{edit}: {said}")
         rows[crate][edit] = refusal(crate, refused.group(1) or "") if refused else ("", said[:60])
     text = "# What refused each wrong body\n\nMade of the gate's log: in which function the prover first said no, and by what.\n"
@@ -136,3 +193,16 @@ def must_fail_table(log):
         for edit, (place, what) in sorted(rows[crate].items()):
             text += f"| `{edit}` | `{place}` | {what.replace('|', chr(92) + '|')} |\n"
     return text, rows, weak
+
+
+def wrong_table(log, path):
+    """Writes the table of a log of the gate to a path, and gives what is wrong: edits that are not refused, and edits that a
+    crate has and a log that names its others does not. What an earlier run tried, the log does not name."""
+    table, rows, wrong = must_fail_table(log)
+    for crate in rows:
+        edits = {edit.stem for edit in (TOP / "crates" / crate / "must-fail").glob("*.edit")}
+        if edits ^ set(rows[crate]) and not re.search(rf"{crate}: .* must-fail edits were tried by an earlier run", log):
+            wrong.append(f"{crate}: the log does not name its edits: {sorted(edits ^ set(rows[crate]))}")
+    if rows:
+        path.write_text(table)
+    return wrong, sum(map(len, rows.values()))
