@@ -152,6 +152,21 @@ def wrong_rows(readme, architecture):
     return wrong, count
 
 
+def wrong_links(pages):
+    """Which links of the pages lead to no file of the repository, or to no heading of it."""
+    wrong, count = [], 0
+    for page in pages:
+        for link in re.findall(r"\]\(([^):]+)\)", page.read_text()):
+            count += 1
+            path, _, anchor = link.partition("#")
+            target = page.parent / path if path else page
+            heads = re.findall(r"(?m)^#+ (.*)$", target.read_text()) if anchor and target.is_file() else []
+            anchors = [re.sub(r"[^\w\- ]", "", head.lower()).replace(" ", "-") for head in heads]
+            if not target.exists() or anchor and anchor not in anchors:
+                wrong.append(f"{page.relative_to(TOP)}: {link}")
+    return wrong, count
+
+
 def function_at(crate, file, line):
     """The function of a crate's file that a line belongs to."""
     lines = (TOP / "crates" / crate / file).read_text().splitlines()[:int(line)]
