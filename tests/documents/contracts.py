@@ -167,6 +167,28 @@ def wrong_links(pages):
     return wrong, count
 
 
+def wrong_assumed(claim, readme, log):
+    """How what CLAIM lists as assumed, and what README counts, differs from what a log says of the program: how many
+    functions of each library the proof can rest on, and the names of the first ones. A log without that says nothing."""
+    reports = re.findall(r"(?m)^axioms (\w+): (.*?)(?:, \.\.\.)? \((\d+) of the \d+ declared\)$", log)
+    totals = re.findall(r"(?m)^logic=proved .*\baxioms=(\d+)\b", log)
+    if not totals:
+        return []
+    wrong, whole = [], int(totals[-1])
+    listed = {crate: re.findall(NAME, names) for crate, names in
+              re.findall(r"(?m)^- \d+ of the [^\n`]*, `(\w+)`:((?:[^\n]|\n  )*)", claim.split("## What is assumed")[1])}
+    for crate, first, count in reports:
+        names = {f"{crate}::{name}" for name in listed.get(crate, [])}
+        if len(names) != int(count) or not set(first.split(", ")) <= names:
+            wrong.append(f"{crate}: {count} functions, {first}, ..; the page lists {sorted(names)}")
+    for page, text in [("CLAIM", claim), ("README", readme)]:
+        if not re.search(rf"\b{whole}\b\s+(?:of them|functions of the C\s+library)", text):
+            wrong.append(f"{page} does not say that {whole} are assumed")
+    if sum(map(len, listed.values())) != whole:
+        wrong.append(f"CLAIM lists {sum(map(len, listed.values()))} functions, and {whole} are assumed")
+    return wrong
+
+
 def function_at(crate, file, line):
     """The function of a crate's file that a line belongs to."""
     lines = (TOP / "crates" / crate / file).read_text().splitlines()[:int(line)]
