@@ -6,6 +6,7 @@ mod fault;
 mod library;
 mod lists;
 mod status;
+mod statuses;
 mod view;
 
 pub use answer::{Answer, solve_text};
@@ -13,4 +14,5 @@ pub use fault::Fault;
 pub use library::{open_session, redo, take_line, undo};
 pub use lists::{give_cut, give_flow, give_potentials};
 pub use status::{CLOSED, FAULT, MEMORY, NOT_THERE, OPEN, OTHER_LENGTH, TOO_SHORT};
+pub use statuses::statuses_are;
 pub use view::{View, look};

@@ -3,6 +3,7 @@
 
 mod differences;
 mod laws;
+mod limits;
 mod marks;
 mod record;
 mod refusal;
@@ -11,6 +12,7 @@ mod swaps;
 
 pub use flow_solver::Part;
 pub use laws::{marks_are_few, moves_are_steps};
+pub use limits::limits_are;
 pub use marks::{MARK_LIMIT, Mark};
 pub use record::Record;
 pub use refusal::Refusal;

@@ -16,3 +16,9 @@ returns-clause-breach c shortage same is =
     let fits : SFits w32 c.give.result = search rules in
     let zero = sym (to_z-of_z fits) ∙ same in
     rw (c.give.ensures.copied zero ∙ c.cut.ensures.value) (breach c.args.session.now.moments.present shortage c.is_feasible.ensures.answered is)
+
+pub returns-clause-chosen : goal.returns-clause-chosen
+returns-clause-chosen c same =
+    let fits : SFits w32 c.give.result = search rules in
+    let zero = sym (to_z-of_z fits) ∙ same in
+    rw (c.give.ensures.copied zero ∙ c.cut.ensures.value) c.is_feasible.ensures.answered.chosen
