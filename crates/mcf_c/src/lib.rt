@@ -7,9 +7,9 @@ ghost use Rattle.std.specs.Prelude.{◌≡◌, ◌≢◌, ◌⊎◌, ℕ, ℤ, L
 ghost use Rattle.dimacs_text.specs.Reading.{reads};
 ghost use Rattle.dimacs_text.specs.declared.command.Command.TheVariants as commands;
 ghost use Rattle.dimacs_lines.specs.declared.fault.TextFault.TheVariants as faults;
-ghost use Rattle.flow_solver.specs.Answer.{IsAnswered};
+ghost use Rattle.flow_solver.specs.Answer.{AreGreatestPotentials, IsChosenCut};
 ghost use Rattle.flow_solver.specs.declared.verdict.Verdict.TheVariants.{Infeasible};
-ghost use Rattle.network.specs.Instance.{IsBest, IsBreach, IsCertified, IsLegal, at_node, is_marked};
+ghost use Rattle.network.specs.Instance.{IsBest, IsBreach, IsCertified, IsLegal, at_node, is_marked, reduced};
 ghost use Rattle.session.specs.Parts.{flow_of};
 ghost use Rattle.session.specs.Step.{Step, StepBy};
 ghost use Rattle.calls.specs.Answer.{AreListsKept, IsSameRoom, IsSolved, IsTooShort};
@@ -160,13 +160,16 @@ pub extern "C" fn mcf_flow(alloc: Global, handle: &mut Handle, flow: &mut [i64])
     status
 }
 
-/// Copies the potentials that certify the best flow, one entry a node in their order.
+/// Copies the greatest potentials that certify the best flow, one entry a node in their order.
 ///
 /// Answers 0, or `NOT_THERE` where no flow is legal, `OTHER_LENGTH` or `CLOSED`, after which the room is as before.
 #[unsafe(no_mangle)]
 pub extern "C" fn mcf_potentials(alloc: Global, handle: &mut Handle, potentials: &mut [i64]) -> i32
     ensures status { result ≡ given_of (state_behind handle.old) has_flow node_count (length potentials.old) }
+    ensures copied { result ≡ pos 0 → IfSome (state_behind handle.old) (λ s. potentials.new ≡ s.moments.present.potentials) }
     ensures certified { result ≡ pos 0 → IfSome (state_behind handle.old) (λ s. IsCertified s.moments.present.instance (flow_of s.moments.present) (at_node potentials.new)) }
+    ensures greatest { result ≡ pos 0 → IfSome (state_behind handle.old)
+        (λ s. AreGreatestPotentials (reduced s.moments.present.instance) s.moments.present.flow (at_node potentials.new)) }
     ensures room { result ≢ pos 0 → potentials.new ≡ potentials.old }
     ensures unchanged { state_behind handle.new ≡ state_behind handle.old }
 {
@@ -178,15 +181,18 @@ pub extern "C" fn mcf_potentials(alloc: Global, handle: &mut Handle, potentials:
     status
 }
 
-/// Copies the cut that shows why no flow is legal, one mark a node in their order.
+/// Copies the chosen cut that shows why no flow is legal, one mark a node in their order.
 ///
 /// Answers 0, or `NOT_THERE` where a flow is legal, `OTHER_LENGTH` or `CLOSED`, after which the room is as before.
 #[unsafe(no_mangle)]
 pub extern "C" fn mcf_cut(alloc: Global, handle: &mut Handle, cut: &mut [bool]) -> i32
     ensures status { result ≡ given_of (state_behind handle.old) has_cut node_count (length cut.old) }
+    ensures copied { result ≡ pos 0 → IfSome (state_behind handle.old) (λ s. cut.new ≡ s.moments.present.cut) }
     ensures none_legal { result ≡ pos 0 → IfSome (state_behind handle.old) (λ s. (flow : List ℤ) → IsLegal s.moments.present.instance flow → ⊥) }
     ensures breach { (shortage : ℤ) → result ≡ pos 0 → IfSome (state_behind handle.old)
         (λ s. s.moments.present.verdict ≡ Infeasible shortage → IsBreach s.moments.present.instance (is_marked cut.new) shortage) }
+    ensures chosen { result ≡ pos 0 → IfSome (state_behind handle.old)
+        (λ s. IsChosenCut s.moments.present.verdict (reduced s.moments.present.instance) (is_marked cut.new)) }
     ensures room { result ≢ pos 0 → cut.new ≡ cut.old }
     ensures unchanged { state_behind handle.new ≡ state_behind handle.old }
 {

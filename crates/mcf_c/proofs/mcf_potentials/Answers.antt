@@ -9,3 +9,9 @@ returns-clause-certified c = search rules
 
 pub returns-clause-room : goal.returns-clause-room
 returns-clause-room c = search rules
+
+pub returns-clause-copied : goal.returns-clause-copied
+returns-clause-copied c = search rules
+
+pub returns-clause-greatest : goal.returns-clause-greatest
+returns-clause-greatest c = search rules
