@@ -14,7 +14,7 @@
  *   a time has it, always on one thread. mcf_close gives its memory back. Other threads may use other handles and
  *   answers meanwhile.
  * - The program's malloc, realloc and free are one allocator that aligns to 16. No call is made in a signal handler, or
- *   after fork in the child of a process with threads.
+ *   after fork in the child of a process with threads. A thread that makes calls has 64 kB of stack left for them.
  */
 #ifndef MCF_H
 #define MCF_H
@@ -33,7 +33,7 @@ enum {
     MCF_CLOSED = -1,       /* the handle has no session */
     MCF_OPEN = -2,         /* the handle has a session already */
     MCF_OTHER_LENGTH = -3, /* the array has another length than the list */
-    MCF_NOT_THERE = -4,    /* no flow where no legal one exists; no cut where one does */
+    MCF_NOT_THERE = -4,    /* no flow and no potentials where no flow is legal; no cut where one is */
     MCF_FAULT = -5,        /* the text has a fault */
     MCF_MEMORY = -6,       /* memory was refused */
     MCF_TOO_SHORT = -7     /* a list of the answer has no room */
@@ -109,7 +109,9 @@ int32_t mcf_open(mcf_handle *handle, const uint8_t *text, size_t length, uint32_
 
 /* Takes a line of a session's commands, without its line feed, such as "cap 5 3" (arc 5 may carry 3), and solves again.
  * A refusal by its number, or MCF_CLOSED: nothing has changed. "show" and "proof" change nothing; "mark NAME" names the
- * present moment, and "back NAME" goes there again; "group" and "end" are refused (29), since a call takes one line. */
+ * present moment, and "back NAME" goes there again; "group" and "end" are refused (29), since a call takes one line. A
+ * blank line is refused by 2, and a line of more than 1,024 bytes, blank or not, by 1. A line feed that is left on is a
+ * byte of a word, so the line is refused: "show\n" by 2, "cap 5 3\n" by 4. */
 int32_t mcf_command(mcf_handle *handle, const uint8_t *line, size_t length);
 
 /* Goes back one moment, or on one: to the very answer that stood there. 25 and 26: there is none. */
@@ -120,15 +122,16 @@ int32_t mcf_redo(mcf_handle *handle);
 int32_t mcf_look(mcf_handle *handle, mcf_view *view);
 
 /* The next three copy a list of the present moment to an array of its length, which the view tells. MCF_NOT_THERE,
- * MCF_OTHER_LENGTH or MCF_CLOSED: nothing is written. */
+ * MCF_OTHER_LENGTH or MCF_CLOSED: nothing is written. Where no flow is legal, there is a cut alone, and elsewhere there
+ * are a flow and potentials alone: of what is not there, MCF_NOT_THERE is answered whatever the length. */
 
 /* A best flow, one entry an arc. */
 int32_t mcf_flow(mcf_handle *handle, int64_t *flow, size_t arcs);
 
-/* Potentials that prove the flow best, one entry a node. */
+/* The greatest potentials that prove the flow best, one entry a node. */
 int32_t mcf_potentials(mcf_handle *handle, int64_t *potentials, size_t nodes);
 
-/* A cut that proves that no flow is legal, one mark a node. */
+/* The cut that proves that no flow is legal and that docs/FORMATS.md chooses, one mark a node. */
 int32_t mcf_cut(mcf_handle *handle, bool *cut, size_t nodes);
 
 /* Ends the session and gives its memory back. A closed handle stays closed, and can be opened again. */
