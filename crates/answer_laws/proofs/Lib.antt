@@ -1,0 +1,8 @@
+mod Written
+mod Cutting
+mod Steps
+mod Read
+mod ReadCut
+mod Right
+mod Short
+mod Checking

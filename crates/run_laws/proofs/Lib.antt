@@ -1,0 +1,9 @@
+mod Certifying
+mod Agreeing
+mod Lists
+mod Stepping
+mod Pieces
+mod Showing
+mod Running
+mod Undoing
+mod Turning

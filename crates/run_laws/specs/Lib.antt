@@ -1,0 +1,4 @@
+pub mod Alike
+pub mod Texts
+pub mod Undone
+pub mod Cutting

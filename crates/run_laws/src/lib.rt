@@ -1,0 +1,15 @@
+//! Laws of whole runs: what the texts determine of the bytes that are written, what undo shows, and what the turns of a text are.
+#![tactic(auto)]
+
+mod answers;
+mod runs;
+mod turns;
+mod undone;
+
+pub use answers::{answers_agree, certified_of_each_best};
+pub use runs::{
+    moments_show_the_same, same_texts_give_the_same_bytes, solve_and_session_agree, solves_agree,
+    steps_agree,
+};
+pub use turns::turns_are_the_lines;
+pub use undone::undo_shows_the_same;
