@@ -13,7 +13,7 @@ import subprocess
 import tempfile
 import time
 from pathlib import Path
-from typing import IO, List, Optional, Union
+from typing import List, Optional, Union
 
 from .dimacs import Fault, find_answer_fault, find_fault
 
@@ -95,9 +95,9 @@ class Program:
         """
         done = self._run(["solve", "--proof"], as_bytes(text), time_limit)
         if done.returncode == 3:
-            raise self._refused(done, text, None)
+            raise refusal(done, text, None)
         if done.returncode not in (0, 1):
-            raise self._failed(done)
+            raise failure(done)
         return as_str(done.stdout)
 
     def check(self, problem: Text, answer: Text, *, time_limit: Optional[float] = None) -> str:
@@ -112,9 +112,9 @@ class Program:
                     file.write(as_bytes(text))
             done = self._run(["check", *names], b"", time_limit)
         if done.returncode == 3:
-            raise self._refused(done, problem, answer)
+            raise refusal(done, problem, answer)
         if done.returncode not in (0, 1):
-            raise self._failed(done)
+            raise failure(done)
         return as_str(done.stdout).strip()
 
     def session(self, text: Text, *, extra: Optional[int] = None, time_limit: Optional[float] = None) -> Dialogue:
@@ -145,25 +145,23 @@ class Program:
                 raise
         return subprocess.CompletedProcess(words, process.returncode, output, errors)
 
-    @staticmethod
-    def _failed(done: subprocess.CompletedProcess[bytes]) -> ProgramFailed:
-        said = as_str(done.stderr).strip()
-        return ProgramFailed(f"mcf ended with status {done.returncode}{': ' if said else ''}{said}", done.returncode)
 
-    @classmethod
-    def _refused(cls, done: subprocess.CompletedProcess[bytes], problem: Text,
-                 answer: Optional[Text]) -> Exception:
-        """The refusal in words; the program's own line where the words speak of another one."""
-        said = as_str(done.stderr).strip()
-        is_of_answer = said.startswith("mcf: answer")
-        if is_of_answer and answer is not None:
-            fault, text = find_answer_fault(problem, answer), answer
-        else:
-            fault, text = find_fault(problem), problem
-        if fault is None or said != f"mcf: {'answer' if is_of_answer else 'problem'} line {fault.line}: " \
-                                    f"fault {fault.number}":
-            return cls._failed(done)
-        return Refused(fault, text)
+def failure(done: subprocess.CompletedProcess[bytes]) -> ProgramFailed:
+    """A run that ended as none should."""
+    said = as_str(done.stderr).strip()
+    return ProgramFailed(f"mcf ended with status {done.returncode}{': ' if said else ''}{said}", done.returncode)
+
+
+def refusal(done: subprocess.CompletedProcess[bytes], problem: Text, answer: Optional[Text]) -> Exception:
+    """The refusal of a text in words; the program's own words alone where these would speak of another line."""
+    said = as_str(done.stderr).strip()
+    if answer is not None and said.startswith("mcf: answer"):
+        name, text, fault = "answer", answer, find_answer_fault(problem, answer)
+    else:
+        name, text, fault = "problem", problem, find_fault(problem)
+    if fault is None or said != f"mcf: {name} line {fault.line}: fault {fault.number}":
+        return failure(done)
+    return Refused(fault, text)
 
 
 class Dialogue:
@@ -176,25 +174,25 @@ class Dialogue:
                  time_limit: Optional[float] = None):
         self._unread = b""
         self._in_group = False
-        self._file: IO[bytes] = tempfile.NamedTemporaryFile(prefix="mcf-plan-", suffix=".problem")
-        self._file.write(as_bytes(text))
-        self._file.flush()
-        words = ["session"] + (["--extra", str(extra)] if extra is not None else []) + [self._file.name]
-        self._process = program.start(words)
-        assert self._process.stdout is not None
-        self._output = self._process.stdout.fileno()
-        try:
-            self.first = self._read_line(time_limit)
-        except ProgramFailed as failed:
-            done = subprocess.CompletedProcess(words, failed.status or 0, b"", str(failed).encode())
-            if failed.status == 3:
-                raise Program._refused(done, text, None) from None
-            raise Program._failed(done) from None
+        with tempfile.NamedTemporaryFile(prefix="mcf-plan-", suffix=".problem") as file:
+            file.write(as_bytes(text))
+            file.flush()
+            self._process = program.start(
+                ["session"] + (["--extra", str(extra)] if extra is not None else []) + [file.name])
+            assert self._process.stdin is not None and self._process.stdout is not None
+            self._input, self._output = self._process.stdin.fileno(), self._process.stdout.fileno()
+            os.set_blocking(self._input, False)
+            try:
+                self.first = self._exchange(b"", [False], time_limit)[0]
+            except _Ended as ended:
+                if ended.done.returncode == 3:
+                    raise refusal(ended.done, text, None) from None
+                raise failure(ended.done) from None
 
     @property
     def is_open(self) -> bool:
-        """Whether the session still takes lines: not after `close`, an interrupted or a failed line."""
-        return self._process.poll() is None
+        """Whether the session still takes lines: not after `close`, nor after a line that was interrupted or failed."""
+        return self._process.poll() is None and not self._is_closed()
 
     def ask(self, line: str, *, time_limit: Optional[float] = None) -> List[str]:
         """The lines of the reply to one line: one, several after `show` and `proof`, none in a group before `end`.
@@ -205,46 +203,44 @@ class Dialogue:
         return self.ask_all([line], time_limit=time_limit)
 
     def ask_all(self, lines: List[str], *, time_limit: Optional[float] = None) -> List[str]:
-        """The replies to several lines that are sent at once, in one list."""
-        expected = 0
+        """The replies to several lines that are sent at once, one after the other in one list."""
         sent = []
-        solutions = False
+        awaited = []  # for each reply, whether it is a solution, whose lines end with the reply to `?`
         for line in lines:
-            word = line.split(None, 1)[0] if line.strip() else ""
+            words = line.split()
             sent.append(line)
-            if not word:
+            if not words:
                 continue
             if self._in_group:
-                if word == "end":
+                if words == ["end"]:
                     self._in_group = False
-                    expected += 1
-            elif word == "group" and len(line.split()) == 1:
+                    awaited.append(False)
+            elif words == ["group"]:
                 self._in_group = True
-            elif word in ("show", "proof") and len(line.split()) == 1:
+            elif words in (["show"], ["proof"]):
                 sent.append("?")
-                solutions = True
-                expected += 1
+                awaited.append(True)
             else:
-                expected += 1
-        return self._exchange("\n".join(sent) + "\n", expected, solutions, time_limit)
+                awaited.append(False)
+        if self._is_closed():
+            raise ProgramFailed("the session has ended")
+        try:
+            return self._exchange(as_bytes("\n".join(sent) + "\n"), awaited, time_limit)
+        except _Ended as ended:
+            raise failure(ended.done) from None
 
     def close(self) -> None:
-        """Ends the session."""
-        if self._process.stdin is not None and not self._process.stdin.closed:
-            try:
-                self._process.stdin.close()
-            except OSError:
-                pass
-        if self._process.poll() is None:
-            try:
-                self._process.wait(0.2)
-            except subprocess.TimeoutExpired:
-                self._process.kill()
-                self._process.wait()
-        for stream in (self._process.stdout, self._process.stderr):
-            if stream is not None:
-                stream.close()
-        self._file.close()
+        """Ends the session, and the process with it."""
+        process = self._process
+        for stream in (process.stdin, process.stdout, process.stderr):
+            if stream is not None and not stream.closed:
+                try:
+                    stream.close()
+                except OSError:
+                    pass
+        if process.poll() is None:
+            process.kill()
+            process.wait()
 
     def __enter__(self) -> Dialogue:
         return self
@@ -252,8 +248,64 @@ class Dialogue:
     def __exit__(self, *exception: object) -> None:
         self.close()
 
-    def _exchange(self, text: str, expected: int, solutions: bool, time_limit: Optional[float]) -> List[str]:
-        raise NotImplementedError
+    def _is_closed(self) -> bool:
+        return self._process.stdin is None or self._process.stdin.closed
 
-    def _read_line(self, time_limit: Optional[float]) -> str:
-        raise NotImplementedError
+    def _exchange(self, text: bytes, awaited: List[bool], time_limit: Optional[float]) -> List[str]:
+        """Sends the text and reads what is awaited; ends the process where that is interrupted."""
+        deadline = None if time_limit is None else time.monotonic() + time_limit
+        unsent = memoryview(text)
+        replies: List[str] = []
+        at = 0
+        poll = select.poll()
+        poll.register(self._output, select.POLLIN)
+        try:
+            while True:
+                while at < len(awaited):
+                    line, found, rest = self._unread.partition(b"\n")
+                    if not found:
+                        break
+                    self._unread = rest
+                    if awaited[at] and line == b"r 2":
+                        at += 1
+                        continue
+                    replies.append(line.decode())
+                    at += not awaited[at]
+                if at == len(awaited) and not unsent:
+                    return replies
+                if unsent:
+                    poll.register(self._input, select.POLLOUT)
+                wait = None if deadline is None else max(0.0, deadline - time.monotonic()) * 1000
+                ready = dict(poll.poll(wait))
+                if not ready:
+                    assert time_limit is not None
+                    raise TimeLimit(time_limit)
+                if self._input in ready:
+                    try:
+                        unsent = unsent[os.write(self._input, unsent):]
+                    except BrokenPipeError:
+                        unsent = unsent[:0]
+                    if not unsent:
+                        poll.unregister(self._input)
+                if self._output in ready:
+                    more = os.read(self._output, 1 << 20)
+                    if not more:
+                        raise _Ended(self._finished())
+                    self._unread += more
+        except BaseException:
+            self.close()
+            raise
+
+    def _finished(self) -> subprocess.CompletedProcess[bytes]:
+        """How the process ended, and what it said."""
+        assert self._process.stderr is not None
+        said = self._process.stderr.read()
+        return subprocess.CompletedProcess([], self._process.wait(), b"", said)
+
+
+class _Ended(Exception):
+    """The program of a dialogue has ended."""
+
+    def __init__(self, done: subprocess.CompletedProcess[bytes]):
+        super().__init__()
+        self.done = done
