@@ -194,7 +194,7 @@ def _number_hint(name: str, value: str, signed: bool) -> str:
     return ""
 
 
-class _ProblemReader:
+class ProblemReader:
     """Reads a problem text line by line up to its first fault, as the program does."""
 
     def __init__(self) -> None:
@@ -346,17 +346,22 @@ class _ProblemReader:
             low = self.number("LOW", words[2], 0, MOST_FLOW)
             cap = self.number("CAP", words[3], 0, MOST_FLOW)
             cost = self.number("COST", words[4], -MOST_COST, MOST_COST)
-            if low > cap:
-                raise self.fail(15, f"LOW is {low} and above CAP, which is {cap}",
-                                hint="The fields are `a SRC DST LOW CAP COST`: are two of them the wrong way round?")
+            cap = self.bounds(tail, head, low, cap)
         elif self.kind == "max":
-            cap = self.number("CAP", words[2], 0, MOST_FLOW)
+            cap = self.bounds(tail, head, 0, self.number("CAP", words[2], 0, MOST_FLOW))
         else:
             cost = self.number("COST", words[2], -MOST_COST, MOST_COST)
             if tail not in self.named or head in self.named:
                 self.fail_sides(tail, head)
         self.arcs.append((tail, head, low, cap, cost))
         self.first_arc_line = self.first_arc_line or self.line
+
+    def bounds(self, tail: int, head: int, low: int, cap: int) -> int:
+        """The capacity of an arc; fails (15) where its lower bound is above it."""
+        if cap is not None and low > cap:
+            raise self.fail(15, f"LOW is {low} and above CAP, which is {cap}",
+                            hint="The fields are `a SRC DST LOW CAP COST`: are two of them the wrong way round?")
+        return cap
 
     def fail_sides(self, tail: int, head: int) -> None:
         """Fails (16) for an arc of an assignment that does not lead from the source side to the sink side."""
@@ -473,8 +478,13 @@ def find_fault(text: Text) -> Optional[Fault]:
     >>> find_fault("p min 2 1\\na 1 2 0 1.5 3\\n").hint[:23]
     'There are no fractions:'
     """
+    return read_with(ProblemReader(), text)
+
+
+def read_with(reader: ProblemReader, text: Text) -> Optional[Fault]:
+    """Reads a problem text into a reader; the first fault where there is one."""
     try:
-        _ProblemReader().read(text)
+        reader.read(text)
     except _Found as found:
         return found.fault
     return None
@@ -644,7 +654,7 @@ class DimacsProblem:
 def parse_problem(text: Text) -> DimacsProblem:
     """The problem of a text. Raises ValueError with the fault in words where it has one."""
     try:
-        return _ProblemReader().read(text)
+        return ProblemReader().read(text)
     except _Found as found:
         raise ValueError(found.fault.words()) from None
 

@@ -25,10 +25,10 @@ import numbers
 from collections import deque
 from decimal import Decimal
 from fractions import Fraction
-from typing import Any, Callable, Dict, Hashable, Iterable, List, Optional, Set, Tuple
+from typing import Any, Callable, Dict, Hashable, Iterable, List, Optional, Set, Tuple, Union
 
 from .plan import Disagreement, Infeasible, Plan
-from .problem import Problem
+from .problem import Problem, exact
 from .program import Program
 from .rewrite import BeyondLimits, Unbounded
 
@@ -45,37 +45,33 @@ FUNCTIONS = ALGORITHMS + (
 """The functions of networkx that are answered."""
 
 
-def number(value: Any, what: str) -> Any:
-    """An int, float or Decimal for a number of any of the usual types. Raises NetworkXError where it is none."""
-    if isinstance(value, (int, float, Decimal)) and value == value:
-        return value
-    if isinstance(value, numbers.Integral):
-        return int(value)
-    if isinstance(value, Fraction):
-        if (Decimal(value.numerator) / value.denominator) * value.denominator == value.numerator:
-            return Decimal(value.numerator) / value.denominator
-    elif isinstance(value, numbers.Real) and value == value:
-        return float(value)
-    import networkx as nx
+def number(value: Any, what: str) -> Union[Decimal, float]:
+    """The exact decimal of a number, or an infinite float. Raises NetworkXError where it is none."""
+    if isinstance(value, (float, Decimal)) and math.isinf(value):
+        return math.inf if value > 0 else -math.inf
+    try:
+        return exact(value, what)
+    except ValueError as error:
+        import networkx as nx
 
-    raise nx.NetworkXError(f"{what} {value!r} is no number that decimals say exactly")
+        raise nx.NetworkXError(str(error)) from error
 
 
 def is_infinite(value: Any) -> bool:
     """Whether a number is infinite, of either sign."""
-    return not isinstance(value, int) and math.isinf(value)
+    return isinstance(value, (float, Decimal)) and math.isinf(value)
 
 
 class Like:
-    """Turns exact results into the type of the numbers that came in: int, float or Decimal."""
+    """Turns exact results into the type of the numbers that came in: int, Decimal (or Fraction), or float."""
 
     def __init__(self, values: Iterable[Any]):
-        kinds = {type(value) for value in values if not is_infinite(value)}
-        self.is_whole = all(issubclass(kind, int) for kind in kinds)
-        self.is_float = any(issubclass(kind, float) for kind in kinds)
+        finite = [value for value in values if not is_infinite(value)]
+        self.is_whole = all(isinstance(value, numbers.Integral) for value in finite)
+        self.is_exact = all(isinstance(value, (numbers.Rational, Decimal)) for value in finite)
 
     def __call__(self, value: Decimal) -> Any:
-        return int(value) if self.is_whole else float(value) if self.is_float else value
+        return int(value) if self.is_whole else value if self.is_exact else float(value)
 
 
 def edges_of(G: Any) -> List[Edge]:
@@ -92,12 +88,15 @@ class LeastCost:
         self.graph = G
         self.nodes = list(G)
         self.edges = edges_of(G)
-        infinite = math.inf
-        self.demands = [number(G.nodes[node].get(demand, 0), f"the demand of node {node!r}") for node in self.nodes]
-        self.capacities = [number(data.get(capacity, infinite), f"the capacity of edge {(tail, head)!r}")
-                           for tail, head, _, data in self.edges]
-        self.weights = [number(data.get(weight, 0), f"the weight of edge {(tail, head)!r}")
-                        for tail, head, _, data in self.edges]
+        demands = [G.nodes[node].get(demand, 0) for node in self.nodes]
+        capacities = [data.get(capacity, math.inf) for _, _, _, data in self.edges]
+        weights = [data.get(weight, 0) for _, _, _, data in self.edges]
+        self.demands = [number(value, f"the demand of node {node!r}") for value, node in zip(demands, self.nodes)]
+        self.capacities = [number(value, f"the capacity of edge {edge[:2]!r}")
+                           for value, edge in zip(capacities, self.edges)]
+        self.weights = [number(value, f"the weight of edge {edge[:2]!r}") for value, edge in zip(weights, self.edges)]
+        self.like_amounts = Like(demands + capacities)
+        self.like_costs = Like(demands + capacities + weights)
 
     def check_numbers(self) -> None:
         """Raises NetworkXError where a demand or a weight is infinite."""
@@ -133,14 +132,13 @@ class LeastCost:
 
     def result(self, plan: Plan) -> Tuple[Any, Dict[Node, Any]]:
         """Cost and flows of a plan, as networkx returns them."""
-        like = Like(self.demands + self.capacities)
         flows: Dict[Node, Any] = {node: {} for node in self.nodes}
         for (tail, head, key, _), flow in zip(self.edges, plan.flows):
             if self.graph.is_multigraph():
-                flows[tail].setdefault(head, {})[key] = like(flow)
+                flows[tail].setdefault(head, {})[key] = self.like_amounts(flow)
             else:
-                flows[tail][head] = like(flow)
-        return Like(self.demands + self.capacities + self.weights)(plan.cost), flows
+                flows[tail][head] = self.like_amounts(flow)
+        return self.like_costs(plan.cost), flows
 
 
 class MaximumFlow:
@@ -156,8 +154,9 @@ class MaximumFlow:
             raise nx.NetworkXError("source and sink are the same node")
         if G.is_multigraph():
             raise nx.NetworkXError("MultiGraph and MultiDiGraph not supported (yet).")
-        self.graph, self.source, self.sink = G, source, sink
+        self.graph, self.source, self.sink, self.attribute = G, source, sink, capacity
         self.capacities: Dict[Tuple[Node, Node], Any] = {}
+        self.like = Like(data.get(capacity, math.inf) for _, _, data in G.edges(data=True))
         for tail, head, data in G.edges(data=True):
             bound = number(data.get(capacity, math.inf), f"the capacity of edge {(tail, head)!r}")
             if tail != head and bound > 0:
@@ -166,7 +165,6 @@ class MaximumFlow:
                     self.capacities[head, tail] = bound
         self.value = Decimal(0)
         self.net: Dict[Tuple[Node, Node], Decimal] = {}
-        self.like = Like(self.capacities.values())
 
     def solve(self, solve: Callable[[Problem], Any], cutoff: Any) -> MaximumFlow:
         """Finds the flow. Beyond `cutoff`, where it is given, no more is sent."""
@@ -181,8 +179,8 @@ class MaximumFlow:
             problem.add_arc(names[tail], names[head], cap=None if is_infinite(bound) else bound)
         if cutoff is not None and not is_infinite(cutoff):
             problem.source = "cutoff"
-            problem.add_arc("cutoff", names[self.source], cap=max(number(cutoff, "the cutoff"), 0))
-            self.like = Like([*self.capacities.values(), cutoff])
+            problem.add_arc("cutoff", names[self.source], cap=max(number(cutoff, "the cutoff"), Decimal(0)))
+            self.like = Like([cutoff, *(data.get(self.attribute, 0) for _, _, data in self.graph.edges(data=True))])
         try:
             plan = solve(problem)
         except Unbounded as unbounded:

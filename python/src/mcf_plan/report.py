@@ -1,7 +1,7 @@
 """Plans and cuts for people and for other programs: a report in HTML with a picture, an SVG picture, CSV and JSON.
 
-Whatever is written was verified against the tables first: `verify()` of the plan or of the cut is called here once more,
-and a `Disagreement` goes to the caller before anything is written.
+Whatever is written was verified against the tables first: `verify()` of the plan or of the cut is called here once
+more, and a `Disagreement` goes to the caller before anything is written.
 
 The picture comes from Graphviz where its program `dot` is installed and the network is small, and from a layout of
 this module otherwise. Where the nodes have places (columns x and y of their table), they are drawn there.
@@ -38,11 +38,15 @@ COLUMN_GAP, ROW_GAP, MAP_SIDE = 260, 58, 900
 RADIUS = 8
 # Colours that are told apart without red and green; width, dashes and words say the same.
 FLOW, FULL, EMPTY, CUT = "#1b6ca8", "#c2410c", "#b8bec6", "#f59e0b"
+INK, QUIET = "#1c2127", "#57606a"
+HALO = 'stroke="white" stroke-width="4" paint-order="stroke"'
 STYLE = """body{font:16px/1.45 system-ui,sans-serif;color:#1c2127;max-width:62rem;margin:2rem auto;padding:0 1rem}
-h1{font-size:1.5rem}h2{font-size:1.15rem;margin-top:2rem}table{border-collapse:collapse;font-variant-numeric:tabular-nums}
+h1{font-size:1.5rem}h2{font-size:1.15rem;margin-top:2rem}
+table{border-collapse:collapse;font-variant-numeric:tabular-nums}
 th,td{padding:.2rem .7rem;text-align:right;border-bottom:1px solid #dde1e6}th{font-weight:600;vertical-align:bottom}
-.name{text-align:left}.full td{background:#fdeee6}.mark{color:#9a3412;font-weight:600}.worth{font-size:1.6rem;font-weight:700}
-.wide{overflow-x:auto}svg{max-width:100%;height:auto}pre{white-space:pre-wrap;font:inherit}"""
+.name{text-align:left}.full td{background:#fdeee6}.mark{color:#9a3412;font-weight:600}
+.worth{font-size:1.6rem;font-weight:700}.wide{overflow-x:auto}svg{max-width:100%;height:auto}
+pre{white-space:pre-wrap;font:inherit}"""
 
 
 def number(value: Optional[Decimal]) -> str:
@@ -64,8 +68,8 @@ class Row(NamedTuple):
 
     arc: Arc
     flow: Decimal
-    cost: Decimal                   # flow times unit cost
-    saving: Optional[Decimal]       # what one unit more of capacity saves at most, where that is above 0
+    cost: Decimal  # flow times unit cost
+    saving: Optional[Decimal]  # what one unit more of capacity saves at most, where that is above 0
     full: bool
 
 
@@ -96,8 +100,11 @@ def _starts(problem: Problem) -> list[str]:
         tails = {arc.tail for arc in problem.arcs}
         return [name for name in problem.nodes if name in tails]
     heads = {arc.head for arc in problem.arcs if arc.tail != arc.head}
-    return ([name for name, supply in problem.nodes.items() if supply > 0]
-            or [name for name in problem.nodes if name not in heads] or list(problem.nodes)[:1])
+    return (
+        [name for name, supply in problem.nodes.items() if supply > 0]
+        or [name for name in problem.nodes if name not in heads]
+        or list(problem.nodes)[:1]
+    )
 
 
 def _columns(problem: Problem) -> list[list[str]]:
@@ -132,8 +139,10 @@ def _untangled(problem: Problem, columns: list[list[str]]) -> list[list[str]]:
     height = {name: (row + 0.5) / len(column) for column in columns for row, name in enumerate(column)}
     for turn in range(4):
         for column in columns[1:] if turn % 2 == 0 else columns[-2::-1]:
-            wish = {name: sum(map(height.__getitem__, beside[name])) / len(beside[name]) if beside[name] else height[name]
-                    for name in column}
+            wish = {
+                name: sum(map(height.__getitem__, beside[name])) / len(beside[name]) if beside[name] else height[name]
+                for name in column
+            }
             column.sort(key=wish.__getitem__)
             height.update({name: (row + 0.5) / len(column) for row, name in enumerate(column)})
     return columns
@@ -149,12 +158,16 @@ def layout(problem: Problem) -> dict[str, tuple[float, float]]:
     if problem.nodes and all(name in places for name in problem.nodes):
         xs, ys = zip(*(map(float, places[name]) for name in problem.nodes))
         extent = max(max(xs) - min(xs), max(ys) - min(ys)) or 1.0
-        return {name: (round((x - min(xs)) / extent * MAP_SIDE, 1), round((max(ys) - y) / extent * MAP_SIDE, 1))
-                for name, x, y in zip(problem.nodes, xs, ys)}
+        return {
+            name: (round((x - min(xs)) / extent * MAP_SIDE, 1), round((max(ys) - y) / extent * MAP_SIDE, 1))
+            for name, x, y in zip(problem.nodes, xs, ys)
+        }
     columns = [column for column in _untangled(problem, _columns(problem)) if column]
     tallest = max(map(len, columns), default=1)
     # A tall picture gets wide gaps, so that its arcs are not drawn upright.
-    column_gap = max(COLUMN_GAP, tallest * ROW_GAP * 0.9 / max(1, len(columns) - 1)) if len(columns) > 1 else COLUMN_GAP
+    column_gap = (
+        max(COLUMN_GAP, tallest * ROW_GAP * 0.9 / max(1, len(columns) - 1)) if len(columns) > 1 else COLUMN_GAP
+    )
     found = {}
     for column_number, column in enumerate(columns):
         gap = tallest * ROW_GAP / len(column)
@@ -210,7 +223,9 @@ def _strokes(result: Result) -> Iterator[tuple[Arc, Optional[Decimal], str, floa
     most = max([abs(flow) for flow in result.flows], default=Decimal(0)) or Decimal(1)
     for arc, flow in zip(problem.arcs, result.flows):
         full = bool(flow) and arc.cap is not None and flow == arc.cap and problem.kind != "asn"
-        yield arc, flow, FULL if full else FLOW if flow else EMPTY, 1.2 + 4.8 * float(abs(flow) / most) if flow else 1.0, full
+        yield arc, flow, FULL if full else FLOW if flow else EMPTY, 1.2 + 4.8 * float(
+            abs(flow) / most
+        ) if flow else 1.0, full
 
 
 def _dot_text(result: Result) -> str:
@@ -218,17 +233,22 @@ def _dot_text(result: Result) -> str:
         return '"' + text.replace("\\", "\\\\").replace('"', '\\"') + '"'
 
     problem, cut = result.problem, getattr(result, "cut", frozenset())
-    lines = ['digraph plan {', '  rankdir=LR; bgcolor=transparent; nodesep=0.35; ranksep=1.4;',
-             '  node [shape=box, style="rounded,filled", fillcolor=white, fontname="sans-serif", fontsize=13];',
-             '  edge [fontname="sans-serif", fontsize=11];']
+    lines = [
+        "digraph plan {",
+        "  rankdir=LR; bgcolor=transparent; nodesep=0.35; ranksep=1.4;",
+        '  node [shape=box, style="rounded,filled", fillcolor=white, fontname="sans-serif", fontsize=13];',
+        '  edge [fontname="sans-serif", fontsize=11];',
+    ]
     for name in problem.nodes:
         colour = f', fillcolor="{CUT}"' if name in cut else ""
         lines.append(f"  {quoted(name)} [label={quoted(_node_label(problem, name))}{colour}];")
     for arc, flow, colour, width, marked in _strokes(result):
-        style = ', style=dashed' if flow is not None and not flow else ""
+        style = ", style=dashed" if flow is not None and not flow else ""
         label = _label(arc, flow, problem.kind) + (", full" if marked and flow is not None else "")
-        lines.append(f"  {quoted(arc.tail)} -> {quoted(arc.head)} [label={quoted(label)}, color={quoted(colour)}, "
-                     f"fontcolor={quoted(colour if marked else '#1c2127')}, penwidth={width:.1f}{style}];")
+        lines.append(
+            f"  {quoted(arc.tail)} -> {quoted(arc.head)} [label={quoted(label)}, color={quoted(colour)}, "
+            f"fontcolor={quoted(colour if marked else INK)}, penwidth={width:.1f}{style}];"
+        )
     return "\n".join(lines + ["}"])
 
 
@@ -238,8 +258,15 @@ def _by_graphviz(result: Result) -> Optional[str]:
     if program is None:
         return None
     try:
-        done = subprocess.run([program, "-Tsvg"], input=_dot_text(result), capture_output=True, text=True, encoding="utf-8",
-                              timeout=GRAPHVIZ_SECONDS, check=True)
+        done = subprocess.run(
+            [program, "-Tsvg"],
+            input=_dot_text(result),
+            capture_output=True,
+            text=True,
+            encoding="utf-8",
+            timeout=GRAPHVIZ_SECONDS,
+            check=True,
+        )
     except (OSError, subprocess.SubprocessError):
         return None
     begin = done.stdout.find("<svg")
@@ -251,8 +278,7 @@ def _curve(start: tuple[float, float], end: tuple[float, float], bend: float) ->
     (x0, y0), (x1, y1) = start, end
     length = math.hypot(x1 - x0, y1 - y0)
     if length < 1e-6:
-        return f"M{x0 - 6:.1f} {y0 - 7:.1f}C{x0 - 34:.1f} {y0 - 46:.1f} {x0 + 34:.1f} {y0 - 46:.1f} {x0 + 7:.1f} {y0 - 10:.1f}", \
-            (x0, y0 - 40)
+        return f"M{x0 - 6:.1f} {y0 - 7:.1f}c-28 -39 40 -39 13 -3", (x0, y0 - 40)
     ux, uy = (x1 - x0) / length, (y1 - y0) / length
     middle = ((x0 + x1) / 2 - uy * bend, (y0 + y1) / 2 + ux * bend)
 
@@ -262,8 +288,10 @@ def _curve(start: tuple[float, float], end: tuple[float, float], bend: float) ->
 
     (ax, ay), (bx, by) = away(x0, y0, RADIUS + 1), away(x1, y1, RADIUS + 8)
     at = 0.36
-    label = tuple((1 - at) ** 2 * a + 2 * at * (1 - at) * m + at * at * b
-                  for a, m, b in ((ax, middle[0], bx), (ay, middle[1], by)))
+    label = tuple(
+        (1 - at) ** 2 * a + 2 * at * (1 - at) * m + at * at * b
+        for a, m, b in ((ax, middle[0], bx), (ay, middle[1], by))
+    )
     return f"M{ax:.1f} {ay:.1f}Q{middle[0]:.1f} {middle[1]:.1f} {bx:.1f} {by:.1f}", (label[0], label[1])
 
 
@@ -278,12 +306,17 @@ def _own_picture(result: Result) -> str:
     few = len(problem.arcs) <= GRAPHVIZ_ARCS
     on_map = bool(getattr(problem, "places", None))
     told = {FLOW: "flow", FULL: "full", EMPTY: "empty"}
-    out = [f'<svg xmlns="http://www.w3.org/2000/svg" role="img" aria-label="The network with its flows" '
-           f'width="{right + 2 * margin:.0f}" height="{bottom + 90:.0f}" '
-           f'viewBox="{-margin:.0f} -50 {right + 2 * margin:.0f} {bottom + 90:.0f}" font-family="sans-serif">', "<defs>"]
+    out = [
+        f'<svg xmlns="http://www.w3.org/2000/svg" role="img" aria-label="The network with its flows" '
+        f'width="{right + 2 * margin:.0f}" height="{bottom + 90:.0f}" '
+        f'viewBox="{-margin:.0f} -50 {right + 2 * margin:.0f} {bottom + 90:.0f}" font-family="sans-serif">',
+        "<defs>",
+    ]
     for colour, name in told.items():
-        out.append(f'<marker id="head-{name}" viewBox="0 0 10 10" refX="2" refY="5" markerWidth="9" markerHeight="9" '
-                   f'markerUnits="userSpaceOnUse" orient="auto"><path d="M0 0L10 5L0 10z" fill="{colour}"/></marker>')
+        out.append(
+            f'<marker id="head-{name}" viewBox="0 0 10 10" refX="2" refY="5" markerWidth="9" markerHeight="9" '
+            f'markerUnits="userSpaceOnUse" orient="auto"><path d="M0 0L10 5L0 10z" fill="{colour}"/></marker>'
+        )
     out.append("</defs>")
     labels, seen = [], {}
     strokes = list(_strokes(result))
@@ -298,20 +331,26 @@ def _own_picture(result: Result) -> str:
         text = _label(arc, flow, problem.kind) + (", full" if marked and flow is not None else "")
         title = html.escape(f"{arc.tail} to {arc.head}: {text}")
         dashes = ' stroke-dasharray="5 5"' if flow is not None and not flow else ""
-        out.append(f'<path d="{path}" fill="none" stroke="{colour}" stroke-width="{width:.1f}"{dashes} '
-                   f'marker-end="url(#head-{told[colour]})"><title>{title}</title></path>')
+        out.append(
+            f'<path d="{path}" fill="none" stroke="{colour}" stroke-width="{width:.1f}"{dashes} '
+            f'marker-end="url(#head-{told[colour]})"><title>{title}</title></path>'
+        )
         if few and text:
-            labels.append(f'<text x="{x:.1f}" y="{y - 4:.1f}" font-size="12" text-anchor="middle" stroke="white" stroke-width="4" '
-                          f'paint-order="stroke" fill="{colour if colour != EMPTY else "#57606a"}">{html.escape(text)}</text>')
+            labels.append(
+                f'<text x="{x:.1f}" y="{y - 4:.1f}" font-size="12" text-anchor="middle" {HALO} '
+                f'fill="{colour if colour != EMPTY else QUIET}">{html.escape(text)}</text>'
+            )
     for name, (x, y) in where.items():
         supply = problem.nodes[name]
         fill = CUT if name in cut else FLOW if supply > 0 else "white"
-        out.append(f'<circle cx="{x}" cy="{y}" r="{RADIUS}" fill="{fill}" stroke="{FLOW if supply else "#57606a"}" stroke-width="2.5"/>')
+        edge = FLOW if supply else QUIET
+        out.append(f'<circle cx="{x}" cy="{y}" r="{RADIUS}" fill="{fill}" stroke="{edge}" stroke-width="2.5"/>')
         side = "above" if on_map or 0 < x < right else "left" if x <= 0 and right > 0 else "right"
         dx, dy, anchor = {"above": (0, -14, "middle"), "left": (-14, 5, "end"), "right": (14, 5, "start")}[side]
-        labels.append(f'<text x="{x + dx:.1f}" y="{y + dy:.1f}" font-size="14" font-weight="600" text-anchor="{anchor}" '
-                      f'stroke="white" stroke-width="4" paint-order="stroke" fill="#1c2127">'
-                      f'{html.escape(_node_label(problem, name))}</text>')
+        labels.append(
+            f'<text x="{x + dx:.1f}" y="{y + dy:.1f}" font-size="14" font-weight="600" text-anchor="{anchor}" '
+            f'{HALO} fill="{INK}">{html.escape(_node_label(problem, name))}</text>'
+        )
     return "\n".join(out + labels + ["</svg>"]) + "\n"
 
 
@@ -319,11 +358,13 @@ def svg_picture(result: Result, *, graphviz: Optional[bool] = None) -> str:
     """The network as an SVG picture: arcs as wide as their flow, full ones marked; of no plan, the cut.
 
     `graphviz` says who draws: True Graphviz, False the layout of this module, None (the default) Graphviz where `dot`
-    is installed, the network has at most 120 arcs and its nodes have no places. RuntimeError where Graphviz is asked for
-    and does not draw it.
+    is installed, the network has at most 120 arcs and its nodes have no places. RuntimeError where Graphviz is asked
+    for and does not draw it.
     """
     result.verify()
-    wanted = graphviz is None and len(result.problem.arcs) <= GRAPHVIZ_ARCS and not getattr(result.problem, "places", None)
+    wanted = (
+        graphviz is None and len(result.problem.arcs) <= GRAPHVIZ_ARCS and not getattr(result.problem, "places", None)
+    )
     if graphviz or wanted:
         picture = _by_graphviz(result)
         if picture is not None:
@@ -346,36 +387,51 @@ def _flow_table(plan: Plan) -> Iterator[str]:
         yield '<table><tr><th class="name">Of</th><th class="name">To</th><th>Cost</th></tr>'
         for row in rows:
             if row.flow:
-                yield (f'<tr><td class="name">{html.escape(row.arc.tail)}</td><td class="name">{html.escape(row.arc.head)}</td>'
-                       f'<td>{number(row.arc.cost)}</td></tr>')
+                ends = "".join(f'<td class="name">{html.escape(end)}</td>' for end in (row.arc.tail, row.arc.head))
+                yield f"<tr>{ends}<td>{number(row.arc.cost)}</td></tr>"
         yield "</table>"
         return
     costs = problem.kind == "min"
     heads = ["From", "To"] + ["Name"] * has_name
-    numbers = ["Flow"] + ["At least"] * has_low + ["Capacity"] + ["Unit cost", "Cost", "One unit more saves at most"] * costs
-    yield "<table><tr>" + "".join(f'<th class="name">{head}</th>' for head in heads) + \
-        "".join(f"<th>{head}</th>" for head in numbers) + "<th></th></tr>"
+    numbers = (
+        ["Flow"]
+        + ["At least"] * has_low
+        + ["Capacity"]
+        + ["Unit cost", "Cost", "One unit more saves at most"] * costs
+    )
+    yield "<table><tr>" + "".join(f'<th class="name">{head}</th>' for head in heads) + "".join(
+        f"<th>{head}</th>" for head in numbers
+    ) + "<th></th></tr>"
     for row in rows:
         arc = row.arc
         words = [arc.tail, arc.head] + [arc.name or ""] * has_name
-        cells = [number(row.flow)] + [number(arc.low)] * has_low + ["no limit" if arc.cap is None else number(arc.cap)]
+        cells = (
+            [number(row.flow)] + [number(arc.low)] * has_low + ["no limit" if arc.cap is None else number(arc.cap)]
+        )
         cells += [number(arc.cost), number(row.cost), number(row.saving)] * costs
         marked = row.full and bool(row.flow)
-        yield f'<tr{" class=full" if marked else ""}>' + "".join(f'<td class="name">{html.escape(word)}</td>' for word in words) + \
-            "".join(f"<td>{cell}</td>" for cell in cells) + f'<td class="mark">{"full" if marked else ""}</td></tr>'
+        yield f'<tr{" class=full" if marked else ""}>' + "".join(
+            f'<td class="name">{html.escape(word)}</td>' for word in words
+        ) + "".join(f"<td>{cell}</td>" for cell in cells) + f'<td class="mark">{"full" if marked else ""}</td></tr>'
     yield "</table>"
 
 
 def _node_table(plan: Plan) -> Iterator[str]:
     problem = plan.problem
-    left = {**(getattr(plan, "kept", None) or {}), **{name: value for name, value in (getattr(plan, "not_met", None) or {}).items()}}
+    left = {
+        **(getattr(plan, "kept", None) or {}),
+        **{name: value for name, value in (getattr(plan, "not_met", None) or {}).items()},
+    }
     rest = bool(getattr(plan, "not_met", None))
-    yield '<table><tr><th class="name">Node</th><th>Supply</th>' + \
-        (f"<th>{'Not met' if rest else 'Kept'}</th>" if left else "") + ("<th>Price</th>" if plan.prices else "") + "</tr>"
+    yield '<table><tr><th class="name">Node</th><th>Supply</th>' + (
+        f"<th>{'Not met' if rest else 'Kept'}</th>" if left else ""
+    ) + ("<th>Price</th>" if plan.prices else "") + "</tr>"
     for name, supply in problem.nodes.items():
         cells = [number(supply)] + ([number(left.get(name)) if left.get(name) else ""] if left else [])
         cells += [number(plan.prices[name])] if plan.prices else []
-        yield f'<tr><td class="name">{html.escape(name)}</td>' + "".join(f"<td>{cell}</td>" for cell in cells) + "</tr>"
+        yield f'<tr><td class="name">{html.escape(name)}</td>' + "".join(
+            f"<td>{cell}</td>" for cell in cells
+        ) + "</tr>"
     yield "</table>"
 
 
@@ -383,17 +439,26 @@ def html_text(result: Result, *, title: str = "Plan") -> str:
     """The report as one text of HTML that needs no other file."""
     result.verify()
     problem = result.problem
-    out = ["<!doctype html>", '<html lang="en"><meta charset="utf-8"><meta name="viewport" content="width=device-width">',
-           f"<title>{html.escape(title)}</title><style>{STYLE}</style>", f"<h1>{html.escape(title)}</h1>"]
+    out = [
+        "<!doctype html>",
+        '<html lang="en"><meta charset="utf-8"><meta name="viewport" content="width=device-width">',
+        f"<title>{html.escape(title)}</title><style>{STYLE}</style>",
+        f"<h1>{html.escape(title)}</h1>",
+    ]
     if _is_plan(result):
         out.append(f'<p class="worth">{WORTH[problem.kind]}: {number(result.cost)}</p>')
         better = "No plan sends more" if problem.kind == "max" else "No plan costs less"
-        out.append(f"<p>{better}: <code>mcf check</code> accepted the answer, and its flows, cost and prices were found right "
-                   "in the units of the tables.</p>")
+        out.append(
+            f"<p>{better}: <code>mcf check</code> accepted the answer, and its flows, cost and prices were found right "
+            "in the units of the tables.</p>"
+        )
     else:
         out.append(f'<p class="worth">There is no plan: {number(result.shortage)} too many or too few</p>')
         out.append(f"<pre>{html.escape(explain(result))}</pre>")
-        out.append("<p><code>mcf check</code> accepted the cut, and its shortage was found right in the units of the tables.</p>")
+        out.append(
+            "<p><code>mcf check</code> accepted the cut, and its shortage was found right in the units of the "
+            "tables.</p>"
+        )
     for note in getattr(result, "notes", None) or []:
         out.append(f"<p>{html.escape(str(note))}</p>")
     out.append(f'<h2>The network</h2><div class="wide">{svg_picture(result)}</div>')
@@ -401,8 +466,10 @@ def html_text(result: Result, *, title: str = "Plan") -> str:
         out.append('<h2>What goes where</h2><div class="wide">' + "\n".join(_flow_table(result)) + "</div>")
         if problem.kind == "min":
             out.append('<h2>Nodes</h2><div class="wide">' + "\n".join(_node_table(result)) + "</div>")
-            out.append("<p>The price of a node tells what a unit is worth there beside the other nodes: where it goes along an "
-                       "arc that is neither full nor at its least, the price rises by the unit cost.</p>")
+            out.append(
+                "<p>The price of a node tells what a unit is worth there beside the other nodes: where it goes along "
+                "an arc that is neither full nor at its least, the price rises by the unit cost.</p>"
+            )
     return "\n".join(out) + "\n</html>\n"
 
 
@@ -412,9 +479,9 @@ def html_report(result: Result, path: Union[str, Path], *, title: str = "Plan") 
 
 
 def to_csv(result: Result) -> str:
-    """The arcs of a plan as a table: from, to, name, flow, low, capacity, unit cost, cost; an empty capacity is no limit.
+    """The arcs of a plan as a table: from, to, name, flow, low, capacity, unit cost, cost.
 
-    ValueError where there is no plan.
+    An empty capacity is no limit. ValueError where there is no plan.
     """
     if not _is_plan(result):
         raise ValueError("there is no plan to write as a table")
@@ -424,8 +491,18 @@ def to_csv(result: Result) -> str:
     table.writerow(["from", "to", "name", "flow", "low", "capacity", "unit cost", "cost"])
     for row in arc_rows(result):
         arc = row.arc
-        table.writerow([arc.tail, arc.head, arc.name or "", number(row.flow), number(arc.low), number(arc.cap),
-                        number(arc.cost), number(row.cost)])
+        table.writerow(
+            [
+                arc.tail,
+                arc.head,
+                arc.name or "",
+                number(row.flow),
+                number(arc.low),
+                number(arc.cap),
+                number(arc.cost),
+                number(row.cost),
+            ]
+        )
     return out.getvalue()
 
 
@@ -443,11 +520,23 @@ def to_json(result: Result) -> str:
         told.update(shortage=number(result.shortage), cut=cut, why=explain(result))
     else:
         told["cost"] = number(result.cost)
-        told["arcs"] = [{"from": row.arc.tail, "to": row.arc.head, "name": row.arc.name, "flow": number(row.flow),
-                         "low": number(row.arc.low), "capacity": None if row.arc.cap is None else number(row.arc.cap),
-                         "unit_cost": number(row.arc.cost), "cost": number(row.cost), "full": row.full}
-                        for row in arc_rows(result)]
-        told["prices"] = None if result.prices is None else {name: number(price) for name, price in result.prices.items()}
+        told["arcs"] = [
+            {
+                "from": row.arc.tail,
+                "to": row.arc.head,
+                "name": row.arc.name,
+                "flow": number(row.flow),
+                "low": number(row.arc.low),
+                "capacity": None if row.arc.cap is None else number(row.arc.cap),
+                "unit_cost": number(row.arc.cost),
+                "cost": number(row.cost),
+                "full": row.full,
+            }
+            for row in arc_rows(result)
+        ]
+        told["prices"] = (
+            None if result.prices is None else {name: number(price) for name, price in result.prices.items()}
+        )
         for rest in ("kept", "not_met"):
             told[rest] = {name: number(value) for name, value in (getattr(result, rest, None) or {}).items()}
     return json.dumps(told, ensure_ascii=False, indent=1) + "\n"

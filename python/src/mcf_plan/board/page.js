@@ -9,6 +9,8 @@ const [NAME, SUPPLY, X, Y, PRICE, REST] = [0, 1, 2, 3, 4, 5];
 const [TAIL, HEAD, LABEL, LOW, CAP, COST, FLOW] = [0, 1, 2, 3, 4, 5, 6];
 const FIELDS = { low: LOW, cap: CAP, cost: COST };
 const WORDS = { low: "lower bound", cap: "capacity", cost: "unit cost", supply: "supply" };
+// About how wide a letter of a node's name is on the map.
+const LETTER = 8.8;
 const EDITABLE = { min: ["low", "cap", "cost"], max: ["cap"], asn: ["cost"] };
 
 let state = null;
@@ -101,7 +103,8 @@ function drawWorth() {
   by("worth-words").textContent = none ? "There is no plan:" : `${WORTH[state.kind]}:`;
   by("worth").textContent = none ? `${state.shortage} too many or too few` : state.cost;
   by("worth").parentElement.classList.toggle("none", none);
-  by("since").textContent = none || state.first === null || state.first === state.cost ? "" : `(at first ${state.first})`;
+  const isFirst = state.first === null || state.first === state.cost;
+  by("since").textContent = none || isFirst ? "" : `(at first ${state.first})`;
 }
 
 // ---------------------------------------------------------------------------------------------------------------------
@@ -140,19 +143,27 @@ function buildArcs() {
       cell.append(inputs[what]);
       line.append(cell);
     }
-    const last = make("td", undefined, "mark");
-    const close = make("button", "Close");
+    const last = make("td");
+    const close = make("button", "\u00d7", "close");
     close.type = "button";
     close.tabIndex = -1;
     close.dataset.close = index;
-    close.setAttribute("aria-label", `Close ${label(arc)}`);
-    last.append(close, " ");
+    close.title = `Close ${label(arc)}`;
+    close.setAttribute("aria-label", close.title);
+    last.append(close);
     line.append(last);
     return { line, flow, inputs };
   });
   body.replaceChildren(...arcRows.map((each) => each.line));
+  by("with-low").parentElement.hidden = kind !== "min";
   document.querySelector("#add .add-cap").hidden = kind === "asn";
   document.querySelector("#add .add-cost").hidden = kind === "max";
+}
+
+function flowWords(flow) {
+  if (flow === null) return "";
+  if (state.kind !== "asn") return flow;
+  return flow === "0" ? "" : "yes";
 }
 
 function drawArcs(before) {
@@ -160,13 +171,18 @@ function drawArcs(before) {
     const row = arcRows[index];
     const old = before && before.arcs[index];
     if (!old || old[FLOW] !== arc[FLOW] || old[CAP] !== arc[CAP]) {
-      row.flow.textContent = arc[FLOW] === null ? "" : state.kind === "asn" ? (arc[FLOW] === "0" ? "" : "yes") : arc[FLOW];
+      row.flow.textContent = flowWords(arc[FLOW]);
       row.line.classList.toggle("full", isFull(arc));
+      if (isFull(arc)) row.flow.append(" ", make("span", "full", "mark"));
     }
     for (const [what, input] of Object.entries(row.inputs)) show(input, arc[FIELDS[what]], what, index);
   });
+  if (!before) by("with-low").checked = state.arcs.some((arc) => arc[LOW] !== "0");
+  showLow();
   filter();
 }
+
+const showLow = () => by("arcs").classList.toggle("without-low", !by("with-low").checked);
 
 // A field shows what stands, or what is collected for it, or what is being typed in it.
 function show(input, value, what, index) {
@@ -179,10 +195,15 @@ function show(input, value, what, index) {
 
 function buildNodes() {
   const row = make("tr");
-  row.append(make("th", "Node", "name"), make("th", "Supply"), make("th", "Kept or not met", "rest"), make("th", "Price"));
+  row.append(make("th", "Node", "name"), make("th", "Supply"));
+  row.append(make("th", "Kept or not met", "rest"), make("th", "Price"));
   document.querySelector("#nodes thead").replaceChildren(row);
   by("nodes-part").hidden = state.kind !== "min";
-  by("names").replaceChildren(...state.nodes.map((node) => Object.assign(document.createElement("option"), { value: node[NAME] })));
+  by("names").replaceChildren(...state.nodes.map((node) => {
+    const option = document.createElement("option");
+    option.value = node[NAME];
+    return option;
+  }));
   nodeRows = state.nodes.map((node, index) => {
     const line = make("tr");
     const cell = make("td");
@@ -192,7 +213,8 @@ function buildNodes() {
     line.append(make("td", node[NAME], "name"), cell, rest, price);
     return { line, input, rest, price };
   });
-  if (state.kind === "min") document.querySelector("#nodes tbody").replaceChildren(...nodeRows.map((each) => each.line));
+  const shown = state.kind === "min" ? nodeRows.map((each) => each.line) : [];
+  document.querySelector("#nodes tbody").replaceChildren(...shown);
 }
 
 function drawNodes(before) {
@@ -251,15 +273,16 @@ function commit(input) {
   }
   const index = Number(input.dataset.index);
   const what = input.dataset.what;
-  const edit = what === "supply" ? { edit: what, node: state.nodes[index][NAME], at: index, value: text } : { edit: what, arc: index, value: text };
-  const name = what === "supply" ? state.nodes[index][NAME] : label(state.arcs[index]);
+  const isNode = what === "supply";
+  const name = isNode ? state.nodes[index][NAME] : label(state.arcs[index]);
+  const edit = { edit: what, value: text, ...(isNode ? { node: name, at: index } : { arc: index }) };
   offer(edit, `${WORDS[what]} of ${name}: ${input.dataset.stands || "no limit"} becomes ${text || "no limit"}`, input);
 }
 
 // Makes an edit, or collects it where a group is open.
 function offer(edit, words, input) {
   if (collecting) {
-    const same = (other) => other.edit === edit.edit && other.arc === edit.arc && other.at === edit.at && edit.edit !== "add";
+    const same = (other) => edit.edit !== "add" && ["edit", "arc", "at"].every((part) => other[part] === edit[part]);
     pending = pending.filter((other) => !same(other));
     if (!input || input.value.trim() !== input.dataset.stands) pending.push({ ...edit, words });
     if (input) input.classList.toggle("pending", input.value.trim() !== input.dataset.stands);
@@ -301,7 +324,7 @@ function drawPending() {
 }
 
 function restore(edit) {
-  const input = edit.edit === "supply" ? nodeRows[edit.at].input : edit.arc === undefined ? null : arcRows[edit.arc].inputs[edit.edit];
+  const input = edit.edit === "supply" ? nodeRows[edit.at].input : arcRows[edit.arc]?.inputs[edit.edit];
   if (!input) return;
   input.classList.remove("pending");
   input.value = input.dataset.stands;
@@ -349,7 +372,8 @@ function drawVariants() {
   const table = by("variants");
   if (!columns.length) {
     table.replaceChildren();
-    by("more-rows").textContent = "Mark what stands, and go on: the variants are shown side by side, and you can go back to each.";
+    by("more-rows").textContent = "Mark what stands, and go on: the variants are shown side by side, and you can go "
+      + "back to each.";
     return;
   }
   const worth = (cost, shortage) => (cost === null ? `no plan (${shortage})` : cost);
@@ -393,16 +417,19 @@ function drawVariants() {
 // ---------------------------------------------------------------------------------------------------------------------
 // The map: everything is placed in pixels, so that words and lines keep their size
 
+// How an arc looks; those that come later are drawn above the others.
+const LOOKS = ["empty", "flow", "full"];
 let lines = [];
 let dots = [];
 let heads = {};
 
 function buildLines() {
   if (!heads.flow) {
-    for (const name of ["flow", "full", "empty"]) {
+    for (const name of LOOKS) {
       const head = document.createElementNS(SVG, "marker");
-      for (const [what, value] of Object.entries({ id: `head-${name}`, viewBox: "0 0 10 10", refX: 2, refY: 5, markerWidth: 9, markerHeight: 9,
-        markerUnits: "userSpaceOnUse", orient: "auto" })) head.setAttribute(what, value);
+      const look = { id: `head-${name}`, viewBox: "0 0 10 10", refX: 2, refY: 5, markerWidth: 9, markerHeight: 9,
+        markerUnits: "userSpaceOnUse", orient: "auto" };
+      for (const [what, value] of Object.entries(look)) head.setAttribute(what, value);
       const shape = document.createElementNS(SVG, "path");
       shape.setAttribute("d", "M0 0L10 5L0 10z");
       shape.setAttribute("fill", getComputedStyle(document.documentElement).getPropertyValue(`--${name}`));
@@ -430,7 +457,7 @@ function buildLines() {
     if (!state.placed && state.nodes[tail][X] === state.nodes[head][X]) bend += 36;
     return { path: document.createElementNS(SVG, "path"), tail, head, bend, at: null };
   });
-  by("lines").replaceChildren(...lines.map((line) => line.path));
+  for (const look of LOOKS) by(`lines-${look}`).replaceChildren();
 }
 
 const size = () => ({ width: by("map").clientWidth || 300, height: by("map").clientHeight || 200 });
@@ -443,7 +470,7 @@ function extent() {
   const [top, bottom] = [Math.min(...ys), Math.max(...ys)];
   const { width, height } = size();
   const longest = Math.max(...state.nodes.map((node) => nodeWords(node).length));
-  const side = Math.min(0.27 * width, 18 + 7.4 * longest);
+  const side = Math.min(0.33 * width, 20 + LETTER * longest);
   let sx = (width - 2 * side) / (right - left || 1);
   let sy = (height - 64) / (bottom - top || 1);
   if (state.placed) sx = sy = Math.min(sx, sy);
@@ -485,7 +512,8 @@ function curve(start, end, bend) {
   const [dx, dy] = [end.x - start.x, end.y - start.y];
   const length = Math.hypot(dx, dy);
   if (length < 1) {
-    return { d: `M${start.x - 5} ${start.y - 7}c-26 -38 38 -38 13 -3`, at: [{ x: start.x, y: start.y - 34 }] };
+    const top = { x: start.x, y: start.y - 34 };
+    return { d: `M${start.x - 5} ${start.y - 7}c-26 -38 38 -38 13 -3`, at: Array(7).fill(top), length: 70 };
   }
   const middle = { x: (start.x + end.x) / 2 - (dy / length) * bend, y: (start.y + end.y) / 2 + (dx / length) * bend };
   const away = (from, gap) => {
@@ -493,7 +521,7 @@ function curve(start, end, bend) {
     return { x: from.x + ((middle.x - from.x) / far) * gap, y: from.y + ((middle.y - from.y) / far) * gap };
   };
   const [first, last] = [away(start, 8), away(end, 15)];
-  const at = [0.36, 0.1, 0.22, 0.5, 0.64, 0.78, 0.9].map((t) => ({
+  const at = [0.1, 0.22, 0.36, 0.5, 0.64, 0.78, 0.9].map((t) => ({
     x: (1 - t) ** 2 * first.x + 2 * t * (1 - t) * middle.x + t * t * last.x,
     y: (1 - t) ** 2 * first.y + 2 * t * (1 - t) * middle.y + t * t * last.y,
   }));
@@ -515,7 +543,7 @@ function drawMap(moved) {
       const { d, at, length } = curve(places[line.tail], places[line.head], line.bend);
       line.path.setAttribute("d", d);
       line.at = at;
-      line.length = length || 0;
+      line.length = length;
     }
   }
   const cut = new Set(state.cut || []);
@@ -526,9 +554,14 @@ function drawMap(moved) {
     const look = crosses || isFull(arc) ? "full" : flow > 0 ? "flow" : "empty";
     const name = `arc ${look}${index === chosen ? " chosen" : ""}`;
     const path = lines[index].path;
+    if (lines[index].look !== look) {
+      if (look === "empty" && lines.length > 300) path.removeAttribute("marker-end");
+      else path.setAttribute("marker-end", `url(#head-${look})`);
+      by(`lines-${look}`).append(path);
+      lines[index].look = look;
+    }
     if (lines[index].name !== name) {
       path.setAttribute("class", name);
-      path.setAttribute("marker-end", `url(#head-${look})`);
       lines[index].name = name;
     }
     const width = (crosses ? 2.5 : flow > 0 ? 1.2 + (4.8 * flow) / most : 1).toFixed(1);
@@ -551,12 +584,16 @@ function drawMap(moved) {
   drawWords();
 }
 
+// Of a long name the beginning and the last two letters, in which numbered names differ.
+const shortened = (name, letters) => `${name.slice(0, Math.max(1, letters - 3))}\u2026${name.slice(-2)}`;
+
 // Words are put down where there is room for them, first those of the nodes that supply or demand most.
 function drawWords() {
   const taken = [];
   const words = [];
   const { width, height } = room;
-  const fits = (box) => !taken.some((other) => box[0] < other[2] && box[2] > other[0] && box[1] < other[3] && box[3] > other[1]);
+  const meet = (one, other) => one[0] < other[2] && one[2] > other[0] && one[1] < other[3] && one[3] > other[1];
+  const fits = (box) => !taken.some((other) => meet(box, other));
   const put = (x, y, text, letter, anchor, name, anyway) => {
     const wide = text.length * letter;
     const left = anchor === "end" ? x - wide : anchor === "middle" ? x - wide / 2 : x;
@@ -575,31 +612,39 @@ function drawWords() {
   const places = state.nodes.map(placeOf);
   for (const place of places.slice(0, 400)) taken.push([place.x - 6, place.y - 6, place.x + 6, place.y + 6]);
   if (chosen >= 0 && lines[chosen]) {
-    const at = lines[chosen].at[0];
+    const at = lines[chosen].at[2];
     put(at.x, at.y - 5, arcWords(state.arcs[chosen]), 6.4, "middle", isFull(state.arcs[chosen]) ? "full" : "", true);
   }
   const cut = new Set(state.cut || []);
   const weight = (node) => Math.abs(Number(node[SUPPLY])) + (cut.has(node[NAME]) ? 1e12 : 0);
-  const order = state.nodes.map((_, index) => index).sort((a, b) => weight(state.nodes[b]) - weight(state.nodes[a])).slice(0, 400);
-  for (const index of order) {
+  const order = state.nodes.map((node, index) => index);
+  order.sort((a, b) => weight(state.nodes[b]) - weight(state.nodes[a]));
+  for (const index of order.slice(0, 400)) {
     const node = state.nodes[index];
     const { x, y } = places[index];
-    const far = state.placed || room.leftmost === room.right ? "middle" : node[X] === room.leftmost ? "end" : node[X] === room.right ? "start" : "middle";
-    const text = nodeWords(node);
+    const isInside = state.placed || room.leftmost === room.right || (node[X] !== room.leftmost && node[X] !== room.right);
+    const far = isInside ? "middle" : node[X] === room.leftmost ? "end" : "start";
+    const supply = nodeWords(node).slice(node[NAME].length);
     const space = far === "end" ? x - 14 : far === "start" ? width - x - 14 : width;
-    const letters = Math.max(4, Math.floor(space / 7.4));
-    const short = text.length > letters ? `${text.slice(0, letters - 1)}\u2026` : text;
-    if (far === "middle") put(x, y - 12, short, 7.6, "middle", "node") || put(x, y + 20, short, 7.6, "middle", "node");
-    else put(x + (far === "end" ? -13 : 13), y + 4, short, 7.6, far, "node");
+    const letters = Math.max(4, Math.floor(space / LETTER) - supply.length);
+    const short = (node[NAME].length > letters ? shortened(node[NAME], letters) : node[NAME]) + supply;
+    if (!isInside) put(x + (far === "end" ? -13 : 13), y + 4, short, LETTER, far, "node");
+    else if (!put(x, y - 12, short, LETTER, far, "node")) put(x, y + 20, short, LETTER, far, "node");
   }
   const busy = state.arcs.map((arc, index) => index).filter((index) => index !== chosen && lines[index].length > 60 &&
     (state.cut !== null || Number(state.arcs[index][FLOW]) !== 0));
   busy.sort((a, b) => isFull(state.arcs[b]) - isFull(state.arcs[a]));
+  let left = Math.max(12, (width * height) / 12000);
   for (const index of busy.slice(0, 150)) {
     const text = arcWords(state.arcs[index]);
     if (!text) continue;
-    for (const at of lines[index].at) {
-      if (put(at.x, at.y - 5, text, 6.4, "middle", isFull(state.arcs[index]) ? "full" : "")) break;
+    if (left < 1) break;
+    for (const step of [2, 1, 3, 4, 5, 0, 6]) {
+      const at = lines[index].at[step];
+      if (put(at.x, at.y - 5, text, 6.6, "middle", isFull(state.arcs[index]) ? "full" : "")) {
+        left -= 1;
+        break;
+      }
     }
   }
   by("words").replaceChildren(...words);
@@ -611,7 +656,7 @@ function nearest(event) {
   let [best, found] = [14, -1];
   lines.forEach((line, index) => {
     for (let step = 0; step + 1 < line.at.length; step += 1) {
-      const [a, b] = [line.at[step && step + 1] ?? line.at[1], line.at[step + 1]];
+      const [a, b] = [line.at[step], line.at[step + 1]];
       const [dx, dy] = [b.x - a.x, b.y - a.y];
       const along = Math.max(0, Math.min(1, ((x - a.x) * dx + (y - a.y) * dy) / (dx * dx + dy * dy || 1)));
       const far = Math.hypot(a.x + along * dx - x, a.y + along * dy - y);
@@ -707,7 +752,8 @@ function listen() {
     const element = by(table);
     element.addEventListener("change", (event) => { if (event.target.dataset.what) commit(event.target); });
     element.addEventListener("focusin", (event) => {
-      if (table === "arcs" && event.target.dataset.what && Number(event.target.dataset.index) !== chosen) choose(Number(event.target.dataset.index), false);
+      const { what, index } = event.target.dataset;
+      if (table === "arcs" && what && Number(index) !== chosen) choose(Number(index), false);
     });
     element.addEventListener("keydown", (event) => {
       const input = event.target;
@@ -731,6 +777,7 @@ function listen() {
   by("drop").addEventListener("click", () => { endGroup(); tell(""); });
   by("find").addEventListener("input", filter);
   by("only-full").addEventListener("change", filter);
+  by("with-low").addEventListener("change", showLow);
   by("export").addEventListener("change", (event) => {
     if (event.target.value) queue.then(() => save(event.target.value)).finally(() => { event.target.value = ""; });
   });
@@ -743,7 +790,8 @@ function listen() {
     event.preventDefault();
     const form = event.target;
     const { tail, head, cap, cost } = Object.fromEntries(new FormData(form));
-    offer({ edit: "add", tail, head, cap, cost }, `another arc from ${tail} to ${head}`).then((made) => { if (made) form.reset(); });
+    const words = `another arc from ${tail} to ${head}`;
+    offer({ edit: "add", tail, head, cap, cost }, words).then((made) => { if (made) form.reset(); });
   });
   document.addEventListener("keydown", (event) => {
     const target = event.target;

@@ -1,9 +1,9 @@
 """The what-if page of one session, served on 127.0.0.1 to whoever has its key.
 
 The key stands in the address behind `#`, which no browser sends on: the page reads it there and sends it with each of
-its own requests. So neither another page nor another user of the machine can read or edit the session. Besides, a request
-has to name this server as its `Host` (no other name was made to point here), and an `Origin`, where there is one, has to
-be this server's own. The page may ask no other host for anything, by its `Content-Security-Policy`.
+its own requests. So neither another page nor another user of the machine can read or edit the session. Besides, a
+request has to name this server as its `Host` (no other name was made to point here), and an `Origin`, where there is
+one, has to be this server's own. The page may ask no other host for anything, by its `Content-Security-Policy`.
 """
 from __future__ import annotations
 
@@ -34,10 +34,14 @@ if TYPE_CHECKING:
 __all__ = ["Board", "BoardServer", "serve"]
 
 FOLDER = Path(__file__).resolve().parent
-FILES = {"/": ("page.html", "text/html"), "/page.js": ("page.js", "text/javascript"), "/page.css": ("page.css", "text/css")}
+FILES = {
+    "/": ("page.html", "text/html"),
+    "/page.js": ("page.js", "text/javascript"),
+    "/page.css": ("page.css", "text/css"),
+}
 HEADERS = {
-    "Content-Security-Policy": "default-src 'none'; script-src 'self'; style-src 'self'; connect-src 'self'; img-src 'self' data:; "
-                               "base-uri 'none'; form-action 'none'; frame-ancestors 'none'",
+    "Content-Security-Policy": "default-src 'none'; script-src 'self'; style-src 'self'; connect-src 'self'; "
+    "img-src 'self' data:; base-uri 'none'; form-action 'none'; frame-ancestors 'none'",
     "Cross-Origin-Resource-Policy": "same-origin",
     "Referrer-Policy": "no-referrer",
     "X-Content-Type-Options": "nosniff",
@@ -69,7 +73,9 @@ def value_of(text: Any, what: str) -> Decimal:
     """The number that somebody typed. ValueError, with what to type instead, where it is none."""
     text = str(text).strip().replace("\N{MINUS SIGN}", "-")
     if "," in text:
-        raise ValueError(f"{what}: {text} is no number; write a point before the decimals, and nothing between thousands")
+        raise ValueError(
+            f"{what}: {text} is no number; write a point before the decimals, and nothing between thousands"
+        )
     if not text:
         raise ValueError(f"{what}: a number is missing")
     return exact(text, what)
@@ -108,7 +114,10 @@ class Board:
             return state
 
     def export(self, name: str) -> tuple[str, str]:
-        """A text to save, with its type, by the name of its file. KeyError for another name, ValueError without a plan."""
+        """A text to save, with its type, by the name of its file.
+
+        KeyError for another name, ValueError where it needs a plan and there is none.
+        """
         with self._lock:
             if name == "report.html":
                 return html_text(self.session.plan(check=True), title=self.title), "text/html"
@@ -164,16 +173,22 @@ class Board:
                 if end not in session.problem.nodes:
                     raise ValueError(f"there is no node {end}" if end else "an arc needs two nodes")
             cap = str(edit.get("cap", "")).strip()
-            session.add_arc(tail, head, low=value_of(edit.get("low") or "0", "the lower bound"),
-                            cap=value_of(cap, "the capacity") if cap else self._no_cap(),
-                            cost=value_of(edit.get("cost") or "0", "the cost"))
+            session.add_arc(
+                tail,
+                head,
+                low=value_of(edit.get("low") or "0", "the lower bound"),
+                cap=value_of(cap, "the capacity") if cap else self._no_cap(),
+                cost=value_of(edit.get("cost") or "0", "the cost"),
+            )
             return
         arc = edit.get("arc")
         if not isinstance(arc, int) or not 0 <= arc < len(session.problem.arcs):
             raise ValueError("there is no such arc")
         label = session.problem.arcs[arc].label
         if what == "cap":
-            session.set_cap(arc, value_of(value, f"the capacity of {label}") if str(value).strip() else self._no_cap())
+            session.set_cap(
+                arc, value_of(value, f"the capacity of {label}") if str(value).strip() else self._no_cap()
+            )
         elif what == "low":
             session.set_low(arc, value_of(value, f"the lower bound of {label}"))
         elif what == "cost":
@@ -197,9 +212,14 @@ class Board:
         try:
             self.session.mark(name)
         except EditRefused:
-            pass    # The session has no mark left; the way back is made by edits then.
-        self.variants[name] = Variant(self.session.cost, self.session.shortage, dict(problem.nodes), list(problem.arcs),
-                                      list(result.flows) if hasattr(result, "flows") else None)
+            pass  # The session has no mark left; the way back is made by edits then.
+        self.variants[name] = Variant(
+            self.session.cost,
+            self.session.shortage,
+            dict(problem.nodes),
+            list(problem.arcs),
+            list(result.flows) if hasattr(result, "flows") else None,
+        )
 
     def _back(self, name: str) -> None:
         variant = self.variants.get(name)
@@ -226,7 +246,7 @@ class Board:
                     session.set_supply(node, supply)
             for index, (old, new) in enumerate(zip(arcs, variant.arcs)):
                 self._set_arc(index, old, new)
-            for arc in variant.arcs[len(arcs):]:
+            for arc in variant.arcs[len(arcs) :]:
                 session.add_arc(arc.tail, arc.head, low=arc.low, cap=arc.cap, cost=arc.cost, name=arc.name)
             for index in range(len(variant.arcs), len(arcs)):
                 if arcs[index].cap != 0:
@@ -235,7 +255,10 @@ class Board:
     def _set_arc(self, index: int, old: Arc, new: Arc) -> None:
         """Sets what differs, the bounds in an order in which the lower one is never above the capacity."""
         session = self.session
-        steps = [(old.cap != new.cap, lambda: session.set_cap(index, new.cap)), (old.low != new.low, lambda: session.set_low(index, new.low))]
+        steps = [
+            (old.cap != new.cap, lambda: session.set_cap(index, new.cap)),
+            (old.low != new.low, lambda: session.set_low(index, new.low)),
+        ]
         if new.cap is not None and new.cap < old.low:
             steps.reverse()
         for differs, step in steps:
@@ -250,39 +273,87 @@ class Board:
         flows = getattr(result, "flows", None)
         prices = getattr(result, "prices", None)
         rest = {**(getattr(result, "kept", None) or {}), **(getattr(result, "not_met", None) or {})}
-        nodes = [[name, number(supply), *self._places.get(name, (0.0, 0.0)), number(prices[name]) if prices else None,
-                  number(rest.get(name)) if rest.get(name) else None] for name, supply in problem.nodes.items()]
-        arcs = [[arc.tail, arc.head, arc.name, number(arc.low), None if arc.cap is None else number(arc.cap), number(arc.cost),
-                 number(flows[index]) if flows is not None else None] for index, arc in enumerate(problem.arcs)]
+        nodes = [
+            [
+                name,
+                number(supply),
+                *self._places.get(name, (0.0, 0.0)),
+                number(prices[name]) if prices else None,
+                number(rest.get(name)) if rest.get(name) else None,
+            ]
+            for name, supply in problem.nodes.items()
+        ]
+        arcs = [
+            [
+                arc.tail,
+                arc.head,
+                arc.name,
+                number(arc.low),
+                None if arc.cap is None else number(arc.cap),
+                number(arc.cost),
+                number(flows[index]) if flows is not None else None,
+            ]
+            for index, arc in enumerate(problem.arcs)
+        ]
         cut = getattr(result, "cut", None)
         return {
-            "title": self.title, "kind": problem.kind, "placed": self._placed, "source": problem.source, "sink": problem.sink,
-            "cost": None if flows is None else number(result.cost), "first": None if self._first is None else number(self._first),
+            "title": self.title,
+            "kind": problem.kind,
+            "placed": self._placed,
+            "source": problem.source,
+            "sink": problem.sink,
+            "cost": None if flows is None else number(result.cost),
+            "first": None if self._first is None else number(self._first),
             "shortage": None if cut is None else number(result.shortage),
-            "why": None if cut is None else explain(result), "cut": None if cut is None else sorted(cut),
-            "checked": bool(getattr(result, "checked", False)), "notes": [str(note) for note in getattr(result, "notes", None) or []],
-            "nodes": nodes, "arcs": arcs, "undo": session.can_undo, "redo": session.can_redo,
-            "variants": self._variants(result), "error": None,
+            "why": None if cut is None else explain(result),
+            "cut": None if cut is None else sorted(cut),
+            "checked": bool(getattr(result, "checked", False)),
+            "notes": [str(note) for note in getattr(result, "notes", None) or []],
+            "nodes": nodes,
+            "arcs": arcs,
+            "undo": session.can_undo,
+            "redo": session.can_redo,
+            "variants": self._variants(result),
+            "error": None,
         }
 
     def _variants(self, result: Union[Plan, Infeasible]) -> dict[str, Any]:
         """The variants side by side with the moment: their worth, and each number by which any of them differs."""
         problem = self.session.problem
-        now = Variant(self.session.cost, self.session.shortage, dict(problem.nodes), list(problem.arcs), getattr(result, "flows", None))
+        now = Variant(
+            self.session.cost,
+            self.session.shortage,
+            dict(problem.nodes),
+            list(problem.arcs),
+            getattr(result, "flows", None),
+        )
         each = [*self.variants.values(), now]
-        columns = [{"name": name, "cost": None if variant.cost is None else number(variant.cost),
-                    "shortage": None if variant.shortage is None else number(variant.shortage), "here": self._stands(variant)}
-                   for name, variant in self.variants.items()]
+        columns = [
+            {
+                "name": name,
+                "cost": None if variant.cost is None else number(variant.cost),
+                "shortage": None if variant.shortage is None else number(variant.shortage),
+                "here": self._stands(variant),
+            }
+            for name, variant in self.variants.items()
+        ]
         rows: list[list[Any]] = []
         if self.variants:
             for index in range(max(len(variant.arcs) for variant in each)):
                 has = [variant.arcs[index] if index < len(variant.arcs) else None for variant in each]
                 label = next(arc.label for arc in has if arc is not None)
                 for what, values in (
-                        ("flow", [None if arc is None or variant.flows is None else variant.flows[index] for arc, variant in zip(has, each)]),
-                        ("at least", [None if arc is None else arc.low for arc in has]),
-                        ("capacity", [None if arc is None else arc.cap for arc in has]),
-                        ("unit cost", [None if arc is None else arc.cost for arc in has])):
+                    (
+                        "flow",
+                        [
+                            None if arc is None or variant.flows is None else variant.flows[index]
+                            for arc, variant in zip(has, each)
+                        ],
+                    ),
+                    ("at least", [None if arc is None else arc.low for arc in has]),
+                    ("capacity", [None if arc is None else arc.cap for arc in has]),
+                    ("unit cost", [None if arc is None else arc.cost for arc in has]),
+                ):
                     if any(value != values[0] for value in values):
                         rows.append([label, what, [self._shown(arc, value, what) for arc, value in zip(has, values)]])
             for node in problem.nodes:
@@ -338,7 +409,7 @@ class Handler(BaseHTTPRequestHandler):
             self._answer(200, (FOLDER / name).read_bytes(), kind)
         elif path.startswith("/export/"):
             if self._has_key():
-                self._export(path[len("/export/"):])
+                self._export(path[len("/export/") :])
         else:
             self._refuse(404, "there is nothing here")
 
@@ -400,7 +471,12 @@ class Handler(BaseHTTPRequestHandler):
         except (ValueError, Disagreement, ProgramFailed, TimeLimit) as error:
             self._refuse(409, in_words(error))
         else:
-            self._answer(200, text.encode("utf-8", "surrogateescape"), kind, {"Content-Disposition": f'attachment; filename="{name}"'})
+            self._answer(
+                200,
+                text.encode("utf-8", "surrogateescape"),
+                kind,
+                {"Content-Disposition": f'attachment; filename="{name}"'},
+            )
 
     def _refuse(self, status: int, words: str) -> None:
         # What else stands in the connection was not read, so it ends here.
@@ -409,7 +485,12 @@ class Handler(BaseHTTPRequestHandler):
 
     def _answer(self, status: int, body: bytes, kind: str, more: Optional[dict[str, str]] = None) -> None:
         self.send_response(status)
-        for name, value in {**HEADERS, "Content-Type": f"{kind}; charset=utf-8", "Content-Length": str(len(body)), **(more or {})}.items():
+        for name, value in {
+            **HEADERS,
+            "Content-Type": f"{kind}; charset=utf-8",
+            "Content-Length": str(len(body)),
+            **(more or {}),
+        }.items():
             self.send_header(name, value)
         self.end_headers()
         self.wfile.write(body)
