@@ -203,6 +203,10 @@ class Problem:
             raise KeyError(f"there are several arcs {_called(which)}: say which by its number")
         return number
 
+    def forget_numbers(self) -> None:
+        """To be called where arcs were taken out or changed their names: they are listed anew when they are looked up."""
+        self._numbered = -1
+
     def _number(self) -> None:
         """Lists the arcs by their ends, `TAIL to HEAD` and names; a name goes before `TAIL to HEAD` of another arc."""
         numbers: Dict[Union[str, Tuple[str, str]], int] = {}

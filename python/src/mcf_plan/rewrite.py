@@ -209,8 +209,11 @@ class Rewriting:
             raise Meaningless(f"supplies that are met as '{problem.balance}' have no meaning in '{problem.kind}'")
         if problem.kind == "max":
             self._check_max()
-        elif problem.kind == "asn":
-            self._check_asn()
+        if problem.kind != "min":
+            for name in problem.nodes:
+                self._check_node(name)
+            for number, arc in enumerate(problem.arcs):
+                self._check_arc(number, arc)
 
     def _check_max(self) -> None:
         problem = self.problem
@@ -219,21 +222,23 @@ class Rewriting:
                 raise Meaningless(f"a maximum flow needs a {what}" + (f", and there is no node {name}" if name else ""))
         if problem.source == problem.sink:
             raise Meaningless(f"source and sink are the same node, {problem.source}")
-        for name, supply in problem.nodes.items():
-            if supply:
-                raise Meaningless(f"node {name} has a supply, which has no meaning in a maximum flow")
-        for number, arc in enumerate(problem.arcs):
-            if arc.cost:
-                raise Meaningless(f"arc {number + 1}, {arc.label}, has a cost, which has no meaning in a maximum flow")
         if self.rest_cost is not None:
             raise Meaningless("in a maximum flow nothing is kept or not met")
 
-    def _check_asn(self) -> None:
-        nodes = self.problem.nodes
-        for name, supply in nodes.items():
-            if abs(supply) != 1:
-                raise Meaningless(f"node {name} supplies {plain(supply)}: in an assignment a node supplies 1, or demands 1")
-        for number, arc in enumerate(self.problem.arcs):
+    def _check_node(self, name: str) -> None:
+        """Raises Meaningless where the supply of a node has no meaning in this kind."""
+        supply = self.problem.nodes[name]
+        if self.problem.kind == "max" and supply:
+            raise Meaningless(f"node {name} has a supply, which has no meaning in a maximum flow")
+        if self.problem.kind == "asn" and abs(supply) != 1:
+            raise Meaningless(f"node {name} supplies {plain(supply)}: in an assignment a node supplies 1, or demands 1")
+
+    def _check_arc(self, number: int, arc: Arc) -> None:
+        """Raises Meaningless where a row of an arc has no meaning in this kind."""
+        if self.problem.kind == "max" and arc.cost:
+            raise Meaningless(f"arc {number + 1}, {arc.label}, has a cost, which has no meaning in a maximum flow")
+        if self.problem.kind == "asn":
+            nodes = self.problem.nodes
             what = f"arc {number + 1}, {arc.label},"
             if arc.low not in (ZERO, ONE) or arc.cap not in (ZERO, ONE):
                 raise Meaningless(f"{what} has other bounds than 0 and 1, which have no meaning in an assignment")
@@ -316,7 +321,7 @@ class Rewriting:
         self.pieces_of_large = 1
         self.clips = False
         large = [k for k, (_, cap) in enumerate(self.bounds) if cap is None]
-        larger = [k for k, (low, cap) in enumerate(self.bounds) if cap is not None and cap - low > MOST_FLOW]
+        larger = [k for k, bounds in enumerate(self.bounds) if bounds[1] is not None and _is_large(bounds)]
         self.has_large = bool(large or larger or self.problem.balance != "equal" or self.problem.kind == "max")
         if not self.has_large:
             return
@@ -484,12 +489,21 @@ class Rewriting:
         if self.problem.kind == "max" and self.kind == "min":
             cost = 0 if self.options.without_costs else -1
             self._add_large(numbers[self.problem.sink or ""], numbers[self.problem.source or ""], cost)
+        self.needed_limit = self.room
+        for bounds, form in zip(self.bounds, forms):
+            if bounds[1] is None or bounds[1] > MOST_FLOW:
+                self.limit_needed(bounds, form)
         self.rest_arcs: Dict[str, List[int]] = {}
         if self.rest is not None:
             self._add_rest(self.rest)
         self._set_supplies()
         if self.node_count > MOST_NODES or len(self.rows) > MOST_ARCS:
             raise self._too_large()
+
+    def limit_needed(self, bounds: Bounds, form: Form) -> None:
+        """Takes into account how much room an arc on one line can have above its lower bound."""
+        if form == ONE_LINE and _is_large(bounds):
+            self.needed_limit = min(self.needed_limit, MOST_FLOW - bounds[0])
 
     def _add_large(self, tail: int, head: int, cost: int) -> List[int]:
         """Adds the lines of an arc without limit, and returns their numbers from 0."""
@@ -530,7 +544,8 @@ class Rewriting:
         self.node_count = len(self.names) + (self.rest is not None)
         self.supplies = [0] * (self.node_count + 1)
         self.helpers: Dict[int, List[int]] = {}
-        for number, supply in enumerate(self.whole_supplies()):
+        self.wholes = self._whole_supplies()
+        for number, supply in enumerate(self.wholes):
             lines = max(1, -(-abs(supply) // MOST_FLOW))
             if lines > MOST_NODES:
                 raise self._too_large()
@@ -545,7 +560,7 @@ class Rewriting:
                 self.rows.append(Row(0, MOST_FLOW, 0))
                 self.ends.append((self.node_count, number) if part > 0 else (number, self.node_count))
 
-    def whole_supplies(self) -> List[int]:
+    def _whole_supplies(self) -> List[int]:
         """The supplies by the nodes' numbers, from 0 on (which is no node), with moved lower bounds and the rest."""
         supplies = [0] + [self.flow_of(supply) for supply in self.problem.nodes.values()]
         for k, low in self.moved.items():
@@ -604,6 +619,32 @@ class Rewriting:
         if self.rest is not None:
             self.notes.append(f"node {self.rest} stands for what is kept or not met")
 
+    # ------------------------------------------------------------ edits
+
+    def update(self, arcs: Iterable[int], nodes: Iterable[str]) -> List[str]:
+        """Takes over what was changed in these arcs and nodes of the tables, arcs at the end that were added or taken out
+        among them, and returns the commands of a session that do the same to the text.
+
+        Raises DoesNotFit where the text's form does not take it, Unbounded, BeyondLimits or Meaningless where none does;
+        then nothing is taken over.
+        """
+        change = _Change(self)
+        changed = sorted(set(arcs))
+        for name in set(nodes):
+            self._check_node(name)
+            change.supply(name)
+        for k in changed:
+            if k < min(len(self.forms), len(self.problem.arcs)):
+                self._check_arc(k, self.problem.arcs[k])
+                change.arc(k)
+        for k in range(len(self.forms), len(self.problem.arcs)):
+            self._check_arc(k, self.problem.arcs[k])
+            change.added(k)
+        change.check_room()
+        commands = change.commands()
+        change.take_over()
+        return commands
+
     # ------------------------------------------------------------ back to the tables
 
     def answered(self, answer: Answer) -> Union[Plan, Infeasible]:
@@ -611,6 +652,8 @@ class Rewriting:
 
         Raises Disagreement where it is no answer to the text.
         """
+        if any(not 1 <= number <= self.node_count for number in answer.cut):
+            raise Disagreement("the cut has a node that the text has not")
         if answer.shortage is not None:
             cut = frozenset(self.names[number - 1] for number in answer.cut if number <= len(self.names))
             return Infeasible(self.problem, cut, shrunk(answer.shortage, self.flow_places), rest_cost=self.rest_cost,
@@ -649,6 +692,13 @@ class Rewriting:
             cost = WIDE.add(cost, WIDE.multiply(shrunk(low, self.flow_places), self.problem.arcs[k].cost))
         return cost if cost else ZERO
 
+    def worth(self, reply: str) -> Tuple[Optional[Decimal], Optional[Decimal]]:
+        """The cost, or the shortage, that the first line of an answer tells, in the units of the tables."""
+        letter, number = reply.split()
+        if letter == "s":
+            return self._cost_of_answer(Answer(value=int(number))), None
+        return None, shrunk(int(number), self.flow_places)
+
     def checked(self, answer_text: str, program: Program, time_limit: Optional[float] = None) -> Union[Plan, Infeasible]:
         """The plan, or the reason that there is none, after `mcf check` has accepted the answer, and `verify`.
 
@@ -666,6 +716,198 @@ class Rewriting:
             raise
         result.checked = True
         return result
+
+
+class _Change:
+    """What an edit of the tables changes in the text: worked out first, and then taken over as a whole."""
+
+    def __init__(self, rewriting: Rewriting):
+        self.rewriting = rewriting
+        self.bounds: Dict[int, Bounds] = {}
+        self.rows: Dict[int, Row] = {}
+        self.moved: Dict[int, int] = {}
+        self.wholes: Dict[int, int] = {}
+        self.new: List[Tuple[Bounds, Form, List[Row], Tuple[int, int]]] = []
+        self.total = rewriting.total
+        self.needed = rewriting.needed
+        self.needs_search = False
+
+    def _add_supply(self, number: int, amount: int) -> None:
+        if amount:
+            self.wholes[number] = self.wholes.get(number, self.rewriting.wholes[number]) + amount
+
+    def supply(self, name: str) -> None:
+        """The supply of a node was changed."""
+        rewriting = self.rewriting
+        number = rewriting.numbers[name]
+        moved = sum((rewriting.moved[k] if rewriting.ends[rewriting.first[k]][1] == number else 0)
+                    - (rewriting.moved[k] if rewriting.ends[rewriting.first[k]][0] == number else 0)
+                    for k in rewriting.moved) if rewriting.moved else 0
+        before = rewriting.wholes[number] - moved
+        change = rewriting.flow_of(rewriting.problem.nodes[name]) - before
+        self._add_supply(number, change)
+        self.needed += 2 * abs(change)
+        self.total = WIDE.add(self.total, WIDE.multiply(Decimal(change), Decimal(1).scaleb(-rewriting.flow_places)))
+        if rewriting.rest is None:
+            if rewriting.rest_cost is not None and self.total != 0:
+                raise DoesNotFit
+            return
+        self._add_supply(rewriting.rest, -change)
+        if rewriting.problem.balance == "equal":
+            self._keep(name)
+
+    def _keep(self, name: str) -> None:
+        """What the node may keep or go without is as much as its supply."""
+        rewriting = self.rewriting
+        if not self.total or (self.total > 0) != (rewriting.total > 0):
+            raise DoesNotFit
+        room = rewriting.rest_room(name)
+        for line in rewriting.rest_arcs.get(name, ()):
+            part = min(room, MOST_FLOW)
+            self.rows[line] = rewriting.rows[line]._replace(cap=part)
+            room -= part
+        if room:
+            raise DoesNotFit
+
+    def arc(self, k: int) -> None:
+        """The bounds or the cost of an arc were changed."""
+        rewriting = self.rewriting
+        arc = rewriting.problem.arcs[k]
+        before, bounds = rewriting.bounds[k], rewriting.bounds_of(arc)
+        if rewriting.kind == "max" and arc.low:
+            raise DoesNotFit
+        was_large, is_large = _is_large(before), _is_large(bounds)
+        if is_large and (not was_large or arc.cost < 0 or rewriting.kind == "max" and before != bounds):
+            self.needs_search = True
+        elif not is_large:
+            # An arc that was large counted nothing before.
+            self.needed += _width(bounds) if was_large or arc.cost < 0 else max(0, _width(bounds) - _width(before))
+        change = bounds[0] - before[0]
+        self.needed += 3 * abs(change)
+        form = rewriting.forms[k]
+        cost = rewriting.cost_of(arc.cost)
+        if form == ONE_LINE and not was_large and not is_large and bounds[0] >= 0 and (bounds[1] or 0) <= MOST_FLOW:
+            rows = [Row(bounds[0], bounds[1] or 0, cost)]
+        else:
+            rows = rewriting.rows_of(bounds, cost, form)
+        for line, row in enumerate(rows, rewriting.first[k]):
+            self.rows[line] = row
+        self.bounds[k] = bounds
+        if form[1]:
+            self.moved[k] = bounds[0]
+            tail, head = rewriting.ends[rewriting.first[k]]
+            self._add_supply(tail, -change)
+            self._add_supply(head, change)
+
+    def added(self, k: int) -> None:
+        """An arc was added at the end."""
+        rewriting = self.rewriting
+        arc = rewriting.problem.arcs[k]
+        bounds = rewriting.bounds_of(arc)
+        if rewriting.kind == "max" and arc.low:
+            raise DoesNotFit
+        if _is_large(bounds):
+            if not rewriting.has_large:
+                raise DoesNotFit
+            self.needs_search = True
+        else:
+            self.needed += _width(bounds)
+        self.needed += 3 * abs(bounds[0])
+        form = rewriting.form_of(bounds)
+        rows = rewriting.rows_of(bounds, rewriting.cost_of(arc.cost), form)
+        tail, head = rewriting.numbers[arc.tail], rewriting.numbers[arc.head]
+        if form[1]:
+            self._add_supply(tail, -bounds[0])
+            self._add_supply(head, bounds[0])
+        self.new.append((bounds, form, rows, (tail, head)))
+
+    def check_room(self) -> None:
+        """Raises DoesNotFit, or Unbounded, where arcs without limit have no longer the room that they need."""
+        rewriting = self.rewriting
+        if self.needs_search and not rewriting.has_large:
+            raise DoesNotFit
+        if not rewriting.has_large or self.needed <= rewriting.needed_limit and not self.needs_search:
+            return
+        fresh = Rewriting(rewriting.problem, rewriting.options)
+        if fresh.needed > rewriting.needed_limit or fresh.clips != rewriting.clips:
+            raise DoesNotFit
+        self.needed = fresh.needed
+
+    def commands(self) -> List[str]:
+        """The commands of a session that change the text in this way."""
+        rewriting = self.rewriting
+        commands: List[str] = []
+        self.supplies: Dict[int, int] = {}
+        for number, whole_supply in self.wholes.items():
+            helpers = rewriting.helpers.get(number, [])
+            before = rewriting.wholes[number]
+            if helpers and (before > 0) != (whole_supply > 0):
+                raise DoesNotFit
+            parts = rewriting.supply_rows(whole_supply, 1 + len(helpers))
+            for node, part in zip([number, *helpers], parts):
+                self.supplies[node] = part
+                if part != rewriting.supplies[node]:
+                    commands.append(f"supply {node} {part}")
+        for line, row in self.rows.items():
+            commands += _commands_of_row(line + 1, rewriting.rows[line], row)
+        for _, _, rows, (tail, head) in self.new:
+            for row in rows:
+                fields = f"{row.cap}" if rewriting.kind == "max" else f"{row.low} {row.cap} {row.cost}"
+                commands.append(f"add {tail} {head} {fields}")
+        return commands
+
+    def take_over(self) -> None:
+        """Makes the change in the rewriting; arcs that were taken out of the tables' end are taken out there too."""
+        rewriting = self.rewriting
+        for k in range(len(rewriting.forms) - 1, len(rewriting.problem.arcs) - 1, -1):
+            low = rewriting.moved.pop(k, 0)
+            if low:
+                tail, head = rewriting.ends[rewriting.first[k]]
+                for number, amount in ((tail, low), (head, -low)):
+                    rewriting.wholes[number] += amount
+                    rewriting.supplies[number] += amount
+            del rewriting.rows[rewriting.first[k]:], rewriting.ends[rewriting.first[k]:]
+            rewriting.forms.pop(), rewriting.first.pop(), rewriting.bounds.pop()
+        for k, bounds in self.bounds.items():
+            rewriting.bounds[k] = bounds
+        for line, row in self.rows.items():
+            rewriting.rows[line] = row
+        rewriting.moved.update(self.moved)
+        for number, whole_supply in self.wholes.items():
+            rewriting.wholes[number] = whole_supply
+        for number, supply in self.supplies.items():
+            rewriting.supplies[number] = supply
+        for bounds, form, rows, ends in self.new:
+            if form[1]:
+                rewriting.moved[len(rewriting.forms)] = bounds[0]
+            rewriting.forms.append(form)
+            rewriting.bounds.append(bounds)
+            rewriting.first.append(len(rewriting.rows))
+            rewriting.rows += rows
+            rewriting.ends += [ends] * len(rows)
+        rewriting.total = self.total
+        rewriting.needed = self.needed
+        for bounds, form in [(b, rewriting.forms[k]) for k, b in self.bounds.items()] + [new[:2] for new in self.new]:
+            rewriting.limit_needed(bounds, form)
+
+
+def _is_large(bounds: Bounds) -> bool:
+    """Whether an arc could carry more than one line of the text can."""
+    return bounds[1] is None or bounds[1] - bounds[0] > MOST_FLOW
+
+
+def _width(bounds: Bounds) -> int:
+    """How much an arc with a limit can carry above its lower bound."""
+    assert bounds[1] is not None
+    return bounds[1] - bounds[0]
+
+
+def _commands_of_row(number: int, before: Row, row: Row) -> List[str]:
+    """The commands that change an arc line, in an order in which each is taken."""
+    bounds = [f"cap {number} {row.cap}"] if row.cap != before.cap else []
+    if row.low != before.low:
+        bounds.insert(len(bounds) if row.cap >= before.low else 0, f"low {number} {row.low}")
+    return bounds + ([f"cost {number} {row.cost}"] if row.cost != before.cost else [])
 
 
 def gainful_circle(nodes: int, arcs: List[Tuple[int, int, int, int]]) -> List[int]:
