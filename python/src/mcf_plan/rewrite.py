@@ -8,6 +8,7 @@ rest, with an arc to or from each node that may keep some, or go without some.
 
 from __future__ import annotations
 
+import copy
 import time
 from collections import deque
 from dataclasses import dataclass, replace
@@ -114,10 +115,11 @@ def solve(problem: Problem, options: Options = Options(), program: Optional[Prog
         rewriting = rewrite(problem, options)
     except Unbounded:
         # Where there is no plan at all, that is the answer.
-        possible = solve(problem, replace(options, without_costs=True), program, time_limit)
-        if isinstance(possible, Infeasible):
-            return possible
-        raise
+        rewriting = rewrite(problem, replace(options, without_costs=True))
+        answer_text = program.solve(rewriting.text, time_limit=left(deadline))
+        if parse_answer(answer_text).is_flow:
+            raise
+        return rewriting.checked(answer_text, program, left(deadline))
     answer_text = program.solve(rewriting.text, time_limit=left(deadline))
     return rewriting.checked(answer_text, program, left(deadline))
 
@@ -179,7 +181,7 @@ class Rewriting:
         self.rest_is_used = problem.balance != "equal" or (self.rest_cost is not None and self.total != 0)
         self.rest: Optional[int] = len(self.names) + 1 if self.rest_is_used else None
         self._set_units()
-        self._set_room()
+        self.set_room()
         self._lay_out()
         self._tell_notes()
 
@@ -309,7 +311,7 @@ class Rewriting:
 
     # ------------------------------------------------------------ room for arcs without limit
 
-    def _set_room(self) -> None:
+    def set_room(self) -> None:
         """Sets how much an arc without limit has to be able to carry: more than any best flow needs there.
 
         A best flow is made of paths from supplies to demands and of circles. Circles that cost nothing less are left
@@ -640,6 +642,8 @@ class Rewriting:
         for k in range(len(self.forms), len(self.problem.arcs)):
             self._check_arc(k, self.problem.arcs[k])
             change.added(k)
+        for k in range(len(self.problem.arcs), len(self.forms)):
+            change.removed(k)
         change.check_room()
         commands = change.commands()
         change.take_over()
@@ -657,7 +661,7 @@ class Rewriting:
         if answer.shortage is not None:
             cut = frozenset(self.names[number - 1] for number in answer.cut if number <= len(self.names))
             return Infeasible(self.problem, cut, shrunk(answer.shortage, self.flow_places), rest_cost=self.rest_cost,
-                              rest_in_cut=self.rest is not None and self.rest in answer.cut, notes=self.notes)
+                              rest_in_cut=self.rest is not None and self.rest in answer.cut, notes=list(self.notes))
         if len(answer.flows) != len(self.rows):
             raise Disagreement(f"the answer has {len(answer.flows)} flows for {len(self.rows)} arcs")
         places = self.flow_places
@@ -680,7 +684,7 @@ class Rewriting:
         rest = {name: amount for name, amount in rest.items() if amount}
         kept = self.problem.balance == "at most" or self.problem.balance == "equal" and self.total > 0
         return Plan(self.problem, amounts, self._cost_of_answer(answer), prices, kept=rest if kept else {},
-                    not_met={} if kept else rest, rest_cost=self.rest_cost, rest_price=rest_price, notes=self.notes)
+                    not_met={} if kept else rest, rest_cost=self.rest_cost, rest_price=rest_price, notes=list(self.notes))
 
     def _cost_of_answer(self, answer: Answer) -> Decimal:
         """What the plan costs, or in `max` sends, in the units of the tables."""
@@ -821,6 +825,15 @@ class _Change:
             self._add_supply(head, bounds[0])
         self.new.append((bounds, form, rows, (tail, head)))
 
+    def removed(self, k: int) -> None:
+        """An arc was taken out at the end."""
+        rewriting = self.rewriting
+        low = rewriting.moved.get(k, 0)
+        tail, head = rewriting.ends[rewriting.first[k]]
+        self._add_supply(tail, low)
+        self._add_supply(head, -low)
+        self.needed += 3 * abs(rewriting.bounds[k][0])
+
     def check_room(self) -> None:
         """Raises DoesNotFit, or Unbounded, where arcs without limit have no longer the room that they need."""
         rewriting = self.rewriting
@@ -828,10 +841,13 @@ class _Change:
             raise DoesNotFit
         if not rewriting.has_large or self.needed <= rewriting.needed_limit and not self.needs_search:
             return
-        fresh = Rewriting(rewriting.problem, rewriting.options)
-        if fresh.needed > rewriting.needed_limit or fresh.clips != rewriting.clips:
+        probe = copy.copy(rewriting)
+        probe.total = self.total
+        probe.bounds = [rewriting.bounds_of(arc) for arc in rewriting.problem.arcs]
+        probe.set_room()
+        if probe.has_large and (probe.needed > rewriting.needed_limit or probe.clips != rewriting.clips):
             raise DoesNotFit
-        self.needed = fresh.needed
+        self.needed = probe.needed
 
     def commands(self) -> List[str]:
         """The commands of a session that change the text in this way."""
@@ -860,12 +876,7 @@ class _Change:
         """Makes the change in the rewriting; arcs that were taken out of the tables' end are taken out there too."""
         rewriting = self.rewriting
         for k in range(len(rewriting.forms) - 1, len(rewriting.problem.arcs) - 1, -1):
-            low = rewriting.moved.pop(k, 0)
-            if low:
-                tail, head = rewriting.ends[rewriting.first[k]]
-                for number, amount in ((tail, low), (head, -low)):
-                    rewriting.wholes[number] += amount
-                    rewriting.supplies[number] += amount
+            rewriting.moved.pop(k, 0)
             del rewriting.rows[rewriting.first[k]:], rewriting.ends[rewriting.first[k]:]
             rewriting.forms.pop(), rewriting.first.pop(), rewriting.bounds.pop()
         for k, bounds in self.bounds.items():

@@ -66,6 +66,7 @@ class _Stretch:
     text: str
     rewriting: Rewriting
     extra: int
+    most_lines: int
     dialogue: Optional[Dialogue]
     steps: List[List[str]] = field(default_factory=list)
     position: int = 0
@@ -387,27 +388,30 @@ class Session:
         except BaseException:
             self._take_back(changes)
             raise
+        dropped = self._moments[self._now + 1:]
         del self._moments[self._now + 1:]
+        for one in dropped:
+            if one.stretch is not self._moments[self._now].stretch:
+                one.stretch.shut()
         self._marks = {name: at for name, at in self._marks.items() if at <= self._now}
+        is_new = moment.stretch is not self._moments[self._now].stretch
         self._moments.append(moment)
         self._now += 1
-        self._shut_others()
+        if is_new:
+            self._shut_others()
         return moment.cost
 
     def _step_in_stretch(self, changes: List[_TableChange]) -> Optional[_Moment]:
         """The next moment in the stretch that stands; None where the changes do not fit in its text."""
         stretch = self._moments[self._now].stretch
         rewriting = stretch.rewriting
-        added = sum(isinstance(change, _ArcChange) and change.before is None for change in changes)
         dialogue = stretch.open(self._program)
-        lines_before = len(rewriting.rows)
         try:
             commands = self._refresh(rewriting, changes)
         except DoesNotFit:
             return None
         try:
-            most = min(MOST_ARCS, len(stretch.rewriting.rows) if not added else stretch.extra + self._lines_at_start(stretch))
-            if len(commands) > MOST_EDITS or len(rewriting.rows) > most and len(rewriting.rows) > lines_before:
+            if len(commands) > MOST_EDITS or len(rewriting.rows) > stretch.most_lines:
                 self._refresh_back(rewriting, changes)
                 return None
             reply = dialogue.ask_all(stretch.lines_of(commands), time_limit=self.time_limit)[0]
@@ -422,11 +426,6 @@ class Session:
         stretch.position += 1
         return self._moment_of(reply, changes, stretch)
 
-    @staticmethod
-    def _lines_at_start(stretch: _Stretch) -> int:
-        """How many arc lines the stretch's text has."""
-        return int(stretch.text[:stretch.text.index("\n")].split()[3])
-
     def _refresh_back(self, rewriting: Rewriting, changes: List[_TableChange]) -> None:
         """Brings a rewriting back to before the changes, which stay in the tables."""
         self._take_back(changes)
@@ -439,7 +438,7 @@ class Session:
         text = rewriting.text
         extra = max(0, min(ROOM_FOR_ARCS, MOST_ARCS - len(rewriting.rows)))
         dialogue = self._program.session(text, extra=extra, time_limit=self.time_limit)
-        return self._moment_of(dialogue.first, changes, _Stretch(text, rewriting, extra, dialogue))
+        return self._moment_of(dialogue.first, changes, _Stretch(text, rewriting, extra, len(rewriting.rows) + extra, dialogue))
 
     @staticmethod
     def _moment_of(reply: str, changes: List[_TableChange], stretch: _Stretch) -> _Moment:
@@ -450,7 +449,7 @@ class Session:
         """Ends dialogues that are far from the moment, so that few processes are open."""
         stretches: List[_Stretch] = []
         for moment in reversed(self._moments):
-            if moment.stretch not in stretches:
+            if not stretches or moment.stretch is not stretches[-1]:
                 stretches.append(moment.stretch)
         for stretch in stretches[MOST_DIALOGUES:]:
             stretch.shut()
