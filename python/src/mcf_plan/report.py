@@ -107,14 +107,10 @@ def _starts(problem: Problem) -> list[str]:
     )
 
 
-def _columns(problem: Problem) -> list[list[str]]:
-    """The nodes by their distance from those that supply; those that only take in stand in the last column."""
-    after: dict[str, list[str]] = {name: [] for name in problem.nodes}
-    for arc in problem.arcs:
-        if arc.tail != arc.head:
-            after[arc.tail].append(arc.head)
+def _nearest_first(after: Mapping[str, list[str]], starts: list[str]) -> dict[str, int]:
+    """The number of arcs to each node from those that a picture begins with; a node that none reaches begins anew."""
     depth: dict[str, int] = {}
-    for first in [_starts(problem), *([name] for name in problem.nodes)]:
+    for first in [starts, *([name] for name in after)]:
         waiting = deque(name for name in first if name not in depth)
         depth.update(dict.fromkeys(waiting, 0))
         while waiting:
@@ -123,6 +119,56 @@ def _columns(problem: Problem) -> list[list[str]]:
                 if head not in depth:
                     depth[head] = depth[name] + 1
                     waiting.append(head)
+    return depth
+
+
+def _farthest_first(after: Mapping[str, list[str]], starts: list[str]) -> dict[str, int]:
+    """The most arcs on a way to each node, from those that a picture begins with.
+
+    Arcs that lead back to these, or close a circle in a search that goes deep first, do not count.
+    """
+    order: list[str] = []
+    begins = set(starts)
+    state: dict[str, bool] = {}  # Whether a node that was come to is left for good.
+    forward: dict[str, list[str]] = {name: [] for name in after}
+    for first in [*starts, *after]:
+        if first in state:
+            continue
+        state[first] = False
+        path = [(first, iter(after[first]))]
+        while path:
+            name, heads = path[-1]
+            for head in heads:
+                if head in begins:
+                    continue
+                if state.get(head) is not False:
+                    forward[name].append(head)
+                if head not in state:
+                    state[head] = False
+                    path.append((head, iter(after[head])))
+                    break
+            else:
+                state[name] = True
+                order.append(name)
+                path.pop()
+    depth = dict.fromkeys(after, 0)
+    for name in reversed(order):
+        for head in forward[name]:
+            depth[head] = max(depth[head], depth[name] + 1)
+    return depth
+
+
+def _columns(problem: Problem) -> list[list[str]]:
+    """The nodes in columns: arcs lead to the right where they can; those that only take in stand in the last column."""
+    after: dict[str, list[str]] = {name: [] for name in problem.nodes}
+    for arc in problem.arcs:
+        if arc.tail != arc.head:
+            after[arc.tail].append(arc.head)
+    starts = _starts(problem)
+    near, depth = _nearest_first(after, starts), _farthest_first(after, starts)
+    # Many circles make long ways, and a picture that is too wide: there the nearest way counts.
+    if max(depth.values(), default=0) > 2 * max(near.values(), default=0) + 3:
+        depth = near
     last = max(depth.values(), default=0)
     columns: list[list[str]] = [[] for _ in range(last + 1)]
     for name in problem.nodes:
@@ -453,7 +499,7 @@ def html_text(result: Result, *, title: str = "Plan") -> str:
             "in the units of the tables.</p>"
         )
     else:
-        out.append(f'<p class="worth">There is no plan: {number(result.shortage)} too many or too few</p>')
+        out.append(f'<p class="worth">There is no plan: short by {number(result.shortage)}</p>')
         out.append(f"<pre>{html.escape(explain(result))}</pre>")
         out.append(
             "<p><code>mcf check</code> accepted the cut, and its shortage was found right in the units of the "

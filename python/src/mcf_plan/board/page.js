@@ -80,6 +80,7 @@ function draw(next) {
     buildNodes();
   }
   if (grew) {
+    if (chosen >= state.arcs.length) chosen = -1;
     buildArcs();
     buildLines();
   }
@@ -89,6 +90,7 @@ function draw(next) {
   drawVariants();
   if (isFirst) showWhole();
   else drawMap(grew);
+  if (arcRows[chosen]) point(chosen);
   by("undo").disabled = !state.undo;
   by("redo").disabled = !state.redo;
   by("notes").textContent = state.notes.join(" ");
@@ -101,7 +103,7 @@ function draw(next) {
 function drawWorth() {
   const none = state.cost === null;
   by("worth-words").textContent = none ? "There is no plan:" : `${WORTH[state.kind]}:`;
-  by("worth").textContent = none ? `${state.shortage} too many or too few` : state.cost;
+  by("worth").textContent = none ? `short by ${state.shortage}` : state.cost;
   by("worth").parentElement.classList.toggle("none", none);
   const isFirst = state.first === null || state.first === state.cost;
   by("since").textContent = none || isFirst ? "" : `(at first ${state.first})`;
@@ -152,6 +154,7 @@ function buildArcs() {
     close.setAttribute("aria-label", close.title);
     last.append(close);
     line.append(last);
+    line.classList.toggle("chosen", index === chosen);
     return { line, flow, inputs };
   });
   body.replaceChildren(...arcRows.map((each) => each.line));
@@ -246,7 +249,7 @@ function filter() {
 }
 
 function choose(index, scroll) {
-  if (chosen >= 0 && arcRows[chosen]) arcRows[chosen].line.classList.remove("chosen");
+  if (arcRows[chosen]) arcRows[chosen].line.classList.remove("chosen");
   chosen = index;
   if (index >= 0) {
     const line = arcRows[index].line;
@@ -622,7 +625,7 @@ function drawWords() {
   for (const index of order.slice(0, 400)) {
     const node = state.nodes[index];
     const { x, y } = places[index];
-    const isInside = state.placed || room.leftmost === room.right || (node[X] !== room.leftmost && node[X] !== room.right);
+    const isInside = state.placed || room.leftmost === room.right || ![room.leftmost, room.right].includes(node[X]);
     const far = isInside ? "middle" : node[X] === room.leftmost ? "end" : "start";
     const supply = nodeWords(node).slice(node[NAME].length);
     const space = far === "end" ? x - 14 : far === "start" ? width - x - 14 : width;
