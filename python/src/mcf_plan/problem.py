@@ -133,7 +133,8 @@ class Problem:
     `balance` (of `min`) says what a node's supply means: what leaves it less what comes in is 'equal' to it, 'at least' or
     'at most' it.
     `nodes` maps names to supplies in their order; `arcs` are numbered from 0. Both are read, and not written to, by callers.
-    `notes` say what of a text or a table was read otherwise than it stands there.
+    `notes` say what of a text or a table was read otherwise than it stands there. `places` are where nodes stand on a map,
+    x to the right and y upwards, where a table says so; no answer depends on them.
     """
 
     def __init__(self, kind: str = "min", *, balance: str = "equal", source: Optional[str] = None,
@@ -149,6 +150,7 @@ class Problem:
         self.source = source
         self.sink = sink
         self.notes: List[str] = []
+        self.places: Dict[str, Tuple[float, float]] = {}
         self._numbers: Dict[Union[str, Tuple[str, str]], int] = {}  # -1: several
         self._numbered = 0
 
@@ -224,6 +226,7 @@ class Problem:
         """The same problem, to be changed apart."""
         other = Problem(self.kind, balance=self.balance, source=self.source, sink=self.sink)
         other.nodes, other.arcs, other.notes = dict(self.nodes), list(self.arcs), list(self.notes)
+        other.places = dict(self.places)
         return other
 
     @classmethod

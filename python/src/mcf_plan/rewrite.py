@@ -609,15 +609,15 @@ class Rewriting:
             self.notes.append(f"costs are written in units of {plain(Decimal(10) ** -self.cost_places)}")
         unlimited = sum(arc.cap is None for arc in self.problem.arcs)
         if unlimited:
-            self.notes.append(f"{unlimited} arcs without a capacity get one of {shrunk(self.room, self.flow_places)}, which "
-                              "no best flow needs to fill")
+            self.notes.append(f"{_counted(unlimited, 'arc')} without a capacity: {plain(shrunk(self.room, self.flow_places))} "
+                              "is written there, which no best flow needs to fill")
         split = sum(lines > 1 for lines, _ in self.forms)
         if split:
-            self.notes.append(f"{split} arcs are written as several beside one another, of {MOST_FLOW:,} units each")
+            self.notes.append(f"{_counted(split, 'arc')} written as several beside one another, of {MOST_FLOW:,} units each")
         if self.moved:
-            self.notes.append(f"{len(self.moved)} lower bounds are moved into the supplies of the arcs' ends")
+            self.notes.append(f"{_counted(len(self.moved), 'lower bound')} moved into the supplies of the arcs' ends")
         if self.helpers:
-            self.notes.append(f"{len(self.helpers)} nodes get others beside them for their supplies")
+            self.notes.append(f"{_counted(len(self.helpers), 'node')} with others beside them for their supplies")
         if self.rest is not None:
             self.notes.append(f"node {self.rest} stands for what is kept or not met")
 
@@ -919,6 +919,10 @@ def _commands_of_row(number: int, before: Row, row: Row) -> List[str]:
     if row.low != before.low:
         bounds.insert(len(bounds) if row.cap >= before.low else 0, f"low {number} {row.low}")
     return bounds + ([f"cost {number} {row.cost}"] if row.cost != before.cost else [])
+
+
+def _counted(count: int, what: str) -> str:
+    return f"{count:,} {what}{'' if count == 1 else 's'}"
 
 
 def gainful_circle(nodes: int, arcs: List[Tuple[int, int, int, int]]) -> List[int]:

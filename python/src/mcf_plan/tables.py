@@ -26,6 +26,8 @@ COLUMNS: Dict[str, Tuple[str, ...]] = {
     "low": ("low", "lower", "lower bound", "least", "min", "minimum"),
     "capacity": ("capacity", "cap", "upper", "upper bound", "most", "max", "maximum", "limit"),
     "cost": ("cost", "unit cost", "cost per unit", "unit_cost", "weight", "price", "distance"),
+    "x": ("x", "lon", "longitude", "east"),
+    "y": ("y", "lat", "latitude", "north"),
     "name": ("name", "arc", "road", "route", "link", "label", "id"),
 }
 """The names that a column may have, in small letters; the first one that a table has counts."""
@@ -192,8 +194,8 @@ def read_tables(nodes: Optional[Source], arcs: Source, *, kind: str = "min", bal
     """The problem of two tables, or of one alone (without nodes all supplies are 0).
 
     Nodes: columns `name` (or node, id, place, ..) and `supply`, or `demand`, or both. Arcs: `from`, `to`, and where there
-    are such `low`, `capacity`, `cost`, `name`; a capacity that is missing or `inf` is no limit. `COLUMNS` has all names of
-    columns. In 'asn' a node without a supply is on the source side where an arc leaves it, else on the sink side. In 'max'
+    are such `low`, `capacity`, `cost`, `name`; a capacity that is missing or `inf` is no limit. Columns `x` and `y` of the
+    nodes are places on a map. `COLUMNS` has all names of columns. In 'asn' a node without a supply is on the source side where an arc leaves it, else on the sink side. In 'max'
     `source` and `sink` name these.
     Raises TableFault where a row can't be read, OSError where a file can't.
     """
@@ -219,6 +221,7 @@ def _read_nodes(problem: Problem, table: _Table) -> Dict[str, bool]:
         name_at = 0
     if supply_at is None and demand_at is None and problem.kind == "min":
         table.wanted("supply")
+    x_at, y_at = table.column("x"), table.column("y")
     lines: Dict[str, int] = {}
     is_open: Dict[str, bool] = {}
     for line, row in table.filled():
@@ -230,6 +233,8 @@ def _read_nodes(problem: Problem, table: _Table) -> Dict[str, bool]:
         demand = table.number(line, row, demand_at)
         problem.nodes[name] = WIDE.subtract(supply, demand) if demand else supply
         is_open[name] = not problem.nodes[name]
+        if x_at is not None and y_at is not None and row[x_at] != "" and row[y_at] != "":
+            problem.places[name] = float(table.number(line, row, x_at)), float(table.number(line, row, y_at))
     return is_open
 
 
