@@ -1,8 +1,8 @@
 """The calls of `program` through the C library's shared object, in this process: no process is started for an answer.
 
-The library has no check: `check` is the program's. It takes one command at a time, so a session through it refuses `group`
-and `end` (29). A solve can't be stopped: Ctrl-C and a time limit are heard at once, and what was asked is worked out to its
-end on a thread in the background, and dropped.
+The library has no check: `check` is the program's. It takes one command at a time, so a session through it refuses
+`group` and `end` (29). A solve can't be stopped: Ctrl-C and a time limit are heard at once, and what was asked is
+worked out to its end on a thread in the background, and dropped.
 
 >>> library = Library()                                                            # doctest: +SKIP
 >>> print(library.solve("p min 2 1\\nn 1 2\\nn 2 -2\\na 1 2 0 5 3\\n"), end="")    # doctest: +SKIP
@@ -72,7 +72,8 @@ class _Answer(ctypes.Structure):
 
 
 def find_library(path: Optional[str] = None) -> str:
-    """The shared object: `path`, the variable MCF_LIBRARY, the repository's own, then `libmcf.so` as the system finds it.
+    """The shared object: `path`, the variable MCF_LIBRARY, the repository's own, then `libmcf.so` as the system finds
+    it.
 
     Raises ProgramFailed where there is none.
     """
@@ -130,7 +131,8 @@ class Library:
         """What `mcf check` says of an answer: 'valid' or 'not valid'."""
         return self.program.check(problem, answer, time_limit=time_limit)
 
-    def session(self, text: Text, *, extra: Optional[int] = None, time_limit: Optional[float] = None) -> LibraryDialogue:
+    def session(self, text: Text, *, extra: Optional[int] = None,
+                time_limit: Optional[float] = None) -> LibraryDialogue:
         """Opens a session on a problem text; `extra` says how many arcs can be added (1,000 without it).
 
         Raises Refused where the text has a fault, TimeLimit after `time_limit` seconds, ProgramFailed otherwise.

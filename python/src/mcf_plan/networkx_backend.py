@@ -1,7 +1,7 @@
 """networkx' flow functions, answered by the proved solver.
 
-From networkx 3.2 on, the backend is found by its entry point: `nx.network_simplex(G, backend="mcf")`. For an older one the
-same functions are methods of `backend`:
+From networkx 3.2 on, the backend is found by its entry point: `nx.network_simplex(G, backend="mcf")`. For an older one
+the same functions are methods of `backend`:
 
 >>> import networkx as nx                                                          # doctest: +SKIP
 >>> from mcf_plan.networkx_backend import backend
@@ -12,10 +12,10 @@ same functions are methods of `backend`:
 >>> backend.network_simplex(G)                                                     # doctest: +SKIP
 (10.0, {'depot': {'shop': 4}, 'shop': {}})
 
-Arguments, results and exceptions are networkx'. Numbers are taken exactly, floats by their `repr`. Whole numbers come back
-as int, others as float, or as Decimal where Decimal came in. What is beyond the limits of the formats raises
-NetworkXNotImplemented, so that networkx answers itself where it may fall back. Each function takes `time_limit` in seconds
-beside the arguments of networkx, and raises TimeLimit.
+Arguments, results and exceptions are networkx'. Numbers are taken exactly, floats by their `repr`. Whole numbers come
+back as int, others as float, or as Decimal where Decimal came in. What is beyond the limits of the formats raises
+NetworkXNotImplemented, so that networkx answers itself where it may fall back. Each function takes `time_limit` in
+seconds beside the arguments of networkx, and raises TimeLimit.
 """
 
 from __future__ import annotations
@@ -119,15 +119,14 @@ class LeastCost:
             if capacity < 0:
                 raise nx.NetworkXUnfeasible(f"edge {(tail, head)!r} has negative capacity")
 
-    def problem(self, *, with_demands: bool = True, with_weights: bool = True) -> Problem:
+    def problem(self, *, with_demands: bool = True) -> Problem:
         """The problem; its nodes are named by their places, its arcs are in the order of the edges."""
         problem = Problem("min")
         names = {node: str(place) for place, node in enumerate(self.nodes)}
         for node, demand in zip(self.nodes, self.demands):
             problem.add_node(names[node], -demand if with_demands else 0)
         for (tail, head, _, _), capacity, weight in zip(self.edges, self.capacities, self.weights):
-            problem.add_arc(names[tail], names[head], cap=None if is_infinite(capacity) else capacity,
-                            cost=weight if with_weights else 0)
+            problem.add_arc(names[tail], names[head], cap=capacity, cost=weight)
         return problem
 
     def result(self, plan: Plan) -> Tuple[Any, Dict[Node, Any]]:
@@ -176,7 +175,7 @@ class MaximumFlow:
         for name in names.values():
             problem.add_node(name)
         for (tail, head), bound in self.capacities.items():
-            problem.add_arc(names[tail], names[head], cap=None if is_infinite(bound) else bound)
+            problem.add_arc(names[tail], names[head], cap=bound)
         if cutoff is not None and not is_infinite(cutoff):
             problem.source = "cutoff"
             problem.add_arc("cutoff", names[self.source], cap=max(number(cutoff, "the cutoff"), Decimal(0)))
@@ -272,7 +271,8 @@ class Backend:
         return flow_func is None or not callable(flow_func) or is_known(flow_func)
 
     def on_start_tests(self, items: List[Any]) -> None:
-        """Lets networkx itself answer what its tests call and what is no flow, such as `is_connected`, by which they look
+        """Lets networkx itself answer what its tests call and what is no flow, such as `is_connected`, by which they
+        look
         at results: without this each such test would be passed over."""
         from networkx.utils import backends
 
@@ -296,9 +296,6 @@ class Backend:
         try:
             answer = self._solve(network.problem(), time_limit)
         except Unbounded as unbounded:
-            # networkx tells first that there is no flow at all.
-            if isinstance(self._solve(network.problem(with_weights=False), time_limit), Infeasible):
-                raise nx.NetworkXUnfeasible("no flow satisfies all node demands") from unbounded
             raise nx.NetworkXUnbounded("negative cycle with infinite capacity found") from unbounded
         if isinstance(answer, Infeasible):
             raise nx.NetworkXUnfeasible("no flow satisfies all node demands")
@@ -306,7 +303,8 @@ class Backend:
 
     def capacity_scaling(self, G: Any, demand: str = "demand", capacity: str = "capacity", weight: str = "weight",
                          heap: Any = None, *, time_limit: Optional[float] = None) -> Tuple[Any, Dict[Node, Any]]:
-        """The same as `network_simplex`, with the exceptions of networkx' `capacity_scaling`; `heap` changes nothing."""
+        """The same as `network_simplex`, with the exceptions of networkx' `capacity_scaling`; `heap` changes
+        nothing."""
         import networkx as nx
 
         refuse_undirected(G)
@@ -451,7 +449,8 @@ class Backend:
         if frequency is not None and frequency < 0:
             raise nx.NetworkXError("global_relabel_freq must be nonnegative.")
         name = getattr(flow_func, "__name__", "preflow_push")
-        return self._residual((G, source, sink, capacity), options.get("residual"), options.get("cutoff"), name, time_limit)
+        what = (G, source, sink, capacity)
+        return self._residual(what, options.get("residual"), options.get("cutoff"), name, time_limit)
 
     def _residual(self, what: Tuple[Any, Node, Node, str], residual: Any, cutoff: Any, algorithm: str,
                   time_limit: Optional[float]) -> Tuple[Any, MaximumFlow]:

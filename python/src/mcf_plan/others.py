@@ -26,7 +26,8 @@ PROGRAMS = ("lemon", "glpk", "flows")
 
 
 class NotAnAnswer(ValueError):
-    """The text is no answer, or its flow is not legal or not best. The message says where and why; `line` is the line of
+    """The text is no answer, or its flow is not legal or not best. The message says where and why; `line` is the line
+    of
     the text (None where it is none alone)."""
 
     def __init__(self, words: str, line: Optional[int] = None):
@@ -56,9 +57,10 @@ def answer_from(problem_text: Text, answer_text: Text, program: str = "flows") -
     """The answer of another program as a text that `mcf check` reads.
 
     `program` is 'lemon' (`s`, `f`, `v` lines with the potentials of LEMON, or a text of its `digraphWriter` with a map
-    `flow` and perhaps `potential`), 'glpk' (what `glpsol --mincost` or `--maxflow` writes with `-w`) or 'flows' (`f` lines,
-    or one number an arc). Where there are no potentials, they are worked out. A cut (`i` and `k` lines) stays as it is.
-    Raises NotAnAnswer where the text is none, or its flow is not legal or not best; ValueError where the problem is none.
+    `flow` and perhaps `potential`), 'glpk' (what `glpsol --mincost` or `--maxflow` writes with `-w`) or 'flows' (`f`
+    lines, or one number an arc). Where there are no potentials, they are worked out. A cut (`i` and `k` lines) stays as
+    it is. Raises NotAnAnswer where the text is none, or its flow is not legal or not best; ValueError where the problem
+    is none.
     """
     if program not in PROGRAMS:
         raise ValueError(f"the program is {program!r}, and has to be one of {', '.join(PROGRAMS)}")
@@ -128,7 +130,8 @@ def residual_arcs(problem: DimacsProblem, flows: List[int], value: int) -> Itera
 
 
 def least_paths(problem: DimacsProblem, residual: List[Residual]) -> List[int]:
-    """For each node the least cost of a path of residual arcs that ends there, and 0 where none costs less (Bellman-Ford).
+    """For each node the least cost of a path of residual arcs that ends there, and 0 where none costs less
+    (Bellman-Ford).
 
     Raises NotAnAnswer where a circle of them costs less than 0: the flow is not best.
     """
@@ -177,6 +180,8 @@ def refuse_circle(problem: DimacsProblem, last: List[Optional[Residual]]) -> Non
                 circle.append(arc)
                 node = arc.tail
             circle.reverse()
+            begin = min(range(len(circle)), key=lambda place: (-circle[place].step, circle[place].arc))
+            circle = circle[begin:] + circle[:begin]
             saved = -sum(arc.cost for arc in circle)
             steps = ", ".join(words_for(problem, arc, first=place == 0) for place, arc in enumerate(circle))
             if problem.kind == "max":
@@ -264,7 +269,8 @@ def placed(problem: DimacsProblem, told: List[Tuple[int, int, int, int]]) -> Lis
         if len(found) > len(places[end]):
             raise NotAnAnswer(f"a line too many for {end[0]} to {end[1]}", found[-1][0])
         if len(found) < len(places[end]) and len({problem.arcs[place] for place in places[end]}) > 1:
-            raise NotAnAnswer(f"{len(places[end])} arcs lead from {end[0]} to {end[1]}: each needs its line", found[0][0])
+            raise NotAnAnswer(f"{len(places[end])} arcs lead from {end[0]} to {end[1]}: each needs its line",
+                              found[0][0])
         for place, (_, flow) in zip(places[end], found):
             flows[place] = flow
     return flows
@@ -283,8 +289,8 @@ def told_by_glpk(problem: DimacsProblem, lines: List[Line]) -> Told:
             if any(state not in ("f", "o") for state in states):
                 raise NotAnAnswer("GLPK says that it found no best plan", line)
             if (int(words[2]), int(words[3])) != (problem.nodes, len(problem.arcs)):
-                raise NotAnAnswer(f"it is about {words[2]} nodes and {words[3]} arcs, and the problem has {problem.nodes} "
-                                  f"and {len(problem.arcs)}", line)
+                raise NotAnAnswer(f"it is about {words[2]} nodes and {words[3]} arcs, and the problem has "
+                                  f"{problem.nodes} and {len(problem.arcs)}", line)
             kind, worth = words[1], words[-1]
         elif words[0] in ("i", "j") and worth is not None and len(words) >= 3:
             place = whole(words[1], line)
@@ -318,7 +324,8 @@ def potentials_of_glpk(problem: DimacsProblem, rows: Dict[int, str]) -> Optional
 
 
 def told_by_graph(problem: DimacsProblem, lines: List[Line]) -> Told:
-    """What a text of LEMON's `digraphWriter` says: columns `label` and `potential` of @nodes, `label` and `flow` of @arcs.
+    """What a text of LEMON's `digraphWriter` says: columns `label` and `potential` of @nodes, `label` and `flow` of
+    @arcs.
 
     Labels count from 0, as LEMON's ids do where the problem was read by `readDimacsMin` or `readDimacsMax`.
     """

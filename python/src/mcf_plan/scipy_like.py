@@ -1,7 +1,8 @@
 """scipy's `linear_sum_assignment` and `maximum_flow`, answered by the proved solver.
 
-Arguments, results and exceptions are scipy's (`scipy.optimize.linear_sum_assignment`, `scipy.sparse.csgraph.maximum_flow`).
-numpy is wanted for the first, scipy for the second. Costs are taken exactly, floats by their `repr`.
+Arguments, results and exceptions are scipy's (`scipy.optimize.linear_sum_assignment`,
+`scipy.sparse.csgraph.maximum_flow`). numpy is wanted for the first, scipy for the second. Costs are taken exactly,
+floats by their `repr`.
 
 >>> from mcf_plan.scipy_like import linear_sum_assignment
 >>> rows, columns = linear_sum_assignment([[4, 1, 3], [2, 0, 5], [3, 2, 2]])       # doctest: +SKIP
@@ -23,12 +24,13 @@ METHODS = ("dinic", "edmonds_karp")
 
 def linear_sum_assignment(cost_matrix: Any, maximize: bool = False, *, program: Optional[Program] = None,
                           time_limit: Optional[float] = None) -> Tuple[Any, Any]:
-    """Rows and columns of an assignment of least cost (of most, with `maximize`), each row at most once and each column.
+    """Rows and columns of an assignment of least cost (of most, with `maximize`), each row at most once and each
+    column.
 
-    `cost_matrix` is a matrix of any shape; each row, or where there are fewer columns each column, is assigned. An entry
-    that is infinite is no pair. Returns two arrays of whole numbers, the first rising. Raises ValueError where there is no
-    assignment or an entry is nan or -inf, BeyondLimits where the matrix is too large or too fine for the formats, and
-    TimeLimit after `time_limit` seconds.
+    `cost_matrix` is a matrix of any shape; each row, or where there are fewer columns each column, is assigned. An
+    entry that is infinite is no pair. Returns two arrays of whole numbers, the first rising. Raises ValueError where
+    there is no assignment or an entry is nan or -inf, BeyondLimits where the matrix is too large or too fine for the
+    formats, and TimeLimit after `time_limit` seconds.
     """
     import numpy as np
 
@@ -37,7 +39,7 @@ def linear_sum_assignment(cost_matrix: Any, maximize: bool = False, *, program: 
         raise ValueError(f"expected a matrix (2-D array), got a {matrix.ndim} array")
     if not (np.issubdtype(matrix.dtype, np.number) or matrix.dtype == np.dtype(bool)):
         if matrix.dtype.kind in "SU":
-            raise TypeError(f"Cannot cast array data from {matrix.dtype!r} to dtype('float64') according to the rule 'safe'")
+            raise TypeError(f"Cannot cast array data from {matrix.dtype!r} to dtype('float64') by the rule 'safe'")
         if matrix.dtype.kind != "O":
             raise ValueError(f"expected a matrix containing numerical entries, got {matrix.dtype}")
         matrix = matrix.astype(np.float64)
@@ -80,9 +82,9 @@ def maximum_flow(csgraph: Any, source: int, sink: int, *, method: str = "dinic",
                  time_limit: Optional[float] = None) -> Any:
     """A maximum flow of a graph in CSR format, whose entries are the capacities, as scipy's `MaximumFlowResult`.
 
-    `csgraph` is a square matrix of whole numbers; `flow` of the result has the same shape, and what flows back is below 0.
-    Raises TypeError or ValueError as scipy does, BeyondLimits where the graph is too large for the formats, and TimeLimit
-    after `time_limit` seconds.
+    `csgraph` is a square matrix of whole numbers; `flow` of the result has the same shape, and what flows back is below
+    0. Raises TypeError or ValueError as scipy does, BeyondLimits where the graph is too large for the formats, and
+    TimeLimit after `time_limit` seconds.
     """
     import numpy as np
     from scipy.sparse import coo_matrix
@@ -94,7 +96,8 @@ def maximum_flow(csgraph: Any, source: int, sink: int, *, method: str = "dinic",
     problem = Problem("max", source=str(source), sink=str(sink))
     for node in range(nodes):
         problem.add_node(str(node))
-    arcs = [(tail, head, bound) for tail, head, bound in zip(graph.row.tolist(), graph.col.tolist(), graph.data.tolist())
+    arcs = [(tail, head, bound) for tail, head, bound in zip(graph.row.tolist(), graph.col.tolist(),
+    graph.data.tolist())
             if bound > 0 and tail != head]
     for tail, head, bound in arcs:
         problem.add_arc(str(tail), str(head), cap=bound)

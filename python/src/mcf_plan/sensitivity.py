@@ -1,8 +1,8 @@
-"""What a plan depends on: what one unit more saves, the range of a cost within which the plan stays best, a curve of the
-cost over one number, and the minimum cut of a maximum flow.
+"""What a plan depends on: what one unit more saves, the range of a cost within which the plan stays best, a curve of
+the cost over one number, and the minimum cut of a maximum flow.
 
-All of it is exact, and found by solving anew through one session of its own beside the session that is asked about: that
-one keeps its moment, and what it can undo and redo.
+All of it is exact, and found by solving anew through one session of its own beside the session that is asked about:
+that one keeps its moment, and what it can undo and redo.
 
 >>> from mcf_plan import Problem, Session
 >>> problem = Problem()
@@ -10,8 +10,12 @@ one keeps its moment, and what it can undo and redo.
 >>> problem.add_node("shop", -4)
 >>> road, ferry = (problem.add_arc("depot", "shop", cap=cap, cost=cost) for cap, cost in ((3, "2.5"), (None, "3.75")))
 >>> with Session(problem) as session:
-...     one_unit_more(session), cost_range(session, road), curve(session, ("cap", road), [0, 4])
-([Decimal('1.25'), Decimal('0')], (None, Decimal('3.75')), [(Decimal('0'), Decimal('15')), (Decimal('4'), Decimal('10'))])
+...     one_unit_more(session)
+...     cost_range(session, road)
+...     curve(session, ("cap", road), [0, 4])
+[Decimal('1.25'), Decimal('0')]
+(None, Decimal('3.75'))
+[(Decimal('0'), Decimal('15')), (Decimal('4'), Decimal('10'))]
 """
 
 from __future__ import annotations
@@ -30,8 +34,8 @@ Limits = Tuple[Optional[Decimal], Optional[Decimal]]
 """The least and the greatest value; None where there is no end."""
 
 What = Union[Tuple[str, ArcKey], Tuple[str, str, str]]
-"""A number of a problem: ('cap', arc), ('low', arc), ('cost', arc) or ('supply', node); or ('supply', node, other), where
-the supply of the node `other` changes by as much the other way."""
+"""A number of a problem: ('cap', arc), ('low', arc), ('cost', arc) or ('supply', node); or ('supply', node, other),
+where the supply of the node `other` changes by as much the other way."""
 
 
 class Ranges(NamedTuple):
@@ -91,7 +95,8 @@ def ranges(session: Session) -> List[Ranges]:
 
 
 def curve(session: Session, what: What, values: Iterable[Number]) -> List[Tuple[Decimal, Optional[Decimal]]]:
-    """For each value of one number of the problem the cost of a best plan (in `max` the flow); None where there is none.
+    """For each value of one number of the problem the cost of a best plan (in `max` the flow); None where there is
+    none.
 
     Raises Unbounded, BeyondLimits, EditRefused, KeyError or ValueError where a value can't be set.
     """
@@ -135,7 +140,7 @@ def minimum_cut(plan: Plan) -> Cut:
 
 def apart(session: Session) -> Session:
     """A session of its own on the problem as it stands."""
-    return Session(session.problem, session.program, surplus=session.surplus)
+    return Session(session.problem, session._program, surplus=session._options.surplus)
 
 
 def standing_plan(session: Session) -> Plan:
@@ -172,9 +177,9 @@ def saved(beside: Session, answer: Union[Plan, Infeasible], arc: int) -> Decimal
 def end_of_range(beside: Session, plan: Plan, arc: int, side: int) -> Optional[Decimal]:
     """The end of an arc's range of costs on the side of lower (-1) or higher (1) ones; None where there is none.
 
-    The cost of the plan is a line over the arc's cost, and that of a best plan lies nowhere above it. From a cost beyond
-    the end, each step goes to where the line of the plan that is best there meets it. Ends are sums of costs, so they
-    have no more decimals than these.
+    The cost of the plan is a line over the arc's cost, and that of a best plan lies nowhere above it. From a cost
+    beyond the end, each step goes to where the line of the plan that is best there meets it. Ends are sums of costs, so
+    they have no more decimals than these.
     """
     row, flow = plan.problem.arcs[arc], plan.flows[arc]
     if flow == (row.low if side > 0 else row.cap):
