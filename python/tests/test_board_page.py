@@ -17,6 +17,7 @@ from typing import Callable
 
 from mcf_plan import Problem, Session
 from mcf_plan.board.server import BoardServer
+from mcf_plan.tables import read_tables
 
 try:
     from selenium import webdriver
@@ -29,6 +30,7 @@ except ImportError:
 
 BROWSER, DRIVER = shutil.which("chromium"), shutil.which("chromedriver")
 PICTURES = os.environ.get("BOARD_PICTURES")
+EXAMPLE = Path(__file__).resolve().parents[2] / "examples" / "towns"
 SECONDS = 60
 WIDE, NARROW = (1400, 900), (400, 800)
 
@@ -164,6 +166,14 @@ class PageTest(unittest.TestCase):
         self.assertEqual([row.text for row in self.all("#arcs td.flow")], ["3 full", "3", "4.5", "7.5", "0"])
         self.assertEqual(self.text("#shown"), "5 of 5 arcs, 1 full")
         self.assertFalse(self.at("#undo").is_enabled() or self.at("#redo").is_enabled())
+
+    @unittest.skipUnless(EXAMPLE.is_dir(), "no examples here: that of the tutorial is not tried")
+    def test_example_of_the_tutorial(self) -> None:
+        self.open(read_tables(EXAMPLE / "nodes.csv", EXAMPLE / "arcs.csv"))
+        self.assertEqual(self.worth(), "641.9")
+        self.edit("capacity A24", "3")
+        self.assertEqual(self.worth(), "663.1")
+        self.keep_picture("board")
 
     def test_edit_undo_redo(self) -> None:
         self.open(towns())

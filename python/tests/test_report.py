@@ -15,6 +15,8 @@ from pathlib import Path
 
 from mcf_plan import Disagreement, Problem, report
 
+SPACE = {"svg": "http://www.w3.org/2000/svg"}
+
 
 def towns() -> Problem:
     problem = Problem()
@@ -118,11 +120,11 @@ class ReportTest(unittest.TestCase):
     def test_pictures(self) -> None:
         for result in (self.plan, self.none, pipes().solve(), pairs().solve()):
             picture = xml.fromstring(report.svg_picture(result, graphviz=False))
-            arcs = picture.findall("{http://www.w3.org/2000/svg}path")
+            arcs = picture.findall("svg:g/svg:path", SPACE)
             self.assertEqual(len(arcs), len(result.problem.arcs))
-            self.assertEqual(len(picture.findall("{http://www.w3.org/2000/svg}circle")), len(result.problem.nodes))
+            self.assertEqual(len(picture.findall("svg:g/svg:circle", SPACE)), len(result.problem.nodes))
             x, y, width, height = map(float, picture.attrib["viewBox"].split())
-            for circle in picture.iter("{http://www.w3.org/2000/svg}circle"):
+            for circle in picture.findall("svg:g/svg:circle", SPACE):
                 self.assertTrue(
                     x < float(circle.attrib["cx"]) < x + width and y < float(circle.attrib["cy"]) < y + height
                 )

@@ -21,6 +21,7 @@ from pathlib import Path
 from typing import TYPE_CHECKING, Any, Iterator, Mapping, NamedTuple, Optional, Union
 
 from .explain import explain
+from .problem import ZERO, plain
 
 if TYPE_CHECKING:
     from .plan import Infeasible, Plan
@@ -34,10 +35,11 @@ WORTH = {"min": "Cheapest plan", "max": "Most that can be sent", "asn": "Cheapes
 # Graphviz draws larger networks slowly, and its pictures of them say little.
 GRAPHVIZ_ARCS = 120
 GRAPHVIZ_SECONDS = 20
-COLUMN_GAP, ROW_GAP, MAP_SIDE = 260, 58, 900
+COLUMN_GAP, ROW_GAP, MAP_SIDE = 260, 58, 720
 RADIUS = 8
 # Colours that are told apart without red and green; width, dashes and words say the same.
 FLOW, FULL, EMPTY, CUT = "#1b6ca8", "#c2410c", "#b8bec6", "#f59e0b"
+HEADS = {FLOW: "flow", FULL: "full", EMPTY: "empty"}
 INK, QUIET = "#1c2127", "#57606a"
 HALO = 'stroke="white" stroke-width="4" paint-order="stroke"'
 STYLE = """body{font:16px/1.45 system-ui,sans-serif;color:#1c2127;max-width:62rem;margin:2rem auto;padding:0 1rem}
@@ -50,17 +52,12 @@ pre{white-space:pre-wrap;font:inherit}"""
 
 
 def number(value: Optional[Decimal]) -> str:
-    """A number as people write it: no exponent, no zeros behind the last digit; '' for None.
+    """A number as people write it: no exponent, no zeros behind the last digit, no -0; '' for None.
 
     >>> number(Decimal("12.50")), number(Decimal("1E+3")), number(Decimal("-0")), number(None)
     ('12.5', '1000', '0', '')
     """
-    if value is None:
-        return ""
-    text = format(Decimal(value), "f")
-    if "." in text:
-        text = text.rstrip("0").rstrip(".")
-    return "0" if text == "-0" else text
+    return "" if value is None else plain(value or ZERO)
 
 
 class Row(NamedTuple):
@@ -319,8 +316,10 @@ def _by_graphviz(result: Result) -> Optional[str]:
     return done.stdout[begin:] if begin >= 0 else None
 
 
-def _curve(start: tuple[float, float], end: tuple[float, float], bend: float) -> tuple[str, tuple[float, float]]:
-    """A path from one node to another that ends before it, and the point for its label."""
+def _curve(
+    start: tuple[float, float], end: tuple[float, float], bend: float, at: float
+) -> tuple[str, tuple[float, float]]:
+    """A path from one node to another that ends before it, and the point for its label, so far on the way."""
     (x0, y0), (x1, y1) = start, end
     length = math.hypot(x1 - x0, y1 - y0)
     if length < 1e-6:
@@ -333,7 +332,6 @@ def _curve(start: tuple[float, float], end: tuple[float, float], bend: float) ->
         return x + (middle[0] - x) / far * gap, y + (middle[1] - y) / far * gap
 
     (ax, ay), (bx, by) = away(x0, y0, RADIUS + 1), away(x1, y1, RADIUS + 8)
-    at = 0.36
     label = tuple(
         (1 - at) ** 2 * a + 2 * at * (1 - at) * m + at * at * b
         for a, m, b in ((ax, middle[0], bx), (ay, middle[1], by))
@@ -343,61 +341,72 @@ def _curve(start: tuple[float, float], end: tuple[float, float], bend: float) ->
 
 def _own_picture(result: Result) -> str:
     """The picture by the layout of this module."""
-    problem, cut = result.problem, getattr(result, "cut", frozenset())
+    problem = result.problem
     where = layout(problem)
     right = max((x for x, _ in where.values()), default=0.0)
     bottom = max((y for _, y in where.values()), default=0.0)
     longest = max((len(_node_label(problem, name)) for name in problem.nodes), default=0)
     margin = 40 + 8 * min(longest, 24)
-    few = len(problem.arcs) <= GRAPHVIZ_ARCS
-    on_map = bool(getattr(problem, "places", None))
-    told = {FLOW: "flow", FULL: "full", EMPTY: "empty"}
+    width, height = f"{right + 2 * margin:.0f}", f"{bottom + 90:.0f}"
     out = [
-        f'<svg xmlns="http://www.w3.org/2000/svg" role="img" aria-label="The network with its flows" '
-        f'width="{right + 2 * margin:.0f}" height="{bottom + 90:.0f}" '
-        f'viewBox="{-margin:.0f} -50 {right + 2 * margin:.0f} {bottom + 90:.0f}" font-family="sans-serif">',
-        "<defs>",
+        f'<svg xmlns="http://www.w3.org/2000/svg" width="{width}" height="{height}"',
+        f'  viewBox="{-margin:.0f} -50 {width} {height}" font-family="sans-serif"',
+        '  role="img" aria-label="The network with its flows">',
+        f'<rect x="{-margin:.0f}" y="-50" width="{width}" height="{height}" fill="white"/>',
     ]
-    for colour, name in told.items():
-        out.append(
-            f'<marker id="head-{name}" viewBox="0 0 10 10" refX="2" refY="5" markerWidth="9" markerHeight="9" '
-            f'markerUnits="userSpaceOnUse" orient="auto"><path d="M0 0L10 5L0 10z" fill="{colour}"/></marker>'
-        )
-    out.append("</defs>")
-    labels, seen = [], {}
-    strokes = list(_strokes(result))
+    for colour, name in HEADS.items():
+        out.append(f'<marker id="head-{name}" viewBox="0 0 10 10" refX="2" refY="5" markerWidth="9" markerHeight="9"')
+        out.append(f'  markerUnits="userSpaceOnUse" orient="auto"><path d="M0 0L10 5L0 10z" fill="{colour}"/></marker>')
+    lines, labels = _drawn_arcs(result, where)
+    dots, names = _drawn_nodes(result, where, right)
+    out += ['<g fill="none">', *lines, "</g>", '<g stroke-width="2.5">', *dots, "</g>"]
+    out += [f'<g font-size="12" text-anchor="middle" {HALO}>', *labels, "</g>"]
+    out += [f'<g font-size="14" font-weight="600" fill="{INK}" {HALO}>', *names, "</g>", "</svg>"]
+    return "\n".join(out) + "\n"
+
+
+def _drawn_arcs(result: Result, where: Mapping[str, tuple[float, float]]) -> tuple[list[str], list[str]]:
+    """The lines of the arcs, and their labels."""
+    problem = result.problem
+    few, on_map = len(problem.arcs) <= GRAPHVIZ_ARCS, bool(getattr(problem, "places", None))
+    lines, labels = [], []
+    seen: dict[tuple[str, str], int] = {}
     both = {(arc.tail, arc.head) for arc in problem.arcs}
-    for arc, flow, colour, width, marked in strokes:
+    for arc, flow, colour, width, marked in _strokes(result):
         parallel = seen[arc.tail, arc.head] = seen.get((arc.tail, arc.head), -1) + 1
         start, end = where[arc.tail], where[arc.head]
-        bend = 26.0 * parallel + (16 if (arc.head, arc.tail) in both else 0)
+        opposed = (arc.head, arc.tail) in both
+        bend = 26.0 * parallel + (16 if opposed else 0)
         if not on_map and start[0] == end[0]:
             bend += 46
-        path, (x, y) = _curve(start, end, bend)
+        path, (x, y) = _curve(start, end, bend, (0.26 if opposed else 0.36) + 0.16 * (parallel % 3))
         text = _label(arc, flow, problem.kind) + (", full" if marked and flow is not None else "")
-        title = html.escape(f"{arc.tail} to {arc.head}: {text}")
         dashes = ' stroke-dasharray="5 5"' if flow is not None and not flow else ""
-        out.append(
-            f'<path d="{path}" fill="none" stroke="{colour}" stroke-width="{width:.1f}"{dashes} '
-            f'marker-end="url(#head-{told[colour]})"><title>{title}</title></path>'
-        )
+        lines.append(f'<path d="{path}" stroke="{colour}"')
+        lines.append(f'  stroke-width="{width:.1f}"{dashes} marker-end="url(#head-{HEADS[colour]})">')
+        lines.append(f"  <title>{html.escape(f'{arc.tail} to {arc.head}: {text}')}</title></path>")
         if few and text:
-            labels.append(
-                f'<text x="{x:.1f}" y="{y - 4:.1f}" font-size="12" text-anchor="middle" {HALO} '
-                f'fill="{colour if colour != EMPTY else QUIET}">{html.escape(text)}</text>'
-            )
+            fill = QUIET if colour == EMPTY else colour
+            labels.append(f'<text x="{x:.1f}" y="{y - 4:.1f}" fill="{fill}">{html.escape(text)}</text>')
+    return lines, labels
+
+
+def _drawn_nodes(
+    result: Result, where: Mapping[str, tuple[float, float]], right: float
+) -> tuple[list[str], list[str]]:
+    """The circles of the nodes, and their names: beside those at the left and right edge, above all others."""
+    problem, cut = result.problem, getattr(result, "cut", frozenset())
+    on_map = bool(getattr(problem, "places", None))
+    dots, names = [], []
     for name, (x, y) in where.items():
         supply = problem.nodes[name]
         fill = CUT if name in cut else FLOW if supply > 0 else "white"
-        edge = FLOW if supply else QUIET
-        out.append(f'<circle cx="{x}" cy="{y}" r="{RADIUS}" fill="{fill}" stroke="{edge}" stroke-width="2.5"/>')
+        dots.append(f'<circle cx="{x}" cy="{y}" r="{RADIUS}" fill="{fill}" stroke="{FLOW if supply else QUIET}"/>')
         side = "above" if on_map or 0 < x < right else "left" if x <= 0 and right > 0 else "right"
         dx, dy, anchor = {"above": (0, -14, "middle"), "left": (-14, 5, "end"), "right": (14, 5, "start")}[side]
-        labels.append(
-            f'<text x="{x + dx:.1f}" y="{y + dy:.1f}" font-size="14" font-weight="600" text-anchor="{anchor}" '
-            f'{HALO} fill="{INK}">{html.escape(_node_label(problem, name))}</text>'
-        )
-    return "\n".join(out + labels + ["</svg>"]) + "\n"
+        names.append(f'<text x="{x + dx:.1f}" y="{y + dy:.1f}" text-anchor="{anchor}">')
+        names[-1] += html.escape(_node_label(problem, name)) + "</text>"
+    return dots, names
 
 
 def svg_picture(result: Result, *, graphviz: Optional[bool] = None) -> str:

@@ -138,7 +138,9 @@ function buildArcs() {
     line.dataset.index = index;
     const flow = make("td", undefined, "flow");
     const inputs = {};
-    line.append(make("td", label(arc), "name"), flow);
+    const name = make("td", label(arc), "name");
+    if (arc[LABEL]) name.append(make("small", `${arc[TAIL]} to ${arc[HEAD]}`));
+    line.append(name, flow);
     for (const what of columns) {
       const cell = make("td", undefined, what);
       inputs[what] = field(what, index, label(arc));
@@ -473,7 +475,7 @@ function extent() {
   const [top, bottom] = [Math.min(...ys), Math.max(...ys)];
   const { width, height } = size();
   const longest = Math.max(...state.nodes.map((node) => nodeWords(node).length));
-  const side = Math.min(0.33 * width, 20 + LETTER * longest);
+  const side = state.placed ? 12 + (LETTER * longest) / 2 : Math.min(0.33 * width, 20 + LETTER * longest);
   let sx = (width - 2 * side) / (right - left || 1);
   let sy = (height - 64) / (bottom - top || 1);
   if (state.placed) sx = sy = Math.min(sx, sy);
