@@ -45,7 +45,7 @@ ANSWER_FAULTS: Dict[int, str] = {
     4: "a field is not a number",
     5: "SRC, DST or ID is no node of the problem",
     40: "a line out of order, one too many, a `v` line whose ID is not the next one, a `k` line whose ID does not rise, "
-        "or a text that ends too early",
+        "or a text that ends too early (then with the number of lines as its line)",
 }
 """What each fault of an answer text says."""
 
@@ -377,11 +377,11 @@ class ProblemReader:
         """What to do about a line whose first word is unknown."""
         if self.line == 1 and word.startswith("\ufeff"):
             return "The file begins with a byte order mark: save it as UTF-8 without one."
-        if self.line == 1 and (word.startswith("\udcff\udcfe") or word.startswith("\udcfe\udcff") or "\0" in word):
-            return "This is UTF-16: save it as plain text (UTF-8)."
         if self.line == 1 and (line.startswith("PK\x03") or line.startswith("\x1f\udc8b") or line.startswith("BZh")
                                or line.startswith("\udcfd7zXZ") or line.startswith("(\udcb5/\udcfd")):
             return "This is a packed file or a spreadsheet: unpack it, or save it as plain text."
+        if self.line == 1 and (word.startswith("\udcff\udcfe") or word.startswith("\udcfe\udcff") or "\0" in word):
+            return "This is UTF-16: save it as plain text (UTF-8)."
         if re.match(r"[#%/;!*]", word):
             return "A comment begins with c."
         if re.match(r"[pna][,;]", word, re.IGNORECASE):
@@ -444,10 +444,16 @@ class ProblemReader:
         if self.kind == "max":
             self.both_ends("before the first arc")
         if len(self.arcs) >= self.wanted:
-            raise self.fail(12, f"the problem line {self.problem_line} says that there are {self.wanted} arcs, and this is "
-                                f"one more", hint="Put the right number there."
-                            + (" Do NODES and ARCS stand there the wrong way round?" if self.nodes > self.wanted else ""))
+            raise self.too_many()
         return self.read_arc_line(rest)
+
+    def too_many(self) -> _Found:
+        """The fault (12) of an arc line beyond those that the problem line tells."""
+        hint = "Put the right number there."
+        if self.nodes > self.wanted:
+            hint += " Do NODES and ARCS stand there the wrong way round?"
+        return self.fail(12, f"the problem line {self.problem_line} says that there are {self.wanted} arcs, and this is one "
+                             "more", hint=hint)
 
     def both_ends(self, when: str) -> None:
         """Fails (11) while source or sink is missing."""

@@ -324,7 +324,7 @@ class _SpellingReader(ProblemReader):
         for at, words in self._late:
             self.line = at
             if len(self.arcs) >= self.wanted:
-                super().read_line(b"a " + b" ".join(words))
+                raise self.too_many()
             self.read_arc_line(words)
         self.line = end
         super().read_end()

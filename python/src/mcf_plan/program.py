@@ -142,6 +142,7 @@ class Program:
                 raise TimeLimit(time_limit) from None
             except BaseException:
                 process.kill()
+                process.wait()
                 raise
         return subprocess.CompletedProcess(words, process.returncode, output, errors)
 

@@ -583,8 +583,8 @@ class Rewriting:
             return BeyondLimits(f"there are {nodes:,} nodes, and at most {MOST_NODES:,} are taken")
         if arcs > MOST_ARCS:
             return BeyondLimits(f"there are {arcs:,} arcs, and at most {MOST_ARCS:,} are taken")
-        rows = [(abs(arc.low if arc.cap is None else arc.cap), f"arc {k + 1}, {arc.label}: its bound")
-                for k, arc in enumerate(problem.arcs)]
+        rows = [(abs(bound), f"arc {k + 1}, {arc.label}: its bound")
+                for k, arc in enumerate(problem.arcs) for bound in (arc.low, arc.cap) if bound is not None]
         rows += [(abs(supply), f"node {name}: its supply") for name, supply in problem.nodes.items()]
         greatest, where = max(rows, key=lambda row: row[0])
         if self.flow_places and greatest * self._flow_units > MOST_FLOW:
