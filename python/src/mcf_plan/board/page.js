@@ -9,6 +9,8 @@ const [NAME, SUPPLY, X, Y, PRICE, REST] = [0, 1, 2, 3, 4, 5];
 const [TAIL, HEAD, LABEL, LOW, CAP, COST, FLOW] = [0, 1, 2, 3, 4, 5, 6];
 const FIELDS = { low: LOW, cap: CAP, cost: COST };
 const WORDS = { low: "lower bound", cap: "capacity", cost: "unit cost", supply: "supply" };
+// So many rows of a table are put in at once, and a table of no more has fields in all of them from the beginning.
+const AT_ONCE = 200;
 // About how wide a letter of a node's name is on the map.
 const LETTER = 8.8;
 const EDITABLE = { min: ["low", "cap", "cost"], max: ["cap"], asn: ["cost"] };
@@ -20,6 +22,8 @@ let chosen = -1;
 let queue = Promise.resolve();
 let arcRows = [];
 let nodeRows = [];
+let nearby = null;
+let attached = 0;
 let view = { scale: 1, x: 0, y: 0 };
 
 const label = (arc) => arc[LABEL] || `${arc[TAIL]} to ${arc[HEAD]}`;
@@ -128,27 +132,29 @@ function buildArcs() {
   const columns = kind === "min" ? ["low", "cap", "cost"] : EDITABLE[kind];
   const heads = { low: "At least", cap: "Capacity", cost: "Unit cost" };
   const row = make("tr");
-  row.append(make("th", kind === "asn" ? "Pair" : "Arc", "name"), make("th", kind === "asn" ? "Chosen" : "Flow"));
+  row.append(make("th", kind === "asn" ? "Pair" : "Arc", "name"), make("th", kind === "asn" ? "Chosen" : "Flow", "flow"));
   for (const what of columns) row.append(make("th", heads[what], what));
-  row.append(make("th", ""));
+  row.append(make("th", "", "close"));
   document.querySelector("#arcs thead").replaceChildren(row);
   const body = document.querySelector("#arcs tbody");
+  if (nearby) nearby.disconnect();
+  nearby = new IntersectionObserver((seen) => {
+    for (const entry of seen) if (entry.isIntersecting) furnish(Number(entry.target.dataset.index));
+  }, { root: by("arcs-wide"), rootMargin: "800px 0px" });
   arcRows = state.arcs.map((arc, index) => {
     const line = make("tr");
     line.dataset.index = index;
     const flow = make("td", undefined, "flow");
-    const inputs = {};
+    const cells = {};
     const name = make("td", label(arc), "name");
     if (arc[LABEL]) name.append(make("small", `${arc[TAIL]} to ${arc[HEAD]}`));
     line.append(name, flow);
     for (const what of columns) {
-      const cell = make("td", undefined, what);
-      inputs[what] = field(what, index, label(arc));
-      cell.append(inputs[what]);
-      line.append(cell);
+      cells[what] = make("td", undefined, what);
+      line.append(cells[what]);
     }
     const last = make("td");
-    const close = make("button", "\u00d7", "close");
+    const close = make("button", "\u00d7");
     close.type = "button";
     close.tabIndex = -1;
     close.dataset.close = index;
@@ -157,12 +163,45 @@ function buildArcs() {
     last.append(close);
     line.append(last);
     line.classList.toggle("chosen", index === chosen);
-    return { line, flow, inputs };
+    return { line, flow, cells, inputs: null };
   });
-  body.replaceChildren(...arcRows.map((each) => each.line));
+  body.replaceChildren();
+  attached = 0;
+  attach(AT_ONCE);
+  setTimeout(attachMore, 0, arcRows);
+  if (arcRows.length <= AT_ONCE) arcRows.forEach((each, index) => furnish(index));
+  else arcRows.forEach((each) => nearby.observe(each.line));
   by("with-low").parentElement.hidden = kind !== "min";
   document.querySelector("#add .add-cap").hidden = kind === "asn";
   document.querySelector("#add .add-cost").hidden = kind === "max";
+}
+
+// Puts rows into the table, up to so many. A long table comes piece by piece, so that the page answers meanwhile.
+function attach(count) {
+  const piece = arcRows.slice(attached, count).map((each) => each.line);
+  document.querySelector("#arcs tbody").append(...piece);
+  attached += piece.length;
+}
+
+function attachMore(rows) {
+  if (rows !== arcRows || attached === rows.length) return;
+  attach(attached + AT_ONCE);
+  setTimeout(attachMore, 20, rows);
+}
+
+// Puts fields into a row. Of a long table only the rows near the window have them: thousands of fields take seconds.
+function furnish(index) {
+  const row = arcRows[index];
+  if (attached <= index) attach(index + 1);
+  if (row.inputs) return row.inputs;
+  row.inputs = {};
+  for (const [what, cell] of Object.entries(row.cells)) {
+    row.inputs[what] = field(what, index, label(state.arcs[index]));
+    cell.replaceChildren(row.inputs[what]);
+    show(row.inputs[what], state.arcs[index][FIELDS[what]], what, index);
+  }
+  if (nearby) nearby.unobserve(row.line);
+  return row.inputs;
 }
 
 function flowWords(flow) {
@@ -180,7 +219,11 @@ function drawArcs(before) {
       row.line.classList.toggle("full", isFull(arc));
       if (isFull(arc)) row.flow.append(" ", make("span", "full", "mark"));
     }
-    for (const [what, input] of Object.entries(row.inputs)) show(input, arc[FIELDS[what]], what, index);
+    for (const [what, cell] of Object.entries(row.cells)) {
+      const value = arc[FIELDS[what]];
+      if (row.inputs) show(row.inputs[what], value, what, index);
+      else if (!old || old[FIELDS[what]] !== value) cell.textContent = value ?? "no limit";
+    }
   });
   if (!before) by("with-low").checked = state.arcs.some((arc) => arc[LOW] !== "0");
   showLow();
@@ -240,6 +283,7 @@ function filter() {
   const wanted = by("find").value.trim().toLowerCase();
   const onlyFull = by("only-full").checked;
   let count = 0;
+  if (wanted || onlyFull) attach(arcRows.length);
   state.arcs.forEach((arc, index) => {
     const words = `${arc[TAIL]} to ${arc[HEAD]} ${arc[LABEL] || ""}`.toLowerCase();
     const hidden = (wanted !== "" && !words.includes(wanted)) || (onlyFull && !isFull(arc));
@@ -255,12 +299,13 @@ function choose(index, scroll) {
   chosen = index;
   if (index >= 0) {
     const line = arcRows[index].line;
+    attach(index + 1);
     line.classList.add("chosen");
     point(index);
     if (scroll) {
       line.hidden = false;
       line.scrollIntoView({ block: "nearest" });
-      const input = line.querySelector("input:enabled");
+      const input = Object.values(furnish(index)).find((each) => !each.disabled && each.offsetParent);
       if (input) input.focus({ preventScroll: true });
     }
   }
@@ -329,7 +374,7 @@ function drawPending() {
 }
 
 function restore(edit) {
-  const input = edit.edit === "supply" ? nodeRows[edit.at].input : arcRows[edit.arc]?.inputs[edit.edit];
+  const input = edit.edit === "supply" ? nodeRows[edit.at].input : arcRows[edit.arc]?.inputs?.[edit.edit];
   if (!input) return;
   input.classList.remove("pending");
   input.value = input.dataset.stands;
@@ -362,7 +407,7 @@ function move(input, step) {
   const rows = input.dataset.what === "supply" ? nodeRows : arcRows;
   for (let at = Number(input.dataset.index) + step; rows[at]; at += step) {
     if (rows[at].line.hidden) continue;
-    const next = input.dataset.what === "supply" ? rows[at].input : rows[at].inputs[input.dataset.what];
+    const next = input.dataset.what === "supply" ? rows[at].input : furnish(at)[input.dataset.what];
     next.focus();
     next.select();
     return;
