@@ -64,7 +64,7 @@ class Sensitivity(unittest.TestCase):
         asked = gains = 0
         for case in range(40):
             problem = drawn(draws, "max" if case % 4 == 3 else "min", case % 3)
-            if case % 5 == 4:
+            if case % 5 == 4 and problem.kind == "min":
                 name = draws.choice(list(problem.nodes))
                 problem.nodes[name] += 1
                 problem.nodes[draws.choice([other for other in problem.nodes if other != name])] -= 1

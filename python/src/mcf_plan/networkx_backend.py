@@ -353,10 +353,10 @@ class Backend:
     def maximum_flow(self, flowG: Any, _s: Node, _t: Node, capacity: str = "capacity", flow_func: Any = None,
                      **options: Any) -> Tuple[Any, Dict[Node, Any]]:
         """Value and flows of a maximum flow."""
-        import networkx as nx
+        from networkx.algorithms.flow.utils import build_flow_dict
 
         R, flow = self._maximum_flow(flowG, _s, _t, capacity, (flow_func, options))
-        return R.graph["flow_value"], plain(nx.algorithms.flow.build_flow_dict)(flowG, R)
+        return R.graph["flow_value"], plain(build_flow_dict)(flowG, R)
 
     def maximum_flow_value(self, flowG: Any, _s: Node, _t: Node, capacity: str = "capacity", flow_func: Any = None,
                            **options: Any) -> Any:
@@ -381,14 +381,14 @@ class Backend:
     def gomory_hu_tree(self, G: Any, capacity: str = "capacity", flow_func: Any = None, *,
                        time_limit: Optional[float] = None) -> Any:
         """The tree of minimum cuts of all pairs of nodes of an undirected graph; each of its cuts is proved."""
-        import networkx as nx
+        from networkx.algorithms.flow.gomory_hu import gomory_hu_tree
 
         def answered(*arguments: Any, **options: Any) -> Any:
             return self.preflow_push(*arguments, time_limit=time_limit, **options)
 
         answered.__name__ = "preflow_push"
         refuse_foreign(flow_func)
-        return plain(nx.algorithms.flow.gomory_hu_tree)(G, capacity=capacity, flow_func=answered)
+        return plain(gomory_hu_tree)(G, capacity=capacity, flow_func=answered)
 
     def boykov_kolmogorov(self, G: Any, s: Node, t: Node, capacity: str = "capacity", residual: Any = None,
                           value_only: bool = False, cutoff: Any = None, *, time_limit: Optional[float] = None) -> Any:
@@ -454,12 +454,12 @@ class Backend:
 
     def _residual(self, what: Tuple[Any, Node, Node, str], residual: Any, cutoff: Any, algorithm: str,
                   time_limit: Optional[float]) -> Tuple[Any, MaximumFlow]:
-        import networkx as nx
+        from networkx.algorithms.flow.utils import build_residual_network
 
         flow = MaximumFlow(*what).solve(lambda problem: self._solve(problem, time_limit), cutoff)
         G, _, _, capacity = what
         if residual is None:
-            residual = plain(nx.algorithms.flow.build_residual_network)(G, capacity)
+            residual = plain(build_residual_network)(G, capacity)
         return flow.fill(residual, algorithm), flow
 
 

@@ -66,7 +66,8 @@ def assigned(matrix: Any, maximize: bool, program: Optional[Program],
     for column in range(width):
         problem.add_node(f"column {column}", -1)
     pairs: List[Tuple[int, int]] = []
-    for row, costs in enumerate(matrix.tolist()):
+    # The last row first: of assignments that cost the same, the solver then tends to find the one that scipy tells.
+    for row, costs in reversed(list(enumerate(matrix.tolist()))):
         for column, cost in enumerate(costs):
             if abs(cost) != float("inf"):
                 problem.add_arc(f"row {row}", f"column {column}", cap=1, cost=-cost if maximize else cost)
@@ -74,7 +75,7 @@ def assigned(matrix: Any, maximize: bool, program: Optional[Program],
     plan = problem.solve(program, surplus="keep" if width > height else "refuse", time_limit=time_limit)
     if isinstance(plan, Infeasible):
         raise ValueError("cost matrix is infeasible")
-    chosen = [pair for pair, flow in zip(pairs, plan.flows) if flow]
+    chosen = sorted(pair for pair, flow in zip(pairs, plan.flows) if flow)
     return [row for row, _ in chosen], [column for _, column in chosen]
 
 
