@@ -2,9 +2,15 @@
 
 import http.client
 import json
+import re
+import signal
+import subprocess
+import sys
+import tempfile
 import threading
 import unittest
 from decimal import Decimal
+from pathlib import Path
 
 from mcf_plan import Problem, Session
 from mcf_plan.board.server import MOST_BYTES, Board, BoardServer
@@ -148,7 +154,7 @@ class BoardTest(unittest.TestCase):
 
     def test_exports_are_read_again(self) -> None:
         self.edit(edit="cap", arc=0, value="2")
-        self.assertTrue(self.board.export("plan.csv")[0].startswith("from,to,name,flow"))
+        self.assertTrue(self.board.export("plan.csv")[0].startswith("name,from,to,"))
         self.assertEqual(json.loads(self.board.export("plan.json")[0])["cost"], "32.75")
         self.assertIn("32.75", self.board.export("report.html")[0])
         again = Problem()
@@ -183,6 +189,39 @@ class BoardTest(unittest.TestCase):
             self.assertEqual(board.state()["cost"], "6")
             state = board.do({"do": "edits", "edits": [{"edit": "add", "tail": "Ben", "head": "night", "cost": "1"}]})
             self.assertEqual((state["error"], state["cost"]), (None, "3"))
+
+    def test_what_is_kept_stands_beside_its_node(self) -> None:
+        problem = towns()
+        problem.nodes["south"] = Decimal(6)
+        with Session(problem, surplus="keep") as session:
+            state = Board(session).state()
+            self.assertEqual([node[5] for node in state["nodes"]], [None, "1.5", None, None, None])
+            self.assertEqual(state["cost"], "25.5")
+
+
+class CommandTest(unittest.TestCase):
+    """mcf-plan board, from the command line to Ctrl-C."""
+
+    def test_board(self) -> None:
+        with tempfile.TemporaryDirectory() as folder:
+            nodes, arcs = Path(folder, "nodes.csv"), Path(folder, "arcs.csv")
+            nodes.write_text("name,supply\nnorth,4\nsouth,-4\n")
+            arcs.write_text("from,to,capacity,cost\nnorth,south,,2.5\n")
+            command = [sys.executable, "-m", "mcf_plan", "board", str(nodes), str(arcs), "--title", "Two towns"]
+            with subprocess.Popen(command, stdout=subprocess.PIPE, stderr=subprocess.PIPE, text=True) as process:
+                try:
+                    address = re.search(r"http://(127\.0\.0\.1:\d+)/#(\S+)", process.stdout.readline())
+                    connection = http.client.HTTPConnection(address.group(1), timeout=30)
+                    headers = {"Origin": f"http://{address.group(1)}", "X-Board-Key": address.group(2)}
+                    headers["Content-Type"] = "application/json"
+                    connection.request("POST", "/do", b'{"do":"state"}', headers)
+                    state = json.loads(connection.getresponse().read())
+                    connection.close()
+                    self.assertEqual((state["title"], state["cost"]), ("Two towns", "10"))
+                    process.send_signal(signal.SIGINT)
+                    self.assertIn(process.wait(30), (0, 130))
+                finally:
+                    process.kill()
 
 
 class ServerTest(unittest.TestCase):

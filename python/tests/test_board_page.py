@@ -274,7 +274,7 @@ class PageTest(unittest.TestCase):
     def test_exports(self) -> None:
         self.open(towns())
         for name, part in [
-            ("plan.csv", "north,middle,,3,0,3,1.25,3.75"),
+            ("plan.csv", ",north,middle,0,3,1.25,3,3.75,yes"),
             ("report.html", "Cheapest plan: 25.5"),
             ("plan.json", '"cost": "25.5"'),
             ("nodes.csv", "south,4.5"),

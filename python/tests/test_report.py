@@ -159,7 +159,7 @@ class ReportTest(unittest.TestCase):
     def test_csv(self) -> None:
         rows = list(csv.DictReader(io.StringIO(report.to_csv(self.plan))))
         self.assertEqual(len(rows), 7)
-        self.assertEqual(sum(Decimal(row["cost"]) for row in rows), self.plan.cost)
+        self.assertEqual(sum(Decimal(row["total cost"]) for row in rows), self.plan.cost)
         self.assertEqual((rows[3]["capacity"], rows[4]["name"]), ("", 'the "ferry"'))
         with self.assertRaises(ValueError):
             report.to_csv(self.none)

@@ -21,7 +21,8 @@ from pathlib import Path
 from typing import TYPE_CHECKING, Any, Iterator, Mapping, NamedTuple, Optional, Union
 
 from .explain import explain
-from .problem import ZERO, plain
+from .problem import WIDE, ZERO, plain
+from .tables import PLAN_COLUMNS, plan_rows
 
 if TYPE_CHECKING:
     from .plan import Infeasible, Plan
@@ -76,13 +77,11 @@ def arc_rows(plan: Plan) -> Iterator[Row]:
     A full arc whose reduced cost is below 0 saves at most as much with one unit more of capacity: the least cost is
     convex in a capacity, and the prices of a best plan bound it from below.
     """
-    prices = plan.prices
-    for arc, flow in zip(plan.problem.arcs, plan.flows):
-        full = arc.cap is not None and flow == arc.cap
-        saving = None
-        if prices is not None and full and plan.problem.kind == "min":
-            saving = prices[arc.head] - prices[arc.tail] - arc.cost
-        yield Row(arc, flow, flow * arc.cost, saving if saving is not None and saving > 0 else None, full)
+    for index, (arc, flow) in enumerate(zip(plan.problem.arcs, plan.flows)):
+        full, saving = plan.is_full(index), None
+        if full and plan.prices is not None and plan.problem.kind == "min" and plan.reduced_cost(index) < 0:
+            saving = -plan.reduced_cost(index)
+        yield Row(arc, flow, WIDE.multiply(flow, arc.cost), saving, full)
 
 
 # ---------------------------------------------------------------------------------------------------------------------
@@ -356,7 +355,9 @@ def _own_picture(result: Result) -> str:
     ]
     for colour, name in HEADS.items():
         out.append(f'<marker id="head-{name}" viewBox="0 0 10 10" refX="2" refY="5" markerWidth="9" markerHeight="9"')
-        out.append(f'  markerUnits="userSpaceOnUse" orient="auto"><path d="M0 0L10 5L0 10z" fill="{colour}"/></marker>')
+        out.append(
+            f'  markerUnits="userSpaceOnUse" orient="auto"><path d="M0 0L10 5L0 10z" fill="{colour}"/></marker>'
+        )
     lines, labels = _drawn_arcs(result, where)
     dots, names = _drawn_nodes(result, where, right)
     out += ['<g fill="none">', *lines, "</g>", '<g stroke-width="2.5">', *dots, "</g>"]
@@ -534,30 +535,17 @@ def html_report(result: Result, path: Union[str, Path], *, title: str = "Plan") 
 
 
 def to_csv(result: Result) -> str:
-    """The arcs of a plan as a table: from, to, name, flow, low, capacity, unit cost, cost.
+    """The arcs of a plan as a table, as `write_plan` writes it: each arc with its numbers, its flow and its cost.
 
-    An empty capacity is no limit. ValueError where there is no plan.
+    ValueError where there is no plan.
     """
     if not _is_plan(result):
         raise ValueError("there is no plan to write as a table")
     result.verify()
     out = io.StringIO()
     table = csv.writer(out, lineterminator="\n")
-    table.writerow(["from", "to", "name", "flow", "low", "capacity", "unit cost", "cost"])
-    for row in arc_rows(result):
-        arc = row.arc
-        table.writerow(
-            [
-                arc.tail,
-                arc.head,
-                arc.name or "",
-                number(row.flow),
-                number(arc.low),
-                number(arc.cap),
-                number(arc.cost),
-                number(row.cost),
-            ]
-        )
+    table.writerow(PLAN_COLUMNS)
+    table.writerows(plan_rows(result))
     return out.getvalue()
 
 

@@ -109,6 +109,9 @@ function drawWorth() {
   by("worth-words").textContent = none ? "There is no plan:" : `${WORTH[state.kind]}:`;
   by("worth").textContent = none ? `short by ${state.shortage}` : state.cost;
   by("worth").parentElement.classList.toggle("none", none);
+  const unchecked = "not checked: the network is large; saving the plan checks it";
+  by("checked").textContent = state.checked ? "checked" : unchecked;
+  by("checked").classList.toggle("warned", !state.checked);
   const isFirst = state.first === null || state.first === state.cost;
   by("since").textContent = none || isFirst ? "" : `(at first ${state.first})`;
 }
@@ -132,7 +135,8 @@ function buildArcs() {
   const columns = kind === "min" ? ["low", "cap", "cost"] : EDITABLE[kind];
   const heads = { low: "At least", cap: "Capacity", cost: "Unit cost" };
   const row = make("tr");
-  row.append(make("th", kind === "asn" ? "Pair" : "Arc", "name"), make("th", kind === "asn" ? "Chosen" : "Flow", "flow"));
+  row.append(make("th", kind === "asn" ? "Pair" : "Arc", "name"));
+  row.append(make("th", kind === "asn" ? "Chosen" : "Flow", "flow"));
   for (const what of columns) row.append(make("th", heads[what], what));
   row.append(make("th", "", "close"));
   document.querySelector("#arcs thead").replaceChildren(row);
