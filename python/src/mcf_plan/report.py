@@ -48,7 +48,7 @@ h1{font-size:1.5rem}h2{font-size:1.15rem;margin-top:2rem}
 table{border-collapse:collapse;font-variant-numeric:tabular-nums}
 th,td{padding:.2rem .7rem;text-align:right;border-bottom:1px solid #dde1e6}th{font-weight:600;vertical-align:bottom}
 .name{text-align:left}.full td{background:#fdeee6}.mark{color:#9a3412;font-weight:600}
-.worth{font-size:1.6rem;font-weight:700}.wide{overflow-x:auto}svg{max-width:100%;height:auto}
+.worth{font-size:1.6rem;font-weight:700}.wide{overflow-x:auto}@media print{svg{max-width:100%;height:auto}}
 pre{white-space:pre-wrap;font:inherit}"""
 
 

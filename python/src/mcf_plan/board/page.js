@@ -133,7 +133,7 @@ function field(what, index, words) {
 function buildArcs() {
   const kind = state.kind;
   const columns = kind === "min" ? ["low", "cap", "cost"] : EDITABLE[kind];
-  const heads = { low: "At least", cap: "Capacity", cost: "Unit cost" };
+  const heads = { low: "At least", cap: "Capacity", cost: kind === "asn" ? "Cost" : "Unit cost" };
   const row = make("tr");
   row.append(make("th", kind === "asn" ? "Pair" : "Arc", "name"));
   row.append(make("th", kind === "asn" ? "Chosen" : "Flow", "flow"));
@@ -176,6 +176,7 @@ function buildArcs() {
   if (arcRows.length <= AT_ONCE) arcRows.forEach((each, index) => furnish(index));
   else arcRows.forEach((each) => nearby.observe(each.line));
   by("with-low").parentElement.hidden = kind !== "min";
+  by("only-full").parentElement.hidden = kind === "asn";
   document.querySelector("#add .add-cap").hidden = kind === "asn";
   document.querySelector("#add .add-cost").hidden = kind === "max";
 }
@@ -667,7 +668,7 @@ function drawWords() {
   for (const place of places.slice(0, 400)) taken.push([place.x - 6, place.y - 6, place.x + 6, place.y + 6]);
   if (chosen >= 0 && lines[chosen]) {
     const at = lines[chosen].at[2];
-    put(at.x, at.y - 5, arcWords(state.arcs[chosen]), 6.4, "middle", isFull(state.arcs[chosen]) ? "full" : "", true);
+    put(at.x, at.y - 5, arcWords(state.arcs[chosen]), 6.4, "middle", lines[chosen].look, true);
   }
   const cut = new Set(state.cut || []);
   const weight = (node) => Math.abs(Number(node[SUPPLY])) + (cut.has(node[NAME]) ? 1e12 : 0);
@@ -687,7 +688,7 @@ function drawWords() {
   }
   const busy = state.arcs.map((arc, index) => index).filter((index) => index !== chosen && lines[index].length > 60 &&
     (state.cut !== null || Number(state.arcs[index][FLOW]) !== 0));
-  busy.sort((a, b) => isFull(state.arcs[b]) - isFull(state.arcs[a]));
+  busy.sort((a, b) => (lines[b].look === "full") - (lines[a].look === "full"));
   let left = Math.max(12, (width * height) / 12000);
   for (const index of busy.slice(0, 150)) {
     const text = arcWords(state.arcs[index]);
@@ -695,7 +696,7 @@ function drawWords() {
     if (left < 1) break;
     for (const step of [2, 1, 3, 4, 5, 0, 6]) {
       const at = lines[index].at[step];
-      if (put(at.x, at.y - 5, text, 6.6, "middle", isFull(state.arcs[index]) ? "full" : "")) {
+      if (put(at.x, at.y - 5, text, 6.6, "middle", lines[index].look)) {
         left -= 1;
         break;
       }
