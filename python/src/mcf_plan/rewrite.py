@@ -319,11 +319,13 @@ class Rewriting:
         less than 0 by some arc; so the supplies, and the capacities of such arcs, bound the flow on each large arc. It
         gets room for one unit more, so that a best flow never has to fill it, and no price leans on its end.
         """
+        arcs = self.problem.arcs
         self.room = self.needed = 0
         self.pieces_of_large = 1
         self.clips = False
         large = [k for k, (_, cap) in enumerate(self.bounds) if cap is None]
         larger = [k for k, bounds in enumerate(self.bounds) if bounds[1] is not None and _is_large(bounds)]
+        self.has_gains = self.problem.kind == "max" or any(arcs[k].cost < 0 for k in large + larger)
         self.has_large = bool(large or larger or self.problem.balance != "equal" or self.problem.kind == "max")
         if not self.has_large:
             return
@@ -735,6 +737,7 @@ class _Change:
         self.total = rewriting.total
         self.needed = rewriting.needed
         self.needs_search = False
+        self.has_gains = rewriting.has_gains
 
     def _add_supply(self, number: int, amount: int) -> None:
         if amount:
@@ -781,10 +784,12 @@ class _Change:
         if rewriting.kind == "max" and arc.low:
             raise DoesNotFit
         was_large, is_large = _is_large(before), _is_large(bounds)
-        if is_large and (not was_large or arc.cost < 0 or rewriting.kind == "max" and before != bounds):
+        gains = rewriting.has_gains or arc.cost < 0
+        if is_large and not rewriting.has_large or is_large and gains and (before != bounds or arc.cost < 0):
+            # There may be a circle of large arcs now that costs less than 0.
             self.needs_search = True
-        elif not is_large:
-            # An arc that was large counted nothing before.
+        elif not is_large and gains:
+            # An arc that was large, or did not cost less than 0, counted nothing before.
             self.needed += _width(bounds) if was_large or arc.cost < 0 else max(0, _width(bounds) - _width(before))
         change = bounds[0] - before[0]
         self.needed += 3 * abs(change)
@@ -813,7 +818,7 @@ class _Change:
         if _is_large(bounds):
             if not rewriting.has_large:
                 raise DoesNotFit
-            self.needs_search = True
+            self.needs_search = self.needs_search or rewriting.has_gains or arc.cost < 0
         else:
             self.needed += _width(bounds)
         self.needed += 3 * abs(bounds[0])
@@ -848,6 +853,7 @@ class _Change:
         if probe.has_large and (probe.needed > rewriting.needed_limit or probe.clips != rewriting.clips):
             raise DoesNotFit
         self.needed = probe.needed
+        self.has_gains = probe.has_gains
 
     def commands(self) -> List[str]:
         """The commands of a session that change the text in this way."""
@@ -898,6 +904,7 @@ class _Change:
             rewriting.ends += [ends] * len(rows)
         rewriting.total = self.total
         rewriting.needed = self.needed
+        rewriting.has_gains = self.has_gains
         for bounds, form in [(b, rewriting.forms[k]) for k, b in self.bounds.items()] + [new[:2] for new in self.new]:
             rewriting.limit_needed(bounds, form)
 
