@@ -18,17 +18,14 @@ import subprocess
 from collections import deque
 from decimal import Decimal
 from pathlib import Path
-from typing import TYPE_CHECKING, Any, Iterator, Mapping, NamedTuple, Optional, Union
+from typing import Any, Iterator, Mapping, NamedTuple, Optional, Union
 
 from .explain import explain
-from .problem import WIDE, ZERO, plain
+from .plan import Infeasible, Plan
+from .problem import WIDE, ZERO, Arc, Problem, plain
 from .tables import PLAN_COLUMNS, plan_rows
 
-if TYPE_CHECKING:
-    from .plan import Infeasible, Plan
-    from .problem import Arc, Problem
-
-    Result = Union[Plan, Infeasible]
+Result = Union[Plan, Infeasible]
 
 __all__ = ["html_report", "svg_picture", "to_csv", "to_json", "layout", "number", "arc_rows"]
 
@@ -196,7 +193,7 @@ def layout(problem: Problem) -> dict[str, tuple[float, float]]:
     Nodes with places (`problem.places`, from columns x and y of the table) stand there, north up. All others stand in
     columns, from those that supply on the left to those that only take in on the right.
     """
-    places: Mapping[str, tuple[float, float]] = getattr(problem, "places", None) or {}
+    places = problem.places
     if problem.nodes and all(name in places for name in problem.nodes):
         xs, ys = zip(*(map(float, places[name]) for name in problem.nodes))
         extent = max(max(xs) - min(xs), max(ys) - min(ys)) or 1.0
@@ -224,11 +221,12 @@ def layout(problem: Problem) -> dict[str, tuple[float, float]]:
 # Pictures
 
 
-def _is_plan(result: Result) -> bool:
-    return hasattr(result, "flows")
+def _cut(result: Result) -> frozenset[str]:
+    """The nodes of the cut; none where there is a plan."""
+    return result.cut if isinstance(result, Infeasible) else frozenset()
 
 
-def _crosses(arc: Arc, cut: Any) -> bool:
+def _crosses(arc: Arc, cut: frozenset[str]) -> bool:
     return (arc.tail in cut) != (arc.head in cut)
 
 
@@ -257,7 +255,7 @@ def _node_label(problem: Problem, name: str) -> str:
 def _strokes(result: Result) -> Iterator[tuple[Arc, Optional[Decimal], str, float, bool]]:
     """Each arc with its flow (None where there is no plan), colour, width, and whether it is to be marked."""
     problem = result.problem
-    if not _is_plan(result):
+    if isinstance(result, Infeasible):
         for arc in problem.arcs:
             marked = _crosses(arc, result.cut)
             yield arc, None, FULL if marked else EMPTY, 2.5 if marked else 1.2, marked
@@ -274,7 +272,7 @@ def _dot_text(result: Result) -> str:
     def quoted(text: str) -> str:
         return '"' + text.replace("\\", "\\\\").replace('"', '\\"') + '"'
 
-    problem, cut = result.problem, getattr(result, "cut", frozenset())
+    problem, cut = result.problem, _cut(result)
     lines = [
         "digraph plan {",
         "  rankdir=LR; bgcolor=transparent; nodesep=0.35; ranksep=1.4;",
@@ -369,7 +367,7 @@ def _own_picture(result: Result) -> str:
 def _drawn_arcs(result: Result, where: Mapping[str, tuple[float, float]]) -> tuple[list[str], list[str]]:
     """The lines of the arcs, and their labels."""
     problem = result.problem
-    few, on_map = len(problem.arcs) <= GRAPHVIZ_ARCS, bool(getattr(problem, "places", None))
+    few, on_map = len(problem.arcs) <= GRAPHVIZ_ARCS, bool(problem.places)
     lines, labels = [], []
     seen: dict[tuple[str, str], int] = {}
     both = {(arc.tail, arc.head) for arc in problem.arcs}
@@ -396,8 +394,8 @@ def _drawn_nodes(
     result: Result, where: Mapping[str, tuple[float, float]], right: float
 ) -> tuple[list[str], list[str]]:
     """The circles of the nodes, and their names: beside those at the left and right edge, above all others."""
-    problem, cut = result.problem, getattr(result, "cut", frozenset())
-    on_map = bool(getattr(problem, "places", None))
+    problem, cut = result.problem, _cut(result)
+    on_map = bool(problem.places)
     dots, names = [], []
     for name, (x, y) in where.items():
         supply = problem.nodes[name]
@@ -418,9 +416,7 @@ def svg_picture(result: Result, *, graphviz: Optional[bool] = None) -> str:
     for and does not draw it.
     """
     result.verify()
-    wanted = (
-        graphviz is None and len(result.problem.arcs) <= GRAPHVIZ_ARCS and not getattr(result.problem, "places", None)
-    )
+    wanted = graphviz is None and len(result.problem.arcs) <= GRAPHVIZ_ARCS and not result.problem.places
     if graphviz or wanted:
         picture = _by_graphviz(result)
         if picture is not None:
@@ -474,11 +470,8 @@ def _flow_table(plan: Plan) -> Iterator[str]:
 
 def _node_table(plan: Plan) -> Iterator[str]:
     problem = plan.problem
-    left = {
-        **(getattr(plan, "kept", None) or {}),
-        **{name: value for name, value in (getattr(plan, "not_met", None) or {}).items()},
-    }
-    rest = bool(getattr(plan, "not_met", None))
+    left = {**plan.kept, **plan.not_met}
+    rest = bool(plan.not_met)
     yield '<table><tr><th class="name">Node</th><th>Supply</th>' + (
         f"<th>{'Not met' if rest else 'Kept'}</th>" if left else ""
     ) + ("<th>Price</th>" if plan.prices else "") + "</tr>"
@@ -501,7 +494,7 @@ def html_text(result: Result, *, title: str = "Plan") -> str:
         f"<title>{html.escape(title)}</title><style>{STYLE}</style>",
         f"<h1>{html.escape(title)}</h1>",
     ]
-    if _is_plan(result):
+    if isinstance(result, Plan):
         out.append(f'<p class="worth">{WORTH[problem.kind]}: {number(result.cost)}</p>')
         better = "No plan sends more" if problem.kind == "max" else "No plan costs less"
         out.append(
@@ -515,10 +508,10 @@ def html_text(result: Result, *, title: str = "Plan") -> str:
             "<p><code>mcf check</code> accepted the cut, and its shortage was found right in the units of the "
             "tables.</p>"
         )
-    for note in getattr(result, "notes", None) or []:
-        out.append(f"<p>{html.escape(str(note))}</p>")
+    for note in result.notes:
+        out.append(f"<p>{html.escape(note)}</p>")
     out.append(f'<h2>The network</h2><div class="wide">{svg_picture(result)}</div>')
-    if _is_plan(result):
+    if isinstance(result, Plan):
         out.append('<h2>What goes where</h2><div class="wide">' + "\n".join(_flow_table(result)) + "</div>")
         if problem.kind == "min":
             out.append('<h2>Nodes</h2><div class="wide">' + "\n".join(_node_table(result)) + "</div>")
@@ -539,7 +532,7 @@ def to_csv(result: Result) -> str:
 
     ValueError where there is no plan.
     """
-    if not _is_plan(result):
+    if isinstance(result, Infeasible):
         raise ValueError("there is no plan to write as a table")
     result.verify()
     out = io.StringIO()
@@ -557,8 +550,8 @@ def to_json(result: Result) -> str:
     """
     result.verify()
     problem = result.problem
-    told: dict[str, Any] = {"kind": problem.kind, "feasible": _is_plan(result)}
-    if not _is_plan(result):
+    told: dict[str, Any] = {"kind": problem.kind, "feasible": isinstance(result, Plan)}
+    if isinstance(result, Infeasible):
         cut = [name for name in problem.nodes if name in result.cut]
         told.update(shortage=number(result.shortage), cut=cut, why=explain(result))
     else:
@@ -580,6 +573,6 @@ def to_json(result: Result) -> str:
         told["prices"] = (
             None if result.prices is None else {name: number(price) for name, price in result.prices.items()}
         )
-        for rest in ("kept", "not_met"):
-            told[rest] = {name: number(value) for name, value in (getattr(result, rest, None) or {}).items()}
+        for name, rest in (("kept", result.kept), ("not_met", result.not_met)):
+            told[name] = {node: number(amount) for node, amount in rest.items()}
     return json.dumps(told, ensure_ascii=False, indent=1) + "\n"

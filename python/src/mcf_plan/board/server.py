@@ -17,19 +17,16 @@ import threading
 from decimal import Decimal
 from http.server import BaseHTTPRequestHandler, ThreadingHTTPServer
 from pathlib import Path
-from typing import TYPE_CHECKING, Any, NamedTuple, Optional, TextIO, Union
+from typing import Any, NamedTuple, Optional, TextIO, Union
 
 from ..explain import explain
-from ..plan import Disagreement
+from ..plan import Disagreement, Infeasible, Plan
 from ..problem import Arc, exact
 from ..program import ProgramFailed, TimeLimit
 from ..report import html_text, layout, number, to_csv, to_json
 from ..rewrite import BeyondLimits, Meaningless, Unbounded
-from ..session import EditRefused
+from ..session import EditRefused, Session
 
-if TYPE_CHECKING:
-    from ..plan import Infeasible, Plan
-    from ..session import Session
 
 __all__ = ["Board", "BoardServer", "serve"]
 
@@ -90,7 +87,7 @@ class Board:
         self.variants: dict[str, Variant] = {}
         self._lock = threading.Lock()
         self._places = layout(session.problem)
-        self._placed = bool(getattr(session.problem, "places", None))
+        self._placed = bool(session.problem.places)
         self._first = session.cost
 
     def state(self) -> dict[str, Any]:
@@ -218,7 +215,7 @@ class Board:
             self.session.shortage,
             dict(problem.nodes),
             list(problem.arcs),
-            list(result.flows) if hasattr(result, "flows") else None,
+            list(result.flows) if isinstance(result, Plan) else None,
         )
 
     def _back(self, name: str) -> None:
@@ -270,9 +267,11 @@ class Board:
     def _state(self) -> dict[str, Any]:
         session, problem = self.session, self.session.problem
         result: Union[Plan, Infeasible] = session.plan()
-        flows = getattr(result, "flows", None)
-        prices = getattr(result, "prices", None)
-        rest = {**(getattr(result, "kept", None) or {}), **(getattr(result, "not_met", None) or {})}
+        plan = result if isinstance(result, Plan) else None
+        none = result if isinstance(result, Infeasible) else None
+        flows = plan.flows if plan else None
+        prices = plan.prices if plan else None
+        rest = {**plan.kept, **plan.not_met} if plan else {}
         nodes = [
             [
                 name,
@@ -295,20 +294,19 @@ class Board:
             ]
             for index, arc in enumerate(problem.arcs)
         ]
-        cut = getattr(result, "cut", None)
         return {
             "title": self.title,
             "kind": problem.kind,
             "placed": self._placed,
             "source": problem.source,
             "sink": problem.sink,
-            "cost": None if flows is None else number(result.cost),
+            "cost": number(plan.cost) if plan else None,
             "first": None if self._first is None else number(self._first),
-            "shortage": None if cut is None else number(result.shortage),
-            "why": None if cut is None else explain(result),
-            "cut": None if cut is None else sorted(cut),
-            "checked": bool(getattr(result, "checked", False)),
-            "notes": [str(note) for note in getattr(result, "notes", None) or []],
+            "shortage": number(none.shortage) if none else None,
+            "why": explain(none) if none else None,
+            "cut": sorted(none.cut) if none else None,
+            "checked": result.checked,
+            "notes": list(result.notes),
             "nodes": nodes,
             "arcs": arcs,
             "undo": session.can_undo,
@@ -325,7 +323,7 @@ class Board:
             self.session.shortage,
             dict(problem.nodes),
             list(problem.arcs),
-            getattr(result, "flows", None),
+            result.flows if isinstance(result, Plan) else None,
         )
         each = [*self.variants.values(), now]
         columns = [
@@ -373,7 +371,7 @@ class Board:
     def _node_table(self) -> str:
         problem, out = self.session.problem, io.StringIO()
         table = csv.writer(out, lineterminator="\n")
-        places = getattr(problem, "places", None) or {}
+        places = problem.places
         table.writerow(["name", "supply"] + ["x", "y"] * bool(places))
         for name, supply in problem.nodes.items():
             table.writerow([name, number(supply), *(places.get(name, ("", "")) if places else ())])
@@ -445,7 +443,8 @@ class Handler(BaseHTTPRequestHandler):
 
     def _is_for_us(self) -> bool:
         """Whether the request names this server, and comes from its own page or from no page at all."""
-        hosts, origins = self.headers.get_all("Host", []), self.headers.get_all("Origin", [])
+        hosts: list[str] = self.headers.get_all("Host", [])
+        origins: list[str] = self.headers.get_all("Origin", [])
         if len(hosts) != 1 or hosts[0] not in self.server.hosts:
             self._refuse(403, "the request is for another host")
         elif any(origin != f"http://{hosts[0]}" for origin in origins) or (self.command == "POST" and not origins):
