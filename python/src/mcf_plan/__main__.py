@@ -1,0 +1,581 @@
+"""The command mcf-plan: tables with names and decimals in, proved plans out."""
+
+from __future__ import annotations
+
+import argparse
+import shlex
+import sys
+import tempfile
+from contextlib import ExitStack
+from pathlib import Path
+from typing import Callable, Dict, List, Optional, TextIO, Union
+
+from . import __version__
+from .dimacs import find_answer_fault, find_fault, parse_answer, parse_problem
+from .explain import explain
+from .plan import Disagreement, Infeasible, Plan
+from .problem import ArcKey, Problem, plain, total_of
+from .program import Program, ProgramFailed, Refused, TimeLimit, as_str
+from .rewrite import BeyondLimits, CannotRewrite, Options, Unbounded, rewrite, solve
+from .session import EditRefused, Session
+from .tables import TableFault, read_tables, write_plan
+
+NO_PLAN, USAGE, REFUSED, FAILED, UNBOUNDED, BEYOND, DISAGREE, TOO_LONG, INTERRUPTED = 1, 2, 3, 4, 6, 7, 8, 124, 130
+
+STATUSES = """status: 0 done; 1 there is no plan, or an answer is not valid; 2 the command line is refused; 3 a table or a text is
+refused; 4 a file or the program mcf failed; 6 there is no best plan (unbounded); 7 beyond the formats' limits; 8 an answer was
+found wrong (the texts are kept); 124 the time limit; 130 Ctrl-C"""
+
+
+def main(arguments: Optional[List[str]] = None) -> int:
+    """Runs the command and returns its status."""
+    options = _parser().parse_args(arguments)
+    try:
+        status = options.run(options)
+        sys.stdout.flush()
+        return status
+    except Unbounded as error:
+        return _say(str(error), UNBOUNDED)
+    except BeyondLimits as error:
+        return _say(str(error), BEYOND)
+    except Disagreement as error:
+        return _say(f"an answer was found wrong: {error}{_kept(error)}", DISAGREE)
+    except Refused as error:
+        return _say(error.fault.words(), REFUSED)
+    except (TableFault, CannotRewrite) as error:
+        return _say(str(error), REFUSED)
+    except TimeLimit as error:
+        return _say(str(error), TOO_LONG)
+    except KeyboardInterrupt:
+        return _say("interrupted", INTERRUPTED)
+    except BrokenPipeError:
+        sys.stderr.close()
+        return FAILED
+    except (ProgramFailed, OSError) as error:
+        return _say(_of_system(error), FAILED)
+    except ValueError as error:
+        return _say(str(error), REFUSED)
+
+
+def _say(words: str, status: int) -> int:
+    print(f"mcf-plan: {words}", file=sys.stderr)
+    return status
+
+
+def _of_system(error: Exception) -> str:
+    if isinstance(error, OSError) and error.filename is not None:
+        return f"{error.filename}: {error.strerror}"
+    return str(error)
+
+
+def _kept(error: Disagreement) -> str:
+    """Keeps the texts of a disagreement, and says where."""
+    if not error.problem_text:
+        return ""
+    folder = Path(tempfile.mkdtemp(prefix="mcf-plan-"))
+    (folder / "problem").write_text(error.problem_text)
+    (folder / "answer").write_text(error.answer_text)
+    return f"; the texts are kept in {folder}, please report them"
+
+
+# ---------------------------------------------------------------- the command line
+
+
+def _parser() -> argparse.ArgumentParser:
+    parser = argparse.ArgumentParser(prog="mcf-plan", description="Tables with names and decimals in, proved plans out.",
+                                     epilog=STATUSES, formatter_class=argparse.RawDescriptionHelpFormatter)
+    parser.add_argument("--version", action="version", version=f"mcf-plan {__version__}")
+    commands = parser.add_subparsers(title="commands", metavar="COMMAND", required=True)
+
+    def command(name: str, run: Callable[[argparse.Namespace], int], words: str, *, tables: bool) -> argparse.ArgumentParser:
+        made = commands.add_parser(name, help=words, description=words[:1].upper() + words[1:] + ".")
+        made.set_defaults(run=run)
+        if tables:
+            _add_tables(made)
+        return made
+
+    plan = command("plan", _plan, "find a best plan, or say why there is none", tables=True)
+    plan.add_argument("--report", metavar="FILE", help="write a report with a picture (HTML)")
+    plan.add_argument("--picture", metavar="FILE", help="write the picture alone (SVG)")
+    plan.add_argument("--table", metavar="FILE", help="write the plan as a table (.csv, .tsv, .xlsx)")
+    plan.add_argument("--json", action="store_true", help="print it as JSON")
+    plan.add_argument("--title", default="Plan", help="the report's title")
+
+    what_if = command("what-if", _what_if, "ask what would be if, at a prompt or from a file", tables=True)
+    what_if.add_argument("--commands", metavar="FILE", help="read the commands from a file in place of the prompt")
+
+    board = command("board", _board, "serve the what-if page on this computer alone", tables=True)
+    board.add_argument("--port", type=int, default=0, help="the port; without it a free one")
+    board.add_argument("--title", default="Plan", help="the page's title")
+
+    why = command("explain", _explain, "say why there is no plan", tables=True)
+    why.add_argument("--answer", metavar="FILE", help="explain this answer of mcf to the problem text, in place of solving")
+
+    check = command("check", _check, "check an answer to a problem text, whoever made it", tables=False)
+    check.add_argument("problem", metavar="PROBLEM")
+    check.add_argument("answer", metavar="ANSWER")
+    check.add_argument("--from", dest="maker", choices=["mcf", "lemon", "glpk", "flows"], default="mcf",
+                       help="which program wrote the answer (mcf)")
+
+    faults = command("faults", _faults, "say what is wrong with a problem text, and how to mend it", tables=False)
+    faults.add_argument("problem", metavar="PROBLEM")
+    faults.add_argument("answer", metavar="ANSWER", nargs="?", help="an answer to it, to be looked at too")
+
+    convert = command("convert", _convert, "write tables, or a text of another program, as a text that mcf reads", tables=True)
+    convert.add_argument("-o", "--output", metavar="FILE", help="write to a file in place of the output")
+
+    command("ranges", _ranges, "say what one unit more saves, and within which costs the plan stays best", tables=True)
+    return parser
+
+
+def _add_tables(parser: argparse.ArgumentParser) -> None:
+    parser.add_argument("tables", metavar="TABLE", nargs="+",
+                        help="the tables of nodes and arcs (.csv, .tsv, .xlsx), that of arcs alone, or a problem text")
+    parser.add_argument("--kind", choices=["min", "max", "asn"], default="min",
+                        help="least cost (min), greatest flow (max) or assignment (asn)")
+    parser.add_argument("--source", metavar="NODE", help="where a greatest flow starts")
+    parser.add_argument("--sink", metavar="NODE", help="where it ends")
+    parser.add_argument("--surplus", metavar="refuse|keep|COST", default="refuse",
+                        help="what becomes of supplies that do not add up to 0: there is no plan (refuse), they are kept or "
+                             "not met at no cost (keep), or at this cost a unit")
+    parser.add_argument("--balance", choices=["equal", "at least", "at most"], default="equal",
+                        help="whether what leaves a node less what comes in is equal to its supply, at least or at most it")
+    parser.add_argument("--time-limit", metavar="SECONDS", type=float, help="how long to wait for an answer")
+
+
+def _read(options: argparse.Namespace) -> Problem:
+    """The problem of the tables, or of the text, that the command line names."""
+    tables = options.tables
+    if len(tables) > 2:
+        raise TableFault(f"{len(tables)} tables are given, and there are two: that of nodes, then that of arcs")
+    if len(tables) == 1 and not tables[0].lower().endswith((".csv", ".tsv", ".xlsx", ".xls", ".ods")):
+        raw = sys.stdin.buffer.read() if tables[0] == "-" else Path(tables[0]).read_bytes()
+        try:
+            problem = Problem.from_dimacs(raw)
+        except Refused as refused:
+            raise TableFault(refused.fault.words("the problem" if tables[0] == "-" else tables[0])) from None
+        problem.balance = options.balance
+        return problem
+    for what, name in (("--source", options.source), ("--sink", options.sink)):
+        if options.kind == "max" and name is None:
+            raise TableFault(f"a greatest flow wants {what} NODE")
+    return read_tables(tables[0] if len(tables) == 2 else None, tables[-1], kind=options.kind, balance=options.balance,
+                       source=options.source, sink=options.sink)
+
+
+# ---------------------------------------------------------------- plan, explain, ranges
+
+
+def _plan(options: argparse.Namespace) -> int:
+    problem = _read(options)
+    result = problem.solve(surplus=options.surplus, time_limit=options.time_limit)
+    if options.json:
+        from .report import to_json
+
+        print(to_json(result), end="")
+    else:
+        tell(result, sys.stdout)
+    if options.report:
+        from .report import html_report
+
+        html_report(result, options.report, title=options.title)
+    if options.picture:
+        from .report import svg_picture
+
+        Path(options.picture).write_text(svg_picture(result), encoding="utf-8")
+    if options.table and isinstance(result, Plan):
+        write_plan(result, options.table)
+    return 0 if isinstance(result, Plan) else NO_PLAN
+
+
+def tell(result: Union[Plan, Infeasible], out: TextIO) -> None:
+    """Prints a plan, or why there is none, for people."""
+    for note in result.notes:
+        print(f"note: {note}", file=sys.stderr)
+    if isinstance(result, Infeasible):
+        print(result.explain(), file=out)
+        return
+    problem = result.problem
+    what = {"min": "cost", "max": "flow", "asn": "cost"}[problem.kind]
+    print(f"{what} {plain(result.cost)}", file=out)
+    rows = [["from", "to", "name", "flow", "capacity", "cost"]]
+    for arc, flow in zip(problem.arcs, result.flows):
+        if flow:
+            rows.append([str(arc.tail), str(arc.head), arc.name or "", plain(flow),
+                         "" if arc.cap is None else plain(arc.cap), plain(arc.cost)])
+    unused = [place for place, heading in enumerate(rows[0]) if heading in ("name", "cost", "capacity")
+              and (not any(row[place] for row in rows[1:]) or problem.kind == "max" and heading == "cost"
+                   or problem.kind == "asn" and heading == "capacity")]
+    _print_table([[cell for place, cell in enumerate(row) if place not in unused] for row in rows],
+                 2 + (2 not in unused), out)
+    for rest, words in ((result.kept, "stays at"), (result.not_met, "is not met at")):
+        for name, amount in rest.items():
+            print(f"{plain(amount)} {words} {name}", file=out)
+
+
+def _print_table(rows: List[List[str]], texts: int, out: TextIO) -> None:
+    """Prints rows in columns, the first `texts` to the left, numbers to the right."""
+    widths = [max(map(len, column)) for column in zip(*rows)]
+    for row in rows:
+        cells = [cell.ljust(width) if place < texts else cell.rjust(width)
+                 for place, (cell, width) in enumerate(zip(row, widths))]
+        print("  ".join(cells).rstrip(), file=out)
+
+
+def _explain(options: argparse.Namespace) -> int:
+    problem = _read(options)
+    if options.answer:
+        rewriting = rewrite(problem, Options(options.surplus))
+        answer = sys.stdin.read() if options.answer == "-" else Path(options.answer).read_text()
+        result = rewriting.checked(answer, Program(), options.time_limit)
+    else:
+        result = solve(problem, Options(options.surplus), None, options.time_limit)
+    if isinstance(result, Plan):
+        print(f"there is a plan, worth {plain(result.cost)}")
+        return 0
+    print(explain(result))
+    return NO_PLAN
+
+
+def _ranges(options: argparse.Namespace) -> int:
+    from .sensitivity import ranges
+
+    problem = _read(options)
+    with Session(problem, surplus=options.surplus, time_limit=options.time_limit) as session:
+        result = session.plan(True)
+        if isinstance(result, Infeasible):
+            print(result.explain())
+            return NO_PLAN
+        print(f"{'flow' if problem.kind == 'max' else 'cost'} {plain(result.cost)}")
+        more = "one more adds" if problem.kind == "max" else "one more saves"
+        rows = [["from", "to", "name", "flow", more, "cost", "best from", "to"]]
+        for row in ranges(session):
+            arc = problem.arcs[row.arc]
+            rows.append([str(arc.tail), str(arc.head), arc.name or "", plain(result.flows[row.arc]), plain(row.saves),
+                         plain(arc.cost), "any" if row.least_cost is None else plain(row.least_cost),
+                         "any" if row.greatest_cost is None else plain(row.greatest_cost)])
+        _print_table(rows, 3, sys.stdout)
+    return 0
+
+
+# ---------------------------------------------------------------- texts
+
+
+def _check(options: argparse.Namespace) -> int:
+    problem, answer = Path(options.problem).read_bytes(), Path(options.answer).read_bytes()
+    if options.maker != "mcf":
+        from .others import NotAnAnswer, answer_from
+
+        fault = find_fault(problem)
+        if fault is not None:
+            return _say(fault.words(options.problem), REFUSED)
+        try:
+            answer = answer_from(problem, answer, options.maker).encode()
+        except NotAnAnswer as error:
+            print("not valid")
+            return _say(f"{options.answer}: {error}", NO_PLAN)
+    try:
+        verdict = Program().check(problem, answer)
+    except Refused as refused:
+        return _say(refused.fault.words(options.problem if refused.text is problem else options.answer), REFUSED)
+    print(verdict)
+    return 0 if verdict == "valid" else NO_PLAN
+
+
+def _faults(options: argparse.Namespace) -> int:
+    raw = sys.stdin.buffer.read() if options.problem == "-" else Path(options.problem).read_bytes()
+    fault = find_fault(raw)
+    if fault is not None:
+        print(fault.words(options.problem))
+        _show_line(raw, fault.line)
+        return REFUSED
+    if options.answer:
+        answer = Path(options.answer).read_bytes()
+        fault = find_answer_fault(raw, answer)
+        if fault is not None:
+            print(fault.words(options.answer))
+            _show_line(answer, fault.line)
+            return REFUSED
+    print("no fault")
+    found = parse_problem(raw)
+    total = sum(found.supplies.values())
+    if found.kind == "min" and total:
+        print(f"note: the supplies add up to {total}, and not to 0, so there is no plan; is the sign of a demand missing? "
+              "`mcf-plan plan --surplus keep` lets the rest stay")
+    if found.kind == "asn" and 2 * len(found.supplies) != found.nodes:
+        print(f"note: {len(found.supplies)} nodes are on the source side and {found.nodes - len(found.supplies)} on the sink "
+              "side, so there is no assignment; `mcf-plan plan --surplus keep` lets the rest be alone")
+    return 0
+
+
+def _show_line(raw: bytes, line: int) -> None:
+    """Prints the line that the fault is on, cut where it is long."""
+    lines = raw.split(b"\n")
+    if 1 <= line <= len(lines):
+        text = as_str(lines[line - 1][:100]).rstrip("\r")
+        print("    " + "".join(c if c.isprintable() or c == "\t" else f"\\u{ord(c):04x}" for c in text))
+
+
+def _convert(options: argparse.Namespace) -> int:
+    problem = _read(options)
+    rewriting = rewrite(problem, Options(options.surplus))
+    for note in rewriting.notes:
+        print(f"note: {note}", file=sys.stderr)
+    if options.output:
+        Path(options.output).write_text(rewriting.text)
+    else:
+        sys.stdout.write(rewriting.text)
+    return 0
+
+
+# ---------------------------------------------------------------- what-if and board
+
+
+def _board(options: argparse.Namespace) -> int:
+    from .board.server import serve
+
+    with Session(_read(options), surplus=options.surplus, time_limit=options.time_limit) as session:
+        serve(session, port=options.port, title=options.title)
+    return 0
+
+
+def _what_if(options: argparse.Namespace) -> int:
+    with ExitStack() as stack:
+        session = stack.enter_context(Session(_read(options), surplus=options.surplus, time_limit=options.time_limit))
+        source = stack.enter_context(open(options.commands, encoding="utf-8")) if options.commands else sys.stdin
+        Conversation(session, sys.stdout, source.isatty()).run(source)
+    return 0
+
+
+HELP = """cap ARC VALUE        set a capacity (inf: no limit)      show           the plan, or why there is none
+low ARC VALUE        set a lower bound                   why            why there is no plan
+cost ARC VALUE       set a cost                          saves          what one unit more saves, arc by arc
+supply NODE VALUE    set a supply (below 0: demand)      undo, redo     go back by one step, and forward
+close ARC            set its bounds to 0                 mark NAME      name this moment
+add FROM TO [capacity V] [cost V] [low V] [name N]       back NAME      go to that moment
+group .. end         several edits as one step           moments        the marks and their costs
+report FILE          write a report (HTML)               write FILE     write the problem as it stands
+table FILE           write the plan (.csv, .xlsx)        proof FILE     write the answer for mcf check
+An ARC is its name, its ends (FROM TO), or #3 for the third; names with blanks stand in quotes. quit ends it."""
+
+
+class Conversation:
+    """A what-if session in words: `session` answers, `out` takes what is said."""
+
+    def __init__(self, session: Session, out: TextIO, is_terminal: bool = False):
+        self.session = session
+        self.out = out
+        self.is_terminal = is_terminal
+        self.marked: Dict[str, str] = {}
+        self.group: Optional[ExitStack] = None
+
+    def say(self, words: str) -> None:
+        print(words, file=self.out, flush=True)
+
+    def run(self, source: TextIO) -> None:
+        """Reads commands up to the end or `quit`. Ctrl-C stops an edit, and not the conversation."""
+        self.say(self.standing())
+        if self.is_terminal:
+            try:
+                import readline  # noqa: F401
+            except ImportError:
+                pass
+            self.say("`help` tells the commands")
+        while True:
+            try:
+                line = input("what if> ") if self.is_terminal else source.readline()
+            except EOFError:
+                break
+            except KeyboardInterrupt:
+                self.say("")
+                continue
+            if not line and not self.is_terminal:
+                break
+            if not self.is_terminal and line.strip():
+                self.say(f"what if> {line.strip()}")
+            if line.strip() in ("quit", "exit", "q"):
+                break
+            try:
+                self.answer(line)
+            except KeyboardInterrupt:
+                self.say("interrupted: nothing is changed")
+        if self.group is not None:
+            self.leave_group(EditRefused("the group has no end"))
+
+    def answer(self, line: str) -> None:
+        """Does what a line says."""
+        try:
+            words = shlex.split(line, comments=True)
+        except ValueError as error:
+            return self.say(f"refused, nothing is changed: {error}")
+        if not words:
+            return None
+        try:
+            return self.do(words[0].lower(), words[1:])
+        except (EditRefused, CannotRewrite, ValueError) as error:
+            reason = str(error)
+        except KeyError as error:
+            reason = str(error.args[0])
+        except TimeLimit as error:
+            reason = f"{error}, it was stopped"
+        except OSError as error:
+            return self.say(f"not written: {_of_system(error)}")
+        if self.group is not None:
+            self.leave_group(EditRefused(reason))
+        return self.say(f"refused, nothing is changed: {reason}")
+
+    def do(self, word: str, words: List[str]) -> None:
+        """Does one command."""
+        session = self.session
+        edits: Dict[str, Callable[[], object]] = {
+            "cap": lambda: session.set_cap(self.arc(words[:-1]), words[-1]),
+            "capacity": lambda: session.set_cap(self.arc(words[:-1]), words[-1]),
+            "low": lambda: session.set_low(self.arc(words[:-1]), words[-1]),
+            "cost": lambda: session.set_cost(self.arc(words[:-1]), words[-1]),
+            "supply": lambda: session.set_supply(self.node(words[:-1]), words[-1]),
+            "close": lambda: session.close(self.arc(words)),
+            "add": lambda: self.add(words),
+            "undo": session.undo,
+            "redo": session.redo,
+            "back": lambda: session.back(self.one(words, "the name of a mark")),
+        }
+        tells: Dict[str, Callable[[], None]] = {
+            "show": lambda: tell(session.plan(), self.out),
+            "why": self.why,
+            "saves": self.saves,
+            "mark": lambda: self.mark(self.one(words, "a name")),
+            "moments": self.moments,
+            "write": lambda: self.write(words, session.text()),
+            "proof": lambda: self.write(words, session.proof()),
+            "report": lambda: self.report(words),
+            "table": lambda: self.table(words),
+            "help": lambda: self.say(HELP),
+            "group": self.open_group,
+            "end": self.end_group,
+        }
+        if word in edits:
+            before = session.cost
+            if word not in ("undo", "redo") and not words:
+                raise EditRefused(f"{word} wants more words; `help` tells them")
+            edits[word]()
+            if self.group is None:
+                self.say(self.standing(None if before is None or session.cost is None else plain(session.cost - before)))
+        elif word in tells:
+            tells[word]()
+        else:
+            raise EditRefused(f"there is no command {word}; `help` tells them")
+
+    def standing(self, change: Optional[str] = None) -> str:
+        """The moment in words, and by how much it costs more than before."""
+        session = self.session
+        if session.cost is None:
+            return f"no plan: short by {plain(session.shortage or total_of([]))}; `why` tells more"
+        what = "flow" if session.problem.kind == "max" else "cost"
+        if change is None or change == "0":
+            return f"{what} {plain(session.cost)}" + ("" if change is None else ", as before")
+        return f"{what} {plain(session.cost)} ({change[1:] + ' less' if change[0] == '-' else change + ' more'})"
+
+    def one(self, words: List[str], what: str) -> str:
+        if len(words) != 1:
+            raise EditRefused(f"{what} was expected, and nothing more")
+        return words[0]
+
+    def arc(self, words: List[str]) -> ArcKey:
+        """An arc by its name, `#K`, or its ends."""
+        if len(words) == 1 and words[0].startswith("#") and words[0][1:].isdigit():
+            return int(words[0][1:]) - 1
+        if len(words) == 3 and words[1] == "to":
+            return words[0], words[2]
+        if len(words) == 2:
+            return words[0], words[1]
+        if len(words) != 1:
+            raise EditRefused("an arc is its name, its two ends, or # and its number; names with blanks stand in quotes")
+        return words[0]
+
+    def node(self, words: List[str]) -> str:
+        return self.one(words, "a node and a number")
+
+    def add(self, words: List[str]) -> None:
+        if len(words) > 2 and words[1] == "to":
+            del words[1]
+        if len(words) < 2 or len(words) % 2:
+            raise EditRefused("add wants both ends, and then pairs as `capacity 5 cost 2`")
+        known = {"capacity": "cap", "cap": "cap", "cost": "cost", "low": "low", "name": "name"}
+        given: Dict[str, str] = {}
+        for what, value in zip(words[2::2], words[3::2]):
+            if what not in known:
+                raise EditRefused(f"{what} is none of capacity, cost, low and name")
+            given[known[what]] = value
+        self.session.add_arc(words[0], words[1], low=given.get("low", 0), cap=given.get("cap"), cost=given.get("cost", 0),
+                             name=given.get("name"))
+
+    def open_group(self) -> None:
+        if self.group is not None:
+            raise EditRefused("a group is open already")
+        self.before = self.session.cost
+        group = ExitStack()
+        group.enter_context(self.session.group())
+        self.group = group
+
+    def end_group(self) -> None:
+        if self.group is None:
+            raise EditRefused("no group is open")
+        group, self.group = self.group, None
+        group.close()
+        cost = self.session.cost
+        self.say(self.standing(None if cost is None or self.before is None else plain(cost - self.before)))
+
+    def leave_group(self, error: Exception) -> None:
+        """Leaves the group without its edits."""
+        group, self.group = self.group, None
+        if group is not None:
+            try:
+                group.__exit__(type(error), error, None)
+            except EditRefused:
+                pass
+            self.say("the group is left, and none of its edits is made")
+
+    def why(self) -> None:
+        result = self.session.plan()
+        self.say(result.explain() if isinstance(result, Infeasible) else "there is a plan")
+
+    def saves(self) -> None:
+        from .sensitivity import one_unit_more
+
+        rows = [["arc", "one more saves"]]
+        for arc, amount in zip(self.session.problem.arcs, one_unit_more(self.session)):
+            if amount:
+                rows.append([arc.label, plain(amount)])
+        if len(rows) == 1:
+            return self.say("no arc: one unit more of capacity saves nothing")
+        return _print_table(rows, 1, self.out)
+
+    def mark(self, name: str) -> None:
+        self.session.mark(name)
+        self.marked[name] = self.standing()
+        self.say(f"{name}: {self.standing()}")
+
+    def moments(self) -> None:
+        for name in self.session.marks:
+            self.say(f"{name}: {self.marked[name]}")
+
+    def write(self, words: List[str], text: str) -> None:
+        Path(self.one(words, "the name of a file")).write_text(text)
+        self.say(f"written to {words[0]}")
+
+    def report(self, words: List[str]) -> None:
+        from .report import html_report
+
+        html_report(self.session.plan(), self.one(words, "the name of a file"))
+        self.say(f"written to {words[0]}")
+
+    def table(self, words: List[str]) -> None:
+        result = self.session.plan()
+        if isinstance(result, Infeasible):
+            return self.say("there is no plan to write")
+        write_plan(result, self.one(words, "the name of a file"))
+        return self.say(f"written to {words[0]}")
+
+
+if __name__ == "__main__":
+    sys.exit(main())

@@ -1,0 +1,733 @@
+"""Problems and answers as texts of the DIMACS formats, and each fault of such a text in words."""
+
+from __future__ import annotations
+
+import re
+from dataclasses import dataclass, field
+from typing import Dict, List, Optional, Tuple, Union
+
+Text = Union[str, bytes]
+
+LONGEST_LINE = 1024
+MOST_NODES = 50_000
+MOST_ARCS = 100_000
+MOST_FLOW = 1_000_000_000
+MOST_COST = 1_000_000_000_000
+RETURN_CAPACITY = 100_000_000_000_000
+MOST_EDITS = 1000
+MOST_MARKS = 16
+
+FAULTS: Dict[int, str] = {
+    1: "the line is longer than 1,024 bytes",
+    2: "its first word is none of `p`, `n`, `a`",
+    3: "wrong number of fields",
+    4: "a field is not a number",
+    5: "a number is out of range",
+    6: "a node or arc line before the problem line",
+    7: "a second problem line",
+    8: "unknown kind",
+    9: "a node line after an arc line",
+    10: "a node is named twice, or a second source or sink",
+    11: "an arc line, or the end of the text, while source or sink is missing (`max`)",
+    12: "more arc lines than ARCS",
+    13: "the text ends with fewer arc lines than ARCS",
+    14: "the text ends without a problem line",
+    15: "LOW is above CAP",
+    16: "an arc that does not lead from the source side to the sink side (`asn`)",
+    17: "the word of a node line is neither `s` nor `t` (`max`)",
+}
+"""What each fault of a problem text says."""
+
+ANSWER_FAULTS: Dict[int, str] = {
+    1: "the line is longer than 1,024 bytes",
+    2: "its first word is none of `s`, `f`, `v`, `i`, `k`",
+    3: "wrong number of fields",
+    4: "a field is not a number",
+    5: "SRC, DST or ID is no node of the problem",
+    40: "a line out of order, one too many, a `v` line whose ID is not the next one, a `k` line whose ID does not rise, "
+        "or a text that ends too early (then with the number of lines as its line)",
+}
+"""What each fault of an answer text says."""
+
+REFUSALS: Dict[int, str] = {
+    1: "its line is longer than 1,024 bytes",
+    2: "its first word is no command",
+    3: "it has the wrong number of fields",
+    4: "a field is not a number",
+    5: "V, LOW, CAP or COST is out of range",
+    20: "there is no such arc: K is 0, or above the number of arcs now",
+    21: "there is no such node: ID, SRC or DST is 0, or above NODES",
+    22: "the lower bound would be above the capacity",
+    23: "the command is not for this kind of problem",
+    24: "there is no room for another arc",
+    25: "there is nothing to undo",
+    26: "there is nothing to redo",
+    27: "the arc does not lead from the source side to the sink side (`asn`)",
+    28: "no moment bears this mark (`back`)",
+    29: "the line stands in a group and is `group`, `undo`, `redo`, `mark`, `back`, `show` or `proof`; or it is `end`, "
+        "and no group is open",
+    30: "there was not enough memory for this edit or group",
+    31: "the group has more than 1,000 edits",
+    32: "NAME is no name",
+    33: "16 other names have marks (`mark`)",
+}
+"""Why a session refuses a command."""
+
+
+@dataclass(frozen=True)
+class Fault:
+    """The first fault of a text, with the number and line that `mcf` tells, and words to mend it by.
+
+    `line` counts from 1 (0 where the text has no line). `field` is the field's name as the formats have it, as CAP, or
+    None where the fault is of the whole line; `value` is what stands there; `expected` is what was expected; `hint` says
+    what to do about the commonest mistakes, and is empty elsewhere.
+    """
+
+    number: int
+    line: int
+    field: Optional[str]
+    value: Optional[str]
+    expected: str
+    hint: str = ""
+
+    def __str__(self) -> str:
+        return self.words()
+
+    def words(self, name: str = "") -> str:
+        """The fault as one line for people, after the name of the file where one is given.
+
+        >>> Fault(4, 3, "CAP", "1.5", "a whole number, 0 or more", "There are no fractions.").words("roads.min")
+        "roads.min, line 3, CAP: '1.5' stands where a whole number, 0 or more was expected. There are no fractions. (fault 4)"
+        """
+        place = ", ".join(([name] if name else []) + [f"line {self.line}"] + ([self.field] if self.field else []))
+        if self.value is None:
+            said = self.expected[:1].upper() + self.expected[1:]
+        else:
+            said = f"{shown(self.value)} stands where {self.expected} was expected"
+        return f"{place}: {said}.{' ' if self.hint else ''}{self.hint} (fault {self.number})"
+
+
+def shown(value: str) -> str:
+    """A value between quotes, cut where it is long, each character that can't be seen by its number."""
+    short = value if len(value) <= 40 else value[:37] + "..."
+    return "'" + "".join(c if c.isprintable() else f"\\u{ord(c):04x}" for c in short) + "'"
+
+
+_BLANKS = re.compile(rb"[ \t\r]+")
+_PLAIN = re.compile(rb"[0-9]{1,18}")
+_SIGNED = re.compile(rb"-?[0-9]{1,18}")
+_WORTH = re.compile(rb"-?[0-9]{1,30}")
+
+NODE_FIELDS = {"min": ("ID", "FLOW"), "max": ("ID", "s or t"), "asn": ("ID",)}
+ARC_FIELDS = {"min": ("SRC", "DST", "LOW", "CAP", "COST"), "max": ("SRC", "DST", "CAP"), "asn": ("SRC", "DST", "COST")}
+ANSWER_FIELDS = {"s": ("VALUE",), "f": ("SRC", "DST", "FLOW"), "v": ("ID", "POTENTIAL"), "i": ("SHORTAGE",), "k": ("ID",)}
+
+
+def _as_bytes(text: Text) -> bytes:
+    return text if isinstance(text, bytes) else text.encode("utf-8", "surrogateescape")
+
+
+def _as_str(word: bytes) -> str:
+    return word.decode("utf-8", "surrogateescape")
+
+
+def _lines(text: bytes) -> List[bytes]:
+    """The pieces between line feeds; the last one counts where it has a byte."""
+    pieces = text.split(b"\n")
+    if not pieces[-1]:
+        pieces.pop()
+    return pieces
+
+
+class _Found(Exception):
+    """The fault that was found."""
+
+    def __init__(self, fault: Fault):
+        super().__init__()
+        self.fault = fault
+
+
+def _grouped(number: int) -> str:
+    return f"{number:,}"
+
+
+def _number_hint(name: str, value: str, signed: bool) -> str:
+    """What to do about a field that is no number, for the commonest mistakes."""
+    if re.fullmatch(r"[−–—﹣－]\d+", value):
+        return "The sign is a dash of typesetting: write a plain - in its place."
+    if re.fullmatch(r"[\d\s]+", value) and not value.isascii() or re.search(r"[\u00a0\u202f\u2009\ufeff]", value):
+        return "There is a blank in it that is no plain blank, as no-break ones of spreadsheets: take it out."
+    if re.fullmatch(r"[+]\d+", value):
+        return "Leave the + out."
+    if re.fullmatch(r"-?\d+[.]0*", value):
+        return "Write it without the point and the zeros."
+    if re.fullmatch(r"-?\d{1,3}([,.'_]\d{3})+", value):
+        return ("Take the marks between the thousands out; if it is a fraction: there are none, so multiply all numbers of "
+                "its kind by the same power of ten.")
+    if re.fullmatch(r"[+-]?\d*[.,]\d+", value):
+        return ("There are no fractions: multiply all numbers of its kind by the same power of ten, "
+                "or let `mcf-plan convert` do it.")
+    if re.fullmatch(r"[+-]?\d*[.]?\d+[eE][+-]?\d+", value):
+        return "Write the number out, without an exponent."
+    if re.fullmatch(r"[+-]?(inf|infinity|unlimited|none|null|na|nan|[*])", value, re.IGNORECASE):
+        if name == "CAP":
+            return ("For no limit write 1000000000, which is as good where the supplies add up to no more and no circle of "
+                    "arcs costs less than 0; `mcf-plan convert` sees to it.")
+        return "Write a number."
+    if re.fullmatch(r"-\d{1,18}", value) and not signed:
+        if name == "LOW":
+            return "A lower bound is never below 0: `mcf-plan convert` moves such bounds."
+        if name == "CAP":
+            return "A capacity is never below 0: for no limit write 1000000000, for a closed arc 0."
+        return "It can't be below 0."
+    if re.fullmatch(r"-?\d+", value):
+        return "It has more than 18 digits."
+    if re.fullmatch(r"0[xX][0-9a-fA-F]+", value):
+        return "Write it in decimal digits."
+    if re.search(r"[,;]", value):
+        return "Fields are parted by blanks: put blanks where the commas and semicolons are."
+    if re.fullmatch(r"[\"'].*[\"']?|.*[\"']", value):
+        return "Take the quotes off."
+    if name in ("ID", "SRC", "DST"):
+        return ("Nodes have numbers, from 1 to NODES. For names in their place make tables, which `mcf-plan plan` reads."
+                if re.search(r"[^\W\d]", value) else "")
+    return ""
+
+
+class ProblemReader:
+    """Reads a problem text line by line up to its first fault, as the program does."""
+
+    def __init__(self) -> None:
+        self.kind = ""
+        self.nodes = self.wanted = 0
+        self.source: Optional[int] = None
+        self.sink: Optional[int] = None
+        self.supplies: Dict[int, int] = {}
+        self.arcs: List[ArcRow] = []
+        self.named: Dict[int, int] = {}  # the line that names a node
+        self.line = 0
+        self.problem_line = self.first_arc_line = self.source_line = self.sink_line = 0
+
+    def fail(self, number: int, expected: str, *, name: Optional[str] = None, value: Optional[str] = None,
+             hint: str = "") -> _Found:
+        return _Found(Fault(number, self.line, name, value, expected, hint))
+
+    def number(self, name: str, word: bytes, least: int, most: int) -> int:
+        """The number of a field: first its shape (4), then its range (5)."""
+        signed = least < 0
+        if not (_SIGNED if signed else _PLAIN).fullmatch(word):
+            value = _as_str(word)
+            raise self.fail(4, "a whole number" if signed else "a whole number, 0 or more", name=name, value=value,
+                            hint=_number_hint(name, value, signed))
+        number = int(word)
+        if not least <= number <= most:
+            hint = ""
+            if name in ("ID", "SRC", "DST"):
+                hint = "Nodes count from 1." if number == 0 else \
+                    f"The problem line {self.problem_line} says that there are {_grouped(self.nodes)} nodes."
+                if number > self.nodes and number <= self.wanted:
+                    hint += f" Do NODES and ARCS stand there the wrong way round? It says {self.nodes} and {self.wanted}."
+            elif name == "CAP":
+                hint = ("If it stands for no limit, write 1000000000, which is as good where the supplies add up to no more "
+                        "and no circle of arcs costs less than 0; `mcf-plan convert` sees to that, and to greater ones.")
+            elif name in ("LOW", "FLOW"):
+                hint = "Take a larger unit, or let `mcf-plan convert` part it."
+            elif name == "COST":
+                hint = "Take a larger unit of money for all costs."
+            elif name == "NODES":
+                hint = "There has to be a node." if number == 0 else "That is the largest problem that is taken."
+            elif name == "ARCS":
+                hint = "That is the largest problem that is taken."
+            raise self.fail(5, f"a number from {_grouped(least)} to {_grouped(most)}", name=name, value=_as_str(word),
+                            hint=hint)
+        return number
+
+    def count(self, what: str, names: Tuple[str, ...], words: List[bytes]) -> None:
+        """Fails (3) unless there are as many fields as names."""
+        if len(words) == len(names):
+            return
+        form = " ".join((what, *names)) if what != "n" or self.kind != "max" else "n ID s` or `n ID t"
+        given = "no field" if not words else "1 field" if len(words) == 1 else f"{len(words)} fields"
+        texts = [_as_str(word) for word in words]
+        hint = ""
+        if any("," in word or ";" in word for word in texts):
+            hint = "Fields are parted by blanks: put blanks where the commas and semicolons are."
+        elif any(re.search("[\u00a0\u202f\u2009]", word) for word in texts):
+            hint = "There is a blank in it that is no plain blank, as no-break ones of spreadsheets: put plain ones."
+        elif len(words) > len(names) and re.match(r"[c#%/!]", texts[len(names)]):
+            hint = "A comment has a line of its own, which begins with c: take it off this line."
+        elif what == "p":
+            if len(words) == 2 and texts[0] in ARC_FIELDS:
+                hint = "Both numbers are needed: how many nodes, and how many arcs."
+            elif len(words) == 2:
+                hint = "The kind comes first: min, max or asn."
+        elif what == "a":
+            other = {"min": {3: "max` or `asn", 4: ""}, "max": {5: "min"}, "asn": {5: "min"}}[self.kind].get(len(words))
+            if self.kind == "min" and len(words) == 4:
+                hint = "Is the lower bound missing? Write 0 where there is none."
+            elif self.kind == "min" and len(words) == 2:
+                hint = "Lower bound, capacity and cost are missing."
+            elif other:
+                hint = f"This is how an arc of `{other}` is written: is the kind on line {self.problem_line} the right one?"
+            elif len(words) < len(names):
+                hint = "Missing: " + ", ".join(names[len(words):]) + "."
+        elif what == "n" and self.kind == "asn":
+            hint = "In an assignment the nodes of the source side are named alone; each supplies 1."
+        elif what == "n" and len(words) == 1:
+            hint = "Missing: what the node supplies (below 0 what it demands)." if self.kind == "min" else \
+                "Missing: s for the source or t for the sink."
+        raise self.fail(3, f"`{form}` was expected, and this line has {given}", hint=hint)
+
+    def read_problem_line(self, words: List[bytes]) -> None:
+        self.count("p", ("KIND", "NODES", "ARCS"), words)
+        kind = _as_str(words[0])
+        if kind not in ARC_FIELDS:
+            hint = ""
+            if kind.lower() in ARC_FIELDS:
+                hint = f"Write it in small letters: {kind.lower()}."
+            elif re.match("mcf|min|cost|circ", kind.lower()):
+                hint = "A problem of least cost is min."
+            elif re.match("mf|max|flow", kind.lower()):
+                hint = "A maximum flow is max."
+            elif re.match("as|match|lap", kind.lower()):
+                hint = "An assignment is asn."
+            elif kind.lower() in ("sp", "edge", "col", "cnf", "ghct", "geom"):
+                hint = "That is another kind of file, which is no flow problem."
+            raise self.fail(8, "min, max or asn", name="KIND", value=kind, hint=hint)
+        self.nodes = self.number("NODES", words[1], 1, MOST_NODES)
+        self.wanted = self.number("ARCS", words[2], 0, MOST_ARCS)
+        self.kind = kind
+        self.problem_line = self.line
+
+    def read_node_line(self, words: List[bytes]) -> None:
+        self.count("n", NODE_FIELDS[self.kind], words)
+        node = self.number("ID", words[0], 1, self.nodes)
+        if self.kind == "min":
+            supply = self.number("FLOW", words[1], -MOST_FLOW, MOST_FLOW)
+        elif self.kind == "max" and words[1] not in (b"s", b"t"):
+            value = _as_str(words[1])
+            hint = "Write it as a small letter." if value in ("S", "T") else ""
+            if value.lower().startswith(("so", "fr", "st")):
+                hint = "The source is s."
+            elif value.lower().startswith(("si", "ta", "to", "en")):
+                hint = "The sink is t."
+            elif re.fullmatch(r"-?\d+", value):
+                hint = f"Nodes have supplies in `min` alone: is the kind on line {self.problem_line} the right one?"
+            raise self.fail(17, "s for the source or t for the sink", name="s or t", value=value, hint=hint)
+        if node in self.named:
+            hint = f"It was named on line {self.named[node]}."
+            if self.kind == "min":
+                hint += " Write one line with the sum of what it supplies and demands."
+            raise self.fail(10, f"node {node} is named a second time", hint=hint)
+        if self.kind == "min":
+            self.supplies[node] = supply
+        elif self.kind == "asn":
+            self.supplies[node] = 1
+        elif words[1] == b"s":
+            self.only_one("source", self.source_line)
+            self.source, self.source_line = node, self.line
+        else:
+            self.only_one("sink", self.sink_line)
+            self.sink, self.sink_line = node, self.line
+        self.named[node] = self.line
+
+    def only_one(self, what: str, line: int) -> None:
+        """Fails (10) where the source, or the sink, was named on a line before."""
+        if line:
+            raise self.fail(10, f"a second {what} is named", hint=f"The first is on line {line}; for several add a node "
+                            f"with arcs {'to' if what == 'source' else 'from'} each, and name that.")
+
+    def read_arc_line(self, words: List[bytes]) -> None:
+        self.count("a", ARC_FIELDS[self.kind], words)
+        tail = self.number("SRC", words[0], 1, self.nodes)
+        head = self.number("DST", words[1], 1, self.nodes)
+        low, cap, cost = 0, 1, 0
+        if self.kind == "min":
+            low = self.number("LOW", words[2], 0, MOST_FLOW)
+            cap = self.number("CAP", words[3], 0, MOST_FLOW)
+            cost = self.number("COST", words[4], -MOST_COST, MOST_COST)
+            cap = self.bounds(tail, head, low, cap)
+        elif self.kind == "max":
+            cap = self.bounds(tail, head, 0, self.number("CAP", words[2], 0, MOST_FLOW))
+        else:
+            cost = self.number("COST", words[2], -MOST_COST, MOST_COST)
+            if tail not in self.named or head in self.named:
+                self.fail_sides(tail, head)
+        self.arcs.append((tail, head, low, cap, cost))
+        self.first_arc_line = self.first_arc_line or self.line
+
+    def bounds(self, tail: int, head: int, low: int, cap: int) -> int:
+        """The capacity of an arc; fails (15) where its lower bound is above it."""
+        if cap is not None and low > cap:
+            raise self.fail(15, f"LOW is {low} and above CAP, which is {cap}",
+                            hint="The fields are `a SRC DST LOW CAP COST`: are two of them the wrong way round?")
+        return cap
+
+    def fail_sides(self, tail: int, head: int) -> None:
+        """Fails (16) for an arc of an assignment that does not lead from the source side to the sink side."""
+        if tail not in self.named and head in self.named:
+            hint = f"Turn it round: `a {head} {tail} COST`."
+        elif tail in self.named:
+            hint = f"Node {head} is on the source side too, by its node line {self.named[head]}."
+        else:
+            hint = f"Node {tail} has no node line, so it is on the sink side: `n {tail}` puts it on the source side."
+        raise self.fail(16, f"the arc from {tail} to {head} does not lead from the source side to the sink side", hint=hint)
+
+    def first_word_hint(self, word: str, line: str) -> str:
+        """What to do about a line whose first word is unknown."""
+        if self.line == 1 and word.startswith("\ufeff"):
+            return "The file begins with a byte order mark: save it as UTF-8 without one."
+        if self.line == 1 and (line.startswith("PK\x03") or line.startswith("\x1f\udc8b") or line.startswith("BZh")
+                               or line.startswith("\udcfd7zXZ") or line.startswith("(\udcb5/\udcfd")):
+            return "This is a packed file or a spreadsheet: unpack it, or save it as plain text."
+        if self.line == 1 and (word.startswith("\udcff\udcfe") or word.startswith("\udcfe\udcff") or "\0" in word):
+            return "This is UTF-16: save it as plain text (UTF-8)."
+        if re.match(r"[#%/;!*]", word):
+            return "A comment begins with c."
+        if re.match(r"[pna][,;]", word, re.IGNORECASE):
+            return "Fields are parted by blanks: put blanks where the commas and semicolons are."
+        if word in ("P", "N", "A", "C"):
+            return f"Write it as a small letter: {word.lower()}."
+        if word in ("s", "f", "v", "i", "k"):
+            return "Is this an answer in place of a problem?"
+        if word.lower() in ("arc", "e", "edge"):
+            return "An arc line begins with a."
+        if word.lower() in ("node", "nodes", "v"):
+            return "A node line begins with n."
+        if word.lower() in ("problem", "min", "max", "asn"):
+            return "The problem line is `p KIND NODES ARCS`."
+        if word in ("\x1a", "\x0c"):
+            return "A byte of control stands at the end of the file: take it out."
+        if not word.isascii() or not word.isprintable():
+            return "There is a character in it that is no plain letter."
+        if re.fullmatch(r"-?\d+", word):
+            return "An arc line begins with a, a node line with n."
+        if re.search(r"[,;]", line) and self.line == 1:
+            return "A table is read by `mcf-plan plan`, and not as a problem."
+        return ""
+
+    def read_line(self, raw: bytes) -> None:
+        self.line += 1
+        if len(raw) > LONGEST_LINE:
+            hint = ""
+            if raw.count(b"\r") > 1:
+                hint = "Its lines end with carriage returns alone: save the file with line feeds."
+            elif raw.startswith((b"PK\x03", b"\x1f\x8b")):
+                hint = "This is a packed file or a spreadsheet: unpack it, or save it as plain text."
+            elif b"\0" in raw:
+                hint = "This is no plain text: save it as UTF-8."
+            elif raw.lstrip(b" \t\r").startswith(b"c"):
+                hint = "Break the comment into several lines, each beginning with c."
+            raise self.fail(1, f"the line has {_grouped(len(raw))} bytes, and at most 1,024 are taken", hint=hint)
+        words = [word for word in _BLANKS.split(raw) if word]
+        if not words or words[0].startswith(b"c"):
+            return
+        what, rest = words[0], words[1:]
+        if what not in (b"p", b"n", b"a"):
+            word = _as_str(what)
+            raise self.fail(2, "p, n, a, or c for a comment", name="first word", value=word,
+                            hint=self.first_word_hint(word, _as_str(raw)))
+        if what == b"p":
+            if self.kind:
+                raise self.fail(7, "a second problem line", hint=f"The first is line {self.problem_line}: has the file two "
+                                                                 "problems? Each wants a file of its own.")
+            return self.read_problem_line(rest)
+        if not self.kind:
+            which = "node" if what == b"n" else "arc"
+            raise self.fail(6, f"the problem line has to come before this {which} line",
+                            hint="Put `p KIND NODES ARCS` first, with kind min, max or asn.")
+        if what == b"n":
+            if self.arcs:
+                raise self.fail(9, "a node line after an arc line", hint="All node lines come before the first arc line, "
+                                f"line {self.first_arc_line}: move them, or let `mcf-plan convert` do it.")
+            return self.read_node_line(rest)
+        if self.kind == "max":
+            self.both_ends("before the first arc")
+        if len(self.arcs) >= self.wanted:
+            raise self.too_many()
+        return self.read_arc_line(rest)
+
+    def too_many(self) -> _Found:
+        """The fault (12) of an arc line beyond those that the problem line tells."""
+        hint = "Put the right number there."
+        if self.nodes > self.wanted:
+            hint += " Do NODES and ARCS stand there the wrong way round?"
+        return self.fail(12, f"the problem line {self.problem_line} says that there are {self.wanted} arcs, and this is one "
+                             "more", hint=hint)
+
+    def both_ends(self, when: str) -> None:
+        """Fails (11) while source or sink is missing."""
+        if self.source is None or self.sink is None:
+            what, letter = ("source", "s") if self.source is None else ("sink", "t")
+            raise self.fail(11, f"{when} the {what} has to be named", hint=f"Put `n ID {letter}` before the arcs.")
+
+    def read_end(self) -> None:
+        if not self.kind:
+            raise self.fail(14, "the text ends without a problem line" if self.line else "the text is empty",
+                            hint="Put `p KIND NODES ARCS` first, with kind min, max or asn.")
+        if self.kind == "max":
+            self.both_ends("the text ends, and")
+        if len(self.arcs) < self.wanted:
+            raise self.fail(13, f"the text ends after {len(self.arcs)} arcs, and the problem line {self.problem_line} says "
+                                f"that there are {self.wanted}", hint="Is the file cut off? Else put the right number there.")
+
+    def read(self, text: Text) -> DimacsProblem:
+        for raw in _lines(_as_bytes(text)):
+            self.read_line(raw)
+        self.read_end()
+        return DimacsProblem(self.kind, self.nodes, self.arcs, self.supplies, self.source, self.sink)
+
+
+def find_fault(text: Text) -> Optional[Fault]:
+    """The first fault of a problem text, by the line and number that `mcf` tells; None where there is none.
+
+    >>> find_fault("p min 2 1\\na 1 2 0 1.5 3\\n").hint[:23]
+    'There are no fractions:'
+    """
+    return read_with(ProblemReader(), text)
+
+
+def read_with(reader: ProblemReader, text: Text) -> Optional[Fault]:
+    """Reads a problem text into a reader; the first fault where there is one."""
+    try:
+        reader.read(text)
+    except _Found as found:
+        return found.fault
+    return None
+
+
+class _AnswerReader:
+    """Reads an answer text up to its first fault, as the program does. Without a problem nothing is counted."""
+
+    def __init__(self, problem: Optional[DimacsProblem]):
+        self.problem = problem
+        self.answer = Answer()
+        self.first = ""
+        self.line = 0
+
+    def fail(self, number: int, expected: str, *, name: Optional[str] = None, value: Optional[str] = None,
+             hint: str = "") -> _Found:
+        return _Found(Fault(number, self.line, name, value, expected, hint))
+
+    def number(self, name: str, word: bytes, shape: re.Pattern[bytes]) -> int:
+        if not shape.fullmatch(word):
+            value = _as_str(word)
+            signed = shape is not _PLAIN
+            raise self.fail(4, "a whole number" if signed else "a whole number, 0 or more", name=name, value=value,
+                            hint=_number_hint(name, value, signed))
+        number = int(word)
+        if name in ("SRC", "DST", "ID") and self.problem is not None and not 1 <= number <= self.problem.nodes:
+            raise self.fail(5, f"a node of the problem, 1 to {_grouped(self.problem.nodes)}", name=name, value=_as_str(word),
+                            hint="Is this the answer to another problem?")
+        return number
+
+    def order(self, what: str) -> None:
+        """Fails (40) where the line is out of order."""
+        answer, problem = self.answer, self.problem
+        flows, potentials = len(answer.flows), len(answer.potentials or ())
+        hint = ""
+        if what in "si":
+            right = not self.first
+            hint = "There is one such line, and it comes first."
+        elif what == "f":
+            right = self.first == "s" and (problem is None or flows < len(problem.arcs)) and not potentials
+            if not self.first:
+                hint = "The line `s VALUE` comes first."
+            elif problem is not None and flows >= len(problem.arcs):
+                hint = f"The problem has {len(problem.arcs)} arcs, and this flow is one too many."
+        elif what == "v":
+            right = self.first == "s" and (problem is None or flows == len(problem.arcs) and potentials < problem.nodes)
+            if not self.first:
+                hint = "The line `s VALUE` comes first."
+            elif problem is not None and flows < len(problem.arcs):
+                hint = f"Before it one f line for each of the {len(problem.arcs)} arcs is needed, flow 0 too; here are {flows}."
+        else:
+            right = self.first == "i"
+            hint = "The line `i SHORTAGE` comes first."
+        if not right:
+            raise self.fail(40, f"the {what} line is out of order", hint=hint)
+
+    def read_line(self, raw: bytes) -> None:
+        self.line += 1
+        if len(raw) > LONGEST_LINE:
+            raise self.fail(1, f"the line has {_grouped(len(raw))} bytes, and at most 1,024 are taken")
+        words = [word for word in _BLANKS.split(raw) if word]
+        if not words or words[0].startswith(b"c"):
+            return
+        what, rest = _as_str(words[0]), words[1:]
+        if what not in ANSWER_FIELDS:
+            hint = "Is this a problem in place of an answer?" if what in ("p", "n", "a") else ""
+            raise self.fail(2, "s, f, v, i or k, or c for a comment", name="first word", value=what, hint=hint)
+        self.order(what)
+        names = ANSWER_FIELDS[what]
+        if len(rest) != len(names):
+            raise self.fail(3, f"`{' '.join((what, *names))}` was expected, and this line has {len(rest)} fields")
+        answer = self.answer
+        if what == "s":
+            answer.value = self.number("VALUE", rest[0], _WORTH)
+        elif what == "i":
+            answer.shortage = self.number("SHORTAGE", rest[0], _PLAIN)
+        elif what == "f":
+            ends = self.number("SRC", rest[0], _PLAIN), self.number("DST", rest[1], _PLAIN)
+            answer.flows.append(self.number("FLOW", rest[2], _PLAIN))
+            answer.ends.append(ends)
+        elif what == "v":
+            node, potential = self.number("ID", rest[0], _PLAIN), self.number("POTENTIAL", rest[1], _SIGNED)
+            if answer.potentials is None:
+                answer.potentials = []
+            if node != len(answer.potentials) + 1:
+                raise self.fail(40, f"node {len(answer.potentials) + 1}", name="ID", value=str(node),
+                                hint="The v lines come from node 1 on, one for each.")
+            answer.potentials.append(potential)
+        else:
+            node = self.number("ID", rest[0], _PLAIN)
+            if answer.cut and node <= answer.cut[-1]:
+                raise self.fail(40, f"a node above {answer.cut[-1]}", name="ID", value=str(node),
+                                hint="The k lines come in rising order.")
+            answer.cut.append(node)
+        self.first = self.first or what
+
+    def read_end(self) -> None:
+        answer, problem = self.answer, self.problem
+        if not self.first:
+            raise self.fail(40, "the text ends without an answer", hint="An answer begins with `s VALUE` or `i SHORTAGE`.")
+        if self.first == "s" and problem is not None:
+            if len(answer.flows) < len(problem.arcs):
+                raise self.fail(40, f"the text ends after {len(answer.flows)} f lines, and the problem has "
+                                    f"{len(problem.arcs)} arcs", hint="Is it cut off?")
+            if len(answer.potentials or ()) < problem.nodes:
+                raise self.fail(40, f"the text ends after {len(answer.potentials or ())} v lines, and the problem has "
+                                    f"{problem.nodes} nodes",
+                                hint="Make the answer with `mcf solve --proof`; for the answer of another program "
+                                     "`mcf-plan check --from` works the v lines out.")
+
+    def read(self, text: Text) -> Answer:
+        for raw in _lines(_as_bytes(text)):
+            self.read_line(raw)
+        self.read_end()
+        return self.answer
+
+
+def find_answer_fault(problem: Text, answer: Text) -> Optional[Fault]:
+    """The first fault of an answer text to a problem without faults; None where there is none."""
+    try:
+        _AnswerReader(parse_problem(problem)).read(answer)
+    except _Found as found:
+        return found.fault
+    return None
+
+
+ArcRow = Tuple[int, int, int, int, int]
+
+
+@dataclass
+class DimacsProblem:
+    """A problem as the formats have it: nodes are 1 to `nodes`, all numbers are whole.
+
+    `arcs` are (tail, head, low, cap, cost) in the order of their lines, in every kind: in `max` low and cost are 0, in
+    `asn` low is 0 and cap is 1. `supplies` holds what is not 0: in `asn` 1 for each node of the source side, in `max`
+    nothing. `source` and `sink` are of `max` alone.
+
+    >>> print(DimacsProblem("min", 2, [(1, 2, 0, 5, 3)], {1: 2, 2: -2}).text(), end="")
+    p min 2 1
+    n 1 2
+    n 2 -2
+    a 1 2 0 5 3
+    """
+
+    kind: str
+    nodes: int
+    arcs: List[ArcRow]
+    supplies: Dict[int, int] = field(default_factory=dict)
+    source: Optional[int] = None
+    sink: Optional[int] = None
+
+    def text(self) -> str:
+        """The problem as a text that `mcf` reads, where its numbers are within the limits."""
+        lines = [f"p {self.kind} {self.nodes} {len(self.arcs)}"]
+        if self.kind == "min":
+            lines += [f"n {node} {supply}" for node, supply in sorted(self.supplies.items()) if supply]
+            lines += ["a %d %d %d %d %d" % arc for arc in self.arcs]
+        elif self.kind == "max":
+            lines += [f"n {self.source} s", f"n {self.sink} t"]
+            lines += [f"a {tail} {head} {cap}" for tail, head, _, cap, _ in self.arcs]
+        else:
+            lines += [f"n {node}" for node in sorted(self.supplies)]
+            lines += [f"a {tail} {head} {cost}" for tail, head, _, _, cost in self.arcs]
+        return "\n".join(lines) + "\n"
+
+
+def parse_problem(text: Text) -> DimacsProblem:
+    """The problem of a text. Raises ValueError with the fault in words where it has one."""
+    try:
+        return ProblemReader().read(text)
+    except _Found as found:
+        raise ValueError(found.fault.words()) from None
+
+
+@dataclass
+class Answer:
+    """An answer to a problem: a flow, with `value`, `flows` and `potentials` (None where it has no `v` lines), or a cut,
+    with `shortage` and `cut` (the numbers of its nodes, rising). `ends` are the tail and head of each `f` line.
+    """
+
+    value: Optional[int] = None
+    shortage: Optional[int] = None
+    flows: List[int] = field(default_factory=list)
+    potentials: Optional[List[int]] = None
+    cut: List[int] = field(default_factory=list)
+    ends: List[Tuple[int, int]] = field(default_factory=list)
+
+    @property
+    def is_flow(self) -> bool:
+        """Whether it is a flow, and not a cut."""
+        return self.shortage is None
+
+    def text(self) -> str:
+        """The answer as a text that `mcf check` reads, where it has potentials or is a cut."""
+        if self.shortage is not None:
+            return "".join([f"i {self.shortage}\n", *(f"k {node}\n" for node in self.cut)])
+        lines = [f"s {self.value}\n"]
+        lines += [f"f {tail} {head} {flow}\n" for (tail, head), flow in zip(self.ends, self.flows)]
+        lines += [f"v {node} {potential}\n" for node, potential in enumerate(self.potentials or [], 1)]
+        return "".join(lines)
+
+
+def parse_answer(text: Text) -> Answer:
+    """The answer of a text as `mcf solve`, `show` and `proof` print it. Raises ValueError where it is none.
+
+    >>> parse_answer("i 1\\nk 2\\n").cut
+    [2]
+    """
+    raw = _as_bytes(text)
+    quick = _quick_answer(raw)
+    if quick is not None:
+        return quick
+    try:
+        return _AnswerReader(None).read(raw)
+    except _Found as found:
+        raise ValueError(found.fault.words()) from None
+
+
+def _quick_answer(raw: bytes) -> Optional[Answer]:
+    """The answer, where the text is a flow in the very form that the program prints; else None."""
+    if not raw.startswith(b"s "):
+        return None
+    cut_at = raw.find(b"\nv ")
+    head, tail = (raw, b"") if cut_at < 0 else (raw[:cut_at], raw[cut_at:])
+    words = head.split()
+    if len(words) % 4 != 2 or words[2::4].count(b"f") != len(words[2::4]) or head.count(b"\n") + 1 - head.endswith(b"\n") \
+            != 1 + len(words[2::4]):
+        return None
+    potentials: Optional[List[int]] = None
+    try:
+        if tail:
+            labels = tail.split()
+            if len(labels) % 3 or labels[::3].count(b"v") != len(labels) // 3 \
+                    or list(map(int, labels[1::3])) != list(range(1, len(labels) // 3 + 1)):
+                return None
+            potentials = list(map(int, labels[2::3]))
+        ends = list(zip(map(int, words[3::4]), map(int, words[4::4])))
+        return Answer(value=int(words[1]), flows=list(map(int, words[5::4])), potentials=potentials, ends=ends)
+    except ValueError:
+        return None

@@ -1,0 +1,304 @@
+"""Plan and Infeasible: answers in the words and units of the tables, which prove themselves by `verify`.
+
+`verify` knows nothing of the text that was solved. It multiplies amounts and costs by powers of ten and works in whole
+numbers, so nothing is rounded.
+"""
+
+from __future__ import annotations
+
+from dataclasses import dataclass, field
+from decimal import Decimal
+from typing import TYPE_CHECKING, Dict, FrozenSet, Iterable, Iterator, List, NamedTuple, Optional
+
+from .problem import WIDE, ZERO, plain, total_of
+
+if TYPE_CHECKING:
+    from .problem import Problem
+
+
+class Disagreement(Exception):
+    """An answer was found wrong: by `mcf check`, or in the units of the tables. `problem_text` and `answer_text` are what
+    was asked and answered, to be kept for a report."""
+
+    def __init__(self, words: str, problem_text: str = "", answer_text: str = ""):
+        super().__init__(words)
+        self.problem_text = problem_text
+        self.answer_text = answer_text
+
+
+class Scale:
+    """Whole numbers in place of decimals: each is multiplied by the same power of ten."""
+
+    def __init__(self, *columns: Iterable[Optional[Decimal]]):
+        places = 0
+        for column in columns:
+            for number in column:
+                if number is not None:
+                    exponent = number.as_tuple().exponent
+                    if exponent < -places:  # type: ignore[operator]
+                        places = -exponent  # type: ignore[operator]
+        self.units = Decimal(10) ** places
+
+    def whole(self, number: Decimal) -> int:
+        """The number in small units."""
+        return int(number) if self.units == 1 else int(WIDE.multiply(number, self.units))
+
+    def wholes(self, numbers: Iterable[Decimal]) -> List[int]:
+        """The numbers in small units."""
+        if self.units == 1:
+            return list(map(int, numbers))
+        multiply, units = WIDE.multiply, self.units
+        return [int(multiply(number, units)) for number in numbers]
+
+    def wholes_or_none(self, numbers: Iterable[Optional[Decimal]]) -> List[Optional[int]]:
+        """The numbers in small units; None stays None."""
+        return [None if number is None else self.whole(number) for number in numbers]
+
+
+class RestArc(NamedTuple):
+    """What a node may keep, or go without: up to `cap`, or without limit where that is None."""
+
+    name: str
+    is_kept: bool
+    cap: Optional[Decimal]
+
+
+def rest_arcs(problem: Problem, rest_cost: Optional[Decimal]) -> Iterator[RestArc]:
+    """What each node may keep or go without. Where supplies are to be equal, this is what is too much at nodes that
+    supply, or too little at those that demand, by the sum of all; where `rest_cost` is None it is nothing."""
+    if problem.balance != "equal":
+        for name in problem.nodes:
+            yield RestArc(name, problem.balance == "at most", None)
+    elif rest_cost is not None:
+        total = total_of(problem.nodes.values())
+        for name, supply in problem.nodes.items():
+            if supply and total and (supply > 0) == (total > 0):
+                yield RestArc(name, total > 0, abs(supply))
+
+
+@dataclass
+class Plan:
+    """A best plan.
+
+    `flows` are in the order of `problem.arcs`. `cost` is the cost of the whole plan; in `max` it is what the source sends
+    out. `prices` holds a price for each node: that of a unit there, by which no plan is better; None where only flows are
+    known. `kept` and `not_met` hold what stays at each node and what it does not get, where that is not 0.
+    `rest_cost` is what a unit of these costs, None where supplies have to be equal; `rest_price` is their price.
+    `notes` say what was rewritten. `checked` says that `mcf check` has accepted the answer and `verify` too.
+    """
+
+    problem: Problem
+    flows: List[Decimal]
+    cost: Decimal
+    prices: Optional[Dict[str, Decimal]] = None
+    kept: Dict[str, Decimal] = field(default_factory=dict)
+    not_met: Dict[str, Decimal] = field(default_factory=dict)
+    rest_cost: Optional[Decimal] = None
+    rest_price: Decimal = ZERO
+    notes: List[str] = field(default_factory=list)
+    checked: bool = False
+
+    def reduced_cost(self, arc: int) -> Decimal:
+        """What one more unit on this arc costs in all: its cost, plus the price of its tail, less that of its head.
+
+        Raises ValueError where the plan has no prices.
+        """
+        if self.prices is None:
+            raise ValueError("the plan has no prices")
+        row = self.problem.arcs[arc]
+        return WIDE.subtract(WIDE.add(row.cost, self.prices[row.tail]), self.prices[row.head])
+
+    def is_full(self, arc: int) -> bool:
+        """Whether the arc carries its capacity."""
+        return self.flows[arc] == self.problem.arcs[arc].cap
+
+    def verify(self) -> None:
+        """Raises Disagreement unless the plan is legal, costs what it says, and its prices show that none is better.
+
+        >>> from mcf_plan import Problem
+        >>> problem = Problem()
+        >>> problem.add_arc("a", "b", cap=1)
+        0
+        >>> Plan(problem, [Decimal(1)], Decimal(0), {"a": Decimal(0), "b": Decimal(0)}).verify()
+        Traceback (most recent call last):
+        ...
+        mcf_plan.plan.Disagreement: node a: 1 leave it, and it supplies 0
+        """
+        if len(self.flows) != len(self.problem.arcs):
+            raise Disagreement(f"the plan has {len(self.flows)} flows for {len(self.problem.arcs)} arcs")
+        self._verify_flows()
+        self._verify_prices()
+
+    def _verify_flows(self) -> None:
+        """The flow is within the bounds and balanced, and its cost is right."""
+        problem, flows = self.problem, self.flows
+        arcs = problem.arcs
+        scale = Scale(flows, (arc.low for arc in arcs), (arc.cap for arc in arcs), problem.nodes.values(),
+                      self.kept.values(), self.not_met.values())
+        net = dict.fromkeys(problem.nodes, 0)
+        amounts = scale.wholes(flows)
+        lows = scale.wholes(arc.low for arc in arcs)
+        caps = scale.wholes_or_none(arc.cap for arc in arcs)
+        for k, (arc, flow, low, cap) in enumerate(zip(arcs, amounts, lows, caps)):
+            if flow < low or cap is not None and flow > cap:
+                raise Disagreement(f"arc {k + 1}, {arc.label}: the flow {plain(flows[k])} is outside its bounds")
+            net[arc.tail] += flow
+            net[arc.head] -= flow
+        if problem.kind == "max":
+            self._verify_value(net, scale)
+        else:
+            self._verify_balance(net, scale)
+            money = Scale((arc.cost for arc in arcs), (self.rest_cost,))
+            cost = sum(amount * cost for amount, cost in zip(amounts, money.wholes(arc.cost for arc in arcs)))
+            rest = sum(scale.wholes([*self.kept.values(), *self.not_met.values()]))
+            cost += rest * money.whole(self.rest_cost or ZERO)
+            if WIDE.multiply(WIDE.multiply(self.cost, scale.units), money.units) != cost:
+                raise Disagreement(f"the plan does not cost {plain(self.cost)}")
+
+    def _verify_value(self, net: Dict[str, int], scale: Scale) -> None:
+        source, sink = self.problem.source or "", self.problem.sink or ""
+        value = net.pop(source)
+        if value + net.pop(sink) or WIDE.multiply(self.cost, scale.units) != value or value < 0:
+            raise Disagreement(f"the source does not send {plain(self.cost)}")
+        for name, amount in net.items():
+            if amount:
+                raise Disagreement(f"node {name}: as much as comes in does not leave it")
+        if self.kept or self.not_met:
+            raise Disagreement("in a maximum flow nothing is kept or not met")
+
+    def _verify_balance(self, net: Dict[str, int], scale: Scale) -> None:
+        for rest, is_kept in ((self.kept, True), (self.not_met, False)):
+            caps = {arc.name: arc.cap for arc in rest_arcs(self.problem, self.rest_cost) if arc.is_kept == is_kept} \
+                if rest else {}
+            for name, amount in rest.items():
+                if name not in caps or amount < 0 or (caps[name] is not None and amount > caps[name]):
+                    raise Disagreement(f"node {name} may not {'keep' if is_kept else 'go without'} {plain(amount)}")
+        supplies = scale.wholes(self.problem.nodes.values())
+        for (name, amount), supply in zip(net.items(), supplies):
+            wanted = supply
+            if name in self.kept:
+                wanted -= scale.whole(self.kept[name])
+            if name in self.not_met:
+                wanted += scale.whole(self.not_met[name])
+            if amount != wanted:
+                raise Disagreement(f"node {name}: {plain(Decimal(amount) / scale.units)} leave it, and it supplies "
+                                   f"{plain(Decimal(wanted) / scale.units)}")
+
+    def _verify_prices(self) -> None:
+        """Each arc carries its lower bound where a unit more would cost, and its capacity where it would save."""
+        prices = self.prices
+        problem = self.problem
+        arcs = problem.arcs
+        if prices is None or len(prices) != len(problem.nodes):
+            raise Disagreement("the plan has no prices, so nothing shows that it is best")
+        money = Scale((arc.cost for arc in arcs), prices.values(), (self.rest_cost, self.rest_price))
+        price = dict(zip(prices, money.wholes(prices.values())))
+        costs = money.wholes(arc.cost for arc in arcs)
+        for k, (arc, cost, flow) in enumerate(zip(arcs, costs, self.flows)):
+            reduced = cost + price[arc.tail] - price[arc.head]
+            if reduced > 0 and flow != arc.low or reduced < 0 and flow != arc.cap:
+                raise Disagreement(f"arc {k + 1}, {arc.label}: with another flow the plan would be better")
+        if problem.kind == "max":
+            back = price[problem.sink or ""] - price[problem.source or ""] - int(money.units)
+            if back < 0 or back > 0 and self.cost:
+                raise Disagreement("the prices do not show that the flow is the greatest")
+        rest_cost, rest_price = money.whole(self.rest_cost or ZERO), money.whole(self.rest_price)
+        for row in rest_arcs(problem, self.rest_cost):
+            way = price[row.name] - rest_price
+            reduced = rest_cost + (way if row.is_kept else -way)
+            amount = (self.kept if row.is_kept else self.not_met).get(row.name, ZERO)
+            if reduced > 0 and amount or reduced < 0 and amount != row.cap:
+                raise Disagreement(f"node {row.name}: if it {'kept' if row.is_kept else 'went without'} another amount, the "
+                                   "plan would be better")
+
+
+@dataclass
+class Infeasible:
+    """There is no plan: the supplies of the nodes of `cut` and the bounds of the arcs into and out of it contradict each
+    other by `shortage`.
+
+    `rest_in_cut` says on which side what is kept or not met stands, where it may be (`rest_cost` is not None).
+    """
+
+    problem: Problem
+    cut: FrozenSet[str]
+    shortage: Decimal
+    rest_cost: Optional[Decimal] = None
+    rest_in_cut: bool = False
+    notes: List[str] = field(default_factory=list)
+    checked: bool = False
+
+    def crossing(self) -> Crossing:
+        """What the nodes of the cut supply, and what can and must go over its border."""
+        return Crossing.of(self)
+
+    def verify(self) -> None:
+        """Raises Disagreement unless the cut has this shortage, above 0, in the units of the tables."""
+        crossing = self.crossing()
+        if self.shortage <= 0 or self.shortage not in (crossing.too_much, crossing.too_little):
+            raise Disagreement(f"the cut of {len(self.cut)} nodes does not show a shortage of {plain(self.shortage)}")
+
+    def explain(self) -> str:
+        """Why there is no plan, in words: see `explain`."""
+        from .explain import explain
+
+        return explain(self)
+
+
+@dataclass
+class Crossing:
+    """A cut in numbers. `supply` is that of its nodes (with the rest, where that is in it); `leaving` and `entering` are
+    the arcs over its border, `kept_out` and `kept_in` what may be kept or not met over it. `out_most`, `out_least`,
+    `in_most`, `in_least` are what they can and must carry; None is no limit."""
+
+    supply: Decimal
+    leaving: List[int]
+    entering: List[int]
+    rest_leaving: List[RestArc]
+    rest_entering: List[RestArc]
+    out_most: Optional[Decimal]
+    out_least: Decimal
+    in_most: Optional[Decimal]
+    in_least: Decimal
+
+    @classmethod
+    def of(cls, found: Infeasible) -> Crossing:
+        """The numbers of the cut of `found`."""
+        problem, cut = found.problem, found.cut
+        arcs = problem.arcs
+        leaving = [k for k, arc in enumerate(arcs) if arc.tail in cut and arc.head not in cut]
+        entering = [k for k, arc in enumerate(arcs) if arc.head in cut and arc.tail not in cut]
+        supply = total_of(problem.nodes[name] for name in problem.nodes if name in cut)
+        if found.rest_in_cut:
+            supply = WIDE.subtract(supply, total_of(problem.nodes.values()))
+        rest = [arc for arc in rest_arcs(problem, found.rest_cost) if (arc.name in cut) != found.rest_in_cut]
+        # What is kept goes from the node to the rest; what is not met comes from the rest.
+        rest_leaving = [arc for arc in rest if arc.is_kept != found.rest_in_cut]
+        rest_entering = [arc for arc in rest if arc.is_kept == found.rest_in_cut]
+        outs = [arcs[k].cap for k in leaving] + [arc.cap for arc in rest_leaving]
+        ins = [arcs[k].cap for k in entering] + [arc.cap for arc in rest_entering]
+        if problem.kind == "max" and (problem.source in cut) != (problem.sink in cut):
+            (outs if problem.sink in cut else ins).append(None)
+        return cls(supply, leaving, entering, rest_leaving, rest_entering, _sum(outs),
+                   total_of(arcs[k].low for k in leaving), _sum(ins), total_of(arcs[k].low for k in entering))
+
+    @property
+    def too_much(self) -> Optional[Decimal]:
+        """By how much more has to leave than can; None where there is no limit."""
+        if self.out_most is None:
+            return None
+        return WIDE.add(WIDE.subtract(self.supply, self.out_most), self.in_least)
+
+    @property
+    def too_little(self) -> Optional[Decimal]:
+        """By how much more has to come in than can; None where there is no limit."""
+        if self.in_most is None:
+            return None
+        return WIDE.subtract(WIDE.subtract(self.out_least, self.in_most), self.supply)
+
+
+def _sum(numbers: List[Optional[Decimal]]) -> Optional[Decimal]:
+    """The sum; None where one of them is None."""
+    if any(number is None for number in numbers):
+        return None
+    return total_of(number for number in numbers if number is not None)

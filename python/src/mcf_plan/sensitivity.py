@@ -1,0 +1,233 @@
+"""What a plan depends on: what one unit more saves, the range of a cost within which the plan stays best, a curve of
+the cost over one number, and the minimum cut of a maximum flow.
+
+All of it is exact, and found by solving anew through one session of its own beside the session that is asked about:
+that one keeps its moment, and what it can undo and redo.
+
+>>> from mcf_plan import Problem, Session
+>>> problem = Problem()
+>>> problem.add_node("depot", 4)
+>>> problem.add_node("shop", -4)
+>>> road, ferry = (problem.add_arc("depot", "shop", cap=cap, cost=cost) for cap, cost in ((3, "2.5"), (None, "3.75")))
+>>> with Session(problem) as session:
+...     one_unit_more(session)
+...     cost_range(session, road)
+...     curve(session, ("cap", road), [0, 4])
+[Decimal('1.25'), Decimal('0')]
+(None, Decimal('3.75'))
+[(Decimal('0'), Decimal('15')), (Decimal('4'), Decimal('10'))]
+"""
+
+from __future__ import annotations
+
+from collections import deque
+from decimal import Decimal
+from fractions import Fraction
+from typing import Deque, Dict, FrozenSet, Iterable, List, NamedTuple, Optional, Tuple, Union
+
+from .plan import Disagreement, Infeasible, Plan
+from .problem import Number, Problem, exact
+from .rewrite import BeyondLimits, Meaningless, Unbounded
+from .session import ArcKey, Session
+
+Limits = Tuple[Optional[Decimal], Optional[Decimal]]
+"""The least and the greatest value; None where there is no end."""
+
+What = Union[Tuple[str, ArcKey], Tuple[str, str, str]]
+"""A number of a problem: ('cap', arc), ('low', arc), ('cost', arc) or ('supply', node); or ('supply', node, other),
+where the supply of the node `other` changes by as much the other way."""
+
+
+class Ranges(NamedTuple):
+    """An arc's sensitivity: what one unit more of capacity saves (0 in `asn`), and the range of its cost (no ends in
+    `max`). `arc` is its number."""
+
+    arc: int
+    saves: Decimal
+    least_cost: Optional[Decimal]
+    greatest_cost: Optional[Decimal]
+
+
+class Cut(NamedTuple):
+    """A minimum cut: both sides, the numbers of the arcs that lead from the source's side to the sink's, and what these
+    can carry together."""
+
+    source_side: FrozenSet[str]
+    sink_side: FrozenSet[str]
+    arcs: List[int]
+    capacity: Decimal
+
+
+def one_unit_more(session: Session) -> List[Decimal]:
+    """For each arc what one unit more of its capacity saves; in `max` how much more flows.
+
+    Where there is no plan: how much less is missing then. Raises Meaningless for `asn`, which has no capacities.
+    """
+    if session.problem.kind == "asn":
+        raise Meaningless("an assignment has no capacities")
+    answer = session.plan()
+    with apart(session) as beside:
+        return [saved(beside, answer, arc) for arc in range(len(session.problem.arcs))]
+
+
+def cost_range(session: Session, arc: ArcKey) -> Limits:
+    """Between which costs of an arc the plan as it stands stays best, the other costs as they are.
+
+    Raises Meaningless for `max`, which has no costs, and where there is no plan.
+    """
+    place, plan = session.problem.find_arc(arc), standing_plan(session)
+    with apart(session) as beside:
+        return end_of_range(beside, plan, place, -1), end_of_range(beside, plan, place, 1)
+
+
+def ranges(session: Session) -> List[Ranges]:
+    """Both for each arc, through one session. Raises Meaningless where there is no plan."""
+    kind, plan = session.problem.kind, session.plan()
+    if isinstance(plan, Infeasible):
+        raise Meaningless("there is no plan, so it has no ranges")
+    with apart(session) as beside:
+        return [
+            Ranges(arc, Decimal(0) if kind == "asn" else saved(beside, plan, arc),
+                   *((None, None) if kind == "max" else
+                     (end_of_range(beside, plan, arc, -1), end_of_range(beside, plan, arc, 1))))
+            for arc in range(len(session.problem.arcs))
+        ]
+
+
+def curve(session: Session, what: What, values: Iterable[Number]) -> List[Tuple[Decimal, Optional[Decimal]]]:
+    """For each value of one number of the problem the cost of a best plan (in `max` the flow); None where there is
+    none.
+
+    Raises Unbounded, BeyondLimits, EditRefused, KeyError or ValueError where a value can't be set.
+    """
+    points: List[Tuple[Decimal, Optional[Decimal]]] = []
+    with apart(session) as beside:
+        for value in map(exact, values):
+            points.append((value, set_number(beside, what, value)))
+            beside.undo()
+    return points
+
+
+def minimum_cut(plan: Plan) -> Cut:
+    """The minimum cut of a maximum flow that is nearest to its source. Its capacity is the flow, which proves both.
+
+    Raises Meaningless where the plan is no maximum flow.
+    """
+    problem = plan.problem
+    if problem.kind != "max" or problem.source is None:
+        raise Meaningless("a minimum cut is one of a maximum flow")
+    further: Dict[str, List[str]] = {}
+    for arc, flow in zip(problem.arcs, plan.flows):
+        if arc.cap is None or flow < arc.cap:
+            further.setdefault(arc.tail, []).append(arc.head)
+        if flow > arc.low:
+            further.setdefault(arc.head, []).append(arc.tail)
+    reached, queue = {problem.source}, deque([problem.source])  # type: Tuple[set[str], Deque[str]]
+    while queue:
+        for node in further.get(queue.popleft(), ()):
+            if node not in reached:
+                reached.add(node)
+                queue.append(node)
+    crossing = [number for number, arc in enumerate(problem.arcs) if arc.tail in reached and arc.head not in reached]
+    capacity = sum((problem.arcs[number].cap or Decimal(0) for number in crossing), Decimal(0))
+    if capacity != plan.cost or problem.sink in reached:
+        raise Disagreement(f"the cut has capacity {capacity}, and the flow {plan.cost}")
+    return Cut(frozenset(reached), frozenset(problem.nodes) - reached, crossing, capacity)
+
+
+# ---- through a session beside
+
+
+def apart(session: Session) -> Session:
+    """A session of its own on the problem as it stands."""
+    return Session(session.problem, session._program, surplus=session._options.surplus)
+
+
+def standing_plan(session: Session) -> Plan:
+    """The plan as it stands. Raises Meaningless where there is none, or no costs."""
+    if session.problem.kind == "max":
+        raise Meaningless("a maximum flow has no costs")
+    plan = session.plan()
+    if isinstance(plan, Infeasible):
+        raise Meaningless("there is no plan, so it has no ranges")
+    return plan
+
+
+def saved(beside: Session, answer: Union[Plan, Infeasible], arc: int) -> Decimal:
+    """What one unit more of capacity saves on an arc. Only arcs that the proof of the answer leans on are asked about:
+    for others the same proof holds with more capacity."""
+    row = answer.problem.arcs[arc]
+    if row.cap is None:
+        return Decimal(0)
+    if isinstance(answer, Plan):
+        if answer.prices is not None and answer.reduced_cost(arc) >= 0:
+            return Decimal(0)
+        before, after = answer.cost, beside.set_cap(arc, row.cap + 1)
+        assert after is not None
+        beside.undo()
+        return after - before if answer.problem.kind == "max" else before - after
+    if (row.tail in answer.cut) == (row.head in answer.cut):
+        return Decimal(0)
+    beside.set_cap(arc, row.cap + 1)
+    left = beside.shortage
+    beside.undo()
+    return answer.shortage - (left or Decimal(0))
+
+
+def end_of_range(beside: Session, plan: Plan, arc: int, side: int) -> Optional[Decimal]:
+    """The end of an arc's range of costs on the side of lower (-1) or higher (1) ones; None where there is none.
+
+    The cost of the plan is a line over the arc's cost, and that of a best plan lies nowhere above it. From a cost
+    beyond the end, each step goes to where the line of the plan that is best there meets it. Ends are sums of costs, so
+    they have no more decimals than these.
+    """
+    row, flow = plan.problem.arcs[arc], plan.flows[arc]
+    if flow == (row.low if side > 0 else row.cap):
+        return None
+    step, reach = steps_and_reach(plan)
+    at = row.cost + side * reach
+    first = True
+    while True:
+        try:
+            best = beside.set_cost(arc, at)
+        except Unbounded as unbounded:
+            # The end is not beyond the cost by which the circle costs nothing.
+            at = -sum((plan.problem.arcs[other].cost for other in unbounded.arcs if other != arc), Decimal(0))
+            first = False
+            continue
+        assert best is not None
+        if best == plan.cost + (at - row.cost) * flow:
+            beside.undo()
+            return None if first else at
+        there = beside.plan(check=False)
+        beside.undo()
+        assert isinstance(there, Plan)
+        other = there.flows[arc]
+        meeting = Fraction(best - plan.cost + row.cost * flow - at * other) / Fraction(flow - other)
+        steps = meeting / Fraction(step)
+        at = step * (steps.numerator // steps.denominator if side > 0 else -(-steps.numerator // steps.denominator))
+        first = False
+
+
+def steps_and_reach(plan: Plan) -> Tuple[Decimal, Decimal]:
+    """The last decimal place of the costs, and how far an end may be from a cost at most."""
+    costs = [arc.cost for arc in plan.problem.arcs] + [plan.rest_cost or Decimal(0)] * 2
+    places = max(max(0, -int(cost.normalize().as_tuple().exponent)) for cost in costs)
+    step = Decimal(1).scaleb(-places)
+    return step, 2 * sum(map(abs, costs), Decimal(0)) + step
+
+
+def set_number(beside: Session, what: What, value: Decimal) -> Optional[Decimal]:
+    """Sets one number of a session, as one step, and answers the cost then."""
+    if what[0] == "supply" and len(what) == 3:
+        node, other = str(what[1]), str(what[2])
+        nodes = beside.problem.nodes
+        change = value - nodes[node]
+        with beside.group():
+            beside.set_supply(node, value)
+            beside.set_supply(other, nodes[other] - change)
+        return beside.cost
+    edits = {"cap": beside.set_cap, "low": beside.set_low, "cost": beside.set_cost, "supply": beside.set_supply}
+    if what[0] not in edits:
+        raise ValueError(f"{what[0]!r} is no number of a problem: it has to be 'cap', 'low', 'cost' or 'supply'")
+    return edits[what[0]](what[1], value)  # type: ignore[operator]

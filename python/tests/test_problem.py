@@ -1,0 +1,107 @@
+"""Problems: exact numbers, arcs by name, and the spellings of other programs."""
+
+import sys
+import unittest
+from decimal import Decimal
+from fractions import Fraction
+
+from mcf_plan import Meaningless, Plan, Problem, Refused
+from mcf_plan.problem import exact, plain
+
+
+class Numbers(unittest.TestCase):
+    def test_what_is_taken(self):
+        for given, wanted in ((3, "3"), (0.1, "0.1"), ("2.50", "2.5"), (" 7 ", "7"), (Decimal("1E+3"), "1000"),
+                              (Fraction(1, 8), "0.125"), (-0.0, "0"), ("-0", "0"), (True, "1"), (1e-7, "0.0000001")):
+            with self.subTest(given):
+                self.assertEqual(plain(exact(given)), wanted)
+
+    def test_what_is_refused(self):
+        for given in ("", "x", "nan", float("inf"), float("nan"), Fraction(1, 3), "1e999", None, [1]):
+            with self.subTest(given), self.assertRaisesRegex(ValueError, "the cost is"):
+                exact(given, "the cost")
+
+    def test_numbers_of_numpy(self):
+        try:
+            import numpy
+        except ImportError:
+            self.skipTest("numpy is not installed")
+        self.assertEqual(exact(numpy.int64(5)), 5)
+        self.assertEqual(exact(numpy.float64(0.1)), Decimal("0.1"))
+        self.assertEqual(exact(numpy.float32(0.1)), Decimal("0.1"))
+
+
+class Building(unittest.TestCase):
+    def test_arcs_by_name(self):
+        problem = Problem()
+        problem.add_arc("a", "b", name="road")
+        problem.add_arc("a", "b")
+        problem.add_arc("b", "c")
+        self.assertEqual(problem.find_arc("road"), 0)
+        self.assertEqual(problem.find_arc(("b", "c")), 2)
+        self.assertEqual(problem.find_arc("b to c"), 2)
+        self.assertEqual(problem.find_arc(1), 1)
+        for wrong in ("a to b", ("a", "b"), "rail", 3, -1):
+            with self.subTest(wrong), self.assertRaises(KeyError):
+                problem.find_arc(wrong)
+
+    def test_mistakes(self):
+        problem = Problem()
+        problem.add_node("a")
+        with self.assertRaises(ValueError):
+            problem.add_node("a")
+        with self.assertRaisesRegex(ValueError, "above its capacity, 1"):
+            problem.add_arc("a", "b", low=2, cap=1)
+        self.assertEqual((list(problem.nodes), problem.arcs), (["a"], []))
+        for kind, words in (("min ", "kind"), ("flow", "kind")):
+            with self.subTest(kind), self.assertRaisesRegex(ValueError, words):
+                Problem(kind)
+        with self.assertRaises(Meaningless):
+            Problem().solve()
+
+    def test_no_limit(self):
+        problem = Problem()
+        for cap in (None, "inf", float("inf"), Decimal("Infinity"), " Infinity "):
+            self.assertIsNone(problem.arcs[problem.add_arc("a", "b", cap=cap)].cap)
+
+
+class Spellings(unittest.TestCase):
+    """What other programs write is read with its meaning, or refused by its line."""
+
+    def cost(self, text):
+        plan = Problem.from_dimacs(text).solve()
+        self.assertIsInstance(plan, Plan)
+        return plain(plan.cost)
+
+    def test_read(self):
+        for text, cost in (
+                ("p min 2 1\na 1 2 0 9 3\nn 1 2\nn 2 -2\n", "6"),
+                ("\ufeffp min 2 1\r\nn 1 +2\r\nn 2 -2.0\r\na 1 2 0 9e0 3\r\n", "6"),
+                ("p min 2 1\nn 1 2\nn 2 -2\na 1 2 0 inf 3.25\n", "6.5"),
+                ("p min 2 1\nn 1 2\nn 2 -2\na 1 2 0 -1 3\n", "6"),
+                ("p min 2 1\nn 1 2\nn 2 -2\na 1 2 0 2147483647 3\n", "6"),
+                ("# made by hand\np min 2 1 c two nodes\nn 1 2 // here\nn 2 -2\na 1 2 0 5 3 # road\n", "6"),
+                ("p min 2 1\nn 1 -2\nn 2 2\na 1 2 -9 9 3\n", "-6"),
+                ("p min 2 1\nn 1 0.5\nn 2 -0.5\na 1 2 -0 9 3\n", "1.5"),
+                ("p min 2 1\nn 1 3000000000\nn 2 -3000000000\na 1 2 0 3000000000 1\n", "3000000000"),
+                ("p max 2 2\na 1 2 3000000000\na 1 2 3000000000\nn 1 s\nn 2 t\n", "6000000000")):
+            with self.subTest(text):
+                self.assertEqual(self.cost(text), cost)
+
+    def test_notes(self):
+        problem = Problem.from_dimacs("p min 2 2\na 1 2 0 -1 3\na 1 2 0 inf 3\n")
+        self.assertEqual([arc.cap for arc in problem.arcs], [None, None])
+        self.assertEqual(len(problem.notes), 2)
+
+    def test_refused(self):
+        for text, number, line in (("p min 2 2\na 1 2 0 5 3\n", 13, 2), ("p min 2 1\na 1 2 7 5.5 3\n", 15, 2),
+                                   ("p min 2 1\na 1 2 0 x 3\n", 4, 2), ("p min 2 1\na 1 2.5 0 1 3\n", 4, 2),
+                                   ("p min 2 1\nn 1 2\nn 1 3\na 1 2 0 1 3\n", 10, 3), ("p max 2 1\na 1 2 3\n", 11, 2),
+                                   ("p min 2 1\na 1 2 0 5 3\nn 1 2\na 1 2 0 5 3\n", 12, 4), ("", 14, 0)):
+            with self.subTest(text), self.assertRaises(Refused) as caught:
+                Problem.from_dimacs(text)
+            self.assertEqual((caught.exception.fault.number, caught.exception.fault.line), (number, line))
+
+
+if __name__ == "__main__":
+    sys.exit(unittest.main())

@@ -1,0 +1,194 @@
+"""Reports: what they tell of a plan and of no plan, their pictures, and that nothing wrong is written."""
+
+import csv
+import dataclasses
+import doctest
+import io
+import json
+import shutil
+import tempfile
+import unittest
+import xml.etree.ElementTree as xml
+from decimal import Decimal
+from html.parser import HTMLParser
+from pathlib import Path
+
+from mcf_plan import Disagreement, Problem, report
+
+SPACE = {"svg": "http://www.w3.org/2000/svg"}
+
+
+def towns() -> Problem:
+    problem = Problem()
+    for name, supply in [("north & <sea>", 6), ("south", "4.5"), ("middle", 0), ("east", "-7.5"), ("west", -3)]:
+        problem.add_node(name, supply)
+    problem.add_arc("north & <sea>", "middle", cap=2, cost="1.25")
+    problem.add_arc("north & <sea>", "west", cap=8, cost=3)
+    problem.add_arc("south", "middle", cap=5, cost=2)
+    problem.add_arc("middle", "east", cost="0.5")
+    problem.add_arc("north & <sea>", "east", cap=5, cost=9, name='the "ferry"')
+    problem.add_arc("middle", "middle", cap=1, cost=1)
+    problem.add_arc("middle", "south", cap=1, cost=1)
+    return problem
+
+
+def pairs() -> Problem:
+    problem = Problem("asn")
+    for name, supply in [("Ann", 1), ("Ben", 1), ("day", -1), ("night", -1)]:
+        problem.add_node(name, supply)
+    for tail, head, cost in [("Ann", "day", 2), ("Ann", "night", 5), ("Ben", "day", 1)]:
+        problem.add_arc(tail, head, cap=1, cost=cost)
+    return problem
+
+
+def pipes() -> Problem:
+    problem = Problem("max", source="well", sink="town")
+    problem.add_arc("well", "tower", cap=3)
+    problem.add_arc("tower", "town", cap=2)
+    return problem
+
+
+class Tags(HTMLParser):
+    """Looks whether each tag that was opened is closed, but for those that need not be."""
+
+    def __init__(self) -> None:
+        super().__init__()
+        self.open: list = []
+        self.cells: list = []
+
+    def handle_starttag(self, tag: str, attrs: list) -> None:
+        if tag not in ("meta", "path", "circle", "polygon", "ellipse", "polyline", "title"):
+            self.open.append(tag)
+
+    def handle_endtag(self, tag: str) -> None:
+        if tag not in ("path", "circle", "polygon", "ellipse", "polyline", "title"):
+            assert self.open and self.open[-1] == tag, (tag, self.open)
+            self.open.pop()
+
+    def handle_data(self, data: str) -> None:
+        if self.open and self.open[-1] in ("td", "th"):
+            self.cells.append(data)
+
+
+class ReportTest(unittest.TestCase):
+    def setUp(self) -> None:
+        self.plan = towns().solve()
+        short = towns()
+        short.nodes["east"] = Decimal("-8.5")
+        self.none = short.solve()
+
+    def test_numbers(self) -> None:
+        self.assertEqual(doctest.testmod(report)[0], 0)
+
+    def test_report_of_a_plan(self) -> None:
+        text = report.html_text(self.plan, title="Towns & roads")
+        tags = Tags()
+        tags.feed(text)
+        self.assertEqual(tags.open, [])
+        self.assertIn("<title>Towns &amp; roads</title>", text)
+        self.assertIn("Cheapest plan: 32.75", text)
+        self.assertIn("north &amp; &lt;sea&gt;", text)
+        self.assertNotIn("<sea>", text)
+        self.assertNotIn("http://", text.replace("http://www.w3.org/", ""))
+        row = tags.cells.index("middle") - 1
+        self.assertEqual(
+            tags.cells[row : row + 8], ["north & <sea>", "middle", "2", "2", "1.25", "2.5", "7.25", "full"]
+        )
+
+    def test_saving_is_a_bound(self) -> None:
+        saving = next(row.saving for row in report.arc_rows(self.plan) if row.saving is not None)
+        wider = towns()
+        wider.arcs[0] = wider.arcs[0]._replace(cap=Decimal(3))
+        self.assertGreaterEqual(saving, self.plan.cost - wider.solve().cost)
+        self.assertEqual([row.full for row in report.arc_rows(self.plan)], [True] + [False] * 6)
+
+    def test_report_of_no_plan(self) -> None:
+        text = report.html_text(self.none)
+        tags = Tags()
+        tags.feed(text)
+        self.assertEqual(tags.open, [])
+        self.assertIn("There is no plan: short by 1", text)
+
+    def test_other_kinds(self) -> None:
+        text = report.html_text(pipes().solve())
+        self.assertIn("Most that can be sent: 2", text)
+        self.assertNotIn("Unit cost", text)
+        text = report.html_text(pairs().solve())
+        self.assertIn("Cheapest assignment: 6", text)
+        self.assertEqual(text.count("<tr>"), 3)
+
+    def test_pictures(self) -> None:
+        for result in (self.plan, self.none, pipes().solve(), pairs().solve()):
+            picture = xml.fromstring(report.svg_picture(result, graphviz=False))
+            arcs = picture.findall("svg:g/svg:path", SPACE)
+            self.assertEqual(len(arcs), len(result.problem.arcs))
+            self.assertEqual(len(picture.findall("svg:g/svg:circle", SPACE)), len(result.problem.nodes))
+            x, y, width, height = map(float, picture.attrib["viewBox"].split())
+            for circle in picture.findall("svg:g/svg:circle", SPACE):
+                self.assertTrue(
+                    x < float(circle.attrib["cx"]) < x + width and y < float(circle.attrib["cy"]) < y + height
+                )
+
+    @unittest.skipUnless(shutil.which("dot"), "no Graphviz here: its pictures are not tried")
+    def test_pictures_of_graphviz(self) -> None:
+        for result in (self.plan, self.none, pipes().solve(), pairs().solve()):
+            picture = xml.fromstring(report.svg_picture(result, graphviz=True))
+            edges = [
+                group
+                for group in picture.iter("{http://www.w3.org/2000/svg}g")
+                if group.attrib.get("class") == "edge"
+            ]
+            self.assertEqual(len(edges), len(result.problem.arcs))
+
+    def test_layout(self) -> None:
+        problem = towns()
+        where = report.layout(problem)
+        self.assertEqual(set(where), set(problem.nodes))
+        self.assertEqual(len(set(where.values())), len(where))
+        self.assertLess(where["south"][0], where["middle"][0])
+        self.assertLess(where["middle"][0], where["east"][0])
+        self.assertEqual(report.layout(Problem()), {})
+        alone = Problem()
+        alone.add_node("alone")
+        self.assertEqual(len(report.layout(alone)), 1)
+        problem.places = {name: (float(index), float(2 * index)) for index, name in enumerate(problem.nodes)}
+        where = report.layout(problem)
+        self.assertEqual(where["west"][1], 0)  # The greatest y is north.
+        self.assertEqual(where["north & <sea>"], (0, report.MAP_SIDE))
+
+    def test_csv(self) -> None:
+        rows = list(csv.DictReader(io.StringIO(report.to_csv(self.plan))))
+        self.assertEqual(len(rows), 7)
+        self.assertEqual(sum(Decimal(row["total cost"]) for row in rows), self.plan.cost)
+        self.assertEqual((rows[3]["capacity"], rows[4]["name"]), ("", 'the "ferry"'))
+        with self.assertRaises(ValueError):
+            report.to_csv(self.none)
+
+    def test_json(self) -> None:
+        told = json.loads(report.to_json(self.plan))
+        self.assertEqual((told["feasible"], told["cost"], told["arcs"][0]["flow"]), (True, "32.75", "2"))
+        self.assertIsNone(told["arcs"][3]["capacity"])
+        self.assertEqual(set(told["prices"]), set(self.plan.problem.nodes))
+        told = json.loads(report.to_json(self.none))
+        self.assertEqual((told["feasible"], told["shortage"]), (False, "1"))
+        self.assertTrue(told["cut"] and told["why"])
+
+    def test_file(self) -> None:
+        with tempfile.TemporaryDirectory() as folder:
+            path = Path(folder) / "plan.html"
+            report.html_report(self.plan, path)
+            self.assertEqual(path.read_text(encoding="utf-8"), report.html_text(self.plan))
+
+    def test_nothing_wrong_is_written(self) -> None:
+        flows = list(self.plan.flows)
+        flows[1] += 1
+        wrong = dataclasses.replace(self.plan, flows=flows)
+        dear = dataclasses.replace(self.plan, cost=self.plan.cost + 1)
+        for result in (wrong, dear):
+            for write in (report.html_text, report.svg_picture, report.to_csv, report.to_json):
+                with self.assertRaises(Disagreement):
+                    write(result)
+
+
+if __name__ == "__main__":
+    unittest.main()
