@@ -164,35 +164,6 @@ pub fn adopt(
     Some(pushes)
 }
 
-/// Takes what the proposal at hand leads to, where that is certified, and then pushes flow along shortest paths until no
-/// node in excess reaches a node in deficit; counts all pushes.
-fn push_from_proposal(
-    graph: &Graph,
-    flow: &mut Tracked<i64>,
-    excess: &mut Excess,
-    scratch: &mut Scratch,
-) -> u64
-    requires flow_tracked { IsTracked flow.old }
-    requires graph { HasEntries (length scratch.old.potentials.items) graph.now }
-    requires certified { IsReducedCostOptimal graph.now.rows flow.old.entries.items scratch.old.potentials.items }
-    requires potentials_in { ArePotentials (length scratch.old.potentials.items) label_floor scratch.old.potentials.items }
-    requires excess_in { length excess.old ≡ length scratch.old.potentials.items }
-    requires scratch { IsScratchFor (length scratch.old.potentials.items) scratch.old }
-    requires small { AreSmall excess.old }
-    ensures flow_written { IsWritten flow.old flow.new }
-    ensures certified { IsReducedCostOptimal graph.now.rows flow.new.entries.items scratch.new.potentials.items }
-    ensures excess_in { length excess.new ≡ length excess.old }
-    ensures small { AreSmall excess.new }
-    ensures pushed { ArePushes graph.now.rows result flow.old.entries.items excess.old flow.new.entries.items excess.new }
-    ensures parted { IsParted graph.now.rows flow.new.entries.items excess.new }
-    ensures scratch { IsScratchFor (length scratch.old.potentials.items) scratch.new }
-{
-    match adopt(graph, flow, excess, scratch) {
-        Some(adopted) => adopted + finish(graph, flow, excess, scratch),
-        None => finish(graph, flow, excess, scratch),
-    }
-}
-
 /// Pushes flow until no node in excess reaches a node in deficit, and counts the pushes. The first time, and where many
 /// nodes are out of balance, a proposal is made and tried before.
 pub fn push_all(
@@ -216,9 +187,11 @@ pub fn push_all(
     ensures parted { IsParted graph.now.rows flow.new.entries.items excess.new }
     ensures scratch { IsScratchFor (length scratch.old.potentials.items) scratch.new }
 {
-    if !scratch.attempt.proposals.is_fresh() && !excess.are_more_than(FEW) {
-        return finish(graph, flow, excess, scratch);
+    if scratch.attempt.proposals.is_fresh() || excess.are_more_than(FEW) {
+        scratch.attempt.propose(graph, &flow.entries, excess.entries(), &scratch.potentials);
+        if let Some(adopted) = adopt(graph, flow, excess, scratch) {
+            return adopted + finish(graph, flow, excess, scratch);
+        }
     }
-    scratch.attempt.propose(graph, &flow.entries, excess.entries(), &scratch.potentials);
-    push_from_proposal(graph, flow, excess, scratch)
+    finish(graph, flow, excess, scratch)
 }

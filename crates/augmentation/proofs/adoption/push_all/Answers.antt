@@ -2,7 +2,7 @@ use Rattle.std.proofs.Common.{◌≡◌, ◌≤◌, ◌<◌, ◌+◌, ◌^◌, l
 use Rattle.augmentation.specs.Limits.{left_limit}
 use Rattle.augmentation.specs.Push.{left}
 use Rattle.augmentation.proofs.SettleLemmas.{ArePushes-more, left-small}
-use Rattle.augmentation.proofs.adoption.push_from_proposal.Goals as goal
+use Rattle.augmentation.proofs.adoption.push_all.Goals as goal
 
 pub overflow_add-result : goal.overflow_add-result
 overflow_add-result c =
