@@ -6,7 +6,7 @@ use Rattle.std.proofs.lemmas.Bool.{cases_eq}
 use Rattle.std.proofs.lemmas.List.{get_or-set_same, get_or-set_other, length-set}
 use Rattle.dimacs_text.specs.declared.problem.ArcRow.{ArcRow}
 use Rattle.residual_graph.specs.Residual.{IsWithinRow, number_at, row_at}
-use Rattle.augmentation.specs.Difference.{AreBetween, AreNearer, IsNearer, IsPlan}
+use Rattle.augmentation.specs.Difference.{AreBetween, AreNearer, IsNearer, IsPlan, IsPlanned}
 
 -- one number is at most the other
 pub le_either : (x y : ℤ) → (x ≤ℤ y) ⊎ (y ≤ℤ x)
@@ -99,6 +99,9 @@ plan_nearer nodes rows x y x' y' plan near =
         within = λ k lt. (both k lt).1;
       };
     }
+
+pub planned_nearer : (x y x' y' : List ℤ) (k : ℕ) → IsPlanned x y k → AreNearer x y x' y' → IsPlanned x' y' k
+planned_nearer x y x' y' k is near = record { nodes = is.nodes; rows = is.rows; plan = plan_nearer is.nodes is.rows x y x' y' is.plan near; is_arc = is.is_arc }
 
 pub between_nearer : (x y x' y' : List ℤ) → AreNearer x y x' y' → AreBetween x x' y
 between_nearer x y x' y' near = record {

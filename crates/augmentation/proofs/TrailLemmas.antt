@@ -1,6 +1,6 @@
 -- Walks back, hop by hop, and the routes that they leave.
 use Rattle.std.proofs.Common.{◌≡◌, ◌≢◌, ℕ, zero, suc, ◌+◌, ◌<◌, ◌≤◌, ℤ, pos, ◌≤ℤ◌, List, [], ◌∷◌, length, refl, sym, ap, subst, ◌∙◌, inl, inr, arith, add-one}
-use Rattle.std.specs.Prelude.{slice_set}
+use Rattle.std.specs.Prelude.{slice_index_or, slice_set}
 use Rattle.std.specs.List.{All, AllPairs}
 use Rattle.std.proofs.lemmas.Int.{ints}
 use Rattle.std.proofs.lemmas.Bool.{cases_eq}
@@ -12,10 +12,9 @@ use Rattle.residual_graph.specs.declared.residual.ResidualArc.{ResidualArc}
 use Rattle.residual_graph.specs.declared.residual.Way.{Way}
 use Rattle.residual_graph.specs.declared.residual.Way.TheVariants.{Forward, Backward}
 use Rattle.residual_graph.specs.Residual.{IsPseudoflow, IsWithinRow, end_at, number_at, room_of, row_at, start_at}
-use Rattle.residual_graph.proofs.RowLemmas.{start_of-in}
 use Rattle.augmentation.specs.Push.{HasRoom, IsPath, moved, nodes_on, push_along}
 use Rattle.augmentation.proofs.PushLemmas.{AreApart, Avoids, HasRoom-set, IsFlow-set, IsWithin-moved}
-use Rattle.augmentation.specs.Trail.{CanMove, IsHopBack, IsRoute, IsRouteBack, IsShiftable, IsTrail, IsWanted, Wants, hop_at, hops_back, stamp_at}
+use Rattle.augmentation.specs.Trail.{CanMove, IsRoute, IsRouteBack, IsShiftable, IsStamped, IsTrail, Wants, hop_at, hops_back, stamp_at}
 use Rattle.augmentation.specs.Difference.{AreNearer, IsNearer, IsPlan, IsPlanned, want_of}
 use Rattle.augmentation.specs.declared.trail.Trail.{Trail}
 use Rattle.augmentation.proofs.DifferenceLemmas.{are_nearer-none, are_nearer-trans, nearer_flow}
@@ -60,74 +59,87 @@ hops_back-more hops n h lt =
     ∙ ap (λ (g : ResidualArc). g ∷ hops_back (slice_set hops n h) n) (get_or-set_same hops n h no_hop lt)
     ∙ ap (λ (gs : List ResidualArc). h ∷ gs) (hops_back-set hops n n h (omega arith))
 
-pub wanted_arcs : (rows : List ArcRow) (x y : List ℤ) (m : ℤ) (hops : List ResidualArc) → All (IsWanted rows x y m) hops → All (λ h. h.arc < length rows) hops
-wanted_arcs rows x y m hops all = All-weaker (IsWanted rows x y m) (λ h. h.arc < length rows) (λ h w. w.is_arc) hops all
-
-pub wanted_wants : (rows : List ArcRow) (x y : List ℤ) (m : ℤ) (hops : List ResidualArc) → All (IsWanted rows x y m) hops → All (Wants x y m) hops
-wanted_wants rows x y m hops all = All-weaker (IsWanted rows x y m) (Wants x y m) (λ h w. w.wants) hops all
-
 pub arcs_planned : (nodes : ℕ) (rows : List ArcRow) (x y : List ℤ) (hops : List ResidualArc) → IsPlan nodes rows x y → All (λ h. h.arc < length rows) hops → All (λ h. IsPlanned x y h.arc) hops
 arcs_planned nodes rows x y hops plan all = All-weaker (λ h. h.arc < length rows) (λ h. IsPlanned x y h.arc) (λ h lt. record { nodes = nodes; rows = rows; plan = plan; is_arc = lt }) hops all
 
 -- ---- a walk goes on, and back
 
-stamped_more : (stamps : List ℕ) (stamp from : ℕ) (nodes : List ℕ) → from < length stamps → stamp_at stamps from ≢ stamp → All (λ u. stamp_at stamps u ≡ stamp) nodes
-    → All (λ u. stamp_at (slice_set stamps from stamp) u ≡ stamp) (from ∷ nodes)
-stamped_more stamps stamp from nodes lt new all =
-    All-cons (λ u. stamp_at (slice_set stamps from stamp) u ≡ stamp) from nodes (get_or-set_same stamps from stamp 0 lt)
-    (All-weaker (λ u. stamp_at stamps u ≡ stamp) (λ u. stamp_at (slice_set stamps from stamp) u ≡ stamp)
-    (λ u has. get_or-set_other stamps from u stamp 0 (λ same. new (sym (ap (stamp_at stamps) same) ∙ has)) ∙ has) nodes all)
+-- none of these nodes is given another stamp
+stamped_set : (stamps : List ℕ) (stamp v other : ℕ) (nodes : List ℕ) → All (λ u. v ≢ u) nodes → All (IsStamped stamps stamp) nodes → All (IsStamped (slice_set stamps v other) stamp) nodes
+stamped_set stamps stamp v other nodes off all j d lt =
+    let has = all j d lt in
+    (omega (arith, has.0, length-set stamps v other), get_or-set_other stamps v (slice_index_or nodes j d) other 0 (λ same. off j d lt (sym same)) ∙ has.1)
 
-pub route_more : (rows : List ArcRow) (x y : List ℤ) (stamps : List ℕ) (stamp : ℕ) (hops : List ResidualArc) (v t from : ℕ) (h : ResidualArc) → from < length stamps → stamp_at stamps from ≢ stamp
-    → IsRouteBack rows x y stamps stamp hops v t → IsHopBack rows x y v h → start_at rows h.arc h.way ≡ from → IsRouteBack rows x y (slice_set stamps from stamp) stamp (h ∷ hops) from t
-route_more rows x y stamps stamp hops v t from h lt new route hop starts =
-    let nodes_same : nodes_on rows hops v ≡ nodes_on rows hops (end_at rows h.arc h.way) = ap (nodes_on rows hops) (sym hop.ends) in
-    let stamped : All (λ u. stamp_at stamps u ≡ stamp) (nodes_on rows hops (end_at rows h.arc h.way)) = subst (All (λ u. stamp_at stamps u ≡ stamp)) nodes_same route.stamped in
+route_more : (rows : List ArcRow) (stamps : List ℕ) (stamp : ℕ) (hops : List ResidualArc) (t from : ℕ) (h : ResidualArc) → from < length stamps → stamp_at stamps from ≢ stamp → h.arc < length rows → start_at rows h.arc h.way ≡ from
+    → IsRouteBack rows stamps stamp hops (end_at rows h.arc h.way) t → IsRouteBack rows (slice_set stamps from stamp) stamp (h ∷ hops) from t
+route_more rows stamps stamp hops t from h lt new is_arc starts route =
+    let nodes = nodes_on rows hops (end_at rows h.arc h.way) in
+    let off : All (λ u. from ≢ u) nodes = All-weaker (IsStamped stamps stamp) (λ u. from ≢ u) (λ u has same. new (ap (stamp_at stamps) same ∙ has.1)) nodes route.stamped in
     record {
-      leads = (starts, subst (λ (u : ℕ). IsPath rows hops u t) (sym hop.ends) route.leads);
-      simple = AllPairs-cons ◌≢◌ from (nodes_on rows hops (end_at rows h.arc h.way))
-          (All-weaker (λ u. stamp_at stamps u ≡ stamp) (λ u. from ≢ u) (λ u has same. new (ap (stamp_at stamps) same ∙ has)) (nodes_on rows hops (end_at rows h.arc h.way)) stamped)
-          (subst (AllPairs ◌≢◌) nodes_same route.simple);
-      stamped = stamped_more stamps stamp from (nodes_on rows hops (end_at rows h.arc h.way)) lt new stamped;
-      wanted = All-cons (IsWanted rows x y (pos 1)) h hops hop.wanted route.wanted;
+      leads = (starts, route.leads);
+      simple = AllPairs-cons ◌≢◌ from nodes off route.simple;
+      stamped = All-cons (IsStamped (slice_set stamps from stamp) stamp) from nodes (omega (arith, lt, length-set stamps from stamp), get_or-set_same stamps from stamp 0 lt) (stamped_set stamps stamp from stamp nodes off route.stamped);
+      arcs = All-cons (λ g. g.arc < length rows) h hops is_arc route.arcs;
     }
 
-pub trail_more : (rows : List ArcRow) (x y : List ℤ) (before after : Trail) (t v from : ℕ) (h : ResidualArc) → IsTrail rows x y before t v → IsHopBack rows x y v h → start_at rows h.arc h.way ≡ from
+pub trail_more : (rows : List ArcRow) (before after : Trail) (t from : ℕ) (h : ResidualArc) → h.arc < length rows → start_at rows h.arc h.way ≡ from → IsTrail rows before t (end_at rows h.arc h.way)
     → before.len < length before.hops.items → from < length before.stamps.items → stamp_at before.stamps.items from ≢ before.stamp
     → after.hops.items ≡ slice_set before.hops.items before.len h → after.len ≡ before.len + 1 → after.stamps.items ≡ slice_set before.stamps.items from before.stamp → after.stamp ≡ before.stamp
-    → IsTrail rows x y after t from
-trail_more rows x y before after t v from h trail hop starts room from_in new hops len stamps stamp =
-    let more = route_more rows x y before.stamps.items before.stamp (hops_back before.hops.items before.len) v t from h from_in new trail.route hop starts in
+    → IsTrail rows after t from
+trail_more rows before after t from h is_arc starts trail room from_in new hops len stamps stamp =
+    let more = route_more rows before.stamps.items before.stamp (hops_back before.hops.items before.len) t from h from_in new is_arc starts trail.route in
     let walk : hops_back after.hops.items after.len ≡ h ∷ hops_back before.hops.items before.len =
     ap (λ (gs : List ResidualArc). hops_back gs after.len) hops ∙ ap (hops_back (slice_set before.hops.items before.len h)) len ∙ hops_back-more before.hops.items before.len h room in
     record {
       fits = omega (arith, len, room, ap length hops, length-set before.hops.items before.len h);
-      route = subst (λ (gs : List ResidualArc). IsRouteBack rows x y after.stamps.items after.stamp gs from t) (sym walk)
-          (subst (λ (s : List ℕ). IsRouteBack rows x y s after.stamp (h ∷ hops_back before.hops.items before.len) from t) (sym stamps)
-          (subst (λ (n : ℕ). IsRouteBack rows x y (slice_set before.stamps.items from before.stamp) n (h ∷ hops_back before.hops.items before.len) from t) (sym stamp) more));
+      route = subst (λ (gs : List ResidualArc). IsRouteBack rows after.stamps.items after.stamp gs from t) (sym walk)
+          (subst (λ (s : List ℕ). IsRouteBack rows s after.stamp (h ∷ hops_back before.hops.items before.len) from t) (sym stamps)
+          (subst (λ (n : ℕ). IsRouteBack rows (slice_set before.stamps.items from before.stamp) n (h ∷ hops_back before.hops.items before.len) from t) (sym stamp) more));
     }
 
-route_less : (rows : List ArcRow) (x y : List ℤ) (stamps : List ℕ) (stamp : ℕ) (h : ResidualArc) (hops : List ResidualArc) (v t : ℕ) → IsRouteBack rows x y stamps stamp (h ∷ hops) v t → IsRouteBack rows x y stamps stamp hops (end_at rows h.arc h.way) t
-route_less rows x y stamps stamp h hops v t route =
+route_less : (rows : List ArcRow) (stamps : List ℕ) (stamp other : ℕ) (h : ResidualArc) (hops : List ResidualArc) (v t : ℕ) → IsRouteBack rows stamps stamp (h ∷ hops) v t → IsRouteBack rows (slice_set stamps v other) stamp hops (end_at rows h.arc h.way) t
+route_less rows stamps stamp other h hops v t route =
     let rest = nodes_on rows hops (end_at rows h.arc h.way) in
     record {
       leads = route.leads.1;
       simple = AllPairs-tail ◌≢◌ v rest route.simple;
-      stamped = All-tail (λ u. stamp_at stamps u ≡ stamp) v rest route.stamped;
-      wanted = All-tail (IsWanted rows x y (pos 1)) h hops route.wanted;
+      stamped = stamped_set stamps stamp v other rest (AllPairs-head ◌≢◌ v rest route.simple) (All-tail (IsStamped stamps stamp) v rest route.stamped);
+      arcs = All-tail (λ g. g.arc < length rows) h hops route.arcs;
     }
 
-pub trail_less : (rows : List ArcRow) (x y : List ℤ) (before : Trail) (len t v : ℕ) → before.len ≡ len + 1 → IsTrail rows x y before t v
-    → IsTrail rows x y (record before { len = len }) t (end_at rows (hop_at before.hops.items len).arc (hop_at before.hops.items len).way)
-trail_less rows x y before len t v is trail =
-    let walk : hops_back before.hops.items before.len ≡ hop_at before.hops.items len ∷ hops_back before.hops.items len = ap (hops_back before.hops.items) is ∙ hops_back-one before.hops.items len in
+pub trail_less : (rows : List ArcRow) (before after : Trail) (other t v w : ℕ) → w ≡ end_at rows (hop_at before.hops.items after.len).arc (hop_at before.hops.items after.len).way → before.len ≡ after.len + 1 → after.hops.items ≡ before.hops.items → after.stamps.items ≡ slice_set before.stamps.items v other → after.stamp ≡ before.stamp → IsTrail rows before t v
+    → IsTrail rows after t w
+trail_less rows before after other t v w ends len hops stamps stamp trail =
+    let h = hop_at before.hops.items after.len in
+    let rest = hops_back before.hops.items after.len in
+    let walk : hops_back before.hops.items before.len ≡ h ∷ rest = ap (hops_back before.hops.items) len ∙ hops_back-one before.hops.items after.len in
+    let less = subst (λ (u : ℕ). IsRouteBack rows (slice_set before.stamps.items v other) before.stamp rest u t) (sym ends)
+    (route_less rows before.stamps.items before.stamp other h rest v t (subst (λ (gs : List ResidualArc). IsRouteBack rows before.stamps.items before.stamp gs v t) walk trail.route)) in
     record {
-      fits = omega (arith, is, trail.fits);
-      route = route_less rows x y before.stamps.items before.stamp (hop_at before.hops.items len) (hops_back before.hops.items len) v t
-          (subst (λ (gs : List ResidualArc). IsRouteBack rows x y before.stamps.items before.stamp gs v t) walk trail.route);
+      fits = omega (arith, len, ap length hops, trail.fits);
+      route = subst (λ (gs : List ResidualArc). IsRouteBack rows after.stamps.items after.stamp gs w t) (sym (ap (λ (gs : List ResidualArc). hops_back gs after.len) hops))
+          (subst (λ (s : List ℕ). IsRouteBack rows s after.stamp rest w t) (sym stamps)
+          (subst (λ (n : ℕ). IsRouteBack rows (slice_set before.stamps.items v other) n rest w t) (sym stamp) less));
     }
 
--- ---- the wanted flow comes nearer to the flow on arcs off the walk, or the walk has no hop
+-- other tables are written
+pub trail_same : (rows : List ArcRow) (before after : Trail) (t v : ℕ) → after.hops.items ≡ before.hops.items → after.len ≡ before.len → after.stamps.items ≡ before.stamps.items → after.stamp ≡ before.stamp → IsTrail rows before t v → IsTrail rows after t v
+trail_same rows before after t v hops len stamps stamp trail =
+    let walk : hops_back after.hops.items after.len ≡ hops_back before.hops.items before.len = ap (λ (gs : List ResidualArc). hops_back gs after.len) hops ∙ ap (hops_back before.hops.items) len in
+    record {
+      fits = omega (arith, len, ap length hops, trail.fits);
+      route = subst (λ (gs : List ResidualArc). IsRouteBack rows after.stamps.items after.stamp gs v t) (sym walk)
+          (subst (λ (s : List ℕ). IsRouteBack rows s after.stamp (hops_back before.hops.items before.len) v t) (sym stamps)
+          (subst (λ (n : ℕ). IsRouteBack rows before.stamps.items n (hops_back before.hops.items before.len) v t) (sym stamp) trail.route));
+    }
+
+-- what is true of each node is true of the first one
+first_on : (P : ℕ → Type 0) (rows : List ArcRow) (hops : List ResidualArc) (v : ℕ) → All P (nodes_on rows hops v) → P v
+first_on P rows [] v all = All-head P v [] all
+first_on P rows (h ∷ hops) v all = All-head P v (nodes_on rows hops (end_at rows h.arc h.way)) all
+
+pub trail_node_in : (rows : List ArcRow) (trail : Trail) (t v : ℕ) → IsTrail rows trail t v → v < length trail.stamps.items
+trail_node_in rows trail t v is = (first_on (IsStamped trail.stamps.items trail.stamp) rows (hops_back trail.hops.items trail.len) v is.route.stamped).0
 
 -- ---- routes
 
@@ -138,15 +150,11 @@ avoids_off rows k way (h ∷ hops) v w path off =
     let rest = nodes_on rows hops (end_at rows h.arc h.way) in
     let off_start : start_at rows k way ≢ v = All-head (λ u. start_at rows k way ≢ u) v rest off in
     let off_rest = All-tail (λ u. start_at rows k way ≢ u) v rest off in
-    let off_end : start_at rows k way ≢ end_at rows h.arc h.way = first_off hops (end_at rows h.arc h.way) off_rest in (
+    let off_end : start_at rows k way ≢ end_at rows h.arc h.way = first_on (λ u. start_at rows k way ≢ u) rows hops (end_at rows h.arc h.way) off_rest in (
       λ same. off_both h.way way same off_start off_end path.0,
       avoids_off rows k way hops (end_at rows h.arc h.way) w path.1 off_rest,
     )
   where
-    first_off : (gs : List ResidualArc) (u : ℕ) → All (λ n. start_at rows k way ≢ n) (nodes_on rows gs u) → start_at rows k way ≢ u
-    first_off [] u all = All-head (λ n. start_at rows k way ≢ n) u [] all
-    first_off (g ∷ gs) u all = All-head (λ n. start_at rows k way ≢ n) u (nodes_on rows gs (end_at rows g.arc g.way)) all
-
     off_both : (a b : Way) → h.arc ≡ k → start_at rows k b ≢ v → start_at rows k b ≢ end_at rows h.arc a → start_at rows h.arc a ≡ v → ⊥
     off_both Forward Forward same off_v off_w is = off_v (sym (ap (λ (j : ℕ). start_at rows j Forward) same) ∙ is)
     off_both Backward Backward same off_v off_w is = off_v (sym (ap (λ (j : ℕ). start_at rows j Backward) same) ∙ is)
@@ -175,12 +183,12 @@ room_of_wants nodes rows x y m (h ∷ hops) flow arcs all = (
   room_of_wants nodes rows x y m hops flow (All-tail (λ g. g.arc < length rows) h hops arcs) (All-tail (Wants x y m) h hops all),
 )
 
-pub route_of : (nodes : ℕ) (rows : List ArcRow) (x y : List ℤ) (stamps : List ℕ) (stamp : ℕ) (m : ℤ) (hops : List ResidualArc) (v t : ℕ) → IsPlan nodes rows x y → IsRouteBack rows x y stamps stamp hops v t → All (Wants x y m) hops → IsRoute rows x m hops v t
+pub route_of : (nodes : ℕ) (rows : List ArcRow) (x y : List ℤ) (stamps : List ℕ) (stamp : ℕ) (m : ℤ) (hops : List ResidualArc) (v t : ℕ) → IsPlan nodes rows x y → IsRouteBack rows stamps stamp hops v t → All (Wants x y m) hops → IsRoute rows x m hops v t
 route_of nodes rows x y stamps stamp m hops v t plan route all = record {
   leads = route.leads;
   simple = route.simple;
-  arcs = wanted_arcs rows x y (pos 1) hops route.wanted;
-  room = room_of_wants nodes rows x y m hops plan.wanted (wanted_arcs rows x y (pos 1) hops route.wanted) all;
+  arcs = route.arcs;
+  room = room_of_wants nodes rows x y m hops plan.wanted route.arcs all;
 }
 
 -- the first hop is taken
@@ -228,27 +236,3 @@ nearer_along rows x y m (h ∷ hops) sized at_least apart all =
     are_nearer-trans
     (nearer_flow x y h.arc z (omega (arith, sized, apart.0)) (nearer_moved (number_at x h.arc) (number_at y h.arc) m h.way at_least (All-head (Wants x y m) h hops all)))
     (nearer_along rows (slice_set x h.arc z) y m hops (length-set x h.arc z ∙ sized) at_least apart.2 (wants_set x y m h.arc z hops apart.1 (All-tail (Wants x y m) h hops all)))
-
--- ---- what a walk keeps
-
--- other tables are written
-pub trail_same : (rows : List ArcRow) (x y : List ℤ) (before after : Trail) (t v : ℕ) → after.hops.items ≡ before.hops.items → after.len ≡ before.len → after.stamps.items ≡ before.stamps.items → after.stamp ≡ before.stamp
-    → IsTrail rows x y before t v → IsTrail rows x y after t v
-trail_same rows x y before after t v hops len stamps stamp trail =
-    let walk : hops_back after.hops.items after.len ≡ hops_back before.hops.items before.len = ap (λ (gs : List ResidualArc). hops_back gs after.len) hops ∙ ap (hops_back before.hops.items) len in
-    record {
-      fits = omega (arith, len, ap length hops, trail.fits);
-      route = subst (λ (gs : List ResidualArc). IsRouteBack rows x y after.stamps.items after.stamp gs v t) (sym walk)
-          (subst (λ (s : List ℕ). IsRouteBack rows x y s after.stamp (hops_back before.hops.items before.len) v t) (sym stamps)
-          (subst (λ (n : ℕ). IsRouteBack rows x y before.stamps.items n (hops_back before.hops.items before.len) v t) (sym stamp) trail.route));
-    }
-
--- a route begins at one of the nodes
-route_node_in : (nodes : ℕ) (rows : List ArcRow) (x y : List ℤ) (hops : List ResidualArc) (v t : ℕ) → IsPlan nodes rows x y → t < nodes → IsPath rows hops v t → All (IsWanted rows x y (pos 1)) hops → v < nodes
-route_node_in nodes rows x y [] v t plan lt path all = omega (arith, lt, path)
-route_node_in nodes rows x y (h ∷ hops) v t plan lt path all =
-    let is_arc = (All-head (IsWanted rows x y (pos 1)) h hops all).is_arc in
-    subst (λ (u : ℕ). u < nodes) path.0 (start_of-in nodes (row_at rows h.arc) h.way (plan.flow.rows h.arc is_arc))
-
-pub trail_node_in : (nodes : ℕ) (rows : List ArcRow) (x y : List ℤ) (trail : Trail) (t v : ℕ) → IsPlan nodes rows x y → t < nodes → IsTrail rows x y trail t v → v < nodes
-trail_node_in nodes rows x y trail t v plan lt is = route_node_in nodes rows x y (hops_back trail.hops.items trail.len) v t plan lt is.route.leads is.route.wanted

@@ -1,12 +1,9 @@
 -- Pushes that lead a flow towards a wanted one.
-use Rattle.std.specs.Prelude.{◌≡◌, ℕ, ◌<◌, ◌+◌, ℤ, pos, ◌≤ℤ◌, List, length}
+use Rattle.std.specs.Prelude.{◌≡◌, ℕ, ◌+◌, ℤ, List, length}
 use Rattle.dimacs_text.specs.declared.problem.ArcRow.{ArcRow}
 use Rattle.residual_graph.specs.Graph.{GraphView}
-use Rattle.residual_graph.specs.Residual.{number_at}
 use Rattle.augmentation.specs.Push.{ArePushes, AreSmall}
-use Rattle.augmentation.specs.declared.trail.Trail.{Trail}
-use Rattle.augmentation.specs.Trail.{IsTrail}
-use Rattle.augmentation.specs.Difference.{AreNearer, IsPlan, spare_of}
+use Rattle.augmentation.specs.Difference.{AreNearer, IsPlan}
 
 -- how many entries a table of nodes has: one for each of the graph's nodes, and entry 0
 abbrev pub entries_of : GraphView → ℕ
@@ -17,12 +14,6 @@ pub record IsOnTheWay (nodes : ℕ) (rows : List ArcRow) (x y e : List ℤ) : Ty
   pub plan : IsPlan nodes rows x y
   pub excess_sized : length e ≡ nodes
   pub small : AreSmall e
-
--- a walk came from node t to a node that has something to give
-pub record IsFoundRoute (rows : List ArcRow) (x y e r : List ℤ) (trail : Trail) (t root : ℕ) : Type 0 where
-  pub walk : IsTrail rows x y trail t root
-  pub node_in : root < length e
-  pub gives : pos 1 ≤ℤ spare_of (number_at e root) (number_at r root)
 
 -- n pushes lead on towards a wanted flow, which comes nearer, or stays
 pub record IsLedOn (nodes : ℕ) (rows : List ArcRow) (n : ℕ) (x y e x' y' e' : List ℤ) : Type 0 where

@@ -24,41 +24,39 @@ abbrev pub hops_back : List ResidualArc → ℕ → List ResidualArc
 hops_back hops zero = []
 hops_back hops (suc n) = hop_at hops n ∷ hops_back hops n
 
-abbrev pub stamp_at : List ℕ → ℕ → ℕ
-stamp_at stamps v = slice_index_or stamps v 0
-
 -- m or more is wanted along the residual arc
 abbrev pub Wants : List ℤ → List ℤ → ℤ → ResidualArc → Type 0
 Wants x y m h = m ≤ℤ want_of h.way (number_at x h.arc) (number_at y h.arc)
 
--- so it is, and the arc is there
-pub record IsWanted (rows : List ArcRow) (x y : List ℤ) (m : ℤ) (h : ResidualArc) : Type 0 where
-  pub is_arc : h.arc < length rows
-  pub wants : Wants x y m h
-
 -- the residual arc leads to node v, and something is wanted along it
 pub record IsHopBack (rows : List ArcRow) (x y : List ℤ) (v : ℕ) (h : ResidualArc) : Type 0 where
-  pub wanted : IsWanted rows x y (pos 1) h
+  pub is_arc : h.arc < length rows
+  pub wants : Wants x y (pos 1) h
   pub ends : end_at rows h.arc h.way ≡ v
 
--- the hops lead from node v to node t and meet no node twice; each node has the stamp, and something is wanted along each hop
-pub record IsRouteBack (rows : List ArcRow) (x y : List ℤ) (stamps : List ℕ) (stamp : ℕ) (hops : List ResidualArc) (v t : ℕ) : Type 0 where
+abbrev pub stamp_at : List ℕ → ℕ → ℕ
+stamp_at stamps v = slice_index_or stamps v 0
+
+-- node v has the stamp
+abbrev pub IsStamped : List ℕ → ℕ → ℕ → Type 0
+IsStamped stamps stamp v = (v < length stamps) × (stamp_at stamps v ≡ stamp)
+
+-- the hops lead from node v to node t and meet no node twice; each node has the stamp
+pub record IsRouteBack (rows : List ArcRow) (stamps : List ℕ) (stamp : ℕ) (hops : List ResidualArc) (v t : ℕ) : Type 0 where
   pub leads : IsPath rows hops v t
   pub simple : AllPairs ◌≢◌ (nodes_on rows hops v)
-  pub stamped : All (λ u. stamp_at stamps u ≡ stamp) (nodes_on rows hops v)
-  pub wanted : All (IsWanted rows x y (pos 1)) hops
+  pub stamped : All (IsStamped stamps stamp) (nodes_on rows hops v)
+  pub arcs : All (λ h. h.arc < length rows) hops
 
 -- so do those of a walk that came from t to v
-pub record IsTrail (rows : List ArcRow) (x y : List ℤ) (trail : Trail) (t v : ℕ) : Type 0 where
+pub record IsTrail (rows : List ArcRow) (trail : Trail) (t v : ℕ) : Type 0 where
   pub fits : trail.len ≤ length trail.hops.items
-  pub route : IsRouteBack rows x y trail.stamps.items trail.stamp (hops_back trail.hops.items trail.len) v t
+  pub route : IsRouteBack rows trail.stamps.items trail.stamp (hops_back trail.hops.items trail.len) v t
 
--- a walk from some node came to v, on the way from some flow to some other
+-- a walk from some node came to v
 pub record IsSomeTrail (rows : List ArcRow) (trail : Trail) (v : ℕ) : Type 0 where
-  pub x : List ℤ
-  pub y : List ℤ
   pub target : ℕ
-  pub is : IsTrail rows x y trail target v
+  pub is : IsTrail rows trail target v
 
 -- the hops lead from node v to node t and meet no node twice; m more fits on each
 pub record IsRoute (rows : List ArcRow) (x : List ℤ) (m : ℤ) (hops : List ResidualArc) (v t : ℕ) : Type 0 where

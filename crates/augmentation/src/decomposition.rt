@@ -1,15 +1,15 @@
 //! Pushes that lead a flow towards a wanted one.
 
-ghost use Rattle.std.specs.Prelude.{◌≡◌, ℕ, length, slice_set, pos, ◌≤ℤ◌, ◌<◌, ◌≤◌, All};
+ghost use Rattle.std.specs.Prelude.{◌≡◌, length, slice_set, ◌≤ℤ◌, ◌<◌, ◌≤◌, All};
 ghost use Rattle.residual_graph.specs.Residual.{number_at};
 ghost use Rattle.augmentation.specs.Push.{ArePushes, moved, push_along};
-ghost use Rattle.augmentation.specs.Decomposition.{IsFoundRoute, IsLedOn, IsOnTheWay, entries_of};
-ghost use Rattle.augmentation.specs.Trail.{CanMove, IsShiftable, IsTrailFor, Wants, hops_back};
-ghost use Rattle.augmentation.specs.Difference.{AreBetween, IsPlanned, lack_of};
+ghost use Rattle.augmentation.specs.Decomposition.{IsLedOn, IsOnTheWay, entries_of};
+ghost use Rattle.augmentation.specs.Trail.{CanMove, IsShiftable, IsTrail, IsTrailFor, Wants, hops_back};
+ghost use Rattle.augmentation.specs.Difference.{AreBetween, IsPlanned};
 
 use crate::augment::{FoundPath, transfer};
 use crate::difference::{lacking, spare, want_on};
-use crate::route::find_route;
+use crate::route::{hops_wanted, step};
 use crate::setting::Setting;
 use crate::trail::Trail;
 use residual_graph::{ResidualArc, Way};
@@ -20,7 +20,6 @@ fn bottleneck(flow: &[i64], wanted: &[i64], trail: &Trail, limit: i64) -> i64
     requires plan { All (λ h. IsPlanned flow.now wanted.now h.arc) (hops_back trail.now.hops.items trail.now.len) }
     ensures at_most { result ≤ℤ limit }
     ensures wanted { All (Wants flow.now wanted.now result) (hops_back trail.now.hops.items trail.now.len) }
-    ensures at_least_1 { pos 1 ≤ℤ limit → All (Wants flow.now wanted.now (pos 1)) (hops_back trail.now.hops.items trail.now.len) → pos 1 ≤ℤ result }
 {
     let mut room = limit;
     for j in 0..trail.len {
@@ -54,7 +53,7 @@ fn shift(flow: &mut [i64], trail: &Trail, amount: i64)
     }
 }
 
-/// Pushes what is wanted along the path that a walk found.
+/// Pushes what is wanted along the path that a walk found, where that is anything, and counts the push.
 fn push_route(
     setting: Setting<'_>,
     flow: &mut [i64],
@@ -62,21 +61,26 @@ fn push_route(
     excess: &mut [i64],
     trail: &Trail,
     path: FoundPath,
-)
+) -> u64
     requires state { IsOnTheWay (entries_of setting.graph.now) setting.graph.now.rows flow.old wanted.now excess.old }
+    requires root_in { path.root < entries_of setting.graph.now }
     requires target_in { path.target < entries_of setting.graph.now }
-    requires takes { pos 1 ≤ℤ lack_of (number_at excess.old path.target) (number_at setting.rests.now path.target) }
-    requires found { IsFoundRoute setting.graph.now.rows flow.old wanted.now excess.old setting.rests.now trail.now path.target path.root }
-    ensures { IsLedOn (entries_of setting.entry.graph.now) setting.entry.graph.now.rows 1 flow.old wanted.now excess.old flow.new wanted.now excess.new }
+    requires walk { IsTrail setting.graph.now.rows trail.now path.target path.root }
+    ensures { IsLedOn (entries_of setting.entry.graph.now) setting.entry.graph.now.rows result flow.old wanted.now excess.old flow.new wanted.now excess.new }
 {
     let gives = spare(excess[path.root], setting.rests[path.root]);
     let takes = lacking(excess[path.target], setting.rests[path.target]);
     let amount = bottleneck(flow, wanted, trail, gives.min(takes));
+    if amount <= 0 {
+        return 0;
+    }
     shift(flow, trail, amount);
     transfer(excess, path.root, path.target, amount);
+    1
 }
 
-/// Pushes to a node until it has what it is to have or nothing more is to be had, and counts the pushes.
+/// Pushes to a node until it has what it is to have or nothing more is to be had, and counts the pushes. After a push the
+/// walk goes on before its first hop along which nothing is wanted any more.
 fn push_to(
     setting: Setting<'_>,
     flow: &mut [i64],
@@ -92,20 +96,35 @@ fn push_to(
     ensures trail { IsTrailFor (entries_of setting.entry.graph.now) trail.new }
 {
     let mut pushes = 0;
+    if trail.dead[target] {
+        return pushes;
+    }
+    trail.begin(target);
+    let mut node = target;
     while lacking(excess[target], setting.rests[target]) > 0 {
-        match find_route(setting, excess, flow, wanted, trail, target) {
-            Some(root) => {
-                push_route(
-                    setting,
-                    flow,
-                    wanted,
-                    excess,
-                    trail,
-                    FoundPath { root, target },
-                );
-                pushes += 1;
+        if spare(excess[node], setting.rests[node]) > 0 {
+            if !trail.spend(trail.len) {
+                return pushes;
             }
-            None => return pushes,
+            let root = node;
+            pushes += push_route(
+                setting,
+                flow,
+                wanted,
+                excess,
+                trail,
+                FoundPath { root, target },
+            );
+            let keep = hops_wanted(flow, wanted, trail, 0);
+            node = trail.cut(setting.graph, node, keep);
+        } else {
+            if !trail.spend(0) {
+                return pushes;
+            }
+            match step(setting.graph, flow, wanted, trail, node) {
+                Some(next) => node = next,
+                None => return pushes,
+            }
         }
     }
     pushes
@@ -128,7 +147,7 @@ pub fn push_towards(
     ensures pushes { ArePushes setting.entry.graph.now.rows result flow.old excess.old flow.new excess.new }
     ensures trail { IsTrailFor (entries_of setting.entry.graph.now) trail.new }
 {
-    trail.refresh();
+    trail.refresh(flow.len());
     let mut pushes = 0;
     for target in 0..excess.len() {
         pushes += push_to(setting, flow, wanted, excess, trail, target);

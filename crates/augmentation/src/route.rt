@@ -1,18 +1,14 @@
-//! Routes from nodes that have something to give to a node that lacks something.
+//! Walks back, hop by hop, to a node that has something to give.
 
-ghost use Rattle.std.specs.Prelude.{◌≡◌, length, pos, ◌≤ℤ◌, ◌<◌, ◌≤◌, IfSome, All};
+ghost use Rattle.std.specs.Prelude.{◌≡◌, ℕ, length, pos, ◌≤ℤ◌, ◌<◌, ◌≤◌, IfSome, All};
 ghost use Rattle.residual_graph.specs.Residual.{end_at};
-ghost use Rattle.augmentation.specs.Decomposition.{IsFoundRoute, IsOnTheWay, entries_of};
-ghost use Rattle.augmentation.specs.Trail.{IsHopBack, IsTrail, IsTrailFor, IsWanted, hops_back};
+ghost use Rattle.augmentation.specs.Decomposition.{entries_of};
+ghost use Rattle.augmentation.specs.Trail.{IsHopBack, IsSomeTrail, IsTrail, IsTrailFor, Wants, hop_at, hops_back};
 ghost use Rattle.augmentation.specs.Difference.{AreNearer, IsPlan, IsPlanned};
 
-use crate::difference::{cancel, spare, want_on};
-use crate::setting::Setting;
+use crate::difference::{cancel, want_on};
 use crate::trail::Trail;
 use residual_graph::{Graph, ResidualArc, Side, Walk};
-
-/// More steps than any walk takes.
-const STEPS: u64 = 1_000_000_000_000;
 
 /// The next hop by which a walk can go back from the node: something is wanted along it, and it comes from a node that is
 /// not dead.
@@ -75,22 +71,27 @@ fn least_wanted(flow: &[i64], wanted: &[i64], trail: &Trail, first: usize, limit
     least
 }
 
-/// Takes off the wanted flow what goes round the circle of the walk's hops from the node `from` on, and this hop from there.
-fn cancel_circle(
-    graph: &Graph,
-    flow: &[i64],
-    wanted: &mut [i64],
-    trail: &Trail,
-    hop: ResidualArc,
-    from: usize,
-)
-    requires plan { IsPlan (entries_of graph.now) graph.now.rows flow.now wanted.old }
+/// How many hops of a walk lie before the first one, from one on, along which nothing is wanted any more.
+pub fn hops_wanted(flow: &[i64], wanted: &[i64], trail: &Trail, first: usize) -> usize
     requires fits { trail.now.len ≤ length trail.now.hops.items }
-    requires hops { All (λ h. h.arc < length graph.now.rows) (hops_back trail.now.hops.items trail.now.len) }
-    requires hop { hop.arc < length graph.now.rows }
+    requires plan { All (λ h. IsPlanned flow.now wanted.now h.arc) (hops_back trail.now.hops.items trail.now.len) }
+    ensures { (j : ℕ) → first ≤ j → j < result → Wants flow.now wanted.now (pos 1) (hop_at trail.now.hops.items j) }
+{
+    for j in first..trail.len {
+        if want_on(flow, wanted, trail.hop(j)) <= 0 {
+            return j;
+        }
+    }
+    trail.len
+}
+
+/// Takes off the wanted flow what goes round the circle of the walk's hops from one on, and this hop.
+fn cancel_circle(flow: &[i64], wanted: &mut [i64], trail: &Trail, hop: ResidualArc, first: usize)
+    requires fits { trail.now.len ≤ length trail.now.hops.items }
+    requires plan { All (λ h. IsPlanned flow.now wanted.old h.arc) (hops_back trail.now.hops.items trail.now.len) }
+    requires hop { IsPlanned flow.now wanted.old hop.arc }
     ensures { AreNearer flow.now wanted.old flow.now wanted.new }
 {
-    let first = hops_to(graph, trail, from);
     let least = least_wanted(flow, wanted, trail, first, want_on(flow, wanted, hop));
     for j in first..trail.len {
         cancel(flow, wanted, trail.hop(j), least);
@@ -98,29 +99,34 @@ fn cancel_circle(
     cancel(flow, wanted, hop, least);
 }
 
-/// Goes on by a hop to the node, or cancels the circle that the hop closes and begins anew.
+/// Goes on by a hop to the node, or takes the circle that the hop closes off the wanted flow and goes back before the
+/// first hop of it along which nothing is wanted any more.
 fn go_back(
     graph: &Graph,
     flow: &[i64],
     wanted: &mut [i64],
     trail: &mut Trail,
-    target: usize,
     hop: ResidualArc,
 ) -> Option<usize>
     requires plan { IsPlan (entries_of graph.now) graph.now.rows flow.now wanted.old }
     requires trail { IsTrailFor (entries_of graph.now) trail.old }
-    requires target_in { target < entries_of graph.now }
-    requires hop { IsWanted graph.now.rows flow.now wanted.old (pos 1) hop }
-    requires walk { IsTrail graph.now.rows flow.now wanted.old trail.old target (end_at graph.now.rows hop.arc hop.way) }
+    requires hop { hop.arc < length graph.now.rows }
+    requires walk { IsSomeTrail graph.now.rows trail.old (end_at graph.now.rows hop.arc hop.way) }
     ensures nearer { AreNearer flow.now wanted.old flow.now wanted.new }
     ensures trail { IsTrailFor (entries_of graph.now) trail.new }
-    ensures some { IfSome result (λ v. (v < entries_of graph.now) × IsTrail graph.now.rows flow.now wanted.new trail.new target v) }
+    ensures walk { IfSome result (λ v. (v < entries_of graph.now) × ((t : ℕ) → IsTrail graph.now.rows trail.old t (end_at graph.now.rows hop.arc hop.way) → IsTrail graph.now.rows trail.new t v)) }
+    ensures fuel { trail.new.fuel ≤ trail.old.fuel }
 {
     let from = graph.start(Side::Ahead, hop.arc as usize, hop.way);
     if trail.is_on(from) {
-        cancel_circle(graph, flow, wanted, trail, hop, from);
-        trail.begin(target);
-        return Some(target);
+        let first = hops_to(graph, trail, from);
+        if !trail.spend(trail.len - first) {
+            return None;
+        }
+        cancel_circle(flow, wanted, trail, hop, first);
+        let keep = hops_wanted(flow, wanted, trail, first);
+        let node = graph.end(Side::Ahead, hop.arc as usize, hop.way);
+        return Some(trail.cut(graph, node, keep));
     }
     if trail.len == trail.hops.len() {
         return None;
@@ -130,25 +136,24 @@ fn go_back(
 }
 
 /// One step of a walk that stands at a node: the node to which it comes, or nothing where nothing is to be had.
-fn step(
+pub fn step(
     graph: &Graph,
     flow: &[i64],
     wanted: &mut [i64],
     trail: &mut Trail,
-    target: usize,
     node: usize,
 ) -> Option<usize>
     requires plan { IsPlan (entries_of graph.now) graph.now.rows flow.now wanted.old }
     requires trail { IsTrailFor (entries_of graph.now) trail.old }
-    requires target_in { target < entries_of graph.now }
     requires node_in { node < entries_of graph.now }
-    requires walk { IsTrail graph.now.rows flow.now wanted.old trail.old target node }
+    requires walk { IsSomeTrail graph.now.rows trail.old node }
     ensures nearer { AreNearer flow.now wanted.old flow.now wanted.new }
     ensures trail { IsTrailFor (entries_of graph.now) trail.new }
-    ensures some { IfSome result (λ v. (v < entries_of graph.now) × IsTrail graph.now.rows flow.now wanted.new trail.new target v) }
+    ensures walk { IfSome result (λ v. (v < entries_of graph.now) × ((t : ℕ) → IsTrail graph.now.rows trail.old t node → IsTrail graph.now.rows trail.new t v)) }
+    ensures fuel { trail.new.fuel ≤ trail.old.fuel }
 {
     match next_hop(graph, flow, wanted, trail, node) {
-        Some(hop) => go_back(graph, flow, wanted, trail, target, hop),
+        Some(hop) => go_back(graph, flow, wanted, trail, hop),
         None => {
             trail.dead[node] = true;
             if trail.len == 0 {
@@ -157,37 +162,4 @@ fn step(
             Some(trail.take_back(graph, node))
         }
     }
-}
-
-/// Walks back from a node that lacks something to one that has something to give, and gives that node.
-pub fn find_route(
-    setting: Setting<'_>,
-    excess: &[i64],
-    flow: &[i64],
-    wanted: &mut [i64],
-    trail: &mut Trail,
-    target: usize,
-) -> Option<usize>
-    requires state { IsOnTheWay (entries_of setting.graph.now) setting.graph.now.rows flow.now wanted.old excess.now }
-    requires trail { IsTrailFor (entries_of setting.graph.now) trail.old }
-    requires target_in { target < entries_of setting.graph.now }
-    ensures nearer { AreNearer flow.now wanted.old flow.now wanted.new }
-    ensures trail { IsTrailFor (entries_of setting.entry.graph.now) trail.new }
-    ensures some { IfSome result (IsFoundRoute setting.entry.graph.now.rows flow.now wanted.new excess.now setting.entry.rests.now trail.new target) }
-{
-    if trail.dead[target] {
-        return None;
-    }
-    trail.begin(target);
-    let mut node = target;
-    for _step in 0..STEPS {
-        if spare(excess[node], setting.rests[node]) > 0 {
-            return Some(node);
-        }
-        match step(setting.graph, flow, wanted, trail, target, node) {
-            Some(next) => node = next,
-            None => return None,
-        }
-    }
-    None
 }

@@ -1,13 +1,17 @@
 //! Walks back from nodes that lack something, depth first, along arcs on which a wanted flow has more.
 
-ghost use Rattle.std.specs.Prelude.{◌≡◌, ◌≢◌, ℕ, ℤ, List, length, ◌<◌, ◌↔◌, false, IfOk, IsTrue};
+ghost use Rattle.std.specs.Prelude.{◌≡◌, ◌≢◌, ℕ, List, length, ◌<◌, ◌≤◌, ◌↔◌, false, IfOk, IsTrue};
 ghost use Rattle.dimacs_text.specs.declared.problem.ArcRow.{ArcRow};
 ghost use Rattle.augmentation.specs.Cut.{in_set};
-ghost use Rattle.residual_graph.specs.Residual.{start_at};
-ghost use Rattle.augmentation.specs.Trail.{IsHopBack, IsSomeTrail, IsTrail, IsTrailFor, hop_at, stamp_at};
+ghost use Rattle.residual_graph.specs.Residual.{end_at, start_at};
+ghost use Rattle.augmentation.specs.Trail.{IsSomeTrail, IsTrail, IsTrailFor, hop_at, stamp_at};
 
 use residual_graph::{Graph, Place, ResidualArc, Side, Way};
 use std::alloc::{AllocError, Global};
+
+/// How many steps and hops a run of walks may take for each node and each arc. A run that comes apart well takes few
+/// for each, one whose paths are long some hundreds; a bad proposal is to cost seconds at most.
+const STEPS: u64 = 4_096;
 
 /// The tables of walks back. The hops of a walk are its first `len`: the first one leads to the node where it began, and
 /// each other one to where the one before it begins.
@@ -15,14 +19,16 @@ use std::alloc::{AllocError, Global};
 pub struct Trail {
     /// Whether nothing more is to be had from the node: no walk comes to it again.
     pub dead: Vec<bool>,
-    /// The stamp of the last walk that came to the node.
-    pub stamps: Vec<u64>,
+    /// The stamp of the last walk that came to the node, and 0 where that went back from it.
+    pub stamps: Vec<u32>,
     /// Where the node goes on in its ends. This is a hint: any place is a lawful one.
     pub current: Vec<Place>,
     pub hops: Vec<ResidualArc>,
     pub len: usize,
     /// The stamp of this walk.
-    pub stamp: u64,
+    pub stamp: u32,
+    /// How many steps and hops may still be taken.
+    pub fuel: u64,
 }
 
 impl Trail {
@@ -48,19 +54,40 @@ impl Trail {
             hops,
             len: 0,
             stamp: 0,
+            fuel: 0,
         })
     }
 
-    /// Begins anew: no node is dead, and each goes on from its first end.
-    pub(crate) fn refresh(&mut self)
-        requires { length self.old.current.items ≡ length self.old.dead.items }
+    /// Begins anew in a network of so many arcs: no node is dead, and each goes on from its first end.
+    pub(crate) fn refresh(&mut self, arcs: usize)
+        requires current { length self.old.current.items ≡ length self.old.dead.items }
+        requires stamps { length self.old.stamps.items ≡ length self.old.dead.items }
         ensures trail { (n : ℕ) → IsTrailFor n self.old → IsTrailFor n self.new }
         ensures alive { (v : ℕ) → in_set self.new.dead.items v ≡ false }
     {
         for v in 0..self.dead.len() {
             self.dead[v] = false;
+            self.stamps[v] = 0;
             self.current[v] = Place::First;
         }
+        self.stamp = 0;
+        let places = (self.dead.len() as u64).saturating_add(arcs as u64);
+        self.fuel = places.saturating_mul(STEPS);
+    }
+
+    /// Spends a step and so many hops, where there is fuel for them.
+    pub(crate) fn spend(&mut self, hops: usize) -> bool
+        ensures trail { (n : ℕ) → IsTrailFor n self.old → IsTrailFor n self.new }
+        ensures walk { (rows : List ArcRow) (t v : ℕ) → IsTrail rows self.old t v → IsTrail rows self.new t v }
+        ensures no_more { self.new.fuel ≤ self.old.fuel }
+        ensures less { IsTrue result → self.new.fuel < self.old.fuel }
+    {
+        let hops = hops as u64;
+        if self.fuel <= hops {
+            return false;
+        }
+        self.fuel -= hops + 1;
+        true
     }
 
     /// A hop, by its place from where the walk began.
@@ -75,7 +102,7 @@ impl Trail {
     pub(crate) fn begin(&mut self, target: usize)
         requires { target < length self.old.stamps.items }
         ensures trail { (n : ℕ) → IsTrailFor n self.old → IsTrailFor n self.new }
-        ensures walk { (rows : List ArcRow) (x y : List ℤ) → IsTrail rows x y self.new target target }
+        ensures walk { (rows : List ArcRow) → IsTrail rows self.new target target }
     {
         self.stamp = self.stamp.wrapping_add(1);
         self.stamps[target] = self.stamp;
@@ -96,7 +123,8 @@ impl Trail {
         requires from_in { from < length self.old.stamps.items }
         requires new { stamp_at self.old.stamps.items from ≢ self.old.stamp }
         ensures trail { (n : ℕ) → IsTrailFor n self.old → IsTrailFor n self.new }
-        ensures walk { (rows : List ArcRow) (x y : List ℤ) (t v : ℕ) → IsTrail rows x y self.old t v → IsHopBack rows x y v hop → start_at rows hop.arc hop.way ≡ from → IsTrail rows x y self.new t from }
+        ensures walk { (rows : List ArcRow) (t : ℕ) → hop.arc < length rows → start_at rows hop.arc hop.way ≡ from → IsTrail rows self.old t (end_at rows hop.arc hop.way) → IsTrail rows self.new t from }
+        ensures fuel { self.new.fuel ≡ self.old.fuel }
     {
         self.hops[self.len] = hop;
         self.len += 1;
@@ -107,11 +135,29 @@ impl Trail {
     pub(crate) fn take_back(&mut self, graph: &Graph, node: usize) -> usize
         requires some { 0 < self.old.len }
         requires walk { IsSomeTrail graph.now.rows self.old node }
-        ensures kept { self.new ≡ record self.old { len = self.new.len } }
-        ensures walk { (x y : List ℤ) (t : ℕ) → IsTrail graph.now.rows x y self.old t node → IsTrail graph.now.rows x y self.new t result }
+        ensures trail { (n : ℕ) → IsTrailFor n self.old → IsTrailFor n self.new }
+        ensures walk { (t : ℕ) → IsTrail graph.now.rows self.old t node → IsTrail graph.now.rows self.new t result }
+        ensures one { self.new.len < self.old.len }
+        ensures fuel { self.new.fuel ≡ self.old.fuel }
     {
+        self.stamps[node] = 0;
         self.len -= 1;
         let hop = self.hop(self.len);
         graph.end(Side::Ahead, hop.arc as usize, hop.way)
+    }
+
+    /// Goes back until the walk has no more than `keep` hops, and gives the node where it then stands.
+    pub(crate) fn cut(&mut self, graph: &Graph, node: usize, keep: usize) -> usize
+        requires walk { IsSomeTrail graph.now.rows self.old node }
+        ensures trail { (n : ℕ) → IsTrailFor n self.old → IsTrailFor n self.new }
+        ensures walk { (t : ℕ) → IsTrail graph.now.rows self.old t node → IsTrail graph.now.rows self.new t result }
+        ensures at_most { self.new.len ≤ keep }
+        ensures fuel { self.new.fuel ≡ self.old.fuel }
+    {
+        let mut at = node;
+        while self.len > keep {
+            at = self.take_back(graph, at);
+        }
+        at
     }
 }

@@ -1,4 +1,4 @@
-use Rattle.std.proofs.Common.{◌≡◌, ◌∙◌, ℕ, pos, ◌≤ℤ◌, arith, rules, sym, subst, ap, w64, to_z, of_z, SFits}
+use Rattle.std.proofs.Common.{◌≡◌, ◌∙◌, ℕ, ◌≤ℤ◌, arith, rules, sym, subst, ap, w64, to_z, of_z, SFits}
 use Rattle.std.proofs.lemmas.Int.{ints, clamps, to_z-of_z}
 use Rattle.std.proofs.lemmas.List.Elements.{All-cons, All-weaker}
 use Rattle.std.specs.List.{All}
@@ -36,10 +36,6 @@ loop-j-preserved c =
       wanted = subst (All (Wants x y less)) (sym (hops_back-one hops j))
           (All-cons (Wants x y less) (hop_at hops j) (hops_back hops j) here
           (All-weaker (Wants x y room) (Wants x y less) (λ h le. omega (arith, ints, le, below)) (hops_back hops j) known.wanted));
-      at_least = λ limit all.
-          (let one : pos 1 ≤ℤ want = at_hop (Wants x y (pos 1)) hops c.args.trail.now.len j (omega arith) all in
-          let was = known.at_least limit all in
-          omega (arith, ints, clamps, value, same_min, same_want, one, was));
     }
 
 pub returns-clause-wanted : goal.returns-clause-wanted

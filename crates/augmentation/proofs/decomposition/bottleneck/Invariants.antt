@@ -1,4 +1,4 @@
-use Rattle.std.proofs.Common.{◌≤ℤ◌, pos, All}
+use Rattle.std.proofs.Common.{◌≤ℤ◌, All}
 use Rattle.augmentation.specs.Trail.{Wants, hops_back}
 use Rattle.augmentation.proofs.decomposition.bottleneck.Given as goal
 
@@ -6,5 +6,4 @@ abbrev pub invariant-loop-j : goal.invariant-loop-j
 invariant-loop-j l = record {
   at_most : l.room ≤ℤ l.limit;
   wanted : All (Wants l.flow l.wanted l.room) (hops_back l.trail.hops.items l.j);
-  at_least : pos 1 ≤ℤ l.limit → All (Wants l.flow l.wanted (pos 1)) (hops_back l.trail.hops.items l.trail.len) → pos 1 ≤ℤ l.room;
 }

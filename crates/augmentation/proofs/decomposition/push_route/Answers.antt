@@ -5,20 +5,19 @@ use Rattle.residual_graph.specs.Residual.{number_at}
 use Rattle.augmentation.specs.Decomposition.{IsLedOn, entries_of}
 use Rattle.augmentation.specs.Trail.{Wants, hops_back}
 use Rattle.augmentation.specs.Difference.{lack_of, spare_of}
-use Rattle.augmentation.proofs.DecompositionLemmas.{lack_in, led_one, spare_in}
-use Rattle.augmentation.proofs.TrailLemmas.{route_of, wanted_wants}
+use Rattle.augmentation.proofs.DecompositionLemmas.{lack_in, led-none, led_one, spare_in}
+use Rattle.augmentation.proofs.TrailLemmas.{route_of}
 use Rattle.augmentation.proofs.decomposition.push_route.Goals as goal
 use Rattle.augmentation.proofs.decomposition.push_route.Goals.{After-bottleneck-amount}
 
--- what is pushed is at least one unit, and no more than what the root has to give, the target has to take, and is wanted on each hop
+-- what is pushed is no more than what the root has to give, the target has to take, and is wanted on each hop
 pub record IsAmount (c : After-bottleneck-amount) : Type 0 where
-  pub at_least_1 : pos 1 ≤ℤ to_z w64 (of_z w64 c.bottleneck-amount.result)
   pub in_excess : to_z w64 (of_z w64 c.bottleneck-amount.result) ≤ℤ number_at c.args.excess.now c.args.path.root
   pub in_deficit : number_at c.args.excess.now c.args.path.target ≤ℤ neg_ℤ (to_z w64 (of_z w64 c.bottleneck-amount.result))
   pub wanted : All (Wants c.args.flow.now c.args.wanted.now (to_z w64 (of_z w64 c.bottleneck-amount.result))) (hops_back c.args.trail.now.hops.items c.args.trail.now.len)
 
-amount : (c : After-bottleneck-amount) → IsAmount c
-amount c =
+amount : (c : After-bottleneck-amount) → pos 1 ≤ℤ to_z w64 (of_z w64 c.bottleneck-amount.result) → IsAmount c
+amount c at_least =
     let x = c.args.flow.now in
     let y = c.args.wanted.now in
     let e = c.args.excess.now in
@@ -44,44 +43,41 @@ amount c =
     let limit : to_z w64 (of_z w64 c.min.result) ≡ c.min.result = to_z-of_z w64 c.min.result min_fits in
     let same : to_z w64 (of_z w64 c.bottleneck-amount.result) ≡ c.bottleneck-amount.result = to_z-of_z w64 c.bottleneck-amount.result amount_fits in
     let value = c.min.ensures.value in
-    let some : pos 1 ≤ℤ to_z w64 (of_z w64 c.min.result) = omega (arith, ints, clamps, value, limit, gives, takes, c.requires.found.gives, c.requires.takes) in
-    let one = c.bottleneck-amount.ensures.at_least_1 some (wanted_wants c.args.setting.graph.now.rows x y (pos 1) hops c.requires.found.walk.route.wanted) in
     let most = c.bottleneck-amount.ensures.at_most in
     let m = to_z w64 (of_z w64 c.bottleneck-amount.result) in
-    let at_least : pos 1 ≤ℤ m = omega (arith, ints, one, same) in
     record {
-      at_least_1 = at_least;
       in_excess = spare_in (number_at e root) (number_at r root) m at_least (omega (arith, ints, clamps, value, limit, gives, same, most));
       in_deficit = lack_in (number_at e t) (number_at r t) m at_least (omega (arith, ints, clamps, value, limit, takes, same, most));
       wanted = subst (λ (z : ℤ). All (Wants x y z) hops) (sym same) c.bottleneck-amount.ensures.wanted;
     }
 
+pub returns-then-amount-le0 : goal.returns-then-amount-le0
+returns-then-amount-le0 c = led-none (entries_of c.args.setting.graph.now) c.args.setting.graph.now.rows c.args.flow.now c.args.wanted.now c.args.excess.now c.requires.state
+
 pub shift-requires-clause-route : goal.shift-requires-clause-route
 shift-requires-clause-route c =
-    let at = amount (goal.at.shift-requires-clause-route c).After-bottleneck-amount in
-    let walk = c.requires.found.walk.route in
+    let at_least : pos 1 ≤ℤ to_z w64 (of_z w64 c.bottleneck-amount.result) = omega (arith, ints, c.if-amount-le0.false) in
+    let at = amount (goal.at.shift-requires-clause-route c).After-bottleneck-amount at_least in
     record {
       nodes = entries_of c.args.setting.graph.now;
       rows = c.args.setting.graph.now.rows;
       from = c.args.path.root;
       to = c.args.path.target;
       flow = c.requires.state.plan.flow;
-      at_least_1 = at.at_least_1;
-      route = route_of (entries_of c.args.setting.graph.now) c.args.setting.graph.now.rows c.args.flow.now c.args.wanted.now c.args.trail.now.stamps.items c.args.trail.now.stamp _ _ c.args.path.root c.args.path.target c.requires.state.plan walk at.wanted;
+      at_least_1 = at_least;
+      route = route_of (entries_of c.args.setting.graph.now) c.args.setting.graph.now.rows c.args.flow.now c.args.wanted.now c.args.trail.now.stamps.items c.args.trail.now.stamp _ _ c.args.path.root c.args.path.target c.requires.state.plan c.requires.walk.route at.wanted;
     }
 
-pub transfer-requires-clause-amount : goal.transfer-requires-clause-amount
-transfer-requires-clause-amount c = (amount (goal.at.transfer-requires-clause-amount c).After-bottleneck-amount).at_least_1
-
 pub transfer-requires-clause-in_excess : goal.transfer-requires-clause-in_excess
-transfer-requires-clause-in_excess c = (amount (goal.at.transfer-requires-clause-in_excess c).After-bottleneck-amount).in_excess
+transfer-requires-clause-in_excess c = (amount (goal.at.transfer-requires-clause-in_excess c).After-bottleneck-amount (omega (arith, ints, c.if-amount-le0.false))).in_excess
 
 pub transfer-requires-clause-in_deficit : goal.transfer-requires-clause-in_deficit
-transfer-requires-clause-in_deficit c = (amount (goal.at.transfer-requires-clause-in_deficit c).After-bottleneck-amount).in_deficit
+transfer-requires-clause-in_deficit c = (amount (goal.at.transfer-requires-clause-in_deficit c).After-bottleneck-amount (omega (arith, ints, c.if-amount-le0.false))).in_deficit
 
 pub returns : goal.returns
 returns c =
-    let at = amount (goal.at.returns c).After-bottleneck-amount in
+    let at_least : pos 1 ≤ℤ to_z w64 (of_z w64 c.bottleneck-amount.result) = omega (arith, ints, c.if-amount-le0.false) in
+    let at = amount (goal.at.returns c).After-bottleneck-amount at_least in
     let nodes = entries_of c.args.setting.graph.now in
     let rows = c.args.setting.graph.now.rows in
     let x = c.args.flow.now in
@@ -90,6 +86,6 @@ returns c =
     let f = c.transfer.new.excess in
     let m = to_z w64 (of_z w64 c.bottleneck-amount.result) in
     let hops = hops_back c.args.trail.now.hops.items c.args.trail.now.len in
-    let route = route_of nodes rows x y c.args.trail.now.stamps.items c.args.trail.now.stamp m hops c.args.path.root c.args.path.target c.requires.state.plan c.requires.found.walk.route at.wanted in
+    let route = route_of nodes rows x y c.args.trail.now.stamps.items c.args.trail.now.stamp m hops c.args.path.root c.args.path.target c.requires.state.plan c.requires.walk.route at.wanted in
     subst (λ (z : List ℤ). IsLedOn nodes rows 1 x y e z y f) (sym c.shift.ensures)
-    (led_one nodes rows x y e f hops c.args.path.root c.args.path.target m c.requires.state route at.wanted at.at_least_1 (omega (arith, c.requires.found.node_in, c.requires.state.excess_sized)) at.in_excess at.in_deficit c.transfer.ensures)
+    (led_one nodes rows x y e f hops c.args.path.root c.args.path.target m c.requires.state route at.wanted at_least c.requires.root_in at.in_excess at.in_deficit c.transfer.ensures)

@@ -1,36 +1,84 @@
 use Rattle.std.proofs.Common.{◌≤◌, ◌<◌, ◌+◌, ◌^◌, arith, rules}
 use Rattle.augmentation.specs.Limits.{left_limit}
 use Rattle.augmentation.specs.Push.{left}
-use Rattle.augmentation.proofs.SettleLemmas.{left-small}
 use Rattle.augmentation.specs.Decomposition.{entries_of}
+use Rattle.augmentation.specs.Trail.{IsTrail}
+use Rattle.augmentation.proofs.SettleLemmas.{left-small}
 use Rattle.augmentation.proofs.DecompositionLemmas.{led-more, led-none, led-wanted}
+use Rattle.augmentation.proofs.TrailLemmas.{arcs_planned, trail_node_in}
 use Rattle.augmentation.proofs.decomposition.push_to.Goals as goal
+use Rattle.augmentation.proofs.decomposition.push_to.Goals.{After-spend, After-spend-else-spare-gt0}
 
-pub loop-setting-init : goal.loop-setting-init
-loop-setting-init c = record {
+-- the walk, once fuel was spent on a push
+pushed : (c : After-spend) → IsTrail c.args.setting.graph.now.rows c.spend.new.self c.args.target c.loop-trail.node
+pushed c = c.spend.ensures.walk c.args.setting.graph.now.rows c.args.target c.loop-trail.node c.loop-trail.invariant.walk
+
+-- the walk, once fuel was spent on a step
+stepped : (c : After-spend-else-spare-gt0) → IsTrail c.args.setting.graph.now.rows c.spend-else-spare-gt0.new.self c.args.target c.loop-trail.node
+stepped c = c.spend-else-spare-gt0.ensures.walk c.args.setting.graph.now.rows c.args.target c.loop-trail.node c.loop-trail.invariant.walk
+
+pub loop-trail-init : goal.loop-trail-init
+loop-trail-init c = record {
   led = led-none (entries_of c.args.setting.graph.now) c.args.setting.graph.now.rows c.args.flow.now c.args.wanted.now c.args.excess.now c.requires.state;
-  trail = c.requires.trail;
+  trail = c.begin.ensures.trail (entries_of c.args.setting.graph.now) c.requires.trail;
+  node_in = c.requires.target_in;
+  walk = c.begin.ensures.walk c.args.setting.graph.now.rows;
 }
+
+pub returns-then-not-spend-clause-trail : goal.returns-then-not-spend-clause-trail
+returns-then-not-spend-clause-trail c = c.spend.ensures.trail (entries_of c.args.setting.graph.now) c.loop-trail.invariant.trail
+
+pub push_route-pushes-requires-clause-walk : goal.push_route-pushes-requires-clause-walk
+push_route-pushes-requires-clause-walk c = pushed (goal.at.push_route-pushes-requires-clause-walk c).After-spend
 
 pub overflow_add-pushes : goal.overflow_add-pushes
 overflow_add-pushes c =
     let small : left c.args.excess.now ≤ left_limit = left-small (entries_of c.args.setting.graph.now) c.args.excess.now c.requires.state.small c.requires.state.excess_sized c.requires.state.plan.flow.few_nodes in
-    let count = c.loop-setting.invariant.led.pushes.count in
-    let one = c.push_route.ensures.pushes.count in
-    let bound : c.loop-setting.pushes + 1 < 2 ^ 64 = omega (arith, small, count, one) in
+    let count = c.loop-trail.invariant.led.pushes.count in
+    let more = c.push_route-pushes.ensures.pushes.count in
+    let bound : c.loop-trail.pushes + c.push_route-pushes.result < 2 ^ 64 = omega (arith, small, count, more) in
     search (rules, bound)
 
-pub loop-setting-smaller : goal.loop-setting-smaller
-loop-setting-smaller c = omega (arith, c.push_route.ensures.pushes.count)
+pub hops_wanted-keep-requires-clause-fits : goal.hops_wanted-keep-requires-clause-fits
+hops_wanted-keep-requires-clause-fits c = (pushed (goal.at.hops_wanted-keep-requires-clause-fits c).After-spend).fits
 
-pub push_route-requires-clause-state : goal.push_route-requires-clause-state
-push_route-requires-clause-state c = (led-wanted c.find_route.new.wanted c.loop-setting.invariant.led c.in-Some.ensures.nearer).state
+pub hops_wanted-keep-requires-clause-plan : goal.hops_wanted-keep-requires-clause-plan
+hops_wanted-keep-requires-clause-plan c =
+    let walk = pushed (goal.at.hops_wanted-keep-requires-clause-plan c).After-spend in
+    arcs_planned (entries_of c.args.setting.graph.now) c.args.setting.graph.now.rows c.push_route-pushes.new.flow c.loop-trail.wanted _ c.push_route-pushes.ensures.state.plan walk.route.arcs
 
-pub loop-setting-preserved : goal.loop-setting-preserved
-loop-setting-preserved c = record {
-  led = led-more (led-wanted c.find_route.new.wanted c.loop-setting.invariant.led c.in-Some.ensures.nearer) c.push_route.ensures;
+pub cut-node-requires : goal.cut-node-requires
+cut-node-requires c = record { walk = record { target = c.args.target; is = pushed (goal.at.cut-node-requires c).After-spend } }
+
+pub loop-trail-preserved-then-spare-gt0 : goal.loop-trail-preserved-then-spare-gt0
+loop-trail-preserved-then-spare-gt0 c =
+    let nodes = entries_of c.args.setting.graph.now in
+    let rows = c.args.setting.graph.now.rows in
+    let after = c.cut-node.ensures.walk c.args.target (pushed (goal.at.loop-trail-preserved-then-spare-gt0 c).After-spend) in
+    let sized = c.cut-node.ensures.trail nodes (c.spend.ensures.trail nodes c.loop-trail.invariant.trail) in
+    record {
+      led = led-more c.loop-trail.invariant.led c.push_route-pushes.ensures;
+      trail = sized;
+      node_in = omega (arith, trail_node_in rows c.cut-node.new.self c.args.target c.cut-node.result after, sized.stamps_sized);
+      walk = after;
+    }
+
+pub returns-then-not-spend-2-clause-trail : goal.returns-then-not-spend-2-clause-trail
+returns-then-not-spend-2-clause-trail c = c.spend-else-spare-gt0.ensures.trail (entries_of c.args.setting.graph.now) c.loop-trail.invariant.trail
+
+pub step-requires-clause-trail : goal.step-requires-clause-trail
+step-requires-clause-trail c = c.spend-else-spare-gt0.ensures.trail (entries_of c.args.setting.graph.now) c.loop-trail.invariant.trail
+
+pub step-requires-clause-walk : goal.step-requires-clause-walk
+step-requires-clause-walk c = record { target = c.args.target; is = stepped (goal.at.step-requires-clause-walk c).After-spend-else-spare-gt0 }
+
+pub loop-trail-preserved : goal.loop-trail-preserved
+loop-trail-preserved c = record {
+  led = led-wanted c.step.new.wanted c.loop-trail.invariant.led c.in-Some.ensures.nearer;
   trail = c.in-Some.ensures.trail;
+  node_in = c.in-Some.ensures.walk.0;
+  walk = c.in-Some.ensures.walk.1 c.args.target (stepped (goal.at.loop-trail-preserved c).After-spend-else-spare-gt0);
 }
 
 pub returns-in-None-clause-led : goal.returns-in-None-clause-led
-returns-in-None-clause-led c = led-wanted c.find_route.new.wanted c.loop-setting.invariant.led c.in-None.ensures.nearer
+returns-in-None-clause-led c = led-wanted c.step.new.wanted c.loop-trail.invariant.led c.in-None.ensures.nearer
