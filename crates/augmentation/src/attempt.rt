@@ -6,6 +6,7 @@ ghost use Rattle.residual_graph.specs.Residual.{IsPseudoflow};
 ghost use Rattle.augmentation.specs.Attempt.{IsAttemptFor};
 
 use crate::draft::Draft;
+use crate::trail::Trail;
 use proposals::{Aim, Proposals, Wanted};
 use residual_graph::Graph;
 use std::alloc::{AllocError, Global};
@@ -33,11 +34,17 @@ impl Attempt {
         let arcs = arcs.min(MOST_ARCS);
         let proposals = Proposals::new(alloc, entries, arcs)?;
         let wanted = Wanted::new(alloc, entries, arcs)?;
-        let draft = Draft::new(alloc, entries, arcs)?;
+        let flow = Vec::with_capacity(alloc, arcs)?;
+        let excess = Vec::with_capacity(alloc, entries)?;
+        let trail = Trail::new(alloc, entries)?;
         Ok(Attempt {
             proposals,
             wanted,
-            draft,
+            draft: Draft {
+                flow,
+                excess,
+                trail,
+            },
         })
     }
 

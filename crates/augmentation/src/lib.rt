@@ -32,6 +32,7 @@ pub use adoption::{adopt, push_all};
 pub use attempt::Attempt;
 pub use augment::push_found;
 pub use blocking::Walks;
+pub use certificate::{certifies, is_within};
 pub use cut::{mark_side, take_marks};
 pub use draft::Draft;
 pub use excess::Excess;
