@@ -1,5 +1,5 @@
 #!/usr/bin/env python3
-"""Writes a network problem in a DIMACS format, the same for the same arguments, and with a legal flow by construction."""
+"""Writes a network problem in a DIMACS format, the same for the same arguments, and with a legal flow."""
 
 import argparse
 import os
@@ -238,7 +238,7 @@ def main():
     parser = argparse.ArgumentParser(description=__doc__)
     parser.add_argument("shape", choices=SHAPES)
     parser.add_argument("size", choices=SIZES)
-    parser.add_argument("--seed", type=int, default=1, help="another number gives another problem of the same shape and size")
+    parser.add_argument("--seed", type=int, default=1, help="another number gives another such problem")
     parser.add_argument("--as-min", action="store_true", help="tell an assignment as a minimum-cost flow")
     options = parser.parse_args()
     write_problem(sys.stdout, options.shape, options.size, options.seed, options.as_min)

@@ -1,0 +1,146 @@
+"""Runs of programs: processor time, peak memory and output."""
+
+from __future__ import annotations
+
+import ctypes
+import math
+import os
+import re
+import resource
+import signal
+import subprocess
+import tempfile
+import time
+from contextlib import suppress
+from dataclasses import dataclass, replace
+from pathlib import Path
+from typing import IO, List, Optional, Sequence, Tuple, Union
+
+Word = Union[str, Path]
+Stream = Union[int, IO[bytes]]
+# How often memory is looked at, and the fewest looks that tell a peak.
+SAMPLE_SECONDS, FEWEST_SAMPLES = 0.002, 5
+
+
+@dataclass(frozen=True)
+class Run:
+    """A run that came to its end, or was cut off at its limit; its seconds are of processor time."""
+
+    seconds: float
+    status: int
+    is_cut_off: bool
+    # In MiB. None where the run was too short to be sampled.
+    peak: Optional[float]
+    output: bytes
+
+    def lines(self, letters: str) -> List[bytes]:
+        """The lines that begin with one of these letters."""
+        return re.findall(rb"^[%b] .*" % letters.encode("ascii"), self.output, re.MULTILINE)
+
+    def without_output(self) -> "Run":
+        return replace(self, output=b"")
+
+
+def start(words: Sequence[Word], limit: int, entry: Stream, output: Stream) -> "subprocess.Popen[bytes]":
+    """Starts a command that the system ends after `limit` seconds of processor time."""
+    # The command takes the limit over from this process, which has it for so long alone: code to be run between the
+    # start of the process and that of the program would count as time of the program.
+    old = resource.getrlimit(resource.RLIMIT_CPU)
+    signal.signal(signal.SIGXCPU, lambda *_: None)
+    resource.setrlimit(resource.RLIMIT_CPU, (limit, old[1]))
+    try:
+        return subprocess.Popen(words, stdin=entry, stdout=output, stderr=subprocess.STDOUT)
+    finally:
+        resource.setrlimit(resource.RLIMIT_CPU, old)
+
+
+def run(words: Sequence[Word], limit: int, commands: bytes = b"") -> Run:
+    """Runs a command with `commands` on its standard input, for at most `limit` seconds of processor time."""
+    with tempfile.TemporaryFile() as entry, tempfile.TemporaryFile() as output:
+        entry.write(commands)
+        entry.seek(0)
+        process = start(words, limit, entry, output)
+        peaks: List[float] = []
+        while True:
+            ended, status, usage = os.wait4(process.pid, os.WNOHANG)
+            if ended:
+                break
+            # What the system tells at the end would begin with the peak of this process, which may be the greater one.
+            peaks += peak_of(process.pid)
+            time.sleep(SAMPLE_SECONDS)
+        process.returncode = -os.WTERMSIG(status) if os.WIFSIGNALED(status) else os.WEXITSTATUS(status)
+        output.seek(0)
+        return Run(
+            seconds=usage.ru_utime + usage.ru_stime,
+            status=process.returncode,
+            is_cut_off=process.returncode == -signal.SIGXCPU,
+            peak=max(peaks) if len(peaks) >= FEWEST_SAMPLES else None,
+            output=output.read(),
+        )
+
+
+def peak_of(process: int) -> List[float]:
+    """The peak memory of a process so far, in MiB; none once it has ended."""
+    try:
+        status = Path(f"/proc/{process}/status").read_text(encoding="ascii")
+    except OSError:
+        return []
+    return [int(peak) / 1024 for peak in re.findall(r"^VmHWM:\s*(\d+) kB", status, re.MULTILINE)]
+
+
+def processor_seconds(process: "subprocess.Popen[bytes]") -> float:
+    """The processor time that a process has taken so far."""
+    clock = ctypes.c_int()
+    if ctypes.CDLL(None).clock_getcpuclockid(process.pid, ctypes.byref(clock)) != 0:
+        raise ProcessLookupError(process.pid)
+    return time.clock_gettime(clock.value)
+
+
+def ask_all(words: Sequence[Word], limit: int, commands: Sequence[bytes]) -> Tuple[List[float], List[bytes]]:
+    """Sends commands to a session one by one; gives the seconds of each, and all replies from that to the opening on.
+
+    Where the session ends before the last command, both lists are shorter.
+    """
+    taken: List[float] = []
+    process = start(words, limit, subprocess.PIPE, subprocess.PIPE)
+    assert process.stdin is not None and process.stdout is not None
+    replies = [process.stdout.readline()]
+    # Where a session has ended, the replies that are missing tell it.
+    with suppress(BrokenPipeError, ProcessLookupError):
+        for command in commands:
+            before = processor_seconds(process)
+            process.stdin.write(command)
+            process.stdin.flush()
+            replies.append(process.stdout.readline())
+            taken.append(processor_seconds(process) - before)
+    with suppress(BrokenPipeError):
+        process.stdin.close()
+    process.wait()
+    process.stdout.close()
+    return taken, replies
+
+
+def quickest(runs: Sequence[Run]) -> Run:
+    """The run that took least, since what else the machine does can only add to it, with the greatest peak of all."""
+    best = min(runs, key=lambda one: one.seconds)
+    return replace(best, peak=max((one.peak for one in runs if one.peak is not None), default=None))
+
+
+def lemon_verdict(report: Run) -> Optional[bytes]:
+    """The value that dimacs-solver reports, or `infeasible`; None where it came to no end."""
+    found = re.search(rb"(?:Max flow value|Min flow cost): (-?\d+)", report.output)
+    if found is not None:
+        return found[1]
+    return b"infeasible" if b"Feasible flow: not found" in report.output else None
+
+
+def verdict(answer: Run) -> Optional[bytes]:
+    """The value of an answer of `mcf solve`, or `infeasible`; None where there is no answer."""
+    first = answer.lines("si")[:1]
+    if not first:
+        return None
+    return first[0][2:] if first[0].startswith(b"s") else b"infeasible"
+
+
+def geometric_mean(ratios: Sequence[float]) -> float:
+    return math.exp(sum(math.log(ratio) for ratio in ratios) / len(ratios))
