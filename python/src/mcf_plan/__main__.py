@@ -168,6 +168,8 @@ def _read(options: argparse.Namespace) -> Problem:
 
 def _plan(options: argparse.Namespace) -> int:
     problem = _read(options)
+    for note in problem.notes:
+        print(f"note: {note}", file=sys.stderr)
     result = problem.solve(surplus=options.surplus, time_limit=options.time_limit)
     if options.json:
         from .report import to_json
@@ -190,8 +192,6 @@ def _plan(options: argparse.Namespace) -> int:
 
 def tell(result: Union[Plan, Infeasible], out: TextIO) -> None:
     """Prints a plan, or why there is none, for people."""
-    for note in result.notes:
-        print(f"note: {note}", file=sys.stderr)
     if isinstance(result, Infeasible):
         print(result.explain(), file=out)
         return
@@ -303,8 +303,8 @@ def _faults(options: argparse.Namespace) -> int:
         print(f"note: the supplies add up to {total}, and not to 0, so there is no plan; is the sign of a demand missing? "
               "`mcf-plan plan --surplus keep` lets the rest stay")
     if found.kind == "asn" and 2 * len(found.supplies) != found.nodes:
-        print(f"note: {len(found.supplies)} nodes are on the source side and {found.nodes - len(found.supplies)} on the sink "
-              "side, so there is no assignment; `mcf-plan plan --surplus keep` lets the rest be alone")
+        print(f"note: the nodes are {len(found.supplies)} on the source side and {found.nodes - len(found.supplies)} on the "
+              "sink side, so there is no assignment; `mcf-plan plan --surplus keep` lets the rest be alone")
     return 0
 
 
@@ -405,7 +405,7 @@ class Conversation:
     def answer(self, line: str) -> None:
         """Does what a line says."""
         try:
-            words = shlex.split(line, comments=True)
+            words = [] if line.lstrip().startswith("#") else shlex.split(line)
         except ValueError as error:
             return self.say(f"refused, nothing is changed: {error}")
         if not words:

@@ -39,17 +39,18 @@ def explain(infeasible: Infeasible) -> str:
             return hall
     inside = [name for name in infeasible.problem.nodes if name in infeasible.cut]
     outside = [name for name in infeasible.problem.nodes if name not in infeasible.cut]
-    if not outside and not infeasible.rest_in_cut:
+    if not (inside if infeasible.rest_in_cut else outside):
         return _whole_network(infeasible)
-    if infeasible.rest_in_cut or not inside:
+    if infeasible.rest_in_cut:
         # The side without the rest is told: what is too much on one side is too little on the other.
-        return "\n".join(_Side(infeasible, crossing, outside, False).lines(not is_too_much))
+        told = _Side(infeasible, crossing, outside, False)
+        return "\n".join([*told.lines(not is_too_much), _help(infeasible, told, not is_too_much)])
     side = _Side(infeasible, crossing, inside, True)
     lines = side.lines(is_too_much)
     other = _Side(infeasible, crossing, outside, False)
     if infeasible.rest_cost is None and side.supply + other.supply == 0:
         lines.append(f"Seen from the other side: {other.sentence(not is_too_much)}.")
-    lines.append(_help(infeasible, crossing, is_too_much, side))
+    lines.append(_help(infeasible, side, is_too_much))
     return "\n".join(lines)
 
 
@@ -127,16 +128,15 @@ class _Side:
         return f"at most {_limit(most)} can {verb}"
 
 
-def _help(infeasible: Infeasible, crossing: Crossing, is_too_much: bool, side: _Side) -> str:
+def _help(infeasible: Infeasible, side: _Side, is_too_much: bool) -> str:
     """What would take the shortage away."""
     short = plain(infeasible.shortage)
-    limiting = crossing.leaving if is_too_much else crossing.entering
-    forcing = crossing.entering if is_too_much else crossing.leaving
+    limiting, forcing = (side.leaving, side.entering) if is_too_much else (side.entering, side.leaving)
     ways = [f"{short} more capacity there" if limiting else
             f"an arc that {'leads out' if is_too_much else 'leads in'}, for {short}"]
     if any(infeasible.problem.arcs[k].low for k in forcing):
         ways.append(f"lower bounds that are {short} lower")
-    if side.supplying or side.demanding:
+    if side.supplying if is_too_much else side.demanding:
         balanced = infeasible.rest_cost is None and total_of(infeasible.problem.nodes.values()) == 0 \
             and infeasible.problem.balance == "equal"
         what = "supply" if is_too_much else "demand"
@@ -171,7 +171,8 @@ def _hall(infeasible: Infeasible, is_too_much: bool) -> str:
         have = "has no partner" if len(crowd) == 1 else "have no partner at all"
         return f"There is no assignment: {who} {have}."
     ordered = [name for name in problem.nodes if name in partners]
-    count = f"these {len(crowd)} nodes have these {len(ordered)} alone between them, so {without}"
+    between = f"these {len(ordered)}" if len(ordered) > 1 else "this one"
+    count = f"these {len(crowd)} nodes have {between} alone between them, so {without}"
     return (f"There is no assignment: {count}.\n"
             f"  {', '.join(_told(crowd))}\n"
             f"  {'has' if len(crowd) == 1 else 'have'} {', '.join(_told(ordered))} alone")

@@ -206,7 +206,8 @@ def read_tables(nodes: Optional[Source], arcs: Source, *, kind: str = "min", bal
     alone = _read_arcs(problem, _Table(arcs), is_open)
     if nodes is not None and kind != "asn" and alone:
         told = ", ".join(alone[:5]) + (f" and {len(alone) - 5} more" if len(alone) > 5 else "")
-        problem.notes.append(f"{len(alone)} nodes stand in the table of arcs alone, and supply nothing: {told}")
+        count = "1 node stands" if len(alone) == 1 else f"{len(alone)} nodes stand"
+        problem.notes.append(f"{count} in the table of arcs alone, and supply nothing: {told}")
     lonely = [name for name, still in is_open.items() if still and kind == "asn"]
     if lonely:
         raise TableFault(f"node {lonely[0]} has neither an arc nor a supply that says on which side it is")
