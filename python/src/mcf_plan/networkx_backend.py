@@ -287,9 +287,7 @@ class Backend:
         """Cost and flows of a flow of least cost that meets all demands."""
         import networkx as nx
 
-        refuse_undirected(G)
-        if len(G) == 0:
-            raise nx.NetworkXError("graph has no nodes")
+        refuse_undirected_or_empty(G)
         network = LeastCost(G, demand, capacity, weight)
         network.check_numbers()
         network.check_feasible()
@@ -307,7 +305,7 @@ class Backend:
         nothing."""
         import networkx as nx
 
-        refuse_undirected(G)
+        refuse_undirected_or_empty(G)
         network = LeastCost(G, demand, capacity, weight)
         if any(map(is_infinite, network.demands)):
             raise nx.NetworkXUnfeasible("Sum of the demands should be 0.")
@@ -368,7 +366,7 @@ class Backend:
         """Value and sides of a minimum cut, the same that networkx tells."""
         import networkx as nx
 
-        if options.get("cutoff") is not None and getattr(flow_func, "__name__", "") == "preflow_push":
+        if options.get("cutoff") is not None:
             raise nx.NetworkXError("cutoff should not be specified.")
         R, flow = self._maximum_flow(flowG, _s, _t, capacity, (flow_func, options))
         return R.graph["flow_value"], flow.partition()
@@ -477,12 +475,14 @@ def refuse_foreign(flow_func: Any) -> None:
         raise nx.NetworkXNotImplemented("the backend mcf takes networkx' own algorithms as flow_func alone")
 
 
-def refuse_undirected(G: Any) -> None:
-    """Raises NetworkXNotImplemented where a graph is undirected."""
-    if not G.is_directed():
-        import networkx as nx
+def refuse_undirected_or_empty(G: Any) -> None:
+    """Raises NetworkXNotImplemented where a graph is undirected, NetworkXError where it has no node."""
+    import networkx as nx
 
+    if not G.is_directed():
         raise nx.NetworkXNotImplemented("not implemented for undirected type")
+    if len(G) == 0:
+        raise nx.NetworkXError("graph has no nodes")
 
 
 backend = Backend()
