@@ -21,7 +21,7 @@ class ScipyLike(unittest.TestCase):
         infeasible = 0
         for case in range(120):
             shape = draws.randint(1, 8), draws.randint(1, 8)
-            gaps = draws.choice([0, 0, 0.3, 0.6])
+            gaps = draws.choice([0, 0, 0.5, 0.8])
             matrix = np.array([[float("inf") if draws.random() < gaps else
                                 draws.choice([draws.randint(-20, 99), draws.randint(-400, 400) / 8])
                                 for _ in range(shape[1])] for _ in range(shape[0])], dtype=float)
