@@ -99,7 +99,7 @@ class Sensitivity(unittest.TestCase):
             step, reach = steps_and_reach(plan)
             for number, (arc, flow) in enumerate(zip(problem.arcs, plan.flows)):
                 for end, side in ((told[number].least_cost, -1), (told[number].greatest_cost, 1)):
-                    at = arc.cost + side * reach if end is None else end
+                    at = arc.cost + side * step * reach if end is None else end
                     # A circle without capacities that costs less than 0 shows that the plan is not best there.
                     line = plan.cost + (at - arc.cost) * flow
                     self.assertEqual(worth(changed(problem, number, cost=at)), line)

@@ -177,44 +177,50 @@ def saved(beside: Session, answer: Union[Plan, Infeasible], arc: int) -> Decimal
 def end_of_range(beside: Session, plan: Plan, arc: int, side: int) -> Optional[Decimal]:
     """The end of an arc's range of costs on the side of lower (-1) or higher (1) ones; None where there is none.
 
-    The cost of the plan is a line over the arc's cost, and that of a best plan lies nowhere above it. From a cost
-    beyond the end, each step goes to where the line of the plan that is best there meets it. Ends are sums of costs, so
-    they have no more decimals than these.
+    By how much the plan is dearer than a best one grows with the distance from the end, and grows the faster the
+    further. From a cost beyond the end, each step goes to where the line through two neighbouring points of this curve
+    meets 0, which is never before the end. Ends are sums of costs, and have no more decimals than these.
     """
-    row, flow = plan.problem.arcs[arc], plan.flows[arc]
-    if flow == (row.low if side > 0 else row.cap):
+    row = plan.problem.arcs[arc]
+    if plan.flows[arc] == (row.low if side > 0 else row.cap):
         return None
-    step, reach = steps_and_reach(plan)
-    at = row.cost + side * reach
-    first = True
+    step, distance = steps_and_reach(plan)
+    has_end = False
     while True:
+        at = row.cost + side * distance * step
         try:
-            best = beside.set_cost(arc, at)
+            far = dearer(beside, plan, arc, at)
+            near = dearer(beside, plan, arc, at - side * step) if far else far
         except Unbounded as unbounded:
-            # The end is not beyond the cost by which the circle costs nothing.
-            at = -sum((plan.problem.arcs[other].cost for other in unbounded.arcs if other != arc), Decimal(0))
-            first = False
+            # The end is not beyond the cost by which this circle costs nothing.
+            others = (plan.problem.arcs[other].cost for other in unbounded.arcs if other != arc)
+            distance, has_end = int((-sum(others, Decimal(0)) - row.cost) * side / step), True
             continue
-        assert best is not None
-        if best == plan.cost + (at - row.cost) * flow:
-            beside.undo()
-            return None if first else at
-        there = beside.plan(check=False)
-        beside.undo()
-        assert isinstance(there, Plan)
-        other = there.flows[arc]
-        meeting = Fraction(best - plan.cost + row.cost * flow - at * other) / Fraction(flow - other)
-        steps = meeting / Fraction(step)
-        at = step * (steps.numerator // steps.denominator if side > 0 else -(-steps.numerator // steps.denominator))
-        first = False
+        except BeyondLimits:
+            distance //= 2
+            continue
+        if far == 0:
+            return at if has_end else None
+        if near == 0:
+            return at - side * step
+        distance, has_end = distance - 1 - int(near / (far - near)), True
 
 
-def steps_and_reach(plan: Plan) -> Tuple[Decimal, Decimal]:
-    """The last decimal place of the costs, and how far an end may be from a cost at most."""
+def dearer(beside: Session, plan: Plan, arc: int, cost: Decimal) -> Fraction:
+    """By how much the plan is dearer than a best one where an arc has this cost."""
+    best = beside.set_cost(arc, cost)
+    beside.undo()
+    assert best is not None
+    row, flow = plan.problem.arcs[arc], Fraction(plan.flows[arc])
+    return Fraction(plan.cost) + (Fraction(cost) - Fraction(row.cost)) * flow - Fraction(best)
+
+
+def steps_and_reach(plan: Plan) -> Tuple[Decimal, int]:
+    """The last decimal place of the costs, and how many of these an end may be away from a cost at most."""
     costs = [arc.cost for arc in plan.problem.arcs] + [plan.rest_cost or Decimal(0)] * 2
     places = max(max(0, -int(cost.normalize().as_tuple().exponent)) for cost in costs)
     step = Decimal(1).scaleb(-places)
-    return step, 2 * sum(map(abs, costs), Decimal(0)) + step
+    return step, int(2 * sum(map(abs, costs), Decimal(0)) / step) + 1
 
 
 def set_number(beside: Session, what: What, value: Decimal) -> Optional[Decimal]:
