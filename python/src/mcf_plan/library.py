@@ -21,7 +21,7 @@ import queue
 import threading
 import time
 from pathlib import Path
-from typing import Any, Callable, List, Optional, Tuple, TypeVar
+from typing import Any, Callable, List, Optional, Tuple, TypeVar, cast
 
 from .dimacs import Text, find_fault, parse_problem
 from .program import Dialogue, Program, ProgramFailed, Refused, TimeLimit, as_bytes
@@ -208,7 +208,7 @@ class _Worker:
             raise
         if error is not None:
             raise error
-        return result
+        return cast(Result, result)
 
     def end(self, last: Optional[Callable[[], object]] = None) -> None:
         """Ends the thread, after what it does and `last`."""

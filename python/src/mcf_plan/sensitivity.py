@@ -23,17 +23,17 @@ from __future__ import annotations
 from collections import deque
 from decimal import Decimal
 from fractions import Fraction
-from typing import Deque, Dict, FrozenSet, Iterable, List, NamedTuple, Optional, Tuple, Union
+from typing import Any, Callable, Deque, Dict, FrozenSet, Iterable, List, NamedTuple, Optional, Set, Tuple, Union
 
 from .plan import Disagreement, Infeasible, Plan
-from .problem import Number, Problem, exact
+from .problem import ArcKey, Number, exact
 from .rewrite import BeyondLimits, Meaningless, Unbounded
-from .session import ArcKey, Session
+from .session import Session
 
 Limits = Tuple[Optional[Decimal], Optional[Decimal]]
 """The least and the greatest value; None where there is no end."""
 
-What = Union[Tuple[str, ArcKey], Tuple[str, str, str]]
+What = Tuple[Any, ...]
 """A number of a problem: ('cap', arc), ('low', arc), ('cost', arc) or ('supply', node); or ('supply', node, other),
 where the supply of the node `other` changes by as much the other way."""
 
@@ -122,7 +122,8 @@ def minimum_cut(plan: Plan) -> Cut:
             further.setdefault(arc.tail, []).append(arc.head)
         if flow > arc.low:
             further.setdefault(arc.head, []).append(arc.tail)
-    reached, queue = {problem.source}, deque([problem.source])  # type: Tuple[set[str], Deque[str]]
+    reached: Set[str] = {problem.source}
+    queue: Deque[str] = deque(reached)
     while queue:
         for node in further.get(queue.popleft(), ()):
             if node not in reached:
@@ -220,20 +221,21 @@ def steps_and_reach(plan: Plan) -> Tuple[Decimal, int]:
     costs = [arc.cost for arc in plan.problem.arcs] + [plan.rest_cost or Decimal(0)] * 2
     places = max(max(0, -int(cost.normalize().as_tuple().exponent)) for cost in costs)
     step = Decimal(1).scaleb(-places)
-    return step, int(2 * sum(map(abs, costs), Decimal(0)) / step) + 1
+    return step, int(2 * sum((abs(cost) for cost in costs), Decimal(0)) / step) + 1
 
 
 def set_number(beside: Session, what: What, value: Decimal) -> Optional[Decimal]:
     """Sets one number of a session, as one step, and answers the cost then."""
     if what[0] == "supply" and len(what) == 3:
-        node, other = str(what[1]), str(what[2])
+        node, other = what[1:]
         nodes = beside.problem.nodes
-        change = value - nodes[node]
+        left = nodes[other] - (value - nodes[node])
         with beside.group():
             beside.set_supply(node, value)
-            beside.set_supply(other, nodes[other] - change)
+            beside.set_supply(other, left)
         return beside.cost
-    edits = {"cap": beside.set_cap, "low": beside.set_low, "cost": beside.set_cost, "supply": beside.set_supply}
-    if what[0] not in edits:
-        raise ValueError(f"{what[0]!r} is no number of a problem: it has to be 'cap', 'low', 'cost' or 'supply'")
-    return edits[what[0]](what[1], value)  # type: ignore[operator]
+    edits: Dict[str, Callable[[Any, Decimal], Optional[Decimal]]] = {
+        "cap": beside.set_cap, "low": beside.set_low, "cost": beside.set_cost, "supply": beside.set_supply}
+    if what[0] not in edits or len(what) != 2:
+        raise ValueError(f"{what!r} is no number of a problem: say 'cap', 'low', 'cost' or 'supply', and where")
+    return edits[what[0]](what[1], value)
