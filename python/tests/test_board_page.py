@@ -88,7 +88,8 @@ class PageTest(unittest.TestCase):
             "--no-first-run",
             "--disable-background-networking",
         ]
-        for word in words + (["--no-sandbox"] if os.geteuid() == 0 else []):
+        # The browser shows pages of these tests alone; root and small containers can't have its sandbox.
+        for word in words + ["--no-sandbox"]:
             options.add_argument(word)
         options.set_capability("goog:loggingPrefs", {"browser": "ALL", "performance": "ALL"})
         cls.browser = webdriver.Chrome(options=options, service=Service(DRIVER))
@@ -180,6 +181,8 @@ class PageTest(unittest.TestCase):
         self.edit("capacity north to middle", "2")
         self.assertEqual(self.worth(), "32.75")
         self.assertEqual(self.text("#since"), "(at first 25.5)")
+        # The ferry costs 9, and the way by the middle 1.25 and 0.5.
+        self.assertEqual([cell.text for cell in self.all("#arcs td.saves")], ["7.25", "", "", "", ""])
         self.edit("unit cost ferry", "2.5")
         self.assertEqual(self.worth(), "26.25")
         self.after(self.at("#undo").click)
