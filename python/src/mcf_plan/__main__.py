@@ -31,7 +31,7 @@ def main(arguments: Optional[List[str]] = None) -> int:
     """Runs the command and returns its status."""
     options = _parser().parse_args(arguments)
     try:
-        status = options.run(options)
+        status: int = options.run(options)
         sys.stdout.flush()
         return status
     except Unbounded as error:

@@ -171,17 +171,18 @@ class Plan:
             caps = {arc.name: arc.cap for arc in rest_arcs(self.problem, self.rest_cost) if arc.is_kept == is_kept} \
                 if rest else {}
             for name, amount in rest.items():
-                if name not in caps or amount < 0 or (caps[name] is not None and amount > caps[name]):
+                cap = caps.get(name)
+                if name not in caps or amount < 0 or cap is not None and amount > cap:
                     raise Disagreement(f"node {name} may not {'keep' if is_kept else 'go without'} {plain(amount)}")
         supplies = scale.wholes(self.problem.nodes.values())
-        for (name, amount), supply in zip(net.items(), supplies):
+        for (name, leaving), supply in zip(net.items(), supplies):
             wanted = supply
             if name in self.kept:
                 wanted -= scale.whole(self.kept[name])
             if name in self.not_met:
                 wanted += scale.whole(self.not_met[name])
-            if amount != wanted:
-                raise Disagreement(f"node {name}: {plain(Decimal(amount) / scale.units)} leave it, and it supplies "
+            if leaving != wanted:
+                raise Disagreement(f"node {name}: {plain(Decimal(leaving) / scale.units)} leave it, and it supplies "
                                    f"{plain(Decimal(wanted) / scale.units)}")
 
     def _verify_prices(self) -> None:

@@ -77,7 +77,8 @@ def exact(value: Number, what: str = "the number") -> Decimal:
             raise ValueError(f"{what} is {value!r}, and has to be a finite number")
     if not number:
         return ZERO
-    if not -60 <= number.adjusted() <= 60 or len(number.as_tuple().digits) > 60:
+    is_short = isinstance(value, str) and len(value) <= 60
+    if not -60 <= number.adjusted() <= 60 or not is_short and len(number.as_tuple().digits) > 60:
         raise ValueError(f"{what} is {value!r}, which has more than 60 digits")
     return number
 
@@ -213,9 +214,10 @@ class Problem:
         """Lists the arcs by their ends, `TAIL to HEAD` and names; a name goes before `TAIL to HEAD` of another arc."""
         numbers: Dict[Union[str, Tuple[str, str]], int] = {}
         for number, arc in enumerate(self.arcs):
-            for key in ((arc.tail, arc.head), f"{arc.tail} to {arc.head}"):
+            keys: Tuple[Union[str, Tuple[str, str]], ...] = ((arc.tail, arc.head), f"{arc.tail} to {arc.head}")
+            for key in keys:
                 numbers[key] = -1 if key in numbers else number
-        named: Dict[str, int] = {}
+        named: Dict[Union[str, Tuple[str, str]], int] = {}
         for number, arc in enumerate(self.arcs):
             if arc.name:
                 named[arc.name] = -1 if arc.name in named else number

@@ -183,7 +183,7 @@ def _number_hint(cell: str) -> str:
 
 def _pandas() -> Any:
     try:
-        import pandas
+        import pandas  # type: ignore[import]
     except ImportError:
         raise TableFault("spreadsheets want pandas, which is not installed; save the table as CSV") from None
     return pandas
@@ -274,7 +274,7 @@ PLAN_COLUMNS = ("name", "from", "to", "low", "capacity", "cost", "flow", "total 
 def plan_rows(plan: Plan) -> List[Tuple[str, ...]]:
     """The rows of a plan's table, one an arc, under `PLAN_COLUMNS`. Numbers are written out; a capacity that is not there,
     and what is not known, is empty."""
-    rows = []
+    rows: List[Tuple[str, ...]] = []
     for k, (arc, flow) in enumerate(zip(plan.problem.arcs, plan.flows)):
         rows.append((arc.name or "", arc.tail, arc.head, plain(arc.low), "" if arc.cap is None else plain(arc.cap),
                      plain(arc.cost), plain(flow), plain(WIDE.multiply(flow, arc.cost)), "yes" if plan.is_full(k) else "no",
