@@ -77,7 +77,8 @@ def cost_range(session: Session, arc: ArcKey) -> Limits:
     """
     place, plan = session.problem.find_arc(arc), standing_plan(session)
     with apart(session) as beside:
-        return end_of_range(beside, plan, place, -1), end_of_range(beside, plan, place, 1)
+        grid = steps_and_reach(plan)
+        return end_of_range(beside, plan, place, -1, grid), end_of_range(beside, plan, place, 1, grid)
 
 
 def ranges(session: Session) -> List[Ranges]:
@@ -85,11 +86,12 @@ def ranges(session: Session) -> List[Ranges]:
     kind, plan = session.problem.kind, session.plan()
     if isinstance(plan, Infeasible):
         raise Meaningless("there is no plan, so it has no ranges")
+    grid = steps_and_reach(plan)
     with apart(session) as beside:
         return [
             Ranges(arc, Decimal(0) if kind == "asn" else saved(beside, plan, arc),
                    *((None, None) if kind == "max" else
-                     (end_of_range(beside, plan, arc, -1), end_of_range(beside, plan, arc, 1))))
+                     (end_of_range(beside, plan, arc, -1, grid), end_of_range(beside, plan, arc, 1, grid))))
             for arc in range(len(session.problem.arcs))
         ]
 
@@ -175,7 +177,7 @@ def saved(beside: Session, answer: Union[Plan, Infeasible], arc: int) -> Decimal
     return answer.shortage - (left or Decimal(0))
 
 
-def end_of_range(beside: Session, plan: Plan, arc: int, side: int) -> Optional[Decimal]:
+def end_of_range(beside: Session, plan: Plan, arc: int, side: int, grid: Tuple[Decimal, int]) -> Optional[Decimal]:
     """The end of an arc's range of costs on the side of lower (-1) or higher (1) ones; None where there is none.
 
     By how much the plan is dearer than a best one grows with the distance from the end, and grows the faster the
@@ -185,32 +187,35 @@ def end_of_range(beside: Session, plan: Plan, arc: int, side: int) -> Optional[D
     row = plan.problem.arcs[arc]
     if plan.flows[arc] == (row.low if side > 0 else row.cap):
         return None
-    step, distance = steps_and_reach(plan)
+    step, distance = grid
     has_end = False
-    while True:
-        at = row.cost + side * distance * step
-        try:
-            far = dearer(beside, plan, arc, at)
-            near = dearer(beside, plan, arc, at - side * step) if far else far
-        except Unbounded as unbounded:
-            # The end is not beyond the cost by which this circle costs nothing.
-            others = (plan.problem.arcs[other].cost for other in unbounded.arcs if other != arc)
-            distance, has_end = int((-sum(others, Decimal(0)) - row.cost) * side / step), True
-            continue
-        except BeyondLimits:
-            distance //= 2
-            continue
-        if far == 0:
-            return at if has_end else None
-        if near == 0:
-            return at - side * step
-        distance, has_end = distance - 1 - int(near / (far - near)), True
+    beside.mark("as it stands")
+    try:
+        while True:
+            at = row.cost + side * distance * step
+            try:
+                far = dearer(beside, plan, arc, at)
+                near = dearer(beside, plan, arc, at - side * step) if far else far
+            except Unbounded as unbounded:
+                # The end is not beyond the cost by which this circle costs nothing.
+                others = (plan.problem.arcs[other].cost for other in unbounded.arcs if other != arc)
+                distance, has_end = int((-sum(others, Decimal(0)) - row.cost) * side / step), True
+                continue
+            except BeyondLimits:
+                distance //= 2
+                continue
+            if far == 0:
+                return at if has_end else None
+            if near == 0:
+                return at - side * step
+            distance, has_end = distance - 1 - int(near / (far - near)), True
+    finally:
+        beside.back("as it stands")
 
 
 def dearer(beside: Session, plan: Plan, arc: int, cost: Decimal) -> Fraction:
-    """By how much the plan is dearer than a best one where an arc has this cost."""
+    """By how much the plan is dearer than a best one where an arc has this cost, which it keeps."""
     best = beside.set_cost(arc, cost)
-    beside.undo()
     assert best is not None
     row, flow = plan.problem.arcs[arc], Fraction(plan.flows[arc])
     return Fraction(plan.cost) + (Fraction(cost) - Fraction(row.cost)) * flow - Fraction(best)
