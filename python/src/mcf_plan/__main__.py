@@ -22,9 +22,17 @@ from .tables import TableFault, read_tables, write_plan
 
 NO_PLAN, USAGE, REFUSED, FAILED, UNBOUNDED, BEYOND, DISAGREE, TOO_LONG, INTERRUPTED = 1, 2, 3, 4, 6, 7, 8, 124, 130
 
-STATUSES = """status: 0 done; 1 there is no plan, or an answer is not valid; 2 the command line is refused; 3 a table or a text is
-refused; 4 a file or the program mcf failed; 6 there is no best plan (unbounded); 7 beyond the formats' limits; 8 an answer was
-found wrong (the texts are kept); 124 the time limit; 130 Ctrl-C"""
+STATUSES = """status:
+  0    done
+  1    there is no plan, or an answer is not valid
+  2    the command line is refused
+  3    a table or a text is refused
+  4    a file, or the program mcf, failed
+  6    there is no best plan: each unit more makes it better
+  7    beyond the limits of the formats
+  8    an answer was found wrong; the texts are kept
+  124  the time limit
+  130  Ctrl-C"""
 
 
 def main(arguments: Optional[List[str]] = None) -> int:
@@ -385,6 +393,7 @@ class Conversation:
             try:
                 line = input("what if> ") if self.is_terminal else source.readline()
             except EOFError:
+                self.say("")
                 break
             except KeyboardInterrupt:
                 self.say("")

@@ -8,7 +8,7 @@ from decimal import Context, Decimal, InvalidOperation
 from fractions import Fraction
 from typing import TYPE_CHECKING, Dict, Iterable, List, NamedTuple, Optional, Tuple, Union
 
-from .dimacs import ARC_FIELDS, ProblemReader, Text, find_fault, read_with
+from .dimacs import ARC_FIELDS, ProblemReader, Text, read_with
 
 if TYPE_CHECKING:
     from .plan import Infeasible, Plan
@@ -243,14 +243,14 @@ class Problem:
         >>> Problem.from_dimacs("p min 2 1\\na 1 2 0 inf 4.5 c a road\\nn 1 +3\\nn 2 -3\\n").arcs[0].cost
         Decimal('4.5')
         """
-        reader: ProblemReader = _SpellingReader()
-        if find_fault(text) is None:
-            reader = ProblemReader()
-        fault = read_with(reader, text)
-        if fault is not None:
-            from .program import Refused
+        reader = ProblemReader()
+        if read_with(reader, text) is not None:
+            reader = _SpellingReader()
+            fault = read_with(reader, text)
+            if fault is not None:
+                from .program import Refused
 
-            raise Refused(fault, text)
+                raise Refused(fault, text)
         problem = cls(reader.kind)
         problem.nodes = dict.fromkeys(map(str, range(1, reader.nodes + 1)), -ONE if reader.kind == "asn" else ZERO)
         for node, supply in reader.supplies.items():
