@@ -165,7 +165,6 @@ function buildArcs() {
     const last = make("td");
     const close = make("button", "\u00d7");
     close.type = "button";
-    close.tabIndex = -1;
     close.dataset.close = index;
     close.title = `Close ${label(arc)}`;
     close.setAttribute("aria-label", close.title);
@@ -840,7 +839,10 @@ function listen() {
   by("only-full").addEventListener("change", filter);
   by("with-low").addEventListener("change", showLow);
   by("export").addEventListener("change", (event) => {
-    if (event.target.value) queue.then(() => save(event.target.value)).finally(() => { event.target.value = ""; });
+    const name = event.target.value;
+    if (!name) return;
+    const saved = queue.then(() => save(name)).catch((error) => tell(`${name} is not saved: ${error.message}`));
+    saved.then(() => { event.target.value = ""; });
   });
   by("mark").addEventListener("submit", (event) => {
     event.preventDefault();
