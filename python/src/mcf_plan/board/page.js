@@ -98,8 +98,11 @@ function draw(next) {
   by("undo").disabled = !state.undo;
   by("redo").disabled = !state.redo;
   by("notes").textContent = state.notes.join(" ");
-  by("why-part").hidden = state.why === null;
-  by("why").textContent = state.why || "";
+  const why = state.why ?? state.limit;
+  by("why-part").hidden = why === null;
+  by("why-part").classList.toggle("limit", state.why === null);
+  by("why-title").textContent = state.why === null ? "Why no more can be sent" : "Why there is no plan";
+  by("why").textContent = why || "";
   by("cut-legend").hidden = state.cut === null;
   document.body.dataset.moment = String(Number(document.body.dataset.moment || 0) + 1);
 }

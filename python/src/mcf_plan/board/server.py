@@ -23,7 +23,7 @@ from ..explain import explain
 from ..plan import Disagreement, Infeasible, Plan
 from ..problem import Arc, exact
 from ..program import ProgramFailed, TimeLimit
-from ..report import arc_rows, html_text, layout, number, to_csv, to_json
+from ..report import arc_rows, html_text, layout, limit_text, number, to_csv, to_json
 from ..rewrite import BeyondLimits, Meaningless, Unbounded
 from ..session import EditRefused, Session
 
@@ -307,6 +307,7 @@ class Board:
             "shortage": number(none.shortage) if none else None,
             "why": explain(none) if none else None,
             "cut": sorted(none.cut) if none else None,
+            "limit": limit_text(plan) if plan and problem.kind == "max" else None,
             "checked": result.checked,
             "notes": list(result.notes),
             "nodes": nodes,
