@@ -19,26 +19,46 @@ def problem_of(nodes, arcs, kind="min"):
 
 
 CASES = (
-    ("too much at one node", ["mine 4.5", "works -4.5"], ["mine works 0 3"], "refuse",
-     "There is no plan: 1.5 too many at mine.\n"
-     "mine supplies 4.5, and at most 3 can leave:\n"
-     "  mine to works: at most 3\n"
-     "Seen from the other side: works demands 4.5, and at most 3 can come in.\n"
-     "What would help: 1.5 more capacity there, or 1.5 less supply and demand."),
-    ("no arc leads out", ["a 2", "b 1", "c -3"], ["a b 0 9"], "refuse",
-     "There is no plan: 3 too many at a and b.\n"
-     "a and b supply 3, and no arc leads out.\n"
-     "Seen from the other side: c demands 3, and no arc leads in.\n"
-     "What would help: an arc that leads out, for 3, or 3 less supply and demand."),
-    ("supplies that do not add up", ["a 2", "b -3"], ["a b 0 9"], "refuse",
-     "There is no plan: all nodes together supply 2 and demand 3, so 1 is not there."),
-    ("a lower bound brings too much", ["a 5", "b 0", "c -5"], ["a b 4 9", "b c 0 1", "a c 0 9"], "refuse",
-     "There is no plan: 3 too many at b.\n"
-     "b supplies 0, at least 4 must come in, and at most 1 can leave:\n"
-     "  b to c: at most 1\n"
-     "  a to b: at least 4\n"
-     "Seen from the other side: a and c supply 5 and demand 5, at least 4 must leave, and at most 1 can come in.\n"
-     "What would help: 3 more capacity there, or lower bounds that are 3 lower."),
+    (
+        "too much at one node",
+        ["mine 4.5", "works -4.5"],
+        ["mine works 0 3"],
+        "refuse",
+        "There is no plan: 1.5 too many at mine.\n"
+        "mine supplies 4.5, and at most 3 can leave:\n"
+        "  mine to works: at most 3\n"
+        "Seen from the other side: works demands 4.5, and at most 3 can come in.\n"
+        "What would help: 1.5 more capacity there, or 1.5 less supply and demand.",
+    ),
+    (
+        "no arc leads out",
+        ["a 2", "b 1", "c -3"],
+        ["a b 0 9"],
+        "refuse",
+        "There is no plan: 3 too many at a and b.\n"
+        "a and b supply 3, and no arc leads out.\n"
+        "Seen from the other side: c demands 3, and no arc leads in.\n"
+        "What would help: an arc that leads out, for 3, or 3 less supply and demand.",
+    ),
+    (
+        "supplies that do not add up",
+        ["a 2", "b -3"],
+        ["a b 0 9"],
+        "refuse",
+        "There is no plan: all nodes together supply 2 and demand 3, so 1 is not there.",
+    ),
+    (
+        "a lower bound brings too much",
+        ["a 5", "b 0", "c -5"],
+        ["a b 4 9", "b c 0 1", "a c 0 9"],
+        "refuse",
+        "There is no plan: 3 too many at b.\n"
+        "b supplies 0, at least 4 must come in, and at most 1 can leave:\n"
+        "  b to c: at most 1\n"
+        "  a to b: at least 4\n"
+        "Seen from the other side: a and c supply 5 and demand 5, at least 4 must leave, and at most 1 can come in.\n"
+        "What would help: 3 more capacity there, or lower bounds that are 3 lower.",
+    ),
     ("a lower bound where nothing comes", ["a 0", "b 0"], ["a b 2 9"], "refuse", None),
     ("what is kept does not help", ["a 5", "b 4", "c -3"], ["a c 0 1", "b c 0 1"], "keep", None),
     ("what is not met does not help", ["a 5", "b 1", "c -9"], ["a c 0 1", "b c 0 1"], "keep", None),
@@ -58,14 +78,24 @@ class Words(unittest.TestCase):
 
     def test_halls_set(self):
         problem = Problem("asn")
-        for tail, head in (("Ann", "early"), ("Ann", "late"), ("Bob", "early"), ("Bob", "late"), ("Cem", "early"),
-                           ("Cem", "late"), ("Dan", "night"), ("Dan", "early")):
+        for tail, head in (
+            ("Ann", "early"),
+            ("Ann", "late"),
+            ("Bob", "early"),
+            ("Bob", "late"),
+            ("Cem", "early"),
+            ("Cem", "late"),
+            ("Dan", "night"),
+            ("Dan", "early"),
+        ):
             problem.add_arc(tail, head)
         problem.add_node("noon", -1)
-        self.assertEqual(problem.solve().explain(),
-                         "There is no assignment: these 3 nodes have these 2 alone between them, so 1 of them stays without.\n"
-                         "  Ann, Bob, Cem\n"
-                         "  have early, late alone")
+        self.assertEqual(
+            problem.solve().explain(),
+            "There is no assignment: these 3 nodes have these 2 alone between them, so 1 of them stays without.\n"
+            "  Ann, Bob, Cem\n"
+            "  have early, late alone",
+        )
 
     def test_halls_set_of_one(self):
         problem = Problem("asn")

@@ -29,22 +29,39 @@ class Command(unittest.TestCase):
         return str(path)
 
     def run_it(self, *words, text="", status=0):
-        done = subprocess.run([COMMAND, *words], input=text, capture_output=True, text=True, check=False, cwd=self.folder.name)
+        done = subprocess.run(
+            [COMMAND, *words], input=text, capture_output=True, text=True, check=False, cwd=self.folder.name
+        )
         self.assertEqual(done.returncode, status, done.stdout + done.stderr)
         self.assertNotIn("Traceback", done.stderr)
         return done.stdout, done.stderr
 
     def test_plan(self):
         out, _ = self.run_it("plan", self.nodes, self.arcs)
-        self.assertEqual(out, "cost 11.5\n"
-                              "from  to    name  flow  capacity  cost\n"
-                              "Kiel  Ulm   road     2         2  1.25\n"
-                              "Kiel  Ulm   rail   1.5               4\n"
-                              "Kiel  Bonn         1.5         9     2\n")
+        self.assertEqual(
+            out,
+            "cost 11.5\n"
+            "from  to    name  flow  capacity  cost\n"
+            "Kiel  Ulm   road     2         2  1.25\n"
+            "Kiel  Ulm   rail   1.5               4\n"
+            "Kiel  Bonn         1.5         9     2\n",
+        )
 
     def test_plan_to_files(self):
-        out, _ = self.run_it("plan", self.nodes, self.arcs, "--json", "--report", "plan.html", "--picture", "plan.svg",
-                             "--table", "plan.csv", "--title", "Week 1")
+        out, _ = self.run_it(
+            "plan",
+            self.nodes,
+            self.arcs,
+            "--json",
+            "--report",
+            "plan.html",
+            "--picture",
+            "plan.svg",
+            "--table",
+            "plan.csv",
+            "--title",
+            "Week 1",
+        )
         self.assertEqual(json.loads(out)["cost"], "11.5")
         folder = Path(self.folder.name)
         self.assertIn("Week 1", (folder / "plan.html").read_text())
@@ -64,10 +81,11 @@ class Command(unittest.TestCase):
 
     def test_statuses(self):
         for name, text, status, words in (
-                ("fault.min", "p min 2 1\na 1 2 0 x 1\n", 3, "fault.min, line 2, CAP: 'x'"),
-                ("circle.min", "p min 2 2\na 1 2 0 inf -2\na 2 1 0 inf 1\n", 6, "1 to 2, 2 to 1 no arc has a capacity"),
-                ("fine.min", "p min 2 1\nn 1 0\na 1 2 0 1 2000000000000\n", 7, "larger unit of money"),
-                ("table.csv", "from,to,cost\na,b,x\n", 3, "table.csv, line 2, column 'cost'")):
+            ("fault.min", "p min 2 1\na 1 2 0 x 1\n", 3, "fault.min, line 2, CAP: 'x'"),
+            ("circle.min", "p min 2 2\na 1 2 0 inf -2\na 2 1 0 inf 1\n", 6, "1 to 2, 2 to 1 no arc has a capacity"),
+            ("fine.min", "p min 2 1\nn 1 0\na 1 2 0 1 2000000000000\n", 7, "larger unit of money"),
+            ("table.csv", "from,to,cost\na,b,x\n", 3, "table.csv, line 2, column 'cost'"),
+        ):
             with self.subTest(name):
                 _, errors = self.run_it("plan", self.file(name, text), status=status)
                 self.assertIn(words, errors)
@@ -92,8 +110,9 @@ class Command(unittest.TestCase):
         self.assertEqual(out, "p min 2 1\nn 1 3\nn 2 -3\na 1 2 0 1000000000 4\n")
         self.assertIn("has no limit", errors)
         self.run_it("convert", self.nodes, self.arcs, "-o", "ours.min")
-        done = subprocess.run([os.environ["MCF"], "solve", self.folder.name + "/ours.min"], capture_output=True, text=True,
-                              check=False)
+        done = subprocess.run(
+            [os.environ["MCF"], "solve", self.folder.name + "/ours.min"], capture_output=True, text=True, check=False
+        )
         self.assertTrue(done.stdout.startswith("s 11500\n"), done.stdout)
 
     def test_faults(self):
@@ -129,24 +148,67 @@ class Command(unittest.TestCase):
         self.assertRegex(out, r"Kiel +Ulm +road +2 +2\.75 +1\.25 +any +4\n")
 
     def test_what_if(self):
-        commands = self.file("commands", "\n".join((
-            "cap road 1.5", "undo", 'cost "Kiel to Bonn" 3', "cap Kiel Bonn 1", "why", "back nowhere", "undo", "mark dear",
-            "group", "supply Kiel 6", "supply Ulm -4.5", "end", "add Ulm Bonn capacity 2 cost 0.5 name ferry", "close ferry",
-            "back dear", "moments", "group", "cap road 9", "cap nowhere 9", "show", "nonsense", "saves", "write now.min",
-            "proof now.sol", "table now.csv", "# a remark", "cap #1 inf", "quit", "never")) + "\n")
+        commands = self.file(
+            "commands",
+            "\n".join(
+                (
+                    "cap road 1.5",
+                    "undo",
+                    'cost "Kiel to Bonn" 3',
+                    "cap Kiel Bonn 1",
+                    "why",
+                    "back nowhere",
+                    "undo",
+                    "mark dear",
+                    "group",
+                    "supply Kiel 6",
+                    "supply Ulm -4.5",
+                    "end",
+                    "add Ulm Bonn capacity 2 cost 0.5 name ferry",
+                    "close ferry",
+                    "back dear",
+                    "moments",
+                    "group",
+                    "cap road 9",
+                    "cap nowhere 9",
+                    "show",
+                    "nonsense",
+                    "saves",
+                    "write now.min",
+                    "proof now.sol",
+                    "table now.csv",
+                    "# a remark",
+                    "cap #1 inf",
+                    "quit",
+                    "never",
+                )
+            )
+            + "\n",
+        )
         out, errors = self.run_it("what-if", self.nodes, self.arcs, "--commands", commands)
         self.assertEqual(errors, "")
-        for words in ("cost 11.5\nwhat if> cap road 1.5\ncost 12.875 (1.375 more)\nwhat if> undo\ncost 11.5 (1.375 less)\n",
-                      "no plan: short by 0.5; `why` tells more", "Seen from the other side: Bonn demands 1.5, and at most 1 can come in",
-                      "refused, nothing is changed: no moment bears the mark nowhere",
-                      "dear: cost 13\n", "what if> group\nwhat if> supply Kiel 6\nwhat if> supply Ulm -4.5\nwhat if> end\n"
-                      "cost 17 (4 more)\n", "the group is left, and none of its edits is made",
-                      "refused, nothing is changed: there is no command nonsense", "arc   one more saves\nroad            2.75\n", "what if> cap #1 inf\ncost 8.875 (4.125 less)",
-                      "written to now.min"):
+        for words in (
+            "cost 11.5\nwhat if> cap road 1.5\ncost 12.875 (1.375 more)\nwhat if> undo\ncost 11.5 (1.375 less)\n",
+            "no plan: short by 0.5; `why` tells more",
+            "Seen from the other side: Bonn demands 1.5, and at most 1 can come in",
+            "refused, nothing is changed: no moment bears the mark nowhere",
+            "dear: cost 13\n",
+            "what if> group\nwhat if> supply Kiel 6\nwhat if> supply Ulm -4.5\nwhat if> end\n" "cost 17 (4 more)\n",
+            "the group is left, and none of its edits is made",
+            "refused, nothing is changed: there is no command nonsense",
+            "arc   one more saves\nroad            2.75\n",
+            "what if> cap #1 inf\ncost 8.875 (4.125 less)",
+            "written to now.min",
+        ):
             self.assertIn(words, out)
         self.assertNotIn("never", out)
-        done = subprocess.run([os.environ["MCF"], "check", "now.min", "now.sol"], capture_output=True, text=True, check=False,
-                              cwd=self.folder.name)
+        done = subprocess.run(
+            [os.environ["MCF"], "check", "now.min", "now.sol"],
+            capture_output=True,
+            text=True,
+            check=False,
+            cwd=self.folder.name,
+        )
         self.assertEqual(done.stdout, "valid\n")
 
     def test_what_if_from_the_input(self):
@@ -159,11 +221,21 @@ class Command(unittest.TestCase):
         path.write_text("#!/bin/sh\nexec sleep 20\n")
         path.chmod(path.stat().st_mode | stat.S_IXUSR)
         environment = dict(os.environ, MCF=str(path))
-        done = subprocess.run([COMMAND, "plan", self.nodes, self.arcs, "--time-limit", "0.2"], env=environment,
-                              capture_output=True, text=True, check=False)
+        done = subprocess.run(
+            [COMMAND, "plan", self.nodes, self.arcs, "--time-limit", "0.2"],
+            env=environment,
+            capture_output=True,
+            text=True,
+            check=False,
+        )
         self.assertEqual(done.returncode, 124, done.stderr)
-        with subprocess.Popen([COMMAND, "plan", self.nodes, self.arcs], env=environment, stdout=subprocess.DEVNULL,
-                              stderr=subprocess.PIPE, text=True) as process:
+        with subprocess.Popen(
+            [COMMAND, "plan", self.nodes, self.arcs],
+            env=environment,
+            stdout=subprocess.DEVNULL,
+            stderr=subprocess.PIPE,
+            text=True,
+        ) as process:
             time.sleep(1.5)
             start = time.monotonic()
             process.send_signal(signal.SIGINT)

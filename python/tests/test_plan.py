@@ -30,7 +30,7 @@ def spoilt_plans(plan, chance):
     one = Decimal(1)
     if plan.flows:
         at = chance.randrange(len(plan.flows))
-        yield dataclasses.replace(plan, flows=[*plan.flows[:at], plan.flows[at] + one, *plan.flows[at + 1:]])
+        yield dataclasses.replace(plan, flows=[*plan.flows[:at], plan.flows[at] + one, *plan.flows[at + 1 :]])
     yield dataclasses.replace(plan, flows=plan.flows[1:] if plan.flows else [one])
     yield dataclasses.replace(plan, cost=plan.cost + Decimal("0.001"))
     yield dataclasses.replace(plan, prices=None)
@@ -52,14 +52,19 @@ class Spoilt(unittest.TestCase):
             result.verify()
             if isinstance(result, Infeasible):
                 cuts += 1
-                wrong = [dataclasses.replace(result, shortage=result.shortage + 1),
-                         dataclasses.replace(result, shortage=Decimal(0)),
-                         dataclasses.replace(result, cut=frozenset())]
+                wrong = [
+                    dataclasses.replace(result, shortage=result.shortage + 1),
+                    dataclasses.replace(result, shortage=Decimal(0)),
+                    dataclasses.replace(result, cut=frozenset()),
+                ]
             else:
                 plans += 1
                 # A unit more around an arc from a node to itself can be right, at no cost.
-                wrong = [spoilt for spoilt in spoilt_plans(result, chance)
-                         if not any(arc.tail == arc.head for arc in problem.arcs)]
+                wrong = [
+                    spoilt
+                    for spoilt in spoilt_plans(result, chance)
+                    if not any(arc.tail == arc.head for arc in problem.arcs)
+                ]
             for spoilt in wrong:
                 with self.assertRaises(Disagreement):
                     spoilt.verify()
@@ -84,7 +89,10 @@ class Spoilt(unittest.TestCase):
         zero = dataclasses.replace(plan, flows=[Decimal(0)] * 2, cost=Decimal(0))
         with self.assertRaises(Disagreement):
             zero.verify()
-        for spoilt in (dataclasses.replace(plan, cost=Decimal(2)), dataclasses.replace(plan, flows=[Decimal(2), Decimal(1)])):
+        for spoilt in (
+            dataclasses.replace(plan, cost=Decimal(2)),
+            dataclasses.replace(plan, flows=[Decimal(2), Decimal(1)]),
+        ):
             with self.assertRaises(Disagreement):
                 spoilt.verify()
 
@@ -117,8 +125,13 @@ class Disagreeing(unittest.TestCase):
         self.assertIn("s 1", caught.exception.answer_text)
 
     def test_verify_finds_what_check_passed_over(self):
-        for answer in ("s 2\nf 1 2 1\nv 1 -1\nv 2 0\n", "s 1\nf 1 2 1\nv 1 0\nv 2 0\n", "i 1\nk 1\n", "i 1\nk 7\n",
-                       "s 0\nf 1 2 0\nv 1 -1\nv 2 0\n"):
+        for answer in (
+            "s 2\nf 1 2 1\nv 1 -1\nv 2 0\n",
+            "s 1\nf 1 2 1\nv 1 0\nv 2 0\n",
+            "i 1\nk 1\n",
+            "i 1\nk 7\n",
+            "s 0\nf 1 2 0\nv 1 -1\nv 2 0\n",
+        ):
             with self.subTest(answer), self.assertRaises(Disagreement) as caught:
                 self.problem().solve(OneAnswerEach(answer, "valid"))
             self.assertEqual(caught.exception.answer_text, answer)

@@ -90,12 +90,18 @@ def _kept(error: Disagreement) -> str:
 
 
 def _parser() -> argparse.ArgumentParser:
-    parser = argparse.ArgumentParser(prog="mcf-plan", description="Tables with names and decimals in, proved plans out.",
-                                     epilog=STATUSES, formatter_class=argparse.RawDescriptionHelpFormatter)
+    parser = argparse.ArgumentParser(
+        prog="mcf-plan",
+        description="Tables with names and decimals in, proved plans out.",
+        epilog=STATUSES,
+        formatter_class=argparse.RawDescriptionHelpFormatter,
+    )
     parser.add_argument("--version", action="version", version=f"mcf-plan {__version__}")
     commands = parser.add_subparsers(title="commands", metavar="COMMAND", required=True)
 
-    def command(name: str, run: Callable[[argparse.Namespace], int], words: str, *, tables: bool) -> argparse.ArgumentParser:
+    def command(
+        name: str, run: Callable[[argparse.Namespace], int], words: str, *, tables: bool
+    ) -> argparse.ArgumentParser:
         made = commands.add_parser(name, help=words, description=words[:1].upper() + words[1:] + ".")
         made.set_defaults(run=run)
         if tables:
@@ -117,19 +123,28 @@ def _parser() -> argparse.ArgumentParser:
     board.add_argument("--title", default="Plan", help="the page's title")
 
     why = command("explain", _explain, "say why there is no plan", tables=True)
-    why.add_argument("--answer", metavar="FILE", help="explain this answer of mcf to the problem text, in place of solving")
+    why.add_argument(
+        "--answer", metavar="FILE", help="explain this answer of mcf to the problem text, in place of solving"
+    )
 
     check = command("check", _check, "check an answer to a problem text, whoever made it", tables=False)
     check.add_argument("problem", metavar="PROBLEM")
     check.add_argument("answer", metavar="ANSWER")
-    check.add_argument("--from", dest="maker", choices=["mcf", "lemon", "glpk", "flows"], default="mcf",
-                       help="which program wrote the answer (mcf)")
+    check.add_argument(
+        "--from",
+        dest="maker",
+        choices=["mcf", "lemon", "glpk", "flows"],
+        default="mcf",
+        help="which program wrote the answer (mcf)",
+    )
 
     faults = command("faults", _faults, "say what is wrong with a problem text, and how to mend it", tables=False)
     faults.add_argument("problem", metavar="PROBLEM")
     faults.add_argument("answer", metavar="ANSWER", nargs="?", help="an answer to it, to be looked at too")
 
-    convert = command("convert", _convert, "write tables, or a text of another program, as a text that mcf reads", tables=True)
+    convert = command(
+        "convert", _convert, "write tables, or a text of another program, as a text that mcf reads", tables=True
+    )
     convert.add_argument("-o", "--output", metavar="FILE", help="write to a file in place of the output")
 
     command("ranges", _ranges, "say what one unit more saves, and within which costs the plan stays best", tables=True)
@@ -137,17 +152,33 @@ def _parser() -> argparse.ArgumentParser:
 
 
 def _add_tables(parser: argparse.ArgumentParser) -> None:
-    parser.add_argument("tables", metavar="TABLE", nargs="+",
-                        help="the tables of nodes and arcs (.csv, .tsv, .xlsx), that of arcs alone, or a problem text")
-    parser.add_argument("--kind", choices=["min", "max", "asn"], default="min",
-                        help="least cost (min), greatest flow (max) or assignment (asn)")
+    parser.add_argument(
+        "tables",
+        metavar="TABLE",
+        nargs="+",
+        help="the tables of nodes and arcs (.csv, .tsv, .xlsx), that of arcs alone, or a problem text",
+    )
+    parser.add_argument(
+        "--kind",
+        choices=["min", "max", "asn"],
+        default="min",
+        help="least cost (min), greatest flow (max) or assignment (asn)",
+    )
     parser.add_argument("--source", metavar="NODE", help="where a greatest flow starts")
     parser.add_argument("--sink", metavar="NODE", help="where it ends")
-    parser.add_argument("--surplus", metavar="refuse|keep|COST", default="refuse",
-                        help="what becomes of supplies that do not add up to 0: there is no plan (refuse), they are kept or "
-                             "not met at no cost (keep), or at this cost a unit")
-    parser.add_argument("--balance", choices=["equal", "at least", "at most"], default="equal",
-                        help="whether what leaves a node less what comes in is equal to its supply, at least or at most it")
+    parser.add_argument(
+        "--surplus",
+        metavar="refuse|keep|COST",
+        default="refuse",
+        help="what becomes of supplies that do not add up to 0: there is no plan (refuse), they are kept or "
+        "not met at no cost (keep), or at this cost a unit",
+    )
+    parser.add_argument(
+        "--balance",
+        choices=["equal", "at least", "at most"],
+        default="equal",
+        help="whether what leaves a node less what comes in is equal to its supply, at least or at most it",
+    )
     parser.add_argument("--time-limit", metavar="SECONDS", type=float, help="how long to wait for an answer")
 
 
@@ -167,8 +198,14 @@ def _read(options: argparse.Namespace) -> Problem:
     for what, name in (("--source", options.source), ("--sink", options.sink)):
         if options.kind == "max" and name is None:
             raise TableFault(f"a greatest flow wants {what} NODE")
-    return read_tables(tables[0] if len(tables) == 2 else None, tables[-1], kind=options.kind, balance=options.balance,
-                       source=options.source, sink=options.sink)
+    return read_tables(
+        tables[0] if len(tables) == 2 else None,
+        tables[-1],
+        kind=options.kind,
+        balance=options.balance,
+        source=options.source,
+        sink=options.sink,
+    )
 
 
 # ---------------------------------------------------------------- plan, explain, ranges
@@ -209,13 +246,31 @@ def tell(result: Union[Plan, Infeasible], out: TextIO) -> None:
     rows = [["from", "to", "name", "flow", "capacity", "cost"]]
     for arc, flow in zip(problem.arcs, result.flows):
         if flow:
-            rows.append([str(arc.tail), str(arc.head), arc.name or "", plain(flow),
-                         "" if arc.cap is None else plain(arc.cap), plain(arc.cost)])
-    unused = [place for place, heading in enumerate(rows[0]) if heading in ("name", "cost", "capacity")
-              and (not any(row[place] for row in rows[1:]) or problem.kind == "max" and heading == "cost"
-                   or problem.kind == "asn" and heading == "capacity")]
-    _print_table([[cell for place, cell in enumerate(row) if place not in unused] for row in rows],
-                 2 + (2 not in unused), out)
+            rows.append(
+                [
+                    str(arc.tail),
+                    str(arc.head),
+                    arc.name or "",
+                    plain(flow),
+                    "" if arc.cap is None else plain(arc.cap),
+                    plain(arc.cost),
+                ]
+            )
+    unused = [
+        place
+        for place, heading in enumerate(rows[0])
+        if heading in ("name", "cost", "capacity")
+        and (
+            not any(row[place] for row in rows[1:])
+            or problem.kind == "max"
+            and heading == "cost"
+            or problem.kind == "asn"
+            and heading == "capacity"
+        )
+    ]
+    _print_table(
+        [[cell for place, cell in enumerate(row) if place not in unused] for row in rows], 2 + (2 not in unused), out
+    )
     for rest, words in ((result.kept, "stays at"), (result.not_met, "is not met at")):
         for name, amount in rest.items():
             print(f"{plain(amount)} {words} {name}", file=out)
@@ -225,8 +280,10 @@ def _print_table(rows: List[List[str]], texts: int, out: TextIO) -> None:
     """Prints rows in columns, the first `texts` to the left, numbers to the right."""
     widths = [max(map(len, column)) for column in zip(*rows)]
     for row in rows:
-        cells = [cell.ljust(width) if place < texts else cell.rjust(width)
-                 for place, (cell, width) in enumerate(zip(row, widths))]
+        cells = [
+            cell.ljust(width) if place < texts else cell.rjust(width)
+            for place, (cell, width) in enumerate(zip(row, widths))
+        ]
         print("  ".join(cells).rstrip(), file=out)
 
 
@@ -259,9 +316,18 @@ def _ranges(options: argparse.Namespace) -> int:
         rows = [["from", "to", "name", "flow", more, "cost", "best from", "to"]]
         for row in ranges(session):
             arc = problem.arcs[row.arc]
-            rows.append([str(arc.tail), str(arc.head), arc.name or "", plain(result.flows[row.arc]), plain(row.saves),
-                         plain(arc.cost), "any" if row.least_cost is None else plain(row.least_cost),
-                         "any" if row.greatest_cost is None else plain(row.greatest_cost)])
+            rows.append(
+                [
+                    str(arc.tail),
+                    str(arc.head),
+                    arc.name or "",
+                    plain(result.flows[row.arc]),
+                    plain(row.saves),
+                    plain(arc.cost),
+                    "any" if row.least_cost is None else plain(row.least_cost),
+                    "any" if row.greatest_cost is None else plain(row.greatest_cost),
+                ]
+            )
         _print_table(rows, 3, sys.stdout)
     return 0
 
@@ -308,11 +374,15 @@ def _faults(options: argparse.Namespace) -> int:
     found = parse_problem(raw)
     total = sum(found.supplies.values())
     if found.kind == "min" and total:
-        print(f"note: the supplies add up to {total}, and not to 0, so there is no plan; is the sign of a demand missing? "
-              "`mcf-plan plan --surplus keep` lets the rest stay")
+        print(
+            f"note: the supplies add up to {total}, and not to 0, so there is no plan; is the sign of a demand missing?"
+            " `mcf-plan plan --surplus keep` lets the rest stay"
+        )
     if found.kind == "asn" and 2 * len(found.supplies) != found.nodes:
-        print(f"note: the nodes are {len(found.supplies)} on the source side and {found.nodes - len(found.supplies)} on the "
-              "sink side, so there is no assignment; `mcf-plan plan --surplus keep` lets the rest be alone")
+        print(
+            f"note: the nodes are {len(found.supplies)} on the source side and {found.nodes - len(found.supplies)} on "
+            "the sink side, so there is no assignment; `mcf-plan plan --surplus keep` lets the rest be alone"
+        )
     return 0
 
 
@@ -468,7 +538,9 @@ class Conversation:
                 raise EditRefused(f"{word} wants more words; `help` tells them")
             edits[word]()
             if self.group is None:
-                self.say(self.standing(None if before is None or session.cost is None else plain(session.cost - before)))
+                self.say(
+                    self.standing(None if before is None or session.cost is None else plain(session.cost - before))
+                )
         elif word in tells:
             tells[word]()
         else:
@@ -498,7 +570,9 @@ class Conversation:
         if len(words) == 2:
             return words[0], words[1]
         if len(words) != 1:
-            raise EditRefused("an arc is its name, its two ends, or # and its number; names with blanks stand in quotes")
+            raise EditRefused(
+                "an arc is its name, its two ends, or # and its number; names with blanks stand in quotes"
+            )
         return words[0]
 
     def node(self, words: List[str]) -> str:
@@ -515,8 +589,14 @@ class Conversation:
             if what not in known:
                 raise EditRefused(f"{what} is none of capacity, cost, low and name")
             given[known[what]] = value
-        self.session.add_arc(words[0], words[1], low=given.get("low", 0), cap=given.get("cap"), cost=given.get("cost", 0),
-                             name=given.get("name"))
+        self.session.add_arc(
+            words[0],
+            words[1],
+            low=given.get("low", 0),
+            cap=given.get("cap"),
+            cost=given.get("cost", 0),
+            name=given.get("name"),
+        )
 
     def open_group(self) -> None:
         if self.group is not None:
