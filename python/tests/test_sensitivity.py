@@ -117,8 +117,8 @@ class Sensitivity(unittest.TestCase):
         self.assertGreater(ends, 50)
 
     def test_rewritten(self) -> None:
-        """Lower bounds below 0, capacities above the formats' limit, supplies that are inequalities, or kept and not met
-        at a cost: the same figures as by solving anew."""
+        """Lower bounds below 0, capacities above the formats' limit, supplies that are inequalities, or kept and not
+        met at a cost: the same figures as by solving anew."""
         draws = random.Random(6)
         for case in range(15):
             balance = ("equal", "at least", "at most")[case % 3]
