@@ -431,21 +431,28 @@ class Session:
             commands = self._refresh(rewriting, changes)
         except DoesNotFit:
             return None
+        if len(commands) > MOST_EDITS or len(rewriting.rows) > stretch.most_lines:
+            self._refresh_back(rewriting, changes)
+            return None
+        position, ahead = stretch.position, stretch.steps[stretch.position :]
         try:
-            if len(commands) > MOST_EDITS or len(rewriting.rows) > stretch.most_lines:
-                self._refresh_back(rewriting, changes)
-                return None
             reply = dialogue.ask_all(stretch.lines_of(commands), time_limit=self.time_limit)[0]
             if reply.startswith("r "):
                 number = int(reply[2:])
                 raise EditRefused(f"the session refused it: {REFUSALS[number]}", number)
-        except BaseException:
+            stretch.steps[position:] = [commands]
+            stretch.position = position + 1
+            return self._moment_of(reply, changes, stretch)
+        except EditRefused:
             self._refresh_back(rewriting, changes)
             raise
-        del stretch.steps[stretch.position :]
-        stretch.steps.append(commands)
-        stretch.position += 1
-        return self._moment_of(reply, changes, stretch)
+        except BaseException:
+            # The dialogue may have made the step: it is led to the moment before it when it is wanted again.
+            stretch.shut()
+            stretch.steps[position:] = ahead
+            stretch.position = position
+            self._refresh_back(rewriting, changes)
+            raise
 
     def _refresh_back(self, rewriting: Rewriting, changes: List[_TableChange]) -> None:
         """Brings a rewriting back to before the changes, which stay in the tables."""
