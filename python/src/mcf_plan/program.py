@@ -67,9 +67,10 @@ def find_program(path: Optional[str] = None) -> str:
             if found is None:
                 raise ProgramFailed(f"there is no program {chosen}")
             return found
-    built = Path(__file__).resolve().parents[3] / "crates" / "mcf" / "out" / "mcf"
-    if os.access(built, os.X_OK):
-        return str(built)
+    for top in list(Path(__file__).resolve().parents)[3:4]:
+        built = top / "crates" / "mcf" / "out" / "mcf"
+        if os.access(built, os.X_OK):
+            return str(built)
     found = shutil.which("mcf")
     if found is None:
         raise ProgramFailed("the program mcf was found neither in the variable MCF nor on PATH: install or build it")
