@@ -36,7 +36,9 @@ def draw(chance):
     for _ in range(chance.randint(len(names), 4 * len(names))):
         low = amount(-4, 4) if has_lows and chance.random() < 0.3 else Decimal(0)
         cap = None if chance.random() < 0.25 else max(low, Decimal(0)) + amount(0, 25)
-        problem.add_arc(chance.choice(names), chance.choice(names), low=low, cap=cap, cost=cost(-5 if has_gains else 0, 20))
+        problem.add_arc(
+            chance.choice(names), chance.choice(names), low=low, cap=cap, cost=cost(-5 if has_gains else 0, 20)
+        )
     return problem
 
 
@@ -55,7 +57,9 @@ def by_networkx(problem, surplus="refuse"):
         fixed += low * cost
         edges.append((arc.tail, arc.head, None if arc.cap is None else int(arc.cap * units) - low, cost))
     if problem.balance != "equal":
-        edges += [(name, "", None, 0) if problem.balance == "at most" else ("", name, None, 0) for name in problem.nodes]
+        edges += [
+            (name, "", None, 0) if problem.balance == "at most" else ("", name, None, 0) for name in problem.nodes
+        ]
         supplies[""] = -total
     elif surplus != "refuse" and total:
         price = 0 if surplus == "keep" else int(Decimal(surplus) * units)

@@ -175,6 +175,7 @@ class BoardTest(unittest.TestCase):
         with Session(flow) as session:
             board = Board(session)
             self.assertEqual(board.state()["cost"], "2")
+            self.assertIn("b to c: 2", board.state()["limit"])
             self.assertEqual(
                 board.do({"do": "edits", "edits": [{"edit": "cap", "arc": 1, "value": "5"}]})["cost"], "3"
             )

@@ -88,7 +88,8 @@ class PageTest(unittest.TestCase):
             "--no-first-run",
             "--disable-background-networking",
         ]
-        for word in words + (["--no-sandbox"] if os.geteuid() == 0 else []):
+        # The browser shows pages of these tests alone; root and small containers can't have its sandbox.
+        for word in words + ["--no-sandbox"]:
             options.add_argument(word)
         options.set_capability("goog:loggingPrefs", {"browser": "ALL", "performance": "ALL"})
         cls.browser = webdriver.Chrome(options=options, service=Service(DRIVER))
@@ -180,6 +181,8 @@ class PageTest(unittest.TestCase):
         self.edit("capacity north to middle", "2")
         self.assertEqual(self.worth(), "32.75")
         self.assertEqual(self.text("#since"), "(at first 25.5)")
+        # The ferry costs 9, and the way by the middle 1.25 and 0.5.
+        self.assertEqual([cell.text for cell in self.all("#arcs td.saves")], ["7.25", "", "", "", ""])
         self.edit("unit cost ferry", "2.5")
         self.assertEqual(self.worth(), "26.25")
         self.after(self.at("#undo").click)
@@ -286,6 +289,19 @@ class PageTest(unittest.TestCase):
             self.until(lambda: not self.at("#export").get_property("value"))
             self.assertIn(part, file.read_text(encoding="utf-8"))
 
+    def test_names_are_words_and_nothing_else(self) -> None:
+        problem = Problem()
+        odd = "<img src=x onerror=document.title='bad'>&amp; \"north\""
+        problem.add_node(odd, 1)
+        problem.add_node("__proto__", -1)
+        problem.add_arc(odd, "__proto__", cap=2, cost=1, name="<b>road</b>")
+        self.open(problem)
+        self.assertIn("<b>road</b>", self.text("#arcs tbody td.name"))
+        self.assertIn(odd, self.text("#arcs tbody td.name small"))
+        self.edit("capacity <b>road</b>", "1")
+        self.assertEqual((self.text("#arcs td.flow"), self.all("#arcs b, img")), ("1 full", []))
+        self.assertEqual(self.browser.title, "Towns: what if?")
+
     def test_keyboard(self) -> None:
         self.open(towns())
         keys = lambda *letters: webdriver.ActionChains(self.browser).send_keys(*letters).perform()
@@ -296,6 +312,10 @@ class PageTest(unittest.TestCase):
         keys(Keys.ARROW_DOWN)
         self.assertEqual(focus(), "capacity north to west")
         keys(Keys.TAB)
+        self.assertEqual(focus(), "unit cost north to west")
+        keys(Keys.TAB)
+        self.assertEqual(focus(), "Close north to west")
+        webdriver.ActionChains(self.browser).key_down(Keys.SHIFT).send_keys(Keys.TAB).key_up(Keys.SHIFT).perform()
         self.assertEqual(focus(), "unit cost north to west")
         keys(Keys.ARROW_UP, "2")
         self.after(lambda: keys(Keys.ENTER))

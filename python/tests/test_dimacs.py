@@ -21,7 +21,7 @@ def mistakes():
     blocks = (HERE / "mistakes.txt").read_text().split("\n\n")[1:]
     for block in blocks:
         name, told, *lines = block.rstrip("\n").split("\n")
-        line, number, words = told[len("told: "):].split(", ", 2)
+        line, number, words = told[len("told: ") :].split(", ", 2)
         text = "\n".join(lines).encode().decode("unicode_escape").encode("latin-1") + b"\n" if lines else b""
         text = text.replace(b"RETURNS", b"a 1 2 0 5 1\r" * 90).replace(b"LONG", b"long " * 300)
         yield name, int(line), int(number), words, text
@@ -71,8 +71,24 @@ class SameAsProgram(unittest.TestCase):
     def test_spoilt_texts(self):
         chance = random.Random(7)
         good = [text for text in sorted(set(self.texts())) if dimacs.find_fault(text) is None]
-        junk = [b"", b"-", b"0", b"1000000001", b"9" * 19, b"c", b"p", b"n", b"a", b"s", b"x" * 1025, b"1.5", b"\xc2\xa0",
-                b"\r", b"p min 2 1", b"n 1 5"]
+        junk = [
+            b"",
+            b"-",
+            b"0",
+            b"1000000001",
+            b"9" * 19,
+            b"c",
+            b"p",
+            b"n",
+            b"a",
+            b"s",
+            b"x" * 1025,
+            b"1.5",
+            b"\xc2\xa0",
+            b"\r",
+            b"p min 2 1",
+            b"n 1 5",
+        ]
         for _ in range(int(os.environ.get("MCF_PLAN_DRAWN", "100"))):
             lines = chance.choice(good).split(b"\n")
             at = chance.randrange(len(lines))
@@ -99,7 +115,9 @@ class SameAsProgram(unittest.TestCase):
                 lines.insert(at, lines[chance.randrange(len(lines))])
             else:
                 words = lines[at].split(b" ")
-                words[chance.randrange(len(words))] = chance.choice([b"", b"9", b"-1", b"x", b"i", b"1000000000000000000000"])
+                words[chance.randrange(len(words))] = chance.choice(
+                    [b"", b"9", b"-1", b"x", b"i", b"1000000000000000000000"]
+                )
                 lines[at] = b" ".join(words)
             answer = b"\n".join(lines)
             with tempfile.TemporaryDirectory() as folder:
@@ -109,7 +127,9 @@ class SameAsProgram(unittest.TestCase):
                 done = subprocess.run([program.path, "check", *names], capture_output=True, check=False)
             said = done.stderr.decode().strip()
             fault = dimacs.find_answer_fault(problem, answer)
-            self.assertEqual(said, "" if fault is None else f"mcf: answer line {fault.line}: fault {fault.number}", answer)
+            self.assertEqual(
+                said, "" if fault is None else f"mcf: answer line {fault.line}: fault {fault.number}", answer
+            )
 
 
 class OnePlaceForEachFact(unittest.TestCase):
@@ -117,7 +137,7 @@ class OnePlaceForEachFact(unittest.TestCase):
 
     def table(self, heading):
         text = (TOP / "docs" / "FORMATS.md").read_text()
-        rows = text[text.index(heading):].split("\n\n")[0].split("\n")[2:]
+        rows = text[text.index(heading) :].split("\n\n")[0].split("\n")[2:]
         return {int(row.split("|")[1]): row.split("|")[2].strip() for row in rows}
 
     def test_faults(self):
@@ -125,15 +145,19 @@ class OnePlaceForEachFact(unittest.TestCase):
 
     def test_answer_faults(self):
         told = self.table("| Fault | Of an answer text |")
-        self.assertEqual({number: words.split(". Most often")[0] for number, words in told.items()}, dimacs.ANSWER_FAULTS)
+        self.assertEqual(
+            {number: words.split(". Most often")[0] for number, words in told.items()}, dimacs.ANSWER_FAULTS
+        )
 
     def test_refusals(self):
         self.assertEqual(self.table("| N | A command is refused because |"), dimacs.REFUSALS)
 
     def test_program_knows_the_same_numbers(self):
         program = os.environ["MCF"]
-        told = "".join(subprocess.run([program, "help", command], capture_output=True, text=True, check=False).stdout
-                       for command in ("solve", "check", "session"))
+        told = "".join(
+            subprocess.run([program, "help", command], capture_output=True, text=True, check=False).stdout
+            for command in ("solve", "check", "session")
+        )
         if not told:
             self.skipTest("the program has no help")
         numbers = {int(number) for number in re.findall(r"(?:^|\s{2,})(\d+)\s+['\w]", told, re.MULTILINE)}
@@ -143,8 +167,11 @@ class OnePlaceForEachFact(unittest.TestCase):
 
 class Texts(unittest.TestCase):
     def test_problems_come_back(self):
-        for text in ("p min 3 2\nn 1 4\nn 3 -4\na 1 2 0 5 1\na 2 3 1 5 -2\n", "p max 2 1\nn 1 s\nn 2 t\na 1 2 5\n",
-                     "p asn 2 1\nn 1\na 1 2 7\n"):
+        for text in (
+            "p min 3 2\nn 1 4\nn 3 -4\na 1 2 0 5 1\na 2 3 1 5 -2\n",
+            "p max 2 1\nn 1 s\nn 2 t\na 1 2 5\n",
+            "p asn 2 1\nn 1\na 1 2 7\n",
+        ):
             self.assertEqual(dimacs.parse_problem(text).text(), text)
 
     def test_answers_come_back(self):

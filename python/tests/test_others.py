@@ -77,10 +77,10 @@ class Others(unittest.TestCase):
         self.refuse("line 1: `x 1 2` is no `s`, `f` or `v` line, and no number", "x 1 2\n")
         self.refuse("there has to be one `v` line for each of the 4 nodes", RIGHT.replace("v 4 0\n", ""))
         self.refuse("arc 2 (1 to 3) carries 3, and its bounds are 0 and 2", "1\n3\n1\n0\n4\n")
-        self.refuse("what leaves node 2 less what comes in is 1, and has to be 0", "2\n2\n3\n0\n4\n".replace("3", "2", 1)
-                    .replace("0", "1"))
+        self.refuse("what leaves node 2 less what comes in is 1, and has to be 0", "2\n2\n2\n1\n4\n")
         self.refuse("the answer says that its flow is worth 13, and it is worth 14", RIGHT.replace("s 14", "s 13"))
-        self.refuse("by its potentials 1 unit more on arc 4 (2 to 4) would be worth more", RIGHT.replace("v 4 0", "v 4 2"))
+        self.refuse("by its potentials 1 unit more on arc 4 (2 to 4) would be worth more",
+                    RIGHT.replace("v 4 0", "v 4 2"))
         self.refuse("the flow is not best: 1 unit more on arc 2 (1 to 3), 1 more on arc 5 (3 to 4), 1 less on arc 4 (2 "
                     "to 4), 1 less on arc 1 (1 to 2) saves 2", "3\n1\n2\n1\n3\n")
         parallel = "p min 2 2\nn 1 3\nn 2 -3\na 1 2 0 2 4\na 1 2 0 9 7\n"
@@ -96,7 +96,8 @@ class Others(unittest.TestCase):
         self.assertEqual(answer_from(DIAMOND, graph, "lemon"), RIGHT)
         self.assertEqual(answer_from(DIAMOND, graph.replace("potential", "supply"), "lemon"), RIGHT)
         self.refuse("the section @arcs has no column `flow`", graph.replace("flow", "cost"), "lemon")
-        self.refuse("the labels of the section with `flow` have to be 0 to 4", graph.replace("2\t3\t4\t4\n", ""), "lemon")
+        self.refuse("the labels of the section with `flow` have to be 0 to 4", graph.replace("2\t3\t4\t4\n", ""),
+                    "lemon")
         self.refuse("line 9: wrong number of fields", graph.replace("2\t3\t4\t4\n", "2\t3\t4\n"), "lemon")
 
     def test_raw_solutions(self) -> None:
@@ -105,11 +106,13 @@ class Others(unittest.TestCase):
         self.assertEqual(answer_from(DIAMOND, raw, "glpk"), RIGHT)
         self.assertEqual(answer_from(DIAMOND, raw.replace(" s 4 3", " s 4 3.5"), "glpk"), RIGHT)
         self.refuse("line 2: GLPK says that it found no best plan", raw.replace("f f", "f n"), "glpk")
-        self.refuse("line 2: it is about 4 nodes and 6 arcs, and the problem has 4 and 5", raw.replace("4 5", "4 6"), "glpk")
-        self.refuse("GLPK's `-w` has an `s` line and 5 `j` lines: the text is cut off", raw.replace("j 5 b 4 0\n", ""), "glpk")
-        self.refuse("the answer says that its flow is worth 15, and it is worth 14", raw.replace("14", "15"), "glpk")
-        self.refuse("by its potentials 1 unit more on arc 4 (2 to 4) would be worth more", raw.replace(" -4 -1", " -4 -3"),
+        self.refuse("line 2: it is about 4 nodes and 6 arcs, and the problem has 4 and 5", raw.replace("4 5", "4 6"),
                     "glpk")
+        self.refuse("GLPK's `-w` has an `s` line and 5 `j` lines: the text is cut off", raw.replace("j 5 b 4 0\n", ""),
+                    "glpk")
+        self.refuse("the answer says that its flow is worth 15, and it is worth 14", raw.replace("14", "15"), "glpk")
+        self.refuse("by its potentials 1 unit more on arc 4 (2 to 4) would be worth more",
+                    raw.replace(" -4 -1", " -4 -3"), "glpk")
 
     def test_drawn(self) -> None:
         """Right flows are accepted without potentials and with them; a flow that is changed, or best by other costs, is
@@ -164,8 +167,8 @@ class Others(unittest.TestCase):
                 raw = written.read_text()
                 if not way:
                     self.accept(problem.text(), raw, "glpk")
-                    spoilt = re.sub(r"^j (\d+) (\w) (-?\d+)", lambda line: f"j {line[1]} {line[2]} {int(line[3]) + 1}", raw,
-                                    count=1, flags=re.M)
+                    spoilt = re.sub(r"^j 1 (\w) (-?\d+)", lambda line: f"j 1 {line[1]} {int(line[2]) + 1}", raw,
+                                    flags=re.M)
                     with self.assertRaises(NotAnAnswer):
                         answer_from(problem.text(), spoilt, "glpk")
 

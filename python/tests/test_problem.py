@@ -11,8 +11,18 @@ from mcf_plan.problem import exact, plain
 
 class Numbers(unittest.TestCase):
     def test_what_is_taken(self):
-        for given, wanted in ((3, "3"), (0.1, "0.1"), ("2.50", "2.5"), (" 7 ", "7"), (Decimal("1E+3"), "1000"),
-                              (Fraction(1, 8), "0.125"), (-0.0, "0"), ("-0", "0"), (True, "1"), (1e-7, "0.0000001")):
+        for given, wanted in (
+            (3, "3"),
+            (0.1, "0.1"),
+            ("2.50", "2.5"),
+            (" 7 ", "7"),
+            (Decimal("1E+3"), "1000"),
+            (Fraction(1, 8), "0.125"),
+            (-0.0, "0"),
+            ("-0", "0"),
+            (True, "1"),
+            (1e-7, "0.0000001"),
+        ):
             with self.subTest(given):
                 self.assertEqual(plain(exact(given)), wanted)
 
@@ -75,16 +85,17 @@ class Spellings(unittest.TestCase):
 
     def test_read(self):
         for text, cost in (
-                ("p min 2 1\na 1 2 0 9 3\nn 1 2\nn 2 -2\n", "6"),
-                ("\ufeffp min 2 1\r\nn 1 +2\r\nn 2 -2.0\r\na 1 2 0 9e0 3\r\n", "6"),
-                ("p min 2 1\nn 1 2\nn 2 -2\na 1 2 0 inf 3.25\n", "6.5"),
-                ("p min 2 1\nn 1 2\nn 2 -2\na 1 2 0 -1 3\n", "6"),
-                ("p min 2 1\nn 1 2\nn 2 -2\na 1 2 0 2147483647 3\n", "6"),
-                ("# made by hand\np min 2 1 c two nodes\nn 1 2 // here\nn 2 -2\na 1 2 0 5 3 # road\n", "6"),
-                ("p min 2 1\nn 1 -2\nn 2 2\na 1 2 -9 9 3\n", "-6"),
-                ("p min 2 1\nn 1 0.5\nn 2 -0.5\na 1 2 -0 9 3\n", "1.5"),
-                ("p min 2 1\nn 1 3000000000\nn 2 -3000000000\na 1 2 0 3000000000 1\n", "3000000000"),
-                ("p max 2 2\na 1 2 3000000000\na 1 2 3000000000\nn 1 s\nn 2 t\n", "6000000000")):
+            ("p min 2 1\na 1 2 0 9 3\nn 1 2\nn 2 -2\n", "6"),
+            ("\ufeffp min 2 1\r\nn 1 +2\r\nn 2 -2.0\r\na 1 2 0 9e0 3\r\n", "6"),
+            ("p min 2 1\nn 1 2\nn 2 -2\na 1 2 0 inf 3.25\n", "6.5"),
+            ("p min 2 1\nn 1 2\nn 2 -2\na 1 2 0 -1 3\n", "6"),
+            ("p min 2 1\nn 1 2\nn 2 -2\na 1 2 0 2147483647 3\n", "6"),
+            ("# made by hand\np min 2 1 c two nodes\nn 1 2 // here\nn 2 -2\na 1 2 0 5 3 # road\n", "6"),
+            ("p min 2 1\nn 1 -2\nn 2 2\na 1 2 -9 9 3\n", "-6"),
+            ("p min 2 1\nn 1 0.5\nn 2 -0.5\na 1 2 -0 9 3\n", "1.5"),
+            ("p min 2 1\nn 1 3000000000\nn 2 -3000000000\na 1 2 0 3000000000 1\n", "3000000000"),
+            ("p max 2 2\na 1 2 3000000000\na 1 2 3000000000\nn 1 s\nn 2 t\n", "6000000000"),
+        ):
             with self.subTest(text):
                 self.assertEqual(self.cost(text), cost)
 
@@ -94,10 +105,16 @@ class Spellings(unittest.TestCase):
         self.assertEqual(len(problem.notes), 2)
 
     def test_refused(self):
-        for text, number, line in (("p min 2 2\na 1 2 0 5 3\n", 13, 2), ("p min 2 1\na 1 2 7 5.5 3\n", 15, 2),
-                                   ("p min 2 1\na 1 2 0 x 3\n", 4, 2), ("p min 2 1\na 1 2.5 0 1 3\n", 4, 2),
-                                   ("p min 2 1\nn 1 2\nn 1 3\na 1 2 0 1 3\n", 10, 3), ("p max 2 1\na 1 2 3\n", 11, 2),
-                                   ("p min 2 1\na 1 2 0 5 3\nn 1 2\na 1 2 0 5 3\n", 12, 4), ("", 14, 0)):
+        for text, number, line in (
+            ("p min 2 2\na 1 2 0 5 3\n", 13, 2),
+            ("p min 2 1\na 1 2 7 5.5 3\n", 15, 2),
+            ("p min 2 1\na 1 2 0 x 3\n", 4, 2),
+            ("p min 2 1\na 1 2.5 0 1 3\n", 4, 2),
+            ("p min 2 1\nn 1 2\nn 1 3\na 1 2 0 1 3\n", 10, 3),
+            ("p max 2 1\na 1 2 3\n", 11, 2),
+            ("p min 2 1\na 1 2 0 5 3\nn 1 2\na 1 2 0 5 3\n", 12, 4),
+            ("", 14, 0),
+        ):
             with self.subTest(text), self.assertRaises(Refused) as caught:
                 Problem.from_dimacs(text)
             self.assertEqual((caught.exception.fault.number, caught.exception.fault.line), (number, line))

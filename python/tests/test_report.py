@@ -112,6 +112,10 @@ class ReportTest(unittest.TestCase):
     def test_other_kinds(self) -> None:
         text = report.html_text(pipes().solve())
         self.assertIn("Most that can be sent: 2", text)
+        self.assertIn("  tower to town: 2\n", text.replace("</pre>", "\n"))
+        dry = pipes()
+        dry.arcs.pop()
+        self.assertIn("No way leads from well to town.", report.html_text(dry.solve()))
         self.assertNotIn("Unit cost", text)
         text = report.html_text(pairs().solve())
         self.assertIn("Cheapest assignment: 6", text)

@@ -31,20 +31,33 @@ class Meaning(unittest.TestCase):
 
     def test_costs(self):
         for title, problem, options, cost in (
-                ("decimals", problem_of({"a": "1.5", "b": "-1.5"}, ["a b 0 2 0.25"]), {}, "0.375"),
-                ("lower bound below 0", problem_of({"a": 1, "b": -1}, ["a b -5 5 -1", "b a -3 3 -2"]), {}, "-10"),
-                ("lower bounds beyond the limits", problem_of({"a": 0, "b": 0}, ["a b 2000000000 3000000000 1",
-                                                                                  "b a 0 inf 1"]), {}, "4000000000"),
-                ("supply beyond the limits", problem_of({"a": 2500000000, "b": -2500000000}, ["a b 0 inf 2"]), {},
-                 "5000000000"),
-                ("surplus kept", problem_of({"a": 5, "b": -3}, ["a b 0 9 4"]), {"surplus": "keep"}, "12"),
-                ("surplus at a cost", problem_of({"a": 5, "b": -3}, ["a b 0 9 4"]), {"surplus": "1.5"}, "15"),
-                ("demand not met at a cost", problem_of({"a": 3, "b": -5}, ["a b 0 9 4"]), {"surplus": 10}, "32"),
-                ("at most", problem_of({"a": 5, "b": -3, "c": 0}, ["a b 0 9 4"], balance="at most"), {}, "12"),
-                ("at least", problem_of({"a": 3, "b": -5}, ["a b 0 9 4"], balance="at least"), {}, "12"),
-                ("gain around a circle with a capacity", problem_of({"a": 0, "b": 0}, ["a b 0 inf -3", "b a 0 7 1"]), {},
-                 "-14"),
-                ("large arcs around a gainful circle", problem_of({"a": 0}, ["a a 0 3000000000 -1"]), {}, "-3000000000")):
+            ("decimals", problem_of({"a": "1.5", "b": "-1.5"}, ["a b 0 2 0.25"]), {}, "0.375"),
+            ("lower bound below 0", problem_of({"a": 1, "b": -1}, ["a b -5 5 -1", "b a -3 3 -2"]), {}, "-10"),
+            (
+                "lower bounds beyond the limits",
+                problem_of({"a": 0, "b": 0}, ["a b 2000000000 3000000000 1", "b a 0 inf 1"]),
+                {},
+                "4000000000",
+            ),
+            (
+                "supply beyond the limits",
+                problem_of({"a": 2500000000, "b": -2500000000}, ["a b 0 inf 2"]),
+                {},
+                "5000000000",
+            ),
+            ("surplus kept", problem_of({"a": 5, "b": -3}, ["a b 0 9 4"]), {"surplus": "keep"}, "12"),
+            ("surplus at a cost", problem_of({"a": 5, "b": -3}, ["a b 0 9 4"]), {"surplus": "1.5"}, "15"),
+            ("demand not met at a cost", problem_of({"a": 3, "b": -5}, ["a b 0 9 4"]), {"surplus": 10}, "32"),
+            ("at most", problem_of({"a": 5, "b": -3, "c": 0}, ["a b 0 9 4"], balance="at most"), {}, "12"),
+            ("at least", problem_of({"a": 3, "b": -5}, ["a b 0 9 4"], balance="at least"), {}, "12"),
+            (
+                "gain around a circle with a capacity",
+                problem_of({"a": 0, "b": 0}, ["a b 0 inf -3", "b a 0 7 1"]),
+                {},
+                "-14",
+            ),
+            ("large arcs around a gainful circle", problem_of({"a": 0}, ["a a 0 3000000000 -1"]), {}, "-3000000000"),
+        ):
             with self.subTest(title):
                 self.assertEqual(plain(self.solved(problem, **options).cost), cost)
 
@@ -110,13 +123,23 @@ class Meaning(unittest.TestCase):
 
     def test_beyond_the_limits(self):
         for title, problem, words in (
-                ("cost", problem_of({"a": 0}, ["a b 0 5 2000000000000"]), "larger unit of money"),
-                ("too fine a cost", problem_of({"a": 0}, ["a b 0 5 10000000000", "a c 0 5 0.001"]),
-                 "arc 2, a to c: the cost 0.001 .*finest step that would do is 0.01"),
-                ("too fine a bound", problem_of({"a": 1000000, "b": -1000000}, ["a b 0 1000000 1", "b a 0 0.00000000001 1"]),
-                 "arc 2, b to a: its bound 0.00000000001 is too fine .* is 0.001"),
-                ("amount", problem_of({"a": 0}, ["a b 0 1000000000000000 1"] * 2 + ["b a 0 1000000000000000 -2"]),
-                 "larger unit")):
+            ("cost", problem_of({"a": 0}, ["a b 0 5 2000000000000"]), "larger unit of money"),
+            (
+                "too fine a cost",
+                problem_of({"a": 0}, ["a b 0 5 10000000000", "a c 0 5 0.001"]),
+                "arc 2, a to c: the cost 0.001 .*finest step that would do is 0.01",
+            ),
+            (
+                "too fine a bound",
+                problem_of({"a": 1000000, "b": -1000000}, ["a b 0 1000000 1", "b a 0 0.00000000001 1"]),
+                "arc 2, b to a: its bound 0.00000000001 is too fine .* is 0.001",
+            ),
+            (
+                "amount",
+                problem_of({"a": 0}, ["a b 0 1000000000000000 1"] * 2 + ["b a 0 1000000000000000 -2"]),
+                "larger unit",
+            ),
+        ):
             with self.subTest(title), self.assertRaisesRegex(BeyondLimits, words):
                 problem.solve()
         many = Problem()
@@ -127,13 +150,14 @@ class Meaning(unittest.TestCase):
 
     def test_meaningless(self):
         for title, problem, words in (
-                ("cost in max", problem_of({}, ["a b 0 5 1"], kind="max", source="a", sink="b"), "has a cost"),
-                ("supply in max", problem_of({"a": 1}, ["a b 0 5 0"], kind="max", source="a", sink="b"), "has a supply"),
-                ("no source", problem_of({}, ["a b 0 5 0"], kind="max", sink="b"), "needs a source"),
-                ("source and sink", problem_of({}, ["a b 0 5 0"], kind="max", source="a", sink="a"), "same node"),
-                ("capacity in asn", problem_of({}, ["a b 0 5 0"], kind="asn"), "other bounds"),
-                ("supply in asn", problem_of({"a": 2}, ["a b 0 1 0"], kind="asn"), "supplies 2"),
-                ("side in asn", problem_of({}, ["a b 0 1 0", "b c 0 1 0"], kind="asn"), "source side")):
+            ("cost in max", problem_of({}, ["a b 0 5 1"], kind="max", source="a", sink="b"), "has a cost"),
+            ("supply in max", problem_of({"a": 1}, ["a b 0 5 0"], kind="max", source="a", sink="b"), "has a supply"),
+            ("no source", problem_of({}, ["a b 0 5 0"], kind="max", sink="b"), "needs a source"),
+            ("source and sink", problem_of({}, ["a b 0 5 0"], kind="max", source="a", sink="a"), "same node"),
+            ("capacity in asn", problem_of({}, ["a b 0 5 0"], kind="asn"), "other bounds"),
+            ("supply in asn", problem_of({"a": 2}, ["a b 0 1 0"], kind="asn"), "supplies 2"),
+            ("side in asn", problem_of({}, ["a b 0 1 0", "b c 0 1 0"], kind="asn"), "source side"),
+        ):
             with self.subTest(title), self.assertRaisesRegex(Meaningless, words):
                 problem.solve()
         with self.assertRaises(Meaningless):

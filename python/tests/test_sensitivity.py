@@ -99,7 +99,7 @@ class Sensitivity(unittest.TestCase):
             step, reach = steps_and_reach(plan)
             for number, (arc, flow) in enumerate(zip(problem.arcs, plan.flows)):
                 for end, side in ((told[number].least_cost, -1), (told[number].greatest_cost, 1)):
-                    at = arc.cost + side * reach if end is None else end
+                    at = arc.cost + side * step * reach if end is None else end
                     # A circle without capacities that costs less than 0 shows that the plan is not best there.
                     line = plan.cost + (at - arc.cost) * flow
                     self.assertEqual(worth(changed(problem, number, cost=at)), line)
@@ -115,6 +115,44 @@ class Sensitivity(unittest.TestCase):
                         pass
         print(f"ranges of costs: {ends} ends and {open_ends} open ones, as by solving anew")
         self.assertGreater(ends, 50)
+
+    def test_rewritten(self) -> None:
+        """Lower bounds below 0, capacities above the formats' limit, supplies that are inequalities, or kept and not
+        met at a cost: the same figures as by solving anew."""
+        draws = random.Random(6)
+        for case in range(15):
+            balance = ("equal", "at least", "at most")[case % 3]
+            problem = Problem("min", balance=balance)
+            names = [f"n{number}" for number in range(draws.randint(2, 6))]
+            for name in names:
+                problem.add_node(name)
+            for _ in range(draws.randint(2, 10)):
+                tail, head = draws.sample(names, 2)
+                low, unit = draws.choice([0, 0, -3, 1]), draws.choice([1, 1, 10**9])
+                cap = None if draws.random() < 0.2 else max(low, draws.randint(0, 3) * unit)
+                problem.add_arc(tail, head, low=low, cap=cap, cost=Decimal(draws.randint(0, 40)) / 4)
+            for arc in problem.arcs:
+                flow = int(arc.low) if arc.cap == arc.low else int(arc.low) + 1
+                problem.nodes[arc.tail] += flow
+                problem.nodes[arc.head] -= flow
+            surplus = draws.choice(["keep", "0.5"]) if balance == "equal" else "refuse"
+            problem.nodes[names[0]] += {"equal": draws.randint(-2, 2), "at least": -2, "at most": 2}[balance]
+            with Session(problem, surplus=surplus) as session:
+                plan = session.plan()
+                if isinstance(plan, Infeasible):
+                    continue
+                told = ranges(session)
+            step, reach = steps_and_reach(plan)
+            for number, (arc, flow) in enumerate(zip(problem.arcs, plan.flows)):
+                if arc.cap is not None:
+                    anew = changed(problem, number, cap=arc.cap + 1).solve(surplus=surplus)
+                    assert isinstance(anew, Plan)
+                    self.assertEqual(told[number].saves, plan.cost - anew.cost)
+                for end, side in ((told[number].least_cost, -1), (told[number].greatest_cost, 1)):
+                    at = arc.cost + side * step * reach if end is None else end
+                    anew = changed(problem, number, cost=at).solve(surplus=surplus)
+                    assert isinstance(anew, Plan)
+                    self.assertEqual(anew.cost, plan.cost + (at - arc.cost) * flow)
 
     def test_curve(self) -> None:
         draws = random.Random(3)

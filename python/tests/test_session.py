@@ -1,4 +1,5 @@
-"""Sessions: at each moment the proof is valid against the written problem, and where there is no plan, it is explained."""
+"""Sessions: at each moment the proof is valid against the written problem, and where there is no plan, it is
+explained."""
 
 import os
 import random
@@ -12,13 +13,13 @@ import unittest
 from decimal import Decimal
 from pathlib import Path
 
-from mcf_plan import (BeyondLimits, EditRefused, Infeasible, Problem, Program, Session, TimeLimit, Unbounded)
+from mcf_plan import BeyondLimits, EditRefused, Infeasible, Problem, Program, Session, TimeLimit, Unbounded
 from mcf_plan.dimacs import find_fault
 
 from drawing import DRAWN, by_networkx, draw
 
 SLOW = """#!/usr/bin/python3
-'''Hands lines on to mcf. Where the file `slow` is beside it, it sleeps at each line that the session does not know by it.'''
+'''Hands lines on to mcf. Where the file `slow` is beside it, it sleeps at the line `cap 1 77`.'''
 import os, subprocess, sys, time
 folder = os.path.dirname(os.path.abspath(__file__))
 program = subprocess.Popen([{program!r}, *sys.argv[1:]], stdin=subprocess.PIPE, bufsize=0)
@@ -38,8 +39,12 @@ def deliveries():
     problem = Problem()
     for name, supply in (("north", 5), ("south", 4), ("mill", -6), ("port", -3)):
         problem.add_node(name, supply)
-    for tail, head, cap, cost in (("north", "mill", 5, 4), ("north", "port", 5, 6), ("south", "mill", 4, 5),
-                                  ("south", "port", 4, 3)):
+    for tail, head, cap, cost in (
+        ("north", "mill", 5, 4),
+        ("north", "port", 5, 6),
+        ("south", "mill", 4, 5),
+        ("south", "port", 4, 3),
+    ):
         problem.add_arc(tail, head, cap=cap, cost=cost)
     return problem
 
@@ -78,13 +83,15 @@ class Told(unittest.TestCase):
                     session.set_cap(0, 1)
                     session.set_low(0, 2)
             self.assertEqual((session.cost, session.problem.arcs[0].cap), (more, 5))
-            for wrong, error in ((lambda: session.set_cap("nowhere", 1), KeyError),
-                                 (lambda: session.set_cap(0, "many"), ValueError),
-                                 (lambda: session.set_supply("nowhere", 1), KeyError),
-                                 (lambda: session.set_low(0, 9), EditRefused),
-                                 (lambda: session.add_arc("north", "nowhere"), KeyError),
-                                 (lambda: session.back("nowhere"), EditRefused),
-                                 (session.redo, EditRefused)):
+            for wrong, error in (
+                (lambda: session.set_cap("nowhere", 1), KeyError),
+                (lambda: session.set_cap(0, "many"), ValueError),
+                (lambda: session.set_supply("nowhere", 1), KeyError),
+                (lambda: session.set_low(0, 9), EditRefused),
+                (lambda: session.add_arc("north", "nowhere"), KeyError),
+                (lambda: session.back("nowhere"), EditRefused),
+                (session.redo, EditRefused),
+            ):
                 with self.assertRaises(error):
                     wrong()
                 self.assertEqual(session.cost, more)
@@ -107,7 +114,9 @@ class Told(unittest.TestCase):
         flow = Problem("max", source="a", sink="b")
         flow.add_arc("a", "b", cap=3)
         with Session(flow) as session:
-            self.assertEqual((session.cost, session.set_cap(0, "2.5"), session.set_low(0, 1)), (3, Decimal("2.5"), Decimal("2.5")))
+            self.assertEqual(
+                (session.cost, session.set_cap(0, "2.5"), session.set_low(0, 1)), (3, Decimal("2.5"), Decimal("2.5"))
+            )
             for wrong in (lambda: session.set_cost(0, 1), lambda: session.set_supply("a", 1)):
                 with self.assertRaises(EditRefused):
                     wrong()
@@ -150,7 +159,14 @@ class Interrupted(unittest.TestCase):
 
     def stands(self, session):
         """What can be seen of a session."""
-        return session.text(), session.proof(), session.cost, list(session.problem.arcs), session.marks, session.can_redo
+        return (
+            session.text(),
+            session.proof(),
+            session.cost,
+            list(session.problem.arcs),
+            session.marks,
+            session.can_redo,
+        )
 
     def test_both(self):
         with Session(deliveries(), self.program) as session:
@@ -189,6 +205,7 @@ class Drawn(unittest.TestCase):
     def test_moments(self):
         try:
             import networkx  # noqa: F401
+
             is_compared = True
         except ImportError:
             is_compared = False
@@ -252,7 +269,9 @@ class Drawn(unittest.TestCase):
 
     def edit(self, session, chance):
         """A drawn edit, now and then with finer decimals, or far greater numbers, than all others."""
-        value = Decimal(chance.randint(-20, 200)).scaleb(-chance.choice([0, 0, 0, 0, 1, 2])) * chance.choice([1] * 12 + [10**9])
+        value = Decimal(chance.randint(-20, 200)).scaleb(-chance.choice([0, 0, 0, 0, 1, 2])) * chance.choice(
+            [1] * 12 + [10**9]
+        )
         arc = chance.randrange(len(session.problem.arcs))
         names = list(session.problem.nodes)
         way = chance.random()
@@ -267,7 +286,9 @@ class Drawn(unittest.TestCase):
         elif way < 0.85:
             session.close(arc)
         else:
-            session.add_arc(chance.choice(names), chance.choice(names), cap=chance.choice([None, abs(value)]), cost=abs(value))
+            session.add_arc(
+                chance.choice(names), chance.choice(names), cap=chance.choice([None, abs(value)]), cost=abs(value)
+            )
 
 
 if __name__ == "__main__":

@@ -28,7 +28,7 @@ from .program import Program, ProgramFailed, Refused, TimeLimit
 from .rewrite import BeyondLimits, Meaningless, Unbounded
 from .session import EditRefused, Session
 
-__version__ = "1.0.0"
+__version__ = "0.1.0"
 
 __all__ = [
     "Answer",

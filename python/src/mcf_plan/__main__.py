@@ -22,16 +22,24 @@ from .tables import TableFault, read_tables, write_plan
 
 NO_PLAN, USAGE, REFUSED, FAILED, UNBOUNDED, BEYOND, DISAGREE, TOO_LONG, INTERRUPTED = 1, 2, 3, 4, 6, 7, 8, 124, 130
 
-STATUSES = """status: 0 done; 1 there is no plan, or an answer is not valid; 2 the command line is refused; 3 a table or a text is
-refused; 4 a file or the program mcf failed; 6 there is no best plan (unbounded); 7 beyond the formats' limits; 8 an answer was
-found wrong (the texts are kept); 124 the time limit; 130 Ctrl-C"""
+STATUSES = """status:
+  0    done
+  1    there is no plan, or an answer is not valid
+  2    the command line is refused
+  3    a table or a text is refused
+  4    a file, or the program mcf, failed
+  6    there is no best plan: each unit more makes it better
+  7    beyond the limits of the formats
+  8    an answer was found wrong; the texts are kept
+  124  the time limit
+  130  Ctrl-C"""
 
 
 def main(arguments: Optional[List[str]] = None) -> int:
     """Runs the command and returns its status."""
     options = _parser().parse_args(arguments)
     try:
-        status = options.run(options)
+        status: int = options.run(options)
         sys.stdout.flush()
         return status
     except Unbounded as error:
@@ -82,12 +90,18 @@ def _kept(error: Disagreement) -> str:
 
 
 def _parser() -> argparse.ArgumentParser:
-    parser = argparse.ArgumentParser(prog="mcf-plan", description="Tables with names and decimals in, proved plans out.",
-                                     epilog=STATUSES, formatter_class=argparse.RawDescriptionHelpFormatter)
+    parser = argparse.ArgumentParser(
+        prog="mcf-plan",
+        description="Tables with names and decimals in, proved plans out.",
+        epilog=STATUSES,
+        formatter_class=argparse.RawDescriptionHelpFormatter,
+    )
     parser.add_argument("--version", action="version", version=f"mcf-plan {__version__}")
     commands = parser.add_subparsers(title="commands", metavar="COMMAND", required=True)
 
-    def command(name: str, run: Callable[[argparse.Namespace], int], words: str, *, tables: bool) -> argparse.ArgumentParser:
+    def command(
+        name: str, run: Callable[[argparse.Namespace], int], words: str, *, tables: bool
+    ) -> argparse.ArgumentParser:
         made = commands.add_parser(name, help=words, description=words[:1].upper() + words[1:] + ".")
         made.set_defaults(run=run)
         if tables:
@@ -109,19 +123,28 @@ def _parser() -> argparse.ArgumentParser:
     board.add_argument("--title", default="Plan", help="the page's title")
 
     why = command("explain", _explain, "say why there is no plan", tables=True)
-    why.add_argument("--answer", metavar="FILE", help="explain this answer of mcf to the problem text, in place of solving")
+    why.add_argument(
+        "--answer", metavar="FILE", help="explain this answer of mcf to the problem text, in place of solving"
+    )
 
     check = command("check", _check, "check an answer to a problem text, whoever made it", tables=False)
     check.add_argument("problem", metavar="PROBLEM")
     check.add_argument("answer", metavar="ANSWER")
-    check.add_argument("--from", dest="maker", choices=["mcf", "lemon", "glpk", "flows"], default="mcf",
-                       help="which program wrote the answer (mcf)")
+    check.add_argument(
+        "--from",
+        dest="maker",
+        choices=["mcf", "lemon", "glpk", "flows"],
+        default="mcf",
+        help="which program wrote the answer (mcf)",
+    )
 
     faults = command("faults", _faults, "say what is wrong with a problem text, and how to mend it", tables=False)
     faults.add_argument("problem", metavar="PROBLEM")
     faults.add_argument("answer", metavar="ANSWER", nargs="?", help="an answer to it, to be looked at too")
 
-    convert = command("convert", _convert, "write tables, or a text of another program, as a text that mcf reads", tables=True)
+    convert = command(
+        "convert", _convert, "write tables, or a text of another program, as a text that mcf reads", tables=True
+    )
     convert.add_argument("-o", "--output", metavar="FILE", help="write to a file in place of the output")
 
     command("ranges", _ranges, "say what one unit more saves, and within which costs the plan stays best", tables=True)
@@ -129,17 +152,33 @@ def _parser() -> argparse.ArgumentParser:
 
 
 def _add_tables(parser: argparse.ArgumentParser) -> None:
-    parser.add_argument("tables", metavar="TABLE", nargs="+",
-                        help="the tables of nodes and arcs (.csv, .tsv, .xlsx), that of arcs alone, or a problem text")
-    parser.add_argument("--kind", choices=["min", "max", "asn"], default="min",
-                        help="least cost (min), greatest flow (max) or assignment (asn)")
+    parser.add_argument(
+        "tables",
+        metavar="TABLE",
+        nargs="+",
+        help="the tables of nodes and arcs (.csv, .tsv, .xlsx), that of arcs alone, or a problem text",
+    )
+    parser.add_argument(
+        "--kind",
+        choices=["min", "max", "asn"],
+        default="min",
+        help="least cost (min), greatest flow (max) or assignment (asn)",
+    )
     parser.add_argument("--source", metavar="NODE", help="where a greatest flow starts")
     parser.add_argument("--sink", metavar="NODE", help="where it ends")
-    parser.add_argument("--surplus", metavar="refuse|keep|COST", default="refuse",
-                        help="what becomes of supplies that do not add up to 0: there is no plan (refuse), they are kept or "
-                             "not met at no cost (keep), or at this cost a unit")
-    parser.add_argument("--balance", choices=["equal", "at least", "at most"], default="equal",
-                        help="whether what leaves a node less what comes in is equal to its supply, at least or at most it")
+    parser.add_argument(
+        "--surplus",
+        metavar="refuse|keep|COST",
+        default="refuse",
+        help="what becomes of supplies that do not add up to 0: there is no plan (refuse), they are kept or "
+        "not met at no cost (keep), or at this cost a unit",
+    )
+    parser.add_argument(
+        "--balance",
+        choices=["equal", "at least", "at most"],
+        default="equal",
+        help="whether what leaves a node less what comes in is equal to its supply, at least or at most it",
+    )
     parser.add_argument("--time-limit", metavar="SECONDS", type=float, help="how long to wait for an answer")
 
 
@@ -159,8 +198,14 @@ def _read(options: argparse.Namespace) -> Problem:
     for what, name in (("--source", options.source), ("--sink", options.sink)):
         if options.kind == "max" and name is None:
             raise TableFault(f"a greatest flow wants {what} NODE")
-    return read_tables(tables[0] if len(tables) == 2 else None, tables[-1], kind=options.kind, balance=options.balance,
-                       source=options.source, sink=options.sink)
+    return read_tables(
+        tables[0] if len(tables) == 2 else None,
+        tables[-1],
+        kind=options.kind,
+        balance=options.balance,
+        source=options.source,
+        sink=options.sink,
+    )
 
 
 # ---------------------------------------------------------------- plan, explain, ranges
@@ -168,6 +213,8 @@ def _read(options: argparse.Namespace) -> Problem:
 
 def _plan(options: argparse.Namespace) -> int:
     problem = _read(options)
+    for note in problem.notes:
+        print(f"note: {note}", file=sys.stderr)
     result = problem.solve(surplus=options.surplus, time_limit=options.time_limit)
     if options.json:
         from .report import to_json
@@ -190,8 +237,6 @@ def _plan(options: argparse.Namespace) -> int:
 
 def tell(result: Union[Plan, Infeasible], out: TextIO) -> None:
     """Prints a plan, or why there is none, for people."""
-    for note in result.notes:
-        print(f"note: {note}", file=sys.stderr)
     if isinstance(result, Infeasible):
         print(result.explain(), file=out)
         return
@@ -201,13 +246,31 @@ def tell(result: Union[Plan, Infeasible], out: TextIO) -> None:
     rows = [["from", "to", "name", "flow", "capacity", "cost"]]
     for arc, flow in zip(problem.arcs, result.flows):
         if flow:
-            rows.append([str(arc.tail), str(arc.head), arc.name or "", plain(flow),
-                         "" if arc.cap is None else plain(arc.cap), plain(arc.cost)])
-    unused = [place for place, heading in enumerate(rows[0]) if heading in ("name", "cost", "capacity")
-              and (not any(row[place] for row in rows[1:]) or problem.kind == "max" and heading == "cost"
-                   or problem.kind == "asn" and heading == "capacity")]
-    _print_table([[cell for place, cell in enumerate(row) if place not in unused] for row in rows],
-                 2 + (2 not in unused), out)
+            rows.append(
+                [
+                    str(arc.tail),
+                    str(arc.head),
+                    arc.name or "",
+                    plain(flow),
+                    "" if arc.cap is None else plain(arc.cap),
+                    plain(arc.cost),
+                ]
+            )
+    unused = [
+        place
+        for place, heading in enumerate(rows[0])
+        if heading in ("name", "cost", "capacity")
+        and (
+            not any(row[place] for row in rows[1:])
+            or problem.kind == "max"
+            and heading == "cost"
+            or problem.kind == "asn"
+            and heading == "capacity"
+        )
+    ]
+    _print_table(
+        [[cell for place, cell in enumerate(row) if place not in unused] for row in rows], 2 + (2 not in unused), out
+    )
     for rest, words in ((result.kept, "stays at"), (result.not_met, "is not met at")):
         for name, amount in rest.items():
             print(f"{plain(amount)} {words} {name}", file=out)
@@ -217,8 +280,10 @@ def _print_table(rows: List[List[str]], texts: int, out: TextIO) -> None:
     """Prints rows in columns, the first `texts` to the left, numbers to the right."""
     widths = [max(map(len, column)) for column in zip(*rows)]
     for row in rows:
-        cells = [cell.ljust(width) if place < texts else cell.rjust(width)
-                 for place, (cell, width) in enumerate(zip(row, widths))]
+        cells = [
+            cell.ljust(width) if place < texts else cell.rjust(width)
+            for place, (cell, width) in enumerate(zip(row, widths))
+        ]
         print("  ".join(cells).rstrip(), file=out)
 
 
@@ -251,9 +316,18 @@ def _ranges(options: argparse.Namespace) -> int:
         rows = [["from", "to", "name", "flow", more, "cost", "best from", "to"]]
         for row in ranges(session):
             arc = problem.arcs[row.arc]
-            rows.append([str(arc.tail), str(arc.head), arc.name or "", plain(result.flows[row.arc]), plain(row.saves),
-                         plain(arc.cost), "any" if row.least_cost is None else plain(row.least_cost),
-                         "any" if row.greatest_cost is None else plain(row.greatest_cost)])
+            rows.append(
+                [
+                    str(arc.tail),
+                    str(arc.head),
+                    arc.name or "",
+                    plain(result.flows[row.arc]),
+                    plain(row.saves),
+                    plain(arc.cost),
+                    "any" if row.least_cost is None else plain(row.least_cost),
+                    "any" if row.greatest_cost is None else plain(row.greatest_cost),
+                ]
+            )
         _print_table(rows, 3, sys.stdout)
     return 0
 
@@ -300,11 +374,15 @@ def _faults(options: argparse.Namespace) -> int:
     found = parse_problem(raw)
     total = sum(found.supplies.values())
     if found.kind == "min" and total:
-        print(f"note: the supplies add up to {total}, and not to 0, so there is no plan; is the sign of a demand missing? "
-              "`mcf-plan plan --surplus keep` lets the rest stay")
+        print(
+            f"note: the supplies add up to {total}, and not to 0, so there is no plan; is the sign of a demand missing?"
+            " `mcf-plan plan --surplus keep` lets the rest stay"
+        )
     if found.kind == "asn" and 2 * len(found.supplies) != found.nodes:
-        print(f"note: {len(found.supplies)} nodes are on the source side and {found.nodes - len(found.supplies)} on the sink "
-              "side, so there is no assignment; `mcf-plan plan --surplus keep` lets the rest be alone")
+        print(
+            f"note: the nodes are {len(found.supplies)} on the source side and {found.nodes - len(found.supplies)} on "
+            "the sink side, so there is no assignment; `mcf-plan plan --surplus keep` lets the rest be alone"
+        )
     return 0
 
 
@@ -385,6 +463,7 @@ class Conversation:
             try:
                 line = input("what if> ") if self.is_terminal else source.readline()
             except EOFError:
+                self.say("")
                 break
             except KeyboardInterrupt:
                 self.say("")
@@ -405,7 +484,7 @@ class Conversation:
     def answer(self, line: str) -> None:
         """Does what a line says."""
         try:
-            words = shlex.split(line, comments=True)
+            words = [] if line.lstrip().startswith("#") else shlex.split(line)
         except ValueError as error:
             return self.say(f"refused, nothing is changed: {error}")
         if not words:
@@ -459,7 +538,9 @@ class Conversation:
                 raise EditRefused(f"{word} wants more words; `help` tells them")
             edits[word]()
             if self.group is None:
-                self.say(self.standing(None if before is None or session.cost is None else plain(session.cost - before)))
+                self.say(
+                    self.standing(None if before is None or session.cost is None else plain(session.cost - before))
+                )
         elif word in tells:
             tells[word]()
         else:
@@ -489,7 +570,9 @@ class Conversation:
         if len(words) == 2:
             return words[0], words[1]
         if len(words) != 1:
-            raise EditRefused("an arc is its name, its two ends, or # and its number; names with blanks stand in quotes")
+            raise EditRefused(
+                "an arc is its name, its two ends, or # and its number; names with blanks stand in quotes"
+            )
         return words[0]
 
     def node(self, words: List[str]) -> str:
@@ -506,8 +589,14 @@ class Conversation:
             if what not in known:
                 raise EditRefused(f"{what} is none of capacity, cost, low and name")
             given[known[what]] = value
-        self.session.add_arc(words[0], words[1], low=given.get("low", 0), cap=given.get("cap"), cost=given.get("cost", 0),
-                             name=given.get("name"))
+        self.session.add_arc(
+            words[0],
+            words[1],
+            low=given.get("low", 0),
+            cap=given.get("cap"),
+            cost=given.get("cost", 0),
+            name=given.get("name"),
+        )
 
     def open_group(self) -> None:
         if self.group is not None:

@@ -44,8 +44,8 @@ ANSWER_FAULTS: Dict[int, str] = {
     3: "wrong number of fields",
     4: "a field is not a number",
     5: "SRC, DST or ID is no node of the problem",
-    40: "a line out of order, one too many, a `v` line whose ID is not the next one, a `k` line whose ID does not rise, "
-        "or a text that ends too early (then with the number of lines as its line)",
+    40: "a line out of order, one too many, a `v` line whose ID is not the next one, a `k` line whose ID does not "
+    "rise, or a text that ends too early (then with the number of lines as its line)",
 }
 """What each fault of an answer text says."""
 
@@ -65,7 +65,7 @@ REFUSALS: Dict[int, str] = {
     27: "the arc does not lead from the source side to the sink side (`asn`)",
     28: "no moment bears this mark (`back`)",
     29: "the line stands in a group and is `group`, `undo`, `redo`, `mark`, `back`, `show` or `proof`; or it is `end`, "
-        "and no group is open",
+    "and no group is open",
     30: "there was not enough memory for this edit or group",
     31: "the group has more than 1,000 edits",
     32: "NAME is no name",
@@ -79,8 +79,8 @@ class Fault:
     """The first fault of a text, with the number and line that `mcf` tells, and words to mend it by.
 
     `line` counts from 1 (0 where the text has no line). `field` is the field's name as the formats have it, as CAP, or
-    None where the fault is of the whole line; `value` is what stands there; `expected` is what was expected; `hint` says
-    what to do about the commonest mistakes, and is empty elsewhere.
+    None where the fault is of the whole line; `value` is what stands there; `expected` is what was expected; `hint`
+    says what to do about the commonest mistakes, and is empty elsewhere.
     """
 
     number: int
@@ -96,8 +96,8 @@ class Fault:
     def words(self, name: str = "") -> str:
         """The fault as one line for people, after the name of the file where one is given.
 
-        >>> Fault(4, 3, "CAP", "1.5", "a whole number, 0 or more", "There are no fractions.").words("roads.min")
-        "roads.min, line 3, CAP: '1.5' stands where a whole number, 0 or more was expected. There are no fractions. (fault 4)"
+        >>> Fault(4, 3, "CAP", "1.5", "a whole number", "There are no fractions.").words("roads.min")
+        "roads.min, line 3, CAP: '1.5' stands where a whole number was expected. There are no fractions. (fault 4)"
         """
         place = ", ".join(([name] if name else []) + [f"line {self.line}"] + ([self.field] if self.field else []))
         if self.value is None:
@@ -120,7 +120,13 @@ _WORTH = re.compile(rb"-?[0-9]{1,30}")
 
 NODE_FIELDS = {"min": ("ID", "FLOW"), "max": ("ID", "s or t"), "asn": ("ID",)}
 ARC_FIELDS = {"min": ("SRC", "DST", "LOW", "CAP", "COST"), "max": ("SRC", "DST", "CAP"), "asn": ("SRC", "DST", "COST")}
-ANSWER_FIELDS = {"s": ("VALUE",), "f": ("SRC", "DST", "FLOW"), "v": ("ID", "POTENTIAL"), "i": ("SHORTAGE",), "k": ("ID",)}
+ANSWER_FIELDS = {
+    "s": ("VALUE",),
+    "f": ("SRC", "DST", "FLOW"),
+    "v": ("ID", "POTENTIAL"),
+    "i": ("SHORTAGE",),
+    "k": ("ID",),
+}
 
 
 def _as_bytes(text: Text) -> bytes:
@@ -162,17 +168,23 @@ def _number_hint(name: str, value: str, signed: bool) -> str:
     if re.fullmatch(r"-?\d+[.]0*", value):
         return "Write it without the point and the zeros."
     if re.fullmatch(r"-?\d{1,3}([,.'_]\d{3})+", value):
-        return ("Take the marks between the thousands out; if it is a fraction: there are none, so multiply all numbers of "
-                "its kind by the same power of ten.")
+        return (
+            "Take the marks between the thousands out; if it is a fraction: there are none, so multiply all numbers of "
+            "its kind by the same power of ten."
+        )
     if re.fullmatch(r"[+-]?\d*[.,]\d+", value):
-        return ("There are no fractions: multiply all numbers of its kind by the same power of ten, "
-                "or let `mcf-plan convert` do it.")
+        return (
+            "There are no fractions: multiply all numbers of its kind by the same power of ten, "
+            "or let `mcf-plan convert` do it."
+        )
     if re.fullmatch(r"[+-]?\d*[.]?\d+[eE][+-]?\d+", value):
         return "Write the number out, without an exponent."
     if re.fullmatch(r"[+-]?(inf|infinity|unlimited|none|null|na|nan|[*])", value, re.IGNORECASE):
         if name == "CAP":
-            return ("For no limit write 1000000000, which is as good where the supplies add up to no more and no circle of "
-                    "arcs costs less than 0; `mcf-plan convert` sees to it.")
+            return (
+                "For no limit write 1000000000, which is as good where the supplies add up to no more and no circle of "
+                "arcs costs less than 0; `mcf-plan convert` sees to it."
+            )
         return "Write a number."
     if re.fullmatch(r"-\d{1,18}", value) and not signed:
         if name == "LOW":
@@ -189,8 +201,11 @@ def _number_hint(name: str, value: str, signed: bool) -> str:
     if re.fullmatch(r"[\"'].*[\"']?|.*[\"']", value):
         return "Take the quotes off."
     if name in ("ID", "SRC", "DST"):
-        return ("Nodes have numbers, from 1 to NODES. For names in their place make tables, which `mcf-plan plan` reads."
-                if re.search(r"[^\W\d]", value) else "")
+        return (
+            "Nodes have numbers, from 1 to NODES. For names in their place make tables, which `mcf-plan plan` reads."
+            if re.search(r"[^\W\d]", value)
+            else ""
+        )
     return ""
 
 
@@ -208,8 +223,9 @@ class ProblemReader:
         self.line = 0
         self.problem_line = self.first_arc_line = self.source_line = self.sink_line = 0
 
-    def fail(self, number: int, expected: str, *, name: Optional[str] = None, value: Optional[str] = None,
-             hint: str = "") -> _Found:
+    def fail(
+        self, number: int, expected: str, *, name: Optional[str] = None, value: Optional[str] = None, hint: str = ""
+    ) -> _Found:
         return _Found(Fault(number, self.line, name, value, expected, hint))
 
     def number(self, name: str, word: bytes, least: int, most: int) -> int:
@@ -217,19 +233,31 @@ class ProblemReader:
         signed = least < 0
         if not (_SIGNED if signed else _PLAIN).fullmatch(word):
             value = _as_str(word)
-            raise self.fail(4, "a whole number" if signed else "a whole number, 0 or more", name=name, value=value,
-                            hint=_number_hint(name, value, signed))
+            raise self.fail(
+                4,
+                "a whole number" if signed else "a whole number, 0 or more",
+                name=name,
+                value=value,
+                hint=_number_hint(name, value, signed),
+            )
         number = int(word)
         if not least <= number <= most:
             hint = ""
             if name in ("ID", "SRC", "DST"):
-                hint = "Nodes count from 1." if number == 0 else \
-                    f"The problem line {self.problem_line} says that there are {_grouped(self.nodes)} nodes."
+                hint = (
+                    "Nodes count from 1."
+                    if number == 0
+                    else f"The problem line {self.problem_line} says that there are {_grouped(self.nodes)} nodes."
+                )
                 if number > self.nodes and number <= self.wanted:
-                    hint += f" Do NODES and ARCS stand there the wrong way round? It says {self.nodes} and {self.wanted}."
+                    hint += (
+                        f" Do NODES and ARCS stand there the wrong way round? It says {self.nodes} and {self.wanted}."
+                    )
             elif name == "CAP":
-                hint = ("If it stands for no limit, write 1000000000, which is as good where the supplies add up to no more "
-                        "and no circle of arcs costs less than 0; `mcf-plan convert` sees to that, and to greater ones.")
+                hint = (
+                    "If it stands for no limit, write 1000000000, which is as good where the supplies add up to no "
+                    "more and no circle of arcs costs less than 0; `mcf-plan convert` sees to that."
+                )
             elif name in ("LOW", "FLOW"):
                 hint = "Take a larger unit, or let `mcf-plan convert` part it."
             elif name == "COST":
@@ -238,8 +266,9 @@ class ProblemReader:
                 hint = "There has to be a node." if number == 0 else "That is the largest problem that is taken."
             elif name == "ARCS":
                 hint = "That is the largest problem that is taken."
-            raise self.fail(5, f"a number from {_grouped(least)} to {_grouped(most)}", name=name, value=_as_str(word),
-                            hint=hint)
+            raise self.fail(
+                5, f"a number from {_grouped(least)} to {_grouped(most)}", name=name, value=_as_str(word), hint=hint
+            )
         return number
 
     def count(self, what: str, names: Tuple[str, ...], words: List[bytes]) -> None:
@@ -268,14 +297,17 @@ class ProblemReader:
             elif self.kind == "min" and len(words) == 2:
                 hint = "Lower bound, capacity and cost are missing."
             elif other:
-                hint = f"This is how an arc of `{other}` is written: is the kind on line {self.problem_line} the right one?"
+                hint = f"This is how an arc of `{other}` is written: is the kind on line {self.problem_line} right?"
             elif len(words) < len(names):
-                hint = "Missing: " + ", ".join(names[len(words):]) + "."
+                hint = "Missing: " + ", ".join(names[len(words) :]) + "."
         elif what == "n" and self.kind == "asn":
             hint = "In an assignment the nodes of the source side are named alone; each supplies 1."
         elif what == "n" and len(words) == 1:
-            hint = "Missing: what the node supplies (below 0 what it demands)." if self.kind == "min" else \
-                "Missing: s for the source or t for the sink."
+            hint = (
+                "Missing: what the node supplies (below 0 what it demands)."
+                if self.kind == "min"
+                else "Missing: s for the source or t for the sink."
+            )
         raise self.fail(3, f"`{form}` was expected, and this line has {given}", hint=hint)
 
     def read_problem_line(self, words: List[bytes]) -> None:
@@ -334,8 +366,12 @@ class ProblemReader:
     def only_one(self, what: str, line: int) -> None:
         """Fails (10) where the source, or the sink, was named on a line before."""
         if line:
-            raise self.fail(10, f"a second {what} is named", hint=f"The first is on line {line}; for several add a node "
-                            f"with arcs {'to' if what == 'source' else 'from'} each, and name that.")
+            raise self.fail(
+                10,
+                f"a second {what} is named",
+                hint=f"The first is on line {line}; for several add a node "
+                f"with arcs {'to' if what == 'source' else 'from'} each, and name that.",
+            )
 
     def read_arc_line(self, words: List[bytes]) -> None:
         self.count("a", ARC_FIELDS[self.kind], words)
@@ -359,8 +395,11 @@ class ProblemReader:
     def bounds(self, tail: int, head: int, low: int, cap: int) -> int:
         """The capacity of an arc; fails (15) where its lower bound is above it."""
         if cap is not None and low > cap:
-            raise self.fail(15, f"LOW is {low} and above CAP, which is {cap}",
-                            hint="The fields are `a SRC DST LOW CAP COST`: are two of them the wrong way round?")
+            raise self.fail(
+                15,
+                f"LOW is {low} and above CAP, which is {cap}",
+                hint="The fields are `a SRC DST LOW CAP COST`: are two of them the wrong way round?",
+            )
         return cap
 
     def fail_sides(self, tail: int, head: int) -> None:
@@ -371,14 +410,21 @@ class ProblemReader:
             hint = f"Node {head} is on the source side too, by its node line {self.named[head]}."
         else:
             hint = f"Node {tail} has no node line, so it is on the sink side: `n {tail}` puts it on the source side."
-        raise self.fail(16, f"the arc from {tail} to {head} does not lead from the source side to the sink side", hint=hint)
+        raise self.fail(
+            16, f"the arc from {tail} to {head} does not lead from the source side to the sink side", hint=hint
+        )
 
     def first_word_hint(self, word: str, line: str) -> str:
         """What to do about a line whose first word is unknown."""
         if self.line == 1 and word.startswith("\ufeff"):
             return "The file begins with a byte order mark: save it as UTF-8 without one."
-        if self.line == 1 and (line.startswith("PK\x03") or line.startswith("\x1f\udc8b") or line.startswith("BZh")
-                               or line.startswith("\udcfd7zXZ") or line.startswith("(\udcb5/\udcfd")):
+        if self.line == 1 and (
+            line.startswith("PK\x03")
+            or line.startswith("\x1f\udc8b")
+            or line.startswith("BZh")
+            or line.startswith("\udcfd7zXZ")
+            or line.startswith("(\udcb5/\udcfd")
+        ):
             return "This is a packed file or a spreadsheet: unpack it, or save it as plain text."
         if self.line == 1 and (word.startswith("\udcff\udcfe") or word.startswith("\udcfe\udcff") or "\0" in word):
             return "This is UTF-16: save it as plain text (UTF-8)."
@@ -425,21 +471,37 @@ class ProblemReader:
         what, rest = words[0], words[1:]
         if what not in (b"p", b"n", b"a"):
             word = _as_str(what)
-            raise self.fail(2, "p, n, a, or c for a comment", name="first word", value=word,
-                            hint=self.first_word_hint(word, _as_str(raw)))
+            raise self.fail(
+                2,
+                "p, n, a, or c for a comment",
+                name="first word",
+                value=word,
+                hint=self.first_word_hint(word, _as_str(raw)),
+            )
         if what == b"p":
             if self.kind:
-                raise self.fail(7, "a second problem line", hint=f"The first is line {self.problem_line}: has the file two "
-                                                                 "problems? Each wants a file of its own.")
+                raise self.fail(
+                    7,
+                    "a second problem line",
+                    hint=f"The first is line {self.problem_line}: has the file two "
+                    "problems? Each wants a file of its own.",
+                )
             return self.read_problem_line(rest)
         if not self.kind:
             which = "node" if what == b"n" else "arc"
-            raise self.fail(6, f"the problem line has to come before this {which} line",
-                            hint="Put `p KIND NODES ARCS` first, with kind min, max or asn.")
+            raise self.fail(
+                6,
+                f"the problem line has to come before this {which} line",
+                hint="Put `p KIND NODES ARCS` first, with kind min, max or asn.",
+            )
         if what == b"n":
             if self.arcs:
-                raise self.fail(9, "a node line after an arc line", hint="All node lines come before the first arc line, "
-                                f"line {self.first_arc_line}: move them, or let `mcf-plan convert` do it.")
+                raise self.fail(
+                    9,
+                    "a node line after an arc line",
+                    hint="All node lines come before the first arc line, "
+                    f"line {self.first_arc_line}: move them, or let `mcf-plan convert` do it.",
+                )
             return self.read_node_line(rest)
         if self.kind == "max":
             self.both_ends("before the first arc")
@@ -452,8 +514,11 @@ class ProblemReader:
         hint = "Put the right number there."
         if self.nodes > self.wanted:
             hint += " Do NODES and ARCS stand there the wrong way round?"
-        return self.fail(12, f"the problem line {self.problem_line} says that there are {self.wanted} arcs, and this is one "
-                             "more", hint=hint)
+        return self.fail(
+            12,
+            f"the problem line {self.problem_line} says that there are {self.wanted} arcs, and this is one " "more",
+            hint=hint,
+        )
 
     def both_ends(self, when: str) -> None:
         """Fails (11) while source or sink is missing."""
@@ -463,13 +528,20 @@ class ProblemReader:
 
     def read_end(self) -> None:
         if not self.kind:
-            raise self.fail(14, "the text ends without a problem line" if self.line else "the text is empty",
-                            hint="Put `p KIND NODES ARCS` first, with kind min, max or asn.")
+            raise self.fail(
+                14,
+                "the text ends without a problem line" if self.line else "the text is empty",
+                hint="Put `p KIND NODES ARCS` first, with kind min, max or asn.",
+            )
         if self.kind == "max":
             self.both_ends("the text ends, and")
         if len(self.arcs) < self.wanted:
-            raise self.fail(13, f"the text ends after {len(self.arcs)} arcs, and the problem line {self.problem_line} says "
-                                f"that there are {self.wanted}", hint="Is the file cut off? Else put the right number there.")
+            raise self.fail(
+                13,
+                f"the text ends after {len(self.arcs)} arcs, and the problem line {self.problem_line} says "
+                f"that there are {self.wanted}",
+                hint="Is the file cut off? Else put the right number there.",
+            )
 
     def read(self, text: Text) -> DimacsProblem:
         for raw in _lines(_as_bytes(text)):
@@ -505,20 +577,31 @@ class _AnswerReader:
         self.first = ""
         self.line = 0
 
-    def fail(self, number: int, expected: str, *, name: Optional[str] = None, value: Optional[str] = None,
-             hint: str = "") -> _Found:
+    def fail(
+        self, number: int, expected: str, *, name: Optional[str] = None, value: Optional[str] = None, hint: str = ""
+    ) -> _Found:
         return _Found(Fault(number, self.line, name, value, expected, hint))
 
     def number(self, name: str, word: bytes, shape: re.Pattern[bytes]) -> int:
         if not shape.fullmatch(word):
             value = _as_str(word)
             signed = shape is not _PLAIN
-            raise self.fail(4, "a whole number" if signed else "a whole number, 0 or more", name=name, value=value,
-                            hint=_number_hint(name, value, signed))
+            raise self.fail(
+                4,
+                "a whole number" if signed else "a whole number, 0 or more",
+                name=name,
+                value=value,
+                hint=_number_hint(name, value, signed),
+            )
         number = int(word)
         if name in ("SRC", "DST", "ID") and self.problem is not None and not 1 <= number <= self.problem.nodes:
-            raise self.fail(5, f"a node of the problem, 1 to {_grouped(self.problem.nodes)}", name=name, value=_as_str(word),
-                            hint="Is this the answer to another problem?")
+            raise self.fail(
+                5,
+                f"a node of the problem, 1 to {_grouped(self.problem.nodes)}",
+                name=name,
+                value=_as_str(word),
+                hint="Is this the answer to another problem?",
+            )
         return number
 
     def order(self, what: str) -> None:
@@ -540,7 +623,8 @@ class _AnswerReader:
             if not self.first:
                 hint = "The line `s VALUE` comes first."
             elif problem is not None and flows < len(problem.arcs):
-                hint = f"Before it one f line for each of the {len(problem.arcs)} arcs is needed, flow 0 too; here are {flows}."
+                arcs = len(problem.arcs)
+                hint = f"Before it one f line for each of the {arcs} arcs is needed, flow 0 too; here are {flows}."
         else:
             right = self.first == "i"
             hint = "The line `i SHORTAGE` comes first."
@@ -576,30 +660,49 @@ class _AnswerReader:
             if answer.potentials is None:
                 answer.potentials = []
             if node != len(answer.potentials) + 1:
-                raise self.fail(40, f"node {len(answer.potentials) + 1}", name="ID", value=str(node),
-                                hint="The v lines come from node 1 on, one for each.")
+                raise self.fail(
+                    40,
+                    f"node {len(answer.potentials) + 1}",
+                    name="ID",
+                    value=str(node),
+                    hint="The v lines come from node 1 on, one for each.",
+                )
             answer.potentials.append(potential)
         else:
             node = self.number("ID", rest[0], _PLAIN)
             if answer.cut and node <= answer.cut[-1]:
-                raise self.fail(40, f"a node above {answer.cut[-1]}", name="ID", value=str(node),
-                                hint="The k lines come in rising order.")
+                raise self.fail(
+                    40,
+                    f"a node above {answer.cut[-1]}",
+                    name="ID",
+                    value=str(node),
+                    hint="The k lines come in rising order.",
+                )
             answer.cut.append(node)
         self.first = self.first or what
 
     def read_end(self) -> None:
         answer, problem = self.answer, self.problem
         if not self.first:
-            raise self.fail(40, "the text ends without an answer", hint="An answer begins with `s VALUE` or `i SHORTAGE`.")
+            raise self.fail(
+                40, "the text ends without an answer", hint="An answer begins with `s VALUE` or `i SHORTAGE`."
+            )
         if self.first == "s" and problem is not None:
             if len(answer.flows) < len(problem.arcs):
-                raise self.fail(40, f"the text ends after {len(answer.flows)} f lines, and the problem has "
-                                    f"{len(problem.arcs)} arcs", hint="Is it cut off?")
+                raise self.fail(
+                    40,
+                    f"the text ends after {len(answer.flows)} f lines, and the problem has "
+                    f"{len(problem.arcs)} arcs",
+                    hint="Is it cut off?",
+                )
             if len(answer.potentials or ()) < problem.nodes:
-                raise self.fail(40, f"the text ends after {len(answer.potentials or ())} v lines, and the problem has "
-                                    f"{problem.nodes} nodes",
-                                hint="Make the answer with `mcf solve --proof`; for the answer of another program "
-                                     "`mcf-plan check --from` works the v lines out.")
+                raise self.fail(
+                    40,
+                    f"the text ends after {len(answer.potentials or ())} v lines, and the problem has "
+                    f"{problem.nodes} nodes",
+                    hint="Make the answer with `mcf solve --proof`; for the answer of another program "
+                    "`mcf-plan check --from` works the v lines out.",
+                )
 
     def read(self, text: Text) -> Answer:
         for raw in _lines(_as_bytes(text)):
@@ -667,8 +770,8 @@ def parse_problem(text: Text) -> DimacsProblem:
 
 @dataclass
 class Answer:
-    """An answer to a problem: a flow, with `value`, `flows` and `potentials` (None where it has no `v` lines), or a cut,
-    with `shortage` and `cut` (the numbers of its nodes, rising). `ends` are the tail and head of each `f` line.
+    """An answer to a problem: a flow, with `value`, `flows` and `potentials` (None where it has no `v` lines), or a
+    cut, with `shortage` and `cut` (the numbers of its nodes, rising). `ends` are the tail and head of each `f` line.
     """
 
     value: Optional[int] = None
@@ -716,15 +819,21 @@ def _quick_answer(raw: bytes) -> Optional[Answer]:
     cut_at = raw.find(b"\nv ")
     head, tail = (raw, b"") if cut_at < 0 else (raw[:cut_at], raw[cut_at:])
     words = head.split()
-    if len(words) % 4 != 2 or words[2::4].count(b"f") != len(words[2::4]) or head.count(b"\n") + 1 - head.endswith(b"\n") \
-            != 1 + len(words[2::4]):
+    if (
+        len(words) % 4 != 2
+        or words[2::4].count(b"f") != len(words[2::4])
+        or head.count(b"\n") + 1 - head.endswith(b"\n") != 1 + len(words[2::4])
+    ):
         return None
     potentials: Optional[List[int]] = None
     try:
         if tail:
             labels = tail.split()
-            if len(labels) % 3 or labels[::3].count(b"v") != len(labels) // 3 \
-                    or list(map(int, labels[1::3])) != list(range(1, len(labels) // 3 + 1)):
+            if (
+                len(labels) % 3
+                or labels[::3].count(b"v") != len(labels) // 3
+                or list(map(int, labels[1::3])) != list(range(1, len(labels) // 3 + 1))
+            ):
                 return None
             potentials = list(map(int, labels[2::3]))
         ends = list(zip(map(int, words[3::4]), map(int, words[4::4])))

@@ -39,17 +39,18 @@ def explain(infeasible: Infeasible) -> str:
             return hall
     inside = [name for name in infeasible.problem.nodes if name in infeasible.cut]
     outside = [name for name in infeasible.problem.nodes if name not in infeasible.cut]
-    if not outside and not infeasible.rest_in_cut:
+    if not (inside if infeasible.rest_in_cut else outside):
         return _whole_network(infeasible)
-    if infeasible.rest_in_cut or not inside:
+    if infeasible.rest_in_cut:
         # The side without the rest is told: what is too much on one side is too little on the other.
-        return "\n".join(_Side(infeasible, crossing, outside, False).lines(not is_too_much))
+        told = _Side(infeasible, crossing, outside, False)
+        return "\n".join([*told.lines(not is_too_much), _help(infeasible, told, not is_too_much)])
     side = _Side(infeasible, crossing, inside, True)
     lines = side.lines(is_too_much)
     other = _Side(infeasible, crossing, outside, False)
     if infeasible.rest_cost is None and side.supply + other.supply == 0:
         lines.append(f"Seen from the other side: {other.sentence(not is_too_much)}.")
-    lines.append(_help(infeasible, crossing, is_too_much, side))
+    lines.append(_help(infeasible, side, is_too_much))
     return "\n".join(lines)
 
 
@@ -79,13 +80,19 @@ class _Side:
     def lines(self, is_too_much: bool) -> List[str]:
         """What is too much here, or too little, with the arcs that set the limit."""
         what = "many" if is_too_much else "few"
-        lines = [f"There is no plan: {plain(self.shortage)} too {what} at {names_in_words(self.names)}.",
-                 self.sentence(is_too_much)]
+        lines = [
+            f"There is no plan: {plain(self.shortage)} too {what} at {names_in_words(self.names)}.",
+            self.sentence(is_too_much),
+        ]
         limiting, rest = (self.leaving, self.rest_leaving) if is_too_much else (self.entering, self.rest_entering)
         forcing = self.entering if is_too_much else self.leaving
         details = [f"  {_label(self.arcs, k)}: at most {_limit(self.arcs[k].cap)}" for k in limiting]
-        details += [f"  {'kept' if arc.is_kept else 'not met'} at {arc.name}: at most {_limit(arc.cap)}" for arc in rest]
-        details += [f"  {_label(self.arcs, k)}: at least {plain(self.arcs[k].low)}" for k in forcing if self.arcs[k].low]
+        details += [
+            f"  {'kept' if arc.is_kept else 'not met'} at {arc.name}: at most {_limit(arc.cap)}" for arc in rest
+        ]
+        details += [
+            f"  {_label(self.arcs, k)}: at least {plain(self.arcs[k].low)}" for k in forcing if self.arcs[k].low
+        ]
         if details:
             lines[-1] += ":"
             lines += details[:MOST_TOLD]
@@ -127,18 +134,23 @@ class _Side:
         return f"at most {_limit(most)} can {verb}"
 
 
-def _help(infeasible: Infeasible, crossing: Crossing, is_too_much: bool, side: _Side) -> str:
+def _help(infeasible: Infeasible, side: _Side, is_too_much: bool) -> str:
     """What would take the shortage away."""
     short = plain(infeasible.shortage)
-    limiting = crossing.leaving if is_too_much else crossing.entering
-    forcing = crossing.entering if is_too_much else crossing.leaving
-    ways = [f"{short} more capacity there" if limiting else
-            f"an arc that {'leads out' if is_too_much else 'leads in'}, for {short}"]
+    limiting, forcing = (side.leaving, side.entering) if is_too_much else (side.entering, side.leaving)
+    ways = [
+        f"{short} more capacity there"
+        if limiting
+        else f"an arc that {'leads out' if is_too_much else 'leads in'}, for {short}"
+    ]
     if any(infeasible.problem.arcs[k].low for k in forcing):
         ways.append(f"lower bounds that are {short} lower")
-    if side.supplying or side.demanding:
-        balanced = infeasible.rest_cost is None and total_of(infeasible.problem.nodes.values()) == 0 \
+    if side.supplying if is_too_much else side.demanding:
+        balanced = (
+            infeasible.rest_cost is None
+            and total_of(infeasible.problem.nodes.values()) == 0
             and infeasible.problem.balance == "equal"
+        )
         what = "supply" if is_too_much else "demand"
         ways.append(f"{short} less supply and demand" if balanced else f"{short} less {what} here")
     return f"What would help: {', '.join(ways[:-1])}{', or ' if len(ways) > 1 else ''}{ways[-1]}."
@@ -151,7 +163,7 @@ def _whole_network(infeasible: Infeasible) -> str:
         many = f"{plain(supplied - demanded)} {'is' if supplied - demanded == 1 else 'are'} too many"
     else:
         many = f"{plain(demanded - supplied)} {'is' if demanded - supplied == 1 else 'are'} not there"
-    return (f"There is no plan: all nodes together supply {plain(supplied)} and demand {plain(demanded)}, so {many}.")
+    return f"There is no plan: all nodes together supply {plain(supplied)} and demand {plain(demanded)}, so {many}."
 
 
 def _hall(infeasible: Infeasible, is_too_much: bool) -> str:
@@ -160,8 +172,11 @@ def _hall(infeasible: Infeasible, is_too_much: bool) -> str:
     side = 1 if is_too_much else -1
     crowd = [name for name, supply in problem.nodes.items() if supply == side and name in infeasible.cut]
     members = set(crowd)
-    partners = {(arc.head if is_too_much else arc.tail) for arc in problem.arcs
-                if arc.cap and (arc.tail if is_too_much else arc.head) in members}
+    partners = {
+        (arc.head if is_too_much else arc.tail)
+        for arc in problem.arcs
+        if arc.cap and (arc.tail if is_too_much else arc.head) in members
+    }
     short = len(crowd) - len(partners)
     if short <= 0:
         return ""
@@ -171,10 +186,13 @@ def _hall(infeasible: Infeasible, is_too_much: bool) -> str:
         have = "has no partner" if len(crowd) == 1 else "have no partner at all"
         return f"There is no assignment: {who} {have}."
     ordered = [name for name in problem.nodes if name in partners]
-    count = f"these {len(crowd)} nodes have these {len(ordered)} alone between them, so {without}"
-    return (f"There is no assignment: {count}.\n"
-            f"  {', '.join(_told(crowd))}\n"
-            f"  {'has' if len(crowd) == 1 else 'have'} {', '.join(_told(ordered))} alone")
+    between = f"these {len(ordered)}" if len(ordered) > 1 else "this one"
+    count = f"these {len(crowd)} nodes have {between} alone between them, so {without}"
+    return (
+        f"There is no assignment: {count}.\n"
+        f"  {', '.join(_told(crowd))}\n"
+        f"  {'has' if len(crowd) == 1 else 'have'} {', '.join(_told(ordered))} alone"
+    )
 
 
 def names_in_words(names: List[str]) -> str:

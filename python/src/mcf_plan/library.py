@@ -21,10 +21,10 @@ import queue
 import threading
 import time
 from pathlib import Path
-from typing import Any, Callable, List, Optional, Tuple, TypeVar
+from typing import Any, Callable, List, Optional, Tuple, TypeVar, cast
 
 from .dimacs import Text, find_fault, parse_problem
-from .program import Program, ProgramFailed, Refused, TimeLimit, as_bytes
+from .program import Dialogue, Program, ProgramFailed, Refused, TimeLimit, as_bytes
 
 Result = TypeVar("Result")
 
@@ -87,34 +87,23 @@ def find_library(path: Optional[str] = None) -> str:
     return found
 
 
-class Library:
-    """The C library, where it was found; it can stand wherever a `Program` does.
+class Library(Program):
+    """The C library, where it was found; it stands wherever a `Program` does, and runs that to check.
 
-    `path` names its shared object; without it the variable MCF_LIBRARY does, then the system. `program` is what `check`
-    runs (None: as it is found).
+    `library` names the shared object; without it the variable MCF_LIBRARY does, then the system. `path` names the
+    program, as of `Program`.
     """
 
-    def __init__(self, path: Optional[str] = None, program: Optional[Program] = None):
-        self.path = find_library(path)
-        self._program = program
+    def __init__(self, library: Optional[str] = None, path: Optional[str] = None):
+        super().__init__(path)
+        self.library = find_library(library)
         try:
-            self.calls = ctypes.CDLL(self.path)
+            self.calls = ctypes.CDLL(self.library)
             for name in ("solve", "open", "command", "undo", "redo", "look", "flow", "potentials", "cut"):
                 getattr(self.calls, f"mcf_{name}").restype = ctypes.c_int32
             self.calls.mcf_close.restype = None
         except (OSError, AttributeError) as error:
-            raise ProgramFailed(f"{self.path} could not be used: {error}") from error
-
-    @property
-    def program(self) -> Program:
-        """What `check` runs."""
-        if self._program is None:
-            self._program = Program()
-        return self._program
-
-    def version(self) -> str:
-        """What `mcf --version` prints."""
-        return self.program.version()
+            raise ProgramFailed(f"{self.library} could not be used: {error}") from error
 
     def solve(self, text: Text, *, time_limit: Optional[float] = None) -> str:
         """What `mcf solve --proof` prints for a problem text: a best flow with potentials, or a cut.
@@ -126,10 +115,6 @@ class Library:
             return worker.call(lambda: self._solve(as_bytes(text)), time_limit)
         finally:
             worker.end()
-
-    def check(self, problem: Text, answer: Text, *, time_limit: Optional[float] = None) -> str:
-        """What `mcf check` says of an answer: 'valid' or 'not valid'."""
-        return self.program.check(problem, answer, time_limit=time_limit)
 
     def session(self, text: Text, *, extra: Optional[int] = None,
                 time_limit: Optional[float] = None) -> LibraryDialogue:
@@ -223,7 +208,7 @@ class _Worker:
             raise
         if error is not None:
             raise error
-        return result
+        return cast(Result, result)
 
     def end(self, last: Optional[Callable[[], object]] = None) -> None:
         """Ends the thread, after what it does and `last`."""
@@ -232,7 +217,7 @@ class _Worker:
         self._jobs.put(None)
 
 
-class LibraryDialogue:
+class LibraryDialogue(Dialogue):
     """A session of the library: lines in, replies out, as a `Dialogue` of the program. It refuses `group` and `end`."""
 
     def __init__(self, library: Library, text: Text, *, extra: Optional[int] = None,
@@ -275,12 +260,6 @@ class LibraryDialogue:
         if worker is not None:
             calls, handle = self._calls, self._handle
             worker.end(lambda: calls.mcf_close(ctypes.byref(handle)))
-
-    def __enter__(self) -> LibraryDialogue:
-        return self
-
-    def __exit__(self, *exception: object) -> None:
-        self.close()
 
     # -- on the thread of the session alone
 

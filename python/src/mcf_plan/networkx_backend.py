@@ -38,6 +38,15 @@ Edge = Tuple[Node, Node, Any, Dict[Any, Any]]
 ALGORITHMS = ("boykov_kolmogorov", "dinitz", "edmonds_karp", "preflow_push", "shortest_augmenting_path")
 """networkx' algorithms of maximum flow. Which of them is asked for makes no difference here."""
 
+ALGORITHM_ARGUMENTS = {
+    "boykov_kolmogorov": ("capacity", "residual", "value_only", "cutoff"),
+    "dinitz": ("capacity", "residual", "value_only", "cutoff"),
+    "edmonds_karp": ("capacity", "residual", "value_only", "cutoff"),
+    "preflow_push": ("capacity", "residual", "global_relabel_freq", "value_only"),
+    "shortest_augmenting_path": ("capacity", "residual", "value_only", "two_phase", "cutoff"),
+}
+"""Their arguments after graph, source and sink, in networkx' order."""
+
 FUNCTIONS = ALGORITHMS + (
     "network_simplex", "capacity_scaling", "min_cost_flow", "min_cost_flow_cost", "max_flow_min_cost",
     "maximum_flow", "maximum_flow_value", "minimum_cut", "minimum_cut_value", "gomory_hu_tree",
@@ -241,6 +250,22 @@ def plain(function: Any) -> Any:
     return getattr(function, "orig_func", function)
 
 
+def _algorithm(name: str) -> Callable[..., Any]:
+    """A function with the arguments of one of networkx' algorithms of maximum flow."""
+
+    def answered(self: Backend, G: Any, s: Node, t: Node, *arguments: Any, **options: Any) -> Any:
+        """The residual network of a maximum flow; its arguments are those of networkx, and `time_limit`."""
+        given = {**dict(zip(ALGORITHM_ARGUMENTS[name], arguments)), **options}
+        unknown = set(given) - {*ALGORITHM_ARGUMENTS[name], "time_limit"}
+        if unknown or len(arguments) > len(ALGORITHM_ARGUMENTS[name]):
+            raise TypeError(f"{name}() takes other arguments than {', '.join(sorted(unknown)) or 'so many'}")
+        return self._residual_by(name, (G, s, t, given.pop("capacity", "capacity")), given)[0]
+
+    answered.__name__ = name
+    answered.__qualname__ = f"Backend.{name}"
+    return answered
+
+
 class Backend:
     """networkx' flow functions by the proved solver. `program` is what solves (None: as it is found), `time_limit` the
     seconds that a call may take where it says nothing else (None: no limit)."""
@@ -287,9 +312,7 @@ class Backend:
         """Cost and flows of a flow of least cost that meets all demands."""
         import networkx as nx
 
-        refuse_undirected(G)
-        if len(G) == 0:
-            raise nx.NetworkXError("graph has no nodes")
+        refuse_undirected_or_empty(G)
         network = LeastCost(G, demand, capacity, weight)
         network.check_numbers()
         network.check_feasible()
@@ -307,7 +330,7 @@ class Backend:
         nothing."""
         import networkx as nx
 
-        refuse_undirected(G)
+        refuse_undirected_or_empty(G)
         network = LeastCost(G, demand, capacity, weight)
         if any(map(is_infinite, network.demands)):
             raise nx.NetworkXUnfeasible("Sum of the demands should be 0.")
@@ -368,7 +391,7 @@ class Backend:
         """Value and sides of a minimum cut, the same that networkx tells."""
         import networkx as nx
 
-        if options.get("cutoff") is not None and getattr(flow_func, "__name__", "") == "preflow_push":
+        if options.get("cutoff") is not None:
             raise nx.NetworkXError("cutoff should not be specified.")
         R, flow = self._maximum_flow(flowG, _s, _t, capacity, (flow_func, options))
         return R.graph["flow_value"], flow.partition()
@@ -390,36 +413,11 @@ class Backend:
         refuse_foreign(flow_func)
         return plain(gomory_hu_tree)(G, capacity=capacity, flow_func=answered)
 
-    def boykov_kolmogorov(self, G: Any, s: Node, t: Node, capacity: str = "capacity", residual: Any = None,
-                          value_only: bool = False, cutoff: Any = None, *, time_limit: Optional[float] = None) -> Any:
-        """The residual network of a maximum flow."""
-        return self._residual((G, s, t, capacity), residual, cutoff, "boykov_kolmogorov", time_limit)[0]
-
-    def dinitz(self, G: Any, s: Node, t: Node, capacity: str = "capacity", residual: Any = None,
-               value_only: bool = False, cutoff: Any = None, *, time_limit: Optional[float] = None) -> Any:
-        """The residual network of a maximum flow."""
-        return self._residual((G, s, t, capacity), residual, cutoff, "dinitz", time_limit)[0]
-
-    def edmonds_karp(self, G: Any, s: Node, t: Node, capacity: str = "capacity", residual: Any = None,
-                     value_only: bool = False, cutoff: Any = None, *, time_limit: Optional[float] = None) -> Any:
-        """The residual network of a maximum flow."""
-        return self._residual((G, s, t, capacity), residual, cutoff, "edmonds_karp", time_limit)[0]
-
-    def preflow_push(self, G: Any, s: Node, t: Node, capacity: str = "capacity", residual: Any = None,
-                     global_relabel_freq: Any = 1, value_only: bool = False, *,
-                     time_limit: Optional[float] = None) -> Any:
-        """The residual network of a maximum flow."""
-        import networkx as nx
-
-        if global_relabel_freq is not None and global_relabel_freq < 0:
-            raise nx.NetworkXError("global_relabel_freq must be nonnegative.")
-        return self._residual((G, s, t, capacity), residual, None, "preflow_push", time_limit)[0]
-
-    def shortest_augmenting_path(self, G: Any, s: Node, t: Node, capacity: str = "capacity", residual: Any = None,
-                                 value_only: bool = False, two_phase: bool = False, cutoff: Any = None, *,
-                                 time_limit: Optional[float] = None) -> Any:
-        """The residual network of a maximum flow."""
-        return self._residual((G, s, t, capacity), residual, cutoff, "shortest_augmenting_path", time_limit)[0]
+    boykov_kolmogorov = _algorithm("boykov_kolmogorov")
+    dinitz = _algorithm("dinitz")
+    edmonds_karp = _algorithm("edmonds_karp")
+    preflow_push = _algorithm("preflow_push")
+    shortest_augmenting_path = _algorithm("shortest_augmenting_path")
 
     # -- how
 
@@ -434,33 +432,33 @@ class Backend:
 
     def _maximum_flow(self, G: Any, source: Node, sink: Node, capacity: str,
                       how: Tuple[Any, Dict[str, Any]]) -> Tuple[Any, MaximumFlow]:
+        """The residual network and the flow, for a call with `flow_func` and its options."""
         import networkx as nx
 
-        flow_func, options = how[0], dict(how[1])
-        time_limit = options.pop("time_limit", None)
-        if flow_func is None:
-            if options:
-                raise nx.NetworkXError("You have to explicitly set a flow_func if"
-                                       " you need to pass parameters via kwargs.")
-        elif not callable(flow_func):
+        flow_func, options = how
+        if flow_func is None and set(options) - {"time_limit"}:
+            raise nx.NetworkXError("You have to explicitly set a flow_func if"
+                                   " you need to pass parameters via kwargs.")
+        if flow_func is not None and not callable(flow_func):
             raise nx.NetworkXError("flow_func has to be callable.")
         refuse_foreign(flow_func)
+        return self._residual_by(getattr(flow_func, "__name__", "preflow_push"), (G, source, sink, capacity), options)
+
+    def _residual_by(self, algorithm: str, what: Tuple[Any, Node, Node, str],
+                     options: Dict[str, Any]) -> Tuple[Any, MaximumFlow]:
+        """The residual network and the flow, by an algorithm with its options."""
+        import networkx as nx
+        from networkx.algorithms.flow.utils import build_residual_network
+
         frequency = options.get("global_relabel_freq")
         if frequency is not None and frequency < 0:
             raise nx.NetworkXError("global_relabel_freq must be nonnegative.")
-        name = getattr(flow_func, "__name__", "preflow_push")
-        what = (G, source, sink, capacity)
-        return self._residual(what, options.get("residual"), options.get("cutoff"), name, time_limit)
-
-    def _residual(self, what: Tuple[Any, Node, Node, str], residual: Any, cutoff: Any, algorithm: str,
-                  time_limit: Optional[float]) -> Tuple[Any, MaximumFlow]:
-        from networkx.algorithms.flow.utils import build_residual_network
-
-        flow = MaximumFlow(*what).solve(lambda problem: self._solve(problem, time_limit), cutoff)
-        G, _, _, capacity = what
-        if residual is None:
-            residual = plain(build_residual_network)(G, capacity)
-        return flow.fill(residual, algorithm), flow
+        limit = options.get("time_limit")
+        flow = MaximumFlow(*what).solve(lambda problem: self._solve(problem, limit), options.get("cutoff"))
+        R = options.get("residual")
+        if R is None:
+            R = plain(build_residual_network)(what[0], what[3])
+        return flow.fill(R, algorithm), flow
 
 
 def is_known(flow_func: Any) -> bool:
@@ -477,12 +475,14 @@ def refuse_foreign(flow_func: Any) -> None:
         raise nx.NetworkXNotImplemented("the backend mcf takes networkx' own algorithms as flow_func alone")
 
 
-def refuse_undirected(G: Any) -> None:
-    """Raises NetworkXNotImplemented where a graph is undirected."""
-    if not G.is_directed():
-        import networkx as nx
+def refuse_undirected_or_empty(G: Any) -> None:
+    """Raises NetworkXNotImplemented where a graph is undirected, NetworkXError where it has no node."""
+    import networkx as nx
 
+    if not G.is_directed():
         raise nx.NetworkXNotImplemented("not implemented for undirected type")
+    if len(G) == 0:
+        raise nx.NetworkXError("graph has no nodes")
 
 
 backend = Backend()

@@ -17,8 +17,8 @@ if TYPE_CHECKING:
 
 
 class Disagreement(Exception):
-    """An answer was found wrong: by `mcf check`, or in the units of the tables. `problem_text` and `answer_text` are what
-    was asked and answered, to be kept for a report."""
+    """An answer was found wrong: by `mcf check`, or in the units of the tables. `problem_text` and `answer_text` are
+    what was asked and answered, to be kept for a report."""
 
     def __init__(self, words: str, problem_text: str = "", answer_text: str = ""):
         super().__init__(words)
@@ -80,9 +80,9 @@ def rest_arcs(problem: Problem, rest_cost: Optional[Decimal]) -> Iterator[RestAr
 class Plan:
     """A best plan.
 
-    `flows` are in the order of `problem.arcs`. `cost` is the cost of the whole plan; in `max` it is what the source sends
-    out. `prices` holds a price for each node: that of a unit there, by which no plan is better; None where only flows are
-    known. `kept` and `not_met` hold what stays at each node and what it does not get, where that is not 0.
+    `flows` are in the order of `problem.arcs`. `cost` is the cost of the whole plan; in `max` it is what the source
+    sends out. `prices` holds a price for each node: that of a unit there, by which no plan is better; None where only
+    flows are known. `kept` and `not_met` hold what stays at each node and what it does not get, where that is not 0.
     `rest_cost` is what a unit of these costs, None where supplies have to be equal; `rest_price` is their price.
     `notes` say what was rewritten. `checked` says that `mcf check` has accepted the answer and `verify` too.
     """
@@ -133,8 +133,14 @@ class Plan:
         """The flow is within the bounds and balanced, and its cost is right."""
         problem, flows = self.problem, self.flows
         arcs = problem.arcs
-        scale = Scale(flows, (arc.low for arc in arcs), (arc.cap for arc in arcs), problem.nodes.values(),
-                      self.kept.values(), self.not_met.values())
+        scale = Scale(
+            flows,
+            (arc.low for arc in arcs),
+            (arc.cap for arc in arcs),
+            problem.nodes.values(),
+            self.kept.values(),
+            self.not_met.values(),
+        )
         net = dict.fromkeys(problem.nodes, 0)
         amounts = scale.wholes(flows)
         lows = scale.wholes(arc.low for arc in arcs)
@@ -168,21 +174,27 @@ class Plan:
 
     def _verify_balance(self, net: Dict[str, int], scale: Scale) -> None:
         for rest, is_kept in ((self.kept, True), (self.not_met, False)):
-            caps = {arc.name: arc.cap for arc in rest_arcs(self.problem, self.rest_cost) if arc.is_kept == is_kept} \
-                if rest else {}
+            caps = (
+                {arc.name: arc.cap for arc in rest_arcs(self.problem, self.rest_cost) if arc.is_kept == is_kept}
+                if rest
+                else {}
+            )
             for name, amount in rest.items():
-                if name not in caps or amount < 0 or (caps[name] is not None and amount > caps[name]):
+                cap = caps.get(name)
+                if name not in caps or amount < 0 or cap is not None and amount > cap:
                     raise Disagreement(f"node {name} may not {'keep' if is_kept else 'go without'} {plain(amount)}")
         supplies = scale.wholes(self.problem.nodes.values())
-        for (name, amount), supply in zip(net.items(), supplies):
+        for (name, leaving), supply in zip(net.items(), supplies):
             wanted = supply
             if name in self.kept:
                 wanted -= scale.whole(self.kept[name])
             if name in self.not_met:
                 wanted += scale.whole(self.not_met[name])
-            if amount != wanted:
-                raise Disagreement(f"node {name}: {plain(Decimal(amount) / scale.units)} leave it, and it supplies "
-                                   f"{plain(Decimal(wanted) / scale.units)}")
+            if leaving != wanted:
+                raise Disagreement(
+                    f"node {name}: {plain(Decimal(leaving) / scale.units)} leave it, and it supplies "
+                    f"{plain(Decimal(wanted) / scale.units)}"
+                )
 
     def _verify_prices(self) -> None:
         """Each arc carries its lower bound where a unit more would cost, and its capacity where it would save."""
@@ -208,14 +220,16 @@ class Plan:
             reduced = rest_cost + (way if row.is_kept else -way)
             amount = (self.kept if row.is_kept else self.not_met).get(row.name, ZERO)
             if reduced > 0 and amount or reduced < 0 and amount != row.cap:
-                raise Disagreement(f"node {row.name}: if it {'kept' if row.is_kept else 'went without'} another amount, the "
-                                   "plan would be better")
+                raise Disagreement(
+                    f"node {row.name}: if it {'kept' if row.is_kept else 'went without'} another amount, the "
+                    "plan would be better"
+                )
 
 
 @dataclass
 class Infeasible:
-    """There is no plan: the supplies of the nodes of `cut` and the bounds of the arcs into and out of it contradict each
-    other by `shortage`.
+    """There is no plan: the supplies of the nodes of `cut` and the bounds of the arcs into and out of it contradict
+    each other by `shortage`.
 
     `rest_in_cut` says on which side what is kept or not met stands, where it may be (`rest_cost` is not None).
     """
@@ -247,9 +261,9 @@ class Infeasible:
 
 @dataclass
 class Crossing:
-    """A cut in numbers. `supply` is that of its nodes (with the rest, where that is in it); `leaving` and `entering` are
-    the arcs over its border, `kept_out` and `kept_in` what may be kept or not met over it. `out_most`, `out_least`,
-    `in_most`, `in_least` are what they can and must carry; None is no limit."""
+    """A cut in numbers. `supply` is that of its nodes (with the rest, where that is in it); `leaving` and `entering`
+    are the arcs over its border, `kept_out` and `kept_in` what may be kept or not met over it. `out_most`,
+    `out_least`, `in_most`, `in_least` are what they can and must carry; None is no limit."""
 
     supply: Decimal
     leaving: List[int]
@@ -279,8 +293,17 @@ class Crossing:
         ins = [arcs[k].cap for k in entering] + [arc.cap for arc in rest_entering]
         if problem.kind == "max" and (problem.source in cut) != (problem.sink in cut):
             (outs if problem.sink in cut else ins).append(None)
-        return cls(supply, leaving, entering, rest_leaving, rest_entering, _sum(outs),
-                   total_of(arcs[k].low for k in leaving), _sum(ins), total_of(arcs[k].low for k in entering))
+        return cls(
+            supply,
+            leaving,
+            entering,
+            rest_leaving,
+            rest_entering,
+            _sum(outs),
+            total_of(arcs[k].low for k in leaving),
+            _sum(ins),
+            total_of(arcs[k].low for k in entering),
+        )
 
     @property
     def too_much(self) -> Optional[Decimal]:

@@ -8,7 +8,7 @@ from decimal import Context, Decimal, InvalidOperation
 from fractions import Fraction
 from typing import TYPE_CHECKING, Dict, Iterable, List, NamedTuple, Optional, Tuple, Union
 
-from .dimacs import ARC_FIELDS, ProblemReader, Text, find_fault, read_with
+from .dimacs import ARC_FIELDS, ProblemReader, Text, read_with
 
 if TYPE_CHECKING:
     from .plan import Infeasible, Plan
@@ -77,7 +77,8 @@ def exact(value: Number, what: str = "the number") -> Decimal:
             raise ValueError(f"{what} is {value!r}, and has to be a finite number")
     if not number:
         return ZERO
-    if not -60 <= number.adjusted() <= 60 or len(number.as_tuple().digits) > 60:
+    is_short = isinstance(value, str) and len(value) <= 60
+    if not -60 <= number.adjusted() <= 60 or not is_short and len(number.as_tuple().digits) > 60:
         raise ValueError(f"{what} is {value!r}, which has more than 60 digits")
     return number
 
@@ -130,15 +131,16 @@ class Problem:
 
     `kind` is 'min' (least cost), 'max' (greatest flow from `source` to `sink`) or 'asn' (assignment: each node with
     supply 1 is on the source side, each with -1 on the sink side).
-    `balance` (of `min`) says what a node's supply means: what leaves it less what comes in is 'equal' to it, 'at least' or
-    'at most' it.
-    `nodes` maps names to supplies in their order; `arcs` are numbered from 0. Both are read, and not written to, by callers.
-    `notes` say what of a text or a table was read otherwise than it stands there. `places` are where nodes stand on a map,
-    x to the right and y upwards, where a table says so; no answer depends on them.
+    `balance` (of `min`) says what a node's supply means: what leaves it less what comes in is 'equal' to it, 'at least'
+    or 'at most' it.
+    `nodes` maps names to supplies in their order; `arcs` are numbered from 0. Both are read, and not written to, by
+    callers. `notes` say what of a text or a table was read otherwise than it stands there. `places` are where nodes
+    stand on a map, x to the right and y upwards, where a table says so; no answer depends on them.
     """
 
-    def __init__(self, kind: str = "min", *, balance: str = "equal", source: Optional[str] = None,
-                 sink: Optional[str] = None):
+    def __init__(
+        self, kind: str = "min", *, balance: str = "equal", source: Optional[str] = None, sink: Optional[str] = None
+    ):
         if kind not in ARC_FIELDS:
             raise ValueError(f"the kind is {kind!r}, and has to be 'min', 'max' or 'asn'")
         if balance not in ("equal", "at least", "at most"):
@@ -155,15 +157,24 @@ class Problem:
         self._numbered = 0
 
     def add_node(self, name: str, supply: Number = 0) -> None:
-        """Adds a node that supplies so much, or demands it where below 0. Raises ValueError where it is there already."""
+        """Adds a node that supplies so much, or demands it where below 0. Raises ValueError where it is there
+        already."""
         if name in self.nodes:
             raise ValueError(f"node {name!r} is there already")
         self.nodes[name] = exact(supply, f"the supply of {name}")
 
-    def add_arc(self, tail: str, head: str, *, low: Number = 0, cap: Optional[Number] = None, cost: Number = 0,
-                name: Optional[str] = None) -> int:
-        """Adds an arc and returns its number, from 0. Ends that are not there yet are added with supply 0; in `asn` with
-        1 for a tail, and -1 for a head.
+    def add_arc(
+        self,
+        tail: str,
+        head: str,
+        *,
+        low: Number = 0,
+        cap: Optional[Number] = None,
+        cost: Number = 0,
+        name: Optional[str] = None,
+    ) -> int:
+        """Adds an arc and returns its number, from 0. Ends that are not there yet are added with supply 0; in `asn`
+        with 1 for a tail, and -1 for a head.
 
         `cap` None, or infinite, is no limit. Raises ValueError where low is above cap.
         """
@@ -174,8 +185,9 @@ class Problem:
         self.arcs.append(arc)
         return len(self.arcs) - 1
 
-    def make_arc(self, tail: str, head: str, low: Number, cap: Optional[Number], cost: Number,
-                 name: Optional[str]) -> Arc:
+    def make_arc(
+        self, tail: str, head: str, low: Number, cap: Optional[Number], cost: Number, name: Optional[str]
+    ) -> Arc:
         """An arc of exact numbers. Raises ValueError where one is none, or low is above cap."""
         label = name or f"{tail} to {head}"
         least = exact(low, f"the lower bound of {label}")
@@ -206,16 +218,18 @@ class Problem:
         return number
 
     def forget_numbers(self) -> None:
-        """To be called where arcs were taken out or changed their names: they are listed anew when they are looked up."""
+        """To be called where arcs were taken out or changed their names: they are listed anew when they are looked
+        up."""
         self._numbered = -1
 
     def _number(self) -> None:
         """Lists the arcs by their ends, `TAIL to HEAD` and names; a name goes before `TAIL to HEAD` of another arc."""
         numbers: Dict[Union[str, Tuple[str, str]], int] = {}
         for number, arc in enumerate(self.arcs):
-            for key in ((arc.tail, arc.head), f"{arc.tail} to {arc.head}"):
+            keys: Tuple[Union[str, Tuple[str, str]], ...] = ((arc.tail, arc.head), f"{arc.tail} to {arc.head}")
+            for key in keys:
                 numbers[key] = -1 if key in numbers else number
-        named: Dict[str, int] = {}
+        named: Dict[Union[str, Tuple[str, str]], int] = {}
         for number, arc in enumerate(self.arcs):
             if arc.name:
                 named[arc.name] = -1 if arc.name in named else number
@@ -233,40 +247,44 @@ class Problem:
     def from_dimacs(cls, text: Text) -> Problem:
         """The problem of a text of the formats, or of another program's spelling of them; nodes are named 1, 2, ..
 
-        What is taken beyond the formats: node lines after arc lines, `+3`, `3.0`, `3e2`, fractions, numbers of any size,
-        lower bounds below 0, capacities `inf` or below 0 and below the lower bound (no limit), comments behind the
-        fields or behind `#` and `%`, a byte order mark. `notes` say which capacities were read as no limit.
+        What is taken beyond the formats: node lines after arc lines, `+3`, `3.0`, `3e2`, fractions, numbers of any
+        size, lower bounds below 0, capacities `inf` or below 0 and below the lower bound (no limit), comments behind
+        the fields or behind `#` and `%`, a byte order mark. `notes` say which capacities were read as no limit.
         Raises Refused where the text has another fault.
 
         >>> Problem.from_dimacs("p min 2 1\\na 1 2 0 inf 4.5 c a road\\nn 1 +3\\nn 2 -3\\n").arcs[0].cost
         Decimal('4.5')
         """
-        reader: ProblemReader = _SpellingReader()
-        if find_fault(text) is None:
-            reader = ProblemReader()
-        fault = read_with(reader, text)
-        if fault is not None:
-            from .program import Refused
+        reader = ProblemReader()
+        if read_with(reader, text) is not None:
+            reader = _SpellingReader()
+            fault = read_with(reader, text)
+            if fault is not None:
+                from .program import Refused
 
-            raise Refused(fault, text)
+                raise Refused(fault, text)
         problem = cls(reader.kind)
         problem.nodes = dict.fromkeys(map(str, range(1, reader.nodes + 1)), -ONE if reader.kind == "asn" else ZERO)
         for node, supply in reader.supplies.items():
             problem.nodes[str(node)] = Decimal(supply)
         if reader.kind == "max":
             problem.source, problem.sink = str(reader.source), str(reader.sink)
-        problem.arcs = [Arc(str(tail), str(head), Decimal(low), None if cap is None else Decimal(cap), Decimal(cost))
-                        for tail, head, low, cap, cost in reader.arcs]
+        problem.arcs = [
+            Arc(str(tail), str(head), Decimal(low), None if cap is None else Decimal(cap), Decimal(cost))
+            for tail, head, low, cap, cost in reader.arcs
+        ]
         if isinstance(reader, _SpellingReader):
             problem.notes = reader.notes
         return problem
 
-    def solve(self, program: Optional[Program] = None, *, surplus: Surplus = "refuse",
-              time_limit: Optional[float] = None) -> Union[Plan, Infeasible]:
+    def solve(
+        self, program: Optional[Program] = None, *, surplus: Surplus = "refuse", time_limit: Optional[float] = None
+    ) -> Union[Plan, Infeasible]:
         """A best plan, or why there is none: checked by `mcf check` and by `verify` in the units of the tables.
 
-        `surplus` says what becomes of supplies that do not add up to 0: 'refuse' (there is no plan), 'keep' (what is too
-        much stays at its node, what is too little is not met, at no cost), or a number: the same, at this cost a unit.
+        `surplus` says what becomes of supplies that do not add up to 0: 'refuse' (there is no plan), 'keep' (what is
+        too much stays at its node, what is too little is not met, at no cost), or a number: the same, at this cost a
+        unit.
         Raises Unbounded, BeyondLimits, Meaningless, TimeLimit, ProgramFailed, and Disagreement.
 
         >>> problem = Problem()
@@ -305,7 +323,7 @@ class _SpellingReader(ProblemReader):
         if not words or words[0][:1] in (b"c", b"#", b"%"):
             return
         kept = words[:2] if words[0] == b"p" else words[:1]
-        for word in words[len(kept):]:
+        for word in words[len(kept) :]:
             if word[:1] in (b"c", b"#", b"%") or word.startswith(b"//"):
                 break
             kept.append(word)
@@ -346,8 +364,9 @@ class _SpellingReader(ProblemReader):
 
     def bounds(self, tail: int, head: int, low, cap):  # type: ignore[no-untyped-def]
         if cap is not None and cap < low and cap < 0:
-            self.notes.append(f"line {self.line}: the capacity {plain(cap)} of the arc from {tail} to {head} is read as no "
-                              f"limit")
+            self.notes.append(
+                f"line {self.line}: the capacity {plain(cap)} of the arc from {tail} to {head} is read as no " f"limit"
+            )
             return None
         if cap is None:
             self.notes.append(f"line {self.line}: the arc from {tail} to {head} has no limit")

@@ -1,7 +1,8 @@
 """Runs the program mcf: solve, check and session, each as a process of its own.
 
-A process that is started here does not hear the terminal's Ctrl-C itself. Python hears it, at once also while the program
-works, ends the process, and raises KeyboardInterrupt; a time limit is heard in the same way and raises TimeLimit.
+A process that is started here does not hear the terminal's Ctrl-C itself. Python hears it, at once also while the
+program works, ends the process, and raises KeyboardInterrupt; a time limit is heard in the same way and raises
+TimeLimit.
 """
 
 from __future__ import annotations
@@ -66,9 +67,10 @@ def find_program(path: Optional[str] = None) -> str:
             if found is None:
                 raise ProgramFailed(f"there is no program {chosen}")
             return found
-    built = Path(__file__).resolve().parents[3] / "crates" / "mcf" / "out" / "mcf"
-    if os.access(built, os.X_OK):
-        return str(built)
+    for top in list(Path(__file__).resolve().parents)[3:4]:
+        built = top / "crates" / "mcf" / "out" / "mcf"
+        if os.access(built, os.X_OK):
+            return str(built)
     found = shutil.which("mcf")
     if found is None:
         raise ProgramFailed("the program mcf was found neither in the variable MCF nor on PATH: install or build it")
@@ -127,8 +129,13 @@ class Program:
     def start(self, words: List[str], output: int = subprocess.PIPE) -> subprocess.Popen[bytes]:
         """Starts the program with these arguments over pipes, in a process group that Ctrl-C does not reach."""
         try:
-            return subprocess.Popen([self.path, *words], stdin=subprocess.PIPE, stdout=output, stderr=subprocess.PIPE,
-                                    start_new_session=True)
+            return subprocess.Popen(
+                [self.path, *words],
+                stdin=subprocess.PIPE,
+                stdout=output,
+                stderr=subprocess.PIPE,
+                start_new_session=True,
+            )
         except OSError as error:
             raise ProgramFailed(f"{self.path} could not be run: {error.strerror}") from error
 
@@ -171,15 +178,17 @@ class Dialogue:
     `first` is the reply to the problem itself, an `s` or an `i` line.
     """
 
-    def __init__(self, program: Program, text: Text, *, extra: Optional[int] = None,
-                 time_limit: Optional[float] = None):
+    def __init__(
+        self, program: Program, text: Text, *, extra: Optional[int] = None, time_limit: Optional[float] = None
+    ):
         self._unread = b""
         self._in_group = False
         with tempfile.NamedTemporaryFile(prefix="mcf-plan-", suffix=".problem") as file:
             file.write(as_bytes(text))
             file.flush()
             self._process = program.start(
-                ["session"] + (["--extra", str(extra)] if extra is not None else []) + [file.name])
+                ["session"] + (["--extra", str(extra)] if extra is not None else []) + [file.name]
+            )
             assert self._process.stdin is not None and self._process.stdout is not None
             self._input, self._output = self._process.stdin.fileno(), self._process.stdout.fileno()
             os.set_blocking(self._input, False)
@@ -283,7 +292,7 @@ class Dialogue:
                     raise TimeLimit(time_limit)
                 if self._input in ready:
                     try:
-                        unsent = unsent[os.write(self._input, unsent):]
+                        unsent = unsent[os.write(self._input, unsent) :]
                     except BrokenPipeError:
                         unsent = unsent[:0]
                     if not unsent:

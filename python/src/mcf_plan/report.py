@@ -23,11 +23,12 @@ from typing import Any, Iterator, Mapping, NamedTuple, Optional, Union
 from .explain import explain
 from .plan import Infeasible, Plan
 from .problem import WIDE, ZERO, Arc, Problem, plain
+from .sensitivity import minimum_cut
 from .tables import PLAN_COLUMNS, plan_rows
 
 Result = Union[Plan, Infeasible]
 
-__all__ = ["html_report", "svg_picture", "to_csv", "to_json", "layout", "number", "arc_rows"]
+__all__ = ["html_report", "svg_picture", "limit_text", "to_csv", "to_json", "layout", "number", "arc_rows"]
 
 WORTH = {"min": "Cheapest plan", "max": "Most that can be sent", "asn": "Cheapest assignment"}
 # Graphviz draws larger networks slowly, and its pictures of them say little.
@@ -484,6 +485,26 @@ def _node_table(plan: Plan) -> Iterator[str]:
     yield "</table>"
 
 
+def limit_text(plan: Plan) -> str:
+    """Why no more can be sent in a maximum flow: the arcs of a minimum cut, in words.
+
+    >>> from mcf_plan import Problem
+    >>> problem = Problem("max", source="well", sink="town")
+    >>> problem.add_arc("well", "town", cap=3)
+    0
+    >>> print(limit_text(problem.solve()))
+    All that goes from well to town has to go along these arcs, and they are full:
+      well to town: 3
+    """
+    cut = minimum_cut(plan)
+    source, sink = plan.problem.source, plan.problem.sink
+    arcs = [plan.problem.arcs[index] for index in cut.arcs]
+    if not any(arc.cap for arc in arcs):
+        return f"No way leads from {source} to {sink}."
+    lines = [f"All that goes from {source} to {sink} has to go along these arcs, and they are full:"]
+    return "\n".join(lines + [f"  {arc.label}: {number(arc.cap)}" for arc in arcs if arc.cap])
+
+
 def html_text(result: Result, *, title: str = "Plan") -> str:
     """The report as one text of HTML that needs no other file."""
     result.verify()
@@ -508,6 +529,8 @@ def html_text(result: Result, *, title: str = "Plan") -> str:
             "<p><code>mcf check</code> accepted the cut, and its shortage was found right in the units of the "
             "tables.</p>"
         )
+    if isinstance(result, Plan) and problem.kind == "max":
+        out.append(f"<pre>{html.escape(limit_text(result))}</pre>")
     for note in result.notes:
         out.append(f"<p>{html.escape(note)}</p>")
     out.append(f'<h2>The network</h2><div class="wide">{svg_picture(result)}</div>')

@@ -1,9 +1,9 @@
 """Rewrites tables to a text of the formats that has the same meaning, and answers back to the tables.
 
 Amounts and costs are multiplied by powers of ten, so that all are whole. An arc that may carry more than the formats'
-10^9 becomes several beside one another; one without limit gets a capacity that no best flow needs to fill. A lower bound
-that is below 0, or too great, moves into the supplies of the ends. Supplies that do not add up to 0 get a node more, the
-rest, with an arc to or from each node that may keep some, or go without some.
+10^9 becomes several beside one another; one without limit gets a capacity that no best flow needs to fill. A lower
+bound that is below 0, or too great, moves into the supplies of the ends. Supplies that do not add up to 0 get a node
+more, the rest, with an arc to or from each node that may keep some, or go without some.
 """
 
 from __future__ import annotations
@@ -51,8 +51,8 @@ class Meaningless(CannotRewrite):
 class Options:
     """How to read the tables.
 
-    `surplus` is as in `Problem.solve`. `as_min` writes every assignment as a problem of least cost, in which arcs can be
-    closed and opened. `without_costs` takes all costs as 0: what is asked then is whether there is a plan at all.
+    `surplus` is as in `Problem.solve`. `as_min` writes every assignment as a problem of least cost, in which arcs can
+    be closed and opened. `without_costs` takes all costs as 0: what is asked then is whether there is a plan at all.
     """
 
     surplus: Surplus = "refuse"
@@ -104,8 +104,12 @@ def rewrite(problem: Problem, options: Options = Options()) -> Rewriting:
     return Rewriting(problem, options)
 
 
-def solve(problem: Problem, options: Options = Options(), program: Optional[Program] = None,
-          time_limit: Optional[float] = None) -> Union[Plan, Infeasible]:
+def solve(
+    problem: Problem,
+    options: Options = Options(),
+    program: Optional[Program] = None,
+    time_limit: Optional[float] = None,
+) -> Union[Plan, Infeasible]:
     """A best plan, or why there is none, checked by the program and in the tables' own units."""
     from .program import Program
 
@@ -163,9 +167,9 @@ class Rewriting:
     """A text with the meaning of the tables, and the way back.
 
     `text` is what `mcf` reads; `notes` say in words what was rewritten; `flow_places` and `cost_places` are how many
-    decimals amounts and costs have: a unit of the tables is 10^places of the text's units.
-    `kind` is the kind of the text; `names` are the nodes by their numbers from 1 (the first is at 0); nodes beyond these
-    are made by the rewriting: `rest` is the number of the rest, where there is one.
+    decimals amounts and costs have: a unit of the tables is 10^places of the text's units. `kind` is the kind of the
+    text; `names` are the nodes by their numbers from 1 (the first is at 0); nodes beyond these are made by the
+    rewriting: `rest` is the number of the rest, where there is one.
     """
 
     def __init__(self, problem: Problem, options: Options):
@@ -189,11 +193,18 @@ class Rewriting:
     def text(self) -> str:
         """The text, as the rows stand."""
         supplies = {number: supply for number, supply in enumerate(self.supplies) if supply}
-        arcs: List[ArcRow] = [(tail, head, row.low, row.cap, row.cost)
-                              for (tail, head), row in zip(self.ends, self.rows)]
+        arcs: List[ArcRow] = [
+            (tail, head, row.low, row.cap, row.cost) for (tail, head), row in zip(self.ends, self.rows)
+        ]
         if self.kind == "max":
-            return DimacsProblem("max", self.node_count, arcs, {}, self.numbers[self.problem.source or ""],
-                                 self.numbers[self.problem.sink or ""]).text()
+            return DimacsProblem(
+                "max",
+                self.node_count,
+                arcs,
+                {},
+                self.numbers[self.problem.source or ""],
+                self.numbers[self.problem.sink or ""],
+            ).text()
         if self.kind == "asn":
             supplies = {number: 1 for number, supply in supplies.items() if supply > 0}
         return DimacsProblem(self.kind, self.node_count, arcs, supplies).text()
@@ -206,7 +217,9 @@ class Rewriting:
         if not problem.nodes:
             raise Meaningless("there is no node")
         if problem.balance != "equal" and self.rest_cost is not None:
-            raise Meaningless(f"with supplies that are met as '{problem.balance}', what is kept or not met can't be asked for")
+            raise Meaningless(
+                f"with supplies that are met as '{problem.balance}', what is kept or not met can't be asked for"
+            )
         if problem.balance != "equal" and problem.kind != "min":
             raise Meaningless(f"supplies that are met as '{problem.balance}' have no meaning in '{problem.kind}'")
         if problem.kind == "max":
@@ -251,8 +264,12 @@ class Rewriting:
         problem = self.problem
         if problem.kind == "max":
             return "min" if self.options.without_costs or any(arc.low for arc in problem.arcs) else "max"
-        if problem.kind == "asn" and not self.options.as_min and not (self.rest_cost is not None and self.total) \
-                and all(not arc.low and arc.cap for arc in problem.arcs):
+        if (
+            problem.kind == "asn"
+            and not self.options.as_min
+            and not (self.rest_cost is not None and self.total)
+            and all(not arc.low and arc.cap for arc in problem.arcs)
+        ):
             return "asn"
         return "min"
 
@@ -279,18 +296,27 @@ class Rewriting:
 
     def _too_fine_costs(self, greatest: Decimal) -> str:
         def label(find: Decimal) -> str:
-            return next((f"arc {k + 1}, {arc.label}" for k, arc in enumerate(self.problem.arcs) if abs(arc.cost) == find),
-                        "what is kept or not met")
+            return next(
+                (f"arc {k + 1}, {arc.label}" for k, arc in enumerate(self.problem.arcs) if abs(arc.cost) == find),
+                "what is kept or not met",
+            )
 
         if greatest > MOST_COST:
-            return (f"{label(greatest)}: the cost {plain(greatest)} is above {MOST_COST:,}, the greatest there is: take a "
-                    "larger unit of money for all costs")
-        finest = next(arc.cost for arc in [*self.problem.arcs, Arc("", "", ZERO, ZERO, self.rest_cost or ZERO)]
-                      if places_of([arc.cost]) == self.cost_places)
+            return (
+                f"{label(greatest)}: the cost {plain(greatest)} is above {MOST_COST:,}, the greatest there is: take a "
+                "larger unit of money for all costs"
+            )
+        finest = next(
+            arc.cost
+            for arc in [*self.problem.arcs, Arc("", "", ZERO, ZERO, self.rest_cost or ZERO)]
+            if places_of([arc.cost]) == self.cost_places
+        )
         places = MOST_COST.bit_length()
         places = next(p for p in range(self.cost_places, -1, -1) if greatest * Decimal(10) ** p <= MOST_COST)
-        return (f"{label(abs(finest))}: the cost {plain(finest)} is too fine beside {plain(greatest)} of {label(greatest)}; "
-                f"the finest step that would do is {plain(Decimal(10) ** -places)}")
+        return (
+            f"{label(abs(finest))}: the cost {plain(finest)} is too fine beside {plain(greatest)} of {label(greatest)}"
+            f"; the finest step that would do is {plain(Decimal(10) ** -places)}"
+        )
 
     def cost_of(self, cost: Decimal) -> int:
         """A cost in the text's units."""
@@ -349,8 +375,11 @@ class Rewriting:
         if self.problem.kind == "max":
             return Unbounded(f"there is no greatest flow: no arc of the path {path} has a capacity", own)
         saved = -total_of(arcs[k].cost for k in own)
-        return Unbounded(f"there is no cheapest plan: around the circle {path} no arc has a capacity, and each unit more "
-                         f"saves {plain(saved)}", own)
+        return Unbounded(
+            f"there is no cheapest plan: around the circle {path} no arc has a capacity, and each unit more "
+            f"saves {plain(saved)}",
+            own,
+        )
 
     def _shifted_supplies(self) -> List[int]:
         """The supplies by the nodes' numbers once each lower bound has been sent."""
@@ -386,13 +415,20 @@ class Rewriting:
         numbers, arcs = self.numbers, self.problem.arcs
         rows = [(numbers[arcs[k].tail], numbers[arcs[k].head], self.cost_of(arcs[k].cost), k) for k in large]
         if self.problem.kind == "max":
-            rows.append((numbers[self.problem.sink or ""], numbers[self.problem.source or ""],
-                         0 if self.options.without_costs else -1, len(arcs)))
+            rows.append(
+                (
+                    numbers[self.problem.sink or ""],
+                    numbers[self.problem.source or ""],
+                    0 if self.options.without_costs else -1,
+                    len(arcs),
+                )
+            )
         if self.problem.balance != "equal":
             rest = len(self.names) + 1
             into = self.problem.balance == "at most"
-            rows += [(node, rest, 0, len(arcs) + 1) if into else (rest, node, 0, len(arcs) + 1)
-                     for node in range(1, rest)]
+            rows += [
+                (node, rest, 0, len(arcs) + 1) if into else (rest, node, 0, len(arcs) + 1) for node in range(1, rest)
+            ]
         return gainful_circle(len(self.names) + 1, rows)
 
     def _needed_of_max(self, large: List[int], larger: List[int]) -> int:
@@ -585,21 +621,31 @@ class Rewriting:
             return BeyondLimits(f"there are {nodes:,} nodes, and at most {MOST_NODES:,} are taken")
         if arcs > MOST_ARCS:
             return BeyondLimits(f"there are {arcs:,} arcs, and at most {MOST_ARCS:,} are taken")
-        rows = [(abs(bound), f"arc {k + 1}, {arc.label}: its bound")
-                for k, arc in enumerate(problem.arcs) for bound in (arc.low, arc.cap) if bound is not None]
+        rows = [
+            (abs(bound), f"arc {k + 1}, {arc.label}: its bound")
+            for k, arc in enumerate(problem.arcs)
+            for bound in (arc.low, arc.cap)
+            if bound is not None
+        ]
         rows += [(abs(supply), f"node {name}: its supply") for name, supply in problem.nodes.items()]
         greatest, where = max(rows, key=lambda row: row[0])
         if self.flow_places and greatest * self._flow_units > MOST_FLOW:
             finest, at = next((number, words) for number, words in rows if places_of([number]) == self.flow_places)
             places = next((p for p in range(self.flow_places, -1, -1) if greatest * Decimal(10) ** p <= MOST_FLOW), 0)
-            return BeyondLimits(f"{at} {plain(finest)} is too fine beside {plain(greatest)} ({where}); the finest step that "
-                                f"would do is {plain(Decimal(10) ** -places)}")
+            return BeyondLimits(
+                f"{at} {plain(finest)} is too fine beside {plain(greatest)} ({where}); the finest step that "
+                f"would do is {plain(Decimal(10) ** -places)}"
+            )
         if greatest * self._flow_units > MOST_FLOW:
-            return BeyondLimits(f"{where} {plain(greatest)} is too great: it takes arcs of {MOST_FLOW:,} each, and in all "
-                                f"there may be {MOST_ARCS:,}; take a larger unit for all amounts")
-        return BeyondLimits(f"there are {arcs:,} arcs and {nodes:,} nodes, and with those for what is kept or not met, and "
-                            f"for arcs without a capacity, more than the {MOST_ARCS:,} arcs that are taken: give the arcs "
-                            "capacities")
+            return BeyondLimits(
+                f"{where} {plain(greatest)} is too great: it takes arcs of {MOST_FLOW:,} each, and in all "
+                f"there may be {MOST_ARCS:,}; take a larger unit for all amounts"
+            )
+        return BeyondLimits(
+            f"there are {arcs:,} arcs and {nodes:,} nodes, and with those for what is kept or not met, and "
+            f"for arcs without a capacity, more than the {MOST_ARCS:,} arcs that are taken: give the arcs "
+            "capacities"
+        )
 
     def _tell_notes(self) -> None:
         """Says in words what was rewritten."""
@@ -611,11 +657,15 @@ class Rewriting:
             self.notes.append(f"costs are written in units of {plain(Decimal(10) ** -self.cost_places)}")
         unlimited = sum(arc.cap is None for arc in self.problem.arcs)
         if unlimited:
-            self.notes.append(f"{_counted(unlimited, 'arc')} without a capacity: {plain(shrunk(self.room, self.flow_places))} "
-                              "is written there, which no best flow needs to fill")
+            self.notes.append(
+                f"{_counted(unlimited, 'arc')} without a capacity: {plain(shrunk(self.room, self.flow_places))} "
+                "is written there, which no best flow needs to fill"
+            )
         split = sum(lines > 1 for lines, _ in self.forms)
         if split:
-            self.notes.append(f"{_counted(split, 'arc')} written as several beside one another, of {MOST_FLOW:,} units each")
+            self.notes.append(
+                f"{_counted(split, 'arc')} written as several beside one another, of {MOST_FLOW:,} units each"
+            )
         if self.moved:
             self.notes.append(f"{_counted(len(self.moved), 'lower bound')} moved into the supplies of the arcs' ends")
         if self.helpers:
@@ -626,11 +676,11 @@ class Rewriting:
     # ------------------------------------------------------------ edits
 
     def update(self, arcs: Iterable[int], nodes: Iterable[str]) -> List[str]:
-        """Takes over what was changed in these arcs and nodes of the tables, arcs at the end that were added or taken out
-        among them, and returns the commands of a session that do the same to the text.
+        """Takes over what was changed in these arcs and nodes of the tables, arcs at the end that were added or taken
+        out among them, and returns the commands of a session that do the same to the text.
 
-        Raises DoesNotFit where the text's form does not take it, Unbounded, BeyondLimits or Meaningless where none does;
-        then nothing is taken over.
+        Raises DoesNotFit where the text's form does not take it, Unbounded, BeyondLimits or Meaningless where none
+        does; then nothing is taken over.
         """
         change = _Change(self)
         changed = sorted(set(arcs))
@@ -662,8 +712,14 @@ class Rewriting:
             raise Disagreement("the cut has a node that the text has not")
         if answer.shortage is not None:
             cut = frozenset(self.names[number - 1] for number in answer.cut if number <= len(self.names))
-            return Infeasible(self.problem, cut, shrunk(answer.shortage, self.flow_places), rest_cost=self.rest_cost,
-                              rest_in_cut=self.rest is not None and self.rest in answer.cut, notes=list(self.notes))
+            return Infeasible(
+                self.problem,
+                cut,
+                shrunk(answer.shortage, self.flow_places),
+                rest_cost=self.rest_cost,
+                rest_in_cut=self.rest is not None and self.rest in answer.cut,
+                notes=list(self.notes),
+            )
         if len(answer.flows) != len(self.rows):
             raise Disagreement(f"the answer has {len(answer.flows)} flows for {len(self.rows)} arcs")
         places = self.flow_places
@@ -674,19 +730,29 @@ class Rewriting:
             amounts = []
             for k, (lines, _) in enumerate(self.forms):
                 first = self.first[k]
-                amounts.append(shrunk(sum(flows[first:first + lines]) + self.moved.get(k, 0), places))
+                amounts.append(shrunk(sum(flows[first : first + lines]) + self.moved.get(k, 0), places))
         prices = None
         rest_price = ZERO
         if answer.potentials is not None:
-            prices = {name: shrunk(potential, self.cost_places)
-                      for name, potential in zip(self.names, answer.potentials)}
+            prices = {
+                name: shrunk(potential, self.cost_places) for name, potential in zip(self.names, answer.potentials)
+            }
             if self.rest is not None:
                 rest_price = shrunk(answer.potentials[self.rest - 1], self.cost_places)
         rest = {name: shrunk(sum(flows[line] for line in lines), places) for name, lines in self.rest_arcs.items()}
         rest = {name: amount for name, amount in rest.items() if amount}
         kept = self.problem.balance == "at most" or self.problem.balance == "equal" and self.total > 0
-        return Plan(self.problem, amounts, self._cost_of_answer(answer), prices, kept=rest if kept else {},
-                    not_met={} if kept else rest, rest_cost=self.rest_cost, rest_price=rest_price, notes=list(self.notes))
+        return Plan(
+            self.problem,
+            amounts,
+            self._cost_of_answer(answer),
+            prices,
+            kept=rest if kept else {},
+            not_met={} if kept else rest,
+            rest_cost=self.rest_cost,
+            rest_price=rest_price,
+            notes=list(self.notes),
+        )
 
     def _cost_of_answer(self, answer: Answer) -> Decimal:
         """What the plan costs, or in `max` sends, in the units of the tables."""
@@ -705,7 +771,9 @@ class Rewriting:
             return self._cost_of_answer(Answer(value=int(number))), None
         return None, shrunk(int(number), self.flow_places)
 
-    def checked(self, answer_text: str, program: Program, time_limit: Optional[float] = None) -> Union[Plan, Infeasible]:
+    def checked(
+        self, answer_text: str, program: Program, time_limit: Optional[float] = None
+    ) -> Union[Plan, Infeasible]:
         """The plan, or the reason that there is none, after `mcf check` has accepted the answer, and `verify`.
 
         Raises Disagreement, with both texts, where one of them did not.
@@ -747,9 +815,15 @@ class _Change:
         """The supply of a node was changed."""
         rewriting = self.rewriting
         number = rewriting.numbers[name]
-        moved = sum((rewriting.moved[k] if rewriting.ends[rewriting.first[k]][1] == number else 0)
-                    - (rewriting.moved[k] if rewriting.ends[rewriting.first[k]][0] == number else 0)
-                    for k in rewriting.moved) if rewriting.moved else 0
+        moved = (
+            sum(
+                (rewriting.moved[k] if rewriting.ends[rewriting.first[k]][1] == number else 0)
+                - (rewriting.moved[k] if rewriting.ends[rewriting.first[k]][0] == number else 0)
+                for k in rewriting.moved
+            )
+            if rewriting.moved
+            else 0
+        )
         before = rewriting.wholes[number] - moved
         change = rewriting.flow_of(rewriting.problem.nodes[name]) - before
         self._add_supply(number, change)
@@ -883,7 +957,7 @@ class _Change:
         rewriting = self.rewriting
         for k in range(len(rewriting.forms) - 1, len(rewriting.problem.arcs) - 1, -1):
             rewriting.moved.pop(k, 0)
-            del rewriting.rows[rewriting.first[k]:], rewriting.ends[rewriting.first[k]:]
+            del rewriting.rows[rewriting.first[k] :], rewriting.ends[rewriting.first[k] :]
             rewriting.forms.pop(), rewriting.first.pop(), rewriting.bounds.pop()
         for k, bounds in self.bounds.items():
             rewriting.bounds[k] = bounds
@@ -933,7 +1007,8 @@ def _counted(count: int, what: str) -> str:
 
 
 def gainful_circle(nodes: int, arcs: List[Tuple[int, int, int, int]]) -> List[int]:
-    """The keys of the arcs (tail, head, cost, key) of a circle that costs less than 0, in order; none where there is none.
+    """The keys of the arcs (tail, head, cost, key) of a circle that costs less than 0, in order; none where there is
+    none.
 
     Nodes are 0 to `nodes`. Labels are lowered in rounds; the arcs that lowered them last are searched for a circle.
     """

@@ -14,7 +14,7 @@ from __future__ import annotations
 
 from typing import Any, List, Optional, Tuple
 
-from .plan import Infeasible
+from .plan import Infeasible, Plan
 from .problem import Problem
 from .program import Program
 
@@ -103,6 +103,7 @@ def maximum_flow(csgraph: Any, source: int, sink: int, *, method: str = "dinic",
     for tail, head, bound in arcs:
         problem.add_arc(str(tail), str(head), cap=bound)
     plan = problem.solve(program, time_limit=time_limit)
+    assert isinstance(plan, Plan)  # a flow of 0 is always legal
     tails = np.array([arc[0] for arc in arcs], dtype=np.int32)
     heads = np.array([arc[1] for arc in arcs], dtype=np.int32)
     flows = np.array([int(flow) for flow in plan.flows], dtype=np.int64)

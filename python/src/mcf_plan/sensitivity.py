@@ -23,17 +23,17 @@ from __future__ import annotations
 from collections import deque
 from decimal import Decimal
 from fractions import Fraction
-from typing import Deque, Dict, FrozenSet, Iterable, List, NamedTuple, Optional, Tuple, Union
+from typing import Any, Callable, Deque, Dict, FrozenSet, Iterable, List, NamedTuple, Optional, Set, Tuple, Union
 
 from .plan import Disagreement, Infeasible, Plan
-from .problem import Number, Problem, exact
+from .problem import ArcKey, Number, exact
 from .rewrite import BeyondLimits, Meaningless, Unbounded
-from .session import ArcKey, Session
+from .session import Session
 
 Limits = Tuple[Optional[Decimal], Optional[Decimal]]
 """The least and the greatest value; None where there is no end."""
 
-What = Union[Tuple[str, ArcKey], Tuple[str, str, str]]
+What = Tuple[Any, ...]
 """A number of a problem: ('cap', arc), ('low', arc), ('cost', arc) or ('supply', node); or ('supply', node, other),
 where the supply of the node `other` changes by as much the other way."""
 
@@ -77,7 +77,8 @@ def cost_range(session: Session, arc: ArcKey) -> Limits:
     """
     place, plan = session.problem.find_arc(arc), standing_plan(session)
     with apart(session) as beside:
-        return end_of_range(beside, plan, place, -1), end_of_range(beside, plan, place, 1)
+        grid = steps_and_reach(plan)
+        return end_of_range(beside, plan, place, -1, grid), end_of_range(beside, plan, place, 1, grid)
 
 
 def ranges(session: Session) -> List[Ranges]:
@@ -85,11 +86,12 @@ def ranges(session: Session) -> List[Ranges]:
     kind, plan = session.problem.kind, session.plan()
     if isinstance(plan, Infeasible):
         raise Meaningless("there is no plan, so it has no ranges")
+    grid = steps_and_reach(plan)
     with apart(session) as beside:
         return [
             Ranges(arc, Decimal(0) if kind == "asn" else saved(beside, plan, arc),
                    *((None, None) if kind == "max" else
-                     (end_of_range(beside, plan, arc, -1), end_of_range(beside, plan, arc, 1))))
+                     (end_of_range(beside, plan, arc, -1, grid), end_of_range(beside, plan, arc, 1, grid))))
             for arc in range(len(session.problem.arcs))
         ]
 
@@ -122,7 +124,8 @@ def minimum_cut(plan: Plan) -> Cut:
             further.setdefault(arc.tail, []).append(arc.head)
         if flow > arc.low:
             further.setdefault(arc.head, []).append(arc.tail)
-    reached, queue = {problem.source}, deque([problem.source])  # type: Tuple[set[str], Deque[str]]
+    reached: Set[str] = {problem.source}
+    queue: Deque[str] = deque(reached)
     while queue:
         for node in further.get(queue.popleft(), ()):
             if node not in reached:
@@ -174,60 +177,70 @@ def saved(beside: Session, answer: Union[Plan, Infeasible], arc: int) -> Decimal
     return answer.shortage - (left or Decimal(0))
 
 
-def end_of_range(beside: Session, plan: Plan, arc: int, side: int) -> Optional[Decimal]:
+def end_of_range(beside: Session, plan: Plan, arc: int, side: int, grid: Tuple[Decimal, int]) -> Optional[Decimal]:
     """The end of an arc's range of costs on the side of lower (-1) or higher (1) ones; None where there is none.
 
-    The cost of the plan is a line over the arc's cost, and that of a best plan lies nowhere above it. From a cost
-    beyond the end, each step goes to where the line of the plan that is best there meets it. Ends are sums of costs, so
-    they have no more decimals than these.
+    By how much the plan is dearer than a best one grows with the distance from the end, and grows the faster the
+    further. From a cost beyond the end, each step goes to where the line through two neighbouring points of this curve
+    meets 0, which is never before the end. Ends are sums of costs, and have no more decimals than these.
     """
-    row, flow = plan.problem.arcs[arc], plan.flows[arc]
-    if flow == (row.low if side > 0 else row.cap):
+    row = plan.problem.arcs[arc]
+    if plan.flows[arc] == (row.low if side > 0 else row.cap):
         return None
-    step, reach = steps_and_reach(plan)
-    at = row.cost + side * reach
-    first = True
-    while True:
-        try:
-            best = beside.set_cost(arc, at)
-        except Unbounded as unbounded:
-            # The end is not beyond the cost by which the circle costs nothing.
-            at = -sum((plan.problem.arcs[other].cost for other in unbounded.arcs if other != arc), Decimal(0))
-            first = False
-            continue
-        assert best is not None
-        if best == plan.cost + (at - row.cost) * flow:
-            beside.undo()
-            return None if first else at
-        there = beside.plan(check=False)
-        beside.undo()
-        assert isinstance(there, Plan)
-        other = there.flows[arc]
-        meeting = Fraction(best - plan.cost + row.cost * flow - at * other) / Fraction(flow - other)
-        steps = meeting / Fraction(step)
-        at = step * (steps.numerator // steps.denominator if side > 0 else -(-steps.numerator // steps.denominator))
-        first = False
+    step, distance = grid
+    has_end = False
+    beside.mark("as it stands")
+    try:
+        while True:
+            at = row.cost + side * distance * step
+            try:
+                far = dearer(beside, plan, arc, at)
+                near = dearer(beside, plan, arc, at - side * step) if far else far
+            except Unbounded as unbounded:
+                # The end is not beyond the cost by which this circle costs nothing.
+                others = (plan.problem.arcs[other].cost for other in unbounded.arcs if other != arc)
+                distance, has_end = int((-sum(others, Decimal(0)) - row.cost) * side / step), True
+                continue
+            except BeyondLimits:
+                distance //= 2
+                continue
+            if far == 0:
+                return at if has_end else None
+            if near == 0:
+                return at - side * step
+            distance, has_end = distance - 1 - int(near / (far - near)), True
+    finally:
+        beside.back("as it stands")
 
 
-def steps_and_reach(plan: Plan) -> Tuple[Decimal, Decimal]:
-    """The last decimal place of the costs, and how far an end may be from a cost at most."""
+def dearer(beside: Session, plan: Plan, arc: int, cost: Decimal) -> Fraction:
+    """By how much the plan is dearer than a best one where an arc has this cost, which it keeps."""
+    best = beside.set_cost(arc, cost)
+    assert best is not None
+    row, flow = plan.problem.arcs[arc], Fraction(plan.flows[arc])
+    return Fraction(plan.cost) + (Fraction(cost) - Fraction(row.cost)) * flow - Fraction(best)
+
+
+def steps_and_reach(plan: Plan) -> Tuple[Decimal, int]:
+    """The last decimal place of the costs, and how many of these an end may be away from a cost at most."""
     costs = [arc.cost for arc in plan.problem.arcs] + [plan.rest_cost or Decimal(0)] * 2
     places = max(max(0, -int(cost.normalize().as_tuple().exponent)) for cost in costs)
     step = Decimal(1).scaleb(-places)
-    return step, 2 * sum(map(abs, costs), Decimal(0)) + step
+    return step, int(2 * sum((abs(cost) for cost in costs), Decimal(0)) / step) + 1
 
 
 def set_number(beside: Session, what: What, value: Decimal) -> Optional[Decimal]:
     """Sets one number of a session, as one step, and answers the cost then."""
     if what[0] == "supply" and len(what) == 3:
-        node, other = str(what[1]), str(what[2])
+        node, other = what[1:]
         nodes = beside.problem.nodes
-        change = value - nodes[node]
+        left = nodes[other] - (value - nodes[node])
         with beside.group():
             beside.set_supply(node, value)
-            beside.set_supply(other, nodes[other] - change)
+            beside.set_supply(other, left)
         return beside.cost
-    edits = {"cap": beside.set_cap, "low": beside.set_low, "cost": beside.set_cost, "supply": beside.set_supply}
-    if what[0] not in edits:
-        raise ValueError(f"{what[0]!r} is no number of a problem: it has to be 'cap', 'low', 'cost' or 'supply'")
-    return edits[what[0]](what[1], value)  # type: ignore[operator]
+    edits: Dict[str, Callable[[Any, Decimal], Optional[Decimal]]] = {
+        "cap": beside.set_cap, "low": beside.set_low, "cost": beside.set_cost, "supply": beside.set_supply}
+    if what[0] not in edits or len(what) != 2:
+        raise ValueError(f"{what!r} is no number of a problem: say 'cap', 'low', 'cost' or 'supply', and where")
+    return edits[what[0]](what[1], value)

@@ -1,8 +1,8 @@
 """A what-if session in the words of the tables: edits by name, groups, undo, redo, marks, and reasons at any moment.
 
-The program's own session does the work. Where an edit does not fit in the form of its text, as a cost with more decimals
-than all others, a second one is started on the new text, and the first is kept for what `undo` goes back to. A session of
-the program that was interrupted is started again when it is wanted, and its steps are made again.
+The program's own session does the work. Where an edit does not fit in the form of its text, as a cost with more
+decimals than all others, a second one is started on the new text, and the first is kept for what `undo` goes back to.
+A session of the program that was interrupted is started again when it is wanted, and its steps are made again.
 """
 
 from __future__ import annotations
@@ -97,7 +97,8 @@ class _Stretch:
 
 @dataclass
 class _Moment:
-    """A moment: the changes that led to it, the stretch that holds it and at which step, and its answer's first line."""
+    """A moment: the changes that led to it, the stretch that holds it and at which step, and its answer's first
+    line."""
 
     changes: List[_TableChange]
     stretch: _Stretch
@@ -128,8 +129,14 @@ class Session:
     (Decimal('11.25'), Decimal('13.75'), Decimal('11.875'), Decimal('13.75'), Decimal('11.25'))
     """
 
-    def __init__(self, problem: Problem, program: Optional[Program] = None, *, surplus: Surplus = "refuse",
-                 time_limit: Optional[float] = None):
+    def __init__(
+        self,
+        problem: Problem,
+        program: Optional[Program] = None,
+        *,
+        surplus: Surplus = "refuse",
+        time_limit: Optional[float] = None,
+    ):
         self._program = program or Program()
         self._options = Options(surplus, as_min=True)
         self.time_limit = time_limit
@@ -200,8 +207,16 @@ class Session:
         """Closes an arc: its bounds become 0. `end` ends the session."""
         return self._edit_arc(arc, low=ZERO, cap=ZERO)
 
-    def add_arc(self, tail: str, head: str, *, low: Number = 0, cap: Optional[Number] = None, cost: Number = 0,
-                name: Optional[str] = None) -> Optional[Decimal]:
+    def add_arc(
+        self,
+        tail: str,
+        head: str,
+        *,
+        low: Number = 0,
+        cap: Optional[Number] = None,
+        cost: Number = 0,
+        name: Optional[str] = None,
+    ) -> Optional[Decimal]:
         """Adds an arc between nodes that are there; its number is the number of arcs before."""
         for end in (tail, head):
             if end not in self._problem.nodes:
@@ -361,8 +376,10 @@ class Session:
     @staticmethod
     def _touched(changes: List[_TableChange]) -> Tuple[List[int], List[str]]:
         """The numbers of the arcs, and the names of the nodes, that the changes touch."""
-        return ([change.number for change in changes if isinstance(change, _ArcChange)],
-                [change.name for change in changes if isinstance(change, _SupplyChange)])
+        return (
+            [change.number for change in changes if isinstance(change, _ArcChange)],
+            [change.name for change in changes if isinstance(change, _SupplyChange)],
+        )
 
     def _refresh(self, rewriting: Rewriting, changes: List[_TableChange]) -> List[str]:
         """Takes changes of the tables over into a rewriting that takes them."""
@@ -374,11 +391,15 @@ class Session:
             if isinstance(change, _ArcChange):
                 arc = self._problem.arcs[change.number]
                 if arc.cap is not None and arc.low > arc.cap:
-                    raise EditRefused(f"the lower bound of {arc.label} would be {plain(arc.low)}, above its capacity, "
-                                      f"{plain(arc.cap)}", 22)
+                    raise EditRefused(
+                        f"the lower bound of {arc.label} would be {plain(arc.low)}, above its capacity, "
+                        f"{plain(arc.cap)}",
+                        22,
+                    )
 
     def _make_step(self, changes: List[_TableChange]) -> Optional[Decimal]:
-        """Makes the changes, which stand in the tables, a step; takes them back where they are refused or interrupted."""
+        """Makes the changes, which stand in the tables, a step; takes them back where they are refused or
+        interrupted."""
         try:
             self._check_bounds(changes)
             moment = self._step_in_stretch(changes) or self._new_moment(changes)
@@ -388,8 +409,8 @@ class Session:
         except BaseException:
             self._take_back(changes)
             raise
-        dropped = self._moments[self._now + 1:]
-        del self._moments[self._now + 1:]
+        dropped = self._moments[self._now + 1 :]
+        del self._moments[self._now + 1 :]
         for one in dropped:
             if one.stretch is not self._moments[self._now].stretch:
                 one.stretch.shut()
@@ -410,21 +431,28 @@ class Session:
             commands = self._refresh(rewriting, changes)
         except DoesNotFit:
             return None
+        if len(commands) > MOST_EDITS or len(rewriting.rows) > stretch.most_lines:
+            self._refresh_back(rewriting, changes)
+            return None
+        position, ahead = stretch.position, stretch.steps[stretch.position :]
         try:
-            if len(commands) > MOST_EDITS or len(rewriting.rows) > stretch.most_lines:
-                self._refresh_back(rewriting, changes)
-                return None
             reply = dialogue.ask_all(stretch.lines_of(commands), time_limit=self.time_limit)[0]
             if reply.startswith("r "):
                 number = int(reply[2:])
                 raise EditRefused(f"the session refused it: {REFUSALS[number]}", number)
-        except BaseException:
+            stretch.steps[position:] = [commands]
+            stretch.position = position + 1
+            return self._moment_of(reply, changes, stretch)
+        except EditRefused:
             self._refresh_back(rewriting, changes)
             raise
-        del stretch.steps[stretch.position:]
-        stretch.steps.append(commands)
-        stretch.position += 1
-        return self._moment_of(reply, changes, stretch)
+        except BaseException:
+            # The dialogue may have made the step: it is led to the moment before it when it is wanted again.
+            stretch.shut()
+            stretch.steps[position:] = ahead
+            stretch.position = position
+            self._refresh_back(rewriting, changes)
+            raise
 
     def _refresh_back(self, rewriting: Rewriting, changes: List[_TableChange]) -> None:
         """Brings a rewriting back to before the changes, which stay in the tables."""
@@ -438,7 +466,9 @@ class Session:
         text = rewriting.text
         extra = max(0, min(ROOM_FOR_ARCS, MOST_ARCS - len(rewriting.rows)))
         dialogue = self._program.session(text, extra=extra, time_limit=self.time_limit)
-        return self._moment_of(dialogue.first, changes, _Stretch(text, rewriting, extra, len(rewriting.rows) + extra, dialogue))
+        return self._moment_of(
+            dialogue.first, changes, _Stretch(text, rewriting, extra, len(rewriting.rows) + extra, dialogue)
+        )
 
     @staticmethod
     def _moment_of(reply: str, changes: List[_TableChange], stretch: _Stretch) -> _Moment:

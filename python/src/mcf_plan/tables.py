@@ -62,7 +62,7 @@ class _Table:
         try:
             text = raw.decode("utf-8-sig")
         except UnicodeDecodeError as error:
-            line = raw[:error.start].count(b"\n") + 1
+            line = raw[: error.start].count(b"\n") + 1
             raise TableFault(f"{self.name}, line {line}: a byte that is no UTF-8; save it as CSV in UTF-8") from None
         first = text.split("\n", 1)[0]
         delimiter = max(",;\t", key=first.count)
@@ -107,8 +107,10 @@ class _Table:
         """The place of a column that has to be there."""
         place = self.column(what, taken=taken)
         if place is None:
-            raise TableFault(f"{self.name}: there is no column {COLUMNS[what][0]!r} (nor {', '.join(COLUMNS[what][1:])}); its "
-                             f"columns are {', '.join(map(repr, self.header))}")
+            raise TableFault(
+                f"{self.name}: there is no column {COLUMNS[what][0]!r} (nor {', '.join(COLUMNS[what][1:])}); its "
+                f"columns are {', '.join(map(repr, self.header))}"
+            )
         return place
 
     def filled(self) -> Iterator[Tuple[int, List[Any]]]:
@@ -117,8 +119,10 @@ class _Table:
         for line, row in zip(self.lines, self.rows):
             if len(row) != width:
                 if len(row) > width and any(row[width:]):
-                    raise TableFault(f"{self.name}, line {line}: {len(row)} fields stand under {width} columns; is there a "
-                                     "comma in a number? Then put it between quotes, or write a point")
+                    raise TableFault(
+                        f"{self.name}, line {line}: {len(row)} fields stand under {width} columns; is there a "
+                        "comma in a number? Then put it between quotes, or write a point"
+                    )
                 row = [*row, *[""] * (width - len(row))][:width]
             yield line, row
 
@@ -183,20 +187,27 @@ def _number_hint(cell: str) -> str:
 
 def _pandas() -> Any:
     try:
-        import pandas
+        import pandas  # type: ignore[import]
     except ImportError:
         raise TableFault("spreadsheets want pandas, which is not installed; save the table as CSV") from None
     return pandas
 
 
-def read_tables(nodes: Optional[Source], arcs: Source, *, kind: str = "min", balance: str = "equal",
-                source: Optional[str] = None, sink: Optional[str] = None) -> Problem:
+def read_tables(
+    nodes: Optional[Source],
+    arcs: Source,
+    *,
+    kind: str = "min",
+    balance: str = "equal",
+    source: Optional[str] = None,
+    sink: Optional[str] = None,
+) -> Problem:
     """The problem of two tables, or of one alone (without nodes all supplies are 0).
 
-    Nodes: columns `name` (or node, id, place, ..) and `supply`, or `demand`, or both. Arcs: `from`, `to`, and where there
-    are such `low`, `capacity`, `cost`, `name`; a capacity that is missing or `inf` is no limit. Columns `x` and `y` of the
-    nodes are places on a map. `COLUMNS` has all names of columns. In 'asn' a node without a supply is on the source side where an arc leaves it, else on the sink side. In 'max'
-    `source` and `sink` name these.
+    Nodes: columns `name` (or node, id, place, ..) and `supply`, or `demand`, or both. Arcs: `from`, `to`, and where
+    there are such `low`, `capacity`, `cost`, `name`; a capacity that is missing or `inf` is no limit. Columns `x` and
+    `y` of the nodes are places on a map. `COLUMNS` has all names of columns. In 'asn' a node without a supply is on
+    the source side where an arc leaves it, else on the sink side. In 'max' `source` and `sink` name these.
     Raises TableFault where a row can't be read, OSError where a file can't.
     """
     problem = Problem(kind, balance=balance, source=source, sink=sink)
@@ -206,7 +217,8 @@ def read_tables(nodes: Optional[Source], arcs: Source, *, kind: str = "min", bal
     alone = _read_arcs(problem, _Table(arcs), is_open)
     if nodes is not None and kind != "asn" and alone:
         told = ", ".join(alone[:5]) + (f" and {len(alone) - 5} more" if len(alone) > 5 else "")
-        problem.notes.append(f"{len(alone)} nodes stand in the table of arcs alone, and supply nothing: {told}")
+        count = "1 node stands" if len(alone) == 1 else f"{len(alone)} nodes stand"
+        problem.notes.append(f"{count} in the table of arcs alone, and supply nothing: {told}")
     lonely = [name for name, still in is_open.items() if still and kind == "asn"]
     if lonely:
         raise TableFault(f"node {lonely[0]} has neither an arc nor a supply that says on which side it is")
@@ -253,8 +265,9 @@ def _read_arcs(problem: Problem, table: _Table, is_open: Dict[str, bool]) -> Lis
         if cap is None and is_assignment:
             cap = ONE
         if cap is not None and low > cap:
-            raise table.fault(line, cap_at if cap_at is not None else tail_at, plain(cap),
-                              f"the lower bound {plain(low)} is above it")
+            raise table.fault(
+                line, cap_at if cap_at is not None else tail_at, plain(cap), f"the lower bound {plain(low)} is above it"
+            )
         for end, side in zip(ends, (ONE, -ONE)):
             if end not in nodes:
                 alone.append(end)
@@ -271,13 +284,24 @@ PLAN_COLUMNS = ("name", "from", "to", "low", "capacity", "cost", "flow", "total 
 
 
 def plan_rows(plan: Plan) -> List[Tuple[str, ...]]:
-    """The rows of a plan's table, one an arc, under `PLAN_COLUMNS`. Numbers are written out; a capacity that is not there,
-    and what is not known, is empty."""
-    rows = []
+    """The rows of a plan's table, one an arc, under `PLAN_COLUMNS`. Numbers are written out; a capacity that is not
+    there, and what is not known, is empty."""
+    rows: List[Tuple[str, ...]] = []
     for k, (arc, flow) in enumerate(zip(plan.problem.arcs, plan.flows)):
-        rows.append((arc.name or "", arc.tail, arc.head, plain(arc.low), "" if arc.cap is None else plain(arc.cap),
-                     plain(arc.cost), plain(flow), plain(WIDE.multiply(flow, arc.cost)), "yes" if plan.is_full(k) else "no",
-                     "" if plan.prices is None else plain(plan.reduced_cost(k))))
+        rows.append(
+            (
+                arc.name or "",
+                arc.tail,
+                arc.head,
+                plain(arc.low),
+                "" if arc.cap is None else plain(arc.cap),
+                plain(arc.cost),
+                plain(flow),
+                plain(WIDE.multiply(flow, arc.cost)),
+                "yes" if plan.is_full(k) else "no",
+                "" if plan.prices is None else plain(plan.reduced_cost(k)),
+            )
+        )
     return rows
 
 

@@ -6,7 +6,7 @@ const SVG = "http://www.w3.org/2000/svg";
 const WORTH = { min: "Cheapest plan", max: "Most that can be sent", asn: "Cheapest assignment" };
 // The fields of a node and of an arc in the state.
 const [NAME, SUPPLY, X, Y, PRICE, REST] = [0, 1, 2, 3, 4, 5];
-const [TAIL, HEAD, LABEL, LOW, CAP, COST, FLOW] = [0, 1, 2, 3, 4, 5, 6];
+const [TAIL, HEAD, LABEL, LOW, CAP, COST, FLOW, SAVES] = [0, 1, 2, 3, 4, 5, 6, 7];
 const FIELDS = { low: LOW, cap: CAP, cost: COST };
 const WORDS = { low: "lower bound", cap: "capacity", cost: "unit cost", supply: "supply" };
 // So many rows of a table are put in at once, and a table of no more has fields in all of them from the beginning.
@@ -98,8 +98,11 @@ function draw(next) {
   by("undo").disabled = !state.undo;
   by("redo").disabled = !state.redo;
   by("notes").textContent = state.notes.join(" ");
-  by("why-part").hidden = state.why === null;
-  by("why").textContent = state.why || "";
+  const why = state.why ?? state.limit;
+  by("why-part").hidden = why === null;
+  by("why-part").classList.toggle("limit", state.why === null);
+  by("why-title").textContent = state.why === null ? "Why no more can be sent" : "Why there is no plan";
+  by("why").textContent = why || "";
   by("cut-legend").hidden = state.cut === null;
   document.body.dataset.moment = String(Number(document.body.dataset.moment || 0) + 1);
 }
@@ -138,6 +141,9 @@ function buildArcs() {
   row.append(make("th", kind === "asn" ? "Pair" : "Arc", "name"));
   row.append(make("th", kind === "asn" ? "Chosen" : "Flow", "flow"));
   for (const what of columns) row.append(make("th", heads[what], what));
+  const saves = make("th", "1 more saves \u2264", "saves");
+  saves.title = "What one unit more of capacity saves at most";
+  if (kind === "min") row.append(saves);
   row.append(make("th", "", "close"));
   document.querySelector("#arcs thead").replaceChildren(row);
   const body = document.querySelector("#arcs tbody");
@@ -157,17 +163,18 @@ function buildArcs() {
       cells[what] = make("td", undefined, what);
       line.append(cells[what]);
     }
+    const saves = make("td", undefined, "saves");
+    if (kind === "min") line.append(saves);
     const last = make("td");
     const close = make("button", "\u00d7");
     close.type = "button";
-    close.tabIndex = -1;
     close.dataset.close = index;
     close.title = `Close ${label(arc)}`;
     close.setAttribute("aria-label", close.title);
     last.append(close);
     line.append(last);
     line.classList.toggle("chosen", index === chosen);
-    return { line, flow, cells, inputs: null };
+    return { line, flow, saves, cells, inputs: null };
   });
   body.replaceChildren();
   attached = 0;
@@ -224,6 +231,7 @@ function drawArcs(before) {
       row.line.classList.toggle("full", isFull(arc));
       if (isFull(arc)) row.flow.append(" ", make("span", "full", "mark"));
     }
+    if (!old || old[SAVES] !== arc[SAVES]) row.saves.textContent = arc[SAVES];
     for (const [what, cell] of Object.entries(row.cells)) {
       const value = arc[FIELDS[what]];
       if (row.inputs) show(row.inputs[what], value, what, index);
@@ -834,7 +842,10 @@ function listen() {
   by("only-full").addEventListener("change", filter);
   by("with-low").addEventListener("change", showLow);
   by("export").addEventListener("change", (event) => {
-    if (event.target.value) queue.then(() => save(event.target.value)).finally(() => { event.target.value = ""; });
+    const name = event.target.value;
+    if (!name) return;
+    const saved = queue.then(() => save(name)).catch((error) => tell(`${name} is not saved: ${error.message}`));
+    saved.then(() => { event.target.value = ""; });
   });
   by("mark").addEventListener("submit", (event) => {
     event.preventDefault();

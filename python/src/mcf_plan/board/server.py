@@ -23,7 +23,7 @@ from ..explain import explain
 from ..plan import Disagreement, Infeasible, Plan
 from ..problem import Arc, exact
 from ..program import ProgramFailed, TimeLimit
-from ..report import html_text, layout, number, to_csv, to_json
+from ..report import arc_rows, html_text, layout, limit_text, number, to_csv, to_json
 from ..rewrite import BeyondLimits, Meaningless, Unbounded
 from ..session import EditRefused, Session
 
@@ -282,6 +282,7 @@ class Board:
             ]
             for name, supply in problem.nodes.items()
         ]
+        saves = [row.saving for row in arc_rows(plan)] if plan else []
         arcs = [
             [
                 arc.tail,
@@ -291,6 +292,7 @@ class Board:
                 None if arc.cap is None else number(arc.cap),
                 number(arc.cost),
                 number(flows[index]) if flows is not None else None,
+                number(saves[index]) if plan else "",
             ]
             for index, arc in enumerate(problem.arcs)
         ]
@@ -305,6 +307,7 @@ class Board:
             "shortage": number(none.shortage) if none else None,
             "why": explain(none) if none else None,
             "cut": sorted(none.cut) if none else None,
+            "limit": limit_text(plan) if plan and problem.kind == "max" else None,
             "checked": result.checked,
             "notes": list(result.notes),
             "nodes": nodes,

@@ -1,0 +1,254 @@
+"""The command mcf-plan, run as a process: what it prints, and its statuses."""
+
+import json
+import os
+import signal
+import stat
+import subprocess
+import sys
+import tempfile
+import time
+import unittest
+from pathlib import Path
+
+TOP = Path(__file__).resolve().parents[2]
+COMMAND = str(TOP / "mcf-plan")
+NODES = "town,supply\nKiel,5\nUlm,-3.5\nBonn,-1.5\n"
+ARCS = "from,to,capacity,cost,name\nKiel,Ulm,2,1.25,road\nKiel,Ulm,,4,rail\nKiel,Bonn,9,2,\n"
+
+
+class Command(unittest.TestCase):
+    def setUp(self):
+        self.folder = tempfile.TemporaryDirectory()
+        self.addCleanup(self.folder.cleanup)
+        self.nodes, self.arcs = self.file("nodes.csv", NODES), self.file("arcs.csv", ARCS)
+
+    def file(self, name, text):
+        path = Path(self.folder.name) / name
+        path.write_text(text, encoding="utf-8")
+        return str(path)
+
+    def run_it(self, *words, text="", status=0):
+        done = subprocess.run(
+            [COMMAND, *words], input=text, capture_output=True, text=True, check=False, cwd=self.folder.name
+        )
+        self.assertEqual(done.returncode, status, done.stdout + done.stderr)
+        self.assertNotIn("Traceback", done.stderr)
+        return done.stdout, done.stderr
+
+    def test_plan(self):
+        out, _ = self.run_it("plan", self.nodes, self.arcs)
+        self.assertEqual(
+            out,
+            "cost 11.5\n"
+            "from  to    name  flow  capacity  cost\n"
+            "Kiel  Ulm   road     2         2  1.25\n"
+            "Kiel  Ulm   rail   1.5               4\n"
+            "Kiel  Bonn         1.5         9     2\n",
+        )
+
+    def test_plan_to_files(self):
+        out, _ = self.run_it(
+            "plan",
+            self.nodes,
+            self.arcs,
+            "--json",
+            "--report",
+            "plan.html",
+            "--picture",
+            "plan.svg",
+            "--table",
+            "plan.csv",
+            "--title",
+            "Week 1",
+        )
+        self.assertEqual(json.loads(out)["cost"], "11.5")
+        folder = Path(self.folder.name)
+        self.assertIn("Week 1", (folder / "plan.html").read_text())
+        self.assertIn("<svg", (folder / "plan.svg").read_text())
+        self.assertIn("Kiel,Ulm,0,2,1.25,2,2.5,yes", (folder / "plan.csv").read_text())
+
+    def test_no_plan(self):
+        nodes = self.file("more.csv", NODES.replace("5\n", "15\n", 1))
+        out, _ = self.run_it("plan", nodes, self.arcs, status=1)
+        self.assertIn("all nodes together supply 15 and demand 5, so 10 are too many", out)
+        out, _ = self.run_it("explain", nodes, self.arcs, status=1)
+        self.assertIn("There is no plan", out)
+        out, _ = self.run_it("plan", nodes, self.arcs, "--surplus", "keep")
+        self.assertIn("10 stays at Kiel", out)
+        out, _ = self.run_it("plan", nodes, self.arcs, "--surplus", "0.5")
+        self.assertIn("cost 16.5", out)
+
+    def test_statuses(self):
+        for name, text, status, words in (
+            ("fault.min", "p min 2 1\na 1 2 0 x 1\n", 3, "fault.min, line 2, CAP: 'x'"),
+            ("circle.min", "p min 2 2\na 1 2 0 inf -2\na 2 1 0 inf 1\n", 6, "1 to 2, 2 to 1 no arc has a capacity"),
+            ("fine.min", "p min 2 1\nn 1 0\na 1 2 0 1 2000000000000\n", 7, "larger unit of money"),
+            ("table.csv", "from,to,cost\na,b,x\n", 3, "table.csv, line 2, column 'cost'"),
+        ):
+            with self.subTest(name):
+                _, errors = self.run_it("plan", self.file(name, text), status=status)
+                self.assertIn(words, errors)
+        self.run_it("plan", "nowhere.min", status=4)
+        self.run_it("plan", status=2)
+        self.run_it("plan", self.nodes, self.arcs, "--kind", "max", status=3)
+        self.run_it("plan", self.nodes, self.arcs, "--surplus", "much", status=3)
+
+    def test_other_kinds(self):
+        pairs = self.file("pairs.csv", "from,to,cost\nAnn,early,3\nAnn,late,5\nBob,early,2\nBob,late,9\n")
+        out, _ = self.run_it("plan", pairs, "--kind", "asn")
+        self.assertIn("cost 7\n", out)
+        pipes = self.file("pipes.csv", "from,to,capacity\na,b,1.5\nb,c,4\n")
+        out, _ = self.run_it("plan", pipes, "--kind", "max", "--source", "a", "--sink", "c")
+        self.assertIn("flow 1.5\n", out)
+        out, _ = self.run_it("plan", "-", text="p max 2 2\nn 1 s\nn 2 t\na 1 2 3000000000\na 1 2 3000000000\n")
+        self.assertIn("flow 6000000000\n", out)
+
+    def test_convert(self):
+        theirs = self.file("theirs.min", "p min 2 1\na 1 2 0 inf 4.0 c a road\nn 1 +3\nn 2 -3\n")
+        out, errors = self.run_it("convert", theirs)
+        self.assertEqual(out, "p min 2 1\nn 1 3\nn 2 -3\na 1 2 0 1000000000 4\n")
+        self.assertIn("has no limit", errors)
+        self.run_it("convert", self.nodes, self.arcs, "-o", "ours.min")
+        done = subprocess.run(
+            [os.environ["MCF"], "solve", self.folder.name + "/ours.min"], capture_output=True, text=True, check=False
+        )
+        self.assertTrue(done.stdout.startswith("s 11500\n"), done.stdout)
+
+    def test_faults(self):
+        out, _ = self.run_it("faults", self.file("a.min", "p min 2 1\na 1 2 0 5,5 3\n"), status=3)
+        self.assertIn("a.min, line 2, CAP: '5,5' stands where", out)
+        self.assertIn("\n    a 1 2 0 5,5 3\n", out)
+        out, _ = self.run_it("faults", self.file("b.min", "p min 2 1\nn 1 5\na 1 2 0 5 3\n"))
+        self.assertIn("supplies add up to 5", out)
+        out, _ = self.run_it("faults", self.file("c.asn", "p asn 3 1\nn 1\na 1 2 3\n"))
+        self.assertIn("1 on the source side and 2 on the sink side", out)
+        good = str(TOP / "examples/diamond/problem.min")
+        out, _ = self.run_it("faults", good, self.file("answer", "s 14\nf 1 2 2\n"), status=3)
+        self.assertIn("line 2", out)
+
+    def test_check(self):
+        good = str(TOP / "examples/diamond/problem.min")
+        answer = str(TOP / "examples/diamond/answer.sol")
+        self.assertEqual(self.run_it("check", good, answer)[0], "valid\n")
+        flows = self.file("flows", "\n".join(line for line in Path(answer).read_text().split("\n") if line[:1] == "f"))
+        self.assertEqual(self.run_it("check", good, flows, "--from", "flows")[0], "valid\n")
+        worse = self.file("worse", Path(flows).read_text().replace("f 1 2 2", "f 1 2 3"))
+        self.assertEqual(self.run_it("check", good, worse, "--from", "flows", status=1)[0], "not valid\n")
+        self.run_it("check", good, flows, status=3)
+
+    def test_explain_of_an_answer(self):
+        folder = TOP / "examples/starved"
+        out, _ = self.run_it("explain", str(folder / "problem.min"), "--answer", str(folder / "cut.sol"), status=1)
+        self.assertIn("at most 3 can leave", out)
+
+    def test_ranges(self):
+        out, _ = self.run_it("ranges", self.nodes, self.arcs)
+        self.assertIn("one more saves", out)
+        self.assertRegex(out, r"Kiel +Ulm +road +2 +2\.75 +1\.25 +any +4\n")
+
+    def test_what_if(self):
+        commands = self.file(
+            "commands",
+            "\n".join(
+                (
+                    "cap road 1.5",
+                    "undo",
+                    'cost "Kiel to Bonn" 3',
+                    "cap Kiel Bonn 1",
+                    "why",
+                    "back nowhere",
+                    "undo",
+                    "mark dear",
+                    "group",
+                    "supply Kiel 6",
+                    "supply Ulm -4.5",
+                    "end",
+                    "add Ulm Bonn capacity 2 cost 0.5 name ferry",
+                    "close ferry",
+                    "back dear",
+                    "moments",
+                    "group",
+                    "cap road 9",
+                    "cap nowhere 9",
+                    "show",
+                    "nonsense",
+                    "saves",
+                    "write now.min",
+                    "proof now.sol",
+                    "table now.csv",
+                    "# a remark",
+                    "cap #1 inf",
+                    "quit",
+                    "never",
+                )
+            )
+            + "\n",
+        )
+        out, errors = self.run_it("what-if", self.nodes, self.arcs, "--commands", commands)
+        self.assertEqual(errors, "")
+        for words in (
+            "cost 11.5\nwhat if> cap road 1.5\ncost 12.875 (1.375 more)\nwhat if> undo\ncost 11.5 (1.375 less)\n",
+            "no plan: short by 0.5; `why` tells more",
+            "Seen from the other side: Bonn demands 1.5, and at most 1 can come in",
+            "refused, nothing is changed: no moment bears the mark nowhere",
+            "dear: cost 13\n",
+            "what if> group\nwhat if> supply Kiel 6\nwhat if> supply Ulm -4.5\nwhat if> end\n" "cost 17 (4 more)\n",
+            "the group is left, and none of its edits is made",
+            "refused, nothing is changed: there is no command nonsense",
+            "arc   one more saves\nroad            2.75\n",
+            "what if> cap #1 inf\ncost 8.875 (4.125 less)",
+            "written to now.min",
+        ):
+            self.assertIn(words, out)
+        self.assertNotIn("never", out)
+        done = subprocess.run(
+            [os.environ["MCF"], "check", "now.min", "now.sol"],
+            capture_output=True,
+            text=True,
+            check=False,
+            cwd=self.folder.name,
+        )
+        self.assertEqual(done.stdout, "valid\n")
+
+    def test_what_if_from_the_input(self):
+        out, _ = self.run_it("what-if", str(TOP / "examples/deliveries/problem.min"), text="cap 1 3 2\nsupply 5 -6\n")
+        self.assertIn("cost 86 (20 more)", out)
+        self.assertIn("no plan: short by 1", out)
+
+    def test_time_limit_and_ctrl_c(self):
+        path = Path(self.folder.name) / "slow"
+        path.write_text("#!/bin/sh\nexec sleep 20\n")
+        path.chmod(path.stat().st_mode | stat.S_IXUSR)
+        environment = dict(os.environ, MCF=str(path))
+        done = subprocess.run(
+            [COMMAND, "plan", self.nodes, self.arcs, "--time-limit", "0.2"],
+            env=environment,
+            capture_output=True,
+            text=True,
+            check=False,
+        )
+        self.assertEqual(done.returncode, 124, done.stderr)
+        with subprocess.Popen(
+            [COMMAND, "plan", self.nodes, self.arcs],
+            env=environment,
+            stdout=subprocess.DEVNULL,
+            stderr=subprocess.PIPE,
+            text=True,
+        ) as process:
+            time.sleep(1.5)
+            start = time.monotonic()
+            process.send_signal(signal.SIGINT)
+            _, errors = process.communicate(timeout=10)
+        self.assertLess(time.monotonic() - start, 1)
+        self.assertEqual((process.returncode, errors), (130, "mcf-plan: interrupted\n"))
+
+    def test_help_and_version(self):
+        out, _ = self.run_it("--help")
+        for word in ("plan", "what-if", "board", "explain", "check", "faults", "convert", "ranges"):
+            self.assertIn(word, out)
+        self.assertRegex(self.run_it("--version")[0], r"^mcf-plan \d")
+
+
+if __name__ == "__main__":
+    sys.exit(unittest.main())

@@ -1,0 +1,165 @@
+"""Tables in and out: what is read, what is refused by line and column, and plans that come back."""
+
+import csv
+import subprocess
+import sys
+import tempfile
+import unittest
+from decimal import Decimal
+from pathlib import Path
+
+import mcf_plan
+from mcf_plan.tables import TableFault, read_tables, write_plan
+
+NODES = "name,supply\nKiel,5\nBerlin,-5\n"
+ARCS = "from,to,capacity,cost\nKiel,Berlin,,2.5\n"
+
+
+class Tables(unittest.TestCase):
+    def setUp(self):
+        self.folder = tempfile.TemporaryDirectory()
+        self.addCleanup(self.folder.cleanup)
+
+    def file(self, name, text):
+        path = Path(self.folder.name) / name
+        path.write_bytes(text if isinstance(text, bytes) else text.encode("utf-8"))
+        return path
+
+    def read(self, nodes, arcs, **options):
+        return read_tables(
+            None if nodes is None else self.file("nodes.csv", nodes), self.file("arcs.csv", arcs), **options
+        )
+
+    def test_what_is_read(self):
+        for title, nodes, arcs, cost in (
+            ("plain", NODES, ARCS, "12.5"),
+            (
+                "other names",
+                "Town;Stock;Need\nKiel;7;2\nBerlin;;5\n",
+                "Origin;Destination;Unit cost\nKiel;Berlin;2,5\n",
+                "12.5",
+            ),
+            (
+                "tabs, carriage returns, a mark of bytes",
+                "\ufeffname\tsupply\r\nKiel\t5\r\nBerlin\t-5\r\n",
+                "from\tto\tcost\r\nKiel\tBerlin\t2.5\r\n\r\n",
+                "12.5",
+            ),
+            ("blanks and empty lines", "name , supply\n Kiel , 5\n\nBerlin, -5\n", ARCS, "12.5"),
+            ("quotes", 'name,supply\n"Kiel",5\n"Berlin",-5\n', 'from,to,cost\n"Kiel","Berlin","2.5"\n', "12.5"),
+            ("a place between", NODES, "from,to,cap,cost\nKiel,Neumünster,5,1\nNeumünster,Berlin,inf,1.5\n", "12.5"),
+            ("lower bounds", NODES, "from,to,low,capacity,cost\nKiel,Berlin,0,9,2\nKiel,Berlin,2,5,3.25\n", "12.5"),
+            ("short rows", NODES, "from,to,cost,capacity\nKiel,Berlin,2.5\n", "12.5"),
+            ("no capacity by a dash", NODES, "from,to,capacity,cost\nKiel,Berlin,-,2.5\n", "12.5"),
+        ):
+            with self.subTest(title):
+                self.assertEqual(self.read(nodes, arcs).solve().cost, Decimal(cost))
+
+    def test_notes_places_and_names(self):
+        problem = self.read(
+            "name,supply,x,y\nKiel,5,10.1,54.3\nBerlin,-5,,\n", "from,to,cost,name\nKiel,Ulm,1,A7\nUlm,Berlin,1,\n"
+        )
+        self.assertEqual(problem.places, {"Kiel": (10.1, 54.3)})
+        self.assertEqual([arc.name for arc in problem.arcs], ["A7", None])
+        self.assertIn("1 node stands in the table of arcs alone", problem.notes[0])
+
+    def test_kinds(self):
+        problem = self.read(None, "person,shift,from,to,cost\n,,Ann,early,3\n,,Ann,late,5\n,,Bob,late,9\n", kind="asn")
+        self.assertEqual(problem.nodes, {"Ann": 1, "early": -1, "late": -1, "Bob": 1})
+        self.assertEqual(problem.solve().cost, 12)
+        flow = self.read(None, "from,to,capacity\na,b,3\na,c,2\nc,b,9\n", kind="max", source="a", sink="b")
+        self.assertEqual(flow.solve().cost, 5)
+        sides = self.read("name\nAnn\nearly\n", "from,to,cost\nAnn,early,3\n", kind="asn")
+        self.assertEqual(sides.solve().cost, 3)
+
+    def test_what_is_refused(self):
+        for nodes, arcs, words in (
+            (
+                "name,supply\nKiel,5x\n",
+                ARCS,
+                "nodes.csv, line 2, column 'supply': '5x' stands there; .*leave the unit out",
+            ),
+            ("name,supply\nKiel,5\nKiel,3\n", ARCS, "line 3, column 'name': 'Kiel' .* stands on line 2"),
+            ("name,supply\n,5\n", ARCS, "line 2, column 'name'.* a name was expected"),
+            ("name\nKiel\n", ARCS, "no column 'supply'"),
+            (NODES, "tail,cost\nKiel,3\n", "arcs.csv: there is no column 'to'"),
+            (NODES, "from,to,cost\nKiel,Berlin,1 000\n", "line 2, column 'cost': .*blanks between the thousands"),
+            (NODES, 'from,to,cost\nKiel,Berlin,"2,5"\n', "write a point in place of the comma"),
+            (NODES, "from,to,cost\nKiel,Berlin,2,5\n", "4 fields stand under 3 columns"),
+            (NODES, "from,to,cost\nKiel,Berlin,1.234.567\n", "marks between the thousands"),
+            (NODES, "from,to,cost\nKiel,Berlin,−3\n", "dash of typesetting"),
+            (NODES, "from,to,low,capacity\nKiel,Berlin,5,3\n", "column 'capacity': '3' .*lower bound 5 is above"),
+            (NODES, "from,to,capacity\nKiel,,3\n", "column 'to'"),
+            (NODES, "", "the table is empty"),
+            (NODES, "from,to\nKiel,M\xfcnchen\n".encode("latin-1"), "line 2: a byte that is no UTF-8"),
+            (NODES, "from,to\n".encode("utf-16"), "UTF-16"),
+            (NODES, b"PK\x03\x04", "spreadsheet"),
+        ):
+            with self.subTest(words), self.assertRaisesRegex(TableFault, words):
+                self.read(nodes, arcs)
+        with self.assertRaisesRegex(TableFault, "node Bob has neither"):
+            self.read("name\nAnn\nBob\n", "from,to,cost\nAnn,early,3\n", kind="asn")
+        with self.assertRaises(OSError):
+            read_tables(None, "nowhere.csv")
+
+    def test_a_plan_as_a_table(self):
+        plan = self.read(NODES, "from,to,capacity,cost\nKiel,Berlin,3,1.5\nKiel,Berlin,,2.5\n").solve()
+        path = Path(self.folder.name) / "plan.csv"
+        write_plan(plan, path)
+        with open(path, newline="", encoding="utf-8") as file:
+            rows = list(csv.DictReader(file))
+        self.assertEqual(
+            [(row["flow"], row["total cost"], row["is full"], row["one more costs"]) for row in rows],
+            [("3", "4.5", "yes", "-1"), ("2", "5", "no", "0")],
+        )
+
+    def test_spreadsheets_and_frames(self):
+        try:
+            import openpyxl  # noqa: F401
+            import pandas
+        except ImportError:
+            self.skipTest("pandas or openpyxl is not installed")
+        nodes = pandas.DataFrame({"name": ["Kiel", "Berlin", 7], "supply": [5, -5, None]})
+        arcs = pandas.DataFrame({"from": ["Kiel", 7], "to": [7, "Berlin"], "capacity": [None, 9.0], "cost": [0.1, 2.4]})
+        self.assertEqual(read_tables(nodes, arcs).solve().cost, Decimal("12.5"))
+        names = [Path(self.folder.name) / name for name in ("nodes.xlsx", "arcs.xlsx")]
+        nodes.to_excel(names[0], index=False)
+        arcs.to_excel(names[1], index=False)
+        problem = read_tables(*names)
+        self.assertIn("7", problem.nodes)
+        plan = problem.solve()
+        self.assertEqual(plan.cost, Decimal("12.5"))
+        write_plan(plan, Path(self.folder.name) / "plan.xlsx")
+        back = pandas.read_excel(Path(self.folder.name) / "plan.xlsx")
+        self.assertEqual(list(back["flow"]), [5, 5])
+
+    def test_without_pandas(self):
+        hidden = sys.modules.get("pandas")
+        sys.modules["pandas"] = None
+        try:
+            with self.assertRaisesRegex(TableFault, "want pandas"):
+                read_tables(None, "arcs.xlsx")
+        finally:
+            if hidden is None:
+                del sys.modules["pandas"]
+            else:
+                sys.modules["pandas"] = hidden
+
+    def test_nothing_beyond_the_standard_library_is_wanted(self):
+        nodes, arcs = self.file("nodes.csv", NODES), self.file("arcs.csv", ARCS)
+        said = (
+            "import sys; sys.path.insert(0, sys.argv[1]); from mcf_plan.tables import read_tables; "
+            "print(read_tables(*sys.argv[2:]).solve().cost)"
+        )
+        source = str(Path(mcf_plan.__file__).parents[1])
+        done = subprocess.run(
+            [sys.executable, "-I", "-S", "-B", "-c", said, source, str(nodes), str(arcs)],
+            capture_output=True,
+            text=True,
+            check=False,
+        )
+        self.assertEqual((done.stdout, done.stderr), ("12.5\n", ""))
+
+
+if __name__ == "__main__":
+    sys.exit(unittest.main())
