@@ -104,6 +104,7 @@ fn draw(
 }
 
 /// Makes a flow the same as a copy.
+#[inline(never)] // a name of its own in the program: `bench/count` counts its calls
 fn take_flow(flow: &mut Tracked<i64>, copy: &[i64])
     requires tracked { IsTracked flow.old }
     requires same_length { length copy.now ≡ length flow.old.entries.items }

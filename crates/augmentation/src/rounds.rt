@@ -33,6 +33,7 @@ const FEW_PUSHES: u64 = 32;
 
 /// Pushes flow along shortest paths until no node in excess reaches a node in deficit, and counts the pushes: where a
 /// proposal was right, one search that finds nothing is all that it does.
+#[inline(never)] // a name of its own in the program: `bench/count` counts its calls
 pub fn finish(
     graph: &Graph,
     flow: &mut Tracked<i64>,
@@ -133,6 +134,7 @@ fn turn_round(side: Side, excess: &mut [i64], scratch: &mut Scratch) -> Side
 /// Searches from the nodes in excess for nodes in deficit, as they are seen from a side, where there are both, and gives
 /// how far the search has come; nothing where no node in excess reaches a node in deficit, and then the search is
 /// forgotten.
+#[inline(never)] // a name of its own in the program: `bench/count` counts its calls
 fn search_on(
     graph: &Graph,
     side: Side,
@@ -179,6 +181,7 @@ fn search_on(
 
 /// Lowers the potentials after a search that came as far as `reach`, pushes to the nodes in deficit that it found, counts
 /// the pushes, and forgets what the search reached.
+#[inline(never)] // a name of its own in the program: `bench/count` counts its calls
 fn push_within(
     graph: &Graph,
     side: Side,

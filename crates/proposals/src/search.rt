@@ -120,6 +120,7 @@ impl Search {
 
     /// Looks for paths from the nodes in excess until so many nodes in deficit are reached, or none is left to be settled;
     /// then those that were not reached are left out of further searches. Gives the greatest length where one was reached.
+    #[inline(never)] // a name of its own in the program: `bench/count` counts its calls
     pub fn search<const AHEAD: bool>(&mut self, proposal: &Proposal, most: usize) -> Option<i64>
         requires { proposal.now ≡ self.old }
         ensures { self.new ≡ self.old }

@@ -81,6 +81,7 @@ impl Proposals {
 
     /// Leads a flow, what it leaves at each node and potentials on towards the aim. It takes no memory: an arc for which
     /// there is no room is left out.
+    #[inline(never)] // a name of its own in the program: `bench/count` counts its calls
     pub fn propose(
         &mut self,
         rows: &[ArcRow],
