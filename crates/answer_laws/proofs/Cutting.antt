@@ -1,7 +1,7 @@
 -- A text of whole lines is cut into them.
-use Rattle.std.proofs.Common.{◌≡◌, ℕ, Bool, true, false, ◌&&◌, not, List, [], ◌∷◌, ◌++◌, append-nil, append_assoc, refl, sym, ap, ◌∙◌, arith}
+use Rattle.std.proofs.Common.{◌≡◌, ℕ, Bool, true, not, List, [], ◌∷◌, ◌++◌, append-nil, append_assoc, refl, sym, ◌∙◌}
 use Rattle.std.specs.List.{list_all}
-use Rattle.dimacs_lines.specs.Lines.{Line, Parts, is_line_feed, with_first, parts_of, lines_of, last_line}
+use Rattle.dimacs_lines.specs.Lines.{Line, is_line_feed, parts_of, lines_of}
 use Rattle.answer_laws.proofs.Written.{first_of, not_true, is_plain}
 
 abbrev pub plain : Line → Bool

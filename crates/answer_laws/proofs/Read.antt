@@ -1,16 +1,14 @@
 -- The text of a flow with its potentials is read as these.
-use Rattle.std.proofs.Common.{◌≡◌, ℕ, suc, ◌+◌, ◌<◌, ◌≤◌, ◌^◌, Bool, true, false, cond, Some, None, Ok, ℤ, pos, List, [], ◌∷◌, ◌++◌, length, length-append, append-nil, append_assoc, refl, sym, ap, subst, ◌∙◌, arith}
+use Rattle.std.proofs.Common.{◌≡◌, ℕ, ◌+◌, ◌<◌, ◌^◌, Ok, ℤ, List, [], ◌∷◌, ◌++◌, length, length-append, append-nil, append_assoc, refl, sym, ap, subst, arith}
 use Rattle.std.specs.Prelude.{unsigned_abs}
 use Rattle.std.specs.Fmt.{decimal, signed_decimal}
-use Rattle.std.specs.List.{list_all}
-use Rattle.dimacs_io.specs.Line.{value_line, flow_line, potential_line}
 use Rattle.dimacs_lines.specs.Lines.{Line}
 use Rattle.dimacs_text.specs.declared.answer.FlowLine.{FlowLine}
 use Rattle.dimacs_text.specs.declared.answer.Answer.TheVariants.{Flow}
-use Rattle.dimacs_text.specs.Answer.{answers, said_of}
+use Rattle.dimacs_text.specs.Answer.{answers}
 use Rattle.dimacs_text.proofs.SaidLemmas.{said_of_nothing}
 use Rattle.answer_laws.specs.Text.{FlowsFit, PotentialsFit, flow_lines, potential_lines, written}
-use Rattle.answer_laws.proofs.Written.{is_plain, integer_written}
+use Rattle.answer_laws.proofs.Written.{integer_written}
 use Rattle.answer_laws.proofs.Cutting.{joined, joined-append, AllPlain, AllPlain-append, lines_joined}
 use Rattle.answer_laws.proofs.Steps.{Reads, Reads-append, faultless, said_at_end, told, nothing_told, s_line, f_line, v_line, value_reads, flow_reads, flow_plain, potential_reads, potential_plain, same_number}
 

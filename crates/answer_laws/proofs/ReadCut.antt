@@ -1,14 +1,13 @@
 -- The text of a cut is read as its nodes.
-use Rattle.std.proofs.Common.{◌≡◌, ℕ, suc, ◌+◌, ◌-◌, ◌<◌, ◌≤◌, ◌^◌, Bool, true, false, cond, Some, None, Ok, ℤ, pos, List, [], ◌∷◌, ◌++◌, length, length-append, append-nil, append_assoc, get_or, get_or-append-add, refl, sym, ap, subst, ◌∙◌, arith}
-use Rattle.std.specs.Fmt.{decimal, signed_decimal}
-use Rattle.std.specs.List.{list_all}
-use Rattle.dimacs_lines.specs.Lines.{Line, is_too_long}
+use Rattle.std.proofs.Common.{◌≡◌, ℕ, ◌+◌, ◌-◌, ◌<◌, ◌≤◌, ◌^◌, Bool, true, false, Some, None, Ok, pos, List, [], ◌∷◌, ◌++◌, length, length-append, append-nil, append_assoc, get_or, get_or-append-add, refl, sym, ap, subst, ◌∙◌, arith}
+use Rattle.std.specs.Fmt.{decimal}
+use Rattle.dimacs_lines.specs.Lines.{Line}
 use Rattle.dimacs_lines.specs.Fields.{words_of}
 use Rattle.dimacs_text.specs.declared.answer.Answer.TheVariants.{Cut}
-use Rattle.dimacs_text.specs.Answer.{Said, answers, said_of, and_said, line_fault, read_shortage, read_cut_node, last_node}
+use Rattle.dimacs_text.specs.Answer.{Said, answers, and_said, read_shortage, read_cut_node, last_node}
 use Rattle.dimacs_text.proofs.SaidLemmas.{said_of_nothing}
 use Rattle.answer_laws.specs.Text.{cut_lines, cut_written, ids_from}
-use Rattle.answer_laws.proofs.Written.{is_plain, natural_written, last_word, letter_then, number_read}
+use Rattle.answer_laws.proofs.Written.{natural_written, last_word, letter_then, number_read}
 use Rattle.answer_laws.proofs.Cutting.{joined, AllPlain, lines_joined}
 use Rattle.answer_laws.proofs.Steps.{Reads, Reads-append, faultless, said_at_end, nothing_told, node_in, short_line, lt_true}
 

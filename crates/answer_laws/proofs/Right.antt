@@ -1,5 +1,5 @@
 -- The printing of a best moment is read as a right answer.
-use Rattle.std.proofs.Common.{◌≡◌, ℕ, suc, ◌+◌, ◌-◌, ◌*◌, ◌<◌, ◌≤◌, ◌^◌, Bool, true, false, Ok, ℤ, pos, negsuc, ◌+ℤ◌, ◌*ℤ◌, ◌≤ℤ◌, List, [], ◌∷◌, ◌++◌, length, map, get_or, unsigned_abs, append_assoc, refl, sym, ap, subst, ◌∙◌, arith}
+use Rattle.std.proofs.Common.{◌≡◌, ℕ, suc, ◌+◌, ◌-◌, ◌*◌, ◌<◌, ◌≤◌, ◌^◌, true, Ok, ℤ, pos, negsuc, ◌*ℤ◌, ◌≤ℤ◌, List, [], ◌∷◌, ◌++◌, length, get_or, unsigned_abs, append_assoc, refl, sym, ap, subst, ◌∙◌, arith}
 use Rattle.std.proofs.lemmas.Int.{ints}
 use Rattle.std.specs.List.{AllZip, AllByRecursion}
 use Rattle.dimacs_io.specs.Line.{value_line, flow_line, potential_line}
@@ -11,16 +11,16 @@ use Rattle.dimacs_text.specs.declared.answer.Answer.TheVariants.{Flow}
 use Rattle.dimacs_text.specs.declared.problem.ArcRow.{ArcRow}
 use Rattle.dimacs_text.specs.declared.problem.TheConstants.{CAP_LIMIT, COST_LIMIT}
 use Rattle.dimacs_text.specs.Answer.{answers}
-use Rattle.network.specs.Flow.{MinCost, IsNode, net, flow_sum, total_cost, IsWithinBounds, AllWithinBounds, IsCertifiedFlow, IsPotential}
-use Rattle.network.specs.Instance.{Demand, Supplies, Terminals, Sides, Instance, IsLawful, ArcFits, IsBest, IsLegalBy, IsCertified, IsBestAnswer, at_node, is_marked, first, numbered_flow, reduced, reduced_flow, worth, worth_by}
+use Rattle.network.specs.Flow.{net, flow_sum, AllWithinBounds, IsCertifiedFlow, IsPotential}
+use Rattle.network.specs.Instance.{Demand, Supplies, Terminals, Sides, Instance, IsLawful, ArcFits, IsLegalBy, IsCertified, IsBestAnswer, at_node, is_marked, first, numbered_flow, reduced, worth_by}
 use Rattle.network.proofs.Reduction.{rows_of}
 use Rattle.network.proofs.Answering.{costs_small}
 use Rattle.network.proofs.RunningSums.{abs-add}
 use Rattle.flow_solver.specs.Moment.{Moment}
 use Rattle.flow_solver.specs.Answer.{IsAnswered, IsVerdict, IsBestMoment}
 use Rattle.flow_solver.specs.declared.verdict.Verdict.{Verdict}
-use Rattle.flow_solver.specs.declared.verdict.Verdict.TheVariants.{Best, Infeasible}
-use Rattle.checker.specs.Check.{IsRight, NamesEnds, NameEnds, flow_of_lines}
+use Rattle.flow_solver.specs.declared.verdict.Verdict.TheVariants.{Best}
+use Rattle.checker.specs.Check.{IsRight, NameEnds, flow_of_lines}
 use Rattle.engines.specs.Printing as printing
 use Rattle.engines.specs.Printing.{solution, solution_by, best_text}
 use Rattle.answer_laws.specs.Text.{FlowsFit, PotentialsFit, written, flow_lines, potential_lines}

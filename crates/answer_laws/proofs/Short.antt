@@ -1,7 +1,7 @@
 -- The printing of an infeasible moment is read as a right answer.
-use Rattle.std.proofs.Common.{◌≡◌, ℕ, zero, suc, ◌+◌, ◌-◌, ◌*◌, ◌<◌, ◌≤◌, ◌^◌, Bool, true, false, cond, not, ◌&&◌, Ok, inl, inr, ℤ, pos, negsuc, neg_ℤ, ◌+ℤ◌, ◌-ℤ◌, ◌≤ℤ◌, ◌<ℤ◌, List, [], ◌∷◌, ◌++◌, length, get_or, set, replicate, append_assoc, append-nil, length-append, refl, sym, ap, subst, ◌∙◌, arith}
+use Rattle.std.proofs.Common.{◌≡◌, ℕ, zero, suc, ◌+◌, ◌-◌, ◌*◌, ◌<◌, ◌≤◌, ◌^◌, Bool, true, false, cond, Ok, inl, inr, ℤ, pos, negsuc, neg_ℤ, ◌≤ℤ◌, ◌<ℤ◌, List, [], ◌∷◌, ◌++◌, length, get_or, set, replicate, append_assoc, length-append, refl, sym, ap, subst, ◌∙◌, arith}
 use Rattle.std.proofs.lemmas.Int.{ints}
-use Rattle.std.specs.List.{AllByRecursion, All}
+use Rattle.std.specs.List.{AllByRecursion}
 use Rattle.std.proofs.lemmas.List.Elements.{recursion_from_All}
 use Rattle.dimacs_io.specs.Line.{shortage_line, cut_line}
 use Rattle.dimacs_text.specs.Reading.{ProblemValue}
@@ -11,8 +11,8 @@ use Rattle.dimacs_text.specs.declared.answer.Answer.TheVariants.{Cut}
 use Rattle.dimacs_text.specs.declared.problem.ArcRow.{ArcRow}
 use Rattle.dimacs_text.specs.declared.problem.TheConstants.{SUPPLY_LIMIT}
 use Rattle.dimacs_text.specs.Answer.{answers}
-use Rattle.network.specs.Flow.{MinCost, nodes_sum, arcs_sum, supply_of, crosses, outside, surplus_of, shortfall_of, IsViolatedCut}
-use Rattle.network.specs.Instance.{Demand, Supplies, Terminals, Sides, Instance, IsLawful, ArcFits, DemandFits, IsBreach, IsCutAnswer, at_node, is_marked, first, reduced, reduced_supply}
+use Rattle.network.specs.Flow.{MinCost, nodes_sum, arcs_sum, crosses, outside, IsViolatedCut}
+use Rattle.network.specs.Instance.{Demand, Supplies, Terminals, Sides, Instance, IsLawful, ArcFits, IsBreach, at_node, is_marked, first, reduced_supply}
 use Rattle.network.proofs.Reduction.{rows_of}
 use Rattle.flow_solver.specs.Moment.{Moment, VerdictFits}
 use Rattle.flow_solver.specs.Answer.{IsAnswered, IsVerdict, IsInfeasibleMoment}

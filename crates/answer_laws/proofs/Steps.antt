@@ -1,20 +1,19 @@
 -- Lines that are read one after the other, by what the lines before them say.
-use Rattle.std.proofs.Common.{◌≡◌, ℕ, suc, ◌+◌, ◌<◌, ◌≤◌, ◌^◌, Bool, true, false, cond, not, Some, None, Ok, ℤ, pos, negsuc, List, [], ◌∷◌, ◌++◌, length, length-append, append-nil, append_assoc, nat_le, nat_lt, refl, sym, ap, subst, ◌∙◌, ◌==◌, arith}
+use Rattle.std.proofs.Common.{◌≡◌, ℕ, ◌+◌, ◌<◌, ◌≤◌, ◌^◌, true, false, Some, None, Ok, ℤ, pos, List, [], ◌∷◌, ◌++◌, length, length-append, append-nil, append_assoc, nat_le, nat_lt, refl, sym, ap, subst, ◌∙◌, ◌==◌, arith}
 use Rattle.std.proofs.lemmas.Bool.Decides.{nat_tests}
 use Rattle.std.specs.Prelude.{unsigned_abs}
 use Rattle.std.specs.Fmt.{decimal, signed_decimal}
 use Rattle.std.specs.List.{list_all}
-use Rattle.dimacs_lines.specs.declared.fault.Fault.{Fault}
 use Rattle.dimacs_lines.specs.Lines.{Line, is_too_long}
 use Rattle.dimacs_lines.specs.Stream.{first_fault, fault_among}
-use Rattle.dimacs_lines.specs.Fields.{Word, words_of, natural, integer, claimed_value}
+use Rattle.dimacs_lines.specs.Fields.{words_of}
 use Rattle.dimacs_lines.specs.Checks.{natural_in}
 use Rattle.dimacs_text.specs.declared.answer.FlowLine.{FlowLine}
 use Rattle.dimacs_text.specs.Lawful.{IsNode}
 use Rattle.dimacs_text.specs.Answer.{Said, said_of, and_said, line_fault, answer_rule, read_value, read_flow, read_potential}
-use Rattle.dimacs_text.proofs.SaidLemmas.{said_of_push, said_of_nothing}
+use Rattle.dimacs_text.proofs.SaidLemmas.{said_of_push}
 use Rattle.std.proofs.lemmas.List.Folds.{list_all-append}
-use Rattle.answer_laws.proofs.Written.{is_plain, IsWritten, natural_written, integer_written, word_then, last_word, letter_then, number_read, integer_read, value_read}
+use Rattle.answer_laws.proofs.Written.{is_plain, natural_written, integer_written, word_then, last_word, letter_then, number_read, integer_read, value_read}
 
 -- none of the lines is faulty, and with them what is said goes from the one to the other
 abbrev pub Reads : ℕ → ℕ → Said → List Line → Said → Type 0
