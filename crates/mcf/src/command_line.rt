@@ -1,5 +1,8 @@
 //! What a command line asks for.
 
+ghost use Rattle.std.specs.Prelude.{◌≡◌};
+ghost use Rattle.mcf.specs.Performing.{answer_file, problem_file};
+
 use clap::Error;
 use std::alloc::AllocError;
 
@@ -17,6 +20,29 @@ pub enum Task<'a> {
     Session { problem: &'a str, extra: u32 },
     /// Check the answer in one file to the problem in another.
     Check { problem: &'a str, answer: &'a str },
+}
+
+impl<'a> Task<'a> {
+    /// The file that the problem is in, if it is in one.
+    pub fn problem(&self) -> Option<&'a str>
+        ensures { result ≡ problem_file self.now }
+    {
+        match *self {
+            Task::Solve { file, .. } => file,
+            Task::Session { problem, .. } => Some(problem),
+            Task::Check { problem, .. } => Some(problem),
+        }
+    }
+
+    /// The file that the answer is in, where one is checked.
+    pub fn answer(&self) -> Option<&'a str>
+        ensures { result ≡ answer_file self.now }
+    {
+        match *self {
+            Task::Check { answer, .. } => Some(answer),
+            Task::Solve { .. } | Task::Session { .. } => None,
+        }
+    }
 }
 
 /// Why words name no task: a mistake in them, a request for help, or want of memory.

@@ -10,6 +10,7 @@ mod command_line;
 mod commands;
 mod help;
 mod parse;
+mod performing;
 
 pub use checker::{End, Text, check};
 use clap::error::ErrorKind;
@@ -17,6 +18,7 @@ pub use command_line::{Task, Usage};
 use dimacs_io::{ReadSource, Sink, WriteSink};
 pub use engines::{run_session, solve};
 pub use parse::task;
+pub use performing::perform_on;
 use std::fs::File;
 use std::io::BufWriter;
 use std::os::fd::AsRawFd;
@@ -59,63 +61,35 @@ fn perform(rt: &HostRuntime, task: Task<'_>) -> End {
         Err(_) => return End::Memory,
     };
     let mut out = WriteSink::new(&mut buffer);
-    let end = match task {
-        Task::Solve { proof, file } => solve_file(rt, file, proof, &mut out),
-        Task::Session { problem, extra } => run_session_on(rt, problem, extra, &mut out),
-        Task::Check { problem, answer } => check_files(rt, problem, answer, &mut out),
-    };
+    let end = perform_in_files(rt, task, &mut out);
     // Each task passes on what it wrote. What is there still was refused by the device: it is not tried again.
     let _refused = buffer.into_parts();
     end
 }
 
-/// Solves the problem in a file, or on the standard input.
-fn solve_file<O: Sink>(rt: &HostRuntime, file: Option<&str>, proof: bool, out: &mut O) -> End
+/// Opens the files of a task, all before one is read, and performs it on them. The problem is on the standard input where
+/// the task names no file of it, and the commands are there always.
+fn perform_in_files<O: Sink>(rt: &HostRuntime, task: Task<'_>, out: &mut O) -> End
     requires { O.failures out.old < 2 ^ 64 - 1 }
 {
-    match file {
-        None => solve(rt.alloc(), &mut ReadSource::new(rt.stdin()), out, proof),
-        Some(path) => match open(rt, path) {
-            Ok(file) => solve(rt.alloc(), &mut ReadSource::new(file), out, proof),
-            Err(error) => not_opened(&error, Text::Problem),
-        },
-    }
-}
-
-/// Runs a session on the problem in a file, with the commands on the standard input.
-fn run_session_on<O: Sink>(rt: &HostRuntime, problem: &str, extra: u32, out: &mut O) -> End
-    requires { O.failures out.old < 2 ^ 64 - 1 }
-{
-    match open(rt, problem) {
-        Ok(file) => run_session(
-            rt.alloc(),
-            &mut ReadSource::new(file),
-            &mut ReadSource::new(rt.stdin()),
-            out,
-            extra,
-        ),
-        Err(error) => not_opened(&error, Text::Problem),
-    }
-}
-
-/// Checks the answer in one file to the problem in another. Both are opened before either is read.
-fn check_files<O: Sink>(rt: &HostRuntime, problem: &str, answer: &str, out: &mut O) -> End
-    requires { O.failures out.old < 2 ^ 64 - 1 }
-{
-    let problem = match open(rt, problem) {
-        Ok(file) => file,
+    let mut input = ReadSource::new(rt.stdin());
+    let mut none = ReadSource::new(rt.stdin());
+    let Some(path) = task.problem() else {
+        let mut problem = ReadSource::new(rt.stdin());
+        return perform_on(rt.alloc(), task, &mut problem, &mut none, &mut input, out);
+    };
+    let mut problem = match open(rt, path) {
+        Ok(file) => ReadSource::new(file),
         Err(error) => return not_opened(&error, Text::Problem),
     };
-    let answer = match open(rt, answer) {
-        Ok(file) => file,
+    let Some(path) = task.answer() else {
+        return perform_on(rt.alloc(), task, &mut problem, &mut none, &mut input, out);
+    };
+    let mut answer = match open(rt, path) {
+        Ok(file) => ReadSource::new(file),
         Err(error) => return not_opened(&error, Text::Answer),
     };
-    check(
-        rt.alloc(),
-        &mut ReadSource::new(problem),
-        &mut ReadSource::new(answer),
-        out,
-    )
+    perform_on(rt.alloc(), task, &mut problem, &mut answer, &mut input, out)
 }
 
 /// Opens a file for reading, at a descriptor above those of the standard streams.
