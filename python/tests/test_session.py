@@ -133,8 +133,13 @@ class Told(unittest.TestCase):
         problem = Problem()
         for name, supply in (("a", 0), ("b", 0), ("from", 300_000_000), ("to", -300_000_000)):
             problem.add_node(name, supply)
-        for tail, head, cap, cost in (("a", "b", None, 0), ("b", "a", None, 3), ("b", "a", 1, 1), ("from", "a", None, 0),
-                                      ("b", "to", None, 0)):
+        for tail, head, cap, cost in (
+            ("a", "b", None, 0),
+            ("b", "a", None, 3),
+            ("b", "a", 1, 1),
+            ("from", "a", None, 0),
+            ("b", "to", None, 0),
+        ):
             problem.add_arc(tail, head, cap=cap, cost=cost)
         with Session(problem) as session:
             self.assertEqual(session.set_low(0, 600_000_000), 899_999_998)
