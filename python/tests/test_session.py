@@ -124,6 +124,19 @@ class Told(unittest.TestCase):
                 session.set_cap(0, None)
             self.assertEqual(session.plan().cost, Decimal("2.5"))
 
+    def test_lower_bounds_of_arcs_without_limit(self):
+        problem = Problem()
+        for tail, head, cost in (("a", "b", 0), ("b", "c", 0), ("c", "a", 0), ("a", "b", 7)):
+            problem.add_arc(tail, head, cost=cost)
+        with Session(problem) as session:
+            with session.group():
+                session.set_low(0, 500_000_000)
+                session.set_low(2, 450_000_000)
+                session.set_supply("a", 600_000_000)
+                session.set_supply("b", -600_000_000)
+            self.assertEqual(session.cost, 0)
+            self.assertEqual(session.plan(True).cost, session.problem.solve().cost)
+
     def test_many_arcs_and_large_groups(self):
         with Session(deliveries()) as session:
             for number in range(1005):

@@ -804,6 +804,7 @@ class _Change:
         self.new: List[Tuple[Bounds, Form, List[Row], Tuple[int, int]]] = []
         self.total = rewriting.total
         self.needed = rewriting.needed
+        self.needed_limit = rewriting.needed_limit
         self.needs_search = False
         self.has_gains = rewriting.has_gains
 
@@ -850,6 +851,11 @@ class _Change:
         if room:
             raise DoesNotFit
 
+    def _limit(self, bounds: Bounds, form: Form) -> None:
+        """Takes into account how much room an arc on one line has above its lower bound now."""
+        if form == ONE_LINE and _is_large(bounds):
+            self.needed_limit = min(self.needed_limit, MOST_FLOW - bounds[0])
+
     def arc(self, k: int) -> None:
         """The bounds or the cost of an arc were changed."""
         rewriting = self.rewriting
@@ -875,6 +881,7 @@ class _Change:
             rows = rewriting.rows_of(bounds, cost, form)
         for line, row in enumerate(rows, rewriting.first[k]):
             self.rows[line] = row
+        self._limit(bounds, form)
         self.bounds[k] = bounds
         if form[1]:
             self.moved[k] = bounds[0]
@@ -898,6 +905,7 @@ class _Change:
         self.needed += 3 * abs(bounds[0])
         form = rewriting.form_of(bounds)
         rows = rewriting.rows_of(bounds, rewriting.cost_of(arc.cost), form)
+        self._limit(bounds, form)
         tail, head = rewriting.numbers[arc.tail], rewriting.numbers[arc.head]
         if form[1]:
             self._add_supply(tail, -bounds[0])
@@ -918,13 +926,13 @@ class _Change:
         rewriting = self.rewriting
         if self.needs_search and not rewriting.has_large:
             raise DoesNotFit
-        if not rewriting.has_large or self.needed <= rewriting.needed_limit and not self.needs_search:
+        if not rewriting.has_large or self.needed <= self.needed_limit and not self.needs_search:
             return
         probe = copy.copy(rewriting)
         probe.total = self.total
         probe.bounds = [rewriting.bounds_of(arc) for arc in rewriting.problem.arcs]
         probe.set_room()
-        if probe.has_large and (probe.needed > rewriting.needed_limit or probe.clips != rewriting.clips):
+        if probe.has_large and (probe.needed > self.needed_limit or probe.clips != rewriting.clips):
             raise DoesNotFit
         self.needed = probe.needed
         self.has_gains = probe.has_gains
