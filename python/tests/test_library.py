@@ -8,6 +8,8 @@ from mcf_plan import Problem, Refused, Session, TimeLimit
 from mcf_plan.library import Library, find_library
 from mcf_plan.program import Program, ProgramFailed
 
+from limits import HEARD
+
 try:
     WHERE = find_library()
 except ProgramFailed:
@@ -88,7 +90,7 @@ class LibraryCalls(unittest.TestCase):
             self.assertFalse(dialogue.is_open)
             with self.assertRaises(ProgramFailed):
                 dialogue.ask("undo")
-        self.assertLess(time.monotonic() - begin, 0.5)
+        self.assertLess(time.monotonic() - begin, HEARD)
         dialogue.close()
 
     def test_in_place_of_the_program(self) -> None:

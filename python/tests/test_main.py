@@ -11,6 +11,8 @@ import time
 import unittest
 from pathlib import Path
 
+from limits import HEARD
+
 TOP = Path(__file__).resolve().parents[2]
 COMMAND = str(TOP / "mcf-plan")
 NODES = "town,supply\nKiel,5\nUlm,-3.5\nBonn,-1.5\n"
@@ -218,7 +220,8 @@ class Command(unittest.TestCase):
 
     def test_time_limit_and_ctrl_c(self):
         path = Path(self.folder.name) / "slow"
-        path.write_text("#!/bin/sh\nexec sleep 20\n")
+        begun = Path(self.folder.name) / "begun"
+        path.write_text(f"#!/bin/sh\necho >{begun}\nexec sleep 20\n")
         path.chmod(path.stat().st_mode | stat.S_IXUSR)
         environment = dict(os.environ, MCF=str(path))
         done = subprocess.run(
@@ -229,6 +232,7 @@ class Command(unittest.TestCase):
             check=False,
         )
         self.assertEqual(done.returncode, 124, done.stderr)
+        begun.unlink(missing_ok=True)
         with subprocess.Popen(
             [COMMAND, "plan", self.nodes, self.arcs],
             env=environment,
@@ -236,11 +240,15 @@ class Command(unittest.TestCase):
             stderr=subprocess.PIPE,
             text=True,
         ) as process:
-            time.sleep(1.5)
+            for _ in range(600):
+                if begun.exists():
+                    break
+                time.sleep(0.1)
+            time.sleep(0.3)
             start = time.monotonic()
             process.send_signal(signal.SIGINT)
-            _, errors = process.communicate(timeout=10)
-        self.assertLess(time.monotonic() - start, 1)
+            _, errors = process.communicate(timeout=15)
+        self.assertLess(time.monotonic() - start, HEARD)
         self.assertEqual((process.returncode, errors), (130, "mcf-plan: interrupted\n"))
 
     def test_help_and_version(self):

@@ -12,6 +12,8 @@ from pathlib import Path
 
 from mcf_plan.program import Program, ProgramFailed, Refused, TimeLimit, find_program
 
+from limits import HEARD
+
 DIAMOND = (Path(__file__).resolve().parents[2] / "examples/diamond/problem.min").read_text()
 
 
@@ -72,7 +74,7 @@ class Solving(unittest.TestCase):
                 start = time.monotonic()
                 with self.assertRaises(TimeLimit):
                     call(DIAMOND, time_limit=0.2)
-                self.assertLess(time.monotonic() - start, 0.7)
+                self.assertLess(time.monotonic() - start, 0.2 + HEARD)
 
     def test_ctrl_c_is_heard_within_half_a_second(self):
         with tempfile.TemporaryDirectory() as folder:
@@ -82,7 +84,7 @@ class Solving(unittest.TestCase):
                 start = time.monotonic()
                 with self.assertRaises(KeyboardInterrupt):
                     call(DIAMOND)
-                self.assertLess(time.monotonic() - start, 0.8)
+                self.assertLess(time.monotonic() - start, 0.3 + HEARD)
                 timer.join()
 
 
@@ -115,7 +117,7 @@ class Dialogues(unittest.TestCase):
             start = time.monotonic()
             with self.assertRaises(TimeLimit):
                 dialogue.ask("show", time_limit=0.1)
-            self.assertLess(time.monotonic() - start, 0.6)
+            self.assertLess(time.monotonic() - start, 0.1 + HEARD)
             self.assertFalse(dialogue.is_open)
 
     def test_program_that_ends(self):

@@ -17,6 +17,7 @@ from mcf_plan import BeyondLimits, EditRefused, Infeasible, Problem, Program, Se
 from mcf_plan.dimacs import find_fault
 
 from drawing import DRAWN, by_networkx, draw
+from limits import HEARD
 
 SLOW = """#!/usr/bin/python3
 '''Hands lines on to mcf. Where the file `slow` is beside it, it sleeps at the line `cap 1 77`.'''
@@ -155,7 +156,7 @@ class Told(unittest.TestCase):
             for number in range(500):
                 session.set_cap(number % 4, 6)
                 session.undo()
-            self.assertLess(time.monotonic() - start, 5)
+            self.assertLess(time.monotonic() - start, 30)
 
 
 class Interrupted(unittest.TestCase):
@@ -194,7 +195,7 @@ class Interrupted(unittest.TestCase):
             start = time.monotonic()
             with self.assertRaises(TimeLimit):
                 session.set_cap(0, 77)
-            self.assertLess(time.monotonic() - start, 0.8)
+            self.assertLess(time.monotonic() - start, 0.3 + HEARD)
             session.time_limit = None
             self.assertEqual(self.stands(session), before)
             timer = threading.Timer(0.5, os.kill, (os.getpid(), signal.SIGINT))
@@ -202,7 +203,7 @@ class Interrupted(unittest.TestCase):
             start = time.monotonic()
             with self.assertRaises(KeyboardInterrupt):
                 session.set_cap(0, 77)
-            self.assertLess(time.monotonic() - start, 1.0)
+            self.assertLess(time.monotonic() - start, 0.5 + HEARD)
             timer.join()
             self.assertEqual(self.stands(session), before)
             self.slow.unlink()
