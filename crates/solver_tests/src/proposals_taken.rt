@@ -1,0 +1,346 @@
+//! Proposals on small networks: what leads to a best flow is taken, and after a spoilt one the searches do the work.
+
+ghost use Rattle.std.specs.Prelude.{◌≡◌, IfOk, length};
+ghost use Rattle.augmentation.specs.Scratch.{IsScratchFor};
+ghost use Rattle.augmentation.specs.Tracked.{IsTracked};
+
+use crate::start::{MOST_ROWS, are_ready, start_flow};
+use crate::steps::{prepare, take_up};
+use augmentation::{Excess, Scratch, Tracked};
+use dimacs_text::{ProblemReader, TextFault};
+use network::{build, check_best};
+use proposals::Wanted;
+use residual_graph::Graph;
+use std::alloc::{AllocError, Global};
+use std::process::Abort;
+use std::test::Fail;
+
+/// Two ways from node 1 to node 3 cost the same: by the first two arcs, and by the third. The last two go round.
+const TIES: &[u8] =
+    b"p min 4 5\nn 1 2\nn 3 -2\na 1 2 0 2 1\na 2 3 0 2 1\na 1 3 0 2 2\na 3 4 0 5 1\na 4 3 0 5 1\n";
+/// One unit of two can be sent.
+const SHORT: &[u8] = b"p min 2 1\nn 1 2\nn 2 -2\na 1 2 0 1 1\n";
+/// What lies at node 2 is to stay there, and what lies at node 1 passes through it.
+const PASSED: &[u8] = b"p min 3 2\nn 1 3\nn 2 2\nn 3 -3\na 1 2 0 3 1\na 2 3 0 3 1\n";
+/// Two arcs gain, of which the best flow leaves one empty, and one has a lower bound.
+const GAINS: &[u8] =
+    b"p min 4 5\nn 1 4\nn 4 -4\na 1 2 1 4 2\na 1 3 0 2 -1\na 2 4 0 3 1\na 3 4 0 5 3\na 2 3 0 2 -1\n";
+/// One unit of three comes to node 3, and two come to node 2.
+const STUCK: &[u8] = b"p min 3 2\nn 1 3\nn 3 -3\na 1 2 0 2 1\na 2 3 0 1 1\n";
+/// Two nodes are assigned to two others.
+const PAIRS: &[u8] = b"p asn 4 4\nn 1\nn 2\na 1 3 5\na 1 4 2\na 2 3 4\na 2 4 3\n";
+/// The one greatest flow fills the arcs out of the source.
+const GREATEST: &[u8] = b"p max 4 5\nn 1 s\nn 4 t\na 1 2 3\na 1 3 2\na 2 3 1\na 2 4 2\na 3 4 3\n";
+
+/// What is proposed: a flow, rests and potentials.
+type Proposed = (&'static [i64], &'static [i64], &'static [i64]);
+/// What comes of it: the pushes that led to what was adopted, the pushes of the searches, the flow, what rests, and the
+/// flow's worth where it is best.
+type Outcome = (
+    Option<u64>,
+    u64,
+    &'static [i64],
+    &'static [i64],
+    Option<i128>,
+);
+
+/// What is proposed of `TIES`, and what comes of it.
+static PROPOSALS: [(Proposed, Outcome); 11] = [
+    // The one way, the other, both.
+    (
+        (&[0, 0, 2, 0, 0], &[0; 5], &[0, -2, -1, 0, 0]),
+        (Some(1), 0, &[0, 0, 2, 0, 0], &[0; 5], Some(4)),
+    ),
+    (
+        (&[2, 2, 0, 0, 0], &[0; 5], &[0, -2, -1, 0, 0]),
+        (Some(1), 0, &[2, 2, 0, 0, 0], &[0; 5], Some(4)),
+    ),
+    (
+        (&[1, 1, 1, 0, 0], &[0; 5], &[0, -2, -1, 0, 0]),
+        (Some(2), 0, &[1, 1, 1, 0, 0], &[0; 5], Some(4)),
+    ),
+    // Potentials that are to be lowered.
+    (
+        (&[1, 1, 1, 0, 0], &[0; 5], &[0, 5, 6, 7, 7]),
+        (Some(2), 0, &[1, 1, 1, 0, 0], &[0; 5], Some(4)),
+    ),
+    // A circle that costs is taken off.
+    (
+        (&[1, 1, 1, 5, 5], &[0; 5], &[0, -2, -1, 0, 0]),
+        (Some(2), 0, &[1, 1, 1, 0, 0], &[0; 5], Some(4)),
+    ),
+    // A potential off by one.
+    (
+        (&[1, 1, 1, 0, 0], &[0; 5], &[0, -2, -2, 0, 0]),
+        (None, 1, &[0, 0, 2, 0, 0], &[0; 5], Some(4)),
+    ),
+    // A flow out of balance: a unit of it is led on.
+    (
+        (&[2, 1, 0, 0, 0], &[0; 5], &[0, -2, -1, 0, 0]),
+        (Some(1), 1, &[1, 1, 1, 0, 0], &[0; 5], Some(4)),
+    ),
+    // A flow out of its bounds.
+    (
+        (&[3, 3, 0, 0, 0], &[0; 5], &[0, -2, -1, 0, 0]),
+        (None, 1, &[0, 0, 2, 0, 0], &[0; 5], Some(4)),
+    ),
+    // What rests at the wrong node.
+    (
+        (&[2, 2, 0, 0, 0], &[0, 1, 0, 0, 0], &[0, -2, -1, 0, 0]),
+        (Some(1), 1, &[1, 1, 1, 0, 0], &[0; 5], Some(4)),
+    ),
+    // Nothing.
+    (
+        (&[0; 5], &[0, 2, 0, -2, 0], &[0; 5]),
+        (Some(0), 1, &[0, 0, 2, 0, 0], &[0; 5], Some(4)),
+    ),
+    // Too short.
+    (
+        (&[], &[], &[]),
+        (None, 1, &[0, 0, 2, 0, 0], &[0; 5], Some(4)),
+    ),
+];
+
+/// What is proposed where something stays: a problem, its excesses, and what comes of it.
+static LEFT: [(&[u8], &[i64], Proposed, Outcome); 3] = [
+    (
+        SHORT,
+        &[0, 2, -2],
+        (&[1], &[0, 1, -1], &[0, -1, 0]),
+        (Some(1), 0, &[1], &[0, 1, -1], None),
+    ),
+    (
+        SHORT,
+        &[0, 2, -2],
+        (&[1], &[0, 0, 0], &[0, -1, 0]),
+        (Some(1), 0, &[1], &[0, 1, -1], None),
+    ),
+    (
+        PASSED,
+        &[0, 3, 2, -3],
+        (&[3, 3], &[0, 0, 2, 0], &[0, -5, -1, 0]),
+        (Some(1), 0, &[3, 3], &[0, 0, 2, 0], None),
+    ),
+];
+
+/// Problems, the excesses with which they begin, and what the solver's own proposal comes to: the pushes that led to it,
+/// the flow, what rests, and the flow's worth where it is best.
+static OWN: [(&[u8], &[i64], Outcome); 5] = [
+    (
+        GAINS,
+        &[0, 1, -1, 4, -4],
+        (Some(4), 0, &[2, 2, 2, 2, 0], &[0; 5], Some(10)),
+    ),
+    (
+        PAIRS,
+        &[0, 1, 1, -1, -1],
+        (Some(2), 0, &[0, 1, 1, 0], &[0; 5], Some(6)),
+    ),
+    (
+        GREATEST,
+        &[0, 100_000_000_000_000, 0, 0, -100_000_000_000_000],
+        (Some(4), 0, &[5, 3, 2, 1, 2, 3], &[0; 5], Some(5)),
+    ),
+    (SHORT, &[0, 2, -2], (Some(1), 0, &[1], &[0, 1, -1], None)),
+    (
+        STUCK,
+        &[0, 3, 0, -3],
+        (Some(1), 0, &[1, 1], &[0, 2, 0, -2], None),
+    ),
+];
+
+/// What the searches alone come to where arcs gain.
+static SEARCHED: Outcome = (None, 4, &[2, 2, 2, 2, 0], &[0; 5], Some(10));
+
+/// A problem, the excesses with which it begins, and the tables of the searches.
+#[derive(Drop)]
+struct Run {
+    graph: Graph,
+    balance: &'static [i64],
+    scratch: Scratch,
+}
+
+/// The graph of a problem text.
+fn graph_of(alloc: Global, text: &[u8]) -> Result<Graph, TextFault> {
+    let mut reader = ProblemReader::new(alloc);
+    reader.feed(text)?;
+    let problem = reader.finish()?;
+    let Ok(network) = build(alloc, &problem, 1) else {
+        return Err(TextFault::Memory);
+    };
+    match Graph::new(alloc, network) {
+        Ok(graph) => Ok(graph),
+        Err(_) => Err(TextFault::Memory),
+    }
+}
+
+/// The tables of the searches in a graph.
+fn scratch_of(rt: &impl Abort, alloc: Global, graph: &Graph) -> Result<Scratch, AllocError>
+    ensures { IfOk result (λ s. IsScratchFor (length s.potentials.items) s) }
+{
+    let entries = graph.network().nodes().saturating_add(1);
+    assert!(rt; entries as usize <= MOST_ROWS);
+    Scratch::new(alloc, entries, graph.rows().len().saturating_mul(2))
+}
+
+/// A problem where nothing is pushed yet.
+fn run_of(rt: &impl Abort, alloc: Global, text: &[u8], balance: &'static [i64]) -> Result<Run, Fail>
+    ensures { IfOk result (λ r. IsScratchFor (length r.scratch.potentials.items) r.scratch) }
+{
+    let graph = graph_of(alloc, text)?;
+    let scratch = scratch_of(rt, alloc, &graph)?;
+    Ok(Run {
+        graph,
+        balance,
+        scratch,
+    })
+}
+
+/// A copy of a table.
+fn copy_of(alloc: Global, table: &[i64]) -> Result<Vec<i64>, AllocError>
+    ensures { IfOk result (λ copy. copy.items ≡ table.now) }
+{
+    let mut copy = Vec::with_capacity(alloc, table.len())?;
+    copy.extend_from_slice(table)?;
+    Ok(copy)
+}
+
+/// A flow, one entry an arc.
+fn tracked_of(rt: &impl Abort, alloc: Global, flow: Vec<i64>) -> Result<Tracked<i64>, AllocError>
+    ensures { IfOk result (λ t. IsTracked t) }
+{
+    let room = flow.len();
+    assert!(rt; room <= MOST_ROWS);
+    assert!(rt; room <= flow.capacity());
+    Tracked::new(alloc, flow, room)
+}
+
+/// Excesses, one a node.
+fn excess_of(rt: &impl Abort, alloc: Global, table: &[i64]) -> Result<Excess, AllocError> {
+    assert!(rt; table.len() <= MOST_ROWS);
+    Excess::new(alloc, copy_of(alloc, table)?)
+}
+
+/// A proposal that is written down.
+fn wanted_of(alloc: Global, proposed: &Proposed) -> Result<Wanted, AllocError> {
+    Ok(Wanted {
+        flow: copy_of(alloc, proposed.0)?,
+        rests: copy_of(alloc, proposed.1)?,
+        potentials: copy_of(alloc, proposed.2)?,
+    })
+}
+
+/// Takes up a proposal, or where there is none the solver's own, with potentials of 0; how many pushes led to what was
+/// adopted, and how many came after.
+fn push_from(
+    rt: &impl Abort,
+    graph: &Graph,
+    flow: &mut Tracked<i64>,
+    excess: &mut Excess,
+    scratch: &mut Scratch,
+    wanted: Option<Wanted>,
+) -> (Option<u64>, u64)
+    requires flow_tracked { IsTracked flow.old }
+    requires scratch { IsScratchFor (length scratch.old.potentials.items) scratch.old }
+    ensures scratch { IsScratchFor (length scratch.new.potentials.items) scratch.new }
+{
+    scratch.potentials.fill(0);
+    let ready = are_ready(graph, &flow.entries, excess.entries(), &scratch.potentials);
+    assert!(rt; ready);
+    prepare(graph, &flow.entries, excess.entries(), scratch, wanted);
+    take_up(graph, flow, excess, scratch)
+}
+
+/// Whether the flow of the network's arcs has this worth, and the potentials certify it.
+fn is_best(graph: &Graph, flow: &[i64], potentials: &[i64], worth: i128) -> bool {
+    let first = graph.first_row();
+    if first > flow.len() || potentials.is_empty() {
+        return false;
+    }
+    check_best(graph.network(), &flow[first..], &potentials[1..], worth)
+}
+
+/// This comes of a proposal, or where there is none of the solver's own.
+fn expect(
+    rt: &impl Abort,
+    alloc: Global,
+    run: &mut Run,
+    wanted: Option<Wanted>,
+    outcome: &Outcome,
+) -> Result<(), AllocError>
+    requires scratch { IsScratchFor (length run.old.scratch.potentials.items) run.old.scratch }
+    ensures scratch { IsScratchFor (length run.new.scratch.potentials.items) run.new.scratch }
+{
+    let mut flow = tracked_of(rt, alloc, start_flow(alloc, run.graph.rows())?)?;
+    let mut excess = excess_of(rt, alloc, run.balance)?;
+    let pushes = push_from(
+        rt,
+        &run.graph,
+        &mut flow,
+        &mut excess,
+        &mut run.scratch,
+        wanted,
+    );
+    assert_eq!(rt; pushes, (outcome.0, outcome.1));
+    assert_eq!(rt; flow.entries.as_slice(), outcome.2);
+    assert_eq!(rt; excess.entries(), outcome.3);
+    if let Some(worth) = outcome.4 {
+        let best = is_best(&run.graph, &flow.entries, &run.scratch.potentials, worth);
+        assert!(rt; best);
+    }
+    Ok(())
+}
+
+/// This comes of a proposal, and of the same one once more in the same tables.
+fn expect_twice(
+    rt: &impl Abort,
+    alloc: Global,
+    run: &mut Run,
+    proposed: &Proposed,
+    outcome: &Outcome,
+) -> Result<(), AllocError>
+    requires scratch { IsScratchFor (length run.old.scratch.potentials.items) run.old.scratch }
+    ensures scratch { IsScratchFor (length run.new.scratch.potentials.items) run.new.scratch }
+{
+    let first = wanted_of(alloc, proposed)?;
+    expect(rt, alloc, run, Some(first), outcome)?;
+    let second = wanted_of(alloc, proposed)?;
+    expect(rt, alloc, run, Some(second), outcome)
+}
+
+#[test]
+fn proposals_for_ties(rt: HostRuntime) -> Result<(), Fail> {
+    for (proposed, outcome) in &PROPOSALS {
+        let mut run = run_of(&rt, rt.alloc(), TIES, &[0, 2, 0, -2, 0])?;
+        expect_twice(&rt, rt.alloc(), &mut run, proposed, outcome)?;
+    }
+    Ok(())
+}
+
+#[test]
+fn proposals_that_leave_something(rt: HostRuntime) -> Result<(), Fail> {
+    for (text, balance, proposed, outcome) in &LEFT {
+        let mut run = run_of(&rt, rt.alloc(), text, balance)?;
+        expect_twice(&rt, rt.alloc(), &mut run, proposed, outcome)?;
+    }
+    Ok(())
+}
+
+#[test]
+fn own_proposals(rt: HostRuntime) -> Result<(), Fail> {
+    for (text, balance, outcome) in &OWN {
+        let mut run = run_of(&rt, rt.alloc(), text, balance)?;
+        expect(&rt, rt.alloc(), &mut run, None, outcome)?;
+        expect(&rt, rt.alloc(), &mut run, None, outcome)?;
+    }
+    Ok(())
+}
+
+#[test]
+fn own_proposal_after_spoilt_ones(rt: HostRuntime) -> Result<(), Fail> {
+    let mut run = run_of(&rt, rt.alloc(), GAINS, &[0, 1, -1, 4, -4])?;
+    let spoilt = wanted_of(rt.alloc(), &(&[9, 9], &[1], &[]))?;
+    expect(&rt, rt.alloc(), &mut run, Some(spoilt), &SEARCHED)?;
+    expect(&rt, rt.alloc(), &mut run, None, &OWN[0].2)?;
+    Ok(())
+}

@@ -1,0 +1,92 @@
+//! Where pushes begin, and whether they may begin there.
+
+ghost use Rattle.std.specs.Prelude.{◌<◌, ℕ, IsTrue, length};
+ghost use Rattle.residual_graph.specs.Residual.{IsPseudoflow, IsRow, row_at};
+ghost use Rattle.augmentation.specs.Push.{AreSmall};
+ghost use Rattle.solver_tests.specs.Ready.{AreReady};
+
+use augmentation::{certifies, is_within};
+use dimacs_text::ArcRow;
+use residual_graph::Graph;
+use std::alloc::{AllocError, Global};
+
+/// The most units in excess or in deficit at a node.
+const MOST_EXCESS: i64 = 301_000_000_000_000;
+/// The most entries of a table of nodes.
+const MOST_ENTRIES: usize = 50_001;
+/// The most rows of a graph.
+pub const MOST_ROWS: usize = 200_001;
+/// The greatest capacity.
+const MOST_FLOW: i64 = 100_000_000_000_000;
+/// The greatest cost of a unit, either way.
+const MOST_COST: i64 = 1_000_000_000_000;
+
+/// Whether no excess and no deficit is above the limit.
+fn are_small(excess: &[i64]) -> bool
+    ensures { IsTrue result → AreSmall excess.now }
+{
+    for e in excess {
+        if *e > MOST_EXCESS || *e < -MOST_EXCESS {
+            return false;
+        }
+    }
+    true
+}
+
+/// Whether an arc is within the limits, between nodes that have an entry.
+fn is_row(row: &ArcRow, entries: usize) -> bool
+    ensures { IsTrue result → IsRow entries row.now }
+{
+    if row.tail as usize >= entries || row.head as usize >= entries {
+        return false;
+    }
+    if row.low < 0 || row.low > row.cap || row.cap > MOST_FLOW {
+        return false;
+    }
+    row.cost >= -MOST_COST && row.cost <= MOST_COST
+}
+
+/// Whether so is each arc.
+fn are_rows(rows: &[ArcRow], entries: usize) -> bool
+    ensures { IsTrue result → (k : ℕ) → k < length rows.now → IsRow entries (row_at rows.now k) }
+{
+    for k in 0..rows.len() {
+        if !is_row(&rows[k], entries) {
+            return false;
+        }
+    }
+    true
+}
+
+/// Whether a flow is within the bounds of each arc, in a graph within the limits.
+fn is_pseudoflow(graph: &Graph, flow: &[i64], entries: usize) -> bool
+    ensures { IsTrue result → IsPseudoflow entries graph.now.rows flow.now }
+{
+    if entries > MOST_ENTRIES || graph.rows().len() > MOST_ROWS {
+        return false;
+    }
+    are_rows(graph.rows(), entries) && is_within(graph, flow)
+}
+
+/// Whether pushes may begin with a flow, its excess and potentials.
+pub fn are_ready(graph: &Graph, flow: &[i64], excess: &[i64], potentials: &[i64]) -> bool
+    ensures { IsTrue result → AreReady graph.now flow.now excess.now potentials.now }
+{
+    let entries = potentials.len();
+    if entries != graph.network().nodes() as usize + 1 || excess.len() != entries {
+        return false;
+    }
+    if !are_small(excess) || !is_pseudoflow(graph, flow, entries) {
+        return false;
+    }
+    certifies(graph, flow, potentials)
+}
+
+/// The flow that potentials of 0 certify: an arc that gains is full, and another one carries its lower bound.
+pub fn start_flow(alloc: Global, rows: &[ArcRow]) -> Result<Vec<i64>, AllocError> {
+    let mut flow = Vec::with_capacity(alloc, rows.len())?;
+    for row in rows {
+        flow.push(if row.cost < 0 { row.cap } else { row.low })?;
+    }
+    Ok(flow)
+}
