@@ -1,5 +1,5 @@
-//! Tests of the crates that solve problems, by what they export. They are a crate of their own, since the functions of a
-//! crate are proved once more with the tests that stand in it.
+//! Tests of the crates that solve problems, by what they export. They are a crate of their own, since the functions of
+//! a crate are proved once more with the tests that stand in it.
 #![tactic(auto)]
 
 #[cfg(test)]

@@ -123,8 +123,8 @@ static LEFT: [(&[u8], &[i64], Proposed, Outcome); 3] = [
     ),
 ];
 
-/// Problems, the excesses with which they begin, and what the solver's own proposal comes to: the pushes that led to it,
-/// the flow, what rests, and the flow's worth where it is best.
+/// Problems, the excesses with which they begin, and what comes of the solver's own proposal: all of it is adopted, and
+/// no push is left to the searches.
 static OWN: [(&[u8], &[i64], Outcome); 5] = [
     (
         GAINS,
