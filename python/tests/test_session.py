@@ -138,6 +138,86 @@ class Told(unittest.TestCase):
             self.assertEqual(session.cost, 0)
             self.assertEqual(session.plan(True).cost, session.problem.solve().cost)
 
+    def test_cheaper_arcs_without_limit(self):
+        problem = Problem()
+        problem.add_node("a", 1)
+        problem.add_node("b", -1)
+        problem.add_arc("a", "b", cost=-2)
+        problem.add_arc("b", "a", cost=3)
+        problem.add_arc("b", "a", cost=4, cap=5_000_000_000)
+        with Session(problem) as session:
+            with self.assertRaises(Unbounded):
+                session.set_cost(1, 1)
+            self.assertEqual((session.cost, session.position), (-2, 0))
+            self.assertEqual(session.set_cost(2, 1), -5_000_000_002)
+            self.assertEqual(session.plan(True).cost, -5_000_000_002)
+            self.assertEqual(session.undo(), -2)
+            self.assertEqual(session.plan(True).cost, -2)
+
+    def test_last_arc_without_limit_is_opened_again(self):
+        problem = Problem()
+        for name in "abcd":
+            problem.add_node(name)
+        for tail, head, cap, cost in (
+            ("c", "a", 1_000_000_000, 0),
+            ("b", "d", 1_000_000_000, 0),
+            ("a", "b", 1_000_000_000, 7),
+            ("a", "b", None, 1),
+        ):
+            problem.add_arc(tail, head, cap=cap, cost=cost)
+        with Session(problem) as session:
+            session.close(3)
+            with session.group():
+                for name, supply in zip("abcd", (900_000_000, -900_000_000, 900_000_000, -900_000_000)):
+                    session.set_supply(name, supply)
+            self.assertEqual(session.shortage, 800_000_000)
+            self.assertEqual(session.set_cap(3, None), 1_800_000_000)
+            self.assertEqual(session.plan(True).cost, 1_800_000_000)
+
+    def test_back_to_moments_that_need_more_room(self):
+        problem = Problem()
+        problem.add_node("a", 300_000_000)
+        problem.add_node("b", -300_000_000)
+        problem.add_arc("a", "b", cost=1)
+        with Session(problem) as session:
+            for low, supply in ((0, 0), (900_000_000, 900_000_000)):
+                with session.group():
+                    session.set_low(0, low)
+                    session.set_supply("a", supply)
+                    session.set_supply("b", -supply)
+                self.assertEqual(session.plan(True).cost, supply)
+            for steps, cost in ((session.undo, 0), (session.undo, 300_000_000), (session.redo, 0)):
+                self.assertEqual(steps(), cost)
+                self.assertEqual(session.plan(True).cost, cost)
+
+    def test_an_arc_that_is_added_again_is_written_as_before(self):
+        problem = Problem()
+        problem.add_node("a", 100_000_000)
+        problem.add_node("b", -100_000_000)
+        problem.add_arc("a", "b", cost=1)
+        problem.add_arc("b", "a", cost=1)
+        with Session(problem) as session:
+            with session.group():
+                session.set_supply("a", 0)
+                session.set_supply("b", 0)
+            self.assertEqual(session.add_arc("a", "b", low=600_000_000), 600_000_000)
+            self.assertEqual((session.undo(), session.redo()), (0, 600_000_000))
+            self.assertEqual(session.plan(True).cost, 600_000_000)
+
+    def test_groups_that_change_what_is_kept(self):
+        for giver, taker in ("ab", "ba"):
+            problem = Problem()
+            problem.add_node(giver, 10)
+            problem.add_node(taker, -5)
+            problem.add_arc(giver, taker, cost=1)
+            with self.subTest(giver), Session(problem, surplus="keep") as session:
+                with session.group():
+                    session.set_supply(giver, 20)
+                    session.set_supply(taker, -17)
+                self.assertEqual(session.cost, 17)
+                self.assertEqual(session.undo(), 5)
+                self.assertEqual(session.plan(True).kept, {giver: 5})
+
     def test_many_arcs_and_large_groups(self):
         with Session(deliveries()) as session:
             for number in range(1005):

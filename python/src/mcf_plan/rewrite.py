@@ -13,7 +13,7 @@ import time
 from collections import deque
 from dataclasses import dataclass, replace
 from decimal import Decimal
-from typing import TYPE_CHECKING, Dict, Iterable, List, NamedTuple, Optional, Tuple, Union
+from typing import TYPE_CHECKING, Any, Dict, Iterable, List, NamedTuple, Optional, Tuple, Union
 
 from .dimacs import MOST_ARCS, MOST_COST, MOST_FLOW, MOST_NODES, Answer, ArcRow, DimacsProblem, parse_answer
 from .plan import Disagreement, Infeasible, Plan
@@ -409,6 +409,12 @@ class Rewriting:
                 needed += cap - low
         return needed
 
+    def needed_beside_none(self) -> int:
+        """The room that a large arc would need, where there is none, if it did not cost less than 0."""
+        needed = self._needed_beside([])
+        assert needed is not None
+        return needed
+
     def _gainful_circle(self, large: List[int]) -> List[int]:
         """The arcs of a circle of large arcs that costs less than 0; none where there is none. In `max` the last one is
         the return arc, whose number is that of the arcs."""
@@ -675,31 +681,28 @@ class Rewriting:
 
     # ------------------------------------------------------------ edits
 
-    def update(self, arcs: Iterable[int], nodes: Iterable[str]) -> List[str]:
-        """Takes over what was changed in these arcs and nodes of the tables, arcs at the end that were added or taken
-        out among them, and returns the commands of a session that do the same to the text.
+    def update(self, arcs: Iterable[int], nodes: Iterable[str]) -> Change:
+        """Takes over what was changed in these arcs and nodes of the tables, and arcs that were added at the end.
 
-        Raises DoesNotFit where the text's form does not take it, Unbounded, BeyondLimits or Meaningless where none
-        does; then nothing is taken over.
+        Returns the change, which has the commands of a session that do the same to the text. Raises DoesNotFit where
+        the text's form does not take it, Unbounded, BeyondLimits or Meaningless where none does; then nothing is taken
+        over.
         """
-        change = _Change(self)
-        changed = sorted(set(arcs))
-        for name in set(nodes):
+        change = Change(self)
+        for name in dict.fromkeys(nodes):
             self._check_node(name)
             change.supply(name)
-        for k in changed:
-            if k < min(len(self.forms), len(self.problem.arcs)):
+        for k in sorted(set(arcs)):
+            if k < len(self.forms):
                 self._check_arc(k, self.problem.arcs[k])
                 change.arc(k)
         for k in range(len(self.forms), len(self.problem.arcs)):
             self._check_arc(k, self.problem.arcs[k])
             change.added(k)
-        for k in range(len(self.problem.arcs), len(self.forms)):
-            change.removed(k)
         change.check_room()
-        commands = change.commands()
+        change.set_commands()
         change.take_over()
-        return commands
+        return change
 
     # ------------------------------------------------------------ back to the tables
 
@@ -792,8 +795,12 @@ class Rewriting:
         return result
 
 
-class _Change:
-    """What an edit of the tables changes in the text: worked out first, and then taken over as a whole."""
+class Change:
+    """What an edit of the tables changes in the text: worked out first, and then taken over as a whole.
+
+    `commands` are the commands of a session that make it in the text. A change that was taken back, and taken over
+    again, leads to what stood there before, to the last number: nothing is worked out anew.
+    """
 
     def __init__(self, rewriting: Rewriting):
         self.rewriting = rewriting
@@ -801,6 +808,8 @@ class _Change:
         self.rows: Dict[int, Row] = {}
         self.moved: Dict[int, int] = {}
         self.wholes: Dict[int, int] = {}
+        self.supplies: Dict[int, int] = {}
+        self.commands: List[str] = []
         self.new: List[Tuple[Bounds, Form, List[Row], Tuple[int, int]]] = []
         self.total = rewriting.total
         self.needed = rewriting.needed
@@ -865,7 +874,9 @@ class _Change:
             raise DoesNotFit
         was_large, is_large = _is_large(before), _is_large(bounds)
         gains = rewriting.has_gains or arc.cost < 0
-        if is_large and not rewriting.has_large or is_large and gains and (before != bounds or arc.cost < 0):
+        cost = rewriting.cost_of(arc.cost)
+        is_cheaper = cost < rewriting.rows[rewriting.first[k]].cost
+        if is_large and not rewriting.has_large or is_large and gains and (before != bounds or is_cheaper):
             # There may be a circle of large arcs now that costs less than 0.
             self.needs_search = True
         elif not is_large and gains:
@@ -874,7 +885,6 @@ class _Change:
         change = bounds[0] - before[0]
         self.needed += 3 * abs(change)
         form = rewriting.forms[k]
-        cost = rewriting.cost_of(arc.cost)
         if form == ONE_LINE and not was_large and not is_large and bounds[0] >= 0 and (bounds[1] or 0) <= MOST_FLOW:
             rows = [Row(bounds[0], bounds[1] or 0, cost)]
         else:
@@ -912,15 +922,6 @@ class _Change:
             self._add_supply(head, bounds[0])
         self.new.append((bounds, form, rows, (tail, head)))
 
-    def removed(self, k: int) -> None:
-        """An arc was taken out at the end."""
-        rewriting = self.rewriting
-        low = rewriting.moved.get(k, 0)
-        tail, head = rewriting.ends[rewriting.first[k]]
-        self._add_supply(tail, low)
-        self._add_supply(head, -low)
-        self.needed += 3 * abs(rewriting.bounds[k][0])
-
     def check_room(self) -> None:
         """Raises DoesNotFit, or Unbounded, where arcs without limit have no longer the room that they need."""
         rewriting = self.rewriting
@@ -934,14 +935,14 @@ class _Change:
         probe.set_room()
         if probe.has_large and (probe.needed > self.needed_limit or probe.clips != rewriting.clips):
             raise DoesNotFit
-        self.needed = probe.needed
+        # Where no arc is large any longer, what the next one would need is still known.
+        self.needed = probe.needed if probe.has_large else probe.needed_beside_none()
         self.has_gains = probe.has_gains
 
-    def commands(self) -> List[str]:
-        """The commands of a session that change the text in this way."""
+    def set_commands(self) -> None:
+        """Sets the commands of a session that change the text in this way."""
         rewriting = self.rewriting
-        commands: List[str] = []
-        self.supplies: Dict[int, int] = {}
+        commands = self.commands
         for number, whole_supply in self.wholes.items():
             helpers = rewriting.helpers.get(number, [])
             before = rewriting.wholes[number]
@@ -958,24 +959,11 @@ class _Change:
             for row in rows:
                 fields = f"{row.cap}" if rewriting.kind == "max" else f"{row.low} {row.cap} {row.cost}"
                 commands.append(f"add {tail} {head} {fields}")
-        return commands
 
     def take_over(self) -> None:
-        """Makes the change in the rewriting; arcs that were taken out of the tables' end are taken out there too."""
+        """Makes the change in the rewriting."""
         rewriting = self.rewriting
-        for k in range(len(rewriting.forms) - 1, len(rewriting.problem.arcs) - 1, -1):
-            rewriting.moved.pop(k, 0)
-            del rewriting.rows[rewriting.first[k] :], rewriting.ends[rewriting.first[k] :]
-            rewriting.forms.pop(), rewriting.first.pop(), rewriting.bounds.pop()
-        for k, bounds in self.bounds.items():
-            rewriting.bounds[k] = bounds
-        for line, row in self.rows.items():
-            rewriting.rows[line] = row
-        rewriting.moved.update(self.moved)
-        for number, whole_supply in self.wholes.items():
-            rewriting.wholes[number] = whole_supply
-        for number, supply in self.supplies.items():
-            rewriting.supplies[number] = supply
+        self._exchange()
         for bounds, form, rows, ends in self.new:
             if form[1]:
                 rewriting.moved[len(rewriting.forms)] = bounds[0]
@@ -984,11 +972,35 @@ class _Change:
             rewriting.first.append(len(rewriting.rows))
             rewriting.rows += rows
             rewriting.ends += [ends] * len(rows)
-        rewriting.total = self.total
-        rewriting.needed = self.needed
-        rewriting.has_gains = self.has_gains
-        for bounds, form in [(b, rewriting.forms[k]) for k, b in self.bounds.items()] + [new[:2] for new in self.new]:
-            rewriting.limit_needed(bounds, form)
+
+    def take_back(self) -> None:
+        """Takes the change back, which is the last that was taken over."""
+        rewriting = self.rewriting
+        for _ in self.new:
+            first = rewriting.first.pop()
+            del rewriting.rows[first:], rewriting.ends[first:]
+            rewriting.forms.pop(), rewriting.bounds.pop()
+            rewriting.moved.pop(len(rewriting.forms), None)
+        self._exchange()
+
+    def _exchange(self) -> None:
+        """Exchanges the numbers of the change for those that stand in the rewriting."""
+        rewriting = self.rewriting
+        _exchange_values(rewriting.bounds, self.bounds)
+        _exchange_values(rewriting.rows, self.rows)
+        _exchange_values(rewriting.moved, self.moved)
+        _exchange_values(rewriting.wholes, self.wholes)
+        _exchange_values(rewriting.supplies, self.supplies)
+        rewriting.total, self.total = self.total, rewriting.total
+        rewriting.needed, self.needed = self.needed, rewriting.needed
+        rewriting.needed_limit, self.needed_limit = self.needed_limit, rewriting.needed_limit
+        rewriting.has_gains, self.has_gains = self.has_gains, rewriting.has_gains
+
+
+def _exchange_values(values: Any, own: Dict[int, Any]) -> None:
+    """Exchanges the values of `own` for those that stand at the same keys of a list or a dict."""
+    for key, value in own.items():
+        own[key], values[key] = values[key], value
 
 
 def _is_large(bounds: Bounds) -> bool:

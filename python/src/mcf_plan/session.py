@@ -17,7 +17,7 @@ from .dimacs import MOST_ARCS, MOST_EDITS, REFUSALS, Answer, parse_answer
 from .plan import Infeasible, Plan
 from .problem import ZERO, Arc, ArcKey, Number, Problem, capacity, exact, plain
 from .program import Dialogue, Program
-from .rewrite import DoesNotFit, Meaningless, Options, Rewriting, Surplus, left
+from .rewrite import Change, DoesNotFit, Meaningless, Options, Rewriting, Surplus, left
 
 if TYPE_CHECKING:
     from contextlib import AbstractContextManager
@@ -97,12 +97,13 @@ class _Stretch:
 
 @dataclass
 class _Moment:
-    """A moment: the changes that led to it, the stretch that holds it and at which step, and its answer's first
-    line."""
+    """A moment: the changes that led to it, the stretch that holds it and at which step, what that step changed in the
+    stretch's text (None where its text begins here), and its answer's first line."""
 
     changes: List[_TableChange]
     stretch: _Stretch
     position: int
+    change: Optional[Change]
     cost: Optional[Decimal]
     shortage: Optional[Decimal]
 
@@ -304,9 +305,10 @@ class Session:
             else:
                 self._take_back(here.changes)
             self._now += 1 if forward else -1
-            there = self._moments[self._now]
-            if there.stretch is self._moments[self._now + (-1 if forward else 1)].stretch:
-                self._refresh(there.stretch.rewriting, here.changes)
+            if here.change is not None and forward:
+                here.change.take_over()
+            elif here.change is not None:
+                here.change.take_back()
         return self.cost
 
     # ------------------------------------------------------------ answers
@@ -381,10 +383,6 @@ class Session:
             [change.name for change in changes if isinstance(change, _SupplyChange)],
         )
 
-    def _refresh(self, rewriting: Rewriting, changes: List[_TableChange]) -> List[str]:
-        """Takes changes of the tables over into a rewriting that takes them."""
-        return rewriting.update(*self._touched(changes))
-
     def _check_bounds(self, changes: List[_TableChange]) -> None:
         """Raises EditRefused where a lower bound is above the capacity now."""
         for change in changes:
@@ -428,11 +426,12 @@ class Session:
         rewriting = stretch.rewriting
         dialogue = stretch.open(self._program)
         try:
-            commands = self._refresh(rewriting, changes)
+            change = rewriting.update(*self._touched(changes))
         except DoesNotFit:
             return None
+        commands = change.commands
         if len(commands) > MOST_EDITS or len(rewriting.rows) > stretch.most_lines:
-            self._refresh_back(rewriting, changes)
+            change.take_back()
             return None
         position, ahead = stretch.position, stretch.steps[stretch.position :]
         try:
@@ -442,23 +441,17 @@ class Session:
                 raise EditRefused(f"the session refused it: {REFUSALS[number]}", number)
             stretch.steps[position:] = [commands]
             stretch.position = position + 1
-            return self._moment_of(reply, changes, stretch)
+            return self._moment_of(reply, changes, stretch, change)
         except EditRefused:
-            self._refresh_back(rewriting, changes)
+            change.take_back()
             raise
         except BaseException:
             # The dialogue may have made the step: it is led to the moment before it when it is wanted again.
             stretch.shut()
             stretch.steps[position:] = ahead
             stretch.position = position
-            self._refresh_back(rewriting, changes)
+            change.take_back()
             raise
-
-    def _refresh_back(self, rewriting: Rewriting, changes: List[_TableChange]) -> None:
-        """Brings a rewriting back to before the changes, which stay in the tables."""
-        self._take_back(changes)
-        self._refresh(rewriting, changes)
-        self._make(changes)
 
     def _new_moment(self, changes: List[_TableChange]) -> _Moment:
         """The next moment on a text of its own."""
@@ -471,9 +464,11 @@ class Session:
         )
 
     @staticmethod
-    def _moment_of(reply: str, changes: List[_TableChange], stretch: _Stretch) -> _Moment:
+    def _moment_of(
+        reply: str, changes: List[_TableChange], stretch: _Stretch, change: Optional[Change] = None
+    ) -> _Moment:
         result = stretch.rewriting.worth(reply)
-        return _Moment(changes, stretch, stretch.position, *result)
+        return _Moment(changes, stretch, stretch.position, change, *result)
 
     def _shut_others(self) -> None:
         """Ends dialogues that are far from the moment, so that few processes are open."""
