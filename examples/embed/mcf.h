@@ -14,7 +14,7 @@
  *   a time has it, always on one thread. mcf_close gives its memory back. Other threads may use other handles and
  *   answers meanwhile.
  * - The program's malloc, realloc and free are one allocator that aligns to 16. No call is made in a signal handler, or
- *   after fork in the child of a process with threads. A thread that makes calls has 64 kB of stack left for them.
+ *   after fork in the child of a process with threads. A thread that makes calls has 256 kB of stack left for them.
  */
 #ifndef MCF_H
 #define MCF_H
@@ -109,9 +109,13 @@ int32_t mcf_open(mcf_handle *handle, const uint8_t *text, size_t length, uint32_
 
 /* Takes a line of a session's commands, without its line feed, such as "cap 5 3" (arc 5 may carry 3), and solves again.
  * A refusal by its number, or MCF_CLOSED: nothing has changed. "show" and "proof" change nothing; "mark NAME" names the
- * present moment, and "back NAME" goes there again; "group" and "end" are refused (29), since a call takes one line. A
- * blank line is refused by 2, and a line of more than 1,024 bytes, blank or not, by 1. A line feed that is left on is a
- * byte of a word, so the line is refused: "show\n" by 2, "cap 5 3\n" by 4. */
+ * present moment, and "back NAME" goes there again. A blank line is refused by 2, wherever it comes, and a line of more
+ * than 1,024 bytes, blank or not, by 1. A line feed that is left on is a byte of a word, so the line is refused: "show\n"
+ * by 2, "cap 5 3\n" by 4.
+ *
+ * "group" opens a group: it and the lines after it are answered by MCF_DONE and change nothing yet, up to "end", which
+ * makes their edits together as one step, or refuses the group by the number of its first line that is refused. mcf_undo
+ * and mcf_redo in between go back or on at once, and the group stays open. */
 int32_t mcf_command(mcf_handle *handle, const uint8_t *line, size_t length);
 
 /* Goes back one moment, or on one: to the very answer that stood there. 25 and 26: there is none. */

@@ -59,12 +59,14 @@ class LibraryCalls(unittest.TestCase):
                                          f"close {arc}", f"add {node} {other} 0 5 1", "undo", "undo", "redo",
                                          "mark here", "back here", "", "what", "x" * 1100, "low 1 1"])
                     self.assertEqual(ours.ask(line), theirs.ask(line), (text, line))
+                    if draws.random() < 0.2:
+                        group = ["group", line, f"add {node} {other} 0 5 1", "", f"cap {arc} {value}", "end"]
+                        self.assertEqual(ours.ask_all(group), theirs.ask_all(group), (text, group))
                 found, wanted = ours.ask("proof"), theirs.ask("proof")
                 self.assertEqual([row.split()[:3] for row in found if row[0] in "sik"],
                                  [row.split()[:3] for row in wanted if row[0] in "sik"])
                 self.assertEqual([row.split()[1:3] for row in found if row[0] == "f"],
                                  [row.split()[1:3] for row in wanted if row[0] == "f"])
-                self.assertEqual(ours.ask("group"), ["r 29"])
 
     def test_faults(self) -> None:
         library = Library()

@@ -174,13 +174,10 @@ class Others(unittest.TestCase):
 
     def test_lemon(self) -> None:
         compiler = shutil.which("c++")
-        source = re.search(r"```c\+\+\n(.*?)```", (TOP / "docs/OTHERS.md").read_text(), re.S)
-        assert source is not None
         with tempfile.TemporaryDirectory() as folder:
-            file, program = Path(folder, "answer.cpp"), Path(folder, "answer")
-            file.write_text(source[1])
+            file, program = TOP / "examples/others/lemon.cpp", Path(folder, "answer")
             if compiler is None or subprocess.run([compiler, "-o", program, file], capture_output=True).returncode != 0:
-                self.skipTest("no C++ compiler with LEMON here: the program of docs/OTHERS.md is not run")
+                self.skipTest("no C++ compiler with LEMON here: examples/others/lemon.cpp is not run")
             draws = random.Random(42)
             asked = 0
             while asked < 40:

@@ -126,19 +126,19 @@ def wrong_claim(text):
 
 
 def wrong_rows(readme, architecture):
-    """Which crates have no row, or none of one line, in the tables of README and ARCHITECTURE; what these rows and
+    """Which crates have no row, or none of one line, in the table of README and the list of ARCHITECTURE; what these rows and
     the lists of ARCHITECTURE name and a crate has not; and which source does not say in its first line what it is."""
     known, wrong, count = {crate: functions(crate) for crate in CRATES}, [], 0
-    for page, text, cells in [("README", readme, 3), ("ARCHITECTURE", architecture, 2)]:
-        rows = [row for row in re.findall(r"(?m)^\| `.*\|$", text) if row.count("|") == cells + 1]
-        rows = [(re.findall(NAME, row.split("|")[1]), row) for row in rows]
+    for page, rows, end in [("README", re.findall(r"(?m)^\| (`.*\|)$", readme), "|"),
+                            ("ARCHITECTURE", re.findall(r"(?m)^- (`.*)$", architecture.split("## The repository")[0]), ":")]:
+        rows = [(re.findall(NAME, row.split(end)[0]), row) for row in rows]
         for crate in CRATES:
             its = [row for names, row in rows if crate in names]
             count += 1
-            if len(its) != 1 or len(its[0]) > 120:
+            if len(its) != 1 or len(its[0]) > 118:
                 wrong.append(f"{page}: {crate} has no row of one line of at most 120 characters: {its}")
             elif page == "README":
-                names = re.findall(NAME, its[0].split("|")[3])
+                names = re.findall(NAME, its[0].split("|")[2])
                 count += len(names)
                 wrong += [f"{page}: {crate} has no {name}" for name in names if not named(known[crate], name)]
     calls = architecture.split("## One run, function by function")[1].split("\n## ")[0]

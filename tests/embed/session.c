@@ -11,7 +11,7 @@
 #include <stdlib.h>
 #include <string.h>
 
-enum { NODES = 4, ARCS = 5, LINE = 1024, MANY = 50000, STACK = 64 * 1024 };
+enum { NODES = 4, ARCS = 5, LINE = 1024, MANY = 50000, STACK = 256 * 1024 };
 
 /* The diamond of examples/diamond: its best flow and greatest potentials are in its answer.sol. */
 static const char DIAMOND[] =
@@ -119,8 +119,43 @@ static void odd_lines(void) {
     printf("with its line feed, show: %" PRId32, command(&handle, "show\n"));
     printf(", cap 5 3: %" PRId32 ", undo: %" PRId32 "\n", command(&handle, "cap 5 3\n"), command(&handle, "undo \n"));
     printf("two lines in one: %" PRId32 "\n", command(&handle, "cap 5 3\ncap 4 3"));
-    printf("group: %" PRId32 ", end: %" PRId32 "\n", command(&handle, "group"), command(&handle, "end"));
     look(&handle);
+    mcf_close(&handle);
+}
+
+/* Takes lines one after the other, and prints what each answers. */
+static void lines(mcf_handle *handle, const char *const *line) {
+    printf("  ");
+    for (; *line; line++) printf("%s: %" PRId32 "%s", *line, command(handle, *line), line[1] ? ", " : "\n");
+}
+
+static void groups(void) {
+    mcf_handle handle = MCF_HANDLE_INIT;
+    mcf_fault fault;
+    if (open_text(&handle, DIAMOND, &fault) != MCF_DONE) return;
+    printf("a group\n");
+    lines(&handle, (const char *const[]){"end", "group", "cap 1 1", "", "cap 2 3", NULL});
+    look(&handle);
+    lines(&handle, (const char *const[]){"end", NULL});
+    look(&handle);
+    printf("  undo: %" PRId32 "\n", mcf_undo(&handle));
+    lists(&handle, ARCS, NODES);
+    printf("groups that are refused\n");
+    lines(&handle, (const char *const[]){"group", "cap 5 3", "cap 9 1", "undo", "end", NULL});
+    lines(&handle, (const char *const[]){"group", "group", "end", "group 1", NULL});
+    printf("  group: %" PRId32, command(&handle, "group"));
+    printf(", of 1,025 bytes: %" PRId32, filled(&handle, "cap 5 4", LINE + 1));
+    printf(", end: %" PRId32 "\n", command(&handle, "end"));
+    look(&handle);
+    printf("a step while a group is open\n");
+    lines(&handle, (const char *const[]){"cap 5 0", "group", "cap 5 3", NULL});
+    printf("  undo: %" PRId32 "\n", mcf_undo(&handle));
+    lines(&handle, (const char *const[]){"end", NULL});
+    look(&handle);
+    lines(&handle, (const char *const[]){"group", "cap 5 0", NULL});
+    mcf_close(&handle);
+    printf("opened again: %" PRId32 "\n", open_text(&handle, DIAMOND, &fault));
+    lines(&handle, (const char *const[]){"end", NULL});
     mcf_close(&handle);
 }
 
@@ -222,6 +257,7 @@ static void many(void) {
 static void *all(void *nothing) {
     statuses();
     odd_lines();
+    groups();
     refuse();
     many();
     return nothing;

@@ -1,5 +1,5 @@
 -- Pushes one after the other on the way to a wanted flow.
-use Rattle.std.proofs.Common.{ℕ, ◌+◌, ◌<◌, ℤ, pos, negsuc, neg_ℤ, ◌-ℤ◌, ◌≤ℤ◌, List, arith}
+use Rattle.std.proofs.Common.{◌≡◌, ◌≢◌, ℕ, ◌+◌, ◌<◌, ℤ, pos, negsuc, neg_ℤ, ◌-ℤ◌, ◌+ℤ◌, ◌≤ℤ◌, List, ap, arith}
 use Rattle.std.proofs.lemmas.Int.{ints}
 use Rattle.dimacs_text.specs.declared.problem.ArcRow.{ArcRow}
 use Rattle.residual_graph.specs.declared.residual.ResidualArc.{ResidualArc}
@@ -7,10 +7,12 @@ use Rattle.residual_graph.specs.Residual.{number_at}
 use Rattle.augmentation.specs.Push.{IsTransfer, positive_part, push_along}
 use Rattle.augmentation.proofs.SettleLemmas.{ArePushes-more, ArePushes-none, IsMoving, IsRoom, moving_after, one_push}
 use Rattle.augmentation.specs.Decomposition.{IsLedOn, IsOnTheWay}
-use Rattle.augmentation.specs.Trail.{IsRoute, Wants}
+use Rattle.augmentation.specs.Trail.{AreLimits, IsRoute, IsRouteBack, Wants, hops_back}
+use Rattle.augmentation.specs.declared.trail.Trail.{Trail}
+use Rattle.augmentation.proofs.PushLemmas.{IsShift-along, at_other, at_same}
 use Rattle.std.specs.List.{All}
 use Rattle.augmentation.specs.Difference.{AreNearer, lack_of, spare_of}
-use Rattle.augmentation.proofs.TrailLemmas.{apart_of, nearer_along}
+use Rattle.augmentation.proofs.TrailLemmas.{apart_of, limits_pushed, nearer_along}
 use Rattle.augmentation.proofs.DifferenceLemmas.{are_nearer-none, are_nearer-trans, plan_nearer}
 
 pub led-none : (nodes : ℕ) (rows : List ArcRow) (x y e : List ℤ) → IsOnTheWay nodes rows x y e → IsLedOn nodes rows 0 x y e x y e
@@ -61,3 +63,14 @@ led_one nodes rows x y e f hops root t m state route all at_least_1 root_in in_e
       nearer = nearer_along rows x y m hops state.plan.flow.same_length at_least_1 apart all;
       pushes = one_push nodes rows x e hops root t m f moving room at_least_1 root_in in_excess in_deficit transfer;
     }
+
+-- as much less is wanted along a walk as was pushed along it, and lies more where it began
+pub limits_after : (nodes : ℕ) (rows : List ArcRow) (x y e f : List ℤ) (trail : Trail) (root t : ℕ) (m : ℤ) → IsOnTheWay nodes rows x y e → IsRouteBack rows (hops_back trail.hops.items trail.len) root t → pos 1 ≤ℤ m → m ≤ℤ number_at e root → number_at e t ≤ℤ neg_ℤ m → IsTransfer root t m e f
+    → AreLimits x y (number_at e t) trail → AreLimits (push_along (hops_back trail.hops.items trail.len) m x) y (number_at f t) trail
+limits_after nodes rows x y e f trail root t m state route at_least_1 in_excess in_deficit transfer are =
+    let hops = hops_back trail.hops.items trail.len in
+    let apart = apart_of rows hops root t route.leads route.simple route.arcs in
+    let other : t ≢ root = λ same. (let here : number_at e t ≡ number_at e root = ap (number_at e) same in absurd (omega (arith, ints, here, at_least_1, in_excess, in_deficit))) in
+    let now = transfer.by_node t in
+    let more : number_at f t ≡ number_at e t +ℤ m = omega (arith, ints, now, at_same t m, at_other root m t other) in
+    limits_pushed x (push_along hops m x) y (number_at e t) (number_at f t) m trail.hops.items trail.limits.items trail.len (IsShift-along rows hops m x state.plan.flow.same_length apart).on_path more are

@@ -1,6 +1,6 @@
 -- Walks back, hop by hop, and the routes that they leave.
-use Rattle.std.proofs.Common.{◌≡◌, ◌≢◌, ℕ, zero, suc, ◌+◌, ◌<◌, ◌≤◌, ℤ, pos, ◌≤ℤ◌, List, [], ◌∷◌, length, refl, sym, ap, subst, ◌∙◌, inl, inr, arith, add-one}
-use Rattle.std.specs.Prelude.{slice_index_or, slice_set}
+use Rattle.std.proofs.Common.{◌≡◌, ◌≢◌, ℕ, zero, suc, ◌+◌, ◌-◌, ◌<◌, ◌≤◌, ℤ, pos, neg_ℤ, ◌+ℤ◌, ◌≤ℤ◌, List, [], ◌∷◌, length, sym, ap, subst, ◌∙◌, inl, inr, arith, add-one}
+use Rattle.std.specs.Prelude.{slice_set}
 use Rattle.std.specs.List.{All, AllPairs}
 use Rattle.std.proofs.lemmas.Int.{ints}
 use Rattle.std.proofs.lemmas.Bool.{cases_eq}
@@ -11,10 +11,12 @@ use Rattle.dimacs_text.specs.declared.problem.ArcRow.{ArcRow}
 use Rattle.residual_graph.specs.declared.residual.ResidualArc.{ResidualArc}
 use Rattle.residual_graph.specs.declared.residual.Way.{Way}
 use Rattle.residual_graph.specs.declared.residual.Way.TheVariants.{Forward, Backward}
+use Rattle.residual_graph.specs.Limits.{flow_limit}
 use Rattle.residual_graph.specs.Residual.{IsPseudoflow, IsWithinRow, end_at, number_at, room_of, row_at, start_at}
 use Rattle.augmentation.specs.Push.{HasRoom, IsPath, moved, nodes_on, push_along}
 use Rattle.augmentation.proofs.PushLemmas.{AreApart, Avoids, HasRoom-set, IsFlow-set, IsWithin-moved}
-use Rattle.augmentation.specs.Trail.{CanMove, IsRoute, IsRouteBack, IsShiftable, IsStamped, IsTrail, Wants, hop_at, hops_back, stamp_at}
+use Rattle.shortest_paths.specs.NodeLists.{node_at}
+use Rattle.augmentation.specs.Trail.{AreLimited, AreLimits, CanMove, IsInRange, IsNextLimit, IsRoute, IsRouteBack, IsShiftable, IsTrail, IsWalkBack, Wants, hop_at, hops_back, place_at, want_along}
 use Rattle.augmentation.specs.Difference.{AreNearer, IsNearer, IsPlan, IsPlanned, want_of}
 use Rattle.augmentation.specs.declared.trail.Trail.{Trail}
 use Rattle.augmentation.proofs.DifferenceLemmas.{are_nearer-none, are_nearer-trans, nearer_flow}
@@ -42,104 +44,143 @@ at_hop P hops (suc n) j lt all = elim (cases_eq j n) [
   | inr ne ↦ at_hop P hops n j (omega (arith, lt, ne)) (All-tail P (hop_at hops n) (hops_back hops n) all)
 ]
 
--- a hop past the first n is written
-hops_back-set : (hops : List ResidualArc) (n j : ℕ) (h : ResidualArc) → n ≤ j → hops_back (slice_set hops j h) n ≡ hops_back hops n
-hops_back-set hops zero j h le = refl
-hops_back-set hops (suc n) j h le =
-    let here : hop_at (slice_set hops j h) n ≡ hop_at hops n = get_or-set_other hops j n h no_hop (omega (arith, le)) in
-    let rest : hops_back (slice_set hops j h) n ≡ hops_back hops n = hops_back-set hops n j h (omega (arith, le)) in
-    ap (λ (g : ResidualArc). g ∷ hops_back (slice_set hops j h) n) here ∙ ap (λ (gs : List ResidualArc). hop_at hops n ∷ gs) rest
-
 pub hops_back-one : (hops : List ResidualArc) (n : ℕ) → hops_back hops (n + 1) ≡ hop_at hops n ∷ hops_back hops n
 hops_back-one hops n = ap (hops_back hops) (add-one n)
-
-hops_back-more : (hops : List ResidualArc) (n : ℕ) (h : ResidualArc) → n < length hops → hops_back (slice_set hops n h) (n + 1) ≡ h ∷ hops_back hops n
-hops_back-more hops n h lt =
-    hops_back-one (slice_set hops n h) n
-    ∙ ap (λ (g : ResidualArc). g ∷ hops_back (slice_set hops n h) n) (get_or-set_same hops n h no_hop lt)
-    ∙ ap (λ (gs : List ResidualArc). h ∷ gs) (hops_back-set hops n n h (omega arith))
 
 pub arcs_planned : (nodes : ℕ) (rows : List ArcRow) (x y : List ℤ) (hops : List ResidualArc) → IsPlan nodes rows x y → All (λ h. h.arc < length rows) hops → All (λ h. IsPlanned x y h.arc) hops
 arcs_planned nodes rows x y hops plan all = All-weaker (λ h. h.arc < length rows) (λ h. IsPlanned x y h.arc) (λ h lt. record { nodes = nodes; rows = rows; plan = plan; is_arc = lt }) hops all
 
+-- what is true of each of the first hops, by its place
+pub all_back : (P : ResidualArc → Type 0) (hops : List ResidualArc) (n : ℕ) → ((j : ℕ) → j < n → P (hop_at hops j)) → All P (hops_back hops n)
+all_back P hops zero each = All-nil P
+all_back P hops (suc n) each = All-cons P (hop_at hops n) (hops_back hops n) (each n (omega arith)) (all_back P hops n (λ j lt. each j (omega (arith, lt))))
+
 -- ---- a walk goes on, and back
-
--- none of these nodes is given another stamp
-stamped_set : (stamps : List ℕ) (stamp v other : ℕ) (nodes : List ℕ) → All (λ u. v ≢ u) nodes → All (IsStamped stamps stamp) nodes → All (IsStamped (slice_set stamps v other) stamp) nodes
-stamped_set stamps stamp v other nodes off all j d lt =
-    let has = all j d lt in
-    (omega (arith, has.0, length-set stamps v other), get_or-set_other stamps v (slice_index_or nodes j d) other 0 (λ same. off j d lt (sym same)) ∙ has.1)
-
-route_more : (rows : List ArcRow) (stamps : List ℕ) (stamp : ℕ) (hops : List ResidualArc) (t from : ℕ) (h : ResidualArc) → from < length stamps → stamp_at stamps from ≢ stamp → h.arc < length rows → start_at rows h.arc h.way ≡ from
-    → IsRouteBack rows stamps stamp hops (end_at rows h.arc h.way) t → IsRouteBack rows (slice_set stamps from stamp) stamp (h ∷ hops) from t
-route_more rows stamps stamp hops t from h lt new is_arc starts route =
-    let nodes = nodes_on rows hops (end_at rows h.arc h.way) in
-    let off : All (λ u. from ≢ u) nodes = All-weaker (IsStamped stamps stamp) (λ u. from ≢ u) (λ u has same. new (ap (stamp_at stamps) same ∙ has.1)) nodes route.stamped in
-    record {
-      leads = (starts, route.leads);
-      simple = AllPairs-cons ◌≢◌ from nodes off route.simple;
-      stamped = All-cons (IsStamped (slice_set stamps from stamp) stamp) from nodes (omega (arith, lt, length-set stamps from stamp), get_or-set_same stamps from stamp 0 lt) (stamped_set stamps stamp from stamp nodes off route.stamped);
-      arcs = All-cons (λ g. g.arc < length rows) h hops is_arc route.arcs;
-    }
-
-pub trail_more : (rows : List ArcRow) (before after : Trail) (t from : ℕ) (h : ResidualArc) → h.arc < length rows → start_at rows h.arc h.way ≡ from → IsTrail rows before t (end_at rows h.arc h.way)
-    → before.len < length before.hops.items → from < length before.stamps.items → stamp_at before.stamps.items from ≢ before.stamp
-    → after.hops.items ≡ slice_set before.hops.items before.len h → after.len ≡ before.len + 1 → after.stamps.items ≡ slice_set before.stamps.items from before.stamp → after.stamp ≡ before.stamp
-    → IsTrail rows after t from
-trail_more rows before after t from h is_arc starts trail room from_in new hops len stamps stamp =
-    let more = route_more rows before.stamps.items before.stamp (hops_back before.hops.items before.len) t from h from_in new is_arc starts trail.route in
-    let walk : hops_back after.hops.items after.len ≡ h ∷ hops_back before.hops.items before.len =
-    ap (λ (gs : List ResidualArc). hops_back gs after.len) hops ∙ ap (hops_back (slice_set before.hops.items before.len h)) len ∙ hops_back-more before.hops.items before.len h room in
-    record {
-      fits = omega (arith, len, room, ap length hops, length-set before.hops.items before.len h);
-      route = subst (λ (gs : List ResidualArc). IsRouteBack rows after.stamps.items after.stamp gs from t) (sym walk)
-          (subst (λ (s : List ℕ). IsRouteBack rows s after.stamp (h ∷ hops_back before.hops.items before.len) from t) (sym stamps)
-          (subst (λ (n : ℕ). IsRouteBack rows (slice_set before.stamps.items from before.stamp) n (h ∷ hops_back before.hops.items before.len) from t) (sym stamp) more));
-    }
-
-route_less : (rows : List ArcRow) (stamps : List ℕ) (stamp other : ℕ) (h : ResidualArc) (hops : List ResidualArc) (v t : ℕ) → IsRouteBack rows stamps stamp (h ∷ hops) v t → IsRouteBack rows (slice_set stamps v other) stamp hops (end_at rows h.arc h.way) t
-route_less rows stamps stamp other h hops v t route =
-    let rest = nodes_on rows hops (end_at rows h.arc h.way) in
-    record {
-      leads = route.leads.1;
-      simple = AllPairs-tail ◌≢◌ v rest route.simple;
-      stamped = stamped_set stamps stamp v other rest (AllPairs-head ◌≢◌ v rest route.simple) (All-tail (IsStamped stamps stamp) v rest route.stamped);
-      arcs = All-tail (λ g. g.arc < length rows) h hops route.arcs;
-    }
-
-pub trail_less : (rows : List ArcRow) (before after : Trail) (other t v w : ℕ) → w ≡ end_at rows (hop_at before.hops.items after.len).arc (hop_at before.hops.items after.len).way → before.len ≡ after.len + 1 → after.hops.items ≡ before.hops.items → after.stamps.items ≡ slice_set before.stamps.items v other → after.stamp ≡ before.stamp → IsTrail rows before t v
-    → IsTrail rows after t w
-trail_less rows before after other t v w ends len hops stamps stamp trail =
-    let h = hop_at before.hops.items after.len in
-    let rest = hops_back before.hops.items after.len in
-    let walk : hops_back before.hops.items before.len ≡ h ∷ rest = ap (hops_back before.hops.items) len ∙ hops_back-one before.hops.items after.len in
-    let less = subst (λ (u : ℕ). IsRouteBack rows (slice_set before.stamps.items v other) before.stamp rest u t) (sym ends)
-    (route_less rows before.stamps.items before.stamp other h rest v t (subst (λ (gs : List ResidualArc). IsRouteBack rows before.stamps.items before.stamp gs v t) walk trail.route)) in
-    record {
-      fits = omega (arith, len, ap length hops, trail.fits);
-      route = subst (λ (gs : List ResidualArc). IsRouteBack rows after.stamps.items after.stamp gs w t) (sym (ap (λ (gs : List ResidualArc). hops_back gs after.len) hops))
-          (subst (λ (s : List ℕ). IsRouteBack rows s after.stamp rest w t) (sym stamps)
-          (subst (λ (n : ℕ). IsRouteBack rows (slice_set before.stamps.items v other) n rest w t) (sym stamp) less));
-    }
-
--- other tables are written
-pub trail_same : (rows : List ArcRow) (before after : Trail) (t v : ℕ) → after.hops.items ≡ before.hops.items → after.len ≡ before.len → after.stamps.items ≡ before.stamps.items → after.stamp ≡ before.stamp → IsTrail rows before t v → IsTrail rows after t v
-trail_same rows before after t v hops len stamps stamp trail =
-    let walk : hops_back after.hops.items after.len ≡ hops_back before.hops.items before.len = ap (λ (gs : List ResidualArc). hops_back gs after.len) hops ∙ ap (hops_back before.hops.items) len in
-    record {
-      fits = omega (arith, len, ap length hops, trail.fits);
-      route = subst (λ (gs : List ResidualArc). IsRouteBack rows after.stamps.items after.stamp gs v t) (sym walk)
-          (subst (λ (s : List ℕ). IsRouteBack rows s after.stamp (hops_back before.hops.items before.len) v t) (sym stamps)
-          (subst (λ (n : ℕ). IsRouteBack rows before.stamps.items n (hops_back before.hops.items before.len) v t) (sym stamp) trail.route));
-    }
 
 -- what is true of each node is true of the first one
 first_on : (P : ℕ → Type 0) (rows : List ArcRow) (hops : List ResidualArc) (v : ℕ) → All P (nodes_on rows hops v) → P v
 first_on P rows [] v all = All-head P v [] all
 first_on P rows (h ∷ hops) v all = All-head P v (nodes_on rows hops (end_at rows h.arc h.way)) all
 
-pub trail_node_in : (rows : List ArcRow) (trail : Trail) (t v : ℕ) → IsTrail rows trail t v → v < length trail.stamps.items
-trail_node_in rows trail t v is = (first_on (IsStamped trail.stamps.items trail.stamp) rows (hops_back trail.hops.items trail.len) v is.route.stamped).0
+pub trail_node_in : (rows : List ArcRow) (trail : Trail) (t v : ℕ) → IsTrail rows trail t v → v < length trail.places.items
+trail_node_in rows trail t v is = subst (λ (u : ℕ). u < length trail.places.items) is.came_to (is.placed trail.len (omega arith)).0
+
+-- the first hops of a walk, and how far the places of their nodes go
+pub record IsPassed (rows : List ArcRow) (places : List ℕ) (hops : List ResidualArc) (n v t : ℕ) : Type 0 where
+  pub route : IsRouteBack rows hops v t
+  pub places_to : All (λ u. place_at places u ≤ n) (nodes_on rows hops v)
+
+passed : (rows : List ArcRow) (nodes : List ℕ) (hops : List ResidualArc) (places : List ℕ) (len t v : ℕ) → IsWalkBack rows nodes hops places len t v → (n : ℕ) → n ≤ len → IsPassed rows places (hops_back hops n) n (node_at nodes n) t
+passed rows nodes hops places len t v walk zero le = record {
+  route = record {
+    leads = walk.begins;
+    simple = AllPairs-cons ◌≢◌ (node_at nodes 0) [] (All-nil (λ u. node_at nodes 0 ≢ u)) (AllPairs-nil ◌≢◌);
+    arcs = All-nil (λ h. h.arc < length rows);
+  };
+  places_to = All-cons (λ u. place_at places u ≤ 0) (node_at nodes 0) [] (omega (arith, (walk.placed 0 (omega arith)).1)) (All-nil (λ u. place_at places u ≤ 0));
+}
+passed rows nodes hops places len t v walk (suc n) le =
+    let before = passed rows nodes hops places len t v walk n (omega (arith, le)) in
+    let h = hop_at hops n in
+    let rest = hops_back hops n in
+    let hop = walk.linked n (omega (arith, le)) in
+    let here = node_at nodes (suc n) in
+    let route = subst (λ (u : ℕ). IsRouteBack rows rest u t) (sym hop.ends) before.route in
+    let places_to = subst (λ (u : ℕ). All (λ w. place_at places w ≤ n) (nodes_on rows rest u)) (sym hop.ends) before.places_to in
+    let others = nodes_on rows rest (end_at rows h.arc h.way) in
+    let placed = (walk.placed (suc n) le).1 in
+    record {
+      route = record {
+        leads = (hop.starts, route.leads);
+        simple = AllPairs-cons ◌≢◌ here others (All-weaker (λ w. place_at places w ≤ n) (λ w. here ≢ w) (λ w lower same. (let place : place_at places here ≡ place_at places w = ap (place_at places) same in absurd (omega (arith, place, placed, lower)))) others places_to) route.simple;
+        arcs = All-cons (λ g. g.arc < length rows) h rest hop.is_arc route.arcs;
+      };
+      places_to = All-cons (λ w. place_at places w ≤ suc n) here others (omega (arith, placed)) (All-weaker (λ w. place_at places w ≤ n) (λ w. place_at places w ≤ suc n) (λ w lower. omega (arith, lower)) others places_to);
+    }
+
+-- the hops of a walk are a route
+pub walked : (rows : List ArcRow) (trail : Trail) (t v : ℕ) → IsTrail rows trail t v → IsRouteBack rows (hops_back trail.hops.items trail.len) v t
+walked rows trail t v walk =
+    subst (λ (u : ℕ). IsRouteBack rows (hops_back trail.hops.items trail.len) u t) walk.came_to
+    (passed rows trail.nodes.items trail.hops.items trail.places.items trail.len t v walk trail.len (omega arith)).route
+
+-- ---- how much more may be pushed
+
+pub limits_none : (x y : List ℤ) (held : ℤ) (hops : List ResidualArc) (limits : List ℤ) → AreLimited x y held hops limits 0
+limits_none x y held hops limits = record {
+  fits = omega arith;
+  in_range = λ j lt. absurd (omega (arith, lt));
+  each = λ i j le lt. absurd (omega (arith, lt));
+}
+
+pub limits_less : (x y : List ℤ) (held : ℤ) (hops : List ResidualArc) (limits : List ℤ) (len keep : ℕ) → keep ≤ len → AreLimited x y held hops limits len → AreLimited x y held hops limits keep
+limits_less x y held hops limits len keep le are = record {
+  fits = omega (arith, le, are.fits);
+  in_range = λ j lt. are.in_range j (omega (arith, lt, le));
+  each = λ i j before lt. are.each i j before (omega (arith, lt, le));
+}
+
+pub limits_more : (x y : List ℤ) (held : ℤ) (trail : Trail) (h : ResidualArc) (limit : ℤ) → trail.len < length trail.hops.items → trail.len < length trail.limits.items → IsNextLimit x y held trail h limit → AreLimits x y held trail
+    → AreLimited x y held (slice_set trail.hops.items trail.len h) (slice_set trail.limits.items trail.len limit) (trail.len + 1)
+limits_more x y held trail h limit hops_room room next are =
+    let hops = trail.hops.items in
+    let limits = trail.limits.items in
+    let len = trail.len in
+    let last : number_at (slice_set limits len limit) len ≡ limit = get_or-set_same limits len limit (pos 0) room in
+    let last_hop : hop_at (slice_set hops len h) len ≡ h = get_or-set_same hops len h no_hop hops_room in
+    record {
+      fits = omega (arith, room, length-set limits len limit);
+      in_range = λ j lt. (elim (cases_eq j len) [
+        | inl same ↦ subst (λ (i : ℕ). IsInRange (number_at (slice_set limits len limit) i)) (sym same) (subst IsInRange (sym last) next.in_range)
+        | inr ne ↦ subst IsInRange (sym (get_or-set_other limits len j limit (pos 0) ne)) (are.in_range j (omega (arith, lt, ne)))
+      ]);
+      each = λ i j le lt. (elim (cases_eq i len) [
+        | inl same ↦ (let at : j ≡ len = omega (arith, same, le, lt) in
+            let value : number_at (slice_set limits len limit) j ≡ limit = ap (number_at (slice_set limits len limit)) at ∙ last in
+            let hop : hop_at (slice_set hops len h) i ≡ h = ap (hop_at (slice_set hops len h)) same ∙ last_hop in
+            subst (λ (g : ResidualArc). number_at (slice_set limits len limit) j ≤ℤ (want_along x y g +ℤ held)) (sym hop) (subst (λ (z : ℤ). z ≤ℤ (want_along x y h +ℤ held)) (sym value) next.here))
+        | inr ne ↦ (let hop : hop_at (slice_set hops len h) i ≡ hop_at hops i = get_or-set_other hops len i h no_hop ne in
+            subst (λ (g : ResidualArc). number_at (slice_set limits len limit) j ≤ℤ (want_along x y g +ℤ held)) (sym hop) (elim (cases_eq j len) [
+              | inl same ↦ (let value : number_at (slice_set limits len limit) j ≡ limit = ap (number_at (slice_set limits len limit)) same ∙ last in
+                  let lower = next.before (omega (arith, ne, le, same)) in
+                  let before = are.each i (len - 1) (omega (arith, ne, le, same)) (omega (arith, ne, le, same)) in
+                  omega (arith, ints, value, lower, before))
+              | inr other ↦ (let value : number_at (slice_set limits len limit) j ≡ number_at limits j = get_or-set_other limits len j limit (pos 0) other in
+                  let before = are.each i j le (omega (arith, lt, other)) in
+                  omega (arith, ints, value, before))
+            ]))
+      ]);
+    }
+
+want_in : (way : Way) (x y : ℤ) → pos 0 ≤ℤ x → x ≤ℤ pos flow_limit → pos 0 ≤ℤ y → y ≤ℤ pos flow_limit → (neg_ℤ (pos flow_limit) ≤ℤ want_of way x y) × (want_of way x y ≤ℤ pos flow_limit)
+want_in Forward x y a b d e = (omega (arith, ints, a, b, d, e), omega (arith, ints, a, b, d, e))
+want_in Backward x y a b d e = (omega (arith, ints, a, b, d, e), omega (arith, ints, a, b, d, e))
+
+-- what is wanted along an arc is no more than what can flow there
+pub want_small : (nodes : ℕ) (rows : List ArcRow) (x y : List ℤ) (h : ResidualArc) → IsPlan nodes rows x y → h.arc < length rows → (neg_ℤ (pos flow_limit) ≤ℤ want_along x y h) × (want_along x y h ≤ℤ pos flow_limit)
+want_small nodes rows x y h plan is_arc =
+    let row = plan.flow.rows h.arc is_arc in
+    let in_x = plan.flow.within h.arc is_arc in
+    let in_y = plan.wanted.within h.arc is_arc in
+    want_in h.way (number_at x h.arc) (number_at y h.arc) (omega (arith, ints, row.low_at_least_0, in_x.low_kept)) (omega (arith, ints, row.cap_in, in_x.cap_kept)) (omega (arith, ints, row.low_at_least_0, in_y.low_kept)) (omega (arith, ints, row.cap_in, in_y.cap_kept))
+
+want_moved : (way : Way) (x y m : ℤ) → want_of way (moved way x m) y +ℤ m ≡ want_of way x y
+want_moved Forward x y m = omega (arith, ints)
+want_moved Backward x y m = omega (arith, ints)
+
+-- so much was pushed along all hops, and came to where the walk began
+pub limits_pushed : (x x' y : List ℤ) (held held' m : ℤ) (hops : List ResidualArc) (limits : List ℤ) (len : ℕ) → All (λ h. number_at x' h.arc ≡ moved h.way (number_at x h.arc) m) (hops_back hops len) → held' ≡ held +ℤ m → AreLimited x y held hops limits len → AreLimited x' y held' hops limits len
+limits_pushed x x' y held held' m hops limits len all more are = record {
+  fits = are.fits;
+  in_range = are.in_range;
+  each = λ i j le lt.
+      (let h = hop_at hops i in
+      let at = at_hop (λ g. number_at x' g.arc ≡ moved g.way (number_at x g.arc) m) hops len i (omega (arith, le, lt)) all in
+      let less = want_moved h.way (number_at x h.arc) (number_at y h.arc) m in
+      let want : want_along x' y h ≡ want_of h.way (moved h.way (number_at x h.arc) m) (number_at y h.arc) = ap (λ (z : ℤ). want_of h.way z (number_at y h.arc)) at in
+      let before = are.each i j le lt in
+      omega (arith, ints, less, want, before, more));
+}
 
 -- ---- routes
 
@@ -183,8 +224,8 @@ room_of_wants nodes rows x y m (h ∷ hops) flow arcs all = (
   room_of_wants nodes rows x y m hops flow (All-tail (λ g. g.arc < length rows) h hops arcs) (All-tail (Wants x y m) h hops all),
 )
 
-pub route_of : (nodes : ℕ) (rows : List ArcRow) (x y : List ℤ) (stamps : List ℕ) (stamp : ℕ) (m : ℤ) (hops : List ResidualArc) (v t : ℕ) → IsPlan nodes rows x y → IsRouteBack rows stamps stamp hops v t → All (Wants x y m) hops → IsRoute rows x m hops v t
-route_of nodes rows x y stamps stamp m hops v t plan route all = record {
+pub route_of : (nodes : ℕ) (rows : List ArcRow) (x y : List ℤ) (m : ℤ) (hops : List ResidualArc) (v t : ℕ) → IsPlan nodes rows x y → IsRouteBack rows hops v t → All (Wants x y m) hops → IsRoute rows x m hops v t
+route_of nodes rows x y m hops v t plan route all = record {
   leads = route.leads;
   simple = route.simple;
   arcs = route.arcs;

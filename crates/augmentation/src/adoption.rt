@@ -16,7 +16,7 @@ use crate::certificate::{certifies, is_within};
 use crate::decomposition::push_towards;
 use crate::draft::Draft;
 use crate::excess::Excess;
-use crate::rounds::finish;
+use crate::rounds::{FIRST_PUSHES, finish, push_first};
 use crate::scratch::Scratch;
 use crate::setting::Setting;
 use crate::tracked::Tracked;
@@ -25,7 +25,8 @@ use crate::wanted::shift_potentials;
 use proposals::Wanted;
 use residual_graph::Graph;
 
-/// With no more nodes out of balance than these no proposal is made: so few pushes are quicker than one look at all arcs.
+/// With no more nodes out of balance than these no proposal of a greatest flow is made: so few pushes are quicker than one
+/// look at all arcs.
 const FEW: usize = 32;
 
 /// Whether a proposal has an entry for each arc and each node, and its flow keeps the bounds.
@@ -165,8 +166,44 @@ pub fn adopt(
     Some(pushes)
 }
 
-/// Pushes flow until no node in excess reaches a node in deficit, and counts the pushes. The first time, and where many
-/// nodes are out of balance, a proposal is made and tried before.
+/// Whether a proposal pays: for a flow of least cost where both excess and deficit are left, and for a greatest flow where
+/// many nodes are out of balance, since a search for one settles few nodes.
+fn pays(graph: &Graph, excess: &Excess) -> bool {
+    excess.are_more_than(FEW) || (graph.first_row() == 0 && excess.has_both())
+}
+
+/// Makes a proposal, takes it where it is certified, and pushes until no node in excess reaches a node in deficit; counts
+/// the pushes.
+fn push_proposed(
+    graph: &Graph,
+    flow: &mut Tracked<i64>,
+    excess: &mut Excess,
+    scratch: &mut Scratch,
+) -> u64
+    requires flow_tracked { IsTracked flow.old }
+    requires graph { HasEntries (length scratch.old.potentials.items) graph.now }
+    requires certified { IsReducedCostOptimal graph.now.rows flow.old.entries.items scratch.old.potentials.items }
+    requires potentials_in { ArePotentials (length scratch.old.potentials.items) label_floor scratch.old.potentials.items }
+    requires excess_in { length excess.old ≡ length scratch.old.potentials.items }
+    requires scratch { IsScratchFor (length scratch.old.potentials.items) scratch.old }
+    requires small { AreSmall excess.old }
+    ensures flow_written { IsWritten flow.old flow.new }
+    ensures certified { IsReducedCostOptimal graph.now.rows flow.new.entries.items scratch.new.potentials.items }
+    ensures excess_in { length excess.new ≡ length excess.old }
+    ensures small { AreSmall excess.new }
+    ensures pushed { ArePushes graph.now.rows result flow.old.entries.items excess.old flow.new.entries.items excess.new }
+    ensures parted { IsParted graph.now.rows flow.new.entries.items excess.new }
+    ensures scratch { IsScratchFor (length scratch.old.potentials.items) scratch.new }
+{
+    scratch.attempt.propose(graph, &flow.entries, excess.entries(), &scratch.potentials);
+    if let Some(adopted) = adopt(graph, flow, excess, scratch) {
+        return adopted + finish(graph, flow, excess, scratch);
+    }
+    finish(graph, flow, excess, scratch)
+}
+
+/// Pushes flow until no node in excess reaches a node in deficit, and counts the pushes. The first time, and where the
+/// first pushes leave much to do, a proposal is made and tried.
 pub fn push_all(
     graph: &Graph,
     flow: &mut Tracked<i64>,
@@ -188,11 +225,16 @@ pub fn push_all(
     ensures parted { IsParted graph.now.rows flow.new.entries.items excess.new }
     ensures scratch { IsScratchFor (length scratch.old.potentials.items) scratch.new }
 {
-    if scratch.attempt.proposals.is_fresh() || excess.are_more_than(FEW) {
-        scratch.attempt.propose(graph, &flow.entries, excess.entries(), &scratch.potentials);
-        if let Some(adopted) = adopt(graph, flow, excess, scratch) {
-            return adopted + finish(graph, flow, excess, scratch);
-        }
+    if scratch.attempt.proposals.is_fresh() {
+        return push_proposed(graph, flow, excess, scratch);
     }
-    finish(graph, flow, excess, scratch)
+    let first = push_first(graph, flow, excess, scratch);
+    if first < FIRST_PUSHES {
+        return first;
+    }
+    if pays(graph, excess) {
+        first + push_proposed(graph, flow, excess, scratch)
+    } else {
+        first + finish(graph, flow, excess, scratch)
+    }
 }

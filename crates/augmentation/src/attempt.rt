@@ -48,7 +48,8 @@ impl Attempt {
         })
     }
 
-    /// Proposes where to lead a flow, its excess and potentials.
+    /// Proposes where to lead a flow, its excess and potentials: the first time and for a greatest flow from afar, else near
+    /// the nodes out of balance.
     pub(crate) fn propose(
         &mut self,
         graph: &Graph,
@@ -67,8 +68,13 @@ impl Attempt {
         } else {
             Aim::LeastCost
         };
-        self.proposals
-            .propose(graph.rows(), flow, excess, potentials, aim);
+        if self.proposals.is_fresh() || aim == Aim::GreatestFlow {
+            self.proposals
+                .propose(graph.rows(), flow, excess, potentials, aim);
+        } else {
+            self.proposals
+                .propose_near(graph.rows(), flow, excess, potentials);
+        }
         self.proposals
             .write(graph.rows(), flow, aim, &mut self.wanted);
     }

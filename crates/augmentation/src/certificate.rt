@@ -12,7 +12,7 @@ use residual_graph::{Graph, Side, Way};
 const FLOOR: i64 = -50_000_000_000_000_000;
 
 /// Whether each potential is in the range with which a run of pushes begins.
-fn are_in_range(potentials: &[i64]) -> bool
+pub(crate) fn are_in_range(potentials: &[i64]) -> bool
     ensures { IsTrue result ↔ ArePotentials (length potentials.now) label_floor potentials.now }
 {
     for p in potentials {

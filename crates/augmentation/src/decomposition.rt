@@ -1,32 +1,18 @@
 //! Pushes that lead a flow towards a wanted one.
 
-ghost use Rattle.std.specs.Prelude.{◌≡◌, length, slice_set, ◌≤ℤ◌, ◌<◌, ◌≤◌, All};
+ghost use Rattle.std.specs.Prelude.{◌≡◌, length, slice_set, ◌<◌, ◌≤◌};
 ghost use Rattle.residual_graph.specs.Residual.{number_at};
 ghost use Rattle.augmentation.specs.Push.{ArePushes, moved, push_along};
 ghost use Rattle.augmentation.specs.Decomposition.{IsLedOn, IsOnTheWay, entries_of};
-ghost use Rattle.augmentation.specs.Trail.{CanMove, IsShiftable, IsTrail, IsTrailFor, Wants, hops_back};
-ghost use Rattle.augmentation.specs.Difference.{AreBetween, IsPlanned};
+ghost use Rattle.augmentation.specs.Trail.{AreLimits, CanMove, IsShiftable, IsTrail, IsTrailFor, hops_back};
+ghost use Rattle.augmentation.specs.Difference.{AreBetween};
 
 use crate::augment::{FoundPath, transfer};
-use crate::difference::{lacking, spare, want_on};
-use crate::route::{hops_wanted, step};
+use crate::difference::{lacking, spare};
+use crate::route::step;
 use crate::setting::Setting;
 use crate::trail::Trail;
 use residual_graph::{ResidualArc, Way};
-
-/// How much is wanted along each hop of the walk, and at most `limit`.
-fn bottleneck(flow: &[i64], wanted: &[i64], trail: &Trail, limit: i64) -> i64
-    requires fits { trail.now.len ≤ length trail.now.hops.items }
-    requires plan { All (λ h. IsPlanned flow.now wanted.now h.arc) (hops_back trail.now.hops.items trail.now.len) }
-    ensures at_most { result ≤ℤ limit }
-    ensures wanted { All (Wants flow.now wanted.now result) (hops_back trail.now.hops.items trail.now.len) }
-{
-    let mut room = limit;
-    for j in 0..trail.len {
-        room = room.min(want_on(flow, wanted, trail.hop(j)));
-    }
-    room
-}
 
 /// Moves `amount` along a residual arc.
 fn shift_on(flow: &mut [i64], hop: ResidualArc, amount: i64)
@@ -66,11 +52,13 @@ fn push_route(
     requires root_in { path.root < entries_of setting.graph.now }
     requires target_in { path.target < entries_of setting.graph.now }
     requires walk { IsTrail setting.graph.now.rows trail.now path.target path.root }
-    ensures { IsLedOn (entries_of setting.entry.graph.now) setting.entry.graph.now.rows result flow.old wanted.now excess.old flow.new wanted.now excess.new }
+    requires limits { AreLimits flow.old wanted.now (number_at excess.old path.target) trail.now }
+    ensures led { IsLedOn (entries_of setting.entry.graph.now) setting.entry.graph.now.rows result flow.old wanted.now excess.old flow.new wanted.now excess.new }
+    ensures limits { AreLimits flow.new wanted.now (number_at excess.new path.target) trail.now }
 {
     let gives = spare(excess[path.root], setting.rests[path.root]);
     let takes = lacking(excess[path.target], setting.rests[path.target]);
-    let amount = bottleneck(flow, wanted, trail, gives.min(takes));
+    let amount = trail.room(excess[path.target], gives.min(takes));
     if amount <= 0 {
         return 0;
     }
@@ -115,13 +103,13 @@ fn push_to(
                 trail,
                 FoundPath { root, target },
             );
-            let keep = hops_wanted(flow, wanted, trail, 0);
-            node = trail.cut(setting.graph, node, keep);
+            let keep = trail.hops_wanted(excess[target]);
+            node = trail.cut(keep);
         } else {
             if !trail.spend(0) {
                 return pushes;
             }
-            match step(setting.graph, flow, wanted, trail, node) {
+            match step(setting.graph, flow, wanted, trail, node, excess[target]) {
                 Some(next) => node = next,
                 None => return pushes,
             }

@@ -16,6 +16,7 @@ ghost use Rattle.augmentation.specs.Rounds.{HoldsSearch, seen_excess};
 ghost use Rattle.augmentation.specs.Cut.{amount, IsParted};
 
 use crate::augment::push_found;
+use crate::certificate::are_in_range;
 use crate::excess::Excess;
 use crate::levels::Levels;
 use crate::potentials::{lower, raise};
@@ -30,6 +31,9 @@ pub const FALL_LIMIT: i64 = 70_000_000_000_000_000;
 
 /// The most pushes of a run for which no table of rooms is filled: few edits need more.
 const FEW_PUSHES: u64 = 32;
+
+/// The most pushes before a proposal is made near an edit: few edits need more.
+pub(crate) const FIRST_PUSHES: u64 = 3;
 
 /// Pushes flow along shortest paths until no node in excess reaches a node in deficit, and counts the pushes: where a
 /// proposal was right, one search that finds nothing is all that it does.
@@ -55,17 +59,75 @@ pub fn finish(
     ensures parted { IsParted graph.now.rows flow.new.entries.items excess.new }
     ensures scratch { IsScratchFor (length scratch.old.potentials.items) scratch.new }
 {
-    let pushes = push_in_turns(graph, flow, &mut excess.entries, scratch);
+    push_some(graph, flow, excess, scratch, u64::MAX)
+}
+
+/// Pushes as `finish` does, and searches no more after `FIRST_PUSHES`.
+pub(crate) fn push_first(
+    graph: &Graph,
+    flow: &mut Tracked<i64>,
+    excess: &mut Excess,
+    scratch: &mut Scratch,
+) -> u64
+    requires flow_tracked { IsTracked flow.old }
+    requires graph { HasEntries (length scratch.old.potentials.items) graph.now }
+    requires certified { IsReducedCostOptimal graph.now.rows flow.old.entries.items scratch.old.potentials.items }
+    requires potentials_in { ArePotentials (length scratch.old.potentials.items) label_floor scratch.old.potentials.items }
+    requires excess_in { length excess.old ≡ length scratch.old.potentials.items }
+    requires scratch { IsScratchFor (length scratch.old.potentials.items) scratch.old }
+    requires small { AreSmall excess.old }
+    ensures flow_written { IsWritten flow.old flow.new }
+    ensures certified { IsReducedCostOptimal graph.now.rows flow.new.entries.items scratch.new.potentials.items }
+    ensures potentials_in { ArePotentials (length scratch.new.potentials.items) label_floor scratch.new.potentials.items }
+    ensures excess_in { length excess.new ≡ length excess.old }
+    ensures small { AreSmall excess.new }
+    ensures pushed { ArePushes graph.now.rows result flow.old.entries.items excess.old flow.new.entries.items excess.new }
+    ensures parted { result < FIRST_PUSHES → IsParted graph.now.rows flow.new.entries.items excess.new }
+    ensures scratch { IsScratchFor (length scratch.old.potentials.items) scratch.new }
+{
+    let pushes = push_some(graph, flow, excess, scratch, FIRST_PUSHES);
+    if !are_in_range(&scratch.potentials) {
+        raise(graph, Side::Ahead, flow, scratch);
+    }
+    pushes
+}
+
+/// Pushes as `finish` does, until so many pushes are made.
+fn push_some(
+    graph: &Graph,
+    flow: &mut Tracked<i64>,
+    excess: &mut Excess,
+    scratch: &mut Scratch,
+    most: u64,
+) -> u64
+    requires flow_tracked { IsTracked flow.old }
+    requires graph { HasEntries (length scratch.old.potentials.items) graph.now }
+    requires certified { IsReducedCostOptimal graph.now.rows flow.old.entries.items scratch.old.potentials.items }
+    requires potentials_in { ArePotentials (length scratch.old.potentials.items) label_floor scratch.old.potentials.items }
+    requires excess_in { length excess.old ≡ length scratch.old.potentials.items }
+    requires scratch { IsScratchFor (length scratch.old.potentials.items) scratch.old }
+    requires small { AreSmall excess.old }
+    ensures flow_written { IsWritten flow.old flow.new }
+    ensures certified { IsReducedCostOptimal graph.now.rows flow.new.entries.items scratch.new.potentials.items }
+    ensures excess_in { length excess.new ≡ length excess.old }
+    ensures small { AreSmall excess.new }
+    ensures pushed { ArePushes graph.now.rows result flow.old.entries.items excess.old flow.new.entries.items excess.new }
+    ensures parted { result < most → IsParted graph.now.rows flow.new.entries.items excess.new }
+    ensures scratch { IsScratchFor (length scratch.old.potentials.items) scratch.new }
+{
+    let pushes = push_in_turns(graph, flow, &mut excess.entries, scratch, most);
     excess.tidy();
     pushes
 }
 
-/// Pushes as `finish` does. The searches go from the two sides in turn, and each forgets what it reached before the next.
+/// Pushes as `push_some` does. The searches go from the two sides in turn, and each forgets
+/// what it reached before the next.
 fn push_in_turns(
     graph: &Graph,
     flow: &mut Tracked<i64>,
     excess: &mut [i64],
     scratch: &mut Scratch,
+    most: u64,
 ) -> u64
     requires flow_tracked { IsTracked flow.old }
     requires graph { HasEntries (length scratch.old.potentials.items) graph.now }
@@ -78,7 +140,7 @@ fn push_in_turns(
     ensures certified { IsReducedCostOptimal graph.now.rows flow.new.entries.items scratch.new.potentials.items }
     ensures small { AreSmall excess.new }
     ensures pushed { ArePushes graph.now.rows result flow.old.entries.items excess.old flow.new.entries.items excess.new }
-    ensures parted { IsParted graph.now.rows flow.new.entries.items excess.new }
+    ensures parted { result < most → IsParted graph.now.rows flow.new.entries.items excess.new }
     ensures scratch { IsScratchFor (length scratch.old.potentials.items) scratch.new }
 {
     // The potentials after a run are the shortest labels ahead: a search from behind has its goals near it.
@@ -86,7 +148,14 @@ fn push_in_turns(
     scratch.walks.rooms.clear();
     let mut pushes = 0;
     let mut fallen = 0;
-    while let Some(reach) = search_on(graph, side, flow, excess, scratch) {
+    while let Some(reach) = search_within(
+        graph,
+        side,
+        flow,
+        excess,
+        scratch,
+        most.saturating_sub(pushes),
+    ) {
         pushes += push_within(graph, side, flow, excess, scratch, reach);
         fallen = keep_near(graph, side, flow, scratch, fallen + reach);
         side = turn_round(side, excess, scratch);
@@ -129,6 +198,31 @@ fn turn_round(side: Side, excess: &mut [i64], scratch: &mut Scratch) -> Side
     turn_potentials(&mut scratch.potentials);
     turn_excess(excess);
     side.other()
+}
+
+/// Searches as `search_on` does, where a push is left to be made.
+fn search_within(
+    graph: &Graph,
+    side: Side,
+    flow: &Tracked<i64>,
+    excess: &[i64],
+    scratch: &mut Scratch,
+    pushes: u64,
+) -> Option<i64>
+    requires graph { HasEntries (length scratch.old.potentials.items) graph.now }
+    requires certified { IsReducedCostOptimal (seen side graph.now.rows) flow.now.entries.items scratch.old.potentials.items }
+    requires excess_in { length excess.now ≡ length scratch.old.potentials.items }
+    requires scratch { IsScratchFor (length scratch.old.potentials.items) scratch.old }
+    requires rooms { AreRooms graph.now.rows flow.now.entries.items scratch.old.walks.rooms.items }
+    ensures found { MatchOption result (0 < pushes → IsParted (seen side graph.now.rows) flow.now.entries.items excess.now) (HoldsSearch (seen side graph.now.rows) flow.now.entries.items excess.now scratch.new) }
+    ensures kept { scratch.new.potentials.items ≡ scratch.old.potentials.items }
+    ensures walks { scratch.new.walks ≡ scratch.old.walks }
+    ensures forgotten { IfNone result (IsScratchFor (length scratch.old.potentials.items) scratch.new) }
+{
+    if pushes == 0 {
+        return None;
+    }
+    search_on(graph, side, flow, excess, scratch)
 }
 
 /// Searches from the nodes in excess for nodes in deficit, as they are seen from a side, where there are both, and gives

@@ -1,14 +1,40 @@
 //! Walks back, hop by hop, to a node that has something to give.
 
-ghost use Rattle.std.specs.Prelude.{◌≡◌, ℕ, length, pos, ◌≤ℤ◌, ◌<◌, ◌≤◌, IfSome, All};
+ghost use Rattle.std.specs.Prelude.{◌≡◌, ℕ, length, pos, neg_ℤ, ◌≤ℤ◌, ◌<◌, ◌≤◌, IfSome, All};
 ghost use Rattle.residual_graph.specs.Residual.{end_at};
 ghost use Rattle.augmentation.specs.Decomposition.{entries_of};
-ghost use Rattle.augmentation.specs.Trail.{IsHopBack, IsSomeTrail, IsTrail, IsTrailFor, Wants, hop_at, hops_back};
+ghost use Rattle.augmentation.specs.Limits.{excess_limit};
+ghost use Rattle.augmentation.specs.Trail.{AreLimits, IsHopBack, IsSomeTrail, IsTrail, IsTrailFor, hops_back};
 ghost use Rattle.augmentation.specs.Difference.{AreNearer, IsPlan, IsPlanned};
 
 use crate::difference::{cancel, want_on};
 use crate::trail::Trail;
 use residual_graph::{Graph, ResidualArc, Side, Walk};
+
+/// The hop by which a walk went back from the node last, where it can be taken again.
+fn last_hop(
+    graph: &Graph,
+    flow: &[i64],
+    wanted: &[i64],
+    trail: &Trail,
+    node: usize,
+) -> Option<ResidualArc>
+    requires plan { IsPlan (entries_of graph.now) graph.now.rows flow.now wanted.now }
+    requires trail { IsTrailFor (entries_of graph.now) trail.now }
+    requires node_in { node < entries_of graph.now }
+    ensures { IfSome result (IsHopBack graph.now.rows flow.now wanted.now node) }
+{
+    let hop = trail.last[node]?;
+    let k = hop.arc as usize;
+    if k >= flow.len() || graph.end(Side::Ahead, k, hop.way) != node {
+        return None;
+    }
+    let from = graph.start(Side::Ahead, k, hop.way);
+    if trail.dead[from] || want_on(flow, wanted, hop) <= 0 {
+        return None;
+    }
+    Some(hop)
+}
 
 /// The next hop by which a walk can go back from the node: something is wanted along it, and it comes from a node that is
 /// not dead.
@@ -23,9 +49,13 @@ fn next_hop(
     requires trail { IsTrailFor (entries_of graph.now) trail.old }
     requires node_in { node < entries_of graph.now }
     ensures some { IfSome result (IsHopBack graph.now.rows flow.now wanted.now node) }
-    ensures kept { trail.new ≡ record trail.old { current = trail.new.current } }
+    ensures kept { trail.new ≡ record trail.old { current = trail.new.current; last = trail.new.last } }
     ensures trail { IsTrailFor (entries_of graph.now) trail.new }
 {
+    let again = last_hop(graph, flow, wanted, trail, node);
+    if again.is_some() {
+        return again;
+    }
     let mut walk = Walk::resume(graph, node as u32, trail.current[node]);
     let mut before = walk;
     while let Some(end) = walk.next(graph) {
@@ -33,29 +63,13 @@ fn next_hop(
             let hop = end.entering();
             if want_on(flow, wanted, hop) > 0 {
                 trail.current[node] = before.place();
+                trail.last[node] = Some(hop);
                 return Some(hop);
             }
         }
         before = walk;
     }
     None
-}
-
-/// How many hops the walk had taken when it came to the node.
-fn hops_to(graph: &Graph, trail: &Trail, node: usize) -> usize
-    requires fits { trail.now.len ≤ length trail.now.hops.items }
-    requires hops { All (λ h. h.arc < length graph.now.rows) (hops_back trail.now.hops.items trail.now.len) }
-    ensures { result ≤ trail.now.len }
-{
-    let mut j = trail.len;
-    while j > 0 {
-        let hop = trail.hop(j - 1);
-        if graph.start(Side::Ahead, hop.arc as usize, hop.way) == node {
-            return j;
-        }
-        j -= 1;
-    }
-    0
 }
 
 /// The least that is wanted along the hops of a walk from one on, and at most `limit`.
@@ -69,20 +83,6 @@ fn least_wanted(flow: &[i64], wanted: &[i64], trail: &Trail, first: usize, limit
         least = least.min(want_on(flow, wanted, trail.hop(j)));
     }
     least
-}
-
-/// How many hops of a walk lie before the first one, from one on, along which nothing is wanted any more.
-pub fn hops_wanted(flow: &[i64], wanted: &[i64], trail: &Trail, first: usize) -> usize
-    requires fits { trail.now.len ≤ length trail.now.hops.items }
-    requires plan { All (λ h. IsPlanned flow.now wanted.now h.arc) (hops_back trail.now.hops.items trail.now.len) }
-    ensures { (j : ℕ) → first ≤ j → j < result → Wants flow.now wanted.now (pos 1) (hop_at trail.now.hops.items j) }
-{
-    for j in first..trail.len {
-        if want_on(flow, wanted, trail.hop(j)) <= 0 {
-            return j;
-        }
-    }
-    trail.len
 }
 
 /// Takes off the wanted flow what goes round the circle of the walk's hops from one on, and this hop.
@@ -99,67 +99,77 @@ fn cancel_circle(flow: &[i64], wanted: &mut [i64], trail: &Trail, hop: ResidualA
     cancel(flow, wanted, hop, least);
 }
 
-/// Goes on by a hop to the node, or takes the circle that the hop closes off the wanted flow and goes back before the
-/// first hop of it along which nothing is wanted any more.
+/// Goes on by a hop to the node, or takes the circle that the hop closes off the wanted flow and begins the walk anew.
+/// Where it began lies so much in excess as is `held`.
 fn go_back(
     graph: &Graph,
     flow: &[i64],
     wanted: &mut [i64],
     trail: &mut Trail,
     hop: ResidualArc,
+    held: i64,
 ) -> Option<usize>
     requires plan { IsPlan (entries_of graph.now) graph.now.rows flow.now wanted.old }
     requires trail { IsTrailFor (entries_of graph.now) trail.old }
     requires hop { hop.arc < length graph.now.rows }
     requires walk { IsSomeTrail graph.now.rows trail.old (end_at graph.now.rows hop.arc hop.way) }
+    requires low { neg_ℤ (pos excess_limit) ≤ℤ held }
+    requires high { held ≤ℤ pos excess_limit }
+    requires limits { AreLimits flow.now wanted.old held trail.old }
     ensures nearer { AreNearer flow.now wanted.old flow.now wanted.new }
     ensures trail { IsTrailFor (entries_of graph.now) trail.new }
     ensures walk { IfSome result (λ v. (v < entries_of graph.now) × ((t : ℕ) → IsTrail graph.now.rows trail.old t (end_at graph.now.rows hop.arc hop.way) → IsTrail graph.now.rows trail.new t v)) }
+    ensures limits { IfSome result (λ v. AreLimits flow.now wanted.new held trail.new) }
     ensures fuel { trail.new.fuel ≤ trail.old.fuel }
 {
     let from = graph.start(Side::Ahead, hop.arc as usize, hop.way);
     if trail.is_on(from) {
-        let first = hops_to(graph, trail, from);
-        if !trail.spend(trail.len - first) {
+        let first = trail.places[from] as usize;
+        if !trail.spend(trail.len) {
             return None;
         }
         cancel_circle(flow, wanted, trail, hop, first);
-        let keep = hops_wanted(flow, wanted, trail, first);
-        let node = graph.end(Side::Ahead, hop.arc as usize, hop.way);
-        return Some(trail.cut(graph, node, keep));
+        return Some(trail.cut(0));
     }
-    if trail.len == trail.hops.len() {
+    if trail.len + 1 >= trail.nodes.len() {
         return None;
     }
-    trail.add(hop, from);
+    let limit = trail.limit_with(want_on(flow, wanted, hop) + held);
+    trail.add(hop, from, limit);
     Some(from)
 }
 
-/// One step of a walk that stands at a node: the node to which it comes, or nothing where nothing is to be had.
+/// One step of a walk that stands at a node: the node to which it comes, or nothing where nothing is to be had. Where it
+/// began lies so much in excess as is `held`.
 pub fn step(
     graph: &Graph,
     flow: &[i64],
     wanted: &mut [i64],
     trail: &mut Trail,
     node: usize,
+    held: i64,
 ) -> Option<usize>
     requires plan { IsPlan (entries_of graph.now) graph.now.rows flow.now wanted.old }
     requires trail { IsTrailFor (entries_of graph.now) trail.old }
     requires node_in { node < entries_of graph.now }
     requires walk { IsSomeTrail graph.now.rows trail.old node }
+    requires low { neg_ℤ (pos excess_limit) ≤ℤ held }
+    requires high { held ≤ℤ pos excess_limit }
+    requires limits { AreLimits flow.now wanted.old held trail.old }
     ensures nearer { AreNearer flow.now wanted.old flow.now wanted.new }
     ensures trail { IsTrailFor (entries_of graph.now) trail.new }
     ensures walk { IfSome result (λ v. (v < entries_of graph.now) × ((t : ℕ) → IsTrail graph.now.rows trail.old t node → IsTrail graph.now.rows trail.new t v)) }
+    ensures limits { IfSome result (λ v. AreLimits flow.now wanted.new held trail.new) }
     ensures fuel { trail.new.fuel ≤ trail.old.fuel }
 {
     match next_hop(graph, flow, wanted, trail, node) {
-        Some(hop) => go_back(graph, flow, wanted, trail, hop),
+        Some(hop) => go_back(graph, flow, wanted, trail, hop, held),
         None => {
             trail.dead[node] = true;
             if trail.len == 0 {
                 return None;
             }
-            Some(trail.take_back(graph, node))
+            Some(trail.cut(trail.len - 1))
         }
     }
 }

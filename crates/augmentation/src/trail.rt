@@ -1,17 +1,21 @@
 //! Walks back from nodes that lack something, depth first, along arcs on which a wanted flow has more.
 
-ghost use Rattle.std.specs.Prelude.{◌≡◌, ◌≢◌, ℕ, List, length, ◌<◌, ◌≤◌, ◌↔◌, false, IfOk, IsTrue};
+ghost use Rattle.std.specs.Prelude.{◌≡◌, ◌+◌, ◌-◌, ◌≤ℤ◌, ◌^◌, ℕ, ℤ, List, length, pos, neg_ℤ, ◌<◌, ◌≤◌, ◌↔◌, false, IfOk, IsTrue};
 ghost use Rattle.dimacs_text.specs.declared.problem.ArcRow.{ArcRow};
 ghost use Rattle.augmentation.specs.Cut.{in_set};
-ghost use Rattle.residual_graph.specs.Residual.{end_at, start_at};
-ghost use Rattle.augmentation.specs.Trail.{IsSomeTrail, IsTrail, IsTrailFor, hop_at, stamp_at};
+ghost use Rattle.augmentation.specs.Limits.{excess_limit};
+ghost use Rattle.residual_graph.specs.Residual.{number_at};
+ghost use Rattle.augmentation.specs.Trail.{AreInRange, AreLimits, IsHop, IsInRange, IsNextLimit, IsOn, IsTrail, IsTrailFor, Wants, hop_at};
 
-use residual_graph::{Graph, Place, ResidualArc, Side, Way};
+use residual_graph::{Place, ResidualArc, Way};
 use std::alloc::{AllocError, Global};
 
-/// How many steps and hops a run of walks may take for each node and each arc. A run that comes apart well takes few
-/// for each, one whose paths are long some hundreds; a bad proposal is to cost seconds at most.
-const STEPS: u64 = 4_096;
+/// How many steps a run of walks may take for each node and each arc. Most runs take one or two, and those whose paths
+/// are long some hundreds; a stair of 50,000 nodes takes 9,375. A bad proposal is to cost seconds at most.
+const STEPS: u64 = 10_000;
+
+/// To push along so many hops costs as much as a step.
+const HOPS_A_STEP: u64 = 8;
 
 /// The tables of walks back. The hops of a walk are its first `len`: the first one leads to the node where it began, and
 /// each other one to where the one before it begins.
@@ -19,15 +23,19 @@ const STEPS: u64 = 4_096;
 pub struct Trail {
     /// Whether nothing more is to be had from the node: no walk comes to it again.
     pub dead: Vec<bool>,
-    /// The stamp of the last walk that came to the node, and 0 where that went back from it.
-    pub stamps: Vec<u32>,
     /// Where the node goes on in its ends. This is a hint: any place is a lawful one.
     pub current: Vec<Place>,
+    /// The hop by which a walk went back from the node last. This is a hint: any hop is a lawful one.
+    pub last: Vec<Option<ResidualArc>>,
+    /// How many hops the last walk that came to the node had taken by then.
+    pub places: Vec<u32>,
+    /// The nodes of the walk: that where it began, then that from which each hop comes.
+    pub nodes: Vec<u32>,
     pub hops: Vec<ResidualArc>,
+    /// What may lie in excess where the walk began, so that something is still wanted along this hop and all before it.
+    pub limits: Vec<i64>,
     pub len: usize,
-    /// The stamp of this walk.
-    pub stamp: u32,
-    /// How many steps and hops may still be taken.
+    /// How many steps may still be taken.
     pub fuel: u64,
 }
 
@@ -40,20 +48,25 @@ impl Trail {
         ensures { IfOk result (λ t. IsTrailFor entries t) }
     {
         let dead = vec![in alloc; false; entries]?;
-        let stamps = vec![in alloc; 0; entries]?;
         let current = vec![in alloc; Place::First; entries]?;
+        let last = vec![in alloc; None; entries]?;
+        let places = vec![in alloc; 0; entries]?;
+        let nodes = vec![in alloc; 0; entries]?;
         let no_arc = ResidualArc {
             arc: 0,
             way: Way::Forward,
         };
         let hops = vec![in alloc; no_arc; entries]?;
+        let limits = vec![in alloc; 0; entries]?;
         Ok(Trail {
             dead,
-            stamps,
             current,
+            last,
+            places,
+            nodes,
             hops,
+            limits,
             len: 0,
-            stamp: 0,
             fuel: 0,
         })
     }
@@ -61,32 +74,32 @@ impl Trail {
     /// Begins anew in a network of so many arcs: no node is dead, and each goes on from its first end.
     pub(crate) fn refresh(&mut self, arcs: usize)
         requires current { length self.old.current.items ≡ length self.old.dead.items }
-        requires stamps { length self.old.stamps.items ≡ length self.old.dead.items }
+        requires last { length self.old.last.items ≡ length self.old.dead.items }
         ensures trail { (n : ℕ) → IsTrailFor n self.old → IsTrailFor n self.new }
         ensures alive { (v : ℕ) → in_set self.new.dead.items v ≡ false }
     {
         for v in 0..self.dead.len() {
             self.dead[v] = false;
-            self.stamps[v] = 0;
             self.current[v] = Place::First;
+            self.last[v] = None;
         }
-        self.stamp = 0;
         let places = (self.dead.len() as u64).saturating_add(arcs as u64);
         self.fuel = places.saturating_mul(STEPS);
     }
 
-    /// Spends a step and so many hops, where there is fuel for them.
+    /// Spends a step and what it costs to push along so many hops, where there is fuel for it.
     pub(crate) fn spend(&mut self, hops: usize) -> bool
         ensures trail { (n : ℕ) → IsTrailFor n self.old → IsTrailFor n self.new }
         ensures walk { (rows : List ArcRow) (t v : ℕ) → IsTrail rows self.old t v → IsTrail rows self.new t v }
+        ensures limits { (x y : List ℤ) (held : ℤ) → AreLimits x y held self.old → AreLimits x y held self.new }
         ensures no_more { self.new.fuel ≤ self.old.fuel }
         ensures less { IsTrue result → self.new.fuel < self.old.fuel }
     {
-        let hops = hops as u64;
-        if self.fuel <= hops {
+        let steps = hops as u64 / HOPS_A_STEP;
+        if self.fuel <= steps {
             return false;
         }
-        self.fuel -= hops + 1;
+        self.fuel -= steps + 1;
         true
     }
 
@@ -100,64 +113,102 @@ impl Trail {
 
     /// A walk from a node, with no hop yet.
     pub(crate) fn begin(&mut self, target: usize)
-        requires { target < length self.old.stamps.items }
+        requires target_in { target < length self.old.places.items }
+        requires few { target < 2 ^ 32 }
+        requires room { 0 < length self.old.nodes.items }
         ensures trail { (n : ℕ) → IsTrailFor n self.old → IsTrailFor n self.new }
         ensures walk { (rows : List ArcRow) → IsTrail rows self.new target target }
+        ensures limits { (x y : List ℤ) (held : ℤ) → AreLimits x y held self.new }
     {
-        self.stamp = self.stamp.wrapping_add(1);
-        self.stamps[target] = self.stamp;
         self.len = 0;
+        self.nodes[0] = target as u32;
+        self.places[target] = 0;
     }
 
     /// Whether the walk came to the node.
     pub(crate) fn is_on(&self, node: usize) -> bool
-        requires { node < length self.now.stamps.items }
-        ensures { IsTrue result ↔ (stamp_at self.now.stamps.items node ≡ self.now.stamp) }
+        requires node_in { node < length self.now.places.items }
+        requires fits { self.now.len < length self.now.nodes.items }
+        ensures { IsTrue result ↔ IsOn self.now.nodes.items self.now.places.items self.now.len node }
     {
-        self.stamps[node] == self.stamp
+        let place = self.places[node] as usize;
+        place <= self.len && self.nodes[place] as usize == node
+    }
+
+    /// What may lie in excess where the walk began, so that something is still wanted along it and along one hop more, of
+    /// which this is so up to `limit`.
+    pub(crate) fn limit_with(&self, limit: i64) -> i64
+        requires { self.now.len ≤ length self.now.limits.items }
+        ensures at_most { result ≤ℤ limit }
+        ensures before { 0 < self.now.len → result ≤ℤ number_at self.now.limits.items (self.now.len - 1) }
+        ensures in_range { AreInRange self.now.limits.items self.now.len → IsInRange limit → IsInRange result }
+    {
+        if self.len == 0 {
+            return limit;
+        }
+        limit.min(self.limits[self.len - 1])
     }
 
     /// Goes on by a hop from a node to which the walk has not come.
-    pub(crate) fn add(&mut self, hop: ResidualArc, from: usize)
-        requires room { self.old.len < length self.old.hops.items }
-        requires from_in { from < length self.old.stamps.items }
-        requires new { stamp_at self.old.stamps.items from ≢ self.old.stamp }
+    pub(crate) fn add(&mut self, hop: ResidualArc, from: usize, limit: i64)
+        requires fits { self.old.len + 1 < length self.old.nodes.items }
+        requires hops_fit { self.old.len < length self.old.hops.items }
+        requires limits_fit { self.old.len < length self.old.limits.items }
+        requires from_in { from < length self.old.places.items }
+        requires few { length self.old.nodes.items < 2 ^ 32 }
+        requires few_nodes { from < 2 ^ 32 }
+        requires new { IsOn self.old.nodes.items self.old.places.items self.old.len from → ⊥ }
         ensures trail { (n : ℕ) → IsTrailFor n self.old → IsTrailFor n self.new }
-        ensures walk { (rows : List ArcRow) (t : ℕ) → hop.arc < length rows → start_at rows hop.arc hop.way ≡ from → IsTrail rows self.old t (end_at rows hop.arc hop.way) → IsTrail rows self.new t from }
+        ensures walk { (rows : List ArcRow) (t v : ℕ) → IsHop rows hop from v → IsTrail rows self.old t v → IsTrail rows self.new t from }
+        ensures limits { (x y : List ℤ) (held : ℤ) → AreLimits x y held self.old → IsNextLimit x y held self.old hop limit → AreLimits x y held self.new }
         ensures fuel { self.new.fuel ≡ self.old.fuel }
     {
         self.hops[self.len] = hop;
+        self.limits[self.len] = limit;
         self.len += 1;
-        self.stamps[from] = self.stamp;
+        self.nodes[self.len] = from as u32;
+        self.places[from] = self.len as u32;
     }
 
-    /// Goes back by the last hop, and gives the node to which it leads.
-    pub(crate) fn take_back(&mut self, graph: &Graph, node: usize) -> usize
-        requires some { 0 < self.old.len }
-        requires walk { IsSomeTrail graph.now.rows self.old node }
+    /// Goes back until the walk has `keep` hops, and gives the node where it then stands.
+    pub(crate) fn cut(&mut self, keep: usize) -> usize
+        requires keep { keep ≤ self.old.len }
+        requires fits { self.old.len < length self.old.nodes.items }
         ensures trail { (n : ℕ) → IsTrailFor n self.old → IsTrailFor n self.new }
-        ensures walk { (t : ℕ) → IsTrail graph.now.rows self.old t node → IsTrail graph.now.rows self.new t result }
-        ensures one { self.new.len < self.old.len }
+        ensures walk { (rows : List ArcRow) (t v : ℕ) → IsTrail rows self.old t v → IsTrail rows self.new t result }
+        ensures limits { (x y : List ℤ) (held : ℤ) → AreLimits x y held self.old → AreLimits x y held self.new }
+        ensures len { self.new.len ≡ keep }
         ensures fuel { self.new.fuel ≡ self.old.fuel }
     {
-        self.stamps[node] = 0;
-        self.len -= 1;
-        let hop = self.hop(self.len);
-        graph.end(Side::Ahead, hop.arc as usize, hop.way)
+        self.len = keep;
+        self.nodes[keep] as usize
     }
 
-    /// Goes back until the walk has no more than `keep` hops, and gives the node where it then stands.
-    pub(crate) fn cut(&mut self, graph: &Graph, node: usize, keep: usize) -> usize
-        requires walk { IsSomeTrail graph.now.rows self.old node }
-        ensures trail { (n : ℕ) → IsTrailFor n self.old → IsTrailFor n self.new }
-        ensures walk { (t : ℕ) → IsTrail graph.now.rows self.old t node → IsTrail graph.now.rows self.new t result }
-        ensures at_most { self.new.len ≤ keep }
-        ensures fuel { self.new.fuel ≡ self.old.fuel }
+    /// How much more may be pushed along the walk, where so much lies in excess at the node where it began: at most `most`.
+    pub(crate) fn room(&self, held: i64, most: i64) -> i64
+        requires fits { self.now.len ≤ length self.now.limits.items }
+        requires low { neg_ℤ (pos excess_limit) ≤ℤ held }
+        requires high { held ≤ℤ pos excess_limit }
+        requires limits { AreInRange self.now.limits.items self.now.len }
+        ensures at_most { result ≤ℤ most }
+        ensures wanted { (x y : List ℤ) → AreLimits x y held self.now → (i : ℕ) → i < self.now.len → Wants x y result (hop_at self.now.hops.items i) }
     {
-        let mut at = node;
-        while self.len > keep {
-            at = self.take_back(graph, at);
+        if self.len == 0 {
+            return most;
         }
-        at
+        most.min(self.limits[self.len - 1] - held)
+    }
+
+    /// How many hops lie before the first one along which nothing is wanted any more, where so much lies in excess at the
+    /// node where the walk began.
+    pub(crate) fn hops_wanted(&self, held: i64) -> usize
+        requires { self.now.len ≤ length self.now.limits.items }
+        ensures { result ≤ self.now.len }
+    {
+        let mut keep = self.len;
+        while keep > 0 && self.limits[keep - 1] <= held {
+            keep -= 1;
+        }
+        keep
     }
 }

@@ -1,3 +1,3 @@
 mod ReadLemmas
-mod StepLemmas
+mod LineLemmas
 mod ListLemmas

@@ -3,6 +3,8 @@ use Rattle.std.specs.Prelude.{◌≡◌, ◌⊎◌, ℕ, ◌^◌, ◌==◌, ℤ,
 use Rattle.std.specs.Option.{MatchOption}
 use Rattle.dimacs_lines.specs.declared.fault.TextFault.{TextFault}
 use Rattle.dimacs_lines.specs.declared.fault.TextFault.TheVariants as text_fault
+use Rattle.dimacs_lines.specs.Lines.{Line}
+use Rattle.dimacs_text.specs.Group.{Gathered}
 use Rattle.dimacs_text.specs.Reading.{ProblemValue, reads}
 use Rattle.flow_solver.specs.Answer.{IsAnswered}
 use Rattle.flow_solver.specs.Moment.{Moment}
@@ -10,9 +12,8 @@ use Rattle.flow_solver.specs.declared.verdict.Verdict.{Verdict}
 use Rattle.flow_solver.specs.declared.verdict.Verdict.TheVariants.{Best, Infeasible}
 use Rattle.history.specs.Boards.{Timeline}
 use Rattle.network.specs.Instance.{first}
-use Rattle.session.specs.declared.refusal.Refusal.{Refusal}
-use Rattle.session.specs.declared.refusal.Refusal.TheVariants as refusal
 use Rattle.session.specs.Step.{Reply, SessionState, TellsVerdict, Shows, Refuses}
+use Rattle.session.specs.Turns.{TakesLine, asks, gathered_in}
 use Rattle.calls.specs.declared.fault.Fault.{Fault}
 use Rattle.calls.specs.declared.view.View.{View}
 use Rattle.calls.specs.declared.status.TheConstants.{CLOSED, FAULT, MEMORY, NOT_THERE, OTHER_LENGTH}
@@ -50,11 +51,6 @@ IsNotOpened text status old new = ((status ≡ FAULT) × (reads text ≡ Err (te
 
 -- ---- steps
 
--- the number that is told of a refused edit
-abbrev pub number_of : Refusal → ℕ
-number_of (refusal.Cause number) = number
-number_of refusal.Memory = 30
-
 -- how a reply is told: nothing to say, or the number of the refusal
 abbrev pub told : Reply → ℕ
 told TellsVerdict = 0
@@ -64,6 +60,17 @@ told (Refuses number) = number
 -- a step is taken by which this relation holds, and its reply is told by this number
 abbrev pub Steps : (Reply → SessionState → Type 0) → ℕ → SessionState → Type 0
 Steps StepTo number new = (reply : Reply) × (number ≡ told reply) × StepTo reply new
+
+-- how it is told of a line, which may make no step
+abbrev pub told_of : Option Reply → ℕ
+told_of None = 0
+told_of (Some reply) = told reply
+
+-- a line that asks for something is taken after the lines of the group that stands open, and the reply to the turn that it
+-- makes whole is told; any other is no command (2), and changes nothing
+pub record Took (old : SessionState) (opened : Option (List Line)) (line : Line) (number : ℕ) (new : SessionState) (group : Option Gathered) : Type 0 where
+  pub asked : asks line ≡ true → (reply : Option Reply) × (number ≡ told_of reply) × TakesLine old opened line reply new group
+  pub blank : asks line ≡ false → (number ≡ 2) × (new ≡ old) × (group ≡ gathered_in old opened)
 
 -- a closed handle stays so, and this is told; an open one stays open, and goes from its state to the new one
 abbrev pub Goes : Option SessionState → ℤ → Option SessionState → (SessionState → ℕ → SessionState → Type 0) → Type 0

@@ -2,6 +2,8 @@
 use Rattle.std.specs.Prelude.{◌≡◌, ℕ, ℤ, ◌-◌, ◌↔◌, IsTrue, Bool, true, false, List, [], ◌∷◌, ◌++◌, length, take, map, replicate, set, Option, None, Some, Ok, Err, IfSome, codes}
 use Rattle.std.specs.List.{AllZip}
 use Rattle.dimacs_io.specs.Device.{IsBeginning}
+use Rattle.dimacs_io.specs.declared.device.LastCall.{LastCall}
+use Rattle.dimacs_io.specs.declared.device.LastCall.TheVariants as last
 use Rattle.dimacs_text.specs.declared.problem.ArcRow.{ArcRow}
 use Rattle.dimacs_text.specs.declared.answer.FlowLine.{FlowLine}
 use Rattle.dimacs_text.specs.declared.answer.Answer.{Answer}
@@ -131,3 +133,15 @@ answer_failures _ = 0
 abbrev pub write_failures : End → ℕ
 write_failures WriteFailed = 1
 write_failures _ = 0
+
+-- ---- what the last call on the sink did
+
+-- by how a run ends, and what it did before: there was none where a text was not read or memory was refused; else all that was written is
+-- passed on, or the last call is the one that failed
+abbrev pub last_by : End → LastCall → LastCall
+last_by WriteFailed before = last.Failure
+last_by (Refused input number line) before = before
+last_by (ReadFailed the.Problem) before = before
+last_by (ReadFailed the.Answer) before = before
+last_by Memory before = before
+last_by _ before = last.Flush

@@ -1,5 +1,5 @@
 -- Reading a whole text from a source.
-use Rattle.std.specs.Prelude.{◌≡◌, ℕ, ◌+◌, List, length, take, ◌⊎◌, Option, None, Some, IfSome, Result, Ok, Err}
+use Rattle.std.specs.Prelude.{◌≡◌, ℕ, ◌+◌, Bool, true, List, length, take, ◌⊎◌, Option, None, Some, IfSome, Result, Ok, Err, ⊤}
 use Rattle.std.specs.Io.KnownBytes.{Consumes, IsAtEnd}
 use Rattle.dimacs_lines.specs.declared.fault.TextFault.{TextFault}
 use Rattle.dimacs_lines.specs.declared.fault.TextFault.TheVariants as text_fault
@@ -44,3 +44,8 @@ abbrev pub CountsRead : {X : Type 0} → Result X ReadError → ℕ → ℕ → 
 CountsRead (Ok x) old new = new ≡ old
 CountsRead (Err (read_error.Text fault)) old new = new ≡ old
 CountsRead (Err read_error.Source) old new = new ≡ old + 1
+
+-- a failed read that ended the reading was the last one
+abbrev pub FailsLastRead : {X : Type 0} → Result X ReadError → Bool → Type 0
+FailsLastRead (Err read_error.Source) failed = failed ≡ true
+FailsLastRead _ failed = ⊤

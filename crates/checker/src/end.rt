@@ -1,6 +1,6 @@
 //! How a run ends, and what is told of it.
 ghost use Rattle.std.specs.Prelude.{◌≡◌, ◌-◌, ◌^◌, ◌<◌};
-ghost use Rattle.dimacs_io.specs.Device.{CountsFailure, WritesUpTo};
+ghost use Rattle.dimacs_io.specs.Device.{CountsFailure, FailsLast, WritesUpTo};
 ghost use Rattle.checker.specs.End.{status_of, told, text_name};
 
 use dimacs_io::{Broken, Line, Sink, write_all};
@@ -71,6 +71,7 @@ impl End {
         requires { E.failures err.old < 2 ^ 64 - 1 }
         ensures bytes { WritesUpTo result (E.contents err.old) (E.contents err.new) (told self.now) }
         ensures failed { CountsFailure result (E.failures err.old) (E.failures err.new) }
+        ensures last { FailsLast result (E.last_call err.new) }
     {
         write_all(err, self.line().as_bytes())
     }

@@ -3,7 +3,7 @@ ghost use Rattle.std.specs.Prelude.{◌≡◌, ℕ, ◌-◌, ◌^◌, ◌<◌, L
 ghost use Rattle.dimacs_lines.specs.Stream.{decided};
 ghost use Rattle.dimacs_text.specs.Reading.{problem_rule, reads};
 ghost use Rattle.dimacs_text.specs.Answer.{answer_rule, answers};
-ghost use Rattle.checker.specs.Reading.{CountsRead, Gives, ReadsKnown, ReadsText};
+ghost use Rattle.checker.specs.Reading.{CountsRead, FailsLastRead, Gives, ReadsKnown, ReadsText};
 
 use crate::end::{End, Text};
 use dimacs_io::{Broken, Source};
@@ -75,6 +75,7 @@ pub fn read_problem<P: Source>(alloc: Global, problem: &mut P) -> Result<Problem
     ensures known { ReadsKnown (decided problem_rule) reads result
         (P.remaining problem.old) (P.most_left problem.old - P.most_left problem.new) }
     ensures failed { CountsRead result (P.failures problem.old) (P.failures problem.new) }
+    ensures last { FailsLastRead result (P.last_failed problem.new) }
 {
     // A fault that is decided is that of the whole text.
     decided_for_all();
@@ -104,6 +105,7 @@ pub fn read_answer<A: Source>(
     ensures known { ReadsKnown (decided (answer_rule nodes arcs)) (answers nodes arcs) result
         (A.remaining answer.old) (A.most_left answer.old - A.most_left answer.new) }
     ensures failed { CountsRead result (A.failures answer.old) (A.failures answer.new) }
+    ensures last { FailsLastRead result (A.last_failed answer.new) }
 {
     // A fault that is decided is that of the whole text.
     answer_decided_for_all();

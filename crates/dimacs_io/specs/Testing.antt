@@ -1,21 +1,24 @@
 -- What the devices of the tests hold.
-use Rattle.std.specs.Prelude.{ℕ, ◌-◌, List, Option}
+use Rattle.std.specs.Prelude.{ℕ, Bool, ◌-◌, List, Option}
 use Rattle.std.specs.Option.{option_map}
+use Rattle.dimacs_io.specs.declared.device.LastCall.{LastCall}
 
 -- a source over a list: what it still gives, how much at most in one call, for how many more calls it does so
--- (none: for all), and how many have failed
+-- (none: for all), how many have failed, and whether the last did
 pub record Scripted : Type 0 where
   pub rest : List ℕ
   pub most : ℕ
   pub good_calls : Option ℕ
   pub failures : ℕ
+  pub last_failed : Bool
 
--- a sink over a list, in the same words
+-- a sink over a list, in the same words, and what its last call did
 pub record Padded : Type 0 where
   pub bytes : List ℕ
   pub most : ℕ
   pub good_calls : Option ℕ
   pub failures : ℕ
+  pub last_call : LastCall
 
 -- one call less, where there is an end to them
 abbrev pub one_less : Option ℕ → Option ℕ

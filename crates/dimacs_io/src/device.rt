@@ -1,8 +1,10 @@
 //! Devices: what gives bytes, what takes them, and how a failed call shows.
-ghost use Rattle.std.specs.Prelude.{◌≡◌, ℕ, ◌-◌, ◌^◌, ◌<◌, List, Option, IfOk, length};
+ghost use Rattle.std.specs.Prelude.{◌≡◌, ℕ, Bool, ◌-◌, ◌^◌, ◌<◌, List, Option, IfOk, is_err, length};
 ghost use Rattle.std.specs.Io.{ReadsAtMost, WritesAtMost};
 ghost use Rattle.std.specs.Io.KnownBytes.{Keeps, ReadConsumes, WriteAppends};
-ghost use Rattle.dimacs_io.specs.Device.{CountsFailure, LowersByCount};
+ghost use Rattle.dimacs_io.specs.Device.{CountsFailure, EndsBy, LowersByCount};
+ghost use Rattle.dimacs_io.specs.declared.device.LastCall.{LastCall};
+ghost use Rattle.dimacs_io.specs.declared.device.LastCall.TheVariants as last;
 
 use thiserror::Error;
 
@@ -10,6 +12,17 @@ use thiserror::Error;
 #[derive(Clone, Copy, Debug, PartialEq, Eq, Error)]
 #[error("a device failed")]
 pub struct Broken;
+
+/// What the last call on a sink did.
+#[derive(Clone, Copy, Debug, PartialEq, Eq)]
+pub enum LastCall {
+    /// It took bytes.
+    Write,
+    /// It passed on what was taken, or there was no call yet.
+    Flush,
+    /// It failed.
+    Failure,
+}
 
 /// Gives bytes up to an end.
 ///
@@ -25,6 +38,9 @@ pub trait Source {
     /// How many of its calls have failed.
     ghost failures: { Self → ℕ };
 
+    /// Whether its last call failed.
+    ghost last_failed: { Self → Bool };
+
     /// Puts bytes at the start of `piece`, and says how many: one at least, unless `piece` is empty or the end is
     /// reached. Fails with `Broken`, having given nothing.
     fn read(&mut self, piece: &mut [u8]) -> Result<usize, Broken>
@@ -32,7 +48,8 @@ pub trait Source {
         ensures bound { ReadsAtMost result piece.new }
         ensures bytes { ReadConsumes (remaining self.old) (remaining self.new) result piece.new }
         ensures left { LowersByCount result (most_left self.old) (most_left self.new) }
-        ensures failed { CountsFailure result (failures self.old) (failures self.new) };
+        ensures failed { CountsFailure result (failures self.old) (failures self.new) }
+        ensures last { last_failed self.new ≡ is_err result };
 }
 
 /// Takes bytes. A failed call, and any `flush`, leaves what it holds.
@@ -45,6 +62,9 @@ pub trait Sink {
     /// How many of its calls have failed.
     ghost failures: { Self → ℕ };
 
+    /// What its last call did.
+    ghost last_call: { Self → LastCall };
+
     /// Takes bytes from the start of `piece`, and says how many: one at least, unless `piece` is empty. Fails with
     /// `Broken`, having taken nothing.
     fn write(&mut self, piece: &[u8]) -> Result<usize, Broken>
@@ -52,11 +72,13 @@ pub trait Sink {
         ensures bound { WritesAtMost result piece.now }
         ensures progress { IfOk result (λ n. 0 < length piece.now → 0 < n) }
         ensures bytes { WriteAppends (contents self.old) (contents self.new) result piece.now }
-        ensures failed { CountsFailure result (failures self.old) (failures self.new) };
+        ensures failed { CountsFailure result (failures self.old) (failures self.new) }
+        ensures last { EndsBy result last.Write (last_call self.new) };
 
-    /// Passes on what was taken. No clause can say that it does.
+    /// Passes on what was taken. That the device does so no clause can say; that it was called last, `last_call` says.
     fn flush(&mut self) -> Result<(), Broken>
         requires { failures self.old < 2 ^ 64 - 1 }
         ensures bytes { Keeps (contents self.old) (contents self.new) }
-        ensures failed { CountsFailure result (failures self.old) (failures self.new) };
+        ensures failed { CountsFailure result (failures self.old) (failures self.new) }
+        ensures last { EndsBy result last.Flush (last_call self.new) };
 }

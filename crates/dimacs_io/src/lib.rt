@@ -8,7 +8,7 @@ mod stream;
 mod testing;
 mod writer;
 
-pub use device::{Broken, Sink, Source};
+pub use device::{Broken, LastCall, Sink, Source};
 pub use laws::writes_follow;
 pub use line::Line;
 pub use stream::{ReadSource, WriteSink};

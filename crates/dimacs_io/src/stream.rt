@@ -1,9 +1,10 @@
 //! Devices over std's readers and writers: each failed call is counted, and none is made again.
-ghost use Rattle.std.specs.Prelude.{◌≡◌, ◌⊎◌, ℕ, ◌-◌, ◌^◌, ◌<◌, ◌≤◌, [], Ok, IsErr, IfOk, MatchResult, length, take};
+ghost use Rattle.std.specs.Prelude.{◌≡◌, ◌⊎◌, ℕ, ◌-◌, ◌^◌, ◌<◌, ◌≤◌, [], false, Ok, IsErr, IfOk, MatchResult, length, take};
 ghost use Rattle.std.specs.Option.{option_map};
-ghost use Rattle.dimacs_io.specs.Device.{CountsFailure};
+ghost use Rattle.dimacs_io.specs.Device.{CountsFailure, EndsBy};
+ghost use Rattle.dimacs_io.specs.declared.device.LastCall.TheVariants as last;
 
-use crate::device::{Broken, Sink, Source};
+use crate::device::{Broken, LastCall, Sink, Source};
 use std::io;
 use std::io::{ErrorKind, Read, Write};
 
@@ -25,6 +26,16 @@ fn counted<T>(failures: &mut u64, answer: io::Result<T>) -> Result<T, Broken>
     }
 }
 
+/// What a call on a sink did that would do this.
+fn last_of<T>(answer: &Result<T, Broken>, done: LastCall) -> LastCall
+    ensures { EndsBy answer.now done result }
+{
+    match answer {
+        Ok(_) => done,
+        Err(_) => LastCall::Failure,
+    }
+}
+
 /// What a write answered: one that takes nothing of a piece that is not empty has failed.
 fn some_taken(piece: &[u8], answer: io::Result<usize>) -> io::Result<usize>
     ensures told { IfOk result (λ n. (answer ≡ Ok n) × (0 < length piece.now → 0 < n)) }
@@ -43,6 +54,7 @@ pub struct ReadSource<R: Read> {
     inner: R,
     left: u64,
     failures: u64,
+    last_failed: bool,
 }
 
 impl<R: Read> ReadSource<R> {
@@ -52,11 +64,13 @@ impl<R: Read> ReadSource<R> {
             ≡ option_map (take (2 ^ 63)) (R.remaining inner) }
         ensures left { ⟦<ReadSource<R> as Source>⟧.most_left result ≡ 2 ^ 63 }
         ensures failures { ⟦<ReadSource<R> as Source>⟧.failures result ≡ 0 }
+        ensures last { ⟦<ReadSource<R> as Source>⟧.last_failed result ≡ false }
     {
         ReadSource {
             inner,
             left: MOST_BYTES,
             failures: 0,
+            last_failed: false,
         }
     }
 }
@@ -68,9 +82,13 @@ impl<R: Read> Source for ReadSource<R> {
 
     ghost failures = { λ s. s.failures };
 
+    ghost last_failed = { λ s. s.last_failed };
+
     fn read(&mut self, piece: &mut [u8]) -> Result<usize, Broken> {
         let most = self.left.min(piece.len() as u64) as usize;
-        let n = counted(&mut self.failures, self.inner.read(&mut piece[..most]))?;
+        let answer = self.inner.read(&mut piece[..most]);
+        self.last_failed = answer.is_err();
+        let n = counted(&mut self.failures, answer)?;
         self.left -= n as u64;
         Ok(n)
     }
@@ -82,6 +100,7 @@ impl<R: Read> Source for ReadSource<R> {
 pub struct WriteSink<W: Write> {
     inner: W,
     failures: u64,
+    last_call: LastCall,
 }
 
 impl<W: Write> WriteSink<W> {
@@ -89,8 +108,13 @@ impl<W: Write> WriteSink<W> {
     pub fn new(inner: W) -> WriteSink<W>
         ensures bytes { ⟦<WriteSink<W> as Sink>⟧.contents result ≡ W.contents inner }
         ensures failures { ⟦<WriteSink<W> as Sink>⟧.failures result ≡ 0 }
+        ensures last { ⟦<WriteSink<W> as Sink>⟧.last_call result ≡ last.Flush }
     {
-        WriteSink { inner, failures: 0 }
+        WriteSink {
+            inner,
+            failures: 0,
+            last_call: LastCall::Flush,
+        }
     }
 }
 
@@ -99,14 +123,20 @@ impl<W: Write> Sink for WriteSink<W> {
 
     ghost failures = { λ s. s.failures };
 
+    ghost last_call = { λ s. s.last_call };
+
     fn write(&mut self, piece: &[u8]) -> Result<usize, Broken> {
-        counted(
+        let answer = counted(
             &mut self.failures,
             some_taken(piece, self.inner.write(piece)),
-        )
+        );
+        self.last_call = last_of(&answer, LastCall::Write);
+        answer
     }
 
     fn flush(&mut self) -> Result<(), Broken> {
-        counted(&mut self.failures, self.inner.flush())
+        let answer = counted(&mut self.failures, self.inner.flush());
+        self.last_call = last_of(&answer, LastCall::Flush);
+        answer
     }
 }

@@ -1,11 +1,12 @@
 //! Devices in memory, for tests: by choice they are slow, and fail from some call on.
-ghost use Rattle.std.specs.Prelude.{◌≡◌, ℕ, ◌-◌, ◌^◌, ◌≤◌, ◌<◌, ◌↔◌, ◌⊎◌, length, min, [], Some, IsTrue, IsErr, IfOk};
+ghost use Rattle.std.specs.Prelude.{◌≡◌, ℕ, ◌-◌, ◌^◌, ◌≤◌, ◌<◌, ◌↔◌, ◌⊎◌, length, min, [], Some, false, is_err, IsTrue, IsErr, IfOk};
 ghost use Rattle.std.specs.Io.{ReadsAtMost, WritesAtMost};
 ghost use Rattle.std.specs.Io.KnownBytes.{Keeps, ReadConsumes, WriteAppends};
-ghost use Rattle.dimacs_io.specs.Device.{CountsFailure, LowersByCount};
+ghost use Rattle.dimacs_io.specs.Device.{CountsFailure, EndsBy, LowersByCount};
+ghost use Rattle.dimacs_io.specs.declared.device.LastCall.TheVariants as last;
 ghost use Rattle.dimacs_io.specs.Testing.{one_less};
 
-use crate::device::{Broken, Sink, Source};
+use crate::device::{Broken, LastCall, Sink, Source};
 use std::marker::Model;
 
 /// How many more calls go well, where there is an end to that.
@@ -47,6 +48,7 @@ pub struct Script<'a> {
     most: usize,
     patience: Patience,
     failures: u64,
+    last_failed: bool,
 }
 
 impl<'a> Model for Script<'a> {
@@ -55,7 +57,7 @@ impl<'a> Model for Script<'a> {
 
     ghost Value = { Scripted };
 
-    ghost view = { λ s. record { rest = s.rest.now; most = s.most; good_calls = s.patience.good_calls; failures = s.failures } };
+    ghost view = { λ s. record { rest = s.rest.now; most = s.most; good_calls = s.patience.good_calls; failures = s.failures; last_failed = s.last_failed } };
 
     ghost invariant = { λ s. 0 < s.most };
 }
@@ -68,6 +70,7 @@ impl<'a> Script<'a> {
         ensures bytes { ⟦<Script<'a> as Source>⟧.remaining result ≡ Some bytes.now }
         ensures left { ⟦<Script<'a> as Source>⟧.most_left result ≡ length bytes.now }
         ensures failures { ⟦<Script<'a> as Source>⟧.failures result ≡ 0 }
+        ensures last { ⟦<Script<'a> as Source>⟧.last_failed result ≡ false }
         ensures most { result.most ≡ most }
         ensures good_calls { result.good_calls ≡ one_less fails }
     {
@@ -76,6 +79,7 @@ impl<'a> Script<'a> {
             most,
             patience: Patience::new(fails),
             failures: 0,
+            last_failed: false,
         }
     }
 }
@@ -87,6 +91,8 @@ impl Source for Script<'_> {
 
     ghost failures = { λ s. s.failures };
 
+    ghost last_failed = { λ s. s.last_failed };
+
     /// Gives as much as the piece, the script's choice and what is left allow; fails exactly where the good calls are
     /// used up.
     fn read(&mut self, piece: &mut [u8]) -> Result<usize, Broken>
@@ -95,12 +101,14 @@ impl Source for Script<'_> {
         ensures bytes { ReadConsumes (Some self.old.rest) (Some self.new.rest) result piece.new }
         ensures left { LowersByCount result (length self.old.rest) (length self.new.rest) }
         ensures failed { CountsFailure result self.old.failures self.new.failures }
+        ensures last { self.new.last_failed ≡ is_err result }
         ensures fails { IsErr result ↔ (self.old.good_calls ≡ Some 0) }
         ensures count { IfOk result (λ n. n ≡ min (min self.old.most (length piece.old)) (length self.old.rest)) }
         ensures good_calls { self.new.good_calls ≡ one_less self.old.good_calls }
         ensures most { self.new.most ≡ self.old.most }
     {
-        if self.patience.is_over() {
+        self.last_failed = self.patience.is_over();
+        if self.last_failed {
             self.failures += 1;
             return Err(Broken);
         }
@@ -123,6 +131,7 @@ pub struct Pad {
     most: usize,
     patience: Patience,
     failures: u64,
+    last_call: LastCall,
 }
 
 impl Model for Pad {
@@ -131,7 +140,7 @@ impl Model for Pad {
 
     ghost Value = { Padded };
 
-    ghost view = { λ p. record { bytes = take p.len p.bytes; most = p.most; good_calls = p.patience.good_calls; failures = p.failures } };
+    ghost view = { λ p. record { bytes = take p.len p.bytes; most = p.most; good_calls = p.patience.good_calls; failures = p.failures; last_call = p.last_call } };
 
     ghost invariant = { λ p. (p.len ≤ 4096) × (0 < p.most) };
 }
@@ -143,6 +152,7 @@ impl Pad {
         requires { 0 < most }
         ensures bytes { ⟦<Pad as Sink>⟧.contents result ≡ Some [] }
         ensures failures { ⟦<Pad as Sink>⟧.failures result ≡ 0 }
+        ensures last { ⟦<Pad as Sink>⟧.last_call result ≡ last.Flush }
         ensures most { result.most ≡ most }
         ensures good_calls { result.good_calls ≡ one_less fails }
     {
@@ -152,6 +162,7 @@ impl Pad {
             most,
             patience: Patience::new(fails),
             failures: 0,
+            last_call: LastCall::Flush,
         }
     }
 
@@ -168,6 +179,8 @@ impl Sink for Pad {
 
     ghost failures = { λ p. p.failures };
 
+    ghost last_call = { λ p. p.last_call };
+
     /// Takes as much as the piece, the pad's choice and its room allow; fails exactly where the good calls are used up
     /// or there is no room for a piece that is not empty.
     fn write(&mut self, piece: &[u8]) -> Result<usize, Broken>
@@ -176,6 +189,7 @@ impl Sink for Pad {
         ensures progress { IfOk result (λ n. 0 < length piece.now → 0 < n) }
         ensures bytes { WriteAppends (Some self.old.bytes) (Some self.new.bytes) result piece.now }
         ensures failed { CountsFailure result self.old.failures self.new.failures }
+        ensures last { EndsBy result last.Write self.new.last_call }
         ensures fails { IsErr result ↔ ((self.old.good_calls ≡ Some 0) ⊎ ((length self.old.bytes ≡ 4096) × (0 < length piece.now))) }
         ensures count { IfOk result (λ n. n ≡ min (min self.old.most (length piece.now)) (4096 - length self.old.bytes)) }
         ensures good_calls { self.new.good_calls ≡ one_less self.old.good_calls }
@@ -184,11 +198,13 @@ impl Sink for Pad {
         let n = self.most.min(piece.len()).min(PAD_ROOM - self.len);
         if self.patience.is_over() || n == 0 && !piece.is_empty() {
             self.failures += 1;
+            self.last_call = LastCall::Failure;
             return Err(Broken);
         }
         let end = self.len + n;
         self.bytes[self.len..end].copy_from_slice(&piece[..n]);
         self.len = end;
+        self.last_call = LastCall::Write;
         Ok(n)
     }
 
@@ -197,14 +213,17 @@ impl Sink for Pad {
         requires { self.old.failures < 2 ^ 64 - 1 }
         ensures bytes { Keeps (Some self.old.bytes) (Some self.new.bytes) }
         ensures failed { CountsFailure result self.old.failures self.new.failures }
+        ensures last { EndsBy result last.Flush self.new.last_call }
         ensures fails { IsErr result ↔ (self.old.good_calls ≡ Some 0) }
         ensures good_calls { self.new.good_calls ≡ one_less self.old.good_calls }
         ensures most { self.new.most ≡ self.old.most }
     {
         if self.patience.is_over() {
             self.failures += 1;
+            self.last_call = LastCall::Failure;
             return Err(Broken);
         }
+        self.last_call = LastCall::Flush;
         Ok(())
     }
 }

@@ -1,7 +1,7 @@
 //! Writers of one line each: the lines of a solution in the DIMACS formats for network flows, and the refusal line of a
 //! session. Each is written whole or given up at the first failed call, and none takes memory.
 ghost use Rattle.std.specs.Prelude.{◌-◌, ◌^◌, ◌<◌};
-ghost use Rattle.dimacs_io.specs.Device.{CountsFailure, WritesUpTo};
+ghost use Rattle.dimacs_io.specs.Device.{CountsFailure, FailsLast, WritesUpTo};
 ghost use Rattle.dimacs_io.specs.Line.{value_line, flow_line, potential_line, shortage_line, cut_line, refusal_line};
 
 use crate::device::{Broken, Sink};
@@ -15,6 +15,7 @@ pub fn write_all<O: Sink>(out: &mut O, bytes: &[u8]) -> Result<(), Broken>
     requires { O.failures out.old < 2 ^ 64 - 1 }
     ensures bytes { WritesUpTo result (O.contents out.old) (O.contents out.new) bytes.now }
     ensures failed { CountsFailure result (O.failures out.old) (O.failures out.new) }
+    ensures last { FailsLast result (O.last_call out.new) }
 {
     let mut done = 0;
     while done < bytes.len() {
@@ -28,6 +29,7 @@ pub fn write_s<O: Sink>(out: &mut O, value: i128) -> Result<(), Broken>
     requires { O.failures out.old < 2 ^ 64 - 1 }
     ensures bytes { WritesUpTo result (O.contents out.old) (O.contents out.new) (value_line value) }
     ensures failed { CountsFailure result (O.failures out.old) (O.failures out.new) }
+    ensures last { FailsLast result (O.last_call out.new) }
 {
     let mut line = Line::new();
     line.push_text(b"s ");
@@ -41,6 +43,7 @@ pub fn write_f<O: Sink>(out: &mut O, tail: u32, head: u32, flow: i64) -> Result<
     requires { O.failures out.old < 2 ^ 64 - 1 }
     ensures bytes { WritesUpTo result (O.contents out.old) (O.contents out.new) (flow_line tail head flow) }
     ensures failed { CountsFailure result (O.failures out.old) (O.failures out.new) }
+    ensures last { FailsLast result (O.last_call out.new) }
 {
     let mut line = Line::new();
     line.push_text(b"f ");
@@ -58,6 +61,7 @@ pub fn write_v<O: Sink>(out: &mut O, id: u32, potential: i64) -> Result<(), Brok
     requires { O.failures out.old < 2 ^ 64 - 1 }
     ensures bytes { WritesUpTo result (O.contents out.old) (O.contents out.new) (potential_line id potential) }
     ensures failed { CountsFailure result (O.failures out.old) (O.failures out.new) }
+    ensures last { FailsLast result (O.last_call out.new) }
 {
     let mut line = Line::new();
     line.push_text(b"v ");
@@ -73,6 +77,7 @@ pub fn write_i<O: Sink>(out: &mut O, shortage: i64) -> Result<(), Broken>
     requires { O.failures out.old < 2 ^ 64 - 1 }
     ensures bytes { WritesUpTo result (O.contents out.old) (O.contents out.new) (shortage_line shortage) }
     ensures failed { CountsFailure result (O.failures out.old) (O.failures out.new) }
+    ensures last { FailsLast result (O.last_call out.new) }
 {
     let mut line = Line::new();
     line.push_text(b"i ");
@@ -86,6 +91,7 @@ pub fn write_k<O: Sink>(out: &mut O, id: u32) -> Result<(), Broken>
     requires { O.failures out.old < 2 ^ 64 - 1 }
     ensures bytes { WritesUpTo result (O.contents out.old) (O.contents out.new) (cut_line id) }
     ensures failed { CountsFailure result (O.failures out.old) (O.failures out.new) }
+    ensures last { FailsLast result (O.last_call out.new) }
 {
     let mut line = Line::new();
     line.push_text(b"k ");
@@ -99,6 +105,7 @@ pub fn write_r<O: Sink>(out: &mut O, number: u8) -> Result<(), Broken>
     requires { O.failures out.old < 2 ^ 64 - 1 }
     ensures bytes { WritesUpTo result (O.contents out.old) (O.contents out.new) (refusal_line number) }
     ensures failed { CountsFailure result (O.failures out.old) (O.failures out.new) }
+    ensures last { FailsLast result (O.last_call out.new) }
 {
     let mut line = Line::new();
     line.push_text(b"r ");

@@ -1,5 +1,5 @@
 -- A problem text is read as its taker and its end say.
-use Rattle.std.proofs.Common.{◌≡◌, ℕ, List, [], Some, None, Result, Ok, Err, length, refl, ◌∙◌}
+use Rattle.std.proofs.Common.{◌≡◌, ℕ, List, [], None, Result, Ok, Err, length, refl, ◌∙◌}
 use Rattle.dimacs_lines.specs.declared.fault.Fault.{Fault}
 use Rattle.dimacs_lines.specs.declared.fault.LineError.{LineError}
 use Rattle.dimacs_lines.specs.declared.fault.TextFault.{TextFault}

@@ -1,6 +1,6 @@
 -- Answer texts: `s VALUE` and an `f SRC DST FLOW` line for each arc, as in the solutions of the first DIMACS challenge,
 -- and then a `v ID POTENTIAL` line for each node; or an `i SHORTAGE` line, and then a `k ID` line for each node of a cut.
-use Rattle.std.specs.Prelude.{◌≡◌, ℕ, ◌+◌, ◌-◌, ◌&&◌, List, [], ◌∷◌, ◌++◌, Option, Some, None, Result, Ok, Err, length, unwrap_or, nat_lt, ◌==◌, is_some, is_none, if◌then◌else◌, ℤ, pos, slice_index_or}
+use Rattle.std.specs.Prelude.{◌≡◌, ℕ, ◌+◌, ◌-◌, ◌&&◌, List, [], ◌∷◌, ◌++◌, Option, Some, None, Result, Ok, Err, length, unwrap_or, nat_lt, ◌==◌, is_some, is_none, if◌then◌else◌, ℤ, pos, slice_index_or, bytes_eq, codes}
 use Rattle.std.specs.List.{All, flat_map}
 use Rattle.dimacs_lines.specs.declared.fault.Fault.{Fault}
 use Rattle.dimacs_lines.specs.declared.fault.Fault.TheVariants as fault
@@ -10,7 +10,7 @@ use Rattle.dimacs_lines.specs.Lines.{Line, lines_of}
 use Rattle.dimacs_lines.specs.Fields.{Word, words_of, natural, integer, claimed_value}
 use Rattle.dimacs_text.specs.Lawful.{IsNode}
 use Rattle.dimacs_lines.specs.Checks.{◌>>=◌, demand, some_or, natural_in}
-use Rattle.dimacs_text.specs.Problem.{natural_value, integer_value, field, fields_of, fault_of}
+use Rattle.dimacs_text.specs.Problem.{begins_comment, natural_value, integer_value, field, fields_of, fault_of}
 use Rattle.dimacs_lines.specs.Stream.{Rule, Reports, first_fault, fault_or, or_at}
 use Rattle.dimacs_text.specs.declared.answer.Answer.{Answer}
 use Rattle.dimacs_text.specs.declared.answer.Answer.TheVariants.{Flow, Cut}
@@ -22,15 +22,13 @@ use Rattle.dimacs_text.specs.declared.answer_line.AnswerLine.TheVariants as line
 
 -- what the first word makes of a line
 abbrev pub line_of : Word → AnswerLine
-line_of [] = line.Unknown
-line_of (byte ∷ []) =
-    if byte == 99 then line.Comment else
-    if byte == 115 then line.Value else
-    if byte == 102 then line.Flow else
-    if byte == 118 then line.Potential else
-    if byte == 105 then line.Shortage else
-    if byte == 107 then line.CutNode else line.Unknown
-line_of (byte ∷ _ ∷ _) = if byte == 99 then line.Comment else line.Unknown
+line_of word =
+    if begins_comment word then line.Comment else
+    if bytes_eq word (codes "s") then line.Value else
+    if bytes_eq word (codes "f") then line.Flow else
+    if bytes_eq word (codes "v") then line.Potential else
+    if bytes_eq word (codes "i") then line.Shortage else
+    if bytes_eq word (codes "k") then line.CutNode else line.Unknown
 
 abbrev pub first_of : List Word → Option AnswerLine
 first_of [] = None

@@ -1,5 +1,5 @@
 -- Command texts: what a line by itself asks for, or the number of its first check that fails.
-use Rattle.std.specs.Prelude.{ℕ, Bool, true, false, ◌&&◌, not, List, [], ◌∷◌, Option, Some, None, Result, Ok, Err, length, ◌==◌, if◌then◌else◌, pos}
+use Rattle.std.specs.Prelude.{ℕ, Bool, true, false, ◌&&◌, not, List, [], ◌∷◌, Option, Some, None, Result, Ok, Err, length, ◌==◌, if◌then◌else◌, pos, bytes_eq, codes}
 use Rattle.dimacs_lines.specs.declared.fault.Fault.{Fault}
 use Rattle.dimacs_lines.specs.declared.fault.Fault.TheVariants as fault
 use Rattle.dimacs_text.specs.declared.problem.Kind.{Kind}
@@ -19,27 +19,23 @@ use Rattle.dimacs_lines.specs.Name.{name_of}
 use Rattle.dimacs_lines.specs.Checks.{◌>>=◌, demand, some_or, natural_in, integer_in}
 use Rattle.dimacs_text.specs.Problem.{field}
 
--- the verb that a word is: `cap`, `low`, `add`, `end`, `cost`, `undo`, `redo`, `show`, `mark`, `back`, `close`, `proof`, `group` or
--- `supply`
+-- the verb that a word is
 abbrev pub verb_of : Word → Option Verb
-verb_of (a ∷ b ∷ c ∷ []) =
-    if a == 99 && b == 97 && c == 112 then Some verbs.Cap else
-    if a == 108 && b == 111 && c == 119 then Some verbs.Low else
-    if a == 97 && b == 100 && c == 100 then Some verbs.Add else
-    if a == 101 && b == 110 && c == 100 then Some verbs.End else None
-verb_of (a ∷ b ∷ c ∷ d ∷ []) =
-    if a == 99 && b == 111 && c == 115 && d == 116 then Some verbs.Cost else
-    if a == 117 && b == 110 && c == 100 && d == 111 then Some verbs.Undo else
-    if a == 114 && b == 101 && c == 100 && d == 111 then Some verbs.Redo else
-    if a == 115 && b == 104 && c == 111 && d == 119 then Some verbs.Show else
-    if a == 109 && b == 97 && c == 114 && d == 107 then Some verbs.Mark else
-    if a == 98 && b == 97 && c == 99 && d == 107 then Some verbs.Back else None
-verb_of (a ∷ b ∷ c ∷ d ∷ e ∷ []) =
-    if a == 99 && b == 108 && c == 111 && d == 115 && e == 101 then Some verbs.Close else
-    if a == 112 && b == 114 && c == 111 && d == 111 && e == 102 then Some verbs.Proof else
-    if a == 103 && b == 114 && c == 111 && d == 117 && e == 112 then Some verbs.Group else None
-verb_of (a ∷ b ∷ c ∷ d ∷ e ∷ f ∷ []) = if a == 115 && b == 117 && c == 112 && d == 112 && e == 108 && f == 121 then Some verbs.Supply else None
-verb_of _ = None
+verb_of word =
+    if bytes_eq word (codes "cap") then Some verbs.Cap else
+    if bytes_eq word (codes "low") then Some verbs.Low else
+    if bytes_eq word (codes "cost") then Some verbs.Cost else
+    if bytes_eq word (codes "supply") then Some verbs.Supply else
+    if bytes_eq word (codes "add") then Some verbs.Add else
+    if bytes_eq word (codes "close") then Some verbs.Close else
+    if bytes_eq word (codes "undo") then Some verbs.Undo else
+    if bytes_eq word (codes "redo") then Some verbs.Redo else
+    if bytes_eq word (codes "show") then Some verbs.Show else
+    if bytes_eq word (codes "proof") then Some verbs.Proof else
+    if bytes_eq word (codes "group") then Some verbs.Group else
+    if bytes_eq word (codes "end") then Some verbs.End else
+    if bytes_eq word (codes "mark") then Some verbs.Mark else
+    if bytes_eq word (codes "back") then Some verbs.Back else None
 
 -- the kinds that have the command
 abbrev pub is_for : Kind → Verb → Bool

@@ -1,5 +1,5 @@
 -- Problem texts: what each line says by itself, and its fault among the lines before it.
-use Rattle.std.specs.Prelude.{ℕ, Bool, true, false, not, ◌&&◌, ◌||◌, List, [], ◌∷◌, ◌++◌, Option, Some, None, Result, Ok, Err, length, drop, unwrap_or, nat_le, nat_lt, ◌==◌, is_none, if◌then◌else◌, ℤ, pos, slice_index_or}
+use Rattle.std.specs.Prelude.{ℕ, Bool, true, false, not, ◌&&◌, ◌||◌, List, [], ◌∷◌, ◌++◌, Option, Some, None, Result, Ok, Err, length, drop, unwrap_or, nat_le, nat_lt, ◌==◌, is_none, if◌then◌else◌, ℤ, pos, slice_index_or, take, bytes_eq, codes}
 use Rattle.std.specs.List.{flat_map, list_any}
 use Rattle.dimacs_lines.specs.Lines.{Line}
 use Rattle.dimacs_lines.specs.Fields.{Word, words_of, natural, integer}
@@ -18,15 +18,17 @@ use Rattle.dimacs_text.specs.declared.designator.Designator.TheVariants as desig
 
 -- ---- a line by itself
 
+-- the word begins with `c`
+abbrev pub begins_comment : Word → Bool
+begins_comment word = bytes_eq (take 1 word) (codes "c")
+
 -- what the first word makes of a line
 abbrev pub designator_of : Word → Designator
-designator_of [] = designator.Unknown
-designator_of (byte ∷ []) =
-    if byte == 99 then designator.Comment else
-    if byte == 112 then designator.Problem else
-    if byte == 110 then designator.Node else
-    if byte == 97 then designator.Arc else designator.Unknown
-designator_of (byte ∷ _ ∷ _) = if byte == 99 then designator.Comment else designator.Unknown
+designator_of word =
+    if begins_comment word then designator.Comment else
+    if bytes_eq word (codes "p") then designator.Problem else
+    if bytes_eq word (codes "n") then designator.Node else
+    if bytes_eq word (codes "a") then designator.Arc else designator.Unknown
 
 abbrev pub first_of : List Word → Option Designator
 first_of [] = None
@@ -58,25 +60,22 @@ natural_value word = unwrap_or (natural word) 0
 abbrev pub integer_value : Word → ℤ
 integer_value word = unwrap_or (integer word) (pos 0)
 
--- the kind that a word names: `min`, `max` or `asn`
+-- the kind that a word names
 abbrev pub kind_named : Word → Option Kind
-kind_named (a ∷ b ∷ c ∷ []) =
-    if a == 109 && b == 105 && c == 110 then Some Min else
-    if a == 109 && b == 97 && c == 120 then Some Max else
-    if a == 97 && b == 115 && c == 110 then Some Asn else None
-kind_named _ = None
+kind_named word =
+    if bytes_eq word (codes "min") then Some Min else
+    if bytes_eq word (codes "max") then Some Max else
+    if bytes_eq word (codes "asn") then Some Asn else None
 
 abbrev pub kind_of : Word → Kind
 kind_of word = unwrap_or (kind_named word) Min
 
--- the word of a node line that names the source, `s`, and the sink, `t`
+-- the word of a node line that names the source, and the sink
 abbrev pub is_source_word : Word → Bool
-is_source_word (byte ∷ []) = byte == 115
-is_source_word _ = false
+is_source_word word = bytes_eq word (codes "s")
 
 abbrev pub is_sink_word : Word → Bool
-is_sink_word (byte ∷ []) = byte == 116
-is_sink_word _ = false
+is_sink_word word = bytes_eq word (codes "t")
 
 abbrev pub size_of : List Word → Size
 size_of fields = record { kind = kind_of (field 0 fields); nodes = natural_value (field 1 fields); arcs = natural_value (field 2 fields) }

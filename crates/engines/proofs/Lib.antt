@@ -5,3 +5,4 @@ pub mod LineLemmas
 pub mod RunLemmas
 pub mod SessionLemmas
 pub mod ReplyLemmas
+pub mod ClaimLemmas

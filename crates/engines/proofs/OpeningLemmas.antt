@@ -5,7 +5,8 @@ use Rattle.checker.specs.declared.end.Text.TheVariants as the
 use Rattle.checker.specs.declared.end.End.{End}
 use Rattle.checker.specs.declared.read.ReadError.{ReadError}
 use Rattle.checker.specs.declared.read.ReadError.TheVariants as read_error
-use Rattle.checker.specs.Check.{write_failures}
+use Rattle.dimacs_io.specs.declared.device.LastCall.{LastCall}
+use Rattle.checker.specs.Check.{last_by, write_failures}
 use Rattle.checker.specs.Reading.{end_of}
 use Rattle.engines.specs.Opening.{IsNotOpened}
 use Rattle.engines.specs.Session.{command_failures}
@@ -29,3 +30,16 @@ unopened_writes known count end failures (inr memory) = rw memory (omega arith)
 pub unopened_commands : (known : Option (List ℕ)) (count : ℕ) (end : End) (failures : ℕ) → IsNotOpened known count end → failures ≡ failures + command_failures end
 unopened_commands known count end failures (inl ends) = rw ends.1 (omega (arith, unread_commands ends.0))
 unopened_commands known count end failures (inr memory) = rw memory (omega arith)
+
+unread_last : (e : ReadError) (before : LastCall) → before ≡ last_by (end_of the.Problem e) before
+unread_last (read_error.Text text_fault.Memory) before = refl
+unread_last (read_error.Text (text_fault.Fault number line)) before = refl
+unread_last read_error.Source before = refl
+
+-- no call was made
+pub unopened_last : (known : Option (List ℕ)) (count : ℕ) (end : End) (before : LastCall) → IsNotOpened known count end → before ≡ last_by end before
+unopened_last known count end before (inl ends) = rw ends.1 (unread_last ends.0 before)
+unopened_last known count end before (inr memory) = rw memory refl
+
+pub none_counted : {P : Type 0} (n failures : ℕ) → failures ≡ failures + n → n ≡ 1 → P
+none_counted n failures none one = absurd (omega (arith, none, one))

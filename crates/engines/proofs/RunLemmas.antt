@@ -8,6 +8,8 @@ use Rattle.std.proofs.lemmas.List.Elements.{filter-append}
 use Rattle.std.specs.Io.KnownBytes.{Appends}
 use Rattle.std.proofs.KnownBytes.{Appends-nil, Appends-trans}
 use Rattle.dimacs_io.specs.Device.{IsBeginning, AppendsBeginning, CountsFailure}
+use Rattle.dimacs_io.specs.declared.device.LastCall.{LastCall}
+use Rattle.dimacs_io.specs.declared.device.LastCall.TheVariants as last
 use Rattle.engines.proofs.PrintingLemmas.{stopped_after}
 use Rattle.dimacs_text.specs.Command.{opens_group, ends_group}
 use Rattle.dimacs_lines.specs.Cut.{Cut, CutsLine}
@@ -16,8 +18,9 @@ use Rattle.dimacs_lines.specs.Lines.{Line, last_line, lines_of, parts_of}
 use Rattle.dimacs_lines.specs.Fields.{words_of}
 use Rattle.dimacs_text.specs.Turns.{Turn, Turns, and_inside, and_outside, and_turn, and_turn_by, no_turns, turns_of}
 use Rattle.session.specs.Step.{SessionState}
-use Rattle.engines.specs.Run.{Answers, AnswersTurns, Run, asks, turns_by, turns_in}
-use Rattle.engines.specs.Serving.{Answered, AnswersLine, Finishes, GoesOn, ServesLine, Stands, Stopped, gathered_in}
+use Rattle.session.specs.Turns.{asks, gathered_in, turns_by}
+use Rattle.engines.specs.Run.{Answers, AnswersTurns, Run, turns_in}
+use Rattle.engines.specs.Serving.{Answered, AnswersLine, Finishes, GoesOn, ServesLine, Stands, StaysPassedOn, Stopped}
 use Rattle.engines.proofs.LineLemmas.{IsBeginning-same, IsBeginning-trans}
 
 -- ---- the turns of one line more
@@ -207,3 +210,11 @@ Stands-from_ok (Err e) first given present group cut before now fine goes = absu
 pub same_from_ok : {T E : Type 0} (r : Result T E) (old new : ℕ) → is_err r ≡ false → CountsFailure r old new → new ≡ old
 same_from_ok (Ok v) old new fine counts = counts
 same_from_ok (Err e) old new fine counts = absurd (false≢true (sym fine))
+
+pub passed_on_from_ok : {E : Type 0} (r : Result (Unit {0}) E) (before now : LastCall) → is_err r ≡ false → StaysPassedOn r before now → before ≡ last.Flush → now ≡ last.Flush
+passed_on_from_ok (Ok v) before now fine stays passed = stays passed
+passed_on_from_ok (Err e) before now fine stays passed = absurd (false≢true (sym fine))
+
+pub failed_from_err : {E : Type 0} (r : Result (Unit {0}) E) (before now : LastCall) → is_err r ≡ true → StaysPassedOn r before now → now ≡ last.Failure
+failed_from_err (Ok v) before now failed stays = absurd (false≢true failed)
+failed_from_err (Err e) before now failed stays = stays

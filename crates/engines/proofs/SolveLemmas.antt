@@ -14,7 +14,9 @@ use Rattle.checker.specs.declared.end.End.{End}
 use Rattle.checker.specs.declared.end.End.TheVariants.{Memory, WriteFailed}
 use Rattle.checker.specs.declared.read.ReadError.{ReadError}
 use Rattle.checker.specs.declared.read.ReadError.TheVariants as read_error
-use Rattle.checker.specs.Check.{write_failures}
+use Rattle.dimacs_io.specs.declared.device.LastCall.{LastCall}
+use Rattle.dimacs_io.specs.declared.device.LastCall.TheVariants as last
+use Rattle.checker.specs.Check.{last_by, problem_failures, write_failures}
 use Rattle.checker.specs.Reading.{ReadsKnown, ReadsWhole, end_of}
 use Rattle.engines.specs.Printing.{solution}
 use Rattle.engines.specs.Opening.{IsNotOpened}
@@ -81,3 +83,13 @@ SolveOnDevices-solved problem m proof (Some text) count (Some held) after read s
 pub written_count : (v : Verdict) (failures : ℕ) → failures ≡ failures + write_failures (end_by v)
 written_count (verdict.Best worth) failures = omega arith
 written_count (verdict.Infeasible shortage) failures = omega arith
+
+-- and the last call passed it on
+pub written_last : (v : Verdict) (before : LastCall) → last.Flush ≡ last_by (end_by v) before
+written_last (verdict.Best worth) before = refl
+written_last (verdict.Infeasible shortage) before = refl
+
+-- and the problem was read
+pub no_problem_failed : {P : Type 0} (v : Verdict) → problem_failures (end_by v) ≡ 1 → P
+no_problem_failed (verdict.Best worth) one = absurd (omega (arith, one))
+no_problem_failed (verdict.Infeasible shortage) one = absurd (omega (arith, one))

@@ -4,3 +4,4 @@ pub mod Opening
 pub mod Run
 pub mod Session
 pub mod Serving
+pub mod Claim

@@ -1,35 +1,18 @@
 -- What a session has done at each of its calls, over what has come so far of its commands.
 use Rattle.std.specs.Prelude.{◌≡◌, ℕ, ◌+◌, List, ◌⊎◌, Option, Result, MatchResult, OnOk}
-use Rattle.std.specs.Option.{option_map}
 use Rattle.std.specs.Io.KnownBytes.{Appends, IsAtEnd}
 use Rattle.dimacs_io.specs.Device.{IsBeginning, AppendsBeginning, WritesUpTo}
+use Rattle.dimacs_io.specs.declared.device.LastCall.{LastCall}
+use Rattle.dimacs_io.specs.declared.device.LastCall.TheVariants as last
 use Rattle.dimacs_lines.specs.Cut.{Cut, HoldsRest}
-use Rattle.dimacs_text.specs.Group.{Gathered, gathered}
+use Rattle.dimacs_text.specs.Group.{Gathered}
 use Rattle.dimacs_lines.specs.Lines.{Line, parts_of, lines_of}
-use Rattle.network.specs.Instance.{kind_of}
-use Rattle.session.specs.declared.refusal.Refusal.{Refusal}
-use Rattle.session.specs.declared.refusal.Refusal.TheVariants as refusal
-use Rattle.session.specs.Step.{Reply, SessionState}
+use Rattle.session.specs.Step.{SessionState}
+use Rattle.session.specs.Turns.{gathered_in, turns_by}
 use Rattle.checker.specs.declared.end.Text.TheVariants as the
 use Rattle.checker.specs.declared.end.End.{End}
 use Rattle.checker.specs.declared.end.End.TheVariants.{Ended, ReadFailed, WriteFailed}
-use Rattle.engines.specs.Printing.{reply_text}
-use Rattle.engines.specs.Run.{Answers, AnswersTurns, turns_by, turns_in}
-
--- the number that is replied to a refused edit
-abbrev pub number_of : Refusal → ℕ
-number_of (refusal.Cause number) = number
-number_of refusal.Memory = 30
-
--- a step is taken by which this relation holds, and up to the whole text of its reply is written
-pub record Replies {E : Type 0} (result : Result (Unit {0}) E) (StepTo : Reply → SessionState → Type 0) (new : SessionState) (before after : Option (List ℕ)) : Type 0 where
-  pub reply : Reply
-  pub step : StepTo reply new
-  pub writes : WritesUpTo result before after (reply_text reply new.moments.present)
-
--- what the lines of the group that stands open have given, if one does
-abbrev pub gathered_in : SessionState → Option (List Line) → Option Gathered
-gathered_in s opened = option_map (gathered (kind_of s.moments.present.instance.demand) 0) opened
+use Rattle.engines.specs.Run.{Answers, AnswersTurns, turns_in}
 
 -- after the lines of the group that stands open, the turn that a line makes whole is answered by one step
 abbrev pub AnswersLine : SessionState → Option (List Line) → Line → List ℕ → SessionState → Type 0
@@ -41,6 +24,10 @@ pub record ServesLine {E : Type 0} (result : Result (Unit {0}) E) (old : Session
   pub answers : AnswersLine old opened line text new
   pub writes : WritesUpTo result before after text
   pub holds : OnOk result (group ≡ gathered_in new (turns_by opened line).opened)
+
+-- where all that was written before is passed on, so is what was written now; or the last call is the one that failed
+abbrev pub StaysPassedOn : {E : Type 0} → Result (Unit {0}) E → LastCall → LastCall → Type 0
+StaysPassedOn result before now = MatchResult result (λ _. before ≡ last.Flush → now ≡ last.Flush) (λ _. now ≡ last.Failure)
 
 -- the answers to these lines were written, and led from the opening to this moment
 pub record Answered (opening : SessionState) (lines : List Line) (last : SessionState) (before after : Option (List ℕ)) : Type 0 where

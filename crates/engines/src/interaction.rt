@@ -1,11 +1,15 @@
 //! Runs a session: reads its problem, and then its commands, each turn of which is answered before the next.
-ghost use Rattle.std.specs.Prelude.{◌≡◌, ℕ, ◌+◌, ◌-◌, ◌^◌, ◌<◌, List, ◌++◌, Option};
-ghost use Rattle.dimacs_io.specs.Device.{CountsFailure, WritesUpTo};
+ghost use Rattle.std.specs.Prelude.{◌≡◌, ℕ, ◌+◌, ◌-◌, ◌^◌, ◌<◌, true, is_err, List, ◌++◌, Option};
+ghost use Rattle.std.specs.Io.{ReadsAtMost};
+ghost use Rattle.std.specs.Io.KnownBytes.{ReadConsumes};
+ghost use Rattle.dimacs_io.specs.Device.{CountsFailure, EndsBy, LowersByCount, WritesUpTo};
+ghost use Rattle.dimacs_io.specs.declared.device.LastCall.{LastCall};
+ghost use Rattle.dimacs_io.specs.declared.device.LastCall.TheVariants as last;
 ghost use Rattle.session.specs.Step.{SessionState, state_of};
-ghost use Rattle.checker.specs.Check.{problem_failures, write_failures};
+ghost use Rattle.checker.specs.Check.{last_by, problem_failures, write_failures};
 ghost use Rattle.engines.specs.Printing.{outcome_line};
 ghost use Rattle.checker.specs.Reading.{Gives};
-ghost use Rattle.engines.specs.Serving.{CommandsEnd, CommandsFail, Finishes, GoesOn, Stands};
+ghost use Rattle.engines.specs.Serving.{CommandsEnd, CommandsFail, Finishes, GoesOn, Stands, StaysPassedOn};
 ghost use Rattle.engines.specs.Session.{SessionOnDevices, command_failures};
 
 use crate::opening::open_text;
@@ -48,6 +52,11 @@ pub fn run_session<P: Source, C: Source, O: Sink>(
     ensures problem_failed { P.failures problem.new ≡ P.failures problem.old + problem_failures result }
     ensures script_failed { C.failures script.new ≡ C.failures script.old + command_failures result }
     ensures out_failed { O.failures out.new ≡ O.failures out.old + write_failures result }
+
+    // A call that failed was the last one on its device, and what is written is passed on.
+    ensures problem_last { problem_failures result ≡ 1 → P.last_failed problem.new ≡ true }
+    ensures script_last { command_failures result ≡ 1 → C.last_failed script.new ≡ true }
+    ensures out_last { O.last_call out.new ≡ last_by result (O.last_call out.old) }
 {
     run_session_in(alloc, alloc, problem, script, out, extra)
 }
@@ -75,6 +84,11 @@ pub fn run_session_in<A: Allocator + Copy, P: Source, C: Source, O: Sink>(
     ensures problem_failed { P.failures problem.new ≡ P.failures problem.old + problem_failures result }
     ensures script_failed { C.failures script.new ≡ C.failures script.old + command_failures result }
     ensures out_failed { O.failures out.new ≡ O.failures out.old + write_failures result }
+
+    // A call that failed was the last one on its device, and what is written is passed on.
+    ensures problem_last { problem_failures result ≡ 1 → P.last_failed problem.new ≡ true }
+    ensures script_last { command_failures result ≡ 1 → C.last_failed script.new ≡ true }
+    ensures out_last { O.last_call out.new ≡ last_by result (O.last_call out.old) }
 {
     let mut session = match open_text(alloc, steps, problem, extra) {
         Ok(session) => session,
@@ -102,6 +116,7 @@ fn tell_opening<A: Allocator + Copy, O: Sink>(
     requires { O.failures out.old < 2 ^ 64 - 1 }
     ensures bytes { WritesUpTo result (O.contents out.old) (O.contents out.new) (outcome_line session.now.moments.present.verdict) }
     ensures failed { CountsFailure result (O.failures out.old) (O.failures out.new) }
+    ensures last { EndsBy result last.Flush (O.last_call out.new) }
 {
     write_outcome(session, out)?;
     out.flush()
@@ -115,16 +130,19 @@ fn serve_commands<A: Allocator + Copy, C: Source, O: Sink>(
 ) -> End
     requires script { C.failures script.old < 2 ^ 64 - 1 }
     requires out { O.failures out.old < 2 ^ 64 - 1 }
+    requires passed_on { O.last_call out.old ≡ last.Flush }
     ensures served { (given : List ℕ)
         × Gives (C.remaining script.old) (C.remaining script.new) given (C.most_left script.old) (C.most_left script.new)
         × CommandsEnd result (state_of session.old) given (C.remaining script.new) (O.contents out.old) (O.contents out.new) }
     ensures failed { CommandsFail result (C.failures script.old) (C.failures script.new) (O.failures out.old) (O.failures out.new) }
+    ensures script_last { command_failures result ≡ 1 → C.last_failed script.new ≡ true }
+    ensures out_last { (before : LastCall) → O.last_call out.new ≡ last_by result before }
 {
     let mut group = None;
     let mut cutter = LineCutter::new();
     let mut piece = [0u8; PIECE];
     'pieces: loop {
-        let count = match script.read(&mut piece) {
+        let count = match read_on(script, out, &mut piece) {
             Ok(0) => break,
             Ok(count) => count,
             Err(_) => return End::ReadFailed(Text::Commands),
@@ -137,6 +155,23 @@ fn serve_commands<A: Allocator + Copy, C: Source, O: Sink>(
         Ok(()) => End::Ended,
         Err(_) => End::WriteFailed,
     }
+}
+
+/// Reads more of the commands, where each reply is passed on.
+fn read_on<C: Source, O: Sink>(
+    script: &mut C,
+    _replies: &O,
+    piece: &mut [u8],
+) -> Result<usize, Broken>
+    requires script { C.failures script.old < 2 ^ 64 - 1 }
+    requires passed_on { O.last_call _replies.now ≡ last.Flush }
+    ensures bound { ReadsAtMost result piece.new }
+    ensures bytes { ReadConsumes (C.remaining script.old) (C.remaining script.new) result piece.new }
+    ensures left { LowersByCount result (C.most_left script.old) (C.most_left script.new) }
+    ensures failed { CountsFailure result (C.failures script.old) (C.failures script.new) }
+    ensures last { C.last_failed script.new ≡ is_err result }
+{
+    script.read(piece)
 }
 
 /// Takes a piece of the commands, and answers each turn that ends in it.
@@ -152,6 +187,7 @@ fn serve_piece<A: Allocator + Copy, O: Sink>(
         → Stands opening given (state_of session.old) group.old cutter.old before (O.contents out.old)
         → GoesOn result opening (given ++ piece.now) (state_of session.new) group.new cutter.new before (O.contents out.new) }
     ensures failed { CountsFailure result (O.failures out.old) (O.failures out.new) }
+    ensures passed_on { StaysPassedOn result (O.last_call out.old) (O.last_call out.new) }
 {
     ended_lines_stay();
     let mut at = 0;
@@ -178,6 +214,7 @@ fn serve_rest<A: Allocator + Copy, O: Sink>(
         → Stands opening given (state_of session.old) group.old cutter.now before (O.contents out.old)
         → Finishes result opening given (state_of session.new) before (O.contents out.new) }
     ensures failed { CountsFailure result (O.failures out.old) (O.failures out.new) }
+    ensures passed_on { StaysPassedOn result (O.last_call out.old) (O.last_call out.new) }
 {
     if cutter.begun() {
         serve_line(session, group, cutter.line(), out)

@@ -1,5 +1,5 @@
 //! Opens the session of a run: reads its problem, and solves it.
-ghost use Rattle.std.specs.Prelude.{◌≡◌, ℕ, ◌+◌, ◌-◌, ◌^◌, ◌<◌, IfErr, IfOk};
+ghost use Rattle.std.specs.Prelude.{◌≡◌, ℕ, ◌+◌, ◌-◌, ◌^◌, ◌<◌, true, IfErr, IfOk};
 ghost use Rattle.checker.specs.Check.{problem_failures};
 ghost use Rattle.session.specs.Step.{state_of};
 ghost use Rattle.engines.specs.Opening.{IsNotOpened, IsOpened};
@@ -25,6 +25,7 @@ pub(crate) fn open_text<A: Allocator + Copy, P: Source>(
     ensures ended { IfErr result (λ end. IsNotOpened (P.remaining input.old) (P.most_left input.old - P.most_left input.new) end) }
     ensures read { IfOk result (λ _. P.failures input.new ≡ P.failures input.old) }
     ensures failed { IfErr result (λ end. P.failures input.new ≡ P.failures input.old + problem_failures end) }
+    ensures last { IfErr result (λ end. problem_failures end ≡ 1 → P.last_failed input.new ≡ true) }
 {
     let problem = match read_problem(alloc, input) {
         Ok(problem) => problem,

@@ -1,7 +1,7 @@
 //! Writes what is told of the present moment of a session.
 ghost use Rattle.std.specs.Prelude.{◌≡◌, ◌-◌, ◌^◌, ◌<◌, ◌≤◌, [], length, if◌then◌else◌};
 ghost use Rattle.dimacs_io.specs.Line.{cut_line, flow_line, potential_line};
-ghost use Rattle.dimacs_io.specs.Device.{CountsFailure, WritesUpTo};
+ghost use Rattle.dimacs_io.specs.Device.{CountsFailure, FailsLast, WritesUpTo};
 ghost use Rattle.engines.specs.Printing.{best_text, cut_lines, flow_lines, outcome_line, potential_lines, solution, breach_text};
 ghost use Rattle.network.specs.Instance.{numbered_flow};
 
@@ -20,6 +20,7 @@ pub fn write_outcome<A: Allocator + Copy, O: Sink>(
     requires { O.failures out.old < 2 ^ 64 - 1 }
     ensures bytes { WritesUpTo result (O.contents out.old) (O.contents out.new) (outcome_line session.now.moments.present.verdict) }
     ensures failed { CountsFailure result (O.failures out.old) (O.failures out.new) }
+    ensures last { FailsLast result (O.last_call out.new) }
 {
     match session.verdict() {
         Verdict::Best(worth) => write_s(out, worth),
@@ -37,6 +38,7 @@ pub fn write_solution<A: Allocator + Copy, O: Sink>(
     requires { O.failures out.old < 2 ^ 64 - 1 }
     ensures bytes { WritesUpTo result (O.contents out.old) (O.contents out.new) (solution proof session.now.moments.present) }
     ensures failed { CountsFailure result (O.failures out.old) (O.failures out.new) }
+    ensures last { FailsLast result (O.last_call out.new) }
 {
     match session.verdict() {
         Verdict::Best(worth) => write_best(worth, session, proof, out),
@@ -54,6 +56,7 @@ fn write_best<A: Allocator + Copy, O: Sink>(
     requires { O.failures out.old < 2 ^ 64 - 1 }
     ensures bytes { WritesUpTo result (O.contents out.old) (O.contents out.new) (best_text worth proof session.now.moments.present) }
     ensures failed { CountsFailure result (O.failures out.old) (O.failures out.new) }
+    ensures last { FailsLast result (O.last_call out.new) }
 {
     writes_follow();
     write_s(out, worth)?;
@@ -71,6 +74,7 @@ fn write_breach<A: Allocator + Copy, O: Sink>(
     ensures bytes { WritesUpTo result (O.contents out.old) (O.contents out.new)
         (breach_text shortage session.now.moments.present.cut) }
     ensures failed { CountsFailure result (O.failures out.old) (O.failures out.new) }
+    ensures last { FailsLast result (O.last_call out.new) }
 {
     writes_follow();
     write_i(out, shortage)?;
@@ -84,6 +88,7 @@ fn write_flows<O: Sink>(net: &Network, flow: &[i64], out: &mut O) -> Result<(), 
     requires count { length flow.now < 2 ^ 32 - 1 }
     ensures bytes { WritesUpTo result (O.contents out.old) (O.contents out.new) (flow_lines net.now.arcs flow.now) }
     ensures failed { CountsFailure result (O.failures out.old) (O.failures out.new) }
+    ensures last { FailsLast result (O.last_call out.new) }
 {
     for (place, x) in flow.iter().enumerate() {
         let Some(arc) = net.arc(place as u32 + 1) else {
@@ -99,6 +104,7 @@ fn write_arc<O: Sink>(arc: &ArcRow, x: &i64, out: &mut O) -> Result<(), Broken>
     requires { O.failures out.old < 2 ^ 64 - 1 }
     ensures bytes { WritesUpTo result (O.contents out.old) (O.contents out.new) (flow_line arc.now.tail arc.now.head x.now) }
     ensures failed { CountsFailure result (O.failures out.old) (O.failures out.new) }
+    ensures last { FailsLast result (O.last_call out.new) }
 {
     write_f(out, arc.tail, arc.head, *x)
 }
@@ -110,6 +116,7 @@ fn write_proof<O: Sink>(proof: bool, potentials: &[i64], out: &mut O) -> Result<
     ensures bytes { WritesUpTo result (O.contents out.old) (O.contents out.new)
         (if proof then potential_lines 1 potentials.now else []) }
     ensures failed { CountsFailure result (O.failures out.old) (O.failures out.new) }
+    ensures last { FailsLast result (O.last_call out.new) }
 {
     if proof {
         write_potentials(potentials, out)
@@ -124,6 +131,7 @@ fn write_potentials<O: Sink>(potentials: &[i64], out: &mut O) -> Result<(), Brok
     requires count { length potentials.now < 2 ^ 32 - 1 }
     ensures bytes { WritesUpTo result (O.contents out.old) (O.contents out.new) (potential_lines 1 potentials.now) }
     ensures failed { CountsFailure result (O.failures out.old) (O.failures out.new) }
+    ensures last { FailsLast result (O.last_call out.new) }
 {
     for (place, potential) in potentials.iter().enumerate() {
         write_node(place as u32 + 1, potential, out)?;
@@ -136,6 +144,7 @@ fn write_node<O: Sink>(id: u32, potential: &i64, out: &mut O) -> Result<(), Brok
     requires { O.failures out.old < 2 ^ 64 - 1 }
     ensures bytes { WritesUpTo result (O.contents out.old) (O.contents out.new) (potential_line id potential.now) }
     ensures failed { CountsFailure result (O.failures out.old) (O.failures out.new) }
+    ensures last { FailsLast result (O.last_call out.new) }
 {
     write_v(out, id, *potential)
 }
@@ -146,6 +155,7 @@ fn write_cut<O: Sink>(marks: &[bool], out: &mut O) -> Result<(), Broken>
     requires count { length marks.now < 2 ^ 32 - 1 }
     ensures bytes { WritesUpTo result (O.contents out.old) (O.contents out.new) (cut_lines 1 marks.now) }
     ensures failed { CountsFailure result (O.failures out.old) (O.failures out.new) }
+    ensures last { FailsLast result (O.last_call out.new) }
 {
     for (place, mark) in marks.iter().enumerate() {
         write_mark(place as u32 + 1, *mark, out)?;
@@ -158,6 +168,7 @@ fn write_mark<O: Sink>(id: u32, mark: bool, out: &mut O) -> Result<(), Broken>
     requires { O.failures out.old < 2 ^ 64 - 1 }
     ensures bytes { WritesUpTo result (O.contents out.old) (O.contents out.new) (if mark then cut_line id else []) }
     ensures failed { CountsFailure result (O.failures out.old) (O.failures out.new) }
+    ensures last { FailsLast result (O.last_call out.new) }
 {
     if mark { write_k(out, id) } else { Ok(()) }
 }

@@ -1,7 +1,8 @@
 //! Solves a problem, and writes the solution.
-ghost use Rattle.std.specs.Prelude.{◌≡◌, ◌+◌, ◌-◌, ◌^◌, ◌<◌};
-ghost use Rattle.dimacs_io.specs.Device.{CountsFailure, WritesUpTo};
-ghost use Rattle.checker.specs.Check.{problem_failures, write_failures};
+ghost use Rattle.std.specs.Prelude.{◌≡◌, ◌+◌, ◌-◌, ◌^◌, ◌<◌, true};
+ghost use Rattle.dimacs_io.specs.Device.{CountsFailure, EndsBy, WritesUpTo};
+ghost use Rattle.dimacs_io.specs.declared.device.LastCall.TheVariants as last;
+ghost use Rattle.checker.specs.Check.{last_by, problem_failures, write_failures};
 ghost use Rattle.engines.specs.Printing.{solution};
 ghost use Rattle.engines.specs.Solve.{SolveOnDevices, end_by};
 
@@ -16,7 +17,8 @@ use std::alloc::Global;
 /// Solves a problem text: writes a best flow, with its potentials where a proof is asked for, or a cut that shows that
 /// no legal flow exists.
 ///
-/// Nothing is written before the text is read to its end, and nothing after a failed write.
+/// Nothing is written before the text is read to its end, and nothing after a failed write. What is written is passed
+/// on.
 pub fn solve<P: Source, O: Sink>(alloc: Global, input: &mut P, out: &mut O, proof: bool) -> End
     requires input { P.failures input.old < 2 ^ 64 - 1 }
     requires out { O.failures out.old < 2 ^ 64 - 1 }
@@ -29,6 +31,10 @@ pub fn solve<P: Source, O: Sink>(alloc: Global, input: &mut P, out: &mut O, proo
     // The end tells of each call that failed.
     ensures input_failed { P.failures input.new ≡ P.failures input.old + problem_failures result }
     ensures out_failed { O.failures out.new ≡ O.failures out.old + write_failures result }
+
+    // A call that failed was the last one on its device, and what is written is passed on.
+    ensures input_last { problem_failures result ≡ 1 → P.last_failed input.new ≡ true }
+    ensures out_last { O.last_call out.new ≡ last_by result (O.last_call out.old) }
 {
     let session = match open_text(alloc, alloc, input, 0) {
         Ok(session) => session,
@@ -53,6 +59,7 @@ fn tell_solution<O: Sink>(session: &Session, proof: bool, out: &mut O) -> Result
     requires { O.failures out.old < 2 ^ 64 - 1 }
     ensures bytes { WritesUpTo result (O.contents out.old) (O.contents out.new) (solution proof session.now.moments.present) }
     ensures failed { CountsFailure result (O.failures out.old) (O.failures out.new) }
+    ensures last { EndsBy result last.Flush (O.last_call out.new) }
 {
     write_solution(session, proof, out)?;
     out.flush()

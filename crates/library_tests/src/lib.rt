@@ -17,6 +17,8 @@ mod session_groups;
 #[cfg(test)]
 mod session_growths;
 #[cfg(test)]
+mod session_lines;
+#[cfg(test)]
 mod session_marks;
 #[cfg(test)]
 mod sessions;

@@ -1,9 +1,19 @@
 -- What stands behind a handle.
-use Rattle.std.specs.Prelude.{Option}
+use Rattle.std.specs.Prelude.{Option, None, Some}
 use Rattle.std.specs.Option.{option_map}
+use Rattle.dimacs_text.specs.Group.{Gathered}
 use Rattle.session.specs.Step.{SessionState, state_of}
 use Rattle.mcf_c.specs.declared.handle.Handle.{Handle}
+use Rattle.mcf_c.specs.declared.plan.Plan.{Plan}
 
 -- the state of the session behind a handle, where it is open
 abbrev pub state_behind : Handle → Option SessionState
 state_behind handle = option_map (λ plan. state_of plan.session) handle.pointer.plan
+
+-- what the lines of the group that stands open there have given, if one does
+abbrev pub group_in : Option Plan → Option Gathered
+group_in None = None
+group_in (Some plan) = plan.group
+
+abbrev pub group_behind : Handle → Option Gathered
+group_behind handle = group_in handle.pointer.plan

@@ -3,7 +3,7 @@
 //! Each call of a session takes it out of its handle, does its work on it by a function of `calls`, and puts it back.
 #![tactic(auto)]
 
-ghost use Rattle.std.specs.Prelude.{◌≡◌, ◌≢◌, ◌⊎◌, ℕ, ℤ, List, None, Some, Err, pos, length, IfSome};
+ghost use Rattle.std.specs.Prelude.{◌≡◌, ◌≢◌, ◌⊎◌, ℕ, ℤ, List, Option, None, Some, Err, pos, length, IfSome};
 ghost use Rattle.dimacs_text.specs.Reading.{reads};
 ghost use Rattle.dimacs_text.specs.declared.command.Command.TheVariants as commands;
 ghost use Rattle.dimacs_lines.specs.declared.fault.TextFault.TheVariants as faults;
@@ -11,11 +11,13 @@ ghost use Rattle.flow_solver.specs.Answer.{AreGreatestPotentials, IsChosenCut};
 ghost use Rattle.flow_solver.specs.declared.verdict.Verdict.TheVariants.{Infeasible};
 ghost use Rattle.network.specs.Instance.{IsBest, IsBreach, IsCertified, IsLegal, at_node, is_marked, reduced};
 ghost use Rattle.session.specs.Parts.{flow_of};
-ghost use Rattle.session.specs.Step.{Step, StepBy};
+ghost use Rattle.dimacs_lines.specs.Lines.{Line};
+ghost use Rattle.session.specs.Step.{StepBy};
+ghost use Rattle.session.specs.Turns.{gathered_in};
 ghost use Rattle.calls.specs.Answer.{AreListsKept, IsSameRoom, IsSolved, IsTooShort};
 ghost use Rattle.calls.specs.declared.status.TheConstants.{FAULT, TOO_SHORT};
-ghost use Rattle.calls.specs.Library.{Goes, IsOpening, IsViewOf, Steps, arc_count, given_of, has_cut, has_flow, node_count};
-ghost use Rattle.mcf_c.specs.Handles.{state_behind};
+ghost use Rattle.calls.specs.Library.{Goes, IsOpening, IsViewOf, Steps, Took, arc_count, given_of, has_cut, has_flow, node_count};
+ghost use Rattle.mcf_c.specs.Handles.{group_behind, state_behind};
 
 mod handle;
 mod loose;
@@ -62,11 +64,13 @@ pub extern "C" fn mcf_open(
 ) -> i32
     ensures opened { result ≡ pos 0 → (state_behind handle.old ≡ None) × IfSome (state_behind handle.new) (IsOpening text.now extra) }
     ensures open { result ≡ pos 0 → state_behind handle.new ≢ None }
+    ensures no_group { result ≡ pos 0 → group_behind handle.new ≡ None }
     ensures fault { result ≡ FAULT → reads text.now ≡ Err (faults.Fault fault.new.number fault.new.line) }
     ensures in_use { result ≡ OPEN → state_behind handle.old ≢ None }
     ensures otherwise { result ≢ pos 0 → result ≢ FAULT → result ≢ OPEN → result ≡ MEMORY }
     ensures no_fault { result ≢ FAULT → fault.new ≡ fault.old }
     ensures refused { result ≢ pos 0 → state_behind handle.new ≡ state_behind handle.old }
+    ensures same_group { result ≢ pos 0 → group_behind handle.new ≡ group_behind handle.old }
 {
     if handle.is_open() {
         return OPEN;
@@ -75,7 +79,11 @@ pub extern "C" fn mcf_open(
         Ok(session) => session,
         Err(status) => return status,
     };
-    match Box::new(alloc, Plan { session }) {
+    let plan = Plan {
+        session,
+        group: None,
+    };
+    match Box::new(alloc, plan) {
         Ok(plan) => {
             handle.put(plan);
             0
@@ -84,26 +92,30 @@ pub extern "C" fn mcf_open(
     }
 }
 
-/// Takes the step that a line of a command text asks for, as `mcf session` does of a line outside of a group.
+/// Takes a line of a command text, as `mcf session` does: it is a step by itself, or it opens a group, goes into the group
+/// that stands open or ends it, which is one step of all its edits.
 ///
-/// Answers 0, or the number of the refusal, or `CLOSED`. A refused line changes nothing; `show` and `proof` neither.
-/// `group` and `end` are refused (29): each call takes one line.
+/// Answers 0, or the number of the refusal, or `CLOSED`. A refused line or group changes nothing; `show` and `proof`
+/// neither. A line that opens a group or goes into it is answered by 0, a blank line by 2 wherever it comes.
 #[unsafe(no_mangle)]
 pub extern "C" fn mcf_command(alloc: Global, handle: &mut Handle, line: &[u8]) -> i32
-    ensures { Goes (state_behind handle.old) result (state_behind handle.new) (λ old. Steps (Step old line.now)) }
+    ensures { (opened : Option (List Line)) → IfSome (state_behind handle.old) (λ old. group_behind handle.old ≡ gathered_in old opened)
+        → Goes (state_behind handle.old) result (state_behind handle.new) (λ old number new. Took old opened line.now number new (group_behind handle.new)) }
 {
     let Some(mut plan) = handle.take(alloc) else {
         return CLOSED;
     };
-    let number = take_line(&mut plan.session, line);
+    let Plan { session, group } = &mut *plan;
+    let number = take_line(session, group, line);
     handle.put(plan);
     i32::from(number)
 }
 
-/// Goes back one moment. Answers 0, or 25 where there is none, or `CLOSED`.
+/// Goes back one moment. Answers 0, or 25 where there is none, or `CLOSED`. A group that stands open stays so.
 #[unsafe(no_mangle)]
 pub extern "C" fn mcf_undo(alloc: Global, handle: &mut Handle) -> i32
-    ensures { Goes (state_behind handle.old) result (state_behind handle.new) (λ old. Steps (StepBy commands.Undo old)) }
+    ensures goes { Goes (state_behind handle.old) result (state_behind handle.new) (λ old. Steps (StepBy commands.Undo old)) }
+    ensures group { group_behind handle.new ≡ group_behind handle.old }
 {
     let Some(mut plan) = handle.take(alloc) else {
         return CLOSED;
@@ -113,10 +125,11 @@ pub extern "C" fn mcf_undo(alloc: Global, handle: &mut Handle) -> i32
     i32::from(number)
 }
 
-/// Goes on one moment. Answers 0, or 26 where there is none, or `CLOSED`.
+/// Goes on one moment. Answers 0, or 26 where there is none, or `CLOSED`. A group that stands open stays so.
 #[unsafe(no_mangle)]
 pub extern "C" fn mcf_redo(alloc: Global, handle: &mut Handle) -> i32
-    ensures { Goes (state_behind handle.old) result (state_behind handle.new) (λ old. Steps (StepBy commands.Redo old)) }
+    ensures goes { Goes (state_behind handle.old) result (state_behind handle.new) (λ old. Steps (StepBy commands.Redo old)) }
+    ensures group { group_behind handle.new ≡ group_behind handle.old }
 {
     let Some(mut plan) = handle.take(alloc) else {
         return CLOSED;
@@ -132,6 +145,7 @@ pub extern "C" fn mcf_look(alloc: Global, handle: &mut Handle, view: &mut View) 
     ensures shown { IfSome (state_behind handle.old) (λ s. (result ≡ pos 0) × IsViewOf s.moments view.new) }
     ensures closed { state_behind handle.old ≡ None → (result ≡ CLOSED) × (view.new ≡ view.old) }
     ensures unchanged { state_behind handle.new ≡ state_behind handle.old }
+    ensures group { group_behind handle.new ≡ group_behind handle.old }
 {
     let Some(plan) = handle.take(alloc) else {
         return CLOSED;
@@ -151,6 +165,7 @@ pub extern "C" fn mcf_flow(alloc: Global, handle: &mut Handle, flow: &mut [i64])
     ensures best { result ≡ pos 0 → IfSome (state_behind handle.old) (λ s. IsBest s.moments.present.instance flow.new) }
     ensures room { result ≢ pos 0 → flow.new ≡ flow.old }
     ensures unchanged { state_behind handle.new ≡ state_behind handle.old }
+    ensures group { group_behind handle.new ≡ group_behind handle.old }
 {
     let Some(plan) = handle.take(alloc) else {
         return CLOSED;
@@ -172,6 +187,7 @@ pub extern "C" fn mcf_potentials(alloc: Global, handle: &mut Handle, potentials:
         (λ s. AreGreatestPotentials (reduced s.moments.present.instance) s.moments.present.flow (at_node potentials.new)) }
     ensures room { result ≢ pos 0 → potentials.new ≡ potentials.old }
     ensures unchanged { state_behind handle.new ≡ state_behind handle.old }
+    ensures group { group_behind handle.new ≡ group_behind handle.old }
 {
     let Some(plan) = handle.take(alloc) else {
         return CLOSED;
@@ -195,6 +211,7 @@ pub extern "C" fn mcf_cut(alloc: Global, handle: &mut Handle, cut: &mut [bool]) 
         (λ s. IsChosenCut s.moments.present.verdict (reduced s.moments.present.instance) (is_marked cut.new)) }
     ensures room { result ≢ pos 0 → cut.new ≡ cut.old }
     ensures unchanged { state_behind handle.new ≡ state_behind handle.old }
+    ensures group { group_behind handle.new ≡ group_behind handle.old }
 {
     let Some(plan) = handle.take(alloc) else {
         return CLOSED;

@@ -1,9 +1,11 @@
 //! What a handle leads to.
 
+use dimacs_text::Group;
 use session::Session;
 
-/// A session of a flow problem: its moments, of which one is present.
+/// A session of a flow problem: its moments, of which one is present, and the group of lines that stands open.
 #[derive(Drop)]
 pub struct Plan {
     pub(crate) session: Session,
+    pub(crate) group: Option<Group>,
 }

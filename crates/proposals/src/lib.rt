@@ -1,15 +1,16 @@
 //! Proposals: where a flow, what it leaves at each node, and potentials are led by whatever is quickest.
 //!
-//! First relaxation, then searches and blocking flows: from all nodes in excess at once (or back from all in deficit) a
-//! search for shortest paths, then as many pushes along tight paths as there are, the sides in turn. What stays out of
+//! Relaxation, and searches and blocking flows in turn: from all nodes in excess at once (or back from all in deficit) a
+//! search for shortest paths, then as many pushes along tight paths as there are, the sides in turn. Near an edit, where
+//! few nodes are out of balance, a search from both sides at once finds one path after the other. What stays out of
 //! balance goes home: back to where it lay at the start.
 //!
-//! That each step is safe, that it ends, that each number stays within its limits and that no memory is taken after `new`
-//! is proved, and nothing else: who takes a proposal up tests whether its potentials certify its flow.
+//! Proved is that each call returns, that no index, sum or cast leaves its range, and that the tables keep their sizes.
+//! Nothing is proved of what is proposed: who takes a proposal up tests whether its potentials certify its flow. After
+//! `new` no call can fail for lack of memory, since its type has no such answer; that none is taken is not proved.
 #![tactic(auto)]
 
 mod block;
-mod heap;
 mod home;
 mod look;
 mod record;

@@ -1,7 +1,9 @@
 //! What a search knows of a node.
 
 ghost use Rattle.std.specs.Prelude.{pos, ◌≤ℤ◌};
-ghost use Rattle.proposals.specs.Keys.{key_limit};
+ghost use Rattle.two_sided.specs.Keys.{key_limit};
+
+use two_sided::{FAR, NO_PLACE};
 
 /// How far a search or a walk has come with a node.
 #[derive(Clone, Copy, PartialEq, Eq)]
@@ -37,12 +39,6 @@ pub struct Record {
     ghost key_low: { pos 0 ≤ℤ key },
     ghost key_high: { key ≤ℤ pos key_limit },
 }
-
-/// The length of no path.
-pub const FAR: i64 = 4_000_000_000_000_000_000;
-
-/// The place of no arc.
-pub const NO_PLACE: u32 = u32::MAX;
 
 impl Record {
     /// What is known of a node at first.

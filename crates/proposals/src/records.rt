@@ -1,11 +1,12 @@
 //! What a search knows of each node.
 
 ghost use Rattle.std.specs.Prelude.{◌≡◌, ◌<◌, ℕ, IfOk, length, pos, ◌≤ℤ◌};
-ghost use Rattle.proposals.specs.Keys.{key_limit};
+ghost use Rattle.two_sided.specs.Keys.{key_limit};
 
-use crate::record::{FAR, NO_PLACE, Record, State};
+use crate::record::{Record, State};
 use std::alloc::{AllocError, Global};
 use std::marker::Model;
+use two_sided::{FAR, NO_PLACE};
 
 /// A record of each node. It is seen as the number of entries that a table of nodes has.
 #[derive(Drop)]

@@ -2,14 +2,14 @@
 
 ghost use Rattle.std.specs.Prelude.{◌≡◌, ◌<◌, ◌≤◌, ◌^◌, ℕ, IfOk, IfSome, length, pos, ◌≤ℤ◌};
 ghost use Rattle.relaxation.specs.Limits.{IsWithin, rest_limit};
-ghost use Rattle.proposals.specs.Keys.{key_limit};
+ghost use Rattle.two_sided.specs.Keys.{key_limit};
 
-use crate::heap::Heap;
-use crate::record::{NO_PLACE, Record, State};
+use crate::record::{Record, State};
 use crate::records::Records;
 use relaxation::{Link, Nodes, Places, Proposal};
 use std::alloc::{AllocError, Global};
 use std::marker::Model;
+use two_sided::{Heap, NO_PLACE};
 
 /// What was done.
 #[derive(Clone, Copy, Debug, PartialEq, Eq)]

@@ -3,12 +3,13 @@
 ghost use Rattle.std.specs.Prelude.{◌≡◌, ◌<◌, ◌^◌, ◌*◌, IfOk, length};
 
 use crate::search::Search;
-use crate::solving::{Fuel, solve, take_turns};
+use crate::solving::{Fuel, Goals, solve, take_turns};
 use crate::wanted::Wanted;
 use dimacs_text::ArcRow;
 use relaxation::{Limits, Proposal, Ring, Sets};
 use std::alloc::{AllocError, Global};
 use std::marker::Model;
+use two_sided::{Between, Halt, Readings};
 
 /// What a proposal is to reach.
 #[derive(Clone, Copy, PartialEq, Eq)]
@@ -27,6 +28,7 @@ pub struct Proposals {
     ring: Ring,
     sets: Sets,
     search: Search,
+    between: Between,
     /// Nothing was proposed yet.
     fresh: bool,
 }
@@ -41,6 +43,7 @@ impl Model for Proposals {
     ghost invariant = { λ p. (p.ring ≡ p.proposal)
         × (p.sets.reach ≡ p.proposal)
         × (p.search ≡ p.proposal)
+        × (p.between ≡ p.proposal)
         × (p.proposal < 2 ^ 32) };
 }
 
@@ -58,11 +61,13 @@ impl Proposals {
         let ring = Ring::new(alloc, entries)?;
         let sets = Sets::new(alloc, entries, arcs)?;
         let search = Search::new(alloc, entries)?;
+        let between = Between::new(alloc, entries)?;
         Ok(Proposals {
             proposal,
             ring,
             sets,
             search,
+            between,
             fresh: true,
         })
     }
@@ -107,8 +112,46 @@ impl Proposals {
                 Fuel::USUAL,
             ),
             Aim::GreatestFlow => {
-                let _ending = take_turns(&mut self.proposal, &mut self.search, Fuel::GREATEST);
+                let _ending = take_turns(
+                    &mut self.proposal,
+                    &mut self.search,
+                    &mut Goals::ALL,
+                    Fuel::GREATEST.pairs,
+                    Fuel::GREATEST,
+                );
             }
+        }
+    }
+
+    /// Leads a flow on to one of least cost as `propose` does, where it is likely that few nodes are out of balance: by
+    /// searches from both sides, and where these take long by relaxation too.
+    #[inline(never)] // a name of its own in the program: `bench/count` counts its calls
+    pub fn propose_near(
+        &mut self,
+        rows: &[ArcRow],
+        flow: &[i64],
+        excess: &[i64],
+        potentials: &[i64],
+    )
+        requires flow { length flow.now ≡ length rows.now }
+        requires excess { length excess.now ≡ self.old }
+        requires potentials { length potentials.now ≡ self.old }
+        ensures { self.new ≡ self.old }
+    {
+        self.fresh = false;
+        self.proposal.load(rows, flow, excess, potentials);
+        let halt = self
+            .between
+            .push_between(&mut self.proposal, Readings::USUAL);
+        if halt == Halt::Spent {
+            solve(
+                &mut self.proposal,
+                &mut self.ring,
+                &mut self.sets,
+                &mut self.search,
+                Limits::USUAL,
+                Fuel::USUAL,
+            );
         }
     }
 

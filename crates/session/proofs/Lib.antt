@@ -18,3 +18,5 @@ mod Marking
 mod Marked
 mod Moves
 mod Apart
+mod Stepping
+mod Turning

@@ -10,3 +10,5 @@ pub mod Group
 pub mod Marks
 pub mod Session
 pub mod Step
+pub mod Reply
+pub mod Turns

@@ -1,7 +1,8 @@
-//! Why an edit was refused.
+//! Why an edit or a step was refused.
 
 ghost use Rattle.std.specs.Prelude.{◌≡◌};
 ghost use Rattle.session.specs.declared.refusal.Refusal.TheVariants.{Memory};
+ghost use Rattle.session.specs.Reply.{number_of, of_edits};
 
 use std::alloc::AllocError;
 use thiserror::Error;
@@ -22,5 +23,57 @@ impl From<AllocError> for Refusal {
 
     fn from(_refused: AllocError) -> Refusal {
         Refusal::Memory
+    }
+}
+
+/// Why a step was refused: each reason has a number of its own.
+#[derive(Clone, Copy, Debug, PartialEq, Eq, Error)]
+pub enum StepRefusal {
+    /// A line or an edit fails a check, by the number that `read_command`, `Group::fault` or `Network::edited_all` gives.
+    #[error("refused by number {0}")]
+    Cause(u8),
+    #[error("there is no past moment")]
+    NothingToUndo,
+    #[error("there is no future moment")]
+    NothingToRedo,
+    /// No moment bears the name.
+    #[error("no moment has a mark of this name")]
+    NoSuchMark,
+    /// A line `group` or `end` is no step by itself.
+    #[error("no group opens or ends here")]
+    OutOfPlace,
+    /// Memory for the step was refused.
+    #[error("want of memory")]
+    Memory,
+    /// `MARK_LIMIT` other names have marks.
+    #[error("as many other names have marks as may")]
+    TooManyMarks,
+}
+
+impl StepRefusal {
+    /// The number that is told of the refusal.
+    pub fn number(self) -> u8
+        ensures { result ≡ number_of self }
+    {
+        match self {
+            StepRefusal::Cause(number) => number,
+            StepRefusal::NothingToUndo => 25,
+            StepRefusal::NothingToRedo => 26,
+            StepRefusal::NoSuchMark => 28,
+            StepRefusal::OutOfPlace => 29,
+            StepRefusal::Memory => 30,
+            StepRefusal::TooManyMarks => 33,
+        }
+    }
+}
+
+impl From<Refusal> for StepRefusal {
+    ghost from_gives = { λ refusal step. step ≡ of_edits refusal };
+
+    fn from(refusal: Refusal) -> StepRefusal {
+        match refusal {
+            Refusal::Cause(number) => StepRefusal::Cause(number),
+            Refusal::Memory => StepRefusal::Memory,
+        }
     }
 }

@@ -16,8 +16,8 @@ ghost use Rattle.session.specs.Session.{AreEdited, IsEdited, IsRecord, moment_at
 
 use crate::marks::Marks;
 use crate::record::Record;
-use crate::refusal::Refusal;
-use dimacs_text::{Edit, Fault, Name, Problem};
+use crate::refusal::{Refusal, StepRefusal};
+use dimacs_text::{Edit, Name, Problem};
 use flow_solver::{Tables, Verdict};
 use history::History;
 use network::{Network, build};
@@ -166,7 +166,7 @@ impl<A: Allocator + Copy> Session<A> {
     /// Puts the name's mark on the present moment, or moves it there. It is no step and not undone, and takes no memory.
     ///
     /// # Errors
-    /// The number of `TooManyMarks` where `MARK_LIMIT` other names have marks.
+    /// The number of `StepRefusal::TooManyMarks` where `MARK_LIMIT` other names have marks.
     pub fn mark(&mut self, name: &Name) -> Result<(), u8>
         ensures answer { result ≡ (if has_place self.old.marks name.now then Ok tt else Err 33) }
         ensures marked { OnOk result (self.new ≡ record self.old { marks = with_mark self.old.marks name.now (length self.old.moments.past) }) }
@@ -174,7 +174,7 @@ impl<A: Allocator + Copy> Session<A> {
     {
         let (past, _) = self.steps();
         if !self.marks.put(name, past) {
-            return Err(Fault::TooManyMarks.number());
+            return Err(StepRefusal::TooManyMarks.number());
         }
         Ok(())
     }
@@ -182,7 +182,7 @@ impl<A: Allocator + Copy> Session<A> {
     /// Moves to the moment that bears the name, as so many undos or redos do. Nothing is solved, and it takes no memory.
     ///
     /// # Errors
-    /// The number of `NoSuchMark` where no moment bears the name.
+    /// The number of `StepRefusal::NoSuchMark` where no moment bears the name.
     pub fn back(&mut self, name: &Name) -> Result<(), u8>
         ensures answer { result ≡ (if is_some (marked self.old.marks name.now) then Ok tt else Err 28) }
         ensures moved { IfSome (marked self.old.marks name.now) (λ moment. IsMovedTo moment self.old.moments self.new.moments) }
@@ -191,7 +191,7 @@ impl<A: Allocator + Copy> Session<A> {
         ensures refused { OnErr result (self.new ≡ self.old) }
     {
         let Some(moment) = self.marks.moment_of(name) else {
-            return Err(Fault::NoSuchMark.number());
+            return Err(StepRefusal::NoSuchMark.number());
         };
         let (past, _) = self.steps();
         if moment < past {

@@ -63,12 +63,11 @@ REFUSALS: Dict[int, str] = {
     25: "there is nothing to undo",
     26: "there is nothing to redo",
     27: "the arc does not lead from the source side to the sink side (`asn`)",
-    28: "no moment bears this mark (`back`)",
-    29: "the line stands in a group and is `group`, `undo`, `redo`, `mark`, `back`, `show` or `proof`; or it is `end`, "
-    "and no group is open",
+    28: "no moment has this mark (`back`)",
+    29: "`group`, `undo`, `redo`, `mark`, `back`, `show` or `proof` in a group; or `end` while no group is open",
     30: "there was not enough memory for this edit or group",
     31: "the group has more than 1,000 edits",
-    32: "NAME is no name",
+    32: "NAME is not a name",
     33: "16 other names have marks (`mark`)",
 }
 """Why a session refuses a command."""

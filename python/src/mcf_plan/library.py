@@ -1,8 +1,7 @@
 """The calls of `program` through the C library's shared object, in this process: no process is started for an answer.
 
-The library has no check: `check` is the program's. It takes one command at a time, so a session through it refuses
-`group` and `end` (29). A solve can't be stopped: Ctrl-C and a time limit are heard at once, and what was asked is
-worked out to its end on a thread in the background, and dropped.
+The library has no check: `check` is the program's. A solve can't be stopped: Ctrl-C and a time limit are heard at once,
+and what was asked is worked out to its end on a thread in the background, and dropped.
 
 >>> library = Library()                                                            # doctest: +SKIP
 >>> print(library.solve("p min 2 1\\nn 1 2\\nn 2 -2\\na 1 2 0 5 3\\n"), end="")    # doctest: +SKIP
@@ -23,7 +22,7 @@ import time
 from pathlib import Path
 from typing import Any, Callable, List, Optional, Tuple, TypeVar, cast
 
-from .dimacs import Text, find_fault, parse_problem
+from .dimacs import LONGEST_LINE, Text, find_fault, parse_problem
 from .program import Dialogue, Program, ProgramFailed, Refused, TimeLimit, as_bytes
 
 Result = TypeVar("Result")
@@ -218,12 +217,13 @@ class _Worker:
 
 
 class LibraryDialogue(Dialogue):
-    """A session of the library: lines in, replies out, as a `Dialogue` of the program. It refuses `group` and `end`."""
+    """A session of the library: lines in, replies out, as a `Dialogue` of the program."""
 
     def __init__(self, library: Library, text: Text, *, extra: Optional[int] = None,
                  time_limit: Optional[float] = None):
         self._calls, self._handle, self._text = library.calls, _Handle(), as_bytes(text)
         self._ends: List[Tuple[int, int]] = []
+        self._group: Optional[List[List[str]]] = None  # the words of the lines of a group that is open
         self._worker: Optional[_Worker] = _Worker()
         try:
             self.first = self._worker.call(lambda: self._open(1000 if extra is None else extra), time_limit)
@@ -237,7 +237,7 @@ class LibraryDialogue(Dialogue):
         return self._worker is not None
 
     def ask(self, line: str, *, time_limit: Optional[float] = None) -> List[str]:
-        """The lines of the reply to one line: one, several after `show` and `proof`.
+        """The lines of the reply to one line: one, several after `show` and `proof`, none in a group before `end`.
 
         Where it is interrupted, by Ctrl-C or the time limit, this dialogue is ended.
         Raises ProgramFailed where it has ended, TimeLimit after `time_limit` seconds.
@@ -287,13 +287,26 @@ class LibraryDialogue(Dialogue):
         status = self._calls.mcf_command(ctypes.byref(self._handle), text, ctypes.c_size_t(len(text)))
         if status < DONE:
             raise ProgramFailed("want of memory" if status == MEMORY else f"the library answered {status}")
+        bare = words[0] if len(words) == 1 and len(text) <= LONGEST_LINE else None
+        if self._group is None:
+            made = [words]
+            if status == DONE and bare == "group":
+                self._group = []
+                return []
+        else:
+            made = self._group
+            if bare != "end":
+                made.append(words)
+                return []
+            self._group = None
         if status != DONE:
             return [f"r {status}"]
         view = self._look()
         if words[0] in ("show", "proof"):
             return self._solution(view, with_potentials=words[0] == "proof")
-        if words[0] == "add":
-            self._ends[view.arcs - 1:] = [(int(words[1]), int(words[2]))]
+        added = [(int(tail), int(head)) for word, tail, head, *_ in (line for line in made if line[0] == "add")]
+        if added:
+            self._ends[view.arcs - len(added):] = added
         return [view.line()]
 
     def _solution(self, view: _View, *, with_potentials: bool) -> List[str]:

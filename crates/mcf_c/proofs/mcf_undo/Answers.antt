@@ -1,5 +1,5 @@
 use Rattle.std.proofs.Common.{rules}
 use Rattle.mcf_c.proofs.mcf_undo.Goals as goal
 
-pub returns : goal.returns
-returns c = search rules
+pub returns-clause-goes : goal.returns-clause-goes
+returns-clause-goes c = search rules

@@ -1,11 +1,13 @@
-use Rattle.std.proofs.Common.{◌≤◌, ◌<◌, ◌+◌, ◌^◌, arith, rules}
+use Rattle.std.proofs.Common.{◌≡◌, ◌≤◌, ◌<◌, ◌+◌, ◌^◌, ℤ, arith, rules, sym, subst, w64, to_z, of_z, SFits}
+use Rattle.std.proofs.lemmas.Int.{ints, to_z-of_z}
+use Rattle.residual_graph.specs.Residual.{number_at}
 use Rattle.augmentation.specs.Limits.{left_limit}
 use Rattle.augmentation.specs.Push.{left}
 use Rattle.augmentation.specs.Decomposition.{entries_of}
-use Rattle.augmentation.specs.Trail.{IsTrail}
+use Rattle.augmentation.specs.Trail.{AreLimits, IsTrail}
 use Rattle.augmentation.proofs.SettleLemmas.{left-small}
 use Rattle.augmentation.proofs.DecompositionLemmas.{led-more, led-none, led-wanted}
-use Rattle.augmentation.proofs.TrailLemmas.{arcs_planned, trail_node_in}
+use Rattle.augmentation.proofs.TrailLemmas.{trail_node_in}
 use Rattle.augmentation.proofs.decomposition.push_to.Goals as goal
 use Rattle.augmentation.proofs.decomposition.push_to.Goals.{After-spend, After-spend-else-spare-gt0}
 
@@ -17,12 +19,19 @@ pushed c = c.spend.ensures.walk c.args.setting.graph.now.rows c.args.target c.lo
 stepped : (c : After-spend-else-spare-gt0) → IsTrail c.args.setting.graph.now.rows c.spend-else-spare-gt0.new.self c.args.target c.loop-trail.node
 stepped c = c.spend-else-spare-gt0.ensures.walk c.args.setting.graph.now.rows c.args.target c.loop-trail.node c.loop-trail.invariant.walk
 
+-- what lies at the target is read as it is
+held_is : (c : After-spend-else-spare-gt0) → to_z w64 (of_z w64 (number_at c.loop-trail.excess c.args.target)) ≡ number_at c.loop-trail.excess c.args.target
+held_is c =
+    let fits : SFits w64 (number_at c.loop-trail.excess c.args.target) = search rules in
+    to_z-of_z w64 (number_at c.loop-trail.excess c.args.target) fits
+
 pub loop-trail-init : goal.loop-trail-init
 loop-trail-init c = record {
   led = led-none (entries_of c.args.setting.graph.now) c.args.setting.graph.now.rows c.args.flow.now c.args.wanted.now c.args.excess.now c.requires.state;
   trail = c.begin.ensures.trail (entries_of c.args.setting.graph.now) c.requires.trail;
   node_in = c.requires.target_in;
   walk = c.begin.ensures.walk c.args.setting.graph.now.rows;
+  limits = c.begin.ensures.limits c.args.flow.now c.args.wanted.now (number_at c.args.excess.now c.args.target);
 }
 
 pub returns-then-not-spend-clause-trail : goal.returns-then-not-spend-clause-trail
@@ -35,32 +44,31 @@ pub overflow_add-pushes : goal.overflow_add-pushes
 overflow_add-pushes c =
     let small : left c.args.excess.now ≤ left_limit = left-small (entries_of c.args.setting.graph.now) c.args.excess.now c.requires.state.small c.requires.state.excess_sized c.requires.state.plan.flow.few_nodes in
     let count = c.loop-trail.invariant.led.pushes.count in
-    let more = c.push_route-pushes.ensures.pushes.count in
+    let more = c.push_route-pushes.ensures.led.pushes.count in
     let bound : c.loop-trail.pushes + c.push_route-pushes.result < 2 ^ 64 = omega (arith, small, count, more) in
     search (rules, bound)
 
-pub hops_wanted-keep-requires-clause-fits : goal.hops_wanted-keep-requires-clause-fits
-hops_wanted-keep-requires-clause-fits c = (pushed (goal.at.hops_wanted-keep-requires-clause-fits c).After-spend).fits
+pub push_route-pushes-requires-clause-limits : goal.push_route-pushes-requires-clause-limits
+push_route-pushes-requires-clause-limits c = c.spend.ensures.limits c.loop-trail.flow c.loop-trail.wanted (number_at c.loop-trail.excess c.args.target) c.loop-trail.invariant.limits
 
-pub hops_wanted-keep-requires-clause-plan : goal.hops_wanted-keep-requires-clause-plan
-hops_wanted-keep-requires-clause-plan c =
-    let walk = pushed (goal.at.hops_wanted-keep-requires-clause-plan c).After-spend in
-    arcs_planned (entries_of c.args.setting.graph.now) c.args.setting.graph.now.rows c.push_route-pushes.new.flow c.loop-trail.wanted _ c.push_route-pushes.ensures.state.plan walk.route.arcs
+pub hops_wanted-keep-requires : goal.hops_wanted-keep-requires
+hops_wanted-keep-requires c = c.push_route-pushes.ensures.limits.fits
 
-pub cut-node-requires : goal.cut-node-requires
-cut-node-requires c = record { walk = record { target = c.args.target; is = pushed (goal.at.cut-node-requires c).After-spend } }
+pub cut-node-requires-clause-fits : goal.cut-node-requires-clause-fits
+cut-node-requires-clause-fits c = (pushed (goal.at.cut-node-requires-clause-fits c).After-spend).fits
 
 pub loop-trail-preserved-then-spare-gt0 : goal.loop-trail-preserved-then-spare-gt0
 loop-trail-preserved-then-spare-gt0 c =
     let nodes = entries_of c.args.setting.graph.now in
     let rows = c.args.setting.graph.now.rows in
-    let after = c.cut-node.ensures.walk c.args.target (pushed (goal.at.loop-trail-preserved-then-spare-gt0 c).After-spend) in
+    let after = c.cut-node.ensures.walk rows c.args.target c.loop-trail.node (pushed (goal.at.loop-trail-preserved-then-spare-gt0 c).After-spend) in
     let sized = c.cut-node.ensures.trail nodes (c.spend.ensures.trail nodes c.loop-trail.invariant.trail) in
     record {
-      led = led-more c.loop-trail.invariant.led c.push_route-pushes.ensures;
+      led = led-more c.loop-trail.invariant.led c.push_route-pushes.ensures.led;
       trail = sized;
-      node_in = omega (arith, trail_node_in rows c.cut-node.new.self c.args.target c.cut-node.result after, sized.stamps_sized);
+      node_in = omega (arith, trail_node_in rows c.cut-node.new.self c.args.target c.cut-node.result after, sized.places_sized);
       walk = after;
+      limits = c.cut-node.ensures.limits c.push_route-pushes.new.flow c.loop-trail.wanted (number_at c.push_route-pushes.new.excess c.args.target) c.push_route-pushes.ensures.limits;
     }
 
 pub returns-then-not-spend-2-clause-trail : goal.returns-then-not-spend-2-clause-trail
@@ -78,7 +86,23 @@ loop-trail-preserved c = record {
   trail = c.in-Some.ensures.trail;
   node_in = c.in-Some.ensures.walk.0;
   walk = c.in-Some.ensures.walk.1 c.args.target (stepped (goal.at.loop-trail-preserved c).After-spend-else-spare-gt0);
+  limits = (let held = held_is (goal.at.loop-trail-preserved c).After-spend-else-spare-gt0 in subst (λ (z : ℤ). AreLimits c.loop-trail.flow c.step.new.wanted z c.step.new.trail) held c.in-Some.ensures.limits);
 }
+
+pub step-requires-clause-limits : goal.step-requires-clause-limits
+step-requires-clause-limits c =
+    let held = held_is (goal.at.step-requires-clause-limits c).After-spend-else-spare-gt0 in
+    subst (λ (z : ℤ). AreLimits c.loop-trail.flow c.loop-trail.wanted z c.spend-else-spare-gt0.new.self) (sym held) (c.spend-else-spare-gt0.ensures.limits c.loop-trail.flow c.loop-trail.wanted _ c.loop-trail.invariant.limits)
+
+pub step-requires-clause-low : goal.step-requires-clause-low
+step-requires-clause-low c =
+    let held = held_is (goal.at.step-requires-clause-low c).After-spend-else-spare-gt0 in
+    omega (arith, ints, held, c.loop-trail.invariant.led.state.small.low c.args.target)
+
+pub step-requires-clause-high : goal.step-requires-clause-high
+step-requires-clause-high c =
+    let held = held_is (goal.at.step-requires-clause-high c).After-spend-else-spare-gt0 in
+    omega (arith, ints, held, c.loop-trail.invariant.led.state.small.high c.args.target)
 
 pub returns-in-None-clause-led : goal.returns-in-None-clause-led
 returns-in-None-clause-led c = led-wanted c.step.new.wanted c.loop-trail.invariant.led c.in-None.ensures.nearer

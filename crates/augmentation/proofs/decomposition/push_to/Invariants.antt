@@ -1,6 +1,7 @@
 use Rattle.std.proofs.Common.{◌<◌}
 use Rattle.augmentation.specs.Decomposition.{IsLedOn, entries_of}
-use Rattle.augmentation.specs.Trail.{IsTrail, IsTrailFor}
+use Rattle.residual_graph.specs.Residual.{number_at}
+use Rattle.augmentation.specs.Trail.{AreLimits, IsTrail, IsTrailFor}
 use Rattle.augmentation.proofs.decomposition.push_to.Given as goal
 
 abbrev pub invariant-loop-trail : goal.invariant-loop-trail
@@ -9,6 +10,7 @@ invariant-loop-trail l = record {
   trail : IsTrailFor (entries_of l.setting.graph.now) l.trail;
   node_in : l.node < entries_of l.setting.graph.now;
   walk : IsTrail l.setting.graph.now.rows l.trail l.target l.node;
+  limits : AreLimits l.flow l.wanted (number_at l.excess l.target) l.trail;
 }
 
 abbrev pub decreases-loop-trail : goal.decreases-loop-trail

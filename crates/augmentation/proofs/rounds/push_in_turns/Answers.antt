@@ -59,7 +59,7 @@ loop-reach-init c =
 
 pub push_within-pushes-requires-clause-near : goal.push_within-pushes-requires-clause-near
 push_within-pushes-requires-clause-near c =
-    (to_z w64 c.loop-reach.fallen-bits, subst (λ (p : List ℤ). IsNear p (to_z w64 c.loop-reach.fallen-bits)) (sym c.search_on.ensures.kept) c.loop-reach.invariant.near)
+    (to_z w64 c.loop-reach.fallen-bits, subst (λ (p : List ℤ). IsNear p (to_z w64 c.loop-reach.fallen-bits)) (sym c.search_within.ensures.kept) c.loop-reach.invariant.near)
 
 pub overflow_add-pushes : goal.overflow_add-pushes
 overflow_add-pushes c =
@@ -71,16 +71,16 @@ overflow_add-pushes c =
 
 pub keep_near-fallen-requires-clause-at_least : goal.keep_near-fallen-requires-clause-at_least
 keep_near-fallen-requires-clause-at_least c = λ v.
-    (let near = subst (λ (p : List ℤ). IsNear p (to_z w64 c.loop-reach.fallen-bits)) (sym c.search_on.ensures.kept) c.loop-reach.invariant.near in
+    (let near = subst (λ (p : List ℤ). IsNear p (to_z w64 c.loop-reach.fallen-bits)) (sym c.search_within.ensures.kept) c.loop-reach.invariant.near in
     let found = c.in-Some.ensures.found.searched.found in
-    let same = reach_is c.in-Some.reach c.loop-reach.excess c.search_on.new.scratch.node_labels.items found in
+    let same = reach_is c.in-Some.reach c.loop-reach.excess c.search_within.new.scratch.node_labels.items found in
     let further = c.push_within-pushes.ensures.at_least (to_z w64 c.loop-reach.fallen-bits) near v in
     omega (arith, ints, further, found.front.settled.not_far, found.front.not_below_0, near.not_below_0, near.not_above, same))
 
 pub keep_near-fallen-requires-clause-not_below_0 : goal.keep_near-fallen-requires-clause-not_below_0
 keep_near-fallen-requires-clause-not_below_0 c =
     let found = c.in-Some.ensures.found.searched.found in
-    let same = reach_is c.in-Some.reach c.loop-reach.excess c.search_on.new.scratch.node_labels.items found in
+    let same = reach_is c.in-Some.reach c.loop-reach.excess c.search_within.new.scratch.node_labels.items found in
     let near = c.loop-reach.invariant.near in
     omega (arith, ints, near.not_below_0, near.not_above, found.front.not_below_0, found.front.settled.not_far, same)
 
@@ -108,9 +108,9 @@ is_turned c =
     record {
       flow_written = IsWritten-trans _ _ _ inv.flow_written call.ensures.flow_written;
       certified = turn.ensures.certified rows call.new.flow.entries.items c.keep_near-fallen.ensures.certified;
-      scratch = subst (λ (n : ℕ). IsScratchFor n turn.new.scratch) (c.keep_near-fallen.ensures.scratch.potentials_sized ∙ call.ensures.scratch.potentials_sized ∙ ap length c.search_on.ensures.kept ∙ inv.scratch.potentials_sized) turn.ensures.scratch;
+      scratch = subst (λ (n : ℕ). IsScratchFor n turn.new.scratch) (c.keep_near-fallen.ensures.scratch.potentials_sized ∙ call.ensures.scratch.potentials_sized ∙ ap length c.search_within.ensures.kept ∙ inv.scratch.potentials_sized) turn.ensures.scratch;
       rooms = subst (λ (w : Walks). AreRooms rows call.new.flow.entries.items w.rooms.items) (sym walks)
-          (call.ensures.rooms (subst (λ (w : Walks). AreRooms rows c.loop-reach.flow.entries.items w.rooms.items) (sym c.search_on.ensures.walks) inv.rooms));
+          (call.ensures.rooms (subst (λ (w : Walks). AreRooms rows c.loop-reach.flow.entries.items w.rooms.items) (sym c.search_within.ensures.walks) inv.rooms));
       near = rw same (turn.ensures.near c.keep_near-fallen.result c.keep_near-fallen.ensures.near);
       pushed = subst (ArePushes rows _ _ _ _) (sym turn.ensures.excess) (ArePushes-more inv.pushed pushed);
       smaller = omega (arith, pushed.count, left_is, call.ensures.some);
@@ -164,11 +164,11 @@ returns-in-Behind-side-clause-certified c =
     let x = c.loop-reach.flow.entries.items in
     let turn = c.turn_round-ahead in
     subst (λ (side : Side). IsReducedCostOptimal (seen side rows) x turn.new.scratch.potentials.items) (turn.ensures.other ∙ ap other_side c.in-Behind-side.is)
-    (turn.ensures.certified rows x (subst (λ (p : List ℤ). IsReducedCostOptimal (seen c.loop-reach.side rows) x p) (sym c.search_on.ensures.kept) c.loop-reach.invariant.certified))
+    (turn.ensures.certified rows x (subst (λ (p : List ℤ). IsReducedCostOptimal (seen c.loop-reach.side rows) x p) (sym c.search_within.ensures.kept) c.loop-reach.invariant.certified))
 
 pub returns-in-Behind-side-clause-parted : goal.returns-in-Behind-side-clause-parted
-returns-in-Behind-side-clause-parted c =
-    let rows = c.args.graph.now.rows in
+returns-in-Behind-side-clause-parted c = λ fewer.
+    (let rows = c.args.graph.now.rows in
     let x = c.loop-reach.flow.entries.items in
     let e = c.loop-reach.excess in
     let turn = c.turn_round-ahead in
@@ -176,4 +176,4 @@ returns-in-Behind-side-clause-parted c =
     let ahead : turn.new.excess ≡ seen_excess c.loop-reach.side e =
     subst (λ (side : Side). seen_excess side turn.new.excess ≡ seen_excess c.loop-reach.side e) (turn.ensures.other ∙ ap other_side c.in-Behind-side.is) turn.ensures.excess in
     subst (IsParted rows x) (sym ahead)
-    (parted_seen c.loop-reach.side rows x e (subst (λ (n : ℕ). IsPseudoflow n (seen c.loop-reach.side rows) x) sized c.loop-reach.invariant.certified.flow) c.in_default.ensures.found)
+    (parted_seen c.loop-reach.side rows x e (subst (λ (n : ℕ). IsPseudoflow n (seen c.loop-reach.side rows) x) sized c.loop-reach.invariant.certified.flow) (c.in_default.ensures.found (omega (arith, fewer)))))

@@ -1,7 +1,7 @@
-use Rattle.std.proofs.Common.{◌∙◌, ◌+◌, ◌-◌, ℕ, ap}
+use Rattle.std.proofs.Common.{◌∙◌, ◌+◌, ◌-◌, ℕ, ap, refl}
 use Rattle.checker.specs.Check.{write_failures}
 use Rattle.session.specs.Step.{state_of}
-use Rattle.engines.proofs.OpeningLemmas.{unopened_commands, unopened_writes}
+use Rattle.engines.proofs.OpeningLemmas.{none_counted, unopened_commands, unopened_last, unopened_writes}
 use Rattle.engines.proofs.SessionLemmas.{SessionOnDevices-unopened, SessionOnDevices-opening, SessionOnDevices-commands, write_counted, reads_counted, no_problem_counted}
 use Rattle.engines.proofs.interaction.run_session_in.Goals as goal
 
@@ -36,3 +36,16 @@ returns-in-Ok-tell_opening-clause-script_failed g c = reads_counted c.serve_comm
 
 pub returns-in-Ok-tell_opening-clause-problem_failed : goal.returns-in-Ok-tell_opening-clause-problem_failed
 returns-in-Ok-tell_opening-clause-problem_failed g c = no_problem_counted c.serve_commands-end.result _ _ _ _ c.serve_commands-end.ensures.failed _ _ c.in-Ok.ensures.read
+
+pub returns-in-Err-clause-script_last : goal.returns-in-Err-clause-script_last
+returns-in-Err-clause-script_last g c = none_counted _ 0 (unopened_commands _ _ c.in-Err.end 0 c.in-Err.ensures.ended)
+
+pub returns-in-Err-clause-out_last : goal.returns-in-Err-clause-out_last
+returns-in-Err-clause-out_last g c = unopened_last _ _ c.in-Err.end _ c.in-Err.ensures.ended
+
+pub returns-in-Ok-tell_opening-clause-out_last : goal.returns-in-Ok-tell_opening-clause-out_last
+returns-in-Ok-tell_opening-clause-out_last g c = c.serve_commands-end.ensures.out_last _
+
+pub returns-in-Ok-tell_opening-clause-problem_last : goal.returns-in-Ok-tell_opening-clause-problem_last
+returns-in-Ok-tell_opening-clause-problem_last g c =
+    none_counted _ 0 (no_problem_counted c.serve_commands-end.result _ _ _ _ c.serve_commands-end.ensures.failed 0 0 refl)

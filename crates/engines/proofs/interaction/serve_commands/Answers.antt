@@ -1,6 +1,6 @@
 use Rattle.std.proofs.Common.{[], ◌++◌, take, inl, inr, refl, ◌∙◌, arith, rules}
 use Rattle.checker.proofs.SourceLemmas.{Gives-nil, Gives-more, Gives-none}
-use Rattle.engines.proofs.RunLemmas.{Stands-begin, Stopped-from_err, Stands-from_ok, same_from_ok}
+use Rattle.engines.proofs.RunLemmas.{Stands-begin, Stopped-from_err, Stands-from_ok, failed_from_err, passed_on_from_ok, same_from_ok}
 use Rattle.engines.proofs.interaction.serve_commands.Goals as goal
 
 pub pieces-init : goal.pieces-init
@@ -8,36 +8,38 @@ pieces-init g c = record {
   so_far = ([], Gives-nil _ _, rw (c.new-cutter.ensures) (Stands-begin _ _));
   script_failures = refl;
   out_failures = refl;
+  passed_on = c.requires.passed_on;
 }
 
 pub returns-then-is_err-clause-served : goal.returns-then-is_err-clause-served
 returns-then-is_err-clause-served g c =
     let so_far = c.pieces.invariant.so_far in
-    let piece = take c.in-Ok.count c.read.new.piece in (
+    let piece = take c.in-Ok.count c.read_on.new.piece in (
       so_far.0 ++ piece,
-      Gives-more _ _ _ so_far.0 c.read.new.piece c.in-Ok.count _ _ _ so_far.1 c.in-Ok.ensures.bytes.0 (search rules) c.in-Ok.ensures.left,
+      Gives-more _ _ _ so_far.0 c.read_on.new.piece c.in-Ok.count _ _ _ so_far.1 c.in-Ok.ensures.bytes.0 (search rules) c.in-Ok.ensures.left,
       inl (Stopped-from_err c.serve_piece.result _ _ _ _ _ _ _ (search rules) (c.serve_piece.ensures.goes_on _ _ _ so_far.2)),
     )
 
 pub pieces-preserved : goal.pieces-preserved
 pieces-preserved g c =
     let so_far = c.pieces.invariant.so_far in
-    let piece = take c.in-Ok.count c.read.new.piece in
+    let piece = take c.in-Ok.count c.read_on.new.piece in
     record {
       so_far = (
         so_far.0 ++ piece,
-        Gives-more _ _ _ so_far.0 c.read.new.piece c.in-Ok.count _ _ _ so_far.1 c.in-Ok.ensures.bytes.0 (search rules) c.in-Ok.ensures.left,
+        Gives-more _ _ _ so_far.0 c.read_on.new.piece c.in-Ok.count _ _ _ so_far.1 c.in-Ok.ensures.bytes.0 (search rules) c.in-Ok.ensures.left,
         Stands-from_ok c.serve_piece.result _ _ _ _ _ _ _ (search rules) (c.serve_piece.ensures.goes_on _ _ _ so_far.2),
       );
       script_failures = search rules;
       out_failures = same_from_ok c.serve_piece.result _ _ (search rules) c.serve_piece.ensures.failed ∙ c.pieces.invariant.out_failures;
+      passed_on = passed_on_from_ok c.serve_piece.result _ _ (search rules) c.serve_piece.ensures.passed_on c.pieces.invariant.passed_on;
     }
 
 pub returns-in-Ok-serve_rest-clause-served : goal.returns-in-Ok-serve_rest-clause-served
 returns-in-Ok-serve_rest-clause-served g c =
     let so_far = c.pieces.invariant.so_far in (
       so_far.0,
-      Gives-none _ _ _ so_far.0 c.read.new.piece c.in-Ok-eq0.field-0 _ _ _ so_far.1 c.in-Ok-eq0.ensures.bytes.0 (omega arith) c.in-Ok-eq0.ensures.left,
+      Gives-none _ _ _ so_far.0 c.read_on.new.piece c.in-Ok-eq0.field-0 _ _ _ so_far.1 c.in-Ok-eq0.ensures.bytes.0 (omega arith) c.in-Ok-eq0.ensures.left,
       (c.in-Ok-eq0.ensures.bytes.1 (omega arith) (search rules), _, c.in-Ok-serve_rest.ensures.rest _ _ _ so_far.2),
     )
 
@@ -45,7 +47,7 @@ pub returns-in-Err-serve_rest-clause-served : goal.returns-in-Err-serve_rest-cla
 returns-in-Err-serve_rest-clause-served g c =
     let so_far = c.pieces.invariant.so_far in (
       so_far.0,
-      Gives-none _ _ _ so_far.0 c.read.new.piece c.in-Ok-eq0.field-0 _ _ _ so_far.1 c.in-Ok-eq0.ensures.bytes.0 (omega arith) c.in-Ok-eq0.ensures.left,
+      Gives-none _ _ _ so_far.0 c.read_on.new.piece c.in-Ok-eq0.field-0 _ _ _ so_far.1 c.in-Ok-eq0.ensures.bytes.0 (omega arith) c.in-Ok-eq0.ensures.left,
       inr (c.in-Ok-eq0.ensures.bytes.1 (omega arith) (search rules), c.in-Err-serve_rest.ensures.rest _ _ _ so_far.2),
     )
 
@@ -54,3 +56,6 @@ returns-in-Err-clause-served g c = search rules
 
 pub returns-in-Err-clause-failed : goal.returns-in-Err-clause-failed
 returns-in-Err-clause-failed g c = search rules
+
+pub returns-then-is_err-clause-out_last : goal.returns-then-is_err-clause-out_last
+returns-then-is_err-clause-out_last g c before = failed_from_err c.serve_piece.result _ _ (search rules) c.serve_piece.ensures.passed_on

@@ -1,4 +1,5 @@
 use Rattle.std.proofs.Common.{◌≡◌, ◌≤◌, ◌-◌, ℕ, List, ◌++◌, length, take, Option}
+use Rattle.dimacs_io.specs.declared.device.LastCall.TheVariants as last
 use Rattle.session.specs.Step.{SessionState, state_of}
 use Rattle.engines.specs.Serving.{Stands}
 use Rattle.engines.proofs.interaction.serve_piece.Given as goal
@@ -10,6 +11,7 @@ invariant-loop-at g l = record {
       → Stands opening given (state_of l.initial.session) l.initial.group l.initial.cutter before (g.O.Sink.contents l.initial.out)
       → Stands opening (given ++ take l.at l.piece) (state_of l.session) l.group l.cutter before (g.O.Sink.contents l.out);
   failures : g.O.Sink.failures l.out ≡ g.O.Sink.failures l.initial.out;
+  passed_on : g.O.Sink.last_call l.initial.out ≡ last.Flush → g.O.Sink.last_call l.out ≡ last.Flush;
 }
 
 abbrev pub decreases-loop-at : goal.decreases-loop-at

@@ -1,6 +1,13 @@
-use Rattle.std.proofs.Common.{refl}
-use Rattle.augmentation.proofs.TrailLemmas.{trail_more}
+use Rattle.std.proofs.Common.{◌+◌, ℤ, sym, subst, rules, w64, SFits}
+use Rattle.std.specs.Prelude.{slice_set}
+use Rattle.std.proofs.lemmas.Int.{to_z-of_z}
+use Rattle.augmentation.specs.Trail.{AreLimited}
+use Rattle.augmentation.proofs.TrailLemmas.{limits_more}
 use Rattle.augmentation.proofs.trail.Trail.add.Goals as goal
 
-pub returns-clause-walk : goal.returns-clause-walk
-returns-clause-walk c = λ rows t is_arc starts trail. trail_more rows c.args.self.now _ t c.args.from c.args.hop is_arc starts trail c.requires.room c.requires.from_in c.requires.new refl refl refl refl
+pub returns-clause-limits : goal.returns-clause-limits
+returns-clause-limits c = λ x y held are next.
+    (let trail = c.args.self.now in
+    let fits : SFits w64 c.args.limit = search rules in
+    subst (λ (z : ℤ). AreLimited x y held (slice_set trail.hops.items trail.len c.args.hop) (slice_set trail.limits.items trail.len z) (trail.len + 1)) (sym (to_z-of_z w64 c.args.limit fits))
+    (limits_more x y held trail c.args.hop c.args.limit c.requires.hops_fit c.requires.limits_fit next are))

@@ -8,6 +8,6 @@ invariant-loop-v l = record {
   kept : (n : ℕ) → IsTrailFor n l.initial.self → IsTrailFor n l.self;
   dead_sized : length l.self.dead.items ≡ length l.initial.self.dead.items;
   current_sized : length l.self.current.items ≡ length l.self.dead.items;
-  stamps_sized : length l.self.stamps.items ≡ length l.self.dead.items;
+  last_sized : length l.self.last.items ≡ length l.self.dead.items;
   alive : (u : ℕ) → u < l.v → in_set l.self.dead.items u ≡ false;
 }

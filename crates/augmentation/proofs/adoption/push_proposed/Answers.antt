@@ -1,0 +1,17 @@
+use Rattle.std.proofs.Common.{◌≡◌, ◌≤◌, ◌<◌, ◌+◌, ◌^◌, length, arith, rules}
+use Rattle.augmentation.specs.Limits.{left_limit}
+use Rattle.augmentation.specs.Push.{left}
+use Rattle.augmentation.proofs.SettleLemmas.{ArePushes-more, left-small}
+use Rattle.augmentation.proofs.adoption.push_proposed.Goals as goal
+
+pub overflow_add-result : goal.overflow_add-result
+overflow_add-result c =
+    let sized : length c.args.excess.now ≡ length c.args.scratch.now.potentials.items = c.requires.excess_in in
+    let small : left c.args.excess.now ≤ left_limit = left-small (length c.args.scratch.now.potentials.items) c.args.excess.now c.requires.small sized c.requires.certified.flow.few_nodes in
+    let first = c.in-Some.ensures.adopted.pushes.count in
+    let rest = c.finish.ensures.pushed.count in
+    let bound : c.in-Some.adopted + c.finish.result < 2 ^ 64 = omega (arith, small, first, rest) in
+    search (rules, bound)
+
+pub returns-in-Some-clause-pushed : goal.returns-in-Some-clause-pushed
+returns-in-Some-clause-pushed c = ArePushes-more c.in-Some.ensures.adopted.pushes c.finish.ensures.pushed

@@ -1,0 +1,116 @@
+//! The steps of a session: by a command, and by a group.
+
+ghost use Rattle.std.specs.Prelude.{◌≡◌, MatchResult};
+ghost use Rattle.dimacs_text.specs.declared.command.Command.TheVariants as commands;
+ghost use Rattle.network.specs.Edited.{edited_all};
+ghost use Rattle.session.specs.Reply.{reply_of};
+ghost use Rattle.session.specs.Step.{StepBy, StepOfEdit, StepOfGroup, state_of};
+
+use crate::refusal::StepRefusal;
+use crate::reply::Reply;
+use crate::session::Session;
+use dimacs_text::{Command, Edit, Group, Name};
+use network::Network;
+use std::alloc::Allocator;
+
+impl<A: Allocator + Copy> Session<A> {
+    /// Takes the step of a command. After a refusal the session is as before.
+    ///
+    /// # Errors
+    /// Why the step was refused; `Group` and `End` are no steps by themselves.
+    pub fn step(&mut self, command: &Command) -> Result<Reply, StepRefusal>
+        ensures { StepBy command.now (state_of self.old) (reply_of result) (state_of self.new) }
+    {
+        match command {
+            Command::Edit(edit) => self.step_by_edit(edit),
+            Command::Undo => self.step_back(),
+            Command::Redo => self.step_on(),
+            Command::Show => Ok(Reply::Solution { proof: false }),
+            Command::Proof => Ok(Reply::Solution { proof: true }),
+            Command::Group => Err(StepRefusal::OutOfPlace),
+            Command::End => Err(StepRefusal::OutOfPlace),
+            Command::Mark(name) => self.step_by_mark(name),
+            Command::Back(name) => self.step_to_mark(name),
+        }
+    }
+
+    /// Takes the step of a group: its edits are applied together, where none of its lines is refused. After a refusal
+    /// the session is as before.
+    ///
+    /// # Errors
+    /// Why the step was refused: by the first of the group's lines that is refused, by itself or by the network.
+    pub fn step_group(&mut self, group: &Group) -> Result<Reply, StepRefusal>
+        ensures { StepOfGroup group.now (state_of self.old) (reply_of result) (state_of self.new) }
+    {
+        if let Some(number) = group.fault() {
+            let first = first_refusal(self.network(), group.edits(), number);
+            return Err(StepRefusal::Cause(first));
+        }
+        match self.apply_group(group.edits()) {
+            Ok(_) => Ok(Reply::Verdict),
+            Err(refusal) => Err(refusal.into()),
+        }
+    }
+
+    /// Applies an edit.
+    fn step_by_edit(&mut self, edit: &Edit) -> Result<Reply, StepRefusal>
+        ensures { StepOfEdit edit.now (state_of self.old) (reply_of result) (state_of self.new) }
+    {
+        match self.apply(edit) {
+            Ok(_) => Ok(Reply::Verdict),
+            Err(refusal) => Err(refusal.into()),
+        }
+    }
+
+    /// Goes back one moment.
+    fn step_back(&mut self) -> Result<Reply, StepRefusal>
+        ensures { StepBy commands.Undo (state_of self.old) (reply_of result) (state_of self.new) }
+    {
+        if self.undo() {
+            Ok(Reply::Verdict)
+        } else {
+            Err(StepRefusal::NothingToUndo)
+        }
+    }
+
+    /// Goes on one moment.
+    fn step_on(&mut self) -> Result<Reply, StepRefusal>
+        ensures { StepBy commands.Redo (state_of self.old) (reply_of result) (state_of self.new) }
+    {
+        if self.redo() {
+            Ok(Reply::Verdict)
+        } else {
+            Err(StepRefusal::NothingToRedo)
+        }
+    }
+
+    /// Puts the name's mark on the present moment.
+    fn step_by_mark(&mut self, name: &Name) -> Result<Reply, StepRefusal>
+        ensures { StepBy (commands.Mark name.now) (state_of self.old) (reply_of result) (state_of self.new) }
+    {
+        match self.mark(name) {
+            Ok(()) => Ok(Reply::Verdict),
+            Err(_) => Err(StepRefusal::TooManyMarks),
+        }
+    }
+
+    /// Moves to the moment that bears the name.
+    fn step_to_mark(&mut self, name: &Name) -> Result<Reply, StepRefusal>
+        ensures { StepBy (commands.Back name.now) (state_of self.old) (reply_of result) (state_of self.new) }
+    {
+        match self.back(name) {
+            Ok(()) => Ok(Reply::Verdict),
+            Err(_) => Err(StepRefusal::NoSuchMark),
+        }
+    }
+}
+
+/// The number of the first refusal of a group, which is that of an edit, or this number of a line after its edits.
+fn first_refusal(network: &Network, edits: &[Edit], number: u8) -> u8
+    ensures { MatchResult (edited_all network.now edits.now) (λ _. result ≡ number) (λ earlier. result ≡ earlier) }
+{
+    match network.edited_all(edits) {
+        Ok(()) => number,
+        Err(earlier) => earlier,
+    }
+}

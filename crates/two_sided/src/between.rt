@@ -1,0 +1,346 @@
+//! Pushes along shortest paths that a search from both sides at once finds, for few nodes out of balance.
+
+ghost use Rattle.std.specs.Prelude.{◌≡◌, ◌<◌, ◌^◌, ℕ, IfOk, IfSome, length};
+
+use crate::free::FreeEnds;
+use crate::front::{Front, Meeting};
+use crate::length::FAR;
+use relaxation::{Nodes, Places, Proposal};
+use std::alloc::{AllocError, Global};
+use std::marker::Model;
+
+/// How often all ends are read before a run of pushes gives up.
+#[derive(Clone, Copy)]
+pub struct Readings {
+    /// While many nodes are out of balance: relaxation serves these better.
+    pub of_many: u64,
+    /// While few nodes are.
+    pub of_few: u64,
+}
+
+impl Readings {
+    /// What served best in sessions.
+    pub const USUAL: Readings = Readings {
+        of_many: 2,
+        of_few: 200,
+    };
+}
+
+/// More nodes than these are many.
+const MANY: usize = 16;
+
+/// How a run of pushes ended.
+#[derive(Clone, Copy, PartialEq, Eq)]
+pub enum Halt {
+    /// No node is in excess, or none in deficit.
+    Met,
+    /// No node in excess reaches one in deficit.
+    Apart,
+    /// More ends were read than it was to read.
+    Spent,
+}
+
+/// A search from all nodes in excess and from all in deficit at once, and the path that it finds. It is seen as the number
+/// of entries that a table of nodes has.
+#[derive(Drop)]
+pub struct Between {
+    ahead: Front,
+    behind: Front,
+    /// The nodes that were out of balance at the start.
+    roots: Nodes,
+    /// The places of the arcs of the path, each as the front sees it that came by it.
+    path_ahead: Places,
+    path_behind: Places,
+    free: FreeEnds,
+}
+
+impl Model for Between {
+    ghost use Rattle.std.specs.Prelude.{ℕ, ◌≡◌, ◌<◌, ◌^◌};
+
+    ghost Value = { ℕ };
+
+    ghost view = { λ b. b.ahead };
+
+    ghost invariant = { λ b. (b.behind ≡ b.ahead) × (b.roots ≡ b.ahead) × (b.free ≡ b.ahead) × (b.ahead < 2 ^ 31) };
+}
+
+impl Between {
+    /// A search of which nothing is begun.
+    ///
+    /// # Errors
+    /// Memory for a table was refused.
+    pub fn new(alloc: Global, entries: usize) -> Result<Between, AllocError>
+        requires { entries < 2 ^ 31 }
+        ensures { IfOk result (λ b. b ≡ entries) }
+    {
+        let ahead = Front::new(alloc, entries)?;
+        let behind = Front::new(alloc, entries)?;
+        let roots = Nodes::new(alloc, entries)?;
+        let path_ahead = Places::new(alloc, entries)?;
+        let path_behind = Places::new(alloc, entries)?;
+        let free = FreeEnds::new(alloc, entries)?;
+        Ok(Between {
+            ahead,
+            behind,
+            roots,
+            path_ahead,
+            path_behind,
+            free,
+        })
+    }
+
+    /// Pushes along shortest paths until one side is empty, the sides do not meet, or the readings are used up.
+    #[inline(never)] // a name of its own in the program: `bench/count` counts its calls
+    pub fn push_between(&mut self, proposal: &mut Proposal, readings: Readings) -> Halt
+        requires { proposal.old ≡ self.old }
+        ensures kept { self.new ≡ self.old }
+        ensures proposal { proposal.new ≡ proposal.old }
+    {
+        self.list_roots(proposal);
+        self.free.load(proposal);
+        let ends = proposal.ends() as u64;
+        let mut reads: u64 = 0;
+        for _ in 0..u64::MAX {
+            if !self.begin(proposal) {
+                return Halt::Met;
+            }
+            let most = if self.begun() > MANY {
+                readings.of_many
+            } else {
+                readings.of_few
+            };
+            if reads > ends.saturating_mul(most) {
+                return Halt::Spent;
+            }
+            let Some(meeting) = self.search(proposal) else {
+                return Halt::Apart;
+            };
+            self.push(proposal, meeting);
+            reads = reads
+                .saturating_add(self.ahead.reads())
+                .saturating_add(self.behind.reads());
+        }
+        Halt::Spent
+    }
+
+    /// At how many nodes the searches began.
+    fn begun(&self) -> usize {
+        self.ahead
+            .settled()
+            .listed()
+            .len()
+            .saturating_add(self.behind.settled().listed().len())
+    }
+
+    /// Lists the nodes out of balance.
+    fn list_roots(&mut self, proposal: &Proposal)
+        requires { proposal.now ≡ self.old }
+        ensures { self.new ≡ self.old }
+    {
+        self.roots.clear();
+        for v in 0..proposal.entries() {
+            if proposal.rest(v) != 0 {
+                self.add_root(v);
+            }
+        }
+    }
+
+    /// Lists a node.
+    fn add_root(&mut self, v: usize)
+        requires { v < self.old }
+        ensures { self.new ≡ self.old }
+    {
+        self.roots.add(v);
+    }
+
+    /// Begins at all nodes in excess and at all in deficit, and says whether there are both.
+    fn begin(&mut self, proposal: &Proposal) -> bool
+        requires { proposal.now ≡ self.old }
+        ensures { self.new ≡ self.old }
+    {
+        self.ahead.forget();
+        self.behind.forget();
+        begin_all(&mut self.ahead, &mut self.behind, &self.roots, proposal);
+        self.ahead.has_waiting() && self.behind.has_waiting()
+    }
+
+    /// Searches from both sides, and gives a shortest path across.
+    fn search(&mut self, proposal: &Proposal) -> Option<Meeting>
+        requires { proposal.now ≡ self.old }
+        ensures kept { self.new ≡ self.old }
+        ensures node { IfSome result (λ meeting. meeting.node < self.old) }
+    {
+        let meeting = meet(
+            &mut self.ahead,
+            &mut self.behind,
+            proposal,
+            &self.free,
+            Meeting::NONE,
+        );
+        if meeting.length < FAR && meeting.node < self.ahead.entries() {
+            Some(meeting)
+        } else {
+            None
+        }
+    }
+
+    /// Shifts the potentials so that the path is tight, and pushes along it as much as fits.
+    fn push(&mut self, proposal: &mut Proposal, meeting: Meeting)
+        requires proposal { proposal.old ≡ self.old }
+        requires node { meeting.node < self.old }
+        ensures kept { self.new ≡ self.old }
+        ensures proposal { proposal.new ≡ proposal.old }
+    {
+        let fall = match self.ahead.reach() {
+            Some(reach) => reach.min(meeting.length),
+            None => meeting.length,
+        };
+        lower_all::<true>(&self.ahead, proposal, fall);
+        lower_all::<false>(&self.behind, proposal, meeting.length - fall);
+        self.ahead.mark_path(proposal, meeting.node, true);
+        let join = self.behind.last_on(proposal, meeting.node, &self.ahead);
+        self.ahead.mark_path(proposal, meeting.node, false);
+        let s = self.ahead.trace(proposal, join, &mut self.path_ahead);
+        let t = self.behind.trace(proposal, join, &mut self.path_behind);
+        let amount = proposal.excess::<true>(s).min(proposal.excess::<false>(t));
+        let amount = room_along::<true>(proposal, &self.path_ahead, amount);
+        let amount = room_along::<false>(proposal, &self.path_behind, amount);
+        draw_along::<true>(proposal, &mut self.free, &self.path_ahead, amount);
+        draw_along::<false>(proposal, &mut self.free, &self.path_behind, amount);
+        proposal.carry::<true>(s, t, amount);
+    }
+}
+
+/// Begins at all these nodes that are in excess or in deficit.
+fn begin_all(ahead: &mut Front, behind: &mut Front, roots: &Nodes, proposal: &Proposal)
+    requires ahead { ahead.old ≡ proposal.now }
+    requires behind { behind.old ≡ proposal.now }
+    requires roots { roots.now ≡ proposal.now }
+    ensures ahead { ahead.new ≡ ahead.old }
+    ensures behind { behind.new ≡ behind.old }
+{
+    for v in roots.listed() {
+        let v = *v as usize;
+        let rest = proposal.rest(v);
+        if rest > 0 {
+            ahead.begin_at(v);
+        } else if rest < 0 {
+            behind.begin_at(v);
+        }
+    }
+}
+
+/// Searches from both sides until no path across can be shorter than the best one, which is this one at first.
+fn meet(
+    ahead: &mut Front,
+    behind: &mut Front,
+    proposal: &Proposal,
+    free: &FreeEnds,
+    meeting: Meeting,
+) -> Meeting
+    requires ahead { ahead.old ≡ proposal.now }
+    requires behind { behind.old ≡ proposal.now }
+    requires free { free.now ≡ proposal.now }
+    ensures ahead { ahead.new ≡ ahead.old }
+    ensures behind { behind.new ≡ behind.old }
+{
+    let mut meeting = meeting;
+    // No bound that is ever met: each step reads at a node, at most twice on a side, or settles one.
+    for _ in 0..u64::MAX {
+        if is_best(ahead, behind, meeting) {
+            break;
+        }
+        meeting = go_on(ahead, behind, proposal, free, meeting);
+    }
+    meeting
+}
+
+/// Whether no path across can be shorter than the best one so far.
+#[inline(always)]
+fn is_best(ahead: &Front, behind: &Front, meeting: Meeting) -> bool {
+    let Some(near) = ahead.reach() else {
+        return true;
+    };
+    let Some(beyond) = behind.reach() else {
+        return true;
+    };
+    near + beyond >= meeting.length
+}
+
+/// Goes on by one node on one side.
+#[inline(always)]
+fn go_on(
+    ahead: &mut Front,
+    behind: &mut Front,
+    proposal: &Proposal,
+    free: &FreeEnds,
+    meeting: Meeting,
+) -> Meeting
+    requires ahead { ahead.old ≡ proposal.now }
+    requires behind { behind.old ≡ proposal.now }
+    requires free { free.now ≡ proposal.now }
+    ensures ahead { ahead.new ≡ ahead.old }
+    ensures behind { behind.new ≡ behind.old }
+{
+    if goes_ahead(ahead, behind) {
+        ahead.step::<true>(proposal, free, behind, meeting)
+    } else {
+        behind.step::<false>(proposal, free, ahead, meeting)
+    }
+}
+
+/// Which side goes on: that which has read less; where no node waits whose free ends were not read, that which has fewer
+/// nodes left to read.
+#[inline(always)]
+fn goes_ahead(ahead: &Front, behind: &Front) -> bool {
+    if ahead.unread() == 0 || behind.unread() == 0 {
+        return ahead.unread() == 0;
+    }
+    if ahead.has_waiting() || behind.has_waiting() {
+        ahead.reads() <= behind.reads()
+    } else {
+        ahead.unread() <= behind.unread()
+    }
+}
+
+/// Lowers the potentials of the nodes, as a side sees them, that are nearer than so far, by what they are nearer.
+fn lower_all<const AHEAD: bool>(front: &Front, proposal: &mut Proposal, far: i64)
+    requires { proposal.old ≡ front.now }
+    ensures { proposal.new ≡ proposal.old }
+{
+    for v in front.settled().listed() {
+        let v = *v as usize;
+        let key = front.key(v);
+        if key < far {
+            let _lowered = proposal.lower::<AHEAD>(v, far - key);
+        }
+    }
+}
+
+/// The room along a path, or this amount if it is less.
+fn room_along<const AHEAD: bool>(proposal: &Proposal, path: &Places, amount: i64) -> i64 {
+    let mut amount = amount;
+    for place in path.listed() {
+        if let Some(link) = proposal.link(*place) {
+            amount = amount.min(link.room_back::<AHEAD>());
+        }
+    }
+    amount
+}
+
+/// Moves flow along a path.
+fn draw_along<const AHEAD: bool>(
+    proposal: &mut Proposal,
+    free: &mut FreeEnds,
+    path: &Places,
+    amount: i64,
+)
+    requires { free.old ≡ proposal.old }
+    ensures proposal { proposal.new ≡ proposal.old }
+    ensures free { free.new ≡ free.old }
+{
+    for place in path.listed() {
+        let _full = proposal.draw::<AHEAD>(*place, amount);
+        free.renew(proposal, *place);
+    }
+}

@@ -1,0 +1,213 @@
+//! The ends of arcs that have room both ways.
+
+ghost use Rattle.std.specs.Prelude.{◌≡◌, ◌<◌, ◌^◌, IfOk};
+
+use relaxation::{Link, Proposal};
+use std::alloc::{AllocError, Global};
+use std::marker::Model;
+
+/// The place of no end.
+const NONE: u32 = u32::MAX;
+
+/// For how many ends there is room, for each node.
+const ROOM: usize = 4;
+
+/// An end of an arc with room both ways, in the chain of its node.
+#[derive(Clone, Copy)]
+pub struct FreeEnd {
+    /// The node at the arc's other end.
+    pub other: u32,
+    /// The place of the arc's other end.
+    pub opposite: u32,
+    /// The next one of the chain.
+    pub next: u32,
+}
+
+impl FreeEnd {
+    const UNUSED: FreeEnd = FreeEnd {
+        other: 0,
+        opposite: 0,
+        next: NONE,
+    };
+}
+
+/// The ends of arcs with room both ways, a chain a node, close together: searches reach most nodes over these, and they are
+/// few. It is seen as the number of entries that a table of nodes has.
+#[derive(Drop)]
+pub struct FreeEnds {
+    /// Where the chain of each node begins.
+    heads: Vec<u32>,
+    ends: Vec<FreeEnd>,
+    /// How many of them were used.
+    len: usize,
+    /// None was left out for want of room.
+    whole: bool,
+}
+
+impl Model for FreeEnds {
+    ghost use Rattle.std.specs.Prelude.{ℕ, length};
+
+    ghost Value = { ℕ };
+
+    ghost view = { λ f. length f.heads.items };
+}
+
+impl FreeEnds {
+    /// Chains of no end.
+    ///
+    /// # Errors
+    /// Memory for a table was refused.
+    pub fn new(alloc: Global, entries: usize) -> Result<FreeEnds, AllocError>
+        requires { entries < 2 ^ 31 }
+        ensures { IfOk result (λ f. f ≡ entries) }
+    {
+        let heads = vec![in alloc; NONE; entries]?;
+        let ends = vec![in alloc; FreeEnd::UNUSED; ROOM * entries]?;
+        Ok(FreeEnds {
+            heads,
+            ends,
+            len: 0,
+            whole: true,
+        })
+    }
+
+    /// Takes over those of a proposal.
+    pub fn load(&mut self, proposal: &Proposal)
+        requires { proposal.now ≡ self.old }
+        ensures { self.new ≡ self.old }
+    {
+        self.heads.fill(NONE);
+        self.len = 0;
+        self.whole = true;
+        for v in 0..proposal.entries() {
+            self.load_at(proposal, v);
+        }
+    }
+
+    /// Takes over those at a node.
+    fn load_at(&mut self, proposal: &Proposal, v: usize)
+        requires proposal { proposal.now ≡ self.old }
+        requires node { v < self.old }
+        ensures { self.new ≡ self.old }
+    {
+        for link in proposal.ends_at(v).links {
+            if is_free(link) {
+                self.add(v, link);
+            }
+        }
+    }
+
+    /// Whether none is missing.
+    #[inline(always)]
+    pub fn are_whole(&self) -> bool {
+        self.whole
+    }
+
+    /// How many there can be.
+    #[inline(always)]
+    pub fn most(&self) -> usize {
+        self.ends.len()
+    }
+
+    /// The place of the first one of a node.
+    #[inline(always)]
+    pub fn first(&self, v: usize) -> u32
+        requires { v < self.now }
+    {
+        self.heads[v]
+    }
+
+    /// The end at a place of a chain, if it is one.
+    #[inline(always)]
+    pub fn at(&self, place: u32) -> Option<FreeEnd> {
+        let place = place as usize;
+        if place < self.ends.len() {
+            Some(self.ends[place])
+        } else {
+            None
+        }
+    }
+
+    /// Takes over an arc of which one end is at this place of a proposal.
+    pub fn renew(&mut self, proposal: &Proposal, place: u32)
+        requires { proposal.now ≡ self.old }
+        ensures { self.new ≡ self.old }
+    {
+        let Some(near) = proposal.link(place) else {
+            return;
+        };
+        let Some(far) = proposal.link(near.opposite) else {
+            return;
+        };
+        self.renew_at(far.other as usize, &near);
+        self.renew_at(near.other as usize, &far);
+    }
+
+    /// Takes over an end at a node.
+    fn renew_at(&mut self, v: usize, link: &Link)
+        requires { v < self.old }
+        ensures { self.new ≡ self.old }
+    {
+        self.remove(v, link.opposite);
+        if is_free(link) {
+            self.add(v, link);
+        }
+    }
+
+    /// Adds an end at a node.
+    fn add(&mut self, v: usize, link: &Link)
+        requires { v < self.old }
+        ensures { self.new ≡ self.old }
+    {
+        let at = self.len;
+        if at >= self.ends.len() || at >= NONE as usize {
+            self.whole = false;
+            return;
+        }
+        self.ends[at] = FreeEnd {
+            other: link.other,
+            opposite: link.opposite,
+            next: self.heads[v],
+        };
+        self.heads[v] = at as u32;
+        self.len = at + 1;
+    }
+
+    /// Takes an end at a node out of its chain.
+    fn remove(&mut self, v: usize, opposite: u32)
+        requires { v < self.old }
+        ensures { self.new ≡ self.old }
+    {
+        let mut before = NONE;
+        let mut at = self.heads[v];
+        for _ in 0..self.ends.len() {
+            let Some(end) = self.at(at) else {
+                return;
+            };
+            if end.opposite == opposite {
+                self.lead_past(v, before, end.next);
+                return;
+            }
+            before = at;
+            at = end.next;
+        }
+    }
+
+    /// Leads the chain of a node on to a place, from the end at the one before, or from its beginning.
+    fn lead_past(&mut self, v: usize, before: u32, next: u32)
+        requires { v < self.old }
+        ensures { self.new ≡ self.old }
+    {
+        let before = before as usize;
+        if before < self.ends.len() {
+            self.ends[before].next = next;
+        } else {
+            self.heads[v] = next;
+        }
+    }
+}
+
+/// Whether an arc has room both ways.
+fn is_free(link: &Link) -> bool {
+    link.room::<true>() > 0 && link.room::<false>() > 0
+}

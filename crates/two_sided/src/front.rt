@@ -1,0 +1,570 @@
+//! One side of a search that goes from both sides at once.
+
+ghost use Rattle.std.specs.Prelude.{◌≡◌, ◌<◌, ◌^◌, ℕ, IfOk, IfSome, length, pos, ◌≤ℤ◌};
+ghost use Rattle.relaxation.specs.Limits.{IsWithin, rest_limit};
+ghost use Rattle.two_sided.specs.Keys.{key_limit};
+
+use crate::free::{FreeEnd, FreeEnds};
+use crate::heap::Heap;
+use crate::length::{FAR, NO_PLACE};
+use relaxation::{Nodes, Places, Proposal};
+use std::alloc::{AllocError, Global};
+use std::marker::Model;
+
+/// What a side knows of a node.
+#[derive(Clone, Copy)]
+pub struct Label {
+    /// The length of the best path so far.
+    key: i64,
+    /// The place, at this node, of the last arc of that path.
+    parent: u32,
+    /// No path is shorter.
+    settled: bool,
+    /// It is on the path that is traced.
+    walked: bool,
+    ghost key_low: { pos 0 ≤ℤ key },
+    ghost key_high: { key ≤ℤ pos key_limit },
+}
+
+impl Label {
+    const NONE: Label = Label {
+        key: FAR,
+        parent: NO_PLACE,
+        settled: false,
+        walked: false,
+    };
+}
+
+/// The label of a node that an arc of this reduced cost leads to: one below 0 counts as 0.
+#[inline(always)]
+fn label_beyond(key: i64, reduced_cost: i64, parent: u32) -> Label
+    requires low { pos 0 ≤ℤ key }
+    requires high { key ≤ℤ pos key_limit }
+    requires reduced { IsWithin rest_limit reduced_cost }
+{
+    let length = if reduced_cost > 0 {
+        key + reduced_cost
+    } else {
+        key
+    };
+    Label {
+        key: length.min(FAR),
+        parent,
+        settled: false,
+        walked: false,
+    }
+}
+
+/// The shortest path so far from one side to the other.
+#[derive(Clone, Copy)]
+pub struct Meeting {
+    pub length: i64,
+    /// A node on it that both sides know.
+    pub node: usize,
+    ghost length_low: { pos 0 ≤ℤ length },
+    ghost length_high: { length ≤ℤ pos key_limit },
+}
+
+impl Meeting {
+    /// No path.
+    pub const NONE: Meeting = Meeting {
+        length: FAR,
+        node: 0,
+    };
+
+    /// This path, or one over a node so far from either side if that is shorter.
+    #[inline(always)]
+    fn or_over(self, node: usize, near: i64, beyond: i64) -> Meeting
+        requires near_low { pos 0 ≤ℤ near }
+        requires near_high { near ≤ℤ pos key_limit }
+        requires beyond_low { pos 0 ≤ℤ beyond }
+        requires beyond_high { beyond ≤ℤ pos key_limit }
+    {
+        let length = near + beyond;
+        if length < self.length {
+            Meeting { length, node }
+        } else {
+            self
+        }
+    }
+}
+
+/// A search from the nodes in excess, as a side sees it. It is seen as the number of entries that a table of nodes has.
+#[derive(Drop)]
+pub struct Front {
+    labels: Vec<Label>,
+    heap: Heap,
+    /// The nodes that are settled, in order.
+    settled: Nodes,
+    /// The nodes to which a path was found.
+    touched: Nodes,
+    /// Of how many settled nodes the free ends were read.
+    spread: usize,
+    /// Of how many settled nodes the other ends were read.
+    read: usize,
+    /// The key of the node that was settled last.
+    last: i64,
+    /// No node is left to read.
+    spent: bool,
+    /// How many ends were read.
+    reads: u64,
+    ghost last_low: { pos 0 ≤ℤ last },
+    ghost last_high: { last ≤ℤ pos key_limit },
+}
+
+impl Model for Front {
+    ghost use Rattle.std.specs.Prelude.{ℕ, ◌≡◌, ◌<◌, ◌^◌, length};
+
+    ghost Value = { ℕ };
+
+    ghost view = { λ f. length f.labels.items };
+
+    ghost invariant = { λ f. (length f.labels.items < 2 ^ 31)
+        × (f.heap ≡ length f.labels.items)
+        × (f.settled ≡ length f.labels.items)
+        × (f.touched ≡ length f.labels.items) };
+}
+
+impl Front {
+    /// A search of which nothing is begun.
+    ///
+    /// # Errors
+    /// Memory for a table was refused.
+    pub fn new(alloc: Global, entries: usize) -> Result<Front, AllocError>
+        requires { entries < 2 ^ 31 }
+        ensures { IfOk result (λ f. f ≡ entries) }
+    {
+        let labels = vec![in alloc; Label::NONE; entries]?;
+        let heap = Heap::new(alloc, entries)?;
+        let settled = Nodes::new(alloc, entries)?;
+        let touched = Nodes::new(alloc, entries)?;
+        Ok(Front {
+            labels,
+            heap,
+            settled,
+            touched,
+            spread: 0,
+            read: 0,
+            last: 0,
+            spent: false,
+            reads: 0,
+        })
+    }
+
+    /// The number of entries of a table of nodes.
+    pub fn entries(&self) -> usize
+        ensures { result ≡ self.now }
+    {
+        self.labels.len()
+    }
+
+    /// Forgets all.
+    pub fn forget(&mut self)
+        ensures { self.new ≡ self.old }
+    {
+        forget_all(&mut self.labels, &self.touched);
+        self.heap.clear();
+        self.settled.clear();
+        self.touched.clear();
+        self.spread = 0;
+        self.read = 0;
+        self.last = 0;
+        self.spent = false;
+        self.reads = 0;
+    }
+
+    /// Begins at a node.
+    pub fn begin_at(&mut self, v: usize)
+        requires { v < self.old }
+        ensures { self.new ≡ self.old }
+    {
+        let label = Label {
+            key: 0,
+            parent: NO_PLACE,
+            settled: false,
+            walked: false,
+        };
+        self.write_label(v, label);
+        self.touch(v);
+        self.settle(v);
+    }
+
+    /// How far the search has come, if it is not at its end: no node that is not settled is nearer.
+    #[inline(always)]
+    pub fn reach(&self) -> Option<i64>
+        ensures low { IfSome result (λ key. pos 0 ≤ℤ key) }
+        ensures high { IfSome result (λ key. key ≤ℤ pos key_limit) }
+    {
+        if self.spent { None } else { Some(self.last) }
+    }
+
+    /// How many ends were read.
+    #[inline(always)]
+    pub fn reads(&self) -> u64 {
+        self.reads
+    }
+
+    /// Whether a node waits whose free ends were not read.
+    #[inline(always)]
+    pub fn has_waiting(&self) -> bool {
+        self.spread < self.settled.listed().len()
+    }
+
+    /// Of how many settled nodes the other ends were not read.
+    #[inline(always)]
+    pub fn unread(&self) -> usize {
+        self.settled.listed().len().saturating_sub(self.read)
+    }
+
+    /// The settled nodes.
+    pub fn settled(&self) -> &Nodes
+        ensures { result.now ≡ self.now }
+    {
+        &self.settled
+    }
+
+    /// The length of the best path to a node.
+    #[inline(always)]
+    pub fn key(&self, v: usize) -> i64
+        requires { v < self.now }
+        ensures low { pos 0 ≤ℤ result }
+        ensures high { result ≤ℤ pos key_limit }
+    {
+        let label = self.labels[v];
+        label.key
+    }
+
+    /// Goes on by one node: reads its free ends, which are tight; where no node waits for that, the other ends of one; where
+    /// all ends are read, settles the next one. Gives the shortest path across.
+    #[inline(always)]
+    pub fn step<const AHEAD: bool>(
+        &mut self,
+        proposal: &Proposal,
+        free: &FreeEnds,
+        other: &Front,
+        meeting: Meeting,
+    ) -> Meeting
+        requires proposal { proposal.now ≡ self.old }
+        requires free { free.now ≡ self.old }
+        requires other { other.now ≡ self.old }
+        ensures { self.new ≡ self.old }
+    {
+        if let Some(u) = self.take_waiting() {
+            return self.read_free(free, other, u, meeting);
+        }
+        if let Some(u) = self.take_unread() {
+            return self.read_others::<AHEAD>(proposal, free, other, u, meeting);
+        }
+        self.advance();
+        meeting
+    }
+
+    /// Takes the next settled node whose free ends were not read.
+    #[inline(always)]
+    fn take_waiting(&mut self) -> Option<usize>
+        ensures kept { self.new ≡ self.old }
+        ensures node { IfSome result (λ v. v < self.old) }
+    {
+        let next = self.settled.at(self.spread);
+        let taken = if next.is_some() { 1 } else { 0 };
+        self.spread = self.spread.saturating_add(taken);
+        next
+    }
+
+    /// Takes the next settled node whose other ends were not read.
+    #[inline(always)]
+    fn take_unread(&mut self) -> Option<usize>
+        ensures kept { self.new ≡ self.old }
+        ensures node { IfSome result (λ v. v < self.old) }
+    {
+        let next = self.settled.at(self.read);
+        let taken = if next.is_some() { 1 } else { 0 };
+        self.read = self.read.saturating_add(taken);
+        next
+    }
+
+    /// Reads the ends of arcs at a settled node that have room both ways.
+    fn read_free(&mut self, free: &FreeEnds, other: &Front, u: usize, meeting: Meeting) -> Meeting
+        requires free { free.now ≡ self.old }
+        requires other { other.now ≡ self.old }
+        requires node { u < self.old }
+        ensures { self.new ≡ self.old }
+    {
+        let mut meeting = meeting;
+        let mut at = free.first(u);
+        for _ in 0..free.most() {
+            let Some(end) = free.at(at) else {
+                break;
+            };
+            self.count(1);
+            meeting = self.spread_to(&end, other, meeting);
+            at = end.next;
+        }
+        meeting
+    }
+
+    /// Goes over a free end to a node.
+    #[inline(always)]
+    fn spread_to(&mut self, end: &FreeEnd, other: &Front, meeting: Meeting) -> Meeting
+        requires { other.now ≡ self.old }
+        ensures { self.new ≡ self.old }
+    {
+        let v = end.other as usize;
+        if v >= self.labels.len() {
+            return meeting;
+        }
+        let label = Label {
+            key: self.last,
+            parent: end.opposite,
+            settled: false,
+            walked: false,
+        };
+        self.note(v, label, other, meeting)
+    }
+
+    /// Reads the ends at a settled node of the other residual arcs that lead on from it.
+    fn read_others<const AHEAD: bool>(
+        &mut self,
+        proposal: &Proposal,
+        free: &FreeEnds,
+        other: &Front,
+        u: usize,
+        meeting: Meeting,
+    ) -> Meeting
+        requires proposal { proposal.now ≡ self.old }
+        requires other { other.now ≡ self.old }
+        requires node { u < self.old }
+        ensures { self.new ≡ self.old }
+    {
+        let mut meeting = meeting;
+        let key = self.key(u);
+        let potential = proposal.potential(u);
+        let are_read = free.are_whole();
+        let links = proposal.ends_at(u).links;
+        self.count(links.len());
+        for link in links {
+            if link.room::<AHEAD>() > 0 && !(are_read && link.room_back::<AHEAD>() > 0) {
+                let reduced_cost = proposal.reduced_cost::<AHEAD>(potential, link);
+                let label = label_beyond(key, reduced_cost, link.opposite);
+                meeting = self.note(link.other as usize, label, other, meeting);
+            }
+        }
+        meeting
+    }
+
+    /// Counts ends that are read.
+    #[inline(always)]
+    fn count(&mut self, ends: usize)
+        ensures { self.new ≡ self.old }
+    {
+        self.reads = self.reads.saturating_add(ends as u64);
+    }
+
+    /// Writes down a path to a node, if it is the best so far and shorter than the way across; gives the shortest path
+    /// across.
+    #[inline(always)]
+    fn note(&mut self, v: usize, label: Label, other: &Front, meeting: Meeting) -> Meeting
+        requires other { other.now ≡ self.old }
+        requires node { v < self.old }
+        ensures { self.new ≡ self.old }
+    {
+        let known = self.key(v);
+        if label.key >= known || label.key >= meeting.length {
+            return meeting;
+        }
+        self.write_label(v, label);
+        self.line_up(v, label.key, known);
+        meeting.or_over(v, label.key, other.key(v))
+    }
+
+    /// Lines a node up to be read, of which the best path had this length before.
+    #[inline(always)]
+    fn line_up(&mut self, v: usize, key: i64, known: i64)
+        requires { v < self.old }
+        ensures { self.new ≡ self.old }
+    {
+        if known == FAR {
+            self.touch(v);
+            if key != self.last {
+                self.wait(v, key);
+                return;
+            }
+        } else if key != self.last {
+            self.wait_less(v, key);
+            return;
+        }
+        self.settle(v);
+    }
+
+    /// Lists a node as one to which a path was found.
+    #[inline(always)]
+    fn touch(&mut self, v: usize)
+        requires { v < self.old }
+        ensures { self.new ≡ self.old }
+    {
+        self.touched.add(v);
+    }
+
+    /// Puts a node into the heap.
+    #[inline(always)]
+    fn wait(&mut self, v: usize, key: i64)
+        requires { v < self.old }
+        ensures { self.new ≡ self.old }
+    {
+        self.heap.add(v, key);
+    }
+
+    /// Gives a node in the heap a lower key.
+    #[inline(always)]
+    fn wait_less(&mut self, v: usize, key: i64)
+        requires { v < self.old }
+        ensures { self.new ≡ self.old }
+    {
+        self.heap.lower(v, key);
+    }
+
+    /// Writes down a path to a node.
+    #[inline(always)]
+    fn write_label(&mut self, v: usize, label: Label)
+        requires { v < self.old }
+        ensures { self.new ≡ self.old }
+    {
+        self.labels[v] = label;
+    }
+
+    /// Writes down that no path to a node is shorter.
+    #[inline(always)]
+    fn settle(&mut self, v: usize)
+        requires { v < self.old }
+        ensures { self.new ≡ self.old }
+    {
+        self.labels[v].settled = true;
+        self.settled.add(v);
+    }
+
+    /// Settles the nearest node that is not settled.
+    fn advance(&mut self)
+        ensures { self.new ≡ self.old }
+    {
+        for _ in 0..=self.labels.len() {
+            let Some(u) = self.take_nearest() else {
+                break;
+            };
+            if self.settle_next(u) {
+                return;
+            }
+        }
+        self.spent = true;
+    }
+
+    /// Takes the nearest node out of the heap.
+    fn take_nearest(&mut self) -> Option<usize>
+        ensures kept { self.new ≡ self.old }
+        ensures node { IfSome result (λ v. v < self.old) }
+    {
+        self.heap.take()
+    }
+
+    /// Settles a node, and says whether it was not settled before.
+    fn settle_next(&mut self, u: usize) -> bool
+        requires { u < self.old }
+        ensures { self.new ≡ self.old }
+    {
+        let label = self.labels[u];
+        if label.settled {
+            return false;
+        }
+        self.last = label.key;
+        self.settle(u);
+        true
+    }
+
+    /// Lists the places of the arcs of the path to a node, from its end, and gives the node where it begins.
+    pub fn trace(&self, proposal: &Proposal, v: usize, path: &mut Places) -> usize
+        requires proposal { proposal.now ≡ self.now }
+        requires node { v < self.now }
+        ensures { result < self.now }
+    {
+        path.clear();
+        let mut u = v;
+        for _ in 0..self.labels.len() {
+            let place = self.parent(u);
+            let Some(link) = proposal.link(place) else {
+                break;
+            };
+            path.add(place);
+            u = link.other as usize;
+        }
+        u
+    }
+
+    /// Marks the nodes of the path to a node, or takes the marks off.
+    pub fn mark_path(&mut self, proposal: &Proposal, v: usize, walked: bool)
+        requires proposal { proposal.now ≡ self.old }
+        requires node { v < self.old }
+        ensures { self.new ≡ self.old }
+    {
+        let mut u = v;
+        for _ in 0..self.labels.len() {
+            self.mark(u, walked);
+            let Some(link) = proposal.link(self.parent(u)) else {
+                break;
+            };
+            u = link.other as usize;
+        }
+    }
+
+    /// The place, at a node, of the last arc of the best path to it.
+    fn parent(&self, v: usize) -> u32
+        requires { v < self.now }
+    {
+        self.labels[v].parent
+    }
+
+    /// Marks a node, or takes its mark off.
+    fn mark(&mut self, v: usize, walked: bool)
+        requires { v < self.old }
+        ensures { self.new ≡ self.old }
+    {
+        self.labels[v].walked = walked;
+    }
+
+    /// Whether a node is on the path that is marked.
+    pub fn is_walked(&self, v: usize) -> bool
+        requires { v < self.now }
+    {
+        self.labels[v].walked
+    }
+
+    /// The last node of the path to a node, seen from that node, that another side's marked path meets too: from there on
+    /// the two paths meet no more.
+    pub fn last_on(&self, proposal: &Proposal, v: usize, other: &Front) -> usize
+        requires proposal { proposal.now ≡ self.now }
+        requires other { other.now ≡ self.now }
+        requires node { v < self.now }
+        ensures { result < self.now }
+    {
+        let mut last = v;
+        let mut u = v;
+        for _ in 0..self.labels.len() {
+            let Some(link) = proposal.link(self.parent(u)) else {
+                break;
+            };
+            u = link.other as usize;
+            if other.is_walked(u) {
+                last = u;
+            }
+        }
+        last
+    }
+}
+
+/// Forgets the paths to these nodes.
+fn forget_all(labels: &mut [Label], touched: &Nodes)
+    requires { touched.now ≡ length labels.old }
+    ensures { length labels.new ≡ length labels.old }
+{
+    for v in touched.listed() {
+        labels[*v as usize] = Label::NONE;
+    }
+}

@@ -1,0 +1,15 @@
+//! Pushes near an edit, where few nodes are out of balance: searches from both sides at once, on a proposal.
+//!
+//! Proved is that each call returns, that no index, sum or cast leaves its range, and that the tables keep their sizes.
+//! Nothing is proved of what is proposed.
+#![tactic(auto)]
+
+mod between;
+mod free;
+mod front;
+mod heap;
+mod length;
+
+pub use between::{Between, Halt, Readings};
+pub use heap::Heap;
+pub use length::{FAR, NO_PLACE};
