@@ -1,5 +1,7 @@
 """The command mcf-plan, run as a process: what it prints, and its statuses."""
 
+import contextlib
+import io
 import json
 import os
 import signal
@@ -10,8 +12,11 @@ import tempfile
 import time
 import unittest
 from pathlib import Path
+from unittest import mock
 
 from limits import HEARD
+
+from mcf_plan.__main__ import main
 
 TOP = Path(__file__).resolve().parents[2]
 COMMAND = str(TOP / "mcf-plan")
@@ -250,6 +255,12 @@ class Command(unittest.TestCase):
             _, errors = process.communicate(timeout=15)
         self.assertLess(time.monotonic() - start, HEARD)
         self.assertEqual((process.returncode, errors), (130, "mcf-plan: interrupted\n"))
+
+    def test_no_memory(self):
+        errors = io.StringIO()
+        with mock.patch("mcf_plan.__main__._plan", side_effect=MemoryError), contextlib.redirect_stderr(errors):
+            status = main(["plan", self.nodes, self.arcs])
+        self.assertEqual((status, errors.getvalue()), (4, "mcf-plan: out of memory\n"))
 
     def test_help_and_version(self):
         out, _ = self.run_it("--help")

@@ -1,4 +1,4 @@
-"""The command mcf-plan: tables with names and decimals in, proved plans out."""
+"""The command mcf-plan: tables with names and decimals in, checked plans out."""
 
 from __future__ import annotations
 
@@ -27,7 +27,7 @@ STATUSES = """status:
   1    there is no plan, or an answer is not valid
   2    the command line is refused
   3    a table or a text is refused
-  4    a file, or the program mcf, failed
+  4    a file or the program mcf failed, or memory ran out
   6    there is no best plan: each unit more makes it better
   7    beyond the limits of the formats
   8    an answer was found wrong; the texts are kept
@@ -59,6 +59,8 @@ def main(arguments: Optional[List[str]] = None) -> int:
     except BrokenPipeError:
         sys.stderr.close()
         return FAILED
+    except MemoryError:
+        return _say("out of memory", FAILED)
     except (ProgramFailed, OSError) as error:
         return _say(_of_system(error), FAILED)
     except ValueError as error:
@@ -92,7 +94,7 @@ def _kept(error: Disagreement) -> str:
 def _parser() -> argparse.ArgumentParser:
     parser = argparse.ArgumentParser(
         prog="mcf-plan",
-        description="Tables with names and decimals in, proved plans out.",
+        description="Tables with names and decimals in, checked plans out.",
         epilog=STATUSES,
         formatter_class=argparse.RawDescriptionHelpFormatter,
     )
