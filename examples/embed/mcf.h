@@ -110,12 +110,13 @@ int32_t mcf_open(mcf_handle *handle, const uint8_t *text, size_t length, uint32_
 /* Takes a line of a session's commands, without its line feed, such as "cap 5 3" (arc 5 may carry 3), and solves again.
  * A refusal by its number, or MCF_CLOSED: nothing has changed. "show" and "proof" change nothing; "mark NAME" names the
  * present moment, and "back NAME" goes there again. A blank line is refused by 2, wherever it comes, and a line of more
- * than 1,024 bytes, blank or not, by 1. A line feed that is left on is a byte of a word, so the line is refused: "show\n"
- * by 2, "cap 5 3\n" by 4.
+ * than 1,024 bytes, blank or not, by 1 if no group is open. A line feed that is left on is a byte of a word, so the line
+ * is refused: "show\n" by 2, "cap 5 3\n" by 4.
  *
- * "group" opens a group: it and the lines after it are answered by MCF_DONE and change nothing yet, up to "end", which
- * makes their edits together as one step, or refuses the group by the number of its first line that is refused. mcf_undo
- * and mcf_redo in between go back or on at once, and the group stays open. */
+ * "group" opens a group: it and the lines after it that are not blank are answered by MCF_DONE, whatever they say, and
+ * change nothing yet, up to "end". That closes the group and makes its edits together as one step, or refuses it by the
+ * number of its first line that is refused; "end\n" does not close it. mcf_undo and mcf_redo in between go back or on at
+ * once, and the group stays open. */
 int32_t mcf_command(mcf_handle *handle, const uint8_t *line, size_t length);
 
 /* Goes back one moment, or on one: to the very answer that stood there. 25 and 26: there is none. */

@@ -100,6 +100,11 @@ class Dialogues(unittest.TestCase):
             self.assertEqual(dialogue.ask("group"), [])
             self.assertEqual(dialogue.ask("cap 1 3"), [])
             self.assertEqual(dialogue.ask("end"), ["s 14"])
+            odd_lines = ["cap 2 1\n", "undo\r", "cap\v2 1", " " * 1025]
+            self.assertEqual(dialogue.ask_all(odd_lines), ["s 16", "s 14", "r 2", "r 1"])
+            self.assertEqual(dialogue.ask_all(["group", "end" + " " * 1022, "end\n"]), ["r 1"])
+            with self.assertRaises(ValueError):
+                dialogue.ask("cap 2 1\nundo")
             self.assertTrue(dialogue.is_open)
         self.assertFalse(dialogue.is_open)
         with self.assertRaises(ProgramFailed):

@@ -22,8 +22,8 @@ import time
 from pathlib import Path
 from typing import Any, Callable, List, Optional, Tuple, TypeVar, cast
 
-from .dimacs import LONGEST_LINE, Text, find_fault, parse_problem
-from .program import Dialogue, Program, ProgramFailed, Refused, TimeLimit, as_bytes
+from .dimacs import Text, find_fault, parse_problem
+from .program import Dialogue, Program, ProgramFailed, Refused, TimeLimit, as_bytes, command_of
 
 Result = TypeVar("Result")
 
@@ -244,8 +244,9 @@ class LibraryDialogue(Dialogue):
         """
         if self._worker is None:
             raise ProgramFailed("the session has ended")
+        line, words = command_of(line)
         try:
-            return self._worker.call(lambda: self._ask(line), time_limit)
+            return self._worker.call(lambda: self._ask(line, words), time_limit)
         except BaseException:
             self.close()
             raise
@@ -279,15 +280,14 @@ class LibraryDialogue(Dialogue):
             raise ProgramFailed(f"the library answered {status}")
         return view
 
-    def _ask(self, line: str) -> List[str]:
-        words = line.split()
+    def _ask(self, line: str, words: List[str]) -> List[str]:
         if not words:
             return []
         text = as_bytes(line)
         status = self._calls.mcf_command(ctypes.byref(self._handle), text, ctypes.c_size_t(len(text)))
         if status < DONE:
             raise ProgramFailed("want of memory" if status == MEMORY else f"the library answered {status}")
-        bare = words[0] if len(words) == 1 and len(text) <= LONGEST_LINE else None
+        bare = words[0] if len(words) == 1 else None
         if self._group is None:
             made = [words]
             if status == DONE and bare == "group":

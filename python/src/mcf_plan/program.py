@@ -8,15 +8,16 @@ TimeLimit.
 from __future__ import annotations
 
 import os
+import re
 import select
 import shutil
 import subprocess
 import tempfile
 import time
 from pathlib import Path
-from typing import List, Optional, Union
+from typing import List, Optional, Tuple, Union
 
-from .dimacs import Fault, find_answer_fault, find_fault
+from .dimacs import LONGEST_LINE, Fault, find_answer_fault, find_fault
 
 Text = Union[str, bytes]
 
@@ -54,6 +55,20 @@ def as_bytes(text: Text) -> bytes:
 def as_str(text: bytes) -> str:
     """The text of bytes, undecodable ones kept as surrogates."""
     return text.decode("utf-8", "surrogateescape")
+
+
+def command_of(line: str) -> Tuple[str, List[str]]:
+    """A command line without its line feed, and its words, which spaces, tabs and carriage returns part.
+
+    A line that is too long is no command, whatever is in it: it has the one word "".
+    Raises ValueError where a line feed is within the line.
+    """
+    line = line[:-1] if line.endswith("\n") else line
+    if "\n" in line:
+        raise ValueError("a command is one line")
+    if len(as_bytes(line)) > LONGEST_LINE:
+        return line, [""]
+    return line, re.findall(r"[^ \t\r]+", line)
 
 
 def find_program(path: Optional[str] = None) -> str:
@@ -217,7 +232,7 @@ class Dialogue:
         sent = []
         awaited = []  # for each reply, whether it is a solution, whose lines end with the reply to `?`
         for line in lines:
-            words = line.split()
+            line, words = command_of(line)
             sent.append(line)
             if not words:
                 continue
