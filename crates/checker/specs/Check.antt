@@ -134,6 +134,15 @@ abbrev pub write_failures : End → ℕ
 write_failures WriteFailed = 1
 write_failures _ = 0
 
+-- ---- how many flushes of the sink went well, of a run that does not answer commands
+
+abbrev pub flushes_by : End → ℕ
+flushes_by Solved = 1
+flushes_by Infeasible = 1
+flushes_by Valid = 1
+flushes_by NotValid = 1
+flushes_by _ = 0
+
 -- ---- what the last call on the sink did
 
 -- by how a run ends, and what it did before: there was none where a text was not read or memory was refused; else all that was written is

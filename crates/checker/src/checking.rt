@@ -1,8 +1,8 @@
 //! Checks an answer to a problem, and writes whether it is right.
 ghost use Rattle.std.specs.Prelude.{◌≡◌, ◌+◌, ◌-◌, ◌^◌, ◌<◌, ◌↔◌, true, IfOk, IsTrue, length};
-ghost use Rattle.dimacs_io.specs.Device.{CountsFailure, EndsBy, WritesUpTo};
+ghost use Rattle.dimacs_io.specs.Device.{CountsFailure, CountsFlush, EndsBy, RisesBy, WritesUpTo};
 ghost use Rattle.dimacs_io.specs.declared.device.LastCall.TheVariants as last;
-ghost use Rattle.checker.specs.Check.{CheckOnDevices, NamesEnds, NameEnds, IsRight, Settles, ValidSettles, answer_failures, flow_of_lines, last_by, marks_of, problem_failures, verdict_line, write_failures};
+ghost use Rattle.checker.specs.Check.{CheckOnDevices, NamesEnds, NameEnds, IsRight, Settles, ValidSettles, answer_failures, flow_of_lines, flushes_by, last_by, marks_of, problem_failures, verdict_line, write_failures};
 
 use crate::end::{End, Text};
 use crate::read::{read_answer, read_problem};
@@ -37,9 +37,10 @@ pub fn check<P: Source, A: Source, O: Sink>(
     ensures answer_failed { A.failures answer.new ≡ A.failures answer.old + answer_failures result }
     ensures out_failed { O.failures out.new ≡ O.failures out.old + write_failures result }
 
-    // A call that failed was the last one on its device, and what is written is passed on.
+    // A call that failed was the last one on its device, and what is written is passed on, by one flush.
     ensures problem_last { problem_failures result ≡ 1 → P.last_failed problem.new ≡ true }
     ensures answer_last { answer_failures result ≡ 1 → A.last_failed answer.new ≡ true }
+    ensures out_flushed { RisesBy (flushes_by result) (O.flushes out.old) (O.flushes out.new) }
     ensures out_last { O.last_call out.new ≡ last_by result (O.last_call out.old) }
 {
     let problem = match read_problem(alloc, problem) {
@@ -66,6 +67,7 @@ fn write_verdict<O: Sink>(right: bool, out: &mut O) -> Result<(), Broken>
     requires { O.failures out.old < 2 ^ 64 - 1 }
     ensures bytes { WritesUpTo result (O.contents out.old) (O.contents out.new) (verdict_line right) }
     ensures failed { CountsFailure result (O.failures out.old) (O.failures out.new) }
+    ensures flushed { CountsFlush result (O.flushes out.old) (O.flushes out.new) }
     ensures last { EndsBy result last.Flush (O.last_call out.new) }
 {
     let line = if right {

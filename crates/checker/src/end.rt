@@ -71,6 +71,7 @@ impl End {
         requires { E.failures err.old < 2 ^ 64 - 1 }
         ensures bytes { WritesUpTo result (E.contents err.old) (E.contents err.new) (told self.now) }
         ensures failed { CountsFailure result (E.failures err.old) (E.failures err.new) }
+        ensures flushed { E.flushes err.new ≡ E.flushes err.old }
         ensures last { FailsLast result (E.last_call err.new) }
     {
         write_all(err, self.line().as_bytes())

@@ -12,12 +12,13 @@ pub record Scripted : Type 0 where
   pub failures : ℕ
   pub last_failed : Bool
 
--- a sink over a list, in the same words, and what its last call did
+-- a sink over a list, in the same words, how many flushes went well, and what the last call did
 pub record Padded : Type 0 where
   pub bytes : List ℕ
   pub most : ℕ
   pub good_calls : Option ℕ
   pub failures : ℕ
+  pub flushes : ℕ
   pub last_call : LastCall
 
 -- one call less, where there is an end to them

@@ -2,7 +2,7 @@
 ghost use Rattle.std.specs.Prelude.{◌≡◌, ℕ, Bool, ◌-◌, ◌^◌, ◌<◌, List, Option, IfOk, is_err, length};
 ghost use Rattle.std.specs.Io.{ReadsAtMost, WritesAtMost};
 ghost use Rattle.std.specs.Io.KnownBytes.{Keeps, ReadConsumes, WriteAppends};
-ghost use Rattle.dimacs_io.specs.Device.{CountsFailure, EndsBy, LowersByCount};
+ghost use Rattle.dimacs_io.specs.Device.{CountsFailure, CountsFlush, EndsBy, LowersByCount};
 ghost use Rattle.dimacs_io.specs.declared.device.LastCall.{LastCall};
 ghost use Rattle.dimacs_io.specs.declared.device.LastCall.TheVariants as last;
 
@@ -62,6 +62,9 @@ pub trait Sink {
     /// How many of its calls have failed.
     ghost failures: { Self → ℕ };
 
+    /// How many of its flushes went well, as far as 64 bits count.
+    ghost flushes: { Self → ℕ };
+
     /// What its last call did.
     ghost last_call: { Self → LastCall };
 
@@ -73,12 +76,15 @@ pub trait Sink {
         ensures progress { IfOk result (λ n. 0 < length piece.now → 0 < n) }
         ensures bytes { WriteAppends (contents self.old) (contents self.new) result piece.now }
         ensures failed { CountsFailure result (failures self.old) (failures self.new) }
+        ensures flushed { flushes self.new ≡ flushes self.old }
         ensures last { EndsBy result last.Write (last_call self.new) };
 
-    /// Passes on what was taken. That the device does so no clause can say; that it was called last, `last_call` says.
+    /// Passes on what was taken. That the device does so no clause can say; how often it was asked to `flushes` says, and
+    /// that it was asked last `last_call`.
     fn flush(&mut self) -> Result<(), Broken>
         requires { failures self.old < 2 ^ 64 - 1 }
         ensures bytes { Keeps (contents self.old) (contents self.new) }
         ensures failed { CountsFailure result (failures self.old) (failures self.new) }
+        ensures flushed { CountsFlush result (flushes self.old) (flushes self.new) }
         ensures last { EndsBy result last.Flush (last_call self.new) };
 }

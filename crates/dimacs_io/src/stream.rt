@@ -1,7 +1,7 @@
 //! Devices over std's readers and writers: each failed call is counted, and none is made again.
 ghost use Rattle.std.specs.Prelude.{◌≡◌, ◌⊎◌, ℕ, ◌-◌, ◌^◌, ◌<◌, ◌≤◌, [], false, Ok, IsErr, IfOk, MatchResult, length, take};
 ghost use Rattle.std.specs.Option.{option_map};
-ghost use Rattle.dimacs_io.specs.Device.{CountsFailure, EndsBy};
+ghost use Rattle.dimacs_io.specs.Device.{CountsFailure, CountsFlush, EndsBy};
 ghost use Rattle.dimacs_io.specs.declared.device.LastCall.TheVariants as last;
 
 use crate::device::{Broken, LastCall, Sink, Source};
@@ -33,6 +33,15 @@ fn last_of<T>(answer: &Result<T, Broken>, done: LastCall) -> LastCall
     match answer {
         Ok(_) => done,
         Err(_) => LastCall::Failure,
+    }
+}
+
+/// Counts a flush that went well.
+fn count_flush(flushes: &mut u64, answer: &Result<(), Broken>)
+    ensures { CountsFlush answer.now flushes.old flushes.new }
+{
+    if answer.is_ok() {
+        *flushes = flushes.saturating_add(1);
     }
 }
 
@@ -100,19 +109,22 @@ impl<R: Read> Source for ReadSource<R> {
 pub struct WriteSink<W: Write> {
     inner: W,
     failures: u64,
+    flushes: u64,
     last_call: LastCall,
 }
 
 impl<W: Write> WriteSink<W> {
-    /// A sink to the writer, with no failed call yet.
+    /// A sink to the writer, with no call yet.
     pub fn new(inner: W) -> WriteSink<W>
         ensures bytes { ⟦<WriteSink<W> as Sink>⟧.contents result ≡ W.contents inner }
         ensures failures { ⟦<WriteSink<W> as Sink>⟧.failures result ≡ 0 }
+        ensures flushes { ⟦<WriteSink<W> as Sink>⟧.flushes result ≡ 0 }
         ensures last { ⟦<WriteSink<W> as Sink>⟧.last_call result ≡ last.Flush }
     {
         WriteSink {
             inner,
             failures: 0,
+            flushes: 0,
             last_call: LastCall::Flush,
         }
     }
@@ -122,6 +134,8 @@ impl<W: Write> Sink for WriteSink<W> {
     ghost contents = { λ s. W.contents s.inner };
 
     ghost failures = { λ s. s.failures };
+
+    ghost flushes = { λ s. s.flushes };
 
     ghost last_call = { λ s. s.last_call };
 
@@ -136,6 +150,7 @@ impl<W: Write> Sink for WriteSink<W> {
 
     fn flush(&mut self) -> Result<(), Broken> {
         let answer = counted(&mut self.failures, self.inner.flush());
+        count_flush(&mut self.flushes, &answer);
         self.last_call = last_of(&answer, LastCall::Flush);
         answer
     }

@@ -2,7 +2,7 @@
 ghost use Rattle.std.specs.Prelude.{◌≡◌, ℕ, ◌-◌, ◌^◌, ◌≤◌, ◌<◌, ◌↔◌, ◌⊎◌, length, min, [], Some, false, is_err, IsTrue, IsErr, IfOk};
 ghost use Rattle.std.specs.Io.{ReadsAtMost, WritesAtMost};
 ghost use Rattle.std.specs.Io.KnownBytes.{Keeps, ReadConsumes, WriteAppends};
-ghost use Rattle.dimacs_io.specs.Device.{CountsFailure, EndsBy, LowersByCount};
+ghost use Rattle.dimacs_io.specs.Device.{CountsFailure, CountsFlush, EndsBy, LowersByCount};
 ghost use Rattle.dimacs_io.specs.declared.device.LastCall.TheVariants as last;
 ghost use Rattle.dimacs_io.specs.Testing.{one_less};
 
@@ -131,6 +131,7 @@ pub struct Pad {
     most: usize,
     patience: Patience,
     failures: u64,
+    flushes: u64,
     last_call: LastCall,
 }
 
@@ -140,7 +141,7 @@ impl Model for Pad {
 
     ghost Value = { Padded };
 
-    ghost view = { λ p. record { bytes = take p.len p.bytes; most = p.most; good_calls = p.patience.good_calls; failures = p.failures; last_call = p.last_call } };
+    ghost view = { λ p. record { bytes = take p.len p.bytes; most = p.most; good_calls = p.patience.good_calls; failures = p.failures; flushes = p.flushes; last_call = p.last_call } };
 
     ghost invariant = { λ p. (p.len ≤ 4096) × (0 < p.most) };
 }
@@ -152,6 +153,7 @@ impl Pad {
         requires { 0 < most }
         ensures bytes { ⟦<Pad as Sink>⟧.contents result ≡ Some [] }
         ensures failures { ⟦<Pad as Sink>⟧.failures result ≡ 0 }
+        ensures flushes { ⟦<Pad as Sink>⟧.flushes result ≡ 0 }
         ensures last { ⟦<Pad as Sink>⟧.last_call result ≡ last.Flush }
         ensures most { result.most ≡ most }
         ensures good_calls { result.good_calls ≡ one_less fails }
@@ -162,6 +164,7 @@ impl Pad {
             most,
             patience: Patience::new(fails),
             failures: 0,
+            flushes: 0,
             last_call: LastCall::Flush,
         }
     }
@@ -179,6 +182,8 @@ impl Sink for Pad {
 
     ghost failures = { λ p. p.failures };
 
+    ghost flushes = { λ p. p.flushes };
+
     ghost last_call = { λ p. p.last_call };
 
     /// Takes as much as the piece, the pad's choice and its room allow; fails exactly where the good calls are used up
@@ -189,6 +194,7 @@ impl Sink for Pad {
         ensures progress { IfOk result (λ n. 0 < length piece.now → 0 < n) }
         ensures bytes { WriteAppends (Some self.old.bytes) (Some self.new.bytes) result piece.now }
         ensures failed { CountsFailure result self.old.failures self.new.failures }
+        ensures flushed { self.new.flushes ≡ self.old.flushes }
         ensures last { EndsBy result last.Write self.new.last_call }
         ensures fails { IsErr result ↔ ((self.old.good_calls ≡ Some 0) ⊎ ((length self.old.bytes ≡ 4096) × (0 < length piece.now))) }
         ensures count { IfOk result (λ n. n ≡ min (min self.old.most (length piece.now)) (4096 - length self.old.bytes)) }
@@ -213,6 +219,7 @@ impl Sink for Pad {
         requires { self.old.failures < 2 ^ 64 - 1 }
         ensures bytes { Keeps (Some self.old.bytes) (Some self.new.bytes) }
         ensures failed { CountsFailure result self.old.failures self.new.failures }
+        ensures flushed { CountsFlush result self.old.flushes self.new.flushes }
         ensures last { EndsBy result last.Flush self.new.last_call }
         ensures fails { IsErr result ↔ (self.old.good_calls ≡ Some 0) }
         ensures good_calls { self.new.good_calls ≡ one_less self.old.good_calls }
@@ -223,6 +230,7 @@ impl Sink for Pad {
             self.last_call = LastCall::Failure;
             return Err(Broken);
         }
+        self.flushes = self.flushes.saturating_add(1);
         self.last_call = LastCall::Flush;
         Ok(())
     }

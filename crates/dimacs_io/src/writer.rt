@@ -1,6 +1,6 @@
 //! Writers of one line each: the lines of a solution in the DIMACS formats for network flows, and the refusal line of a
 //! session. Each is written whole or given up at the first failed call, and none takes memory.
-ghost use Rattle.std.specs.Prelude.{◌-◌, ◌^◌, ◌<◌};
+ghost use Rattle.std.specs.Prelude.{◌≡◌, ◌-◌, ◌^◌, ◌<◌};
 ghost use Rattle.dimacs_io.specs.Device.{CountsFailure, FailsLast, WritesUpTo};
 ghost use Rattle.dimacs_io.specs.Line.{value_line, flow_line, potential_line, shortage_line, cut_line, refusal_line};
 
@@ -15,6 +15,7 @@ pub fn write_all<O: Sink>(out: &mut O, bytes: &[u8]) -> Result<(), Broken>
     requires { O.failures out.old < 2 ^ 64 - 1 }
     ensures bytes { WritesUpTo result (O.contents out.old) (O.contents out.new) bytes.now }
     ensures failed { CountsFailure result (O.failures out.old) (O.failures out.new) }
+    ensures flushed { O.flushes out.new ≡ O.flushes out.old }
     ensures last { FailsLast result (O.last_call out.new) }
 {
     let mut done = 0;
@@ -29,6 +30,7 @@ pub fn write_s<O: Sink>(out: &mut O, value: i128) -> Result<(), Broken>
     requires { O.failures out.old < 2 ^ 64 - 1 }
     ensures bytes { WritesUpTo result (O.contents out.old) (O.contents out.new) (value_line value) }
     ensures failed { CountsFailure result (O.failures out.old) (O.failures out.new) }
+    ensures flushed { O.flushes out.new ≡ O.flushes out.old }
     ensures last { FailsLast result (O.last_call out.new) }
 {
     let mut line = Line::new();
@@ -43,6 +45,7 @@ pub fn write_f<O: Sink>(out: &mut O, tail: u32, head: u32, flow: i64) -> Result<
     requires { O.failures out.old < 2 ^ 64 - 1 }
     ensures bytes { WritesUpTo result (O.contents out.old) (O.contents out.new) (flow_line tail head flow) }
     ensures failed { CountsFailure result (O.failures out.old) (O.failures out.new) }
+    ensures flushed { O.flushes out.new ≡ O.flushes out.old }
     ensures last { FailsLast result (O.last_call out.new) }
 {
     let mut line = Line::new();
@@ -61,6 +64,7 @@ pub fn write_v<O: Sink>(out: &mut O, id: u32, potential: i64) -> Result<(), Brok
     requires { O.failures out.old < 2 ^ 64 - 1 }
     ensures bytes { WritesUpTo result (O.contents out.old) (O.contents out.new) (potential_line id potential) }
     ensures failed { CountsFailure result (O.failures out.old) (O.failures out.new) }
+    ensures flushed { O.flushes out.new ≡ O.flushes out.old }
     ensures last { FailsLast result (O.last_call out.new) }
 {
     let mut line = Line::new();
@@ -77,6 +81,7 @@ pub fn write_i<O: Sink>(out: &mut O, shortage: i64) -> Result<(), Broken>
     requires { O.failures out.old < 2 ^ 64 - 1 }
     ensures bytes { WritesUpTo result (O.contents out.old) (O.contents out.new) (shortage_line shortage) }
     ensures failed { CountsFailure result (O.failures out.old) (O.failures out.new) }
+    ensures flushed { O.flushes out.new ≡ O.flushes out.old }
     ensures last { FailsLast result (O.last_call out.new) }
 {
     let mut line = Line::new();
@@ -91,6 +96,7 @@ pub fn write_k<O: Sink>(out: &mut O, id: u32) -> Result<(), Broken>
     requires { O.failures out.old < 2 ^ 64 - 1 }
     ensures bytes { WritesUpTo result (O.contents out.old) (O.contents out.new) (cut_line id) }
     ensures failed { CountsFailure result (O.failures out.old) (O.failures out.new) }
+    ensures flushed { O.flushes out.new ≡ O.flushes out.old }
     ensures last { FailsLast result (O.last_call out.new) }
 {
     let mut line = Line::new();
@@ -105,6 +111,7 @@ pub fn write_r<O: Sink>(out: &mut O, number: u8) -> Result<(), Broken>
     requires { O.failures out.old < 2 ^ 64 - 1 }
     ensures bytes { WritesUpTo result (O.contents out.old) (O.contents out.new) (refusal_line number) }
     ensures failed { CountsFailure result (O.failures out.old) (O.failures out.new) }
+    ensures flushed { O.flushes out.new ≡ O.flushes out.old }
     ensures last { FailsLast result (O.last_call out.new) }
 {
     let mut line = Line::new();

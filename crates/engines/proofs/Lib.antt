@@ -1,4 +1,5 @@
 pub mod PrintingLemmas
+pub mod FlushLemmas
 pub mod OpeningLemmas
 pub mod SolveLemmas
 pub mod LineLemmas

@@ -6,10 +6,12 @@ use Rattle.checker.specs.declared.end.End.{End}
 use Rattle.checker.specs.declared.read.ReadError.{ReadError}
 use Rattle.checker.specs.declared.read.ReadError.TheVariants as read_error
 use Rattle.dimacs_io.specs.declared.device.LastCall.{LastCall}
-use Rattle.checker.specs.Check.{last_by, write_failures}
+use Rattle.dimacs_io.specs.Device.{RisesBy}
+use Rattle.checker.specs.Check.{flushes_by, last_by, write_failures}
 use Rattle.checker.specs.Reading.{end_of}
 use Rattle.engines.specs.Opening.{IsNotOpened}
 use Rattle.engines.specs.Session.{command_failures}
+use Rattle.engines.proofs.FlushLemmas.{RisesBy-none}
 
 unread_writes : (e : ReadError) → write_failures (end_of the.Problem e) ≡ 0
 unread_writes (read_error.Text text_fault.Memory) = refl
@@ -30,6 +32,16 @@ unopened_writes known count end failures (inr memory) = rw memory (omega arith)
 pub unopened_commands : (known : Option (List ℕ)) (count : ℕ) (end : End) (failures : ℕ) → IsNotOpened known count end → failures ≡ failures + command_failures end
 unopened_commands known count end failures (inl ends) = rw ends.1 (omega (arith, unread_commands ends.0))
 unopened_commands known count end failures (inr memory) = rw memory (omega arith)
+
+unread_flushes : (e : ReadError) → flushes_by (end_of the.Problem e) ≡ 0
+unread_flushes (read_error.Text text_fault.Memory) = refl
+unread_flushes (read_error.Text (text_fault.Fault number line)) = refl
+unread_flushes read_error.Source = refl
+
+-- nothing was flushed
+pub unopened_flushes : (known : Option (List ℕ)) (count : ℕ) (end : End) (flushes : ℕ) → IsNotOpened known count end → RisesBy (flushes_by end) flushes flushes
+unopened_flushes known count end flushes (inl ends) = rw ends.1 (RisesBy-none _ flushes flushes (unread_flushes ends.0) refl)
+unopened_flushes known count end flushes (inr memory) = rw memory (RisesBy-none 0 flushes flushes refl refl)
 
 unread_last : (e : ReadError) (before : LastCall) → before ≡ last_by (end_of the.Problem e) before
 unread_last (read_error.Text text_fault.Memory) before = refl

@@ -1,5 +1,5 @@
 -- Runs that go on by one line, and what was written of them.
-use Rattle.std.proofs.Common.{◌≡◌, ℕ, Bool, true, false, cond, List, [], ◌∷◌, ◌++◌, filter, Option, None, Some, Result, Ok, Err, is_err, refl, sym, ap, ◌∙◌, subst, append-nil}
+use Rattle.std.proofs.Common.{◌≡◌, ℕ, Bool, true, false, cond, List, [], ◌∷◌, ◌++◌, filter, length, ◌+◌, Option, None, Some, Result, Ok, Err, is_err, refl, sym, ap, ◌∙◌, subst, append-nil, length-append}
 use Rattle.std.proofs.lemmas.Bool.{false≢true}
 use Rattle.std.specs.List.{concat}
 use Rattle.std.proofs.lemmas.List.Folds.{concat-append}
@@ -7,7 +7,7 @@ use Rattle.std.proofs.lemmas.List.Sums.{fold-append}
 use Rattle.std.proofs.lemmas.List.Elements.{filter-append}
 use Rattle.std.specs.Io.KnownBytes.{Appends}
 use Rattle.std.proofs.KnownBytes.{Appends-nil, Appends-trans}
-use Rattle.dimacs_io.specs.Device.{IsBeginning, AppendsBeginning, CountsFailure}
+use Rattle.dimacs_io.specs.Device.{IsBeginning, AppendsBeginning, CountsFailure, RisesBy}
 use Rattle.dimacs_io.specs.declared.device.LastCall.{LastCall}
 use Rattle.dimacs_io.specs.declared.device.LastCall.TheVariants as last
 use Rattle.engines.proofs.PrintingLemmas.{stopped_after}
@@ -19,8 +19,9 @@ use Rattle.dimacs_lines.specs.Fields.{words_of}
 use Rattle.dimacs_text.specs.Turns.{Turn, Turns, and_inside, and_outside, and_turn, and_turn_by, no_turns, turns_of}
 use Rattle.session.specs.Step.{SessionState}
 use Rattle.session.specs.Turns.{asks, gathered_in, turns_by}
-use Rattle.engines.specs.Run.{Answers, AnswersTurns, Run, turns_in}
-use Rattle.engines.specs.Serving.{Answered, AnswersLine, Finishes, GoesOn, ServesLine, Stands, StaysPassedOn, Stopped}
+use Rattle.engines.specs.Run.{Answers, AnswersTurns, Run, reply_count, turns_in}
+use Rattle.engines.specs.Serving.{Answered, AnswersLine, Finishes, GoesOn, Output, ServesLine, Stands, StaysPassedOn, Stopped}
+use Rattle.engines.proofs.FlushLemmas.{RisesBy-more, RisesBy-none}
 use Rattle.engines.proofs.LineLemmas.{IsBeginning-same, IsBeginning-trans}
 
 -- ---- the turns of one line more
@@ -57,6 +58,10 @@ more_by false lines line e =
 turns_in-push : (lines : List Line) (line : Line) → turns_in (lines ++ line ∷ []) ≡ followed (turns_in lines) (turns_by (turns_in lines).opened line)
 turns_in-push lines line = more_by (asks line) lines line refl
 
+reply_count-push : (lines : List Line) (line : Line) → reply_count (lines ++ line ∷ []) ≡ reply_count lines + length (turns_by (turns_in lines).opened line).whole
+reply_count-push lines line =
+    ap (λ (turns : Turns). length turns.whole) (turns_in-push lines line) ∙ length-append (turns_in lines).whole (turns_by (turns_in lines).opened line).whole
+
 -- ---- one run after another
 
 Run-join : (turns more : List Turn) (texts next : List (List ℕ)) (first mid last : SessionState) → Run first turns texts mid → Run mid more next last
@@ -86,27 +91,33 @@ pub gathered_in-more : (lines : List Line) (line : Line) (last : SessionState) (
     → group ≡ gathered_in last (turns_by (turns_in lines).opened line).opened → group ≡ gathered_in last (turns_in (lines ++ line ∷ [])).opened
 gathered_in-more lines line last group e = e ∙ ap (λ (turns : Turns). gathered_in last turns.opened) (sym (turns_in-push lines line))
 
-pub Answered-more : (first mid last : SessionState) (lines : List Line) (line : Line) (text : List ℕ) (before now after : Option (List ℕ))
-    → Answered first lines mid before now → AnswersLine mid (turns_in lines).opened line text last → Appends now after text → Answered first (lines ++ line ∷ []) last before after
-Answered-more first mid last lines line text before now after done step more = record {
+pub Answered-more : (first mid last : SessionState) (lines : List Line) (line : Line) (text : List ℕ) (before now after : Output)
+    → Answered first lines mid before now → AnswersLine mid (turns_in lines).opened line text last → Appends now.contents after.contents text
+    → RisesBy (length (turns_by (turns_in lines).opened line).whole) now.flushes after.flushes → Answered first (lines ++ line ∷ []) last before after
+Answered-more first mid last lines line text before now after done step more flushes = record {
   written = done.written ++ text;
   answers = Answers-more lines line done.written text first mid last done.answers step;
-  appends = Appends-trans before now after done.written text done.appends more;
+  appends = Appends-trans before.contents now.contents after.contents done.written text done.appends more;
+  flushed = RisesBy-more (reply_count lines) _ _ before.flushes now.flushes after.flushes (reply_count-push lines line) done.flushed flushes;
 }
 
-pub Stopped-more : (first mid last : SessionState) (lines : List Line) (line : Line) (text : List ℕ) (before now after : Option (List ℕ))
-    → Answered first lines mid before now → AnswersLine mid (turns_in lines).opened line text last → AppendsBeginning now after text → Stopped first (lines ++ line ∷ []) before after
-Stopped-more first mid last lines line text before now after done step part = record {
+pub Stopped-more : (first mid last : SessionState) (lines : List Line) (line : Line) (text : List ℕ) (before now after : Output)
+    → Answered first lines mid before now → AnswersLine mid (turns_in lines).opened line text last → AppendsBeginning now.contents after.contents text
+    → (length (turns_by (turns_in lines).opened line).whole ≡ 1) × (after.flushes ≡ now.flushes) → Stopped first (lines ++ line ∷ []) before after
+Stopped-more first mid last lines line text before now after done step part turn = record {
   front = lines ++ line ∷ [];
   begins = IsBeginning-same (lines ++ line ∷ []);
   whole = done.written ++ text;
   last = last;
   answers = Answers-more lines line done.written text first mid last done.answers step;
-  appends = stopped_after before now after done.written text done.appends part;
+  appends = stopped_after before.contents now.contents after.contents done.written text done.appends part;
+  flushes = reply_count lines;
+  count = reply_count-push lines line ∙ ap (λ (n : ℕ). reply_count lines + n) turn.0;
+  flushed = subst (λ (n : ℕ). RisesBy (reply_count lines) before.flushes n) (sym turn.1) done.flushed;
 }
 
 -- what a failed call stopped is stopped too where more lines come
-pub Stopped-longer : (first : SessionState) (short long : List Line) (before after : Option (List ℕ)) → IsBeginning short long → Stopped first short before after
+pub Stopped-longer : (first : SessionState) (short long : List Line) (before after : Output) → IsBeginning short long → Stopped first short before after
     → Stopped first long before after
 Stopped-longer first short long before after more stop = record {
   front = stop.front;
@@ -115,25 +126,33 @@ Stopped-longer first short long before after more stop = record {
   last = stop.last;
   answers = stop.answers;
   appends = stop.appends;
+  flushes = stop.flushes;
+  count = stop.count;
+  flushed = stop.flushed;
 }
 
-pub Stopped-append : (first : SessionState) (text more all : List ℕ) (before after : Option (List ℕ)) → text ++ more ≡ all → IsBeginning (parts_of text).ended (parts_of (text ++ more)).ended → Stopped first (parts_of text).ended before after
+pub Stopped-append : (first : SessionState) (text more all : List ℕ) (before after : Output) → text ++ more ≡ all → IsBeginning (parts_of text).ended (parts_of (text ++ more)).ended → Stopped first (parts_of text).ended before after
     → Stopped first (parts_of all).ended before after
 Stopped-append first text more all before after e stay stop =
     rw (← e) (Stopped-longer first (parts_of text).ended (parts_of (text ++ more)).ended before after stay stop)
 
 -- ---- a session that begins, and goes on by a part of a piece
 
-pub Stands-begin : (first : SessionState) (known : Option (List ℕ)) → Stands first [] first None (record { line = Some []; complete = false }) known known
+pub Stands-begin : (first : SessionState) (known : Output) → Stands first [] first None (record { line = Some []; complete = false }) known known
 unfolding parts_of
 Stands-begin first known = record {
-  answered = record { written = []; answers = record { texts = []; run = refl; written_is = refl }; appends = Appends-nil known };
+  answered = record {
+    written = [];
+    answers = record { texts = []; run = refl; written_is = refl };
+    appends = Appends-nil known.contents;
+    flushed = RisesBy-none _ _ _ refl refl;
+  };
   gathers = refl;
   holds = refl;
 }
 
 -- bytes came that end no line
-pub Stands-partial : (first present : SessionState) (group : Option Gathered) (given longer : List ℕ) (old new : Cut) (before now : Option (List ℕ))
+pub Stands-partial : (first present : SessionState) (group : Option Gathered) (given longer : List ℕ) (old new : Cut) (before now : Output)
     → Stands first given present group old before now → CutsLine old new false given longer → Stands first longer present group new before now
 Stands-partial first present group given longer old new before now done cuts = record {
   answered = subst (λ (lines : List Line). Answered first lines present before now) (sym cuts.ended) done.answered;
@@ -142,19 +161,19 @@ Stands-partial first present group given longer old new before now done cuts = r
 }
 
 -- a line was ended and served
-pub GoesOn-complete : {E : Type 0} (r : Result (Unit {0}) E) (first mid last : SessionState) (group : Option Gathered) (given longer : List ℕ) (old new : Cut) (before now after : Option (List ℕ))
+pub GoesOn-complete : {E : Type 0} (r : Result (Unit {0}) E) (first mid last : SessionState) (group : Option Gathered) (given longer : List ℕ) (old new : Cut) (before now after : Output)
     → Answered first (parts_of given).ended mid before now → (cuts : CutsLine old new true given longer)
     → ServesLine r mid (turns_in (parts_of given).ended).opened cuts.line last group now after → GoesOn r first longer last group new before after
 GoesOn-complete (Ok v) first mid last group given longer old new before now after done cuts served = record {
   answered = subst (λ (lines : List Line). Answered first lines last before after) (sym cuts.ended)
-      (Answered-more first mid last (parts_of given).ended cuts.line served.text before now after done served.answers served.writes);
+      (Answered-more first mid last (parts_of given).ended cuts.line served.text before now after done served.answers served.writes served.flushed);
   gathers = subst (λ (lines : List Line). group ≡ gathered_in last (turns_in lines).opened) (sym cuts.ended)
       (gathered_in-more (parts_of given).ended cuts.line last group served.holds);
   holds = cuts.rest;
 }
 GoesOn-complete (Err e) first mid last group given longer old new before now after done cuts served =
     subst (λ (lines : List Line). Stopped first lines before after) (sym cuts.ended)
-    (Stopped-more first mid last (parts_of given).ended cuts.line served.text before now after done served.answers served.writes)
+    (Stopped-more first mid last (parts_of given).ended cuts.line served.text before now after done served.answers served.writes served.flushed)
 
 -- ---- the end of the commands
 
@@ -170,26 +189,38 @@ Answers-end first last given written all = record {
   written_is = all.written_is;
 }
 
+reply_count-end : (given : List ℕ) → reply_count ((parts_of given).ended ++ (parts_of given).rest ∷ []) ≡ reply_count (lines_of given)
+reply_count-end given = ap (λ (lines : List Line). length (turns_of lines).whole) (asked_at_end (parts_of given).ended (parts_of given).rest)
+
 -- the last line was served
-pub Finishes-served : {E : Type 0} (r : Result (Unit {0}) E) (first mid last : SessionState) (group : Option Gathered) (given : List ℕ) (before now after : Option (List ℕ))
+pub Finishes-served : {E : Type 0} (r : Result (Unit {0}) E) (first mid last : SessionState) (group : Option Gathered) (given : List ℕ) (before now after : Output)
     → Answered first (parts_of given).ended mid before now → ServesLine r mid (turns_in (parts_of given).ended).opened (parts_of given).rest last group now after
     → Finishes r first given last before after
 Finishes-served (Ok v) first mid last group given before now after done served =
-    let all = Answered-more first mid last (parts_of given).ended (parts_of given).rest served.text before now after done served.answers served.writes in
-    record { written = all.written; answers = Answers-end first last given all.written all.answers; appends = all.appends }
+    let all = Answered-more first mid last (parts_of given).ended (parts_of given).rest served.text before now after done served.answers served.writes served.flushed in
+    record {
+      written = all.written;
+      answers = Answers-end first last given all.written all.answers;
+      appends = all.appends;
+      flushed = subst (λ (n : ℕ). RisesBy n before.flushes after.flushes) (reply_count-end given) all.flushed;
+    }
 Finishes-served (Err e) first mid last group given before now after done served =
     let whole = Answers-more (parts_of given).ended (parts_of given).rest done.written served.text first mid last done.answers served.answers in
+    let longer = reply_count-push (parts_of given).ended (parts_of given).rest ∙ ap (λ (n : ℕ). reply_count (parts_of given).ended + n) served.flushed.0 in
     record {
       front = lines_of given;
       begins = IsBeginning-same (lines_of given);
       whole = done.written ++ served.text;
       last = last;
       answers = Answers-end first last given (done.written ++ served.text) whole;
-      appends = stopped_after before now after done.written served.text done.appends served.writes;
+      appends = stopped_after before.contents now.contents after.contents done.written served.text done.appends served.writes;
+      flushes = reply_count (parts_of given).ended;
+      count = sym (reply_count-end given) ∙ longer;
+      flushed = subst (λ (n : ℕ). RisesBy (reply_count (parts_of given).ended) before.flushes n) (sym served.flushed.1) done.flushed;
     }
 
 -- there was none
-pub Answered-none : (first last : SessionState) (given : List ℕ) (before now : Option (List ℕ)) → (parts_of given).rest ≡ []
+pub Answered-none : (first last : SessionState) (given : List ℕ) (before now : Output) → (parts_of given).rest ≡ []
     → Answered first (parts_of given).ended last before now → Answered first (lines_of given) last before now
 Answered-none first last given before now none done =
     let all : lines_of given ≡ (parts_of given).ended = ap (λ (rest : Line). (parts_of given).ended ++ last_line rest) none ∙ append-nil (parts_of given).ended in
@@ -197,12 +228,12 @@ Answered-none first last given before now none done =
 
 -- ---- what a call leaves, by its result
 
-pub Stopped-from_err : {E : Type 0} (r : Result (Unit {0}) E) (first : SessionState) (given : List ℕ) (present : SessionState) (group : Option Gathered) (cut : Cut) (before now : Option (List ℕ)) → is_err r ≡ true
+pub Stopped-from_err : {E : Type 0} (r : Result (Unit {0}) E) (first : SessionState) (given : List ℕ) (present : SessionState) (group : Option Gathered) (cut : Cut) (before now : Output) → is_err r ≡ true
     → GoesOn r first given present group cut before now → Stopped first (parts_of given).ended before now
 Stopped-from_err (Ok v) first given present group cut before now failed goes = absurd (false≢true failed)
 Stopped-from_err (Err e) first given present group cut before now failed goes = goes
 
-pub Stands-from_ok : {E : Type 0} (r : Result (Unit {0}) E) (first : SessionState) (given : List ℕ) (present : SessionState) (group : Option Gathered) (cut : Cut) (before now : Option (List ℕ)) → is_err r ≡ false
+pub Stands-from_ok : {E : Type 0} (r : Result (Unit {0}) E) (first : SessionState) (given : List ℕ) (present : SessionState) (group : Option Gathered) (cut : Cut) (before now : Output) → is_err r ≡ false
     → GoesOn r first given present group cut before now → Stands first given present group cut before now
 Stands-from_ok (Ok v) first given present group cut before now fine goes = goes
 Stands-from_ok (Err e) first given present group cut before now fine goes = absurd (false≢true (sym fine))

@@ -2,7 +2,7 @@
 use Rattle.std.proofs.Common.{◌≡◌, ℕ, ◌+◌, ◌-◌, arith, List, [], ◌++◌, take, Option, None, Some, Ok, Err, inl, inr, refl, sym, ap, ◌∙◌, append-nil}
 use Rattle.std.specs.Io.KnownBytes.{Appends}
 use Rattle.std.proofs.KnownBytes.{Appends-trans}
-use Rattle.dimacs_io.specs.Device.{AppendsBeginning}
+use Rattle.dimacs_io.specs.Device.{AppendsBeginning, RisesBy}
 use Rattle.dimacs_lines.specs.declared.fault.TextFault.TheVariants as text_fault
 use Rattle.dimacs_lines.specs.Lines.{Line, lines_of, parts_of}
 use Rattle.dimacs_lines.specs.Stream.{decided}
@@ -16,11 +16,12 @@ use Rattle.checker.specs.declared.read.ReadError.TheVariants as read_error
 use Rattle.checker.specs.Check.{IsProblemText, write_failures, problem_failures}
 use Rattle.engines.specs.Printing.{outcome_line}
 use Rattle.checker.specs.Reading.{Gives, ReadsKnown, ReadsWhole, end_of}
-use Rattle.engines.specs.Run.{Answers}
-use Rattle.engines.specs.Serving.{CommandsEnd, CommandsFail, Stopped}
+use Rattle.engines.specs.Run.{Answers, reply_count}
+use Rattle.engines.specs.Serving.{CommandsEnd, CommandsFail, Output, Stopped}
 use Rattle.engines.specs.Opening.{IsNotOpened, Opens}
-use Rattle.engines.specs.Session.{PrintsBeginning, PrintsRun, SessionOnDevices, SessionWrites, command_failures}
+use Rattle.engines.specs.Session.{FlushesOnDevices, PrintsBeginning, PrintsRun, SessionFlushes, SessionOnDevices, SessionWrites, command_failures}
 use Rattle.checker.proofs.SourceLemmas.{all_given, text_at_end, text_given}
+use Rattle.engines.proofs.FlushLemmas.{RisesBy-more, RisesBy-none}
 use Rattle.engines.proofs.PrintingLemmas.{appended, stopped_after}
 
 -- ---- the problem was not read
@@ -102,11 +103,11 @@ prints_run problem extra opening last lines replies opens answers = record {
 }
 
 -- replies were written up to a failed call
-prints_stopped : (extra : ℕ) (problem : ProblemValue) (opening : SessionState) (lines : List Line) (held : List ℕ) (mid after : Option (List ℕ)) → Opens problem extra opening
-    → Appends (Some held) mid (outcome_line opening.moments.present.verdict) → Stopped opening lines mid after
-    → (written : List ℕ) × (after ≡ Some (held ++ written)) × PrintsBeginning problem extra lines written
+prints_stopped : (extra : ℕ) (problem : ProblemValue) (opening : SessionState) (lines : List Line) (held : List ℕ) (mid after : Output) → Opens problem extra opening
+    → Appends (Some held) mid.contents (outcome_line opening.moments.present.verdict) → Stopped opening lines mid after
+    → (written : List ℕ) × (after.contents ≡ Some (held ++ written)) × PrintsBeginning problem extra lines written
 prints_stopped extra problem opening lines held mid after opens line stop =
-    let part = stopped_after (Some held) mid after (outcome_line opening.moments.present.verdict) stop.whole line stop.appends in
+    let part = stopped_after (Some held) mid.contents after.contents (outcome_line opening.moments.present.verdict) stop.whole line stop.appends in
     let begins : PrintsBeginning problem extra lines part.0 =
     record {
       front = stop.front;
@@ -115,13 +116,13 @@ prints_stopped extra problem opening lines held mid after opens line stop =
       prints = prints_run problem extra opening stop.last stop.front stop.whole opens stop.answers;
       part = part.1;
     } in
-    (part.0, appended held part.0 after part.2, begins)
+    (part.0, appended held part.0 after.contents part.2, begins)
 
 -- at known devices
-commands_end : (end : End) (extra : ℕ) (problem : ProblemValue) (opening : SessionState) (text problem_given commands given held : List ℕ) (rest : Option (List ℕ)) (left_old left_new : ℕ) (mid after : Option (List ℕ))
+commands_end : (end : End) (extra : ℕ) (problem : ProblemValue) (opening : SessionState) (text problem_given commands given held : List ℕ) (rest : Option (List ℕ)) (left_old left_new : ℕ) (mid after : Output)
     → IsProblemText text problem_given problem → Opens problem extra opening → Gives (Some commands) rest given left_old left_new
-    → Appends (Some held) mid (outcome_line opening.moments.present.verdict) → CommandsEnd end opening given rest mid after
-    → (written : List ℕ) × (after ≡ Some (held ++ written)) × SessionWrites end extra text problem_given commands (take (left_old - left_new) commands) written
+    → Appends (Some held) mid.contents (outcome_line opening.moments.present.verdict) → CommandsEnd end opening given rest mid after
+    → (written : List ℕ) × (after.contents ≡ Some (held ++ written)) × SessionWrites end extra text problem_given commands (take (left_old - left_new) commands) written
 commands_end Solved extra problem opening text problem_given commands given held rest left_old left_new mid after is opens gives line ends = absurd ends
 commands_end Infeasible extra problem opening text problem_given commands given held rest left_old left_new mid after is opens gives line ends = absurd ends
 commands_end Valid extra problem opening text problem_given commands given held rest left_old left_new mid after is opens gives line ends = absurd ends
@@ -133,17 +134,17 @@ commands_end Memory extra problem opening text problem_given commands given held
 commands_end Ended extra problem opening text problem_given commands given held rest left_old left_new mid after is opens gives line ends =
     let answered = ends.2 in
     let whole = text_at_end commands given rest gives.bytes ends.0 in
-    let all = Appends-trans (Some held) mid after (outcome_line opening.moments.present.verdict) answered.written line answered.appends in (
+    let all = Appends-trans (Some held) mid.contents after.contents (outcome_line opening.moments.present.verdict) answered.written line answered.appends in (
       outcome_line opening.moments.present.verdict ++ answered.written,
-      appended held _ after all,
+      appended held _ after.contents all,
       (problem, is, rw whole (prints_run problem extra opening ends.1 (lines_of given) answered.written opens answered.answers)),
     )
 commands_end (ReadFailed the.Commands) extra problem opening text problem_given commands given held rest left_old left_new mid after is opens gives line ends =
     let answered = ends.1 in
     let came = text_given commands given rest left_old left_new gives in
-    let all = Appends-trans (Some held) mid after (outcome_line opening.moments.present.verdict) answered.written line answered.appends in (
+    let all = Appends-trans (Some held) mid.contents after.contents (outcome_line opening.moments.present.verdict) answered.written line answered.appends in (
       outcome_line opening.moments.present.verdict ++ answered.written,
-      appended held _ after all,
+      appended held _ after.contents all,
       (problem, is, rw came (prints_run problem extra opening ends.0 (parts_of given).ended answered.written opens answered.answers)),
     )
 commands_end WriteFailed extra problem opening text problem_given commands given held rest left_old left_new mid after is opens gives line (inl stop) =
@@ -156,10 +157,10 @@ commands_end WriteFailed extra problem opening text problem_given commands given
     (begins.0, begins.1, (problem, is, inr (all_given commands given rest left_old left_new gives ends.0, rw whole begins.2)))
 
 pub SessionOnDevices-commands : (end : End) (extra : ℕ) (problem : ProblemValue) (opening : SessionState) (known : Option (List ℕ)) (read_count : ℕ)
-    (commands rest : Option (List ℕ)) (given : List ℕ) (left_old left_new : ℕ) (before mid after : Option (List ℕ))
+    (commands rest : Option (List ℕ)) (given : List ℕ) (left_old left_new : ℕ) (before : Option (List ℕ)) (mid after : Output)
     → ReadsKnown (decided problem_rule) reads (Ok problem) known read_count → Opens problem extra opening
-    → Appends before mid (outcome_line opening.moments.present.verdict) → Gives commands rest given left_old left_new → CommandsEnd end opening given rest mid after
-    → SessionOnDevices end extra known read_count commands (left_old - left_new) before after
+    → Appends before mid.contents (outcome_line opening.moments.present.verdict) → Gives commands rest given left_old left_new → CommandsEnd end opening given rest mid after
+    → SessionOnDevices end extra known read_count commands (left_old - left_new) before after.contents
 SessionOnDevices-commands end extra problem opening None read_count commands rest given left_old left_new before mid after read opens line gives ends = tt
 SessionOnDevices-commands end extra problem opening (Some text) read_count None rest given left_old left_new before mid after read opens line gives ends = tt
 SessionOnDevices-commands end extra problem opening (Some text) read_count (Some commands) rest given left_old left_new None mid after read opens line gives ends = tt
@@ -208,3 +209,59 @@ no_problem_counted (Refused input number line) script_old script_new out_old out
 no_problem_counted (ReadFailed the.Problem) script_old script_new out_old out_new fail before after same = absurd fail
 no_problem_counted (ReadFailed the.Answer) script_old script_new out_old out_new fail before after same = absurd fail
 no_problem_counted Memory script_old script_new out_old out_new fail before after same = absurd fail
+
+-- ---- the counts of flushes
+
+unread_flushed : (e : ReadError) (commands given : List ℕ) (flushes : ℕ) → SessionFlushes (end_of the.Problem e) commands given flushes flushes
+unread_flushed (read_error.Text text_fault.Memory) commands given flushes = refl
+unread_flushed (read_error.Text (text_fault.Fault number line)) commands given flushes = refl
+unread_flushed read_error.Source commands given flushes = refl
+
+-- no session was opened
+pub FlushesOnDevices-unopened : (end : End) (known : Option (List ℕ)) (read_count : ℕ) (commands : Option (List ℕ)) (count flushes : ℕ)
+    → IsNotOpened known read_count end → FlushesOnDevices end commands count flushes flushes
+FlushesOnDevices-unopened end known read_count None count flushes ends = tt
+FlushesOnDevices-unopened end known read_count (Some commands) count flushes (inl ends) = rw ends.1 (unread_flushed ends.0 commands (take count commands) flushes)
+FlushesOnDevices-unopened end known read_count (Some commands) count flushes (inr memory) = rw memory refl
+
+-- the opening line met a failed call
+pub FlushesOnDevices-opening : (commands : Option (List ℕ)) (count before after : ℕ) → after ≡ before → FlushesOnDevices WriteFailed commands count before after
+FlushesOnDevices-opening None count before after same = tt
+FlushesOnDevices-opening (Some commands) count before after same =
+    ([], inl ((parts_of (take count commands)).ended, refl), RisesBy-none _ before after refl same)
+
+-- at known commands
+commands_flushed : (end : End) (opening : SessionState) (commands given : List ℕ) (rest : Option (List ℕ)) (left_old left_new before : ℕ) (mid after : Output)
+    → Gives (Some commands) rest given left_old left_new → RisesBy 1 before mid.flushes → CommandsEnd end opening given rest mid after
+    → SessionFlushes end commands (take (left_old - left_new) commands) before after.flushes
+commands_flushed Solved opening commands given rest left_old left_new before mid after gives line ends = absurd ends
+commands_flushed Infeasible opening commands given rest left_old left_new before mid after gives line ends = absurd ends
+commands_flushed Valid opening commands given rest left_old left_new before mid after gives line ends = absurd ends
+commands_flushed NotValid opening commands given rest left_old left_new before mid after gives line ends = absurd ends
+commands_flushed (Refused input number at) opening commands given rest left_old left_new before mid after gives line ends = absurd ends
+commands_flushed (ReadFailed the.Problem) opening commands given rest left_old left_new before mid after gives line ends = absurd ends
+commands_flushed (ReadFailed the.Answer) opening commands given rest left_old left_new before mid after gives line ends = absurd ends
+commands_flushed Memory opening commands given rest left_old left_new before mid after gives line ends = absurd ends
+commands_flushed Ended opening commands given rest left_old left_new before mid after gives line ends =
+    let whole = text_at_end commands given rest gives.bytes ends.0 in
+    rw whole (RisesBy-more 1 (reply_count (lines_of given)) _ before mid.flushes after.flushes refl line ends.2.flushed)
+commands_flushed (ReadFailed the.Commands) opening commands given rest left_old left_new before mid after gives line ends =
+    let came = text_given commands given rest left_old left_new gives in
+    rw came (RisesBy-more 1 (reply_count (parts_of given).ended) _ before mid.flushes after.flushes refl line ends.1.flushed)
+commands_flushed WriteFailed opening commands given rest left_old left_new before mid after gives line (inl stop) =
+    let came = text_given commands given rest left_old left_new gives in
+    (stop.front, inl (rw came stop.begins), RisesBy-more 1 stop.flushes _ before mid.flushes after.flushes (omega (arith, stop.count)) line stop.flushed)
+commands_flushed WriteFailed opening commands given rest left_old left_new before mid after gives line (inr ends) =
+    let stop = ends.1 in
+    let whole = text_at_end commands given rest gives.bytes ends.0 in (
+      stop.front,
+      inr (all_given commands given rest left_old left_new gives ends.0, rw whole stop.begins),
+      RisesBy-more 1 stop.flushes _ before mid.flushes after.flushes (omega (arith, stop.count)) line stop.flushed,
+    )
+
+pub FlushesOnDevices-commands : (end : End) (opening : SessionState) (commands rest : Option (List ℕ)) (given : List ℕ) (left_old left_new before : ℕ) (mid after : Output)
+    → Gives commands rest given left_old left_new → RisesBy 1 before mid.flushes → CommandsEnd end opening given rest mid after
+    → FlushesOnDevices end commands (left_old - left_new) before after.flushes
+FlushesOnDevices-commands end opening None rest given left_old left_new before mid after gives line ends = tt
+FlushesOnDevices-commands end opening (Some commands) rest given left_old left_new before mid after gives line ends =
+    commands_flushed end opening commands given rest left_old left_new before mid after gives line ends

@@ -1,7 +1,7 @@
 -- What a whole run of `solve` has written, by where it ends.
 use Rattle.std.proofs.Common.{◌≡◌, ℕ, ◌+◌, arith, Bool, List, [], take, Option, None, Some, Ok, Err, inl, inr, refl, sym, ap, append-nil}
 use Rattle.std.specs.Io.KnownBytes.{Appends}
-use Rattle.dimacs_io.specs.Device.{AppendsBeginning}
+use Rattle.dimacs_io.specs.Device.{AppendsBeginning, RisesBy}
 use Rattle.dimacs_lines.specs.declared.fault.TextFault.TheVariants as text_fault
 use Rattle.dimacs_lines.specs.Stream.{decided}
 use Rattle.dimacs_text.specs.Reading.{ProblemValue, problem_rule, reads}
@@ -16,7 +16,7 @@ use Rattle.checker.specs.declared.read.ReadError.{ReadError}
 use Rattle.checker.specs.declared.read.ReadError.TheVariants as read_error
 use Rattle.dimacs_io.specs.declared.device.LastCall.{LastCall}
 use Rattle.dimacs_io.specs.declared.device.LastCall.TheVariants as last
-use Rattle.checker.specs.Check.{last_by, problem_failures, write_failures}
+use Rattle.checker.specs.Check.{flushes_by, last_by, problem_failures, write_failures}
 use Rattle.checker.specs.Reading.{ReadsKnown, ReadsWhole, end_of}
 use Rattle.engines.specs.Printing.{solution}
 use Rattle.engines.specs.Opening.{IsNotOpened}
@@ -83,6 +83,11 @@ SolveOnDevices-solved problem m proof (Some text) count (Some held) after read s
 pub written_count : (v : Verdict) (failures : ℕ) → failures ≡ failures + write_failures (end_by v)
 written_count (verdict.Best worth) failures = omega arith
 written_count (verdict.Infeasible shortage) failures = omega arith
+
+-- by one flush
+pub written_flushed : (v : Verdict) (old new : ℕ) → RisesBy 1 old new → RisesBy (flushes_by (end_by v)) old new
+written_flushed (verdict.Best worth) old new one = one
+written_flushed (verdict.Infeasible shortage) old new one = one
 
 -- and the last call passed it on
 pub written_last : (v : Verdict) (before : LastCall) → last.Flush ≡ last_by (end_by v) before

@@ -1,5 +1,5 @@
 -- Runs of a session over the turns of a command text: over its lines, and over its groups.
-use Rattle.std.specs.Prelude.{◌≡◌, ℕ, List, [], ◌∷◌, filter}
+use Rattle.std.specs.Prelude.{◌≡◌, ℕ, List, [], ◌∷◌, filter, length}
 use Rattle.std.specs.List.{concat}
 use Rattle.dimacs_lines.specs.Lines.{Line}
 use Rattle.dimacs_text.specs.Turns.{Turn, Turns, turns_of}
@@ -10,6 +10,10 @@ use Rattle.engines.specs.Printing.{reply_text}
 -- the turns of those of the lines that ask; a group that they do not end is no turn
 abbrev pub turns_in : List Line → Turns
 turns_in lines = turns_of (filter asks lines)
+
+-- how many replies lines have: one a turn
+abbrev pub reply_count : List Line → ℕ
+reply_count lines = length (turns_in lines).whole
 
 -- one step a turn, none left out, each with the text of its reply
 abbrev pub Run : SessionState → List Turn → List (List ℕ) → SessionState → Type 0

@@ -1,67 +1,85 @@
 -- What a session has done at each of its calls, over what has come so far of its commands.
-use Rattle.std.specs.Prelude.{◌≡◌, ℕ, ◌+◌, List, ◌⊎◌, Option, Result, MatchResult, OnOk}
+use Rattle.std.specs.Prelude.{◌≡◌, ℕ, ◌+◌, List, length, ◌⊎◌, Option, Result, MatchResult, OnOk}
 use Rattle.std.specs.Io.KnownBytes.{Appends, IsAtEnd}
-use Rattle.dimacs_io.specs.Device.{IsBeginning, AppendsBeginning, WritesUpTo}
+use Rattle.dimacs_io.specs.Device.{IsBeginning, AppendsBeginning, RisesBy, WritesUpTo}
 use Rattle.dimacs_io.specs.declared.device.LastCall.{LastCall}
 use Rattle.dimacs_io.specs.declared.device.LastCall.TheVariants as last
 use Rattle.dimacs_lines.specs.Cut.{Cut, HoldsRest}
 use Rattle.dimacs_text.specs.Group.{Gathered}
 use Rattle.dimacs_lines.specs.Lines.{Line, parts_of, lines_of}
+use Rattle.dimacs_text.specs.Turns.{Turn}
 use Rattle.session.specs.Step.{SessionState}
 use Rattle.session.specs.Turns.{gathered_in, turns_by}
 use Rattle.checker.specs.declared.end.Text.TheVariants as the
 use Rattle.checker.specs.declared.end.End.{End}
 use Rattle.checker.specs.declared.end.End.TheVariants.{Ended, ReadFailed, WriteFailed}
-use Rattle.engines.specs.Run.{Answers, AnswersTurns, turns_in}
+use Rattle.engines.specs.Run.{Answers, AnswersTurns, reply_count, turns_in}
+
+-- what a sink says of itself: the bytes that it holds, where it says them, and how many flushes went well
+pub record Output : Type 0 where
+  pub contents : Option (List ℕ)
+  pub flushes : ℕ
+
+abbrev pub output : Option (List ℕ) → ℕ → Output
+output contents flushes = record { contents = contents; flushes = flushes }
 
 -- after the lines of the group that stands open, the turn that a line makes whole is answered by one step
 abbrev pub AnswersLine : SessionState → Option (List Line) → Line → List ℕ → SessionState → Type 0
 AnswersLine old opened line text new = AnswersTurns old (turns_by opened line).whole text new
 
+-- one flush a turn, or none where the only turn met a failed call
+abbrev pub FlushesTurns : {E : Type 0} → Result (Unit {0}) E → List Turn → ℕ → ℕ → Type 0
+FlushesTurns result turns old new = MatchResult result (λ _. RisesBy (length turns) old new) (λ _. (length turns ≡ 1) × (new ≡ old))
+
 -- a line was answered, up to the whole answer was written, and where all of it was, the group that stands open holds its lines
-pub record ServesLine {E : Type 0} (result : Result (Unit {0}) E) (old : SessionState) (opened : Option (List Line)) (line : Line) (new : SessionState) (group : Option Gathered) (before after : Option (List ℕ)) : Type 0 where
+pub record ServesLine {E : Type 0} (result : Result (Unit {0}) E) (old : SessionState) (opened : Option (List Line)) (line : Line) (new : SessionState) (group : Option Gathered) (before after : Output) : Type 0 where
   pub text : List ℕ
   pub answers : AnswersLine old opened line text new
-  pub writes : WritesUpTo result before after text
+  pub writes : WritesUpTo result before.contents after.contents text
+  pub flushed : FlushesTurns result (turns_by opened line).whole before.flushes after.flushes
   pub holds : OnOk result (group ≡ gathered_in new (turns_by opened line).opened)
 
 -- where all that was written before is passed on, so is what was written now; or the last call is the one that failed
 abbrev pub StaysPassedOn : {E : Type 0} → Result (Unit {0}) E → LastCall → LastCall → Type 0
 StaysPassedOn result before now = MatchResult result (λ _. before ≡ last.Flush → now ≡ last.Flush) (λ _. now ≡ last.Failure)
 
--- the answers to these lines were written, and led from the opening to this moment
-pub record Answered (opening : SessionState) (lines : List Line) (last : SessionState) (before after : Option (List ℕ)) : Type 0 where
+-- the answers to these lines were written, each followed by a flush, and led from the opening to this moment
+pub record Answered (opening : SessionState) (lines : List Line) (last : SessionState) (before after : Output) : Type 0 where
   pub written : List ℕ
   pub answers : Answers opening lines written last
-  pub appends : Appends before after written
+  pub appends : Appends before.contents after.contents written
+  pub flushed : RisesBy (reply_count lines) before.flushes after.flushes
 
--- the answers to the first of these lines were written up to a failed call
-pub record Stopped (opening : SessionState) (lines : List Line) (before after : Option (List ℕ)) : Type 0 where
+-- the answers to the first of these lines were written up to a failed call, with one flush less than there are answers
+pub record Stopped (opening : SessionState) (lines : List Line) (before after : Output) : Type 0 where
   pub front : List Line
   pub begins : IsBeginning front lines
   pub whole : List ℕ
   pub last : SessionState
   pub answers : Answers opening front whole last
-  pub appends : AppendsBeginning before after whole
+  pub appends : AppendsBeginning before.contents after.contents whole
+  pub flushes : ℕ
+  pub count : reply_count front ≡ flushes + 1
+  pub flushed : RisesBy flushes before.flushes after.flushes
 
 -- each turn of the lines that were ended is answered, the group that stands open holds its lines, and the cutter has what stands after the last line feed
-pub record Stands (opening : SessionState) (given : List ℕ) (present : SessionState) (group : Option Gathered) (cutter : Cut) (before now : Option (List ℕ)) : Type 0 where
+pub record Stands (opening : SessionState) (given : List ℕ) (present : SessionState) (group : Option Gathered) (cutter : Cut) (before now : Output) : Type 0 where
   pub answered : Answered opening (parts_of given).ended present before now
   pub gathers : group ≡ gathered_in present (turns_in (parts_of given).ended).opened
   pub holds : HoldsRest cutter given
 
 -- what a call leaves that takes more of the commands, after which `given` has come
-abbrev pub GoesOn : {E : Type 0} → Result (Unit {0}) E → SessionState → List ℕ → SessionState → Option Gathered → Cut → Option (List ℕ) → Option (List ℕ) → Type 0
+abbrev pub GoesOn : {E : Type 0} → Result (Unit {0}) E → SessionState → List ℕ → SessionState → Option Gathered → Cut → Output → Output → Type 0
 GoesOn result opening given present group cutter before now =
     MatchResult result (λ _. Stands opening given present group cutter before now) (λ _. Stopped opening (parts_of given).ended before now)
 
 -- what a call leaves that answers the last line of the commands too
-abbrev pub Finishes : {E : Type 0} → Result (Unit {0}) E → SessionState → List ℕ → SessionState → Option (List ℕ) → Option (List ℕ) → Type 0
+abbrev pub Finishes : {E : Type 0} → Result (Unit {0}) E → SessionState → List ℕ → SessionState → Output → Output → Type 0
 Finishes result opening given present before now =
     MatchResult result (λ _. Answered opening (lines_of given) present before now) (λ _. Stopped opening (lines_of given) before now)
 
 -- how the commands end, of which `given` has come and `rest` is known to be left
-abbrev pub CommandsEnd : End → SessionState → List ℕ → Option (List ℕ) → Option (List ℕ) → Option (List ℕ) → Type 0
+abbrev pub CommandsEnd : End → SessionState → List ℕ → Option (List ℕ) → Output → Output → Type 0
 CommandsEnd Ended opening given rest before now = IsAtEnd rest × (last : SessionState) × Answered opening (lines_of given) last before now
 CommandsEnd (ReadFailed the.Commands) opening given rest before now = (last : SessionState) × Answered opening (parts_of given).ended last before now
 CommandsEnd WriteFailed opening given rest before now =

@@ -1,6 +1,6 @@
 -- What a session writes.
-use Rattle.std.specs.Prelude.{◌≡◌, ℕ, List, [], ◌++◌, take, ◌⊎◌, Option, None, Some, Err, IfSome}
-use Rattle.dimacs_io.specs.Device.{IsBeginning}
+use Rattle.std.specs.Prelude.{◌≡◌, ℕ, ◌+◌, List, [], ◌++◌, take, ◌⊎◌, Option, None, Some, Err, IfSome}
+use Rattle.dimacs_io.specs.Device.{IsBeginning, RisesBy}
 use Rattle.dimacs_lines.specs.declared.fault.TextFault.TheVariants.{Fault}
 use Rattle.dimacs_lines.specs.Lines.{Line, parts_of, lines_of}
 use Rattle.dimacs_lines.specs.Stream.{decided}
@@ -11,7 +11,7 @@ use Rattle.checker.specs.declared.end.End.{End}
 use Rattle.checker.specs.declared.end.End.TheVariants.{Solved, Infeasible, Ended, Valid, NotValid, Refused, ReadFailed, WriteFailed, Memory}
 use Rattle.checker.specs.Check.{IsProblemText}
 use Rattle.engines.specs.Printing.{outcome_line}
-use Rattle.engines.specs.Run.{Answers}
+use Rattle.engines.specs.Run.{Answers, reply_count}
 use Rattle.engines.specs.Opening.{Opens}
 
 -- the printing of a run over these lines: what is told of the opening, and the replies
@@ -61,6 +61,19 @@ SessionOnDevices end extra problem_known problem_count commands_known commands_c
     IfSome problem_known (λ problem_text. IfSome commands_known (λ commands. IfSome before (λ held.
     (written : List ℕ) × (after ≡ Some (held ++ written))
     × SessionWrites end extra problem_text (take problem_count problem_text) commands (take commands_count commands) written)))
+
+-- how many flushes of the sink went well, by how the session ends, over a command text and the first bytes of it that were given: one
+-- after what is told of the opening, and one after each reply; where a write failed, one for each of these but the one that it stopped
+abbrev pub SessionFlushes : End → List ℕ → List ℕ → ℕ → ℕ → Type 0
+SessionFlushes Ended commands given old new = RisesBy (1 + reply_count (lines_of commands)) old new
+SessionFlushes (ReadFailed the.Commands) commands given old new = RisesBy (1 + reply_count (parts_of given).ended) old new
+SessionFlushes WriteFailed commands given old new =
+    (front : List Line) × (IsBeginning front (parts_of given).ended ⊎ ((given ≡ commands) × IsBeginning front (lines_of commands))) × RisesBy (reply_count front) old new
+SessionFlushes _ commands given old new = new ≡ old
+
+-- the same of a source that tells its bytes
+abbrev pub FlushesOnDevices : End → Option (List ℕ) → ℕ → ℕ → ℕ → Type 0
+FlushesOnDevices end commands_known commands_count old new = IfSome commands_known (λ commands. SessionFlushes end commands (take commands_count commands) old new)
 
 -- how many reads of the commands failed
 abbrev pub command_failures : End → ℕ

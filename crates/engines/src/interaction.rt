@@ -1,16 +1,16 @@
 //! Runs a session: reads its problem, and then its commands, each turn of which is answered before the next.
-ghost use Rattle.std.specs.Prelude.{◌≡◌, ℕ, ◌+◌, ◌-◌, ◌^◌, ◌<◌, true, is_err, List, ◌++◌, Option};
+ghost use Rattle.std.specs.Prelude.{◌≡◌, ℕ, ◌+◌, ◌-◌, ◌^◌, ◌<◌, true, is_err, List, ◌++◌};
 ghost use Rattle.std.specs.Io.{ReadsAtMost};
 ghost use Rattle.std.specs.Io.KnownBytes.{ReadConsumes};
-ghost use Rattle.dimacs_io.specs.Device.{CountsFailure, EndsBy, LowersByCount, WritesUpTo};
+ghost use Rattle.dimacs_io.specs.Device.{CountsFailure, CountsFlush, EndsBy, LowersByCount, WritesUpTo};
 ghost use Rattle.dimacs_io.specs.declared.device.LastCall.{LastCall};
 ghost use Rattle.dimacs_io.specs.declared.device.LastCall.TheVariants as last;
 ghost use Rattle.session.specs.Step.{SessionState, state_of};
 ghost use Rattle.checker.specs.Check.{last_by, problem_failures, write_failures};
 ghost use Rattle.engines.specs.Printing.{outcome_line};
 ghost use Rattle.checker.specs.Reading.{Gives};
-ghost use Rattle.engines.specs.Serving.{CommandsEnd, CommandsFail, Finishes, GoesOn, Stands, StaysPassedOn};
-ghost use Rattle.engines.specs.Session.{SessionOnDevices, command_failures};
+ghost use Rattle.engines.specs.Serving.{CommandsEnd, CommandsFail, Finishes, GoesOn, Output, Stands, StaysPassedOn, output};
+ghost use Rattle.engines.specs.Session.{FlushesOnDevices, SessionOnDevices, command_failures};
 
 use crate::opening::open_text;
 use crate::reply::serve_line;
@@ -53,9 +53,12 @@ pub fn run_session<P: Source, C: Source, O: Sink>(
     ensures script_failed { C.failures script.new ≡ C.failures script.old + command_failures result }
     ensures out_failed { O.failures out.new ≡ O.failures out.old + write_failures result }
 
-    // A call that failed was the last one on its device, and what is written is passed on.
+    // A call that failed was the last one on its device, and what is written is passed on: by one flush after what is told
+    // of the opening, and one after each reply.
     ensures problem_last { problem_failures result ≡ 1 → P.last_failed problem.new ≡ true }
     ensures script_last { command_failures result ≡ 1 → C.last_failed script.new ≡ true }
+    ensures out_flushed { FlushesOnDevices result (C.remaining script.old) (C.most_left script.old - C.most_left script.new)
+        (O.flushes out.old) (O.flushes out.new) }
     ensures out_last { O.last_call out.new ≡ last_by result (O.last_call out.old) }
 {
     run_session_in(alloc, alloc, problem, script, out, extra)
@@ -85,9 +88,12 @@ pub fn run_session_in<A: Allocator + Copy, P: Source, C: Source, O: Sink>(
     ensures script_failed { C.failures script.new ≡ C.failures script.old + command_failures result }
     ensures out_failed { O.failures out.new ≡ O.failures out.old + write_failures result }
 
-    // A call that failed was the last one on its device, and what is written is passed on.
+    // A call that failed was the last one on its device, and what is written is passed on: by one flush after what is told
+    // of the opening, and one after each reply.
     ensures problem_last { problem_failures result ≡ 1 → P.last_failed problem.new ≡ true }
     ensures script_last { command_failures result ≡ 1 → C.last_failed script.new ≡ true }
+    ensures out_flushed { FlushesOnDevices result (C.remaining script.old) (C.most_left script.old - C.most_left script.new)
+        (O.flushes out.old) (O.flushes out.new) }
     ensures out_last { O.last_call out.new ≡ last_by result (O.last_call out.old) }
 {
     let mut session = match open_text(alloc, steps, problem, extra) {
@@ -116,6 +122,7 @@ fn tell_opening<A: Allocator + Copy, O: Sink>(
     requires { O.failures out.old < 2 ^ 64 - 1 }
     ensures bytes { WritesUpTo result (O.contents out.old) (O.contents out.new) (outcome_line session.now.moments.present.verdict) }
     ensures failed { CountsFailure result (O.failures out.old) (O.failures out.new) }
+    ensures flushed { CountsFlush result (O.flushes out.old) (O.flushes out.new) }
     ensures last { EndsBy result last.Flush (O.last_call out.new) }
 {
     write_outcome(session, out)?;
@@ -133,7 +140,8 @@ fn serve_commands<A: Allocator + Copy, C: Source, O: Sink>(
     requires passed_on { O.last_call out.old ≡ last.Flush }
     ensures served { (given : List ℕ)
         × Gives (C.remaining script.old) (C.remaining script.new) given (C.most_left script.old) (C.most_left script.new)
-        × CommandsEnd result (state_of session.old) given (C.remaining script.new) (O.contents out.old) (O.contents out.new) }
+        × CommandsEnd result (state_of session.old) given (C.remaining script.new)
+        (output (O.contents out.old) (O.flushes out.old)) (output (O.contents out.new) (O.flushes out.new)) }
     ensures failed { CommandsFail result (C.failures script.old) (C.failures script.new) (O.failures out.old) (O.failures out.new) }
     ensures script_last { command_failures result ≡ 1 → C.last_failed script.new ≡ true }
     ensures out_last { (before : LastCall) → O.last_call out.new ≡ last_by result before }
@@ -183,9 +191,11 @@ fn serve_piece<A: Allocator + Copy, O: Sink>(
     out: &mut O,
 ) -> Result<(), Broken>
     requires { O.failures out.old < 2 ^ 64 - 1 }
-    ensures goes_on { (opening : SessionState) (given : List ℕ) (before : Option (List ℕ))
-        → Stands opening given (state_of session.old) group.old cutter.old before (O.contents out.old)
-        → GoesOn result opening (given ++ piece.now) (state_of session.new) group.new cutter.new before (O.contents out.new) }
+    ensures goes_on { (opening : SessionState) (given : List ℕ) (before : Output)
+        → Stands opening given (state_of session.old) group.old cutter.old before
+        (output (O.contents out.old) (O.flushes out.old))
+        → GoesOn result opening (given ++ piece.now) (state_of session.new) group.new cutter.new before
+        (output (O.contents out.new) (O.flushes out.new)) }
     ensures failed { CountsFailure result (O.failures out.old) (O.failures out.new) }
     ensures passed_on { StaysPassedOn result (O.last_call out.old) (O.last_call out.new) }
 {
@@ -210,9 +220,10 @@ fn serve_rest<A: Allocator + Copy, O: Sink>(
     out: &mut O,
 ) -> Result<(), Broken>
     requires { O.failures out.old < 2 ^ 64 - 1 }
-    ensures rest { (opening : SessionState) (given : List ℕ) (before : Option (List ℕ))
-        → Stands opening given (state_of session.old) group.old cutter.now before (O.contents out.old)
-        → Finishes result opening given (state_of session.new) before (O.contents out.new) }
+    ensures rest { (opening : SessionState) (given : List ℕ) (before : Output)
+        → Stands opening given (state_of session.old) group.old cutter.now before
+        (output (O.contents out.old) (O.flushes out.old))
+        → Finishes result opening given (state_of session.new) before (output (O.contents out.new) (O.flushes out.new)) }
     ensures failed { CountsFailure result (O.failures out.old) (O.failures out.new) }
     ensures passed_on { StaysPassedOn result (O.last_call out.old) (O.last_call out.new) }
 {

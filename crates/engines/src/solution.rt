@@ -20,6 +20,7 @@ pub fn write_outcome<A: Allocator + Copy, O: Sink>(
     requires { O.failures out.old < 2 ^ 64 - 1 }
     ensures bytes { WritesUpTo result (O.contents out.old) (O.contents out.new) (outcome_line session.now.moments.present.verdict) }
     ensures failed { CountsFailure result (O.failures out.old) (O.failures out.new) }
+    ensures flushed { O.flushes out.new ≡ O.flushes out.old }
     ensures last { FailsLast result (O.last_call out.new) }
 {
     match session.verdict() {
@@ -38,6 +39,7 @@ pub fn write_solution<A: Allocator + Copy, O: Sink>(
     requires { O.failures out.old < 2 ^ 64 - 1 }
     ensures bytes { WritesUpTo result (O.contents out.old) (O.contents out.new) (solution proof session.now.moments.present) }
     ensures failed { CountsFailure result (O.failures out.old) (O.failures out.new) }
+    ensures flushed { O.flushes out.new ≡ O.flushes out.old }
     ensures last { FailsLast result (O.last_call out.new) }
 {
     match session.verdict() {
@@ -56,6 +58,7 @@ fn write_best<A: Allocator + Copy, O: Sink>(
     requires { O.failures out.old < 2 ^ 64 - 1 }
     ensures bytes { WritesUpTo result (O.contents out.old) (O.contents out.new) (best_text worth proof session.now.moments.present) }
     ensures failed { CountsFailure result (O.failures out.old) (O.failures out.new) }
+    ensures flushed { O.flushes out.new ≡ O.flushes out.old }
     ensures last { FailsLast result (O.last_call out.new) }
 {
     writes_follow();
@@ -74,6 +77,7 @@ fn write_breach<A: Allocator + Copy, O: Sink>(
     ensures bytes { WritesUpTo result (O.contents out.old) (O.contents out.new)
         (breach_text shortage session.now.moments.present.cut) }
     ensures failed { CountsFailure result (O.failures out.old) (O.failures out.new) }
+    ensures flushed { O.flushes out.new ≡ O.flushes out.old }
     ensures last { FailsLast result (O.last_call out.new) }
 {
     writes_follow();
@@ -88,6 +92,7 @@ fn write_flows<O: Sink>(net: &Network, flow: &[i64], out: &mut O) -> Result<(), 
     requires count { length flow.now < 2 ^ 32 - 1 }
     ensures bytes { WritesUpTo result (O.contents out.old) (O.contents out.new) (flow_lines net.now.arcs flow.now) }
     ensures failed { CountsFailure result (O.failures out.old) (O.failures out.new) }
+    ensures flushed { O.flushes out.new ≡ O.flushes out.old }
     ensures last { FailsLast result (O.last_call out.new) }
 {
     for (place, x) in flow.iter().enumerate() {
@@ -104,6 +109,7 @@ fn write_arc<O: Sink>(arc: &ArcRow, x: &i64, out: &mut O) -> Result<(), Broken>
     requires { O.failures out.old < 2 ^ 64 - 1 }
     ensures bytes { WritesUpTo result (O.contents out.old) (O.contents out.new) (flow_line arc.now.tail arc.now.head x.now) }
     ensures failed { CountsFailure result (O.failures out.old) (O.failures out.new) }
+    ensures flushed { O.flushes out.new ≡ O.flushes out.old }
     ensures last { FailsLast result (O.last_call out.new) }
 {
     write_f(out, arc.tail, arc.head, *x)
@@ -116,6 +122,7 @@ fn write_proof<O: Sink>(proof: bool, potentials: &[i64], out: &mut O) -> Result<
     ensures bytes { WritesUpTo result (O.contents out.old) (O.contents out.new)
         (if proof then potential_lines 1 potentials.now else []) }
     ensures failed { CountsFailure result (O.failures out.old) (O.failures out.new) }
+    ensures flushed { O.flushes out.new ≡ O.flushes out.old }
     ensures last { FailsLast result (O.last_call out.new) }
 {
     if proof {
@@ -131,6 +138,7 @@ fn write_potentials<O: Sink>(potentials: &[i64], out: &mut O) -> Result<(), Brok
     requires count { length potentials.now < 2 ^ 32 - 1 }
     ensures bytes { WritesUpTo result (O.contents out.old) (O.contents out.new) (potential_lines 1 potentials.now) }
     ensures failed { CountsFailure result (O.failures out.old) (O.failures out.new) }
+    ensures flushed { O.flushes out.new ≡ O.flushes out.old }
     ensures last { FailsLast result (O.last_call out.new) }
 {
     for (place, potential) in potentials.iter().enumerate() {
@@ -144,6 +152,7 @@ fn write_node<O: Sink>(id: u32, potential: &i64, out: &mut O) -> Result<(), Brok
     requires { O.failures out.old < 2 ^ 64 - 1 }
     ensures bytes { WritesUpTo result (O.contents out.old) (O.contents out.new) (potential_line id potential.now) }
     ensures failed { CountsFailure result (O.failures out.old) (O.failures out.new) }
+    ensures flushed { O.flushes out.new ≡ O.flushes out.old }
     ensures last { FailsLast result (O.last_call out.new) }
 {
     write_v(out, id, *potential)
@@ -155,6 +164,7 @@ fn write_cut<O: Sink>(marks: &[bool], out: &mut O) -> Result<(), Broken>
     requires count { length marks.now < 2 ^ 32 - 1 }
     ensures bytes { WritesUpTo result (O.contents out.old) (O.contents out.new) (cut_lines 1 marks.now) }
     ensures failed { CountsFailure result (O.failures out.old) (O.failures out.new) }
+    ensures flushed { O.flushes out.new ≡ O.flushes out.old }
     ensures last { FailsLast result (O.last_call out.new) }
 {
     for (place, mark) in marks.iter().enumerate() {
@@ -168,6 +178,7 @@ fn write_mark<O: Sink>(id: u32, mark: bool, out: &mut O) -> Result<(), Broken>
     requires { O.failures out.old < 2 ^ 64 - 1 }
     ensures bytes { WritesUpTo result (O.contents out.old) (O.contents out.new) (if mark then cut_line id else []) }
     ensures failed { CountsFailure result (O.failures out.old) (O.failures out.new) }
+    ensures flushed { O.flushes out.new ≡ O.flushes out.old }
     ensures last { FailsLast result (O.last_call out.new) }
 {
     if mark { write_k(out, id) } else { Ok(()) }

@@ -1,8 +1,8 @@
 //! Solves a problem, and writes the solution.
 ghost use Rattle.std.specs.Prelude.{◌≡◌, ◌+◌, ◌-◌, ◌^◌, ◌<◌, true};
-ghost use Rattle.dimacs_io.specs.Device.{CountsFailure, EndsBy, WritesUpTo};
+ghost use Rattle.dimacs_io.specs.Device.{CountsFailure, CountsFlush, EndsBy, RisesBy, WritesUpTo};
 ghost use Rattle.dimacs_io.specs.declared.device.LastCall.TheVariants as last;
-ghost use Rattle.checker.specs.Check.{last_by, problem_failures, write_failures};
+ghost use Rattle.checker.specs.Check.{flushes_by, last_by, problem_failures, write_failures};
 ghost use Rattle.engines.specs.Printing.{solution};
 ghost use Rattle.engines.specs.Solve.{SolveOnDevices, end_by};
 
@@ -32,8 +32,9 @@ pub fn solve<P: Source, O: Sink>(alloc: Global, input: &mut P, out: &mut O, proo
     ensures input_failed { P.failures input.new ≡ P.failures input.old + problem_failures result }
     ensures out_failed { O.failures out.new ≡ O.failures out.old + write_failures result }
 
-    // A call that failed was the last one on its device, and what is written is passed on.
+    // A call that failed was the last one on its device, and what is written is passed on, by one flush.
     ensures input_last { problem_failures result ≡ 1 → P.last_failed input.new ≡ true }
+    ensures out_flushed { RisesBy (flushes_by result) (O.flushes out.old) (O.flushes out.new) }
     ensures out_last { O.last_call out.new ≡ last_by result (O.last_call out.old) }
 {
     let session = match open_text(alloc, alloc, input, 0) {
@@ -59,6 +60,7 @@ fn tell_solution<O: Sink>(session: &Session, proof: bool, out: &mut O) -> Result
     requires { O.failures out.old < 2 ^ 64 - 1 }
     ensures bytes { WritesUpTo result (O.contents out.old) (O.contents out.new) (solution proof session.now.moments.present) }
     ensures failed { CountsFailure result (O.failures out.old) (O.failures out.new) }
+    ensures flushed { CountsFlush result (O.flushes out.old) (O.flushes out.new) }
     ensures last { EndsBy result last.Flush (O.last_call out.new) }
 {
     write_solution(session, proof, out)?;

@@ -1,9 +1,10 @@
 -- What a task does to the devices that it is performed on.
 use Rattle.std.specs.Prelude.{ℕ, List, Option, None, Some}
 use Rattle.std.specs.Borrow.{Bor}
-use Rattle.checker.specs.Check.{CheckOnDevices}
+use Rattle.dimacs_io.specs.Device.{RisesBy}
+use Rattle.checker.specs.Check.{CheckOnDevices, answer_failures, flushes_by}
 use Rattle.checker.specs.declared.end.End.{End}
-use Rattle.engines.specs.Session.{SessionOnDevices}
+use Rattle.engines.specs.Session.{FlushesOnDevices, SessionOnDevices, command_failures}
 use Rattle.engines.specs.Solve.{SolveOnDevices}
 use Rattle.mcf.specs.declared.command_line.Task.{Task}
 use Rattle.mcf.specs.declared.command_line.Task.TheVariants.{Solve, Session, Check}
@@ -21,6 +22,21 @@ Performs (Session file extra) end problem answer commands before after =
     SessionOnDevices end extra problem.known problem.count commands.known commands.count before after
 Performs (Check file other) end problem answer commands before after =
     CheckOnDevices end problem.known problem.count answer.known answer.count before after
+
+-- how many flushes of the output went well: one where the engine writes once, and as many as the session's commands ask for
+abbrev pub PerformsFlushes : Task → End → Given → ℕ → ℕ → Type 0
+PerformsFlushes (Solve proof file) end commands old new = RisesBy (flushes_by end) old new
+PerformsFlushes (Session file extra) end commands old new = FlushesOnDevices end commands.known commands.count old new
+PerformsFlushes (Check file other) end commands old new = RisesBy (flushes_by end) old new
+
+-- how many reads of the answer failed, and of the commands: none where the task does not ask for them
+abbrev pub answer_failed : Task → End → ℕ
+answer_failed (Check file other) end = answer_failures end
+answer_failed _ end = 0
+
+abbrev pub commands_failed : Task → End → ℕ
+commands_failed (Session file extra) end = command_failures end
+commands_failed _ end = 0
 
 -- the file that the problem is in, and the one that the answer is in, where the task names one
 abbrev pub problem_file : Task → Option (Bor (List ℕ))

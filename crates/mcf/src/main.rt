@@ -1,8 +1,9 @@
 //! The program `mcf`: solves flow problems in the DIMACS formats, runs sessions of edits on them, and checks answers.
 #![tactic(auto)]
 
-ghost use Rattle.std.specs.Prelude.{◌≡◌, ◌<◌, ◌-◌, ◌^◌, ◌⊎◌, ◌<ℤ◌, IfOk, IsTrue, pos};
+ghost use Rattle.std.specs.Prelude.{◌≡◌, ◌<◌, ◌+◌, ◌-◌, ◌^◌, ◌⊎◌, ◌<ℤ◌, IfOk, IsTrue, pos};
 ghost use Rattle.std.specs.Fd.{file_raw_fd};
+ghost use Rattle.checker.specs.Check.{last_by, write_failures};
 ghost use Rattle.checker.specs.declared.end.End.TheVariants as end;
 ghost use Rattle.checker.specs.End.{status_of};
 
@@ -71,6 +72,8 @@ fn perform(rt: &HostRuntime, task: Task<'_>) -> End {
 /// the task names no file of it, and the commands are there always.
 fn perform_in_files<O: Sink>(rt: &HostRuntime, task: Task<'_>, out: &mut O) -> End
     requires { O.failures out.old < 2 ^ 64 - 1 }
+    ensures out_failed { O.failures out.new ≡ O.failures out.old + write_failures result }
+    ensures out_last { O.last_call out.new ≡ last_by result (O.last_call out.old) }
 {
     let mut input = ReadSource::new(rt.stdin());
     let mut none = ReadSource::new(rt.stdin());

@@ -2,7 +2,7 @@ use Rattle.std.proofs.Common.{◌∙◌, ◌+◌, ◌-◌, ℕ, ap, refl}
 use Rattle.checker.specs.Check.{write_failures}
 use Rattle.session.specs.Step.{state_of}
 use Rattle.engines.proofs.OpeningLemmas.{none_counted, unopened_commands, unopened_last, unopened_writes}
-use Rattle.engines.proofs.SessionLemmas.{SessionOnDevices-unopened, SessionOnDevices-opening, SessionOnDevices-commands, write_counted, reads_counted, no_problem_counted}
+use Rattle.engines.proofs.SessionLemmas.{FlushesOnDevices-commands, FlushesOnDevices-opening, FlushesOnDevices-unopened, SessionOnDevices-unopened, SessionOnDevices-opening, SessionOnDevices-commands, write_counted, reads_counted, no_problem_counted}
 use Rattle.engines.proofs.interaction.run_session_in.Goals as goal
 
 pub returns-in-Err-clause-session : goal.returns-in-Err-clause-session
@@ -49,3 +49,18 @@ returns-in-Ok-tell_opening-clause-out_last g c = c.serve_commands-end.ensures.ou
 pub returns-in-Ok-tell_opening-clause-problem_last : goal.returns-in-Ok-tell_opening-clause-problem_last
 returns-in-Ok-tell_opening-clause-problem_last g c =
     none_counted _ 0 (no_problem_counted c.serve_commands-end.result _ _ _ _ c.serve_commands-end.ensures.failed 0 0 refl)
+
+pub returns-in-Err-clause-out_flushed : goal.returns-in-Err-clause-out_flushed
+returns-in-Err-clause-out_flushed g c =
+    FlushesOnDevices-unopened c.in-Err.end _ _ (g.C.Source.remaining c.args.script.now) (g.C.Source.most_left c.args.script.now - g.C.Source.most_left c.args.script.now)
+    (g.O.Sink.flushes c.args.out.now) c.in-Err.ensures.ended
+
+pub returns-in-Err-tell_opening-clause-out_flushed : goal.returns-in-Err-tell_opening-clause-out_flushed
+returns-in-Err-tell_opening-clause-out_flushed g c =
+    FlushesOnDevices-opening (g.C.Source.remaining c.args.script.now) (g.C.Source.most_left c.args.script.now - g.C.Source.most_left c.args.script.now)
+    (g.O.Sink.flushes c.args.out.now) _ c.in-Err-tell_opening.ensures.flushed
+
+pub returns-in-Ok-tell_opening-clause-out_flushed : goal.returns-in-Ok-tell_opening-clause-out_flushed
+returns-in-Ok-tell_opening-clause-out_flushed g c =
+    let served = c.serve_commands-end.ensures.served in
+    FlushesOnDevices-commands c.serve_commands-end.result (state_of c.in-Ok.session) _ _ served.0 _ _ (g.O.Sink.flushes c.args.out.now) _ _ served.1 c.in-Ok-tell_opening.ensures.flushed served.2

@@ -6,7 +6,7 @@ use Rattle.engines.proofs.PrintingLemmas.{Wrote-nothing, Wrote-more, Wrote-all, 
 use Rattle.engines.proofs.solution.write_potentials.Goals as goal
 
 pub loop-place-init : goal.loop-place-init
-loop-place-init g c = record { wrote = Wrote-nothing _ _; failures = refl }
+loop-place-init g c = record { wrote = Wrote-nothing _ _; failures = refl; flushes = refl }
 
 pub loop-place-preserved : goal.loop-place-preserved
 loop-place-preserved g c =
@@ -14,6 +14,7 @@ loop-place-preserved g c =
     record {
       wrote = Wrote-more _ _ _ _ _ _ _ c.loop-place.invariant.wrote step c.in_ok-write_node.ensures.bytes;
       failures = search rules;
+      flushes = search rules;
     }
 
 pub returns-in_err-write_node-clause-bytes : goal.returns-in_err-write_node-clause-bytes

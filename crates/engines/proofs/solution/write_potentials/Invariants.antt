@@ -7,4 +7,5 @@ abbrev pub invariant-loop-place : goal.invariant-loop-place
 invariant-loop-place g l = record {
   wrote : Wrote (g.O.Sink.contents l.fn.out) (g.O.Sink.contents l.out) (potential_lines 1 l.potentials) (potential_lines (l.place + 1) (drop l.place l.potentials));
   failures : g.O.Sink.failures l.out ≡ g.O.Sink.failures l.fn.out;
+  flushes : g.O.Sink.flushes l.out ≡ g.O.Sink.flushes l.fn.out;
 }

@@ -1,6 +1,6 @@
 use Rattle.std.proofs.Common.{◌∙◌}
-use Rattle.engines.proofs.OpeningLemmas.{unopened_last, unopened_writes}
-use Rattle.engines.proofs.SolveLemmas.{SolveOnDevices-unopened, SolveOnDevices-stopped, SolveOnDevices-solved, no_problem_failed, written_count, written_last}
+use Rattle.engines.proofs.OpeningLemmas.{unopened_flushes, unopened_last, unopened_writes}
+use Rattle.engines.proofs.SolveLemmas.{SolveOnDevices-unopened, SolveOnDevices-stopped, SolveOnDevices-solved, no_problem_failed, written_count, written_flushed, written_last}
 use Rattle.engines.proofs.solving.solve.Goals as goal
 
 pub returns-in-Err-clause-solve : goal.returns-in-Err-clause-solve
@@ -22,6 +22,12 @@ returns-in-Ok-tell_solution-clause-solve g c =
 
 pub returns-in-Ok-tell_solution-clause-out_failed : goal.returns-in-Ok-tell_solution-clause-out_failed
 returns-in-Ok-tell_solution-clause-out_failed g c = rw c.end_by-end.ensures (c.in-Ok-tell_solution.ensures.failed ∙ written_count c.verdict.result _)
+
+pub returns-in-Err-clause-out_flushed : goal.returns-in-Err-clause-out_flushed
+returns-in-Err-clause-out_flushed g c = unopened_flushes _ _ c.in-Err.end _ c.in-Err.ensures.ended
+
+pub returns-in-Ok-tell_solution-clause-out_flushed : goal.returns-in-Ok-tell_solution-clause-out_flushed
+returns-in-Ok-tell_solution-clause-out_flushed g c = rw c.end_by-end.ensures (written_flushed c.verdict.result _ _ c.in-Ok-tell_solution.ensures.flushed)
 
 pub returns-in-Err-clause-out_last : goal.returns-in-Err-clause-out_last
 returns-in-Err-clause-out_last g c = unopened_last _ _ c.in-Err.end _ c.in-Err.ensures.ended
