@@ -11,8 +11,13 @@ use Rattle.std.proofs.Math.Bool.{beq}
 use Rattle.dimacs_text.specs.declared.problem.ArcRow.{ArcRow}
 use Rattle.residual_graph.specs.declared.residual.Way.{Way}
 use Rattle.residual_graph.specs.declared.residual.Way.TheVariants.{Forward, Backward}
-use Rattle.residual_graph.specs.Residual.{IsPseudoflow, IsRow, IsWithinRow, number_at, row_at, start_of, end_of, start_at, end_at, room_of, IsResidual}
+use Rattle.residual_graph.specs.Residual.{IsPseudoflow, IsRow, IsWithinRow, number_at, row_at, start_of, end_of, start_at, end_at, other_way, room_of, IsResidual}
 use Rattle.network.specs.Flow.{net, outflow, inflow}
+use Rattle.residual_graph.specs.declared.graph.Graph.{Graph}
+use Rattle.residual_graph.specs.declared.walk.End.{End}
+use Rattle.residual_graph.specs.declared.walk.Walk.{Walk}
+use Rattle.residual_graph.specs.Ends.{AllToCome, IsEndAt, IsNextToCome, NothingToCome, leaving}
+use Rattle.residual_graph.proofs.EndLemmas.{AllHaveOrCome, all_come, all_ends_met, all_entering, one_end_more, starts_other}
 use Rattle.residual_graph.specs.declared.side.Side.{Side}
 use Rattle.residual_graph.specs.declared.side.Side.TheVariants.{Ahead, Behind}
 use Rattle.augmentation.specs.Push.{IsExcess, at_node, positive_part, left}
@@ -20,13 +25,12 @@ use Rattle.augmentation.proofs.PushLemmas.{at_same, at_other}
 use Rattle.shortest_paths.specs.declared.node_label.State.{State}
 use Rattle.shortest_paths.specs.declared.node_label.State.TheVariants.{Unreached, Open, Settled}
 use Rattle.shortest_paths.specs.declared.node_label.NodeLabel.{NodeLabel}
-use Rattle.shortest_paths.specs.Search.{node_label_at, state_at, is_unsettled, is_not_settled, IsReached, AllRelaxed, IsFromExcess, IsExhausted}
+use Rattle.shortest_paths.specs.Search.{node_label_at, state_at, is_unsettled, is_not_settled, IsReached, HasSearched, NoneOpen}
 use Rattle.shortest_paths.proofs.SearchLemmas.{in_range}
 use Rattle.augmentation.specs.Cut.{in_set, sum_in, sum_leaving, sum_entering, surplus, shortfall, IsLeastSet, amount, near_at, far_at, IsClosed, HoldsRoots, IsSide, IsParted, IsChosenSet, IsListOf, IsGrown, lack}
-use Rattle.residual_graph.specs.Side.{IsRoot, seen, turned_row}
+use Rattle.residual_graph.specs.Side.{IsRoot, leading}
 use Rattle.shortest_paths.specs.NodeLists.{node_at, IsListed}
-use Rattle.residual_graph.proofs.TurnedRows.{row_at-turned, start_at-turned, end_at-turned, residual-turned, residual-unturned}
-use Rattle.augmentation.proofs.TurnLemmas.{outflow-turned, inflow-turned, number_at-neg, left-neg}
+use Rattle.augmentation.proofs.TurnedRows.{turned_row, row_at-turned, start_at-turned, end_at-turned, residual-turned, residual-unturned, outflow-turned, inflow-turned, number_at-neg, left-neg}
 
 pub sum_in-same : (set : List Bool) (f g : ℕ → ℤ) → ((v : ℕ) → f v ≡ g v) → sum_in set f ≡ sum_in set g
 sum_in-same [] f g same = refl
@@ -322,7 +326,7 @@ IsChosenSet-from arcs x e supply set nodes flow sized_set parted ahead behind is
 
 -- ---- no node in excess reaches a node in deficit
 
-pub parted_no_excess : (arcs : List ArcRow) (x e : List ℤ) → left e ≡ 0 → IsParted arcs x e
+parted_no_excess : (arcs : List ArcRow) (x e : List ℤ) → left e ≡ 0 → IsParted arcs x e
 parted_no_excess arcs x e none = record {
   set = [];
   closed = λ k way residual start. absurd (false≢true start);
@@ -337,7 +341,7 @@ end_in : (n : ℕ) (a : ArcRow) (way : Way) → IsRow n a → end_of a way < n
 end_in n a Forward row = row.head_in
 end_in n a Backward row = row.tail_in
 
-pub parted_no_deficit : (nodes : ℕ) (arcs : List ArcRow) (x e : List ℤ) → IsPseudoflow nodes arcs x → length e ≡ nodes → lack e ≡ 0 → IsParted arcs x e
+parted_no_deficit : (nodes : ℕ) (arcs : List ArcRow) (x e : List ℤ) → IsPseudoflow nodes arcs x → length e ≡ nodes → lack e ≡ 0 → IsParted arcs x e
 parted_no_deficit nodes arcs x e flow sized no_lack = record {
   set = replicate nodes true;
   closed = λ k way residual start. in_all nodes (end_at arcs k way) (end_in nodes (row_at arcs k) way (flow.rows k residual.is_arc));
@@ -351,6 +355,15 @@ parted_no_deficit nodes arcs x e flow sized no_lack = record {
       | inr past ↦ (let none : number_at e v ≡ pos 0 = get_or_past e v (pos 0) (omega (arith, past, sized)) in absurd (omega (arith, ints, high, none)))
     ]
 
+pub parted_unless_both : (arcs : List ArcRow) (x e : List ℤ) → IsPseudoflow (length e) arcs x → ((0 < left e) × (0 < lack e) → ⊥) → IsParted arcs x e
+parted_unless_both arcs x e flow not_both = elim (cases_eq (left e) 0) [
+  | inl none ↦ parted_no_excess arcs x e none
+  | inr some ↦ elim (cases_eq (lack e) 0) [
+    | inl no_lack ↦ parted_no_deficit (length e) arcs x e flow refl no_lack
+    | inr lacking ↦ absurd (not_both (omega (arith, some), omega (arith, lacking)))
+  ]
+]
+
 -- whether a node is settled
 abbrev is_settled : NodeLabel → Bool
 is_settled e = not (is_unsettled e)
@@ -362,7 +375,7 @@ in_map (e ∷ s) (suc v) = in_map s v
 
 -- the settled nodes at the end of a search from the nodes in excess
 module _ (arcs : List ArcRow) (x p e : List ℤ) (s : List NodeLabel)
-    (all : AllRelaxed arcs x p s) (from : IsFromExcess e s) (done : IsExhausted e s)
+    (searched : HasSearched arcs x p e s) (done : NoneOpen s (length s))
   where
     in_settled : (v : ℕ) → in_set (map is_settled s) v ≡ not (is_not_settled (state_at s v))
     in_settled v = in_map s v
@@ -377,7 +390,7 @@ module _ (arcs : List ArcRow) (x p e : List ℤ) (s : List NodeLabel)
 
     reached_mark : (v : ℕ) (m : State) → state_at s v ≡ m → IsReached s v → not (is_not_settled m) ≡ true
     reached_mark v Unreached h reached = absurd (reached h)
-    reached_mark v Open h reached = absurd (done.none_open v (in_range s v reached) h)
+    reached_mark v Open h reached = absurd (done v (in_range s v reached) h)
     reached_mark v Settled h reached = refl
 
     reached_in : (v : ℕ) → IsReached s v → in_set (map is_settled s) v ≡ true
@@ -386,9 +399,9 @@ module _ (arcs : List ArcRow) (x p e : List ℤ) (s : List NodeLabel)
     pub parted_exhausted : IsParted arcs x e
     parted_exhausted = record {
       set = map is_settled s;
-      closed = λ k way residual start. reached_in (end_at arcs k way) (all k way residual (settled_in (start_at arcs k way) start)).reached;
-      holds = λ v high. reached_in v (from.sources v high).0;
-      no_deficit = λ v h. done.no_deficit v (settled_in v h);
+      closed = λ k way residual start. reached_in (end_at arcs k way) (searched.relaxed k way residual (settled_in (start_at arcs k way) start)).reached;
+      holds = λ v high. reached_in v (searched.from_excess.sources v high).0;
+      no_deficit = λ v h. searched.from_excess.no_deficit v (settled_in v h);
     }
 
 -- ---- the list of marked nodes
@@ -451,14 +464,43 @@ marked_in set v h = elim (cases_lt v (length set)) [
   | inr past ↦ absurd (false≢true (sym (get_or_past set v false past) ∙ h))
 ]
 
--- a residual arc leads on from its near end to its far end
-pub near_seen : (side : Side) (arcs : List ArcRow) (k : ℕ) (way : Way) → start_at (seen side arcs) k way ≡ near_at side arcs k way
-near_seen Ahead arcs k way = refl
-near_seen Behind arcs k way = start_at-turned arcs k way
+-- the residual arc that leads on from node v at an end, and the node to which it leads
+pub record IsLeadingAt (side : Side) (arcs : List ArcRow) (v : ℕ) (end : End) : Type 0 where
+  pub is_arc : (leading side end).arc < length arcs
+  pub near : near_at side arcs (leading side end).arc (leading side end).way ≡ v
+  pub far : far_at side arcs (leading side end).arc (leading side end).way ≡ end.other
 
-pub far_seen : (side : Side) (arcs : List ArcRow) (k : ℕ) (way : Way) → end_at (seen side arcs) k way ≡ far_at side arcs k way
-far_seen Ahead arcs k way = refl
-far_seen Behind arcs k way = end_at-turned arcs k way
+ends_other : (arcs : List ArcRow) (k : ℕ) (way : Way) → end_at arcs k (other_way way) ≡ start_at arcs k way
+ends_other arcs k Forward = refl
+ends_other arcs k Backward = refl
+
+pub leading_at : (side : Side) (arcs : List ArcRow) (v : ℕ) (end : End) → IsEndAt arcs v end → IsLeadingAt side arcs v end
+leading_at Ahead arcs v end at = record { is_arc = at.is_arc; near = at.starts; far = at.ends }
+leading_at Behind arcs v end at = record {
+  is_arc = at.is_arc;
+  near = ends_other arcs (leaving end).arc (leaving end).way ∙ at.starts;
+  far = starts_other arcs (leaving end).arc (leaving end).way ∙ at.ends;
+}
+
+-- each residual arc that leads on from the node has this property, or is to come
+abbrev pub AllLedOrCome : Side → Graph → Walk → ℕ → (ℕ → Way → Type 0) → Type 0
+AllLedOrCome Ahead g w v P = AllHaveOrCome g w v P
+AllLedOrCome Behind g w v P = AllHaveOrCome g w v (λ k way. P k (other_way way))
+
+pub all_led_to_come : (side : Side) (g : Graph) (w : Walk) (v : ℕ) (P : ℕ → Way → Type 0) → AllToCome g w → w.node ≡ v → AllLedOrCome side g w v P
+all_led_to_come Ahead g w v P all node = all_come g w v P all node
+all_led_to_come Behind g w v P all node = all_come g w v (λ k way. P k (other_way way)) all node
+
+pub one_led_more : (side : Side) (g : Graph) (w w' : Walk) (v : ℕ) (end : End) (P Q : ℕ → Way → Type 0) → AllLedOrCome side g w v P → IsNextToCome g w w' end → ((k : ℕ) (way : Way) → P k way → Q k way)
+    → Q (leading side end).arc (leading side end).way → AllLedOrCome side g w' v Q
+one_led_more Ahead g w w' v end P Q done rest kept here = one_end_more g w w' v end P Q done rest kept here
+one_led_more Behind g w w' v end P Q done rest kept here =
+    one_end_more g w w' v end (λ k way. P k (other_way way)) (λ k way. Q k (other_way way)) done rest (λ k way has. kept k (other_way way) has) here
+
+pub all_led_met : (side : Side) (g : Graph) (w : Walk) (v : ℕ) (P : ℕ → Way → Type 0) → AllLedOrCome side g w v P → NothingToCome g w
+    → (k : ℕ) (way : Way) → k < length g.rows → near_at side g.rows k way ≡ v → P k way
+all_led_met Ahead g w v P done nothing k way lt near = all_ends_met g w v P done nothing k way lt near
+all_led_met Behind g w v P done nothing k way lt near = all_entering g w v P done nothing k way lt near
 
 -- the node to which a residual arc leads on is marked
 pub IsGrown-put : (side : Side) (arcs : List ArcRow) (x : List ℤ) (set : List Bool) (list : List ℕ) (len v k : ℕ) (way : Way) → IsListOf set list len → IsResidual arcs x k way → in_set set (near_at side arcs k way) ≡ true

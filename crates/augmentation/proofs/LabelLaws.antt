@@ -7,7 +7,7 @@ use Rattle.shortest_paths.specs.Limits.{label_floor}
 use Rattle.residual_graph.specs.Residual.{AreGreatest, ArePotentials, IsReducedCostOptimal, number_at}
 use Rattle.shortest_paths.specs.Search.{AreLabels, distance_at}
 use Rattle.shortest_paths.proofs.RunLemmas.{label_fits, labels_within, labels_certified, labels_greatest}
-use Rattle.augmentation.specs.Rounds.{AreLabelled}
+use Rattle.augmentation.specs.Settle.{AreLabelled}
 
 -- potentials that are the shortest labels
 pub record AreShortest (arcs : List ArcRow) (x q : List ℤ) : Type 0 where

@@ -1,37 +1,18 @@
--- Paths behind the nodes that a search reached, and the flow pushed along them.
+-- Flow that is pushed along a path.
 use Rattle.std.proofs.Common.{◌≡◌, ◌≢◌, ℕ, zero, suc, ◌+◌, ◌<◌, ℤ, pos, ◌-ℤ◌, ◌+ℤ◌, ◌≤ℤ◌, List, [], ◌∷◌, length, refl, sym, ap, subst, ◌∙◌, inl, inr, arith, Bool, true, false, cond, add-one, eqb}
 use Rattle.std.specs.Prelude.{slice_set}
 use Rattle.std.specs.List.{All}
 use Rattle.std.proofs.lemmas.Int.{ints}
 use Rattle.std.proofs.lemmas.Bool.{cases_eq, eq-eqb, ne_eqb}
-use Rattle.std.proofs.lemmas.List.{get_or-set_same, get_or-set_other, length-set}
+use Rattle.std.proofs.lemmas.List.{get_or-set_same, get_or-set_other, length-set, set_comm}
 use Rattle.std.proofs.lemmas.List.Elements.{All-nil, All-cons, All-head, All-tail}
 use Rattle.dimacs_text.specs.declared.problem.ArcRow.{ArcRow}
 use Rattle.residual_graph.specs.declared.residual.Way.{Way}
 use Rattle.residual_graph.specs.declared.residual.Way.TheVariants.{Forward, Backward}
-use Rattle.shortest_paths.specs.declared.node_label.NodeLabel.{NodeLabel}
 use Rattle.residual_graph.specs.Residual.{IsRow, IsWithinRow, IsPseudoflow, NoneBelow, number_at, row_at, room_of, start_at, end_at, cost_at}
-use Rattle.shortest_paths.specs.declared.node_label.State.TheVariants.{Settled}
-use Rattle.shortest_paths.specs.Search.{node_label_at, state_at, depth_at}
 use Rattle.network.specs.Flow.{net, outflow, inflow}
-use Rattle.augmentation.specs.Push.{IsPath, moved, IsShift, path_of, root_of, path_to, HavePaths, HasRoom, push_along, IsTight, at_node, IsTransfer}
+use Rattle.augmentation.specs.Push.{IsPath, moved, IsShift, HasRoom, push_along, IsTight, at_node, IsTransfer}
 use Rattle.residual_graph.specs.declared.residual.ResidualArc.{ResidualArc}
-
--- the last arc of the path to v, and the node before it
-abbrev pub arc_to : List NodeLabel → ℕ → ℕ
-arc_to s v = (node_label_at s v).arc
-
-abbrev pub way_to : List NodeLabel → ℕ → Way
-way_to s v = (node_label_at s v).way
-
-abbrev pub before : List ArcRow → List NodeLabel → ℕ → ℕ
-before arcs s v = start_at arcs (arc_to s v) (way_to s v)
-
-pub path_step : (arcs : List ArcRow) (s : List NodeLabel) (v : ℕ) → depth_at s v ≡ depth_at s (before arcs s v) + 1 → path_to arcs s v ≡ record { arc = arc_to s v; way = way_to s v } ∷ path_to arcs s (before arcs s v)
-path_step arcs s v deeper = ap (λ (d : ℕ). path_of arcs s d v) (deeper ∙ add-one (depth_at s (before arcs s v)))
-
-pub root_step : (arcs : List ArcRow) (s : List NodeLabel) (v : ℕ) → depth_at s v ≡ depth_at s (before arcs s v) + 1 → root_of arcs s (depth_at s v) v ≡ root_of arcs s (depth_at s (before arcs s v)) (before arcs s v)
-root_step arcs s v deeper = ap (λ (d : ℕ). root_of arcs s d v) (deeper ∙ add-one (depth_at s (before arcs s v)))
 
 -- no hop is along arc k
 abbrev pub Avoids : ℕ → List ResidualArc → Type 0
@@ -66,20 +47,10 @@ IsFlow-set {nodes} {arcs} {x} flow k z lt within = record {
   ]);
 }
 
-pub here_room : (arcs : List ArcRow) (x : List ℤ) (s : List NodeLabel) (v : ℕ) (m : ℤ) → depth_at s v ≡ depth_at s (before arcs s v) + 1 → HasRoom arcs x m (path_to arcs s v) → (m ≤ℤ room_of (row_at arcs (arc_to s v)) (number_at x (arc_to s v)) (way_to s v)) × HasRoom arcs x m (path_to arcs s (before arcs s v))
-here_room arcs x s v m deeper room = subst (λ (hops : List ResidualArc). HasRoom arcs x m hops) (path_step arcs s v deeper) room
-
 -- the hops are along arcs that are there, no two along one arc
 abbrev pub AreApart : List ArcRow → List ResidualArc → Type 0
 AreApart arcs [] = Unit {0}
 AreApart arcs (h ∷ hops) = (h.arc < length arcs) × Avoids h.arc hops × AreApart arcs hops
-
-module _ (arcs : List ArcRow) (s : List NodeLabel) (paths : HavePaths arcs s) where
-  pub root_reached : (d v : ℕ) → state_at s v ≡ Settled → depth_at s v ≡ d → (state_at s (root_of arcs s d v) ≡ Settled) × (depth_at s (root_of arcs s d v) ≡ 0)
-  root_reached zero v reached e = (reached, e)
-  root_reached (suc d) v reached e =
-      let came = paths v reached (omega arith) in
-      root_reached d (before arcs s v) came.before (omega (arith, came.deeper))
 
 -- what a push leaves of the arcs that it does not take
 pub push_elsewhere : (hops : List ResidualArc) (m : ℤ) (x : List ℤ) (k : ℕ) → Avoids k hops → number_at (push_along hops m x) k ≡ number_at x k
@@ -90,6 +61,14 @@ push_elsewhere (h ∷ hops) m x k apart =
 pub length-push : (hops : List ResidualArc) (m : ℤ) (x : List ℤ) → length (push_along hops m x) ≡ length x
 length-push [] m x = refl
 length-push (h ∷ hops) m x = length-push hops m (slice_set x h.arc (moved h.way (number_at x h.arc) m)) ∙ length-set x h.arc (moved h.way (number_at x h.arc) m)
+
+-- an arc that a push does not take may be written after it
+pub push_along-set : (hops : List ResidualArc) (m : ℤ) (x : List ℤ) (k : ℕ) (z : ℤ) → Avoids k hops → push_along hops m (slice_set x k z) ≡ slice_set (push_along hops m x) k z
+push_along-set [] m x k z apart = refl
+push_along-set (h ∷ hops) m x k z apart =
+    ap (λ (y : ℤ). push_along hops m (slice_set (slice_set x k z) h.arc (moved h.way y m))) (get_or-set_other x k h.arc z (pos 0) apart.0)
+    ∙ ap (push_along hops m) (set_comm x k h.arc z (moved h.way (number_at x h.arc) m) (λ e. apart.0 (sym e)))
+    ∙ push_along-set hops m (slice_set x h.arc (moved h.way (number_at x h.arc) m)) k z apart.1
 
 Avoids-from_all : (k : ℕ) (hops : List ResidualArc) → All (λ h. h.arc ≢ k) hops → Avoids k hops
 Avoids-from_all k [] all = tt
@@ -205,3 +184,7 @@ IsTransfer-put u w m e a b u_in w_in apart a_is b_is = record {
     ])
   ]);
 }
+
+pub HasRoom-weaker : (arcs : List ArcRow) (x : List ℤ) (m n : ℤ) (hops : List ResidualArc) → n ≤ℤ m → HasRoom arcs x m hops → HasRoom arcs x n hops
+HasRoom-weaker arcs x m n [] le room = tt
+HasRoom-weaker arcs x m n (h ∷ hops) le room = (omega (arith, ints, room.0, le), HasRoom-weaker arcs x m n hops le room.1)

@@ -1,8 +1,8 @@
--- What one search, one change of potentials and the pushes after it keep.
-use Rattle.residual_graph.specs.Limits.{potential_floor, entry_limit}
+-- What one search, one change of potentials and one push keep.
+use Rattle.residual_graph.specs.Limits.{cost_limit, entry_limit}
 use Rattle.augmentation.specs.Limits.{left_limit, excess_limit}
 use Rattle.shortest_paths.specs.Limits.{label_floor}
-use Rattle.std.proofs.Common.{◌≡◌, ◌≢◌, ℕ, zero, suc, ◌+◌, ◌<◌, ◌≤◌, ℤ, pos, negsuc, neg_ℤ, ◌-ℤ◌, ◌+ℤ◌, ◌≤ℤ◌, List, [], ◌∷◌, length, map, refl, sym, ap, subst, ◌∙◌, inl, inr, arith}
+use Rattle.std.proofs.Common.{◌≡◌, ◌≢◌, ℕ, zero, suc, ◌+◌, ◌*◌, ◌<◌, ◌≤◌, ℤ, pos, negsuc, neg_ℤ, ◌-ℤ◌, ◌+ℤ◌, ◌≤ℤ◌, List, [], ◌∷◌, length, map, refl, sym, ap, subst, ◌∙◌, inl, inr, arith}
 use Rattle.std.specs.Prelude.{◌<ℤ◌, slice_index_or}
 use Rattle.std.specs.List.{AllPairs}
 use Rattle.std.proofs.lemmas.Int.{ints}
@@ -13,28 +13,18 @@ use Rattle.dimacs_text.specs.declared.problem.ArcRow.{ArcRow}
 use Rattle.shortest_paths.specs.declared.node_label.State.{State}
 use Rattle.shortest_paths.specs.declared.node_label.State.TheVariants.{Unreached, Open, Settled}
 use Rattle.shortest_paths.specs.declared.node_label.NodeLabel.{NodeLabel}
-use Rattle.residual_graph.specs.Residual.{IsPseudoflow, IsReducedCostOptimal, ArePotentials, NoneBelow, number_at, end_at}
-use Rattle.shortest_paths.specs.Search.{state_at, distance_at, depth_at, IsSearch, AllRelaxed, IsFromExcess, IsFoundDeficit, IsFront, IsLowered, lowered_by}
+use Rattle.residual_graph.specs.Residual.{IsPseudoflow, IsReducedCostOptimal, ArePotentials, NoneBelow, number_at, row_at, end_at}
+use Rattle.shortest_paths.specs.Search.{state_at, distance_at, depth_at, IsReached, IsSearch, IsReach, IsLowered, lowered_by}
 use Rattle.network.specs.Flow.{net}
-use Rattle.augmentation.specs.Push.{IsExcess, IsPath, IsPush, Pushes, nodes_on, path_of, root_to, HavePaths, ArePathsTight, HasRoom, IsTransfer, IsUnderWay, ArePushes, CanPush, push_along, at_node, AreSmall, positive_part, left, lack}
+use Rattle.augmentation.specs.Push.{IsExcess, IsPath, IsPush, Pushes, nodes_on, before, hop_to, path_to, root_of, root_to, HasRoom, IsTight, IsTightArc, IsTransfer, IsAugmented, ArePushes, push_along, at_node, AreSmall, positive_part, left, lack}
 use Rattle.residual_graph.specs.declared.residual.ResidualArc.{ResidualArc}
-use Rattle.augmentation.specs.Settle.{IsNear}
-use Rattle.shortest_paths.proofs.SearchLemmas.{settled_is_reached}
+use Rattle.augmentation.specs.Settle.{HasFound, HaveFallen}
+use Rattle.residual_graph.proofs.RowLemmas.{cost_of-bounds}
+use Rattle.shortest_paths.proofs.SearchLemmas.{distance_high, in_range, open_is_reached, settled_is_reached}
 use Rattle.shortest_paths.proofs.RunLemmas.{lowered_none_below}
-use Rattle.augmentation.proofs.TurnLemmas.{number_at-neg, left-neg}
-use Rattle.augmentation.proofs.BlockingLemmas.{IsAlong}
-use Rattle.augmentation.proofs.PushLemmas.{AreApart, arc_to, way_to, before, root_reached, IsShift-along, IsFlow-along, NoneBelow-along, net-along, at_same, at_other}
-
--- the paths behind the nodes that the search settled
-pub paths_of_search : {arcs : List ArcRow} {x p : List ℤ} {s : List NodeLabel} → IsSearch arcs x p s → HavePaths arcs s
-paths_of_search {arcs} {x} {p} {s} known v settled deep =
-    let traced = known.traced v (settled_is_reached s v settled) deep in
-    record {
-      is_arc = traced.residual.is_arc;
-      ends = traced.ends;
-      before = traced.settled;
-      deeper = traced.deeper;
-    }
+use Rattle.augmentation.proofs.TurnedRows.{number_at-neg, left-neg}
+use Rattle.augmentation.proofs.PathLemmas.{IsOnward, hops_tight, path_onward, paths_of_search, root_depth}
+use Rattle.augmentation.proofs.PushLemmas.{AreApart, IsShift-along, IsFlow-along, NoneBelow-along, net-along, at_same, at_other}
 
 pub positive_part-mono : (a b : ℤ) → (pos 0 <ℤ a → a ≤ℤ b) → positive_part a ≤ positive_part b
 positive_part-mono (pos zero) b h = omega arith
@@ -79,77 +69,11 @@ lack-small e small few =
     part_small (pos (suc n)) h = omega arith
     part_small (negsuc n) h = omega (arith, ints)
 
--- the potentials lowered after a search that came as far as `reach`
-module _ (arcs : List ArcRow) (x p q : List ℤ) (s : List NodeLabel) (reach fallen : ℤ)
-    (certified : IsReducedCostOptimal arcs x p) (known : IsSearch arcs x p s) (all : AllRelaxed arcs x p s) (front : IsFront s reach)
-    (low : IsLowered p q s reach) (near : IsNear p fallen)
-  where
-    falls_at : (v : ℕ) (m : State) → state_at s v ≡ m → number_at q v ≡ lowered_by m (number_at p v) (distance_at s v) reach
-    falls_at v m h = low v ∙ ap (λ (n : State). lowered_by n (number_at p v) (distance_at s v) reach) h
-
-    pub paths_tight : ArePathsTight arcs q s
-    paths_tight v settled deep =
-        let traced = known.traced v (settled_is_reached s v settled) deep in
-        let k = arc_to s v in
-        let way = way_to s v in
-        let p_end : number_at p (end_at arcs k way) ≡ number_at p v = ap (number_at p) traced.ends in
-        let q_end : number_at q (end_at arcs k way) ≡ number_at q v = ap (number_at q) traced.ends in
-        omega (arith, ints, falls_at v Settled settled, falls_at (before arcs s v) Settled traced.settled, traced.tight, p_end, q_end)
-
-    not_raised : (v : ℕ) (m : State) → state_at s v ≡ m → (number_at q v ≤ℤ number_at p v) × ((number_at p v -ℤ reach) ≤ℤ number_at q v)
-    not_raised v Unreached m = (omega (arith, ints, falls_at v Unreached m), omega (arith, ints, falls_at v Unreached m, front.not_below_0))
-    not_raised v Open m = (omega (arith, ints, falls_at v Open m), omega (arith, ints, falls_at v Open m, front.not_below_0))
-    not_raised v Settled m =
-        let within = front.settled.within v m in
-        (omega (arith, ints, falls_at v Settled m, within.1), omega (arith, ints, falls_at v Settled m, within.0))
-
-    settled_distance : (v : ℕ) → state_at s v ≡ Settled → distance_at s v ≤ℤ (pos (label_floor + label_floor) +ℤ fallen)
-    settled_distance v m =
-        omega (arith, ints, known.label_high v (settled_is_reached s v m), known.settled_depth v m, known.sized, certified.flow.few_nodes, near.at_least v)
-
-    pub reach_high : reach ≤ℤ (pos (label_floor + label_floor) +ℤ fallen)
-    reach_high = front.no_further _ (omega (arith, ints, near.not_below_0)) settled_distance
-
-    pub fallen_further : (v : ℕ) → (neg_ℤ (pos label_floor) -ℤ (fallen +ℤ reach)) ≤ℤ number_at q v
-    fallen_further v = omega (arith, ints, (not_raised v (state_at s v) refl).1, near.at_least v)
-
-    pub none_below_after : NoneBelow arcs x q
-    none_below_after = lowered_none_below arcs x p q s reach certified known all front.settled front.beyond low
-
-    pub potentials_after : ArePotentials (length q) potential_floor q
-    potentials_after = record {
-      sized = refl;
-      at_most_0 = λ v. omega (arith, ints, (not_raised v (state_at s v) refl).0, certified.potentials.at_most_0 v);
-      at_least = λ v. omega (arith, ints, fallen_further v, reach_high, near.not_above);
-    }
-
--- what was found can be pushed to, at first
-module _ (arcs : List ArcRow) (x p e : List ℤ) (s : List NodeLabel) (t : ℕ)
-    (known : IsSearch arcs x p s) (from : IsFromExcess e s) (found : IsFoundDeficit e s t)
-  where
-    path_room : (d v : ℕ) → state_at s v ≡ Settled → depth_at s v ≡ d → HasRoom arcs x (pos 1) (path_of arcs s d v)
-    path_room zero v settled deep = tt
-    path_room (suc d) v settled deep =
-        let traced = known.traced v (settled_is_reached s v settled) (omega arith) in
-        (omega (arith, ints, traced.residual.has_room), path_room d (before arcs s v) traced.settled (omega (arith, traced.deeper)))
-
-    pub can_push : CanPush arcs x e s t
-    can_push =
-        let root = root_reached arcs s (paths_of_search known) (depth_at s t) t found.settled refl in
-        record {
-          found = found;
-          room = path_room (depth_at s t) t found.settled refl;
-          in_excess = (from.roots (root_to arcs s t) (settled_is_reached s _ root.0) root.1).0;
-        }
-
 -- a flow within the bounds, and what lies in excess
 pub record IsMoving (nodes : ℕ) (arcs : List ArcRow) (x e : List ℤ) : Type 0 where
   pub flow : IsPseudoflow nodes arcs x
   pub excess_sized : length e ≡ nodes
   pub small : AreSmall e
-
-pub moving : {nodes : ℕ} {arcs : List ArcRow} {q x e : List ℤ} → IsUnderWay nodes arcs q x e → IsMoving nodes arcs x e
-moving state = record { flow = state.flow; excess_sized = state.excess_sized; small = state.small }
 
 -- a path on which m more fits
 pub record IsRoom (arcs : List ArcRow) (x : List ℤ) (m : ℤ) (hops : List ResidualArc) (root t : ℕ) : Type 0 where
@@ -157,9 +81,6 @@ pub record IsRoom (arcs : List ArcRow) (x : List ℤ) (m : ℤ) (hops : List Res
   pub simple : AllPairs ◌≢◌ (nodes_on arcs hops root)
   pub apart : AreApart arcs hops
   pub room : HasRoom arcs x m hops
-
-pub room_along : {arcs : List ArcRow} {q x : List ℤ} {m : ℤ} {hops : List ResidualArc} {root t : ℕ} → IsAlong arcs q x m hops root t → IsRoom arcs x m hops root t
-room_along is = record { leads = is.leads; simple = is.simple; apart = is.apart; room = is.room }
 
 -- flow moved along a path from a node in excess to a node in deficit
 module _ (nodes : ℕ) (arcs : List ArcRow) (x e : List ℤ) (hops : List ResidualArc) (root t : ℕ) (m : ℤ) (f : List ℤ)
@@ -193,6 +114,19 @@ module _ (nodes : ℕ) (arcs : List ArcRow) (x e : List ℤ) (hops : List Residu
       low = by_three (λ v. neg_ℤ (pos excess_limit) ≤ℤ number_at f v) (omega (arith, ints, f_root, in_excess)) (omega (arith, ints, f_target, state.small.low t, at_least_1)) (λ v same. omega (arith, ints, same, state.small.low v));
       high = by_three (λ v. number_at f v ≤ℤ pos excess_limit) (omega (arith, ints, f_root, state.small.high root, at_least_1)) (omega (arith, ints, f_target, in_deficit)) (λ v same. omega (arith, ints, same, state.small.high v));
     }
+
+    -- a node in excess was in excess, and one in deficit was in deficit
+    pub excess_before : (v : ℕ) → pos 0 <ℤ number_at f v → pos 0 <ℤ number_at e v
+    excess_before = by_three (λ v. pos 0 <ℤ number_at f v → pos 0 <ℤ number_at e v)
+        (λ h. omega (arith, ints, in_excess, at_least_1))
+        (λ h. absurd (omega (arith, ints, h, f_target, in_deficit)))
+        (λ v same h. omega (arith, ints, same, h))
+
+    pub deficit_before : (v : ℕ) → number_at f v <ℤ pos 0 → number_at e v <ℤ pos 0
+    deficit_before = by_three (λ v. number_at f v <ℤ pos 0 → number_at e v <ℤ pos 0)
+        (λ h. absurd (omega (arith, ints, h, f_root, in_excess)))
+        (λ h. omega (arith, ints, in_deficit, at_least_1))
+        (λ v same h. omega (arith, ints, same, h))
 
     left_falls : left f < left e
     left_falls =
@@ -257,18 +191,6 @@ module _ (nodes : ℕ) (arcs : List ArcRow) (x e : List ℤ) (hops : List Residu
           (λ v same h. omega (arith, ints, h, same));
     }
 
--- the same under potentials, along hops that cost nothing
-pub state_after : (nodes : ℕ) (arcs : List ArcRow) (q x e : List ℤ) (hops : List ResidualArc) (root t : ℕ) (m : ℤ) (f : List ℤ) → IsUnderWay nodes arcs q x e → IsAlong arcs q x m hops root t
-    → pos 1 ≤ℤ m → root < nodes → m ≤ℤ number_at e root → number_at e t ≤ℤ neg_ℤ m → IsTransfer root t m e f → IsUnderWay nodes arcs q (push_along hops m x) f
-state_after nodes arcs q x e hops root t m f state is at_least_1 root_in in_excess in_deficit transfer =
-    let after = moving_after nodes arcs x e hops root t m f (moving state) (room_along is) at_least_1 root_in in_excess in_deficit transfer in
-    record {
-      flow = after.flow;
-      none_below = NoneBelow-along arcs q hops m x state.none_below is.tight;
-      excess_sized = after.excess_sized;
-      small = after.small;
-    }
-
 -- ---- pushes one after the other
 
 pub ArePushes-none : (arcs : List ArcRow) (x e : List ℤ) → ArePushes arcs 0 x e x e
@@ -304,3 +226,142 @@ ArePushes-more {arcs} {m} {n} {x} {e} {y} {f} {z} {g} first rest =
           (kept.0 ∙ still.0, kept.1 ∙ still.1));
       balanced = λ v h. rest.balanced v (first.balanced v h);
     }
+
+-- ---- a search found that t is the nearest node in deficit
+
+module _ (arcs : List ArcRow) (x p e : List ℤ) (s : List NodeLabel) (t : ℕ) (certified : IsReducedCostOptimal arcs x p) (is : HasFound arcs x p e s t) where
+  abbrev known : IsSearch arcs x p s
+  known = is.searched.known
+
+  abbrev reach : ℤ
+  reach = distance_at s t
+
+  pub target_reached : IsReached s t
+  target_reached = open_is_reached s t is.found.nearest.is_open
+
+  pub is_reach : IsReach s (distance_at s t)
+  is_reach = record {
+    not_far = distance_high arcs x p s t certified known target_reached;
+    within = λ v m. (known.distance_at_least_0 v (settled_is_reached s v m), known.in_order v t m is.found.nearest.is_open);
+  }
+
+  beyond : (v : ℕ) → state_at s v ≡ Open → reach ≤ℤ distance_at s v
+  beyond v m = is.found.nearest.least v (in_range s v (open_is_reached s v m)) m
+
+  onward : IsOnward arcs s t (root_to arcs s t) (path_to arcs s t)
+  onward = path_onward arcs s x (paths_of_search known) t target_reached
+
+  pub root_from : (pos 0 <ℤ number_at e (root_to arcs s t)) × (distance_at s (root_to arcs s t) ≡ pos 0)
+  root_from = is.searched.from_excess.roots (root_to arcs s t) onward.reached (root_depth arcs s x (paths_of_search known) (depth_at s t) t target_reached refl)
+
+  -- no label exceeds that of its root by more than its hops can cost
+  label_path : (d v : ℕ) → IsReached s v → depth_at s v ≡ d → (distance_at s v +ℤ number_at p v) ≤ℤ ((distance_at s (root_of arcs s d v) +ℤ number_at p (root_of arcs s d v)) +ℤ pos (cost_limit * d))
+  label_path zero v reached deep = omega (arith, ints)
+  label_path (suc d) v reached deep =
+      let traced = known.traced v reached (omega (arith, deep)) in
+      let h = hop_to s v in
+      let rest = label_path d (before arcs s v) (settled_is_reached s _ traced.settled) (omega (arith, deep, traced.deeper)) in
+      let cost = cost_of-bounds (length p) (row_at arcs h.arc) h.way (certified.flow.rows h.arc traced.residual.is_arc) in
+      let p_end : number_at p (end_at arcs h.arc h.way) ≡ number_at p v = ap (number_at p) traced.ends in
+      omega (arith, ints, rest, traced.tight, p_end, cost.1)
+
+  -- the potentials lowered
+  module _ (q : List ℤ) (low : IsLowered p q s (distance_at s t)) where
+    falls_at : (v : ℕ) (m : State) → state_at s v ≡ m → number_at q v ≡ lowered_by m (number_at p v) (distance_at s v) reach
+    falls_at v m h = low v ∙ ap (λ (n : State). lowered_by n (number_at p v) (distance_at s v) reach) h
+
+    -- the node has the potential at which the path to it costs nothing
+    abbrev IsLevel : ℕ → Type 0
+    IsLevel v = IsReached s v × (number_at q v ≡ (number_at p v +ℤ distance_at s v) -ℤ reach)
+
+    tight_step : (v : ℕ) → IsLevel v → 0 < depth_at s v → IsTightArc arcs q (hop_to s v).arc (hop_to s v).way × IsLevel (before arcs s v) × (depth_at s v ≡ depth_at s (before arcs s v) + 1)
+    tight_step v level deep =
+        let traced = known.traced v level.0 deep in
+        let h = hop_to s v in
+        let start : number_at q (before arcs s v) ≡ (number_at p (before arcs s v) +ℤ distance_at s (before arcs s v)) -ℤ reach = omega (arith, ints, falls_at (before arcs s v) Settled traced.settled) in
+        let p_end : number_at p (end_at arcs h.arc h.way) ≡ number_at p v = ap (number_at p) traced.ends in
+        let q_end : number_at q (end_at arcs h.arc h.way) ≡ number_at q v = ap (number_at q) traced.ends in
+        (omega (arith, ints, level.1, start, traced.tight, p_end, q_end), (settled_is_reached s _ traced.settled, start), traced.deeper)
+
+    tight_to_target : IsTight arcs q (path_to arcs s t)
+    tight_to_target = hops_tight arcs s q IsLevel tight_step (depth_at s t) t [] (target_reached, omega (arith, ints, falls_at t Open is.found.nearest.is_open)) refl tt
+
+    not_raised : (v : ℕ) (m : State) → state_at s v ≡ m → (number_at q v ≤ℤ number_at p v) × ((number_at p v -ℤ reach) ≤ℤ number_at q v)
+    not_raised v Unreached m = (omega (arith, ints, falls_at v Unreached m), omega (arith, ints, falls_at v Unreached m, known.distance_at_least_0 t target_reached))
+    not_raised v Open m = (omega (arith, ints, falls_at v Open m), omega (arith, ints, falls_at v Open m, known.distance_at_least_0 t target_reached))
+    not_raised v Settled m =
+        let within = is_reach.within v m in
+        (omega (arith, ints, falls_at v Settled m, within.1), omega (arith, ints, falls_at v Settled m, within.0))
+
+    deficit_kept : (v : ℕ) (m : State) → state_at s v ≡ m → number_at e v <ℤ pos 0 → number_at q v ≡ number_at p v
+    deficit_kept v Unreached m h = falls_at v Unreached m
+    deficit_kept v Open m h = falls_at v Open m
+    deficit_kept v Settled m h = absurd (omega (arith, ints, h, is.searched.from_excess.no_deficit v m))
+
+    excess_falls : (v : ℕ) (m : State) → state_at s v ≡ m → pos 0 <ℤ number_at e v → number_at q v ≡ number_at p v -ℤ reach
+    excess_falls v Unreached m h = absurd ((is.searched.from_excess.sources v h).0 m)
+    excess_falls v Open m h = omega (arith, ints, falls_at v Open m, (is.searched.from_excess.sources v h).1, beyond v m, known.distance_at_least_0 t target_reached)
+    excess_falls v Settled m h = omega (arith, ints, falls_at v Settled m, (is.searched.from_excess.sources v h).1)
+
+    -- and pushed along the path
+    module _ (y f : List ℤ) (small : AreSmall e) (sized_e : length e ≡ length p) (sized_q : length q ≡ length p) (step : IsAugmented arcs s t x e y f) (before : HaveFallen p e) where
+      abbrev moving : IsMoving (length p) arcs x e
+      moving = record { flow = certified.flow; excess_sized = sized_e; small = small }
+
+      abbrev room : IsRoom arcs x step.amount (path_to arcs s t) (root_to arcs s t) t
+      room = record { leads = onward.leads; simple = onward.simple; apart = onward.apart; room = step.room }
+
+      root_in : root_to arcs s t < length p
+      root_in = omega (arith, in_range s (root_to arcs s t) onward.reached, known.sized)
+
+      pub one_pushed : ArePushes arcs 1 x e y f
+      one_pushed = subst (λ (z : List ℤ). ArePushes arcs 1 x e z f) (sym step.flow) (one_push (length p) arcs x e (path_to arcs s t) (root_to arcs s t) t step.amount f moving room step.at_least_1 root_in step.in_excess step.in_deficit step.transfer)
+
+      pub moved_on : IsMoving (length p) arcs y f
+      moved_on = subst (λ (z : List ℤ). IsMoving (length p) arcs z f) (sym step.flow) (moving_after (length p) arcs x e (path_to arcs s t) (root_to arcs s t) t step.amount f moving room step.at_least_1 root_in step.in_excess step.in_deficit step.transfer)
+
+      -- the path from a node that fell by all to one that did not fall costs nothing now
+      fallen_enough : (before.fallen +ℤ reach) ≤ℤ pos (3 * label_floor)
+      fallen_enough =
+          let path = label_path (depth_at s t) t target_reached refl in
+          omega (
+            arith,
+            ints,
+            path,
+            root_from.1,
+            before.in_excess (root_to arcs s t) root_from.0,
+            before.in_deficit t is.found.deficit,
+            before.began.at_most_0 (root_to arcs s t),
+            before.began.at_least t,
+            known.reached_depth t target_reached,
+            known.sized,
+            certified.flow.few_nodes,
+          )
+
+      pub fallen_after : HaveFallen q f
+      fallen_after = record {
+        from = before.from;
+        fallen = before.fallen +ℤ reach;
+        began = subst (λ (n : ℕ). ArePotentials n label_floor before.from) (sym sized_q) before.began;
+        not_below_0 = omega (arith, ints, before.not_below_0, known.distance_at_least_0 t target_reached);
+        not_above = fallen_enough;
+        in_excess = λ v h.
+            (let was = excess_before (length p) arcs x e (path_to arcs s t) (root_to arcs s t) t step.amount f moving room step.at_least_1 root_in step.in_excess step.in_deficit step.transfer v h in
+            omega (arith, ints, excess_falls v (state_at s v) refl was, before.in_excess v was));
+        in_deficit = λ v h.
+            (let was = deficit_before (length p) arcs x e (path_to arcs s t) (root_to arcs s t) t step.amount f moving room step.at_least_1 root_in step.in_excess step.in_deficit step.transfer v h in
+            omega (arith, ints, deficit_kept v (state_at s v) refl was, before.in_deficit v was));
+        at_least = λ v. omega (arith, ints, (not_raised v (state_at s v) refl).1, before.at_least v);
+      }
+
+      pub certified_after : IsReducedCostOptimal arcs y q
+      certified_after = record {
+        flow = subst (λ (n : ℕ). IsPseudoflow n arcs y) (sym sized_q) moved_on.flow;
+        potentials = record {
+          sized = refl;
+          at_most_0 = λ v. omega (arith, ints, (not_raised v (state_at s v) refl).0, certified.potentials.at_most_0 v);
+          at_least = λ v. omega (arith, ints, (not_raised v (state_at s v) refl).1, before.at_least v, fallen_enough, before.began.at_least v);
+        };
+        none_below = subst (λ (z : List ℤ). NoneBelow arcs z q) (sym step.flow)
+            (NoneBelow-along arcs q (path_to arcs s t) step.amount x (lowered_none_below arcs x p q s (distance_at s t) certified known is.searched.relaxed is_reach beyond low) tight_to_target);
+      }

@@ -6,10 +6,7 @@ pub mod Cut
 pub mod Excess
 pub mod Touched
 pub mod Tracked
-pub mod Blocking
 pub mod Scratch
-pub mod Turn
-pub mod Rounds
 pub mod Difference
 pub mod Trail
 pub mod Decomposition

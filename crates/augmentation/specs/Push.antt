@@ -9,9 +9,8 @@ use Rattle.residual_graph.specs.declared.residual.ResidualArc.{ResidualArc}
 use Rattle.residual_graph.specs.declared.residual.Way.{Way}
 use Rattle.residual_graph.specs.declared.residual.Way.TheVariants.{Forward, Backward}
 use Rattle.shortest_paths.specs.declared.node_label.NodeLabel.{NodeLabel}
-use Rattle.shortest_paths.specs.declared.node_label.State.TheVariants.{Settled}
-use Rattle.residual_graph.specs.Residual.{IsPseudoflow, NoneBelow, number_at, row_at, start_at, end_at, cost_at, room_of, IsResidual}
-use Rattle.shortest_paths.specs.Search.{node_label_at, state_at, depth_at, IsFoundDeficit}
+use Rattle.residual_graph.specs.Residual.{number_at, row_at, start_at, end_at, cost_at, room_of, IsResidual}
+use Rattle.shortest_paths.specs.Search.{node_label_at, depth_at, IsReached}
 
 -- e is what each node's supply exceeds the flow out of it by
 abbrev pub IsExcess : List ArcRow → (ℕ → ℤ) → List ℤ → List ℤ → Type 0
@@ -69,30 +68,39 @@ left excess = sum_by positive_part excess
 abbrev pub lack : List ℤ → ℕ
 lack e = sum_by (λ z. positive_part (neg_ℤ z)) e
 
--- the path by which the search came to v, which has d hops
-abbrev pub path_of : List ArcRow → List NodeLabel → ℕ → ℕ → List ResidualArc
-path_of arcs s zero v = []
-path_of arcs s (suc d) v =
-    record { arc = (node_label_at s v).arc; way = (node_label_at s v).way } ∷ path_of arcs s d (start_at arcs (node_label_at s v).arc (node_label_at s v).way)
+-- the arc by which the search came to v, and the node before v
+abbrev pub hop_to : List NodeLabel → ℕ → ResidualArc
+hop_to s v = record { arc = (node_label_at s v).arc; way = (node_label_at s v).way }
 
--- where that path begins
+abbrev pub before : List ArcRow → List NodeLabel → ℕ → ℕ
+before arcs s v = start_at arcs (node_label_at s v).arc (node_label_at s v).way
+
+-- d hops by which the search came to v, and then these
+abbrev pub hops_before : List ArcRow → List NodeLabel → ℕ → ℕ → List ResidualArc → List ResidualArc
+hops_before arcs s zero v hops = hops
+hops_before arcs s (suc d) v hops = hops_before arcs s d (before arcs s v) (hop_to s v ∷ hops)
+
+-- the path by which the search came to v, and where it begins
+abbrev pub path_to : List ArcRow → List NodeLabel → ℕ → List ResidualArc
+path_to arcs s v = hops_before arcs s (depth_at s v) v []
+
 abbrev pub root_of : List ArcRow → List NodeLabel → ℕ → ℕ → ℕ
 root_of arcs s zero v = v
-root_of arcs s (suc d) v = root_of arcs s d (start_at arcs (node_label_at s v).arc (node_label_at s v).way)
+root_of arcs s (suc d) v = root_of arcs s d (before arcs s v)
 
-abbrev pub path_to : List ArcRow → List NodeLabel → ℕ → List ResidualArc
-path_to arcs s v = path_of arcs s (depth_at s v) v
+abbrev pub root_to : List ArcRow → List NodeLabel → ℕ → ℕ
+root_to arcs s v = root_of arcs s (depth_at s v) v
 
--- the search came to v along an arc from a settled node that is one hop nearer to the beginning
-pub record IsCameBy (arcs : List ArcRow) (s : List NodeLabel) (v k : ℕ) (way : Way) : Type 0 where
-  pub is_arc : k < length arcs
+-- the search came to v along a residual arc from a node that is one hop nearer to the beginning
+pub record IsCameBy (arcs : List ArcRow) (x : List ℤ) (s : List NodeLabel) (v k : ℕ) (way : Way) : Type 0 where
+  pub residual : IsResidual arcs x k way
   pub ends : end_at arcs k way ≡ v
-  pub before : state_at s (start_at arcs k way) ≡ Settled
+  pub reached : IsReached s (start_at arcs k way)
   pub deeper : depth_at s v ≡ depth_at s (start_at arcs k way) + 1
 
--- behind each settled node lies a path of arcs
-abbrev pub HavePaths : List ArcRow → List NodeLabel → Type 0
-HavePaths arcs s = (v : ℕ) → state_at s v ≡ Settled → 0 < depth_at s v → IsCameBy arcs s v (node_label_at s v).arc (node_label_at s v).way
+-- behind each node that the search reached lies a path of residual arcs
+abbrev pub HavePaths : List ArcRow → List ℤ → List NodeLabel → Type 0
+HavePaths arcs x s = (v : ℕ) → IsReached s v → 0 < depth_at s v → IsCameBy arcs x s v (node_label_at s v).arc (node_label_at s v).way
 
 -- m more fits on each hop
 abbrev pub HasRoom : List ArcRow → List ℤ → ℤ → List ResidualArc → Type 0
@@ -107,21 +115,6 @@ push_along (h ∷ hops) m x = push_along hops m (slice_set x h.arc (moved h.way 
 -- the residual arc along arc k costs nothing under the potentials q
 abbrev pub IsTightArc : List ArcRow → List ℤ → ℕ → Way → Type 0
 IsTightArc arcs q k way = number_at q (end_at arcs k way) ≡ cost_at arcs k way +ℤ number_at q (start_at arcs k way)
-
--- nor does any arc by which the search came to a settled node
-abbrev pub ArePathsTight : List ArcRow → List ℤ → List NodeLabel → Type 0
-ArePathsTight arcs q s = (v : ℕ) → state_at s v ≡ Settled → 0 < depth_at s v → IsTightArc arcs q (node_label_at s v).arc (node_label_at s v).way
-
--- behind each settled node lies a path of arcs that cost nothing under the potentials q
-pub record ArePaths (arcs : List ArcRow) (q : List ℤ) (s : List NodeLabel) : Type 0 where
-  pub paths : HavePaths arcs s
-  pub tight : ArePathsTight arcs q s
-
--- a path to node v can take the residual arc along arc k as its last hop
-pub record IsHopTo (arcs : List ArcRow) (q x : List ℤ) (s : List NodeLabel) (v k : ℕ) (way : Way) : Type 0 where
-  pub residual : IsResidual arcs x k way
-  pub came : IsCameBy arcs s v k way
-  pub tight : IsTightArc arcs q k way
 
 -- no hop of the path costs anything under the potentials q
 abbrev pub IsTight : List ArcRow → List ℤ → List ResidualArc → Type 0
@@ -143,16 +136,6 @@ pub record IsTransfer (u w : ℕ) (m : ℤ) (e f : List ℤ) : Type 0 where
   pub same_length : length f ≡ length e
   pub by_node : (v : ℕ) → number_at f v ≡ (number_at e v -ℤ at_node u m v) +ℤ at_node w m v
 
-abbrev pub root_to : List ArcRow → List NodeLabel → ℕ → ℕ
-root_to arcs s v = root_of arcs s (depth_at s v) v
-
--- a flow within the bounds, under which no residual arc has a reduced cost below 0 under the potentials q, and what lies in excess
-pub record IsUnderWay (nodes : ℕ) (arcs : List ArcRow) (q x e : List ℤ) : Type 0 where
-  pub flow : IsPseudoflow nodes arcs x
-  pub none_below : NoneBelow arcs x q
-  pub excess_sized : length e ≡ nodes
-  pub small : AreSmall e
-
 -- n pushes lead from a flow x with excesses e to a flow y with excesses f
 pub record ArePushes (arcs : List ArcRow) (n : ℕ) (x e y f : List ℤ) : Type 0 where
   pub excess : (supply : ℕ → ℤ) → IsExcess arcs supply x e → IsExcess arcs supply y f
@@ -162,11 +145,15 @@ pub record ArePushes (arcs : List ArcRow) (n : ℕ) (x e y f : List ℤ) : Type 
   pub none : n ≡ 0 → (x ≡ y) × (e ≡ f)
   pub balanced : (v : ℕ) → number_at e v ≡ pos 0 → number_at f v ≡ pos 0
 
--- node t lacks something that can be pushed along its path
-pub record CanPush (arcs : List ArcRow) (x e : List ℤ) (s : List NodeLabel) (t : ℕ) : Type 0 where
-  pub found : IsFoundDeficit e s t
-  pub room : HasRoom arcs x (pos 1) (path_to arcs s t)
-  pub in_excess : pos 0 <ℤ number_at e (root_to arcs s t)
+-- y and f are x and e after so much was pushed along the path to t as lies in excess where it begins, and lacks at t
+pub record IsAugmented (arcs : List ArcRow) (s : List NodeLabel) (t : ℕ) (x e y f : List ℤ) : Type 0 where
+  pub amount : ℤ
+  pub at_least_1 : pos 1 ≤ℤ amount
+  pub in_excess : amount ≤ℤ number_at e (root_to arcs s t)
+  pub in_deficit : number_at e t ≤ℤ neg_ℤ amount
+  pub room : HasRoom arcs x amount (path_to arcs s t)
+  pub flow : y ≡ push_along (path_to arcs s t) amount x
+  pub transfer : IsTransfer (root_to arcs s t) t amount e f
 
 -- the sum of all capacities
 abbrev pub cap_total : List ArcRow → ℕ

@@ -1,21 +1,30 @@
--- What one search of a run finds, and how far potentials fall in it.
-use Rattle.augmentation.specs.declared.rounds.TheConstants.{FALL_LIMIT}
+-- What one search of a run finds, how far potentials fall in it, and the labels of all nodes.
 use Rattle.shortest_paths.specs.Limits.{label_floor}
-use Rattle.std.specs.Prelude.{ℕ, ℤ, pos, neg_ℤ, ◌-ℤ◌, ◌≤ℤ◌, List}
+use Rattle.std.specs.Prelude.{◌≡◌, ℕ, ℤ, pos, ◌*◌, ◌-ℤ◌, ◌<ℤ◌, ◌≤ℤ◌, List, length}
 use Rattle.dimacs_text.specs.declared.problem.ArcRow.{ArcRow}
 use Rattle.shortest_paths.specs.declared.node_label.NodeLabel.{NodeLabel}
-use Rattle.residual_graph.specs.Residual.{number_at}
-use Rattle.shortest_paths.specs.Search.{IsSearch, AllRelaxed, IsFromExcess, HasFound}
+use Rattle.residual_graph.specs.Residual.{ArePotentials, number_at}
+use Rattle.shortest_paths.specs.Search.{AllRelaxed, HasSearched, IsFromAll, IsNearestDeficit, IsSearch, NoneOpen}
 
--- no potential lies further below the floor of labels than `fallen`, which is within its limit
-pub record IsNear (p : List ℤ) (fallen : ℤ) : Type 0 where
+-- a search over the potentials p found that t is the nearest node in deficit
+pub record HasFound (arcs : List ArcRow) (x p e : List ℤ) (s : List NodeLabel) (t : ℕ) : Type 0 where
+  pub searched : HasSearched arcs x p e s
+  pub found : IsNearestDeficit e s t
+
+-- the potentials p have fallen from others as high as labels: by the same at each node in excess, by nothing at each node in deficit, and by no more elsewhere
+pub record HaveFallen (p e : List ℤ) : Type 0 where
+  pub from : List ℤ
+  pub fallen : ℤ
+  pub began : ArePotentials (length p) label_floor from
   pub not_below_0 : pos 0 ≤ℤ fallen
-  pub not_above : fallen ≤ℤ FALL_LIMIT
-  pub at_least : (v : ℕ) → (neg_ℤ (pos label_floor) -ℤ fallen) ≤ℤ number_at p v
+  pub not_above : fallen ≤ℤ pos (3 * label_floor)
+  pub in_excess : (v : ℕ) → pos 0 <ℤ number_at e v → number_at p v ≡ number_at from v -ℤ fallen
+  pub in_deficit : (v : ℕ) → number_at e v <ℤ pos 0 → number_at p v ≡ number_at from v
+  pub at_least : (v : ℕ) → (number_at from v -ℤ fallen) ≤ℤ number_at p v
 
--- a search from the nodes in excess has come as far as `reach`, and found a node in deficit
-pub record HasSearched (arcs : List ArcRow) (x p e : List ℤ) (s : List NodeLabel) (reach : ℤ) : Type 0 where
+-- a search over the potentials p has settled all nodes: their labels are found
+pub record AreLabelled (arcs : List ArcRow) (x p : List ℤ) (s : List NodeLabel) : Type 0 where
   pub search : IsSearch arcs x p s
   pub relaxed : AllRelaxed arcs x p s
-  pub from_excess : IsFromExcess e s
-  pub found : HasFound e s reach
+  pub from_all : IsFromAll p s
+  pub done : NoneOpen s (length s)

@@ -6,7 +6,7 @@ ghost use Rattle.residual_graph.specs.Residual.{ArePotentials, IsPseudoflow, IsR
 ghost use Rattle.augmentation.specs.Certificate.{AreWithin, IsNoneBelowAt, KeepsRow};
 
 use dimacs_text::ArcRow;
-use residual_graph::{Graph, Side, Way};
+use residual_graph::{Graph, Way};
 
 /// The least potential with which a run of pushes begins.
 const FLOOR: i64 = -50_000_000_000_000_000;
@@ -69,7 +69,7 @@ pub fn certifies(graph: &Graph, flow: &[i64], potentials: &[i64]) -> bool
         return false;
     }
     for k in 0..graph.rows().len() {
-        let row = graph.row(Side::Ahead, k);
+        let row = graph.row(k);
         if !keeps_row(&row, flow[k], potentials) {
             return false;
         }

@@ -6,10 +6,10 @@ ghost use Rattle.residual_graph.specs.Residual.{IsPseudoflow, number_at};
 ghost use Rattle.residual_graph.specs.Graph.{HasEntries};
 ghost use Rattle.augmentation.specs.Cut.{in_set, IsSide, IsListOf, IsGrown, AreFarIn};
 ghost use Rattle.residual_graph.specs.Side.{IsRoot, leading};
-ghost use Rattle.augmentation.specs.Touched.{AreNoted};
+ghost use Rattle.augmentation.specs.Tracked.{IsTracked, IsWritten};
 
 use crate::excess::Excess;
-use crate::touched::Touched;
+use crate::tracked::Tracked;
 use residual_graph::{Graph, Side, Walk};
 
 /// What leads on from the marked nodes of a side.
@@ -105,20 +105,19 @@ fn mark_from(on: OnSide<'_>, cut: &mut [bool], worklist: &mut [u32], len: usize,
     longer
 }
 
-/// Makes these marks those of a table, which notes the nodes whose mark changes.
-pub fn take_marks(cut: &mut [bool], touched: &mut Touched, marks: &[bool])
-    requires touched_in { length cut.old ≤ length touched.old }
-    requires same_length { length marks.now ≡ length cut.old }
-    ensures cut { cut.new ≡ marks.now }
-    ensures noted { AreNoted touched.old cut.old touched.new cut.new }
+/// Makes these marks those of a table.
+pub fn take_marks(cut: &mut Tracked<bool>, marks: &[bool])
+    requires tracked { IsTracked cut.old }
+    requires same_length { length marks.now ≡ length cut.old.entries.items }
+    ensures written { IsWritten cut.old cut.new }
+    ensures cut { cut.new.entries.items ≡ marks.now }
 {
-    if &*cut == marks {
+    if &*cut.entries == marks {
         return;
     }
-    for v in 0..cut.len() {
-        if cut[v] != marks[v] {
-            cut[v] = marks[v];
-            touched.note(v);
+    for v in 0..marks.len() {
+        if cut.entries[v] != marks[v] {
+            cut.set(v, marks[v]);
         }
     }
 }

@@ -1,6 +1,6 @@
 //! Potentials that are lowered after a search, and raised to the shortest labels at the end.
 
-ghost use Rattle.std.specs.Prelude.{◌≡◌, ℕ, length, ◌≤◌, ◌+ℤ◌, FitsSigned};
+ghost use Rattle.std.specs.Prelude.{◌≡◌, ℕ, length, ◌+ℤ◌, FitsSigned};
 ghost use Rattle.std.specs.Int.{w64};
 ghost use Rattle.residual_graph.specs.Graph.{HasEntries};
 ghost use Rattle.shortest_paths.specs.Limits.{label_floor};
@@ -8,32 +8,26 @@ ghost use Rattle.residual_graph.specs.Limits.{potential_floor};
 ghost use Rattle.residual_graph.specs.Residual.{AreGreatest, IsReducedCostOptimal, ArePotentials, number_at};
 ghost use Rattle.shortest_paths.specs.Search.{distance_at, AreLabels, IsReach, lowered, IsLowered};
 ghost use Rattle.augmentation.specs.Scratch.{IsScratchFor};
-ghost use Rattle.residual_graph.specs.Side.{seen};
-ghost use Rattle.augmentation.specs.Touched.{AreNoted};
-ghost use Rattle.shortest_paths.specs.SettledOrder.{IsSettledOrderOf};
 ghost use Rattle.augmentation.specs.Tracked.{IsTracked, IsWritten};
-ghost use Rattle.augmentation.specs.Rounds.{AreLabelled};
+ghost use Rattle.augmentation.specs.Settle.{AreLabelled};
 
 use crate::scratch::Scratch;
-use crate::touched::Touched;
 use crate::tracked::Tracked;
-use residual_graph::{Graph, Residual, Side};
-use shortest_paths::{NodeLabel, SettledOrder, search_labels};
+use residual_graph::{Graph, Residual};
+use shortest_paths::{NodeLabel, search_labels};
 
-/// Searches the labels of all nodes over the potentials in the scratch, as they are seen from a side.
-fn find_labels(graph: &Graph, side: Side, flow: &Tracked<i64>, scratch: &mut Scratch)
+/// Searches the labels of all nodes over the potentials in the scratch.
+fn find_labels(graph: &Graph, flow: &Tracked<i64>, scratch: &mut Scratch)
     requires graph { HasEntries (length scratch.old.potentials.items) graph.now }
-    requires certified { IsReducedCostOptimal (seen side graph.now.rows) flow.now.entries.items scratch.old.potentials.items }
+    requires certified { IsReducedCostOptimal graph.now.rows flow.now.entries.items scratch.old.potentials.items }
     requires scratch { IsScratchFor (length scratch.old.potentials.items) scratch.old }
-    ensures labels { AreLabelled (seen side graph.now.rows) flow.now.entries.items scratch.new.potentials.items scratch.new.labels.node_labels.items }
+    ensures labels { AreLabelled graph.now.rows flow.now.entries.items scratch.new.potentials.items scratch.new.labels.node_labels.items }
     ensures kept { scratch.new.potentials.items ≡ scratch.old.potentials.items }
     ensures scratch { IsScratchFor (length scratch.old.potentials.items) scratch.new }
-    ensures walks { scratch.new.walks ≡ scratch.old.walks }
 {
     search_labels(
         Residual {
             graph,
-            side,
             flow: &flow.entries,
             potentials: &scratch.potentials,
         },
@@ -54,39 +48,32 @@ fn take_labels(potentials: &mut [i64], node_labels: &[NodeLabel])
     }
 }
 
-/// Raises the potentials in the scratch to the shortest labels that are seen from a side.
-pub fn raise(graph: &Graph, side: Side, flow: &Tracked<i64>, scratch: &mut Scratch)
+/// Raises the potentials in the scratch to the shortest labels.
+pub(crate) fn raise(graph: &Graph, flow: &Tracked<i64>, scratch: &mut Scratch)
     requires graph { HasEntries (length scratch.old.potentials.items) graph.now }
-    requires certified { IsReducedCostOptimal (seen side graph.now.rows) flow.now.entries.items scratch.old.potentials.items }
+    requires certified { IsReducedCostOptimal graph.now.rows flow.now.entries.items scratch.old.potentials.items }
     requires scratch { IsScratchFor (length scratch.old.potentials.items) scratch.old }
-    ensures certified { IsReducedCostOptimal (seen side graph.now.rows) flow.now.entries.items scratch.new.potentials.items }
+    ensures certified { IsReducedCostOptimal graph.now.rows flow.now.entries.items scratch.new.potentials.items }
     ensures within { ArePotentials (length scratch.new.potentials.items) label_floor scratch.new.potentials.items }
     ensures scratch { IsScratchFor (length scratch.old.potentials.items) scratch.new }
-    ensures walks { scratch.new.walks ≡ scratch.old.walks }
 {
-    find_labels(graph, side, flow, scratch);
+    find_labels(graph, flow, scratch);
     take_labels(&mut scratch.potentials, &scratch.labels.node_labels);
 }
 
 /// Writes each label into a table where another number stands.
-fn write_labels(
-    table: &mut [i64],
-    touched: &mut Touched,
-    potentials: &[i64],
-    node_labels: &[NodeLabel],
-)
-    requires touched_in { length table.old ≤ length touched.old }
-    requires same_length { length potentials.now ≡ length table.old }
-    requires node_labels_in { length node_labels.now ≡ length table.old }
+fn write_labels(table: &mut Tracked<i64>, potentials: &[i64], node_labels: &[NodeLabel])
+    requires tracked { IsTracked table.old }
+    requires same_length { length potentials.now ≡ length table.old.entries.items }
+    requires node_labels_in { length node_labels.now ≡ length table.old.entries.items }
     requires fits { (v : ℕ) → FitsSigned w64 (number_at potentials.now v +ℤ distance_at node_labels.now v) }
-    ensures labels { AreLabels potentials.now table.new node_labels.now }
-    ensures noted { AreNoted touched.old table.old touched.new table.new }
+    ensures written { IsWritten table.old table.new }
+    ensures labels { AreLabels potentials.now table.new.entries.items node_labels.now }
 {
-    for v in 0..table.len() {
+    for v in 0..potentials.len() {
         let label = potentials[v] + node_labels[v].distance;
-        if label != table[v] {
-            table[v] = label;
-            touched.note(v);
+        if label != table.entries[v] {
+            table.set(v, label);
         }
     }
 }
@@ -109,30 +96,18 @@ pub fn write_potentials(
     ensures greatest { AreGreatest graph.now.rows flow.now.entries.items potentials.new.entries.items }
     ensures scratch { IsScratchFor (length scratch.old.potentials.items) scratch.new }
 {
-    find_labels(graph, Side::Ahead, flow, scratch);
-    write_labels(
-        &mut potentials.entries,
-        &mut potentials.touched,
-        &scratch.potentials,
-        &scratch.labels.node_labels,
-    );
+    find_labels(graph, flow, scratch);
+    write_labels(potentials, &scratch.potentials, &scratch.labels.node_labels);
 }
 
 /// Lowers the potential of each settled node by what it is nearer than `reach`.
-pub fn lower(
-    potentials: &mut [i64],
-    node_labels: &[NodeLabel],
-    settled_order: &SettledOrder,
-    reach: i64,
-)
+pub(crate) fn lower(potentials: &mut [i64], node_labels: &[NodeLabel], reach: i64)
     requires same_length { length node_labels.now ≡ length potentials.old }
-    requires settled_order { IsSettledOrderOf node_labels.now settled_order.now }
     requires reach { IsReach node_labels.now reach }
     requires potentials_in { ArePotentials (length potentials.old) potential_floor potentials.old }
     ensures { IsLowered potentials.old potentials.new node_labels.now reach }
 {
-    for j in 0..settled_order.len {
-        let v = settled_order.nodes[j] as usize;
+    for v in 0..potentials.len() {
         potentials[v] = node_labels[v].lowered(potentials[v], reach);
     }
 }

@@ -9,7 +9,7 @@ ghost use Rattle.augmentation.specs.Difference.{AreNearer, IsPlan, IsPlanned};
 
 use crate::difference::{cancel, want_on};
 use crate::trail::Trail;
-use residual_graph::{Graph, ResidualArc, Side, Walk};
+use residual_graph::{Graph, ResidualArc, Walk};
 
 /// The hop by which a walk went back from the node last, where it can be taken again.
 fn last_hop(
@@ -26,10 +26,10 @@ fn last_hop(
 {
     let hop = trail.last[node]?;
     let k = hop.arc as usize;
-    if k >= flow.len() || graph.end(Side::Ahead, k, hop.way) != node {
+    if k >= flow.len() || graph.end(k, hop.way) != node {
         return None;
     }
-    let from = graph.start(Side::Ahead, k, hop.way);
+    let from = graph.start(k, hop.way);
     if trail.dead[from] || want_on(flow, wanted, hop) <= 0 {
         return None;
     }
@@ -122,7 +122,7 @@ fn go_back(
     ensures limits { IfSome result (λ v. AreLimits flow.now wanted.new held trail.new) }
     ensures fuel { trail.new.fuel ≤ trail.old.fuel }
 {
-    let from = graph.start(Side::Ahead, hop.arc as usize, hop.way);
+    let from = graph.start(hop.arc as usize, hop.way);
     if trail.is_on(from) {
         let first = trail.places[from] as usize;
         if !trail.spend(trail.len) {

@@ -5,26 +5,25 @@ ghost use Rattle.residual_graph.specs.Limits.{row_limit};
 ghost use Rattle.augmentation.specs.Scratch.{IsScratchFor};
 
 use crate::attempt::Attempt;
-use crate::blocking::Walks;
-use shortest_paths::{Labels, NodeLabel, Queue, SettledOrder};
+use shortest_paths::{Labels, NodeLabel, Queue};
 use std::alloc::{AllocError, Global};
 
-/// Tables with one entry a node. Between two calls nothing is known of them but their size, and that no node is marked
-/// as reached in `node_labels`. What `labels` holds of the last pass is a hint.
+/// Tables with one entry a node. Between two calls nothing is known of them but their size. What `labels` holds of the
+/// last pass is a hint.
 #[derive(Drop)]
 pub struct Scratch {
     pub node_labels: Vec<NodeLabel>,
-    /// Potentials while flow is pushed, as the side sees them from which the last search went.
+    /// Potentials while flow is pushed.
     pub potentials: Vec<i64>,
     pub labels: Labels,
     pub queue: Queue,
-    pub settled_order: SettledOrder,
-    pub walks: Walks,
+    /// Marks of nodes, while a cut is looked for.
+    pub marks: Vec<bool>,
     pub attempt: Attempt,
 }
 
 impl Scratch {
-    /// Tables for so many entries, and for the rooms of so many residual arcs.
+    /// Tables for so many entries, and for the flows of half as many arcs as `arcs` says.
     ///
     /// # Errors
     /// Memory for a table was refused.
@@ -37,16 +36,14 @@ impl Scratch {
         let potentials = vec![in alloc; 0; entries as usize]?;
         let labels = Labels::new(alloc, entries)?;
         let queue = Queue::new(alloc, entries as usize)?;
-        let settled_order = SettledOrder::new(alloc, entries as usize)?;
-        let walks = Walks::new(alloc, entries as usize, arcs)?;
+        let marks = vec![in alloc; false; entries as usize]?;
         let attempt = Attempt::new(alloc, entries as usize, arcs / 2)?;
         Ok(Scratch {
             node_labels,
             potentials,
             labels,
             queue,
-            settled_order,
-            walks,
+            marks,
             attempt,
         })
     }

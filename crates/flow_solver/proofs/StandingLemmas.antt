@@ -231,11 +231,9 @@ pub scratch_told : (n : ℕ) (s : Scratch) (told : Bool) → IsScratchFor n s �
 scratch_told n s told of = record {
   node_labels_sized = of.node_labels_sized;
   potentials_sized = of.potentials_sized;
-  fresh = of.fresh;
   labels = record { node_labels_sized = of.labels.node_labels_sized; order_sized = of.labels.order_sized };
   queue = of.queue;
-  settled_order = of.settled_order;
-  walks = of.walks;
+  marks_sized = of.marks_sized;
   attempt = of.attempt;
 }
 

@@ -44,10 +44,10 @@ fn mark_cut(
         graph,
         &flow.entries,
         excess,
-        &mut scratch.walks.dead,
+        &mut scratch.marks,
         &mut scratch.queue.current,
     );
-    take_marks(&mut cut.entries, &mut cut.touched, &scratch.walks.dead);
+    take_marks(cut, &scratch.marks);
 }
 
 /// Pushes what can be pushed, and counts the pushes; the potentials become the greatest that certify the flow.

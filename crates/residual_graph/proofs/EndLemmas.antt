@@ -337,6 +337,9 @@ walk_shorter g w n next is was = omega (arith, stage_left g w.node n next is, wa
 abbrev pub AllHaveOrCome : Graph → Walk → ℕ → (ℕ → Way → Type 0) → Type 0
 AllHaveOrCome g w v P = (k : ℕ) (way : Way) → k < length g.rows → start_at g.rows k way ≡ v → P k way ⊎ IsToCome g w k way
 
+pub all_come : (g : Graph) (w : Walk) (v : ℕ) (P : ℕ → Way → Type 0) → AllToCome g w → w.node ≡ v → AllHaveOrCome g w v P
+all_come g w v P all node k way lt starts = inr (all k way lt (starts ∙ sym node))
+
 pub one_end_more : (g : Graph) (w w' : Walk) (v : ℕ) (end : End) (P Q : ℕ → Way → Type 0) → AllHaveOrCome g w v P → IsNextToCome g w w' end → ((k : ℕ) (way : Way) → P k way → Q k way)
     → Q (leaving end).arc (leaving end).way → AllHaveOrCome g w' v Q
 one_end_more g w w' v end P Q done rest kept here k way lt starts = elim (done k way lt starts) [

@@ -4,6 +4,3 @@ pub mod WalkLemmas
 pub mod StarLemmas
 pub mod EndLemmas
 pub mod GraphLemmas
-pub mod TurnedRows
-pub mod SideLemmas
-pub mod RoomLemmas

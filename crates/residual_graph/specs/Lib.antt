@@ -5,4 +5,3 @@ pub mod Star
 pub mod Graph
 pub mod Ends
 pub mod Side
-pub mod Rooms

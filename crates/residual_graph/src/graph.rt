@@ -7,15 +7,10 @@ ghost use Rattle.dimacs_text.specs.declared.problem.TheConstants.{SUPPLY_LIMIT};
 ghost use Rattle.network.specs.Instance.{ArcFits, kind_of, with_supply};
 ghost use Rattle.residual_graph.specs.Graph.{IsGraph};
 ghost use Rattle.residual_graph.specs.Residual.{IsPseudoflow, IsResidual, row_at, end_at, start_at};
-ghost use Rattle.residual_graph.specs.Rooms.{AreRooms};
-ghost use Rattle.residual_graph.specs.Side.{seen, turned_row};
-ghost use Rattle.residual_graph.specs.declared.side.Side.{Side};
 ghost use Rattle.residual_graph.specs.Star.{incidence_at};
 
 use crate::residual::{ResidualArc, Way};
-use crate::rooms::entry_of;
 use crate::rows::reduced_rows;
-use crate::side::Side;
 use crate::star::{Incidence, Star};
 use dimacs_text::ArcRow;
 use network::Network;
@@ -165,70 +160,37 @@ impl Graph {
         row
     }
 
-    /// The row of an arc, as it is seen from this side.
-    pub fn row(&self, side: Side, k: usize) -> ArcRow
-        requires { k < length (seen side self.now.rows) }
-        ensures { result ≡ row_at (seen side self.now.rows) k }
+    /// The row of an arc.
+    pub fn row(&self, k: usize) -> ArcRow
+        requires { k < length self.now.rows }
+        ensures { result ≡ row_at self.now.rows k }
     {
-        let row = self.rows[k];
-        match side {
-            Side::Ahead => row,
-            Side::Behind => turned(row),
-        }
+        self.rows[k]
     }
 
-    /// Whether this residual arc is there under the flow: it is from either side.
+    /// Whether this residual arc is there under the flow.
     pub fn has_room(&self, flow: &[i64], arc: ResidualArc) -> bool
         requires flow { (nodes : ℕ) × IsPseudoflow nodes self.now.rows flow.now }
         requires arc_in { arc.arc < length self.now.rows }
-        ensures here { IsTrue result ↔ IsResidual self.now.rows flow.now arc.arc arc.way }
-        ensures seen { (side : Side) → IsTrue result ↔ IsResidual (seen side self.now.rows) flow.now arc.arc arc.way }
+        ensures { IsTrue result ↔ IsResidual self.now.rows flow.now arc.arc arc.way }
     {
         let k = arc.arc as usize;
         arc.way.room(&self.rows[k], flow[k]) > 0
     }
 
-    /// The same, by a table of rooms where it has an entry of this residual arc.
-    #[inline(always)]
-    pub fn has_room_by(&self, rooms: &[bool], flow: &[i64], arc: ResidualArc) -> bool
-        requires flow { (nodes : ℕ) × IsPseudoflow nodes self.now.rows flow.now }
-        requires arc_in { arc.arc < length self.now.rows }
-        requires rooms { AreRooms self.now.rows flow.now rooms.now }
-        ensures here { IsTrue result ↔ IsResidual self.now.rows flow.now arc.arc arc.way }
-        ensures seen { (side : Side) → IsTrue result ↔ IsResidual (seen side self.now.rows) flow.now arc.arc arc.way }
+    /// The node from which the residual arc in this way along the arc in row `k` leads.
+    pub fn start(&self, k: usize, way: Way) -> usize
+        requires { k < length self.now.rows }
+        ensures { result ≡ start_at self.now.rows k way }
     {
-        let entry = entry_of(arc);
-        if entry < rooms.len() {
-            rooms[entry]
-        } else {
-            self.has_room(flow, arc)
-        }
+        way.start(&self.rows[k]) as usize
     }
 
-    /// The node from which the residual arc in this way along the arc in row `k` leads, as it is seen from this side.
-    pub fn start(&self, side: Side, k: usize, way: Way) -> usize
-        requires { k < length (seen side self.now.rows) }
-        ensures { result ≡ start_at (seen side self.now.rows) k way }
+    /// The node to which the residual arc in this way along the arc in row `k` leads.
+    pub fn end(&self, k: usize, way: Way) -> usize
+        requires { k < length self.now.rows }
+        ensures { result ≡ end_at self.now.rows k way }
     {
-        way.start(&self.row(side, k)) as usize
-    }
-
-    /// The node to which the residual arc in this way along the arc in row `k` leads, as it is seen from this side.
-    pub fn end(&self, side: Side, k: usize, way: Way) -> usize
-        requires { k < length (seen side self.now.rows) }
-        ensures { result ≡ end_at (seen side self.now.rows) k way }
-    {
-        way.end(&self.row(side, k)) as usize
-    }
-}
-
-/// An arc with its ends exchanged.
-fn turned(row: ArcRow) -> ArcRow
-    ensures { result ≡ turned_row row }
-{
-    ArcRow {
-        tail: row.head,
-        head: row.tail,
-        ..row
+        way.end(&self.rows[k]) as usize
     }
 }

@@ -1,5 +1,5 @@
-//! The residual graph of a flow: the residual arcs that a flow leaves along the arcs of a network, how they are seen from
-//! either side, and walks over the ends of arcs at a node.
+//! The residual graph of a flow: the residual arcs that a flow leaves along the arcs of a network, and walks over
+//! the ends of arcs at a node.
 //!
 //! A table of nodes has one entry a node, by the node's number, and entry 0 stands for no node; a table of arcs has one
 //! entry a row of the graph. Flow is in units of flow; costs and potentials are in cost a unit of flow.
@@ -8,7 +8,6 @@
 mod graph;
 mod residual;
 mod residual_network;
-mod rooms;
 mod rows;
 mod side;
 mod star;
@@ -17,6 +16,5 @@ mod walk;
 pub use graph::Graph;
 pub use residual::{ResidualArc, Way};
 pub use residual_network::Residual;
-pub use rooms::{is_saturated, note_room, note_rooms};
 pub use side::Side;
 pub use walk::{End, Place, Walk};

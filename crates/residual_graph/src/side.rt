@@ -1,9 +1,7 @@
-//! The two sides from which a flow is searched.
+//! The two sides of a flow.
 
-ghost use Rattle.std.specs.Int.{w64};
-ghost use Rattle.std.specs.Prelude.{◌≡◌, FitsSigned, IsTrue, ◌↔◌};
-ghost use Rattle.residual_graph.specs.Side.{IsRoot, leading, leading_cost, other_side};
-ghost use Rattle.residual_graph.specs.Residual.{turned};
+ghost use Rattle.std.specs.Prelude.{◌≡◌, IsTrue, ◌↔◌};
+ghost use Rattle.residual_graph.specs.Side.{IsRoot, leading};
 
 use crate::residual::ResidualArc;
 use crate::walk::End;
@@ -17,16 +15,6 @@ pub enum Side {
 }
 
 impl Side {
-    /// The other side.
-    pub fn other(self) -> Self
-        ensures { result ≡ other_side self }
-    {
-        match self {
-            Side::Ahead => Side::Behind,
-            Side::Behind => Side::Ahead,
-        }
-    }
-
     /// Whether a node with this excess is a root.
     pub fn is_root(self, excess: i64) -> bool
         ensures { IsTrue result ↔ IsRoot self excess }
@@ -37,7 +25,8 @@ impl Side {
         }
     }
 
-    /// The residual arc that leads on from an end of an arc.
+    /// The residual arc that leads on from an end of an arc: ahead the one that leaves the node there, behind the one that
+    /// enters it.
     pub fn leading(self, end: End) -> ResidualArc
         ensures { result ≡ leading self end }
     {
@@ -45,23 +34,5 @@ impl Side {
             Side::Ahead => end.leaving(),
             Side::Behind => end.entering(),
         }
-    }
-
-    /// What a unit of flow costs along the residual arc that leads on from an end.
-    pub fn leading_cost(self, end: End) -> i64
-        requires { FitsSigned w64 (leading_cost self end.cost) }
-        ensures { result ≡ leading_cost self end.cost }
-    {
-        match self {
-            Side::Ahead => end.cost,
-            Side::Behind => -end.cost,
-        }
-    }
-
-    /// The residual arc that leads on to the node from an end of an arc.
-    pub fn trailing(self, end: End) -> ResidualArc
-        ensures { result ≡ turned (leading self end) }
-    {
-        self.leading(end).turned()
     }
 }

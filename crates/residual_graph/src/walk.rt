@@ -10,7 +10,6 @@ ghost use Rattle.residual_graph.specs.declared.walk.Stage.TheVariants.{Added, In
 
 use crate::graph::Graph;
 use crate::residual::{ResidualArc, Way};
-use crate::side::Side;
 use crate::star::Incidence;
 
 /// The end of an arc at a node.
@@ -302,7 +301,7 @@ fn is_added_at(graph: &Graph, end: u32, node: u32, first_row: usize) -> bool
     if end / 2 < graph.covered() || end / 2 >= graph.network().arcs() {
         return false;
     }
-    graph.start(Side::Ahead, end as usize / 2 + first_row, Way::of_end(end)) == node as usize
+    graph.start(end as usize / 2 + first_row, Way::of_end(end)) == node as usize
 }
 
 /// The number of an end of the network among those of the rows.

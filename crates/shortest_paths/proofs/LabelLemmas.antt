@@ -14,10 +14,9 @@ use Rattle.shortest_paths.specs.declared.node_label.NodeLabel.{NodeLabel}
 use Rattle.shortest_paths.specs.Labels.{IsForest, IsHop, IsNoDearer, IsThrough, Reaches, Opens, IsShortest, NothingOpen, IsEntered}
 use Rattle.shortest_paths.specs.Queue.{IsPassedDistance}
 use Rattle.residual_graph.specs.Residual.{IsReducedCostOptimal, IsRow, IsWithinRow, room_of, number_at, row_at, start_at, end_at, IsResidual}
-use Rattle.shortest_paths.specs.Search.{HasBound, is_not_settled, is_unsettled, node_label_at, state_at, distance_at, depth_at, IsReached, unsettled, IsTraced, IsTracedBy, IsRelaxed, AllRelaxed, TakesBy, Takes, reduced_at, root_node_label}
+use Rattle.shortest_paths.specs.Search.{IsFresh, HasBound, is_not_settled, is_unsettled, node_label_at, state_at, distance_at, depth_at, IsReached, unsettled, IsTraced, IsTracedBy, IsRelaxed, AllRelaxed, TakesBy, Takes, reduced_at, root_node_label}
 use Rattle.shortest_paths.proofs.SearchLemmas.{HaveBounds-put, IsPut, IsTraced-stays, weight_of, weight_unsettled, settled_is_reached, open_is_reached}
-use Rattle.shortest_paths.specs.SettledOrder.{IsFresh}
-use Rattle.shortest_paths.proofs.SettledOrderLemmas.{HaveBounds-fresh}
+use Rattle.shortest_paths.proofs.RunLemmas.{HaveBounds-fresh}
 use Rattle.residual_graph.proofs.RowLemmas.{end_of-in}
 
 -- ---- a residual arc

@@ -3,4 +3,3 @@ pub mod RunLemmas
 pub mod HeapLemmas
 pub mod QueueLemmas
 pub mod LabelLemmas
-pub mod SettledOrderLemmas

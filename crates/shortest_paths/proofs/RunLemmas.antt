@@ -1,82 +1,105 @@
 -- What a whole search keeps from step to step, and what follows at its end.
 use Rattle.shortest_paths.specs.Limits.{label_floor}
 use Rattle.residual_graph.specs.Limits.{cost_limit}
-use Rattle.std.proofs.Common.{◌≡◌, ℕ, zero, suc, ◌⊎◌, ◌+◌, ◌*◌, ◌<◌, ℤ, pos, neg_ℤ, ◌-ℤ◌, ◌+ℤ◌, ◌≤ℤ◌, List, length, refl, sym, ap, subst, ◌∙◌, inl, inr, arith}
+use Rattle.std.proofs.Common.{◌≡◌, ℕ, zero, suc, ◌⊎◌, ◌+◌, ◌*◌, ◌<◌, ℤ, pos, neg_ℤ, ◌-ℤ◌, ◌+ℤ◌, ◌≤ℤ◌, List, length, refl, sym, ap, subst, ◌∙◌, inl, inr, arith, slice_set}
 use Rattle.std.specs.Prelude.{◌<ℤ◌}
-use Rattle.std.proofs.lemmas.Int.{ints}
+use Rattle.std.proofs.lemmas.Int.{ints, by_lt_z}
 use Rattle.std.proofs.lemmas.Bool.{cases_lt}
 use Rattle.std.proofs.lemmas.List.{get_or_past}
+use Rattle.std.proofs.lemmas.List.Sums.{count_by-le-length}
 use Rattle.residual_graph.proofs.RowLemmas.{cost_of-bounds, start_of-in}
-use Rattle.shortest_paths.proofs.SearchLemmas.{settled_is_reached, in_range, distance_high}
+use Rattle.shortest_paths.proofs.SearchLemmas.{HaveBounds-put, IsPut-set, settled_is_reached, open_is_reached, in_range, distance_high}
 use Rattle.dimacs_text.specs.declared.problem.ArcRow.{ArcRow}
 use Rattle.residual_graph.specs.declared.residual.Way.{Way}
 use Rattle.shortest_paths.specs.declared.node_label.State.{State}
 use Rattle.shortest_paths.specs.declared.node_label.State.TheVariants.{Unreached, Open, Settled}
 use Rattle.shortest_paths.specs.declared.node_label.NodeLabel.{NodeLabel}
 use Rattle.residual_graph.specs.Residual.{IsReducedCostOptimal, IsPseudoflow, ArePotentials, NoneBelow, NoneBelowBy, AreGreatest, number_at, row_at, start_at, end_at, cost_at, IsResidual}
-use Rattle.shortest_paths.specs.Search.{node_label_at, state_at, distance_at, depth_at, IsReached, IsSearch, Settles, AllRelaxed, IsFromExcess, NoDeficit, IsFoundDeficit, IsFront, IsFinding, IsFromAll, AreLabels, IsReach, lowered_by, IsLowered, NoneOpen}
+use Rattle.shortest_paths.specs.Search.{node_label_at, state_at, distance_at, depth_at, IsReached, HasSearched, HaveBounds, IsFresh, IsSearch, Settles, AllRelaxed, IsFromExcess, IsFromAll, bound_by, is_unsettled, source_node_label, AreLabels, IsReach, lowered_by, IsLowered, NoneOpen}
 
-pub IsFromExcess-settles : {arcs : List ArcRow} {x p excess : List ℤ} {s t : List NodeLabel} {u : ℕ} → IsFromExcess excess s → IsSearch arcs x p t → Settles s t u → IsFromExcess excess t
-IsFromExcess-settles {arcs} {x} {p} {excess} {s} {t} {u} before known settles = record {
-  sources = λ v h.
-      (let was = before.sources v h in
-      let reached = settles.reached_kept v was.0 in
-      (reached, omega (arith, ints, was.1, settles.distance_falls v was.0, known.distance_at_least_0 v reached)));
-  roots = λ v r d.
-      (let was = settles.roots_kept v r d in
-      let root = before.roots v was.0 was.1 in
-      (root.0, was.2 ∙ root.1));
-}
+-- where no node is reached, and any path is better, each node has its bound
+pub HaveBounds-fresh : (p : List ℤ) (s : List NodeLabel) → IsFresh s → HaveBounds p s
+HaveBounds-fresh p s fresh v lt = fresh.no_bounds v lt ∙ ap (λ (n : State). bound_by n (distance_at s v +ℤ number_at p v)) (sym (fresh.unreached v))
 
--- a node that is settled and not in deficit leaves none in deficit behind
-pub NoDeficit-settles : (excess : List ℤ) (s t : List NodeLabel) (u : ℕ) → NoDeficit excess s → Settles s t u → pos 0 ≤ℤ number_at excess u → NoDeficit excess t
-NoDeficit-settles excess s t u before settles here v m = elim (settles.settled_before v m) [
-  | inl same ↦ subst (λ (q : ℕ). pos 0 ≤ℤ number_at excess q) (sym same) here
-  | inr was ↦ before v was
-]
+-- where a source is opened, each node keeps its bound
+pub HaveBounds-source : (p : List ℤ) (s : List NodeLabel) (v : ℕ) → HaveBounds p s → v < length s → HaveBounds p (slice_set s v (source_node_label (number_at p v)))
+HaveBounds-source p s v before lt =
+    let own : number_at p v ≡ pos 0 +ℤ number_at p v = omega (arith, ints) in
+    HaveBounds-put p s (slice_set s v (source_node_label (number_at p v))) v (source_node_label (number_at p v)) before (IsPut-set s v (source_node_label (number_at p v)) lt) own
 
-pub IsFoundDeficit-settles : {excess : List ℤ} {s t : List NodeLabel} {u v : ℕ} → IsFoundDeficit excess s v → Settles s t u → IsFoundDeficit excess t v
-IsFoundDeficit-settles {excess} {s} {t} {u} {v} found settles = record {
-  settled = ap (λ (r : NodeLabel). r.state) (settles.settled_kept v found.settled) ∙ found.settled;
-  deficit = found.deficit;
-}
-
--- the search has come as far as the node that it settled
-pub IsFront-settles : {arcs : List ArcRow} {x p : List ℤ} {s t : List NodeLabel} {u : ℕ} → IsReducedCostOptimal arcs x p → IsSearch arcs x p s → IsSearch arcs x p t → state_at s u ≡ Open → Settles s t u → IsFront t (distance_at t u)
-IsFront-settles {arcs} {x} {p} {s} {t} {u} certified before known opened settles = record {
-  not_below_0 = known.distance_at_least_0 u (settled_is_reached t u settles.now_settled);
-  settled = record {
-    not_far = distance_high arcs x p t u certified known (settled_is_reached t u settles.now_settled);
-    within = λ v m. (
-      known.distance_at_least_0 v (settled_is_reached t v m),
-      elim (settles.settled_before v m) [
-        | inl same ↦ (let equal : distance_at t v ≡ distance_at t u = ap (distance_at t) same in omega (arith, ints, equal))
-        | inr was ↦ omega (arith, ints, ap (λ (r : NodeLabel). r.distance) (settles.settled_kept v was), before.in_order v u was opened, settles.distance_kept)
-      ],
-    );
-  };
-  beyond = λ v m. known.in_order u v settles.now_settled m;
-  no_further = λ bound low within. within u settles.now_settled;
-}
-
--- a settled node in deficit is one more, and another none
-module _ (arcs : List ArcRow) (x p excess : List ℤ) (s t : List NodeLabel) (u : ℕ) (reach : ℤ) (found : ℕ)
-    (certified : IsReducedCostOptimal arcs x p) (before : IsSearch arcs x p s) (known : IsSearch arcs x p t) (opened : state_at s u ≡ Open) (settles : Settles s t u)
-    (finding : IsFinding excess s reach found)
+-- each node in excess is open, and no other is reached
+module _ (arcs : List ArcRow) (x p excess : List ℤ) (s : List NodeLabel) (certified : IsReducedCostOptimal arcs x p) (sized : length s ≡ length p)
+    (sources : (v : ℕ) → pos 0 <ℤ number_at excess v → node_label_at s v ≡ source_node_label (number_at p v))
+    (others : (v : ℕ) → number_at excess v ≤ℤ pos 0 → state_at s v ≡ Unreached)
+    (bounds : HaveBounds p s)
   where
-    pub IsFinding-deficit : number_at excess u <ℤ pos 0 → IsFinding excess t (distance_at t u) (found + 1)
-    IsFinding-deficit low = record {
-      front = IsFront-settles certified before known opened settles;
-      none = λ h. absurd (omega (arith, h));
-      some = λ h. (u, record { settled = settles.now_settled; deficit = low });
+    is_source : (v : ℕ) → IsReached s v → pos 0 <ℤ number_at excess v
+    is_source v reached = by_lt_z (pos 0) (number_at excess v) (λ h. h) (λ h. absurd (reached (others v h)))
+
+    begins : (v : ℕ) → IsReached s v → node_label_at s v ≡ source_node_label (number_at p v)
+    begins v reached = sources v (is_source v reached)
+
+    depth_0 : (v : ℕ) → IsReached s v → depth_at s v ≡ 0
+    depth_0 v reached = ap (λ (e : NodeLabel). e.depth) (begins v reached)
+
+    distance_0 : (v : ℕ) → IsReached s v → distance_at s v ≡ pos 0
+    distance_0 v reached = ap (λ (e : NodeLabel). e.distance) (begins v reached)
+
+    none_settled : (v : ℕ) → state_at s v ≡ Settled → ⊥
+    none_settled v m =
+        let reached = settled_is_reached s v m in
+        let o : state_at s v ≡ Open = ap (λ (e : NodeLabel). e.state) (begins v reached) in
+        cc
+
+    known_first : IsSearch arcs x p s
+    known_first = record {
+      sized = sized;
+      in_order = λ v w m o. absurd (none_settled v m);
+      distance_at_least_0 = λ v r. omega (arith, ints, distance_0 v r);
+      settled_depth = λ v m. absurd (none_settled v m);
+      reached_depth = λ v r. omega (arith, depth_0 v r, count_by-le-length is_unsettled s);
+      label_low = λ v r. omega (arith, ints, distance_0 v r, certified.potentials.at_least v);
+      label_high = λ v r. omega (arith, ints, distance_0 v r, certified.potentials.at_most_0 v);
+      traced = λ v r deep. absurd (omega (arith, depth_0 v r));
+      bounds = bounds;
     }
 
-    pub IsFinding-other : pos 0 ≤ℤ number_at excess u → IsFinding excess t (distance_at t u) found
-    IsFinding-other high = record {
-      front = IsFront-settles certified before known opened settles;
-      none = λ h. NoDeficit-settles excess s t u (finding.none h) settles high;
-      some = λ h. (let was = finding.some h in (was.0, IsFoundDeficit-settles was.1 settles));
+    relaxed_first : AllRelaxed arcs x p s
+    relaxed_first k way residual m = absurd (none_settled _ m)
+
+    from_excess_first : IsFromExcess excess s
+    from_excess_first = record {
+      sources = λ v high.
+          (let o : state_at s v ≡ Open = ap (λ (e : NodeLabel). e.state) (sources v high) in
+          let reached = open_is_reached s v o in
+          (reached, distance_0 v reached));
+      roots = λ v r d. (is_source v r, distance_0 v r);
+      no_deficit = λ v m. absurd (none_settled v m);
     }
+
+    pub HasSearched-first : HasSearched arcs x p excess s
+    HasSearched-first = record { known = known_first; relaxed = relaxed_first; from_excess = from_excess_first }
+
+-- a node that is not in deficit is settled
+pub HasSearched-settles : {arcs : List ArcRow} {x p excess : List ℤ} {s t : List NodeLabel} {u : ℕ} → HasSearched arcs x p excess s → IsSearch arcs x p t → AllRelaxed arcs x p t → Settles s t u → pos 0 ≤ℤ number_at excess u → HasSearched arcs x p excess t
+HasSearched-settles {arcs} {x} {p} {excess} {s} {t} {u} before known relaxed settles here = record {
+  known = known;
+  relaxed = relaxed;
+  from_excess = record {
+    sources = λ v h.
+        (let was = before.from_excess.sources v h in
+        let reached = settles.reached_kept v was.0 in
+        (reached, omega (arith, ints, was.1, settles.distance_falls v was.0, known.distance_at_least_0 v reached)));
+    roots = λ v r d.
+        (let was = settles.roots_kept v r d in
+        let root = before.from_excess.roots v was.0 was.1 in
+        (root.0, was.2 ∙ root.1));
+    no_deficit = λ v m. elim (settles.settled_before v m) [
+      | inl same ↦ subst (λ (q : ℕ). pos 0 ≤ℤ number_at excess q) (sym same) here
+      | inr was ↦ before.from_excess.no_deficit v was
+    ];
+  };
+}
 
 pub IsFromAll-settles : {p : List ℤ} {s t : List NodeLabel} {u : ℕ} → IsFromAll p s → Settles s t u → ((v : ℕ) → IsReached t v → v < length p) → IsFromAll p t
 IsFromAll-settles {p} {s} {t} {u} before settles in_nodes = record {

@@ -3,5 +3,4 @@ pub mod Search
 pub mod Heap
 pub mod Queue
 pub mod NodeLists
-pub mod SettledOrder
 pub mod Labels

@@ -166,18 +166,26 @@ unreached_node_label = record { state = Unreached; distance = pos 0; depth = 0; 
 abbrev pub source_node_label : ℤ → NodeLabel
 source_node_label potential = record { state = Open; distance = pos 0; depth = 0; arc = 0; way = Forward; bound = potential }
 
--- what the search for nodes in deficit knows of the nodes in excess
+-- no search has reached any node, and any path to it is better
+pub record IsFresh (s : List NodeLabel) : Type 0 where
+  pub unreached : (v : ℕ) → state_at s v ≡ Unreached
+  pub no_bounds : (v : ℕ) → v < length s → bound_at s v ≡ NO_BOUND
+
+-- what a search for a node in deficit knows of the nodes in excess: it begins at each, and has settled none in deficit
 pub record IsFromExcess (excess : List ℤ) (s : List NodeLabel) : Type 0 where
   pub sources : (v : ℕ) → pos 0 <ℤ number_at excess v → IsReached s v × (distance_at s v ≡ pos 0)
   pub roots : (v : ℕ) → IsReached s v → depth_at s v ≡ 0 → (pos 0 <ℤ number_at excess v) × (distance_at s v ≡ pos 0)
+  pub no_deficit : (v : ℕ) → state_at s v ≡ Settled → pos 0 ≤ℤ number_at excess v
 
--- no settled node is in deficit
-abbrev pub NoDeficit : List ℤ → List NodeLabel → Type 0
-NoDeficit excess s = (v : ℕ) → state_at s v ≡ Settled → pos 0 ≤ℤ number_at excess v
+-- a search over the potentials p for a node in deficit has come so far
+pub record HasSearched (arcs : List ArcRow) (x p excess : List ℤ) (s : List NodeLabel) : Type 0 where
+  pub known : IsSearch arcs x p s
+  pub relaxed : AllRelaxed arcs x p s
+  pub from_excess : IsFromExcess excess s
 
--- node t is settled, and in deficit
-pub record IsFoundDeficit (excess : List ℤ) (s : List NodeLabel) (t : ℕ) : Type 0 where
-  pub settled : state_at s t ≡ Settled
+-- node t is open, in deficit, and no further than any open node
+pub record IsNearestDeficit (excess : List ℤ) (s : List NodeLabel) (t : ℕ) : Type 0 where
+  pub nearest : IsLeastOpen s (length s) t
   pub deficit : number_at excess t <ℤ pos 0
 
 -- a settled node's potential falls by what the node is nearer than `reach`
@@ -193,29 +201,6 @@ lowered potential e reach = lowered_by e.state potential e.distance reach
 pub record IsReach (s : List NodeLabel) (reach : ℤ) : Type 0 where
   pub not_far : reach ≤ℤ pos distance_limit
   pub within : (v : ℕ) → state_at s v ≡ Settled → (pos 0 ≤ℤ distance_at s v) × (distance_at s v ≤ℤ reach)
-
--- the search has come as far as `reach`, to the furthest settled node: no open one is nearer
-pub record IsFront (s : List NodeLabel) (reach : ℤ) : Type 0 where
-  pub not_below_0 : pos 0 ≤ℤ reach
-  pub settled : IsReach s reach
-  pub beyond : (v : ℕ) → state_at s v ≡ Open → reach ≤ℤ distance_at s v
-  pub no_further : (bound : ℤ) → pos 0 ≤ℤ bound → ((v : ℕ) → state_at s v ≡ Settled → distance_at s v ≤ℤ bound) → reach ≤ℤ bound
-
--- the search has come as far as `reach`, and found so many nodes in deficit
-pub record IsFinding (excess : List ℤ) (s : List NodeLabel) (reach : ℤ) (found : ℕ) : Type 0 where
-  pub front : IsFront s reach
-  pub none : found ≡ 0 → NoDeficit excess s
-  pub some : 0 < found → (t : ℕ) × IsFoundDeficit excess s t
-
--- no node is open, and no node in deficit was found
-pub record IsExhausted (excess : List ℤ) (s : List NodeLabel) : Type 0 where
-  pub none_open : NoneOpen s (length s)
-  pub no_deficit : NoDeficit excess s
-
--- the search has come as far as `reach`, and found a node in deficit
-pub record HasFound (excess : List ℤ) (s : List NodeLabel) (reach : ℤ) : Type 0 where
-  pub front : IsFront s reach
-  pub found : (t : ℕ) × IsFoundDeficit excess s t
 
 -- p is lowered to q
 abbrev pub IsLowered : List ℤ → List ℤ → List NodeLabel → ℤ → Type 0

@@ -4,14 +4,12 @@ ghost use Rattle.std.specs.Prelude.{◌≡◌, ℕ, ◌≤ℤ◌, ◌<◌, ◌�
 ghost use Rattle.residual_graph.specs.Limits.{entry_limit, potential_floor};
 ghost use Rattle.residual_graph.specs.Residual.{ArePotentials, IsReducedCostOptimal, number_at};
 ghost use Rattle.shortest_paths.specs.Search.{HasBound, IsSearch, AllRelaxed, IsFromAll, NoneOpen, root_node_label, settled_node_label};
-ghost use Rattle.shortest_paths.specs.SettledOrder.{IsFresh};
 ghost use Rattle.shortest_paths.specs.Labels.{AreInOrder, IsLabelsFor, IsForest, IsHop, IsThrough, Stands, Opens, IsShortest, NothingOpen, IsEntered};
 ghost use Rattle.residual_graph.specs.Graph.{HasEntries};
-ghost use Rattle.residual_graph.specs.Side.{seen};
 ghost use Rattle.shortest_paths.specs.Queue.{IsQueueOf, IsQueueFor};
 ghost use Rattle.shortest_paths.specs.declared.node_label.State.TheVariants.{Open};
 
-use crate::node_label::{NodeLabel, State};
+use crate::node_label::{NodeLabel, State, clear_states};
 use crate::queue::Queue;
 use crate::search::{distance_through, settle_node};
 use residual_graph::{Residual, ResidualArc, Walk, Way};
@@ -50,15 +48,6 @@ impl Labels {
     }
 }
 
-/// Forgets that a pass reached the nodes, and leaves how it did.
-fn clear_states(node_labels: &mut [NodeLabel])
-    ensures { IsFresh node_labels.new }
-{
-    for v in 0..node_labels.len() {
-        node_labels[v].forget();
-    }
-}
-
 /// A root: a node that is open with label 0.
 fn root(potentials: &[i64], v: usize) -> NodeLabel
     requires potentials_in { ArePotentials (length potentials.now) potential_floor potentials.now }
@@ -91,16 +80,16 @@ fn node_label_through(
     v: usize,
     arc: ResidualArc,
 ) -> Option<NodeLabel>
-    requires forest { IsForest (seen residual.side residual.graph.now.rows) residual.flow.now residual.potentials.now node_labels.now }
-    requires arc_in { arc.arc < length (seen residual.side residual.graph.now.rows) }
-    ensures none { result ≡ None → IsHop (seen residual.entry.side residual.entry.graph.now.rows) residual.entry.flow.now node_labels.now v arc.arc arc.way → ⊥ }
-    ensures through { IfSome result (IsThrough (seen residual.entry.side residual.entry.graph.now.rows) residual.entry.flow.now residual.entry.potentials.now node_labels.now v) }
+    requires forest { IsForest residual.graph.now.rows residual.flow.now residual.potentials.now node_labels.now }
+    requires arc_in { arc.arc < length residual.graph.now.rows }
+    ensures none { result ≡ None → IsHop residual.entry.graph.now.rows residual.entry.flow.now node_labels.now v arc.arc arc.way → ⊥ }
+    ensures through { IfSome result (IsThrough residual.entry.graph.now.rows residual.entry.flow.now residual.entry.potentials.now node_labels.now v) }
     ensures is_open { IfSome result (λ e. e.state ≡ Open) }
     ensures along { IfSome result (λ e. (e.arc ≡ arc.arc) × (e.way ≡ arc.way)) }
     ensures bound { IfSome result (HasBound (number_at residual.entry.potentials.now v)) }
 {
     let k = arc.arc as usize;
-    let row = residual.graph.row(residual.side, k);
+    let row = residual.graph.row(k);
     let start = arc.way.start(&row) as usize;
     if !node_labels[start].is_settled() {
         return None;
@@ -125,9 +114,9 @@ fn node_label_through(
 /// How the node was reached, where it is still reached so: as a root whose potential is 0, or by a residual arc of
 /// reduced cost 0 from a node that is kept.
 fn standing(residual: Residual<'_>, node_labels: &[NodeLabel], v: usize) -> Option<NodeLabel>
-    requires forest { IsForest (seen residual.side residual.graph.now.rows) residual.flow.now residual.potentials.now node_labels.now }
+    requires forest { IsForest residual.graph.now.rows residual.flow.now residual.potentials.now node_labels.now }
     requires v_in { v < length node_labels.now }
-    ensures { IfSome result (Stands (seen residual.entry.side residual.entry.graph.now.rows) residual.entry.flow.now residual.entry.potentials.now node_labels.now v) }
+    ensures { IfSome result (Stands residual.entry.graph.now.rows residual.entry.flow.now residual.entry.potentials.now node_labels.now v) }
 {
     if residual.potentials[v] == 0 {
         return Some(settled(root(residual.potentials, v)));
@@ -148,9 +137,9 @@ fn standing(residual: Residual<'_>, node_labels: &[NodeLabel], v: usize) -> Opti
 
 /// Settles the node where it stands, and tells whether it does.
 fn keep_node(residual: Residual<'_>, node_labels: &mut [NodeLabel], v: usize) -> bool
-    requires forest { IsForest (seen residual.side residual.graph.now.rows) residual.flow.now residual.potentials.now node_labels.old }
+    requires forest { IsForest residual.graph.now.rows residual.flow.now residual.potentials.now node_labels.old }
     requires closed { NothingOpen node_labels.old }
-    ensures forest { IsForest (seen residual.entry.side residual.entry.graph.now.rows) residual.entry.flow.now residual.entry.potentials.now node_labels.new }
+    ensures forest { IsForest residual.entry.graph.now.rows residual.entry.flow.now residual.entry.potentials.now node_labels.new }
     ensures closed { NothingOpen node_labels.new }
 {
     if v >= node_labels.len() {
@@ -171,9 +160,9 @@ fn keep_node(residual: Residual<'_>, node_labels: &mut [NodeLabel], v: usize) ->
 /// Settles each node that stands, after the node before it on its path; moves these nodes to the front of `order`, and
 /// gives their number.
 fn keep(residual: Residual<'_>, node_labels: &mut [NodeLabel], order: &mut [u32]) -> usize
-    requires forest { IsForest (seen residual.side residual.graph.now.rows) residual.flow.now residual.potentials.now node_labels.old }
+    requires forest { IsForest residual.graph.now.rows residual.flow.now residual.potentials.now node_labels.old }
     requires closed { NothingOpen node_labels.old }
-    ensures forest { IsForest (seen residual.entry.side residual.entry.graph.now.rows) residual.entry.flow.now residual.entry.potentials.now node_labels.new }
+    ensures forest { IsForest residual.entry.graph.now.rows residual.entry.flow.now residual.entry.potentials.now node_labels.new }
     ensures closed { NothingOpen node_labels.new }
     ensures count { result ≤ length order.new }
 {
@@ -203,17 +192,17 @@ fn nearer(best: NodeLabel, other: Option<NodeLabel>) -> NodeLabel
 /// The node label of least distance that the node can have: as a root, or by a residual arc from a settled node.
 fn nearest(residual: Residual<'_>, node_labels: &[NodeLabel], v: usize) -> NodeLabel
     requires graph { HasEntries (length residual.potentials.now) residual.graph.now }
-    requires forest { IsForest (seen residual.side residual.graph.now.rows) residual.flow.now residual.potentials.now node_labels.now }
+    requires forest { IsForest residual.graph.now.rows residual.flow.now residual.potentials.now node_labels.now }
     requires v_in { v < length node_labels.now }
-    ensures opens { Opens (seen residual.entry.side residual.entry.graph.now.rows) residual.entry.flow.now residual.entry.potentials.now node_labels.now v result }
-    ensures nearest { IsShortest (seen residual.entry.side residual.entry.graph.now.rows) residual.entry.flow.now residual.entry.potentials.now node_labels.now v result }
+    ensures opens { Opens residual.entry.graph.now.rows residual.entry.flow.now residual.entry.potentials.now node_labels.now v result }
+    ensures nearest { IsShortest residual.entry.graph.now.rows residual.entry.flow.now residual.entry.potentials.now node_labels.now v result }
 {
     let mut best = root(residual.potentials, v);
     let mut walk = Walk::at(residual.graph, v as u32);
     while let Some(end) = walk.next(residual.graph) {
         // No path goes on from a node that is not settled: neither the arc nor its flow is read.
         if node_labels[end.other].is_settled() {
-            let arc = residual.side.trailing(end);
+            let arc = end.entering();
             let node_label = node_label_through(residual, node_labels, v, arc);
             best = nearer(best, node_label);
         }
@@ -224,10 +213,10 @@ fn nearest(residual: Residual<'_>, node_labels: &[NodeLabel], v: usize) -> NodeL
 /// Opens the node, where it is not settled.
 fn enter_node(residual: Residual<'_>, node_labels: &mut [NodeLabel], queue: &mut Queue, v: usize)
     requires graph { HasEntries (length residual.potentials.now) residual.graph.now }
-    requires entered { IsEntered (seen residual.side residual.graph.now.rows) residual.flow.now residual.potentials.now node_labels.old v }
+    requires entered { IsEntered residual.graph.now.rows residual.flow.now residual.potentials.now node_labels.old v }
     requires v_in { v < length node_labels.old }
     requires queue { IsQueueOf node_labels.old queue.old }
-    ensures entered { IsEntered (seen residual.entry.side residual.entry.graph.now.rows) residual.entry.flow.now residual.entry.potentials.now node_labels.new (v + 1) }
+    ensures entered { IsEntered residual.entry.graph.now.rows residual.entry.flow.now residual.entry.potentials.now node_labels.new (v + 1) }
     ensures queue { IsQueueOf node_labels.new queue.new }
 {
     if node_labels[v].is_settled() {
@@ -240,10 +229,10 @@ fn enter_node(residual: Residual<'_>, node_labels: &mut [NodeLabel], queue: &mut
 /// Opens each node that is not settled.
 fn enter(residual: Residual<'_>, node_labels: &mut [NodeLabel], queue: &mut Queue)
     requires graph { HasEntries (length residual.potentials.now) residual.graph.now }
-    requires forest { IsForest (seen residual.side residual.graph.now.rows) residual.flow.now residual.potentials.now node_labels.old }
+    requires forest { IsForest residual.graph.now.rows residual.flow.now residual.potentials.now node_labels.old }
     requires closed { NothingOpen node_labels.old }
     requires queue { IsQueueOf node_labels.old queue.old }
-    ensures entered { IsEntered (seen residual.entry.side residual.entry.graph.now.rows) residual.entry.flow.now residual.entry.potentials.now node_labels.new (length node_labels.new) }
+    ensures entered { IsEntered residual.entry.graph.now.rows residual.entry.flow.now residual.entry.potentials.now node_labels.new (length node_labels.new) }
     ensures queue { IsQueueOf node_labels.new queue.new }
 {
     for v in 0..node_labels.len() {
@@ -273,20 +262,20 @@ fn search_rest(
     kept: usize,
 )
     requires graph { HasEntries (length residual.potentials.now) residual.graph.now }
-    requires search { IsSearch (seen residual.side residual.graph.now.rows) residual.flow.now residual.potentials.now node_labels.old }
-    requires relaxed { AllRelaxed (seen residual.side residual.graph.now.rows) residual.flow.now residual.potentials.now node_labels.old }
+    requires search { IsSearch residual.graph.now.rows residual.flow.now residual.potentials.now node_labels.old }
+    requires relaxed { AllRelaxed residual.graph.now.rows residual.flow.now residual.potentials.now node_labels.old }
     requires from_all { IsFromAll residual.potentials.now node_labels.old }
     requires queue { IsQueueOf node_labels.old queue.old }
     requires kept { kept ≤ length order.old }
-    ensures search { IsSearch (seen residual.entry.side residual.entry.graph.now.rows) residual.entry.flow.now residual.entry.potentials.now node_labels.new }
-    ensures relaxed { AllRelaxed (seen residual.entry.side residual.entry.graph.now.rows) residual.entry.flow.now residual.entry.potentials.now node_labels.new }
+    ensures search { IsSearch residual.entry.graph.now.rows residual.entry.flow.now residual.entry.potentials.now node_labels.new }
+    ensures relaxed { AllRelaxed residual.entry.graph.now.rows residual.entry.flow.now residual.entry.potentials.now node_labels.new }
     ensures from_all { IsFromAll residual.entry.potentials.now node_labels.new }
     ensures done { NoneOpen node_labels.new (length node_labels.new) }
     ensures queue { IsQueueOf node_labels.new queue.new }
 {
     let mut place = kept;
     while let Some(u) = queue.first(node_labels) {
-        let _settled = settle_node(residual, node_labels, queue, &[]);
+        let _settled = settle_node(residual, node_labels, queue);
         place = note(order, place, u);
     }
 }
@@ -301,8 +290,8 @@ pub fn search_labels(
     requires graph { HasEntries (length residual.potentials.now) residual.graph.now }
     requires node_labels_in { length node_labels.old ≡ length residual.potentials.now }
     requires sized { IsQueueFor (length residual.potentials.now) queue.old }
-    ensures search { IsSearch (seen residual.entry.side residual.entry.graph.now.rows) residual.entry.flow.now residual.entry.potentials.now node_labels.new }
-    ensures relaxed { AllRelaxed (seen residual.entry.side residual.entry.graph.now.rows) residual.entry.flow.now residual.entry.potentials.now node_labels.new }
+    ensures search { IsSearch residual.entry.graph.now.rows residual.entry.flow.now residual.entry.potentials.now node_labels.new }
+    ensures relaxed { AllRelaxed residual.entry.graph.now.rows residual.entry.flow.now residual.entry.potentials.now node_labels.new }
     ensures from_all { IsFromAll residual.entry.potentials.now node_labels.new }
     ensures done { NoneOpen node_labels.new (length node_labels.new) }
     ensures sized { IsQueueFor (length residual.entry.potentials.now) queue.new }

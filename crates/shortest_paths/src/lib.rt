@@ -11,10 +11,8 @@ mod labels;
 mod node_label;
 mod queue;
 mod search;
-mod settled_order;
 
 pub use labels::{Labels, search_labels};
 pub use node_label::{NodeLabel, State};
 pub use queue::Queue;
-pub use search::find_deficits;
-pub use settled_order::{SettledOrder, forget};
+pub use search::find_deficit;

@@ -3,7 +3,7 @@
 ghost use Rattle.std.specs.Prelude.{◌≡◌, ℤ, pos, neg_ℤ, ◌-ℤ◌, ◌≤ℤ◌, ◌<ℤ◌, IsTrue, ◌↔◌};
 ghost use Rattle.shortest_paths.specs.Limits.{distance_limit};
 ghost use Rattle.residual_graph.specs.Limits.{potential_floor};
-ghost use Rattle.shortest_paths.specs.Search.{HasBound, Takes, forgotten_node_label, lowered, settled_node_label, unreached_node_label};
+ghost use Rattle.shortest_paths.specs.Search.{HasBound, IsFresh, Takes, forgotten_node_label, lowered, settled_node_label, unreached_node_label};
 ghost use Rattle.shortest_paths.specs.declared.node_label.State.TheVariants.{Settled};
 
 use residual_graph::Way;
@@ -100,5 +100,14 @@ impl NodeLabel {
             State::Settled => potential - (reach - self.distance),
             _ => potential,
         }
+    }
+}
+
+/// Forgets that a search reached the nodes, and leaves how it did.
+pub(crate) fn clear_states(node_labels: &mut [NodeLabel])
+    ensures { IsFresh node_labels.new }
+{
+    for v in 0..node_labels.len() {
+        node_labels[v].forget();
     }
 }

@@ -1,23 +1,19 @@
 //! Shortest paths over reduced costs, from the nodes in excess.
 
 ghost use Rattle.std.specs.Prelude.{◌≡◌, ℕ, pos, ◌≤ℤ◌, ◌+ℤ◌, ◌-ℤ◌, ◌<ℤ◌, ◌<◌, ◌≤◌, int_lt, length, neg_ℤ, MatchOption, ◌+◌};
-ghost use Rattle.std.specs.List.{count_by};
 ghost use Rattle.residual_graph.specs.Limits.{cost_limit, entry_limit, potential_floor};
 ghost use Rattle.shortest_paths.specs.Limits.{distance_limit};
 ghost use Rattle.residual_graph.specs.Residual.{IsRow, IsPseudoflow, IsReducedCostOptimal, ArePotentials, IsResidual, number_at, start_at, start_of, end_of, cost_at, cost_of};
-ghost use Rattle.shortest_paths.specs.Search.{HaveBounds, IsSearch, IsLastSettled, Improves, Takes, reduced_at, IsRelaxed, IsRelaxedFrom, AllRelaxed, Settles, node_label_at, state_at, distance_at, priced_distance, source_node_label, IsFromExcess, IsExhausted, HasFound};
+ghost use Rattle.shortest_paths.specs.Search.{HaveBounds, IsSearch, IsLastSettled, Improves, Takes, reduced_at, IsRelaxed, IsRelaxedFrom, AllRelaxed, Settles, node_label_at, state_at, distance_at, priced_distance, source_node_label, HasSearched, IsFresh, IsNearestDeficit, NoneOpen};
 ghost use Rattle.residual_graph.specs.Graph.{HasEntries};
 ghost use Rattle.shortest_paths.specs.Queue.{IsQueueOf, IsQueueFor, size, first_of};
-ghost use Rattle.residual_graph.specs.Rooms.{AreRooms};
-ghost use Rattle.residual_graph.specs.Side.{IsLeading, leading, seen};
-ghost use Rattle.shortest_paths.specs.SettledOrder.{IsFresh, IsSettledOrderFor, IsSettledOrderOf};
+ghost use Rattle.residual_graph.specs.Ends.{IsEnd, leaving};
 ghost use Rattle.shortest_paths.specs.declared.node_label.State.TheVariants.{Unreached};
 
-use crate::node_label::{NodeLabel, State};
+use crate::node_label::{NodeLabel, State, clear_states};
 use crate::queue::Queue;
-use crate::settled_order::SettledOrder;
 use dimacs_text::ArcRow;
-use residual_graph::{End, Residual, ResidualArc, Walk, Way, is_saturated};
+use residual_graph::{End, Residual, ResidualArc, Walk, Way};
 
 /// The length of the path to the end of a residual arc by way of its start.
 pub fn distance_through(
@@ -41,19 +37,19 @@ pub fn distance_through(
 /// The length of the path that goes on from a settled node at this end, with the potential of the other node there.
 /// `from` is the length of the path to the settled node, with that node's potential.
 fn priced_beyond(residual: Residual<'_>, from: i64, end: End) -> i64
-    requires end { IsLeading residual.side (seen residual.side residual.graph.now.rows) end }
+    requires end { IsEnd residual.graph.now.rows end }
     requires low { neg_ℤ (pos potential_floor) ≤ℤ from }
     requires high { from ≤ℤ pos distance_limit }
-    ensures priced { result ≡ from +ℤ cost_at (seen residual.entry.side residual.entry.graph.now.rows) (leading residual.entry.side end).arc (leading residual.entry.side end).way }
+    ensures priced { result ≡ from +ℤ cost_at residual.entry.graph.now.rows (leaving end).arc (leaving end).way }
     ensures low { neg_ℤ (pos (potential_floor + cost_limit)) ≤ℤ result }
     ensures high { result ≤ℤ pos (distance_limit + cost_limit) }
 {
-    from + residual.side.leading_cost(end)
+    from + end.cost
 }
 
 /// The length of the path to the other node at this end, from its length with that node's potential.
 fn distance_beyond(residual: Residual<'_>, priced: i64, end: End) -> i64
-    requires end { IsLeading residual.side (seen residual.side residual.graph.now.rows) end }
+    requires end { IsEnd residual.graph.now.rows end }
     requires low { neg_ℤ (pos (potential_floor + cost_limit)) ≤ℤ priced }
     requires high { priced ≤ℤ pos (distance_limit + cost_limit) }
     ensures { result ≡ priced -ℤ number_at residual.entry.potentials.now end.other }
@@ -78,20 +74,20 @@ fn take_path(
     distance: i64,
     end: End,
 )
-    requires search { IsSearch (seen residual.side residual.graph.now.rows) residual.flow.now residual.potentials.now node_labels.old }
+    requires search { IsSearch residual.graph.now.rows residual.flow.now residual.potentials.now node_labels.old }
     requires queue { IsQueueOf node_labels.old queue.old }
-    requires end { IsLeading residual.side (seen residual.side residual.graph.now.rows) end }
-    requires start { start ≡ start_at (seen residual.side residual.graph.now.rows) (leading residual.side end).arc (leading residual.side end).way }
-    requires last { IsLastSettled node_labels.old (start_at (seen residual.side residual.graph.now.rows) (leading residual.side end).arc (leading residual.side end).way) }
-    requires residual { IsResidual (seen residual.side residual.graph.now.rows) residual.flow.now (leading residual.side end).arc (leading residual.side end).way }
-    requires distance { distance ≡ distance_at node_labels.old (start_at (seen residual.side residual.graph.now.rows) (leading residual.side end).arc (leading residual.side end).way) +ℤ reduced_at (seen residual.side residual.graph.now.rows) residual.potentials.now (leading residual.side end).arc (leading residual.side end).way }
+    requires end { IsEnd residual.graph.now.rows end }
+    requires start { start ≡ start_at residual.graph.now.rows (leaving end).arc (leaving end).way }
+    requires last { IsLastSettled node_labels.old (start_at residual.graph.now.rows (leaving end).arc (leaving end).way) }
+    requires residual { IsResidual residual.graph.now.rows residual.flow.now (leaving end).arc (leaving end).way }
+    requires distance { distance ≡ distance_at node_labels.old (start_at residual.graph.now.rows (leaving end).arc (leaving end).way) +ℤ reduced_at residual.graph.now.rows residual.potentials.now (leaving end).arc (leaving end).way }
     requires better { Takes (node_label_at node_labels.old end.other) distance }
-    ensures search { IsSearch (seen residual.entry.side residual.entry.graph.now.rows) residual.entry.flow.now residual.entry.potentials.now node_labels.new }
+    ensures search { IsSearch residual.entry.graph.now.rows residual.entry.flow.now residual.entry.potentials.now node_labels.new }
     ensures queue { IsQueueOf node_labels.new queue.new }
     ensures improves { Improves node_labels.old node_labels.new }
-    ensures relaxed { IsRelaxed (seen residual.entry.side residual.entry.graph.now.rows) residual.entry.potentials.now node_labels.new (leading residual.entry.side end).arc (leading residual.entry.side end).way }
+    ensures relaxed { IsRelaxed residual.entry.graph.now.rows residual.entry.potentials.now node_labels.new (leaving end).arc (leaving end).way }
 {
-    let arc = residual.side.leading(end);
+    let arc = end.leaving();
     let depth = node_labels[start].depth + 1;
     queue.improve(
         node_labels,
@@ -112,26 +108,20 @@ fn relax(
     residual: Residual<'_>,
     node_labels: &mut [NodeLabel],
     queue: &mut Queue,
-    rooms: &[bool],
     origin: Origin,
     end: End,
 )
-    requires search { IsSearch (seen residual.side residual.graph.now.rows) residual.flow.now residual.potentials.now node_labels.old }
+    requires search { IsSearch residual.graph.now.rows residual.flow.now residual.potentials.now node_labels.old }
     requires queue { IsQueueOf node_labels.old queue.old }
-    requires end { IsLeading residual.side (seen residual.side residual.graph.now.rows) end }
-    requires last { IsLastSettled node_labels.old (start_at (seen residual.side residual.graph.now.rows) (leading residual.side end).arc (leading residual.side end).way) }
-    requires rooms { AreRooms residual.graph.now.rows residual.flow.now rooms.now }
-    requires start { origin.node ≡ start_at (seen residual.side residual.graph.now.rows) (leading residual.side end).arc (leading residual.side end).way }
-    requires priced { origin.priced ≡ priced_distance residual.potentials.now node_labels.old (start_at (seen residual.side residual.graph.now.rows) (leading residual.side end).arc (leading residual.side end).way) }
-    ensures search { IsSearch (seen residual.entry.side residual.entry.graph.now.rows) residual.entry.flow.now residual.entry.potentials.now node_labels.new }
+    requires end { IsEnd residual.graph.now.rows end }
+    requires last { IsLastSettled node_labels.old (start_at residual.graph.now.rows (leaving end).arc (leaving end).way) }
+    requires start { origin.node ≡ start_at residual.graph.now.rows (leaving end).arc (leaving end).way }
+    requires priced { origin.priced ≡ priced_distance residual.potentials.now node_labels.old (start_at residual.graph.now.rows (leaving end).arc (leaving end).way) }
+    ensures search { IsSearch residual.entry.graph.now.rows residual.entry.flow.now residual.entry.potentials.now node_labels.new }
     ensures queue { IsQueueOf node_labels.new queue.new }
     ensures improves { Improves node_labels.old node_labels.new }
-    ensures relaxed { IsResidual (seen residual.entry.side residual.entry.graph.now.rows) residual.entry.flow.now (leading residual.entry.side end).arc (leading residual.entry.side end).way → IsRelaxed (seen residual.entry.side residual.entry.graph.now.rows) residual.entry.potentials.now node_labels.new (leading residual.entry.side end).arc (leading residual.entry.side end).way }
+    ensures relaxed { IsResidual residual.entry.graph.now.rows residual.entry.flow.now (leaving end).arc (leaving end).way → IsRelaxed residual.entry.graph.now.rows residual.entry.potentials.now node_labels.new (leaving end).arc (leaving end).way }
 {
-    // Where the table of rooms is filled, most residual arcs that are not there are passed over by it.
-    if is_saturated(rooms, residual.side, end) {
-        return;
-    }
     // Most ends lead to no better path, and then the bound alone is read: neither the potential, nor the arc and its flow,
     // which are far away in memory.
     let priced = priced_beyond(residual, origin.priced, end);
@@ -143,29 +133,21 @@ fn relax(
     if distance < queue.present {
         return;
     }
-    let arc = residual.side.leading(end);
-    if residual.graph.has_room_by(rooms, residual.flow, arc) {
+    if residual.graph.has_room(residual.flow, end.leaving()) {
         take_path(residual, node_labels, queue, origin.node, distance, end);
     }
 }
 
 /// Takes each residual arc from the node settled last into account.
-fn relax_all(
-    residual: Residual<'_>,
-    node_labels: &mut [NodeLabel],
-    queue: &mut Queue,
-    rooms: &[bool],
-    u: usize,
-)
+fn relax_all(residual: Residual<'_>, node_labels: &mut [NodeLabel], queue: &mut Queue, u: usize)
     requires graph { HasEntries (length residual.potentials.now) residual.graph.now }
-    requires rooms { AreRooms residual.graph.now.rows residual.flow.now rooms.now }
-    requires search { IsSearch (seen residual.side residual.graph.now.rows) residual.flow.now residual.potentials.now node_labels.old }
+    requires search { IsSearch residual.graph.now.rows residual.flow.now residual.potentials.now node_labels.old }
     requires queue { IsQueueOf node_labels.old queue.old }
     requires last { IsLastSettled node_labels.old u }
-    ensures search { IsSearch (seen residual.entry.side residual.entry.graph.now.rows) residual.entry.flow.now residual.entry.potentials.now node_labels.new }
+    ensures search { IsSearch residual.entry.graph.now.rows residual.entry.flow.now residual.entry.potentials.now node_labels.new }
     ensures queue { IsQueueOf node_labels.new queue.new }
     ensures improves { Improves node_labels.old node_labels.new }
-    ensures relaxed { IsRelaxedFrom (seen residual.entry.side residual.entry.graph.now.rows) residual.entry.flow.now residual.entry.potentials.now node_labels.new u (length (seen residual.entry.side residual.entry.graph.now.rows)) }
+    ensures relaxed { IsRelaxedFrom residual.entry.graph.now.rows residual.entry.flow.now residual.entry.potentials.now node_labels.new u (length residual.entry.graph.now.rows) }
 {
     let origin = Origin {
         node: u,
@@ -173,7 +155,7 @@ fn relax_all(
     };
     let mut walk = Walk::at(residual.graph, u as u32);
     while let Some(end) = walk.next(residual.graph) {
-        relax(residual, node_labels, queue, rooms, origin, end);
+        relax(residual, node_labels, queue, origin, end);
     }
 }
 
@@ -182,22 +164,20 @@ pub fn settle_node(
     residual: Residual<'_>,
     node_labels: &mut [NodeLabel],
     queue: &mut Queue,
-    rooms: &[bool],
 ) -> usize
     requires graph { HasEntries (length residual.potentials.now) residual.graph.now }
-    requires rooms { AreRooms residual.graph.now.rows residual.flow.now rooms.now }
-    requires search { IsSearch (seen residual.side residual.graph.now.rows) residual.flow.now residual.potentials.now node_labels.old }
+    requires search { IsSearch residual.graph.now.rows residual.flow.now residual.potentials.now node_labels.old }
     requires queue { IsQueueOf node_labels.old queue.old }
-    requires relaxed { AllRelaxed (seen residual.side residual.graph.now.rows) residual.flow.now residual.potentials.now node_labels.old }
+    requires relaxed { AllRelaxed residual.graph.now.rows residual.flow.now residual.potentials.now node_labels.old }
     requires some { 0 < size queue.old }
-    ensures search { IsSearch (seen residual.entry.side residual.entry.graph.now.rows) residual.entry.flow.now residual.entry.potentials.now node_labels.new }
+    ensures search { IsSearch residual.entry.graph.now.rows residual.entry.flow.now residual.entry.potentials.now node_labels.new }
     ensures queue { IsQueueOf node_labels.new queue.new }
-    ensures relaxed { AllRelaxed (seen residual.entry.side residual.entry.graph.now.rows) residual.entry.flow.now residual.entry.potentials.now node_labels.new }
+    ensures relaxed { AllRelaxed residual.entry.graph.now.rows residual.entry.flow.now residual.entry.potentials.now node_labels.new }
     ensures first { first_of queue.old ≡ result }
     ensures settles { Settles node_labels.old node_labels.new result }
 {
     let first = queue.settle_first(node_labels);
-    relax_all(residual, node_labels, queue, rooms, first);
+    relax_all(residual, node_labels, queue, first);
     first
 }
 
@@ -242,55 +222,31 @@ fn open_sources(
     }
 }
 
-/// How many nodes in deficit a search looks for: all of them, and 1 where there is none.
-fn wanted_deficits(excess: &[i64]) -> usize
-    ensures all { 0 < count_by (λ e. int_lt e (pos 0)) excess.now → result ≡ count_by (λ e. int_lt e (pos 0)) excess.now }
-    ensures at_least_1 { 0 < result }
-{
-    excess.iter().filter(|e| **e < 0).count().max(1)
-}
-
-/// Searches from the nodes in excess until all nodes in deficit are settled, or no node is open, and gives how far
-/// the search has come; nothing where no node in deficit can be reached. The settled order lists the settled nodes. What
-/// the table of rooms does not say is read from the rows and the flow.
-pub fn find_deficits(
+/// Searches from the nodes in excess for the nearest node in deficit, and gives that node: it is open still, and the nodes
+/// that are nearer are settled. Nothing where no node in deficit can be reached, and then each node that is reached is
+/// settled.
+pub fn find_deficit(
     residual: Residual<'_>,
     excess: &[i64],
     node_labels: &mut [NodeLabel],
     queue: &mut Queue,
-    settled_order: &mut SettledOrder,
-    rooms: &[bool],
-) -> Option<i64>
+) -> Option<usize>
     requires graph { HasEntries (length residual.potentials.now) residual.graph.now }
-    requires rooms { AreRooms residual.graph.now.rows residual.flow.now rooms.now }
     requires excess_in { length excess.now ≡ length residual.potentials.now }
     requires node_labels_in { length node_labels.old ≡ length residual.potentials.now }
-    requires fresh { IsFresh node_labels.old }
     requires sized { IsQueueFor (length residual.potentials.now) queue.old }
-    requires settled_order_in { IsSettledOrderFor (length residual.potentials.now) settled_order.old }
-    ensures search { IsSearch (seen residual.entry.side residual.entry.graph.now.rows) residual.entry.flow.now residual.entry.potentials.now node_labels.new }
-    ensures relaxed { AllRelaxed (seen residual.entry.side residual.entry.graph.now.rows) residual.entry.flow.now residual.entry.potentials.now node_labels.new }
-    ensures from_excess { IsFromExcess excess.now node_labels.new }
-    ensures found { MatchOption result (IsExhausted excess.now node_labels.new) (HasFound excess.now node_labels.new) }
-    ensures queue { IsQueueOf node_labels.new queue.new }
-    ensures settled_order { IsSettledOrderOf node_labels.new settled_order.new }
+    ensures searched { HasSearched residual.entry.graph.now.rows residual.entry.flow.now residual.entry.potentials.now excess.now node_labels.new }
+    ensures found { MatchOption result (NoneOpen node_labels.new (length node_labels.new)) (IsNearestDeficit excess.now node_labels.new) }
+    ensures sized { IsQueueFor (length residual.entry.potentials.now) queue.new }
 {
+    clear_states(node_labels);
     queue.clear(node_labels);
-    settled_order.len = 0;
     open_sources(excess, residual.potentials, node_labels, queue);
-    let wanted = wanted_deficits(excess);
-    let mut found = 0;
-    let mut reach = 0;
     while let Some(u) = queue.first(node_labels) {
-        let _settled = settle_node(residual, node_labels, queue, rooms);
-        settled_order.note(u);
-        reach = node_labels[u].distance;
         if excess[u] < 0 {
-            found += 1;
-            if found == wanted {
-                return Some(reach);
-            }
+            return Some(u);
         }
+        let _settled = settle_node(residual, node_labels, queue);
     }
-    if found > 0 { Some(reach) } else { None }
+    None
 }

@@ -1,104 +1,78 @@
-use Rattle.std.proofs.Common.{◌≡◌, ◌∙◌, ℕ, ℤ, Bool, List, length, pos, ◌-◌, ◌<◌, ◌≤ℤ◌, refl, sym, ap, subst, arith, rules, w64, to_z, of_z, slice_set}
-use Rattle.std.specs.Vec.{with_items}
-use Rattle.std.proofs.lemmas.Int.{ints}
-use Rattle.std.proofs.lemmas.List.{with_items_is}
+use Rattle.std.proofs.Common.{◌≡◌, ◌∙◌, ◌<◌, ℕ, ℤ, List, ◌∷◌, length, pos, ◌≤ℤ◌, ap, arith, rules, subst, sym, slice_set, w64, to_z, of_z, SFits}
+use Rattle.std.proofs.lemmas.Int.{ints, to_z-of_z}
+use Rattle.std.proofs.lemmas.List.{get_or_default}
 use Rattle.residual_graph.specs.declared.residual.ResidualArc.{ResidualArc}
-use Rattle.augmentation.specs.declared.blocking.Walks.{Walks}
-use Rattle.augmentation.specs.Blocking.{IsWay, back_at, head_at, hops_from, hops_of}
-use Rattle.residual_graph.specs.Rooms.{AreRooms}
-use Rattle.residual_graph.specs.Residual.{IsPseudoflow, row_at, end_at, number_at, room_of}
+use Rattle.residual_graph.specs.Residual.{IsRow, IsWithinRow, number_at, room_of, row_at}
 use Rattle.shortest_paths.specs.Search.{depth_at}
-use Rattle.augmentation.specs.Push.{HasRoom, push_along, moved}
-use Rattle.residual_graph.specs.Side.{seen}
-use Rattle.augmentation.proofs.BlockingLemmas.{hop_on, here_fits, shift_on}
-use Rattle.augmentation.proofs.TouchedLemmas.{AreNoted-none, AreNoted-trans}
+use Rattle.augmentation.specs.Push.{HasRoom, before, hop_to, hops_before, moved, push_along}
+use Rattle.augmentation.specs.Tracked.{IsWritten}
+use Rattle.augmentation.proofs.PathLemmas.{IsOnward, onward_more, push_before, room_after, step_back}
+use Rattle.augmentation.proofs.PushLemmas.{IsWithin-moved, push_elsewhere}
+use Rattle.augmentation.proofs.TrackedLemmas.{IsWritten-trans}
 use Rattle.augmentation.proofs.augment.shift.Goals as goal
-use Rattle.augmentation.proofs.augment.shift.Goals.{After-way_on-hop}
+use Rattle.augmentation.proofs.augment.shift.Goals.{After-index}
 
--- the walk's tables are those at the beginning, but for the rooms
-hop_is : (c : After-way_on-hop) → c.way_on-hop.result ≡ back_at c.args.walks.now.back.items c.loop-node.node
-hop_is c = c.way_on-hop.ensures ∙ ap (λ (w : Walks). back_at w.back.items c.loop-node.node) c.loop-node.invariant.tables
+-- the hop back from the node, on which nothing was moved yet
+record IsHopBack (c : After-index) : Type 0 where
+  onward : IsOnward c.args.graph.now.rows c.args.node_labels.now c.args.target (before c.args.graph.now.rows c.args.node_labels.now c.loop-node.node) (hop_to c.args.node_labels.now c.loop-node.node ∷ c.loop-node.invariant.hops.0)
+  is_arc : (hop_to c.args.node_labels.now c.loop-node.node).arc < length c.args.graph.now.rows
+  entry : to_z w64 (of_z w64 c.index.result.now) ≡ number_at c.loop-node.flow.entries.items (hop_to c.args.node_labels.now c.loop-node.node).arc
+  within : IsWithinRow (row_at c.args.graph.now.rows (hop_to c.args.node_labels.now c.loop-node.node).arc) (moved (hop_to c.args.node_labels.now c.loop-node.node).way (number_at c.loop-node.flow.entries.items (hop_to c.args.node_labels.now c.loop-node.node).arc) (to_z w64 (of_z w64 c.args.amount)))
 
-arc_in : (c : After-way_on-hop) → c.way_on-hop.result.arc < length (seen c.args.levels.side c.args.levels.graph.now.rows)
-arc_in c =
-    let known = c.loop-node.invariant in
-    let on = hop_on (seen c.args.levels.side c.args.levels.graph.now.rows) c.loop-node.flow c.args.levels.node_labels.now c.args.walks.now c.args.path.target c.loop-node.node known.flow (omega arith) known.way in
-    omega (arith, on.is_arc, ap (λ (h : ResidualArc). h.arc) (hop_is c))
+hop_back : (c : After-index) → 0 < depth_at c.args.node_labels.now c.loop-node.node → IsHopBack c
+hop_back c deep =
+    let rows = c.args.graph.now.rows in
+    let x = c.args.flow.now.entries.items in
+    let s = c.args.node_labels.now in
+    let v = c.loop-node.node in
+    let h = hop_to s v in
+    let m = to_z w64 (of_z w64 c.args.amount) in
+    let same : m ≡ c.args.amount = to_z-of_z w64 c.args.amount c.ranges.amount in
+    let hops = c.loop-node.invariant.hops in
+    let came = c.requires.paths v hops.2.reached deep in
+    let more = onward_more rows s x c.requires.paths c.args.target v hops.0 deep hops.2 in
+    let kept : number_at c.loop-node.flow.entries.items h.arc ≡ number_at x h.arc = ap (λ (y : List ℤ). number_at y h.arc) hops.3 ∙ push_elsewhere hops.0 m x h.arc more.apart.1 in
+    let k_in : h.arc < length c.loop-node.flow.entries.items = omega (arith, c.loop-node.invariant.written.same_length, c.requires.flow.same_length, came.residual.is_arc) in
+    let read : c.index.result.now ≡ number_at c.loop-node.flow.entries.items h.arc = c.index.ensures ∙ get_or_default c.loop-node.flow.entries.items h.arc c.index.result.now (pos 0) k_in in
+    let fits : SFits w64 c.index.result.now = search rules in
+    let path : HasRoom rows x c.args.amount (hops_before rows s (depth_at s (before rows s v)) (before rows s v) (h ∷ hops.0)) =
+    subst (HasRoom rows x c.args.amount) (sym hops.1 ∙ step_back rows s x c.requires.paths v hops.0 hops.2.reached deep) c.requires.room in
+    let here = (room_after rows s x c.args.amount (depth_at s (before rows s v)) (before rows s v) (h ∷ hops.0) path).0 in
+    let row = c.requires.flow.rows h.arc came.residual.is_arc in
+    record {
+      onward = more;
+      is_arc = came.residual.is_arc;
+      entry = to_z-of_z w64 c.index.result.now fits ∙ read;
+      within = subst (λ (y : ℤ). IsWithinRow (row_at rows h.arc) (moved h.way y m)) (sym kept)
+          (IsWithin-moved _ (row_at rows h.arc) (number_at x h.arc) m h.way row (c.requires.flow.within h.arc came.residual.is_arc) (omega (arith, ints, same, c.requires.amount)) (omega (arith, ints, same, here)));
+    }
 
-pub way_on-hop-requires : goal.way_on-hop-requires
-way_on-hop-requires c =
-    let known = c.loop-node.invariant in
-    let same = ap (λ (w : Walks). length w.back.items) known.tables in
-    omega (arith, known.way.1.node_in, c.requires.walks.back_sized, same)
-
-pub shift_on-requires-clause-arc_in : goal.shift_on-requires-clause-arc_in
-shift_on-requires-clause-arc_in c = arc_in (goal.at.shift_on-requires-clause-arc_in c).After-way_on-hop
-
-pub end-node-requires : goal.end-node-requires
-end-node-requires c = arc_in (goal.at.end-node-requires c).After-way_on-hop
-
-pub shift_on-requires-clause-fits : goal.shift_on-requires-clause-fits
-shift_on-requires-clause-fits c =
-    let rows = (seen c.args.levels.side c.args.levels.graph.now.rows) in
-    let known = c.loop-node.invariant in
-    let on = hop_on rows c.loop-node.flow c.args.levels.node_labels.now c.args.walks.now c.args.path.target c.loop-node.node known.flow (omega arith) known.way in
-    subst (λ (h : ResidualArc). to_z w64 (of_z w64 c.args.amount) ≤ℤ room_of (row_at rows h.arc) (number_at c.loop-node.flow h.arc) h.way) (sym (hop_is (goal.at.shift_on-requires-clause-fits c).After-way_on-hop))
-    (here_fits rows c.loop-node.flow c.args.levels.node_labels.now c.args.walks.now _ c.args.path.target c.loop-node.node on known.room).0
-
-pub loop-node-init : goal.loop-node-init
-loop-node-init c = record {
-  way = c.requires.way;
-  flow = c.requires.flow;
-  room = search rules;
-  rest = search rules;
-  noted = AreNoted-none c.args.touched.now c.args.flow.now;
-  rooms = λ are. are;
-  tables = refl;
-}
-
-pub loop-node-smaller : goal.loop-node-smaller
-loop-node-smaller c =
-    let rows = (seen c.args.levels.side c.args.levels.graph.now.rows) in
-    let s = c.args.levels.node_labels.now in
-    let w = c.args.walks.now in
-    let known = c.loop-node.invariant in
-    let on = hop_on rows c.loop-node.flow s w c.args.path.target c.loop-node.node known.flow (omega arith) known.way in
-    let at_node : c.end-node.result ≡ head_at rows w.back.items c.loop-node.node = c.end-node.ensures ∙ ap (λ (h : ResidualArc). end_at rows h.arc h.way) (hop_is (goal.at.loop-node-smaller c).After-way_on-hop) in
-    omega (arith, on.lower, on.no_higher, ap (depth_at s) at_node)
+pub shifted-moved-requires : goal.shifted-moved-requires
+shifted-moved-requires c =
+    let back = hop_back (goal.at.shifted-moved-requires c).After-index (omega arith) in
+    let row = c.requires.flow.rows (hop_to c.args.node_labels.now c.loop-node.node).arc back.is_arc in
+    rw back.entry (omega (arith, ints, back.within.low_kept, back.within.cap_kept, row.low_at_least_0, row.cap_in))
 
 pub loop-node-preserved : goal.loop-node-preserved
 loop-node-preserved c =
-    let rows = (seen c.args.levels.side c.args.levels.graph.now.rows) in
-    let s = c.args.levels.node_labels.now in
-    let w = c.args.walks.now in
-    let t = c.args.path.target in
-    let back = w.back.items in
+    let rows = c.args.graph.now.rows in
+    let x = c.args.flow.now.entries.items in
+    let s = c.args.node_labels.now in
     let v = c.loop-node.node in
-    let amount = to_z w64 (of_z w64 c.args.amount) in
-    let known = c.loop-node.invariant in
-    let at_least : pos 1 ≤ℤ to_z w64 (of_z w64 c.args.amount) = omega (arith, ints) in
-    let step = shift_on rows c.loop-node.flow s w amount t v known.flow at_least (omega arith) known.way known.room in
-    let b = back_at back v in
-    let after = slice_set c.loop-node.flow b.arc (moved b.way (number_at c.loop-node.flow b.arc) amount) in
-    let flow_is : c.shift_on.new.flow ≡ after = c.shift_on.ensures.flow ∙ ap (λ (h : ResidualArc). slice_set c.loop-node.flow h.arc (moved h.way (number_at c.loop-node.flow h.arc) amount)) (hop_is (goal.at.loop-node-preserved c).After-way_on-hop) in
-    let at_node : c.end-node.result ≡ head_at rows back v = c.end-node.ensures ∙ ap (λ (h : ResidualArc). end_at rows h.arc h.way) (hop_is (goal.at.loop-node-preserved c).After-way_on-hop) in
-    let hops = hops_from rows s back t (head_at rows back v) in
+    let h = hop_to s v in
+    let m = to_z w64 (of_z w64 c.args.amount) in
+    let hops = c.loop-node.invariant.hops in
+    let back = hop_back (goal.at.loop-node-preserved c).After-index (omega arith) in
+    let at_node : c.start-node.result ≡ before rows s v = c.start-node.ensures in
+    let fits : SFits w64 c.shifted-moved.result = search rules in
+    let moved_is : to_z w64 (of_z w64 c.shifted-moved.result) ≡ moved h.way (number_at c.loop-node.flow.entries.items h.arc) m =
+    to_z-of_z w64 c.shifted-moved.result fits ∙ c.shifted-moved.ensures ∙ ap (λ (y : ℤ). moved h.way y m) back.entry in
     record {
-      way = subst (λ (u : ℕ). IsWay rows c.shift_on.new.flow s w t u) (sym at_node) (subst (λ (y : List ℤ). IsWay rows y s w t (head_at rows back v)) (sym flow_is) step.way);
-      flow = subst (λ (y : List ℤ). IsPseudoflow (length s) rows y) (sym flow_is) step.flow;
-      room = subst (λ (u : ℕ). HasRoom rows c.shift_on.new.flow amount (hops_from rows s back t u)) (sym at_node) (subst (λ (y : List ℤ). HasRoom rows y amount hops) (sym flow_is) step.room);
-      rest = ap (λ (u : ℕ). push_along (hops_from rows s back t u) amount c.shift_on.new.flow) at_node ∙ ap (λ (y : List ℤ). push_along hops amount y) flow_is ∙ step.rest ∙ known.rest;
-      noted = AreNoted-trans known.noted c.shift_on.ensures.noted;
-      rooms = λ are. subst (λ (t : List Bool). AreRooms c.args.levels.graph.now.rows c.shift_on.new.flow t)
-          (sym (with_items_is c.loop-node.walks.rooms c.shift_on.new.rooms (c.shift_on.auto.rooms ∙ c.deref_mut.ensures.len)))
-          (c.shift_on.ensures.rooms (subst (λ (t : List Bool). AreRooms c.args.levels.graph.now.rows c.loop-node.flow t) (sym c.deref_mut.ensures.value) (known.rooms are)));
-      tables = ap (λ (w : Walks). record w { rooms = with_items c.loop-node.walks.rooms c.shift_on.new.rooms }) known.tables;
+      written = IsWritten-trans _ _ _ c.loop-node.invariant.written c.set.ensures.written;
+      hops = (
+        h ∷ hops.0,
+        ap (λ (u : ℕ). hops_before rows s (depth_at s u) u (h ∷ hops.0)) at_node ∙ sym (step_back rows s x c.requires.paths v hops.0 hops.2.reached (omega arith)) ∙ hops.1,
+        subst (λ (u : ℕ). IsOnward rows s c.args.target u (h ∷ hops.0)) (sym at_node) back.onward,
+        c.set.ensures.entries ∙ ap (slice_set c.loop-node.flow.entries.items h.arc) moved_is ∙ push_before rows h hops.0 m x c.loop-node.flow.entries.items back.onward.apart hops.3,
+      );
     }
-
-pub returns-clause-flow : goal.returns-clause-flow
-returns-clause-flow c =
-    let rows = (seen c.args.levels.side c.args.levels.graph.now.rows) in
-    let s = c.args.levels.node_labels.now in
-    let back = c.args.walks.now.back.items in
-    let last : depth_at s c.args.path.target - depth_at s c.loop-node.node ≡ 0 = omega (arith, c.loop-node-test.false) in
-    ap (λ (d : ℕ). push_along (hops_of rows back d c.loop-node.node) (to_z w64 (of_z w64 c.args.amount)) c.loop-node.flow) (sym last) ∙ c.loop-node.invariant.rest ∙ search rules

@@ -4,10 +4,9 @@ use Rattle.residual_graph.specs.Ends.{leaving}
 use Rattle.residual_graph.specs.declared.residual.ResidualArc.{ResidualArc}
 use Rattle.augmentation.specs.Cut.{IsFarIn, IsGrown, far_at, in_set, near_at}
 use Rattle.residual_graph.specs.Residual.{IsResidual, row_at}
-use Rattle.residual_graph.specs.Side.{IsLeadingAt, leading, seen}
-use Rattle.augmentation.proofs.CutLemmas.{IsGrown-put, IsGrown-refl, IsGrown-trans, far_seen, marked_in, near_seen}
+use Rattle.residual_graph.specs.Side.{leading}
+use Rattle.augmentation.proofs.CutLemmas.{IsGrown-put, IsGrown-refl, IsGrown-trans, IsLeadingAt, all_led_met, all_led_to_come, leading_at, marked_in, one_led_more}
 use Rattle.residual_graph.proofs.RowLemmas.{end_of-in}
-use Rattle.residual_graph.proofs.SideLemmas.{all_seen_met, all_seen_to_come, leading_at, one_seen_more, seen_length}
 use Rattle.augmentation.proofs.cut.mark_from.Goals as goal
 use Rattle.augmentation.proofs.cut.mark_from.Goals.{In-Some, Then-has_room}
 
@@ -20,16 +19,12 @@ loop-end-init c = record {
   grown = IsGrown-refl c.args.on.side c.args.on.graph.now.rows c.args.on.flow.now c.args.cut.now c.args.worklist.now c.args.len;
   walk = c.at-walk.ensures.walk;
   node = c.at-walk.ensures.node;
-  done = all_seen_to_come c.args.on.side c.args.on.graph.now c.at-walk.result c.args.node (IsFarIn c.args.on.side c.args.on.graph.now.rows c.args.on.flow.now c.args.cut.now) c.at-walk.ensures.all c.at-walk.ensures.node;
+  done = all_led_to_come c.args.on.side c.args.on.graph.now c.at-walk.result c.args.node (IsFarIn c.args.on.side c.args.on.graph.now.rows c.args.on.flow.now c.args.cut.now) c.at-walk.ensures.all c.at-walk.ensures.node;
 }
 
--- the residual arc that leads on starts at the node
-leads_on : (c : In-Some) → IsLeadingAt c.args.on.side (seen c.args.on.side c.args.on.graph.now.rows) c.loop-end.walk.node c.in-Some.end
+-- the residual arc leads on from the node to the other node
+leads_on : (c : In-Some) → IsLeadingAt c.args.on.side c.args.on.graph.now.rows c.loop-end.walk.node c.in-Some.end
 leads_on c = leading_at c.args.on.side c.args.on.graph.now.rows c.loop-end.walk.node c.in-Some.end c.in-Some.ensures.end
-
--- and leads to the other node
-far_is : (c : In-Some) → far_at c.args.on.side c.args.on.graph.now.rows (leading c.args.on.side c.in-Some.end).arc (leading c.args.on.side c.in-Some.end).way ≡ c.in-Some.end.other
-far_is c = sym (far_seen c.args.on.side c.args.on.graph.now.rows (leading c.args.on.side c.in-Some.end).arc (leading c.args.on.side c.in-Some.end).way) ∙ (leads_on c).ends
 
 -- that node is marked already
 pub loop-end-preserved-then-cut-far : goal.loop-end-preserved-then-cut-far
@@ -40,8 +35,8 @@ loop-end-preserved-then-cut-far c =
       grown = c.loop-end.invariant.grown;
       walk = c.next.ensures.walk;
       node = c.next.ensures.node ∙ c.loop-end.invariant.node;
-      done = one_seen_more c.args.on.side c.args.on.graph.now c.loop-end.walk c.next.new.self c.args.node c.in-Some.end P P c.loop-end.invariant.done c.in-Some.ensures.rest (λ k way far. far)
-          (λ residual. ap (in_set c.loop-end.cut) (far_is (goal.at.loop-end-preserved-then-cut-far c).In-Some) ∙ c.if-cut-far.true);
+      done = one_led_more c.args.on.side c.args.on.graph.now c.loop-end.walk c.next.new.self c.args.node c.in-Some.end P P c.loop-end.invariant.done c.in-Some.ensures.rest (λ k way far. far)
+          (λ residual. ap (in_set c.loop-end.cut) (leads_on (goal.at.loop-end-preserved-then-cut-far c).In-Some).far ∙ c.if-cut-far.true);
     }
 
 -- the residual arc is not there
@@ -53,8 +48,8 @@ loop-end-preserved c =
       grown = c.loop-end.invariant.grown;
       walk = c.next.ensures.walk;
       node = c.next.ensures.node ∙ c.loop-end.invariant.node;
-      done = one_seen_more c.args.on.side c.args.on.graph.now c.loop-end.walk c.next.new.self c.args.node c.in-Some.end P P c.loop-end.invariant.done c.in-Some.ensures.rest (λ k way far. far)
-          (λ residual. cc (c.has_room.ensures.here.1 (subst (λ (a : ResidualArc). IsResidual c.args.on.graph.now.rows c.args.on.flow.now a.arc a.way) (sym c.leading.ensures) residual)));
+      done = one_led_more c.args.on.side c.args.on.graph.now c.loop-end.walk c.next.new.self c.args.node c.in-Some.end P P c.loop-end.invariant.done c.in-Some.ensures.rest (λ k way far. far)
+          (λ residual. cc (c.has_room.ensures.1 (subst (λ (a : ResidualArc). IsResidual c.args.on.graph.now.rows c.args.on.flow.now a.arc a.way) (sym c.leading.ensures) residual)));
     }
 
 other_in : (c : Then-has_room) → c.in-Some.end.other < length c.loop-end.cut
@@ -69,11 +64,11 @@ marks c =
     let arc = (leading c.args.on.side c.in-Some.end).arc in
     let way = (leading c.args.on.side c.in-Some.end).way in
     let leads = leading_at c.args.on.side rows c.loop-end.walk.node c.in-Some.end c.in-Some.ensures.end in
-    let residual : IsResidual rows c.args.on.flow.now arc way = subst (λ (a : ResidualArc). IsResidual rows c.args.on.flow.now a.arc a.way) c.leading.ensures (c.has_room.ensures.here.0 c.if-has_room.true) in
-    let near : near_at c.args.on.side rows arc way ≡ c.args.node = sym (near_seen c.args.on.side rows arc way) ∙ leads.starts ∙ c.loop-end.invariant.node in
+    let residual : IsResidual rows c.args.on.flow.now arc way = subst (λ (a : ResidualArc). IsResidual rows c.args.on.flow.now a.arc a.way) c.leading.ensures (c.has_room.ensures.0 c.if-has_room.true) in
+    let near : near_at c.args.on.side rows arc way ≡ c.args.node = leads.near ∙ c.loop-end.invariant.node in
     IsGrown-put c.args.on.side rows c.args.on.flow.now c.loop-end.cut c.loop-end.worklist c.loop-end.longer c.in-Some.end.other arc way c.loop-end.invariant.worklist residual
     (ap (in_set c.loop-end.cut) near ∙ c.loop-end.invariant.grown.kept c.args.node c.requires.marked)
-    (sym (far_seen c.args.on.side rows arc way) ∙ leads.ends) (other_in c) c.if-cut-far.false
+    leads.far (other_in c) c.if-cut-far.false
 
 pub loop-end-preserved-then-has_room : goal.loop-end-preserved-then-has_room
 loop-end-preserved-then-has_room c =
@@ -93,13 +88,10 @@ loop-end-preserved-then-has_room c =
       grown = IsGrown-trans c.loop-end.invariant.grown grown;
       walk = c.next.ensures.walk;
       node = c.next.ensures.node ∙ c.loop-end.invariant.node;
-      done = one_seen_more c.args.on.side c.args.on.graph.now c.loop-end.walk c.next.new.self c.args.node c.in-Some.end P Q c.loop-end.invariant.done c.in-Some.ensures.rest (λ k way far residual. grown.kept _ (far residual))
-          (λ residual. ap (in_set c.mark-longer.new.cut) (far_is (goal.at.loop-end-preserved-then-has_room c).In-Some) ∙ ap (λ (set : List Bool). in_set set v) c.mark-longer.ensures.cut ∙ get_or-set_same c.loop-end.cut v true false (other_in at));
+      done = one_led_more c.args.on.side c.args.on.graph.now c.loop-end.walk c.next.new.self c.args.node c.in-Some.end P Q c.loop-end.invariant.done c.in-Some.ensures.rest (λ k way far residual. grown.kept _ (far residual))
+          (λ residual. ap (in_set c.mark-longer.new.cut) (leads_on (goal.at.loop-end-preserved-then-has_room c).In-Some).far ∙ ap (λ (set : List Bool). in_set set v) c.mark-longer.ensures.cut ∙ get_or-set_same c.loop-end.cut v true false (other_in at));
     }
 
 pub returns-clause-far : goal.returns-clause-far
 returns-clause-far c = λ k way near residual.
-    (let side = c.args.on.side in
-    let rows = c.args.on.graph.now.rows in
-    all_seen_met side c.args.on.graph.now c.loop-end.walk c.args.node (IsFarIn side rows c.args.on.flow.now c.loop-end.cut) c.loop-end.invariant.done c.in_default.ensures.rest k way
-    (omega (arith, seen_length side rows, residual.is_arc)) (near_seen side rows k way ∙ near) residual)
+    all_led_met c.args.on.side c.args.on.graph.now c.loop-end.walk c.args.node (IsFarIn c.args.on.side c.args.on.graph.now.rows c.args.on.flow.now c.loop-end.cut) c.loop-end.invariant.done c.in_default.ensures.rest k way residual.is_arc near residual

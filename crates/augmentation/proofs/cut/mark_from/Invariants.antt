@@ -1,7 +1,7 @@
 use Rattle.std.proofs.Common.{◌≡◌}
 use Rattle.augmentation.specs.Cut.{IsFarIn, IsGrown, IsListOf}
 use Rattle.residual_graph.specs.Ends.{IsWalk, left_of}
-use Rattle.residual_graph.proofs.SideLemmas.{AllSeenOrCome}
+use Rattle.augmentation.proofs.CutLemmas.{AllLedOrCome}
 use Rattle.augmentation.proofs.cut.mark_from.Given as goal
 
 abbrev pub invariant-loop-end : goal.invariant-loop-end
@@ -10,7 +10,7 @@ invariant-loop-end l = record {
   grown : IsGrown l.on.side l.on.graph.now.rows l.on.flow.now l.initial.cut l.initial.worklist l.len l.cut l.worklist l.longer;
   walk : IsWalk l.on.graph.now l.walk;
   node : l.walk.node ≡ l.node;
-  done : AllSeenOrCome l.on.side l.on.graph.now l.walk l.node (IsFarIn l.on.side l.on.graph.now.rows l.on.flow.now l.cut);
+  done : AllLedOrCome l.on.side l.on.graph.now l.walk l.node (IsFarIn l.on.side l.on.graph.now.rows l.on.flow.now l.cut);
 }
 
 abbrev pub decreases-loop-end : goal.decreases-loop-end

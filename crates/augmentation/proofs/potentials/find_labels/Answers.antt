@@ -1,13 +1,12 @@
 use Rattle.std.proofs.Common.{◌∙◌, ℤ, List, sym, subst}
 use Rattle.std.proofs.lemmas.List.{with_items_is}
 use Rattle.shortest_paths.specs.declared.node_label.NodeLabel.{NodeLabel}
-use Rattle.residual_graph.specs.Side.{seen}
-use Rattle.augmentation.specs.Rounds.{AreLabelled}
+use Rattle.augmentation.specs.Settle.{AreLabelled}
 use Rattle.augmentation.proofs.potentials.find_labels.Goals as goal
 
 pub returns-clause-labels : goal.returns-clause-labels
 returns-clause-labels c =
-    let rows = seen c.args.side c.args.graph.now.rows in
+    let rows = c.args.graph.now.rows in
     let call = c.search_labels in
     let found : AreLabelled rows c.deref.result.now c.deref-2.result.now call.new.node_labels = record {
       search = call.ensures.search;

@@ -1,6 +1,10 @@
-use Rattle.shortest_paths.specs.Search.{node_label_at, lowered}
-use Rattle.shortest_paths.proofs.SettledOrderLemmas.{IsWrittenAlong}
+use Rattle.std.proofs.Common.{◌≡◌, ℕ, ◌<◌, ◌≤◌}
+use Rattle.residual_graph.specs.Residual.{number_at}
+use Rattle.shortest_paths.specs.Search.{lowered, node_label_at}
 use Rattle.augmentation.proofs.potentials.lower.Given as goal
 
-abbrev pub invariant-loop-j : goal.invariant-loop-j
-invariant-loop-j l = IsWrittenAlong (λ v old. lowered old (node_label_at l.node_labels v) l.reach) l.settled_order.nodes.items l.j l.initial.potentials l.potentials
+abbrev pub invariant-loop-v : goal.invariant-loop-v
+invariant-loop-v l = record {
+  done : (k : ℕ) → k < l.v → number_at l.potentials k ≡ lowered (number_at l.initial.potentials k) (node_label_at l.node_labels k) l.reach;
+  rest : (k : ℕ) → l.v ≤ k → number_at l.potentials k ≡ number_at l.initial.potentials k;
+}

@@ -19,15 +19,14 @@ write_labels-requires-clause-fits c = λ v.
     (label_is_number _ _ _ _ (certified f) c.find_labels.ensures.labels v)))
 
 -- the labels in the `Tracked` table
-shortest : (c : After-write_labels) → IsReducedCostOptimal c.args.graph.now.rows c.args.flow.now.entries.items c.find_labels.new.scratch.potentials.items → AreShortest c.args.graph.now.rows c.args.flow.now.entries.items (with_items c.args.potentials.now.entries c.write_labels.new.table).items
+shortest : (c : After-write_labels) → IsReducedCostOptimal c.args.graph.now.rows c.args.flow.now.entries.items c.find_labels.new.scratch.potentials.items → AreShortest c.args.graph.now.rows c.args.flow.now.entries.items c.write_labels.new.table.entries.items
 shortest c before =
     let p = c.find_labels.new.scratch.potentials.items in
-    let q = c.write_labels.new.table in
+    let q = c.write_labels.new.table.entries.items in
     let labels : AreLabels p q c.find_labels.new.scratch.labels.node_labels.items =
     subst (λ (s : List NodeLabel). AreLabels p q s) c.deref-2.ensures.value
     (subst (λ (from : List ℤ). AreLabels from q c.deref-2.result.now) c.deref.ensures.value c.write_labels.ensures.labels) in
-    subst (AreShortest c.args.graph.now.rows c.args.flow.now.entries.items) (sym (with_items_is c.args.potentials.now.entries q (c.write_labels.auto.table ∙ c.deref_mut.ensures.len)))
-    (labels_shortest _ _ p _ before c.find_labels.ensures.labels q labels (c.write_labels.auto.table ∙ ap length c.deref_mut.ensures.value ∙ c.requires.same_length ∙ ap length (sym c.find_labels.ensures.kept)))
+    labels_shortest _ _ p _ before c.find_labels.ensures.labels q labels (c.write_labels.ensures.written.same_length ∙ c.requires.same_length ∙ ap length (sym c.find_labels.ensures.kept))
 
 pub returns-clause-certified : goal.returns-clause-certified
 returns-clause-certified c = (let at = goal.at.returns-clause-certified c in (shortest at.After-write_labels (certified at.After-find_labels)).certified)

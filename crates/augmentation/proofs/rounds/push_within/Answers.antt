@@ -1,166 +1,114 @@
-use Rattle.std.proofs.Common.{◌≡◌, ◌∙◌, ℕ, ℤ, List, length, refl, sym, ap, subst, arith, w64, to_z, of_z}
+use Rattle.std.proofs.Common.{◌≡◌, ◌∙◌, ◌<◌, ℕ, ℤ, pos, List, length, sym, ap, subst, arith, w64, to_z, of_z, SFits}
+use Rattle.std.specs.Prelude.{◌<ℤ◌}
 use Rattle.std.specs.Vec.{with_items}
 use Rattle.std.proofs.lemmas.Int.{ints, to_z-of_z}
-use Rattle.std.proofs.lemmas.List.{with_items_is}
+use Rattle.std.proofs.lemmas.List.{get_or_default, with_items_is}
 use Rattle.shortest_paths.specs.declared.node_label.NodeLabel.{NodeLabel}
-use Rattle.augmentation.specs.Blocking.{IsWalksFor}
-use Rattle.residual_graph.specs.Limits.{potential_floor}
-use Rattle.augmentation.specs.Push.{ArePaths, IsUnderWay, CanPush}
-use Rattle.residual_graph.specs.Residual.{ArePotentials, IsPseudoflow, NoneBelow, number_at}
-use Rattle.shortest_paths.specs.Search.{IsFoundDeficit, IsLowered}
-use Rattle.residual_graph.specs.Rooms.{AreRooms}
-use Rattle.residual_graph.specs.Side.{seen}
-use Rattle.augmentation.specs.Touched.{AreNoted}
-use Rattle.shortest_paths.specs.SettledOrder.{HoldReached, IsFresh}
-use Rattle.augmentation.proofs.SettleLemmas.{paths_of_search, paths_tight, none_below_after, potentials_after, fallen_further, can_push}
-use Rattle.shortest_paths.proofs.SettledOrderLemmas.{held_after_search}
-use Rattle.augmentation.proofs.TrackedLemmas.{IsWritten-noted}
+use Rattle.residual_graph.specs.Residual.{IsReducedCostOptimal, number_at}
+use Rattle.shortest_paths.specs.Search.{IsLowered, IsReach, distance_at, node_label_at}
+use Rattle.augmentation.specs.Push.{AreSmall, ArePushes, HavePaths, IsAugmented, root_to}
+use Rattle.augmentation.specs.Settle.{HasFound, HaveFallen}
+use Rattle.augmentation.proofs.PathLemmas.{paths_of_search}
+use Rattle.augmentation.proofs.SettleLemmas.{certified_after, fallen_after, is_reach, moved_on, one_pushed, root_from}
 use Rattle.augmentation.proofs.rounds.push_within.Goals as goal
-use Rattle.augmentation.proofs.rounds.push_within.Goals.{After-lower, After-deref-3, After-deref_mut-2, After-push_found-pushes, After-forget}
+use Rattle.augmentation.proofs.rounds.push_within.Goals.{After-augment, After-deref, After-index}
 
-is_lowered : (c : After-lower) → IsLowered c.args.scratch.now.potentials.items c.lower.new.potentials c.args.scratch.now.node_labels.items c.args.reach
-is_lowered c =
-    let reach_is : to_z w64 (of_z w64 c.args.reach) ≡ c.args.reach = to_z-of_z w64 c.args.reach c.ranges.reach in
-    subst (λ (r : ℤ). IsLowered c.args.scratch.now.potentials.items c.lower.new.potentials c.args.scratch.now.node_labels.items r) reach_is
-    (subst (λ (s : List NodeLabel). IsLowered c.args.scratch.now.potentials.items c.lower.new.potentials s (to_z w64 (of_z w64 c.args.reach))) c.deref.ensures.value
-    (subst (λ (p : List ℤ). IsLowered p c.lower.new.potentials c.deref.result.now (to_z w64 (of_z w64 c.args.reach))) c.deref_mut.ensures.value c.lower.ensures))
+-- how far the search came
+reach_is : (c : After-index) → to_z w64 (of_z w64 c.index.result.now.distance) ≡ distance_at c.args.scratch.now.node_labels.items c.args.target
+reach_is c =
+    let s = c.args.scratch.now.node_labels.items in
+    let found = c.requires.found in
+    let label : c.index.result.now ≡ node_label_at s c.args.target = c.index.ensures ∙ get_or_default s c.args.target c.index.result.now _ found.found.nearest.below in
+    let distance : c.index.result.now.distance ≡ distance_at s c.args.target = ap (λ (e : NodeLabel). e.distance) label in
+    let reach = is_reach c.args.graph.now.rows c.args.flow.now.entries.items c.args.scratch.now.potentials.items c.args.excess.now s c.args.target c.requires.certified found in
+    let low = found.searched.known.distance_at_least_0 c.args.target (λ h. cc) in
+    let fits : SFits w64 c.index.result.now.distance = omega (arith, ints, distance, reach.not_far, low) in
+    to_z-of_z w64 c.index.result.now.distance fits ∙ distance
 
--- one node_label for each potential
-sized : (c : After-lower) → length c.args.scratch.now.node_labels.items ≡ length c.lower.new.potentials
-sized c = c.requires.found.searched.search.sized ∙ sym (c.lower.auto.potentials ∙ ap (λ (p : List ℤ). length p) c.deref_mut.ensures.value)
+pub lower-requires-clause-reach : goal.lower-requires-clause-reach
+lower-requires-clause-reach c =
+    let s = c.args.scratch.now.node_labels.items in
+    subst (λ (l : List NodeLabel). IsReach l (to_z w64 (of_z w64 c.index.result.now.distance))) (sym c.deref.ensures.value)
+    (subst (IsReach s) (sym (reach_is (goal.at.lower-requires-clause-reach c).After-index))
+    (is_reach c.args.graph.now.rows c.args.flow.now.entries.items c.args.scratch.now.potentials.items c.args.excess.now s c.args.target c.requires.certified c.requires.found))
 
-none_below : (c : After-lower) → NoneBelow (seen c.args.side c.args.graph.now.rows) c.args.flow.now.entries.items c.lower.new.potentials
-none_below c =
-    let f = c.requires.found.searched in
-    none_below_after (seen c.args.side c.args.graph.now.rows) c.args.flow.now.entries.items c.args.scratch.now.potentials.items c.lower.new.potentials c.args.scratch.now.node_labels.items c.args.reach c.requires.near.0 c.requires.certified f.search f.relaxed f.found.front (is_lowered c) c.requires.near.1
+pub augment-requires-clause-paths : goal.augment-requires-clause-paths
+augment-requires-clause-paths c =
+    subst (HavePaths c.args.graph.now.rows c.args.flow.now.entries.items) (sym c.deref-2.ensures.value) (paths_of_search c.requires.found.searched.known)
 
-within : (c : After-lower) → ArePotentials (length c.lower.new.potentials) potential_floor c.lower.new.potentials
-within c =
-    let f = c.requires.found.searched in
-    potentials_after (seen c.args.side c.args.graph.now.rows) c.args.flow.now.entries.items c.args.scratch.now.potentials.items c.lower.new.potentials c.args.scratch.now.node_labels.items c.args.reach c.requires.near.0 c.requires.certified f.search f.relaxed f.found.front (is_lowered c) c.requires.near.1
+pub augment-requires-clause-some_excess : goal.augment-requires-clause-some_excess
+augment-requires-clause-some_excess c =
+    let rows = c.args.graph.now.rows in
+    let s = c.args.scratch.now.node_labels.items in
+    subst (λ (l : List NodeLabel). pos 0 <ℤ number_at c.deref_mut-2.result.now (root_to rows l c.args.target)) (sym c.deref-2.ensures.value)
+    (subst (λ (e : List ℤ). pos 0 <ℤ number_at e (root_to rows s c.args.target)) (sym (c.deref_mut-2.ensures.value ∙ c.excess.view_is))
+    (root_from rows c.args.flow.now.entries.items c.args.scratch.now.potentials.items c.args.excess.now s c.args.target c.requires.certified c.requires.found).0)
 
--- the lowered potentials, as they stand in the table
-new_is : (c : After-lower) → (with_items c.args.scratch.now.potentials c.lower.new.potentials).items ≡ c.lower.new.potentials
-new_is c = with_items_is c.args.scratch.now.potentials c.lower.new.potentials (c.lower.auto.potentials ∙ c.deref_mut.ensures.len)
+-- what comes of it
+record IsDone (c : After-augment) : Type 0 where
+  certified : IsReducedCostOptimal c.args.graph.now.rows c.augment.new.flow.entries.items c.lower.new.potentials
+  fallen : HaveFallen c.lower.new.potentials c.augment.new.excess
+  small : AreSmall c.augment.new.excess
+  pushed : ArePushes c.args.graph.now.rows 1 c.args.flow.now.entries.items c.args.excess.now c.augment.new.flow.entries.items c.augment.new.excess
 
-potentials_are : (c : After-deref-3) → c.deref-2.result.now ≡ c.lower.new.potentials
-potentials_are c = c.deref-2.ensures.value ∙ with_items_is c.args.scratch.now.potentials c.lower.new.potentials (c.lower.auto.potentials ∙ c.deref_mut.ensures.len)
-
-pub invariant_of-levels : goal.invariant_of-levels
-invariant_of-levels c =
-    let a = (goal.at.invariant_of-levels c).After-lower in
-    let d = (goal.at.invariant_of-levels c).After-deref-3 in
-    let same : length c.lower.new.potentials ≡ length c.deref-3.result.now = sym (ap (λ (s : List NodeLabel). length s) c.deref-3.ensures.value ∙ sized a) in
+is_done : (c : After-augment) → to_z w64 (of_z w64 c.index.result.now.distance) ≡ distance_at c.args.scratch.now.node_labels.items c.args.target → IsDone c
+is_done c reach =
+    let rows = c.args.graph.now.rows in
+    let x = c.args.flow.now.entries.items in
+    let p = c.args.scratch.now.potentials.items in
+    let q = c.lower.new.potentials in
+    let s = c.args.scratch.now.node_labels.items in
+    let e = c.args.excess.now in
+    let t = c.args.target in
+    let y = c.augment.new.flow.entries.items in
+    let f = c.augment.new.excess in
+    let low : IsLowered p q s (distance_at s t) =
+    subst (IsLowered p q s) reach
+    (subst (λ (l : List NodeLabel). IsLowered p q l (to_z w64 (of_z w64 c.index.result.now.distance))) c.deref.ensures.value
+    (subst (λ (from : List ℤ). IsLowered from q c.deref.result.now (to_z w64 (of_z w64 c.index.result.now.distance))) c.deref_mut.ensures.value c.lower.ensures)) in
+    let step : IsAugmented rows s t x e y f =
+    subst (λ (l : List NodeLabel). IsAugmented rows l t x e y f) c.deref-2.ensures.value
+    (subst (λ (g : List ℤ). IsAugmented rows c.deref-2.result.now t x g y f) (c.deref_mut-2.ensures.value ∙ c.excess.view_is) c.augment.ensures.pushed) in
+    let sized_q : length q ≡ length p = c.lower.auto.potentials ∙ ap length c.deref_mut.ensures.value in
     record {
-      potentials_in = subst (λ (n : ℕ). ArePotentials n potential_floor c.deref-2.result.now) same
-          (subst (λ (p : List ℤ). ArePotentials (length c.lower.new.potentials) potential_floor p) (sym (potentials_are d)) (within a));
+      certified = certified_after rows x p e s t c.requires.certified c.requires.found q low y f c.requires.small c.requires.excess_in sized_q step c.requires.fallen;
+      fallen = fallen_after rows x p e s t c.requires.certified c.requires.found q low y f c.requires.small c.requires.excess_in sized_q step c.requires.fallen;
+      small = (moved_on rows x p e s t c.requires.certified c.requires.found q low y f c.requires.small c.requires.excess_in sized_q step c.requires.fallen).small;
+      pushed = one_pushed rows x p e s t c.requires.certified c.requires.found q low y f c.requires.small c.requires.excess_in sized_q step c.requires.fallen;
     }
 
-pub push_found-pushes-requires-clause-state : goal.push_found-pushes-requires-clause-state
-push_found-pushes-requires-clause-state c =
-    let a = (goal.at.push_found-pushes-requires-clause-state c).After-lower in
-    let d = (goal.at.push_found-pushes-requires-clause-state c).After-deref-3 in
-    let rows = seen c.args.side c.args.graph.now.rows in
-    let node_labels = c.args.scratch.now.node_labels.items in
-    let state : IsUnderWay (length node_labels) rows c.lower.new.potentials c.args.flow.now.entries.items c.args.excess.now = record {
-      flow = subst (λ (n : ℕ). IsPseudoflow n rows c.args.flow.now.entries.items) (sym c.requires.found.searched.search.sized) c.requires.certified.flow;
-      none_below = none_below a;
-      excess_sized = c.requires.excess_in ∙ sym c.requires.found.searched.search.sized;
-      small = c.requires.small;
-    } in
-    subst (λ (s : List NodeLabel). IsUnderWay (length s) rows c.deref-2.result.now c.deref_mut-2.result.now c.args.excess.now) (sym c.deref-3.ensures.value)
-    (subst (λ (p : List ℤ). IsUnderWay (length node_labels) rows p c.deref_mut-2.result.now c.args.excess.now) (sym (potentials_are d))
-    (subst (λ (x : List ℤ). IsUnderWay (length node_labels) rows c.lower.new.potentials x c.args.excess.now) (sym c.deref_mut-2.ensures.value) state))
+potentials_are : (c : After-augment) → (with_items c.args.scratch.now.potentials c.lower.new.potentials).items ≡ c.lower.new.potentials
+potentials_are c = with_items_is c.args.scratch.now.potentials c.lower.new.potentials (c.lower.auto.potentials ∙ c.deref_mut.ensures.len)
 
-pub push_found-pushes-requires-clause-paths : goal.push_found-pushes-requires-clause-paths
-push_found-pushes-requires-clause-paths c =
-    let a = (goal.at.push_found-pushes-requires-clause-paths c).After-lower in
-    let d = (goal.at.push_found-pushes-requires-clause-paths c).After-deref-3 in
-    let rows = seen c.args.side c.args.graph.now.rows in
-    let f = c.requires.found.searched in
-    let paths : ArePaths rows c.lower.new.potentials c.args.scratch.now.node_labels.items = record {
-      paths = paths_of_search f.search;
-      tight = paths_tight rows c.args.flow.now.entries.items c.args.scratch.now.potentials.items c.lower.new.potentials c.args.scratch.now.node_labels.items c.args.reach c.requires.near.0 c.requires.certified f.search f.relaxed f.found.front (is_lowered a) c.requires.near.1;
-    } in
-    subst (λ (s : List NodeLabel). ArePaths rows c.deref-2.result.now s) (sym c.deref-3.ensures.value)
-    (subst (λ (p : List ℤ). ArePaths rows p c.args.scratch.now.node_labels.items) (sym (potentials_are d)) paths)
+excess_is : (c : After-augment) → (with_items c.excess.inside.entries c.augment.new.excess).items ≡ c.augment.new.excess
+excess_is c = with_items_is c.excess.inside.entries c.augment.new.excess (c.augment.auto.excess ∙ c.deref_mut-2.ensures.len)
 
-pub push_found-pushes-requires-clause-can_push : goal.push_found-pushes-requires-clause-can_push
-push_found-pushes-requires-clause-can_push c = λ t found.
-    (let rows = seen c.args.side c.args.graph.now.rows in
-    let node_labels = c.args.scratch.now.node_labels.items in
-    let f = c.requires.found.searched in
-    let here : IsFoundDeficit c.args.excess.now node_labels t = subst (λ (s : List NodeLabel). IsFoundDeficit c.args.excess.now s t) c.deref-3.ensures.value found in
-    subst (λ (s : List NodeLabel). CanPush rows c.deref_mut-2.result.now c.args.excess.now s t) (sym c.deref-3.ensures.value)
-    (subst (λ (x : List ℤ). CanPush rows x c.args.excess.now node_labels t) (sym c.deref_mut-2.ensures.value)
-    (can_push rows c.args.flow.now.entries.items c.args.scratch.now.potentials.items c.args.excess.now node_labels t f.search f.from_excess here)))
-
-pub forget-requires : goal.forget-requires
-forget-requires c = record {
-  reached = subst (λ (s : List NodeLabel). HoldReached s c.args.scratch.now.queue c.args.scratch.now.settled_order) (sym c.deref_mut-3.ensures.value)
-      (held_after_search c.args.scratch.now.potentials.items c.args.scratch.now.node_labels.items c.args.scratch.now.queue c.args.scratch.now.settled_order c.requires.found.searched.search.bounds c.requires.found.queue c.requires.found.settled_order);
-}
-
-flow_is : (c : After-push_found-pushes) → (with_items c.args.flow.now.entries c.push_found-pushes.new.flow).items ≡ c.push_found-pushes.new.flow
-flow_is c = with_items_is c.args.flow.now.entries c.push_found-pushes.new.flow (c.push_found-pushes.auto.flow ∙ c.deref_mut-2.ensures.len)
-
-pub returns-clause-flow_written : goal.returns-clause-flow_written
-returns-clause-flow_written c =
-    let s = (goal.at.returns-clause-flow_written c).After-push_found-pushes in
-    let now = c.push_found-pushes.new in
-    let from : AreNoted c.args.flow.now.touched c.args.flow.now.entries.items now.touched now.flow =
-    subst (λ (x : List ℤ). AreNoted c.args.flow.now.touched x now.touched now.flow) c.deref_mut-2.ensures.value c.push_found-pushes.ensures.noted in
-    IsWritten-noted c.args.flow.now (record { entries = with_items c.args.flow.now.entries now.flow; kept = c.args.flow.now.kept; size = c.args.flow.now.size; touched = now.touched })
-    c.requires.flow_tracked refl refl (omega arith)
-    (subst (λ (x : List ℤ). AreNoted c.args.flow.now.touched c.args.flow.now.entries.items now.touched x) (sym (flow_is s)) from)
+pub invariant_of-excess : goal.invariant_of-excess
+invariant_of-excess c =
+    let a = (goal.at.invariant_of-excess c).After-augment in
+    let pushed = (is_done a (reach_is (goal.at.invariant_of-excess c).After-index)).pushed in
+    record {
+      one_a_node = c.excess.invariant.one_a_node ∙ sym (ap length (excess_is a) ∙ c.augment.auto.excess ∙ ap length c.deref_mut-2.ensures.value);
+      balanced = λ v out. ap (λ (e : List ℤ). number_at e v) (excess_is a) ∙ pushed.balanced v (ap (λ (e : List ℤ). number_at e v) (sym c.excess.view_is) ∙ c.excess.invariant.balanced v out);
+    }
 
 pub returns-clause-certified : goal.returns-clause-certified
 returns-clause-certified c =
-    let a = (goal.at.returns-clause-certified c).After-lower in
-    let d = (goal.at.returns-clause-certified c).After-deref-3 in
-    let s = (goal.at.returns-clause-certified c).After-push_found-pushes in
-    let rows = seen c.args.side c.args.graph.now.rows in
-    let y = c.push_found-pushes.new.flow in
-    let state = c.push_found-pushes.ensures.state in
-    let entries = (with_items c.args.scratch.now.potentials c.lower.new.potentials).items in
-    let many : length c.deref-3.result.now ≡ length entries = ap (λ (s : List NodeLabel). length s) c.deref-3.ensures.value ∙ sized a ∙ sym (ap (λ (p : List ℤ). length p) (new_is a)) in
-    record {
-      flow = subst (λ (x : List ℤ). IsPseudoflow (length entries) rows x) (sym (flow_is s)) (subst (λ (n : ℕ). IsPseudoflow n rows y) many state.flow);
-      potentials = subst (λ (p : List ℤ). ArePotentials (length p) potential_floor p) (sym (new_is a)) (within a);
-      none_below = subst (λ (x : List ℤ). NoneBelow rows x entries) (sym (flow_is s)) (subst (λ (p : List ℤ). NoneBelow rows y p) (potentials_are d ∙ sym (new_is a)) state.none_below);
-    }
+    let a = (goal.at.returns-clause-certified c).After-augment in
+    subst (IsReducedCostOptimal c.args.graph.now.rows c.augment.new.flow.entries.items) (sym (potentials_are a)) (is_done a (reach_is (goal.at.returns-clause-certified c).After-index)).certified
 
-pub returns-clause-at_least : goal.returns-clause-at_least
-returns-clause-at_least c = λ fallen near v.
-    (let a = (goal.at.returns-clause-at_least c).After-lower in
-    let f = c.requires.found.searched in
-    let further = fallen_further (seen c.args.side c.args.graph.now.rows) c.args.flow.now.entries.items c.args.scratch.now.potentials.items c.lower.new.potentials c.args.scratch.now.node_labels.items c.args.reach fallen c.requires.certified f.search f.relaxed f.found.front (is_lowered a) near v in
-    let same : number_at (with_items c.args.scratch.now.potentials c.lower.new.potentials).items v ≡ number_at c.lower.new.potentials v = ap (λ (p : List ℤ). number_at p v) (new_is a) in
-    omega (arith, ints, further, same))
+pub returns-clause-fallen : goal.returns-clause-fallen
+returns-clause-fallen c =
+    let a = (goal.at.returns-clause-fallen c).After-augment in
+    subst (λ (p : List ℤ). HaveFallen p (with_items c.excess.inside.entries c.augment.new.excess).items) (sym (potentials_are a))
+    (subst (HaveFallen c.lower.new.potentials) (sym (excess_is a)) (is_done a (reach_is (goal.at.returns-clause-fallen c).After-index)).fallen)
 
-pub returns-clause-scratch : goal.returns-clause-scratch
-returns-clause-scratch c =
-    let a = (goal.at.returns-clause-scratch c).After-lower in
-    let old = c.args.scratch.now in
-    let many : length old.node_labels.items ≡ length old.potentials.items = c.requires.found.searched.search.sized in
-    let node_labels_are : (with_items old.node_labels c.forget.new.node_labels).items ≡ c.forget.new.node_labels = with_items_is old.node_labels c.forget.new.node_labels (c.forget.auto.node_labels ∙ c.deref_mut-3.ensures.len) in
-    record {
-      node_labels_sized = ap (λ (s : List NodeLabel). length s) node_labels_are ∙ c.forget.auto.node_labels ∙ ap (λ (s : List NodeLabel). length s) c.deref_mut-3.ensures.value ∙ many;
-      potentials_sized = ap (λ (p : List ℤ). length p) (new_is a) ∙ sym (sized a) ∙ many;
-      fresh = subst IsFresh (sym node_labels_are) c.forget.ensures.fresh;
-      labels = c.requires.found.labels;
-      queue = record {
-        current_sized = c.requires.found.queue.current.sized ∙ many;
-        order_sized = c.requires.found.queue.heap.index.order_sized ∙ many;
-        place_sized = c.requires.found.queue.heap.index.place_sized ∙ many;
-      };
-      settled_order = record { nodes_sized = c.requires.found.settled_order.sized.nodes_sized ∙ many };
-      walks = subst (λ (n : ℕ). IsWalksFor n c.push_found-pushes.new.walks) (ap (λ (s : List NodeLabel). length s) c.deref-3.ensures.value ∙ many) c.push_found-pushes.ensures.walks;
-      attempt = c.requires.found.attempt;
-    }
+pub returns-clause-small : goal.returns-clause-small
+returns-clause-small c =
+    let a = (goal.at.returns-clause-small c).After-augment in
+    subst AreSmall (sym (excess_is a)) (is_done a (reach_is (goal.at.returns-clause-small c).After-index)).small
 
-pub returns-clause-rooms : goal.returns-clause-rooms
-returns-clause-rooms c are =
-    let arcs = c.args.graph.now.rows in
-    subst (λ (x : List ℤ). AreRooms arcs x c.push_found-pushes.new.walks.rooms.items) (sym (flow_is (goal.at.returns-clause-rooms c).After-push_found-pushes))
-    (c.push_found-pushes.ensures.rooms (subst (λ (x : List ℤ). AreRooms arcs x c.args.scratch.now.walks.rooms.items) (sym c.deref_mut-2.ensures.value) are))
+pub returns-clause-pushed : goal.returns-clause-pushed
+returns-clause-pushed c =
+    let a = (goal.at.returns-clause-pushed c).After-augment in
+    subst (ArePushes c.args.graph.now.rows 1 c.args.flow.now.entries.items c.args.excess.now c.augment.new.flow.entries.items) (sym (excess_is a)) (is_done a (reach_is (goal.at.returns-clause-pushed c).After-index)).pushed

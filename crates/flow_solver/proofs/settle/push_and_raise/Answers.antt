@@ -1,6 +1,6 @@
 use Rattle.std.proofs.Common.{◌∙◌, sym}
 use Rattle.std.proofs.lemmas.Bool.{false≢true}
-use Rattle.augmentation.proofs.SideLaws.{parted_unless_both}
+use Rattle.augmentation.proofs.CutLemmas.{parted_unless_both}
 use Rattle.flow_solver.proofs.StandingLemmas.{greatest_labels}
 use Rattle.flow_solver.proofs.settle.push_and_raise.Goals as goal
 

@@ -1,10 +1,9 @@
 use Rattle.shortest_paths.specs.Labels.{IsEntered}
 use Rattle.shortest_paths.specs.Queue.{IsQueueOf}
-use Rattle.residual_graph.specs.Side.{seen}
 use Rattle.shortest_paths.proofs.labels.enter.Given as goal
 
 abbrev pub invariant-loop-v : goal.invariant-loop-v
 invariant-loop-v l = record {
-  entered : IsEntered (seen l.residual.side l.residual.graph.now.rows) l.residual.flow.now l.residual.potentials.now l.node_labels l.v;
+  entered : IsEntered l.residual.graph.now.rows l.residual.flow.now l.residual.potentials.now l.node_labels l.v;
   queue : IsQueueOf l.node_labels l.queue;
 }

@@ -4,7 +4,6 @@ use Rattle.dimacs_text.specs.declared.problem.ArcRow.{ArcRow}
 use Rattle.shortest_paths.specs.declared.node_label.State.TheVariants.{Settled}
 use Rattle.residual_graph.specs.Residual.{row_at, cost_of, end_at, end_of, number_at, room_of, start_at, start_of}
 use Rattle.shortest_paths.specs.Search.{state_at, distance_at, depth_at, reduced_at}
-use Rattle.residual_graph.specs.Side.{seen}
 use Rattle.residual_graph.proofs.RowLemmas.{cost_of-bounds, start_of-in}
 use Rattle.shortest_paths.proofs.SearchLemmas.{settled_is_reached, depth_small, word_sum}
 use Rattle.shortest_paths.proofs.LabelLemmas.{room_fits, flow_fits}
@@ -22,10 +21,10 @@ pub room-requires : goal.room-requires
 room-requires c =
     rw (c.row-row.ensures, flow_fits c.args.arc.arc c.args.residual.certified c.requires.arc_in) (room_fits _ _ _ c.args.arc.way (c.args.residual.certified.flow.rows c.args.arc.arc c.requires.arc_in) (c.args.residual.certified.flow.within c.args.arc.arc c.requires.arc_in))
 
-room_is : (c : After-room) → c.room.result ≡ room_of (row_at (seen c.args.residual.side c.args.residual.graph.now.rows) c.args.arc.arc) (number_at c.args.residual.flow.now c.args.arc.arc) c.args.arc.way
+room_is : (c : After-room) → c.room.result ≡ room_of (row_at c.args.residual.graph.now.rows c.args.arc.arc) (number_at c.args.residual.flow.now c.args.arc.arc) c.args.arc.way
 room_is c =
     c.room.ensures ∙ ap (λ (a : ArcRow). room_of a (to_z w64 (of_z w64 (number_at c.args.residual.flow.now c.args.arc.arc))) c.args.arc.way) c.row-row.ensures
-    ∙ ap (λ (x : ℤ). room_of (row_at (seen c.args.residual.side c.args.residual.graph.now.rows) c.args.arc.arc) x c.args.arc.way) (flow_fits c.args.arc.arc c.args.residual.certified c.requires.arc_in)
+    ∙ ap (λ (x : ℤ). room_of (row_at c.args.residual.graph.now.rows c.args.arc.arc) x c.args.arc.way) (flow_fits c.args.arc.arc c.args.residual.certified c.requires.arc_in)
 
 pub returns-then-room-le0-clause-none : goal.returns-then-room-le0-clause-none
 returns-then-room-le0-clause-none c = λ none hop.
@@ -33,14 +32,14 @@ returns-then-room-le0-clause-none c = λ none hop.
     absurd (omega (arith, ints, room, hop.residual.has_room, c.room.type_inv, c.if-room-le0.true)))
 
 -- the arc starts at a settled node
-start_is : (c : After-room) → c.start-start.result ≡ start_at (seen c.args.residual.side c.args.residual.graph.now.rows) c.args.arc.arc c.args.arc.way
+start_is : (c : After-room) → c.start-start.result ≡ start_at c.args.residual.graph.now.rows c.args.arc.arc c.args.arc.way
 start_is c = c.start-start.ensures ∙ ap (λ (a : ArcRow). start_of a c.args.arc.way) c.row-row.ensures
 
-start_settled : (c : After-room) → state_at c.args.node_labels.now (start_at (seen c.args.residual.side c.args.residual.graph.now.rows) c.args.arc.arc c.args.arc.way) ≡ Settled
+start_settled : (c : After-room) → state_at c.args.node_labels.now (start_at c.args.residual.graph.now.rows c.args.arc.arc c.args.arc.way) ≡ Settled
 start_settled c = subst (λ (u : ℕ). state_at c.args.node_labels.now u ≡ Settled) (start_is c) (c.is_settled.ensures.0 c.if-not-is_settled.false)
 
-start_distance : (c : After-room) → distance_at c.args.node_labels.now (start_at (seen c.args.residual.side c.args.residual.graph.now.rows) c.args.arc.arc c.args.arc.way) ≡ pos 0
-start_distance c = c.requires.forest.kept (start_at (seen c.args.residual.side c.args.residual.graph.now.rows) c.args.arc.arc c.args.arc.way) (start_settled c)
+start_distance : (c : After-room) → distance_at c.args.node_labels.now (start_at c.args.residual.graph.now.rows c.args.arc.arc c.args.arc.way) ≡ pos 0
+start_distance c = c.requires.forest.kept (start_at c.args.residual.graph.now.rows c.args.arc.arc c.args.arc.way) (start_settled c)
 
 pub distance_through-distance-requires-clause-distance_low : goal.distance_through-distance-requires-clause-distance_low
 distance_through-distance-requires-clause-distance_low c = rw c.row-row.ensures (omega (arith, ints, start_distance (goal.at.distance_through-distance-requires-clause-distance_low c).After-room))
@@ -51,10 +50,10 @@ distance_through-distance-requires-clause-distance_high c = rw c.row-row.ensures
 pub overflow_add-result : goal.overflow_add-result
 overflow_add-result c =
     let reached = settled_is_reached c.args.node_labels.now c.start-start.result (c.is_settled.ensures.0 c.if-not-is_settled.false) in
-    let shallow = depth_small (seen c.args.residual.side c.args.residual.graph.now.rows) c.args.residual.flow.now c.args.residual.potentials.now c.args.node_labels.now c.start-start.result c.args.residual.certified c.requires.forest.known reached in
+    let shallow = depth_small c.args.residual.graph.now.rows c.args.residual.flow.now c.args.residual.potentials.now c.args.node_labels.now c.start-start.result c.args.residual.certified c.requires.forest.known reached in
     search (rules, shallow)
 
-distance_is : (c : After-distance_through-distance) → c.distance_through-distance.result ≡ distance_at c.args.node_labels.now (start_at (seen c.args.residual.side c.args.residual.graph.now.rows) c.args.arc.arc c.args.arc.way) +ℤ reduced_at (seen c.args.residual.side c.args.residual.graph.now.rows) c.args.residual.potentials.now c.args.arc.arc c.args.arc.way
+distance_is : (c : After-distance_through-distance) → c.distance_through-distance.result ≡ distance_at c.args.node_labels.now (start_at c.args.residual.graph.now.rows c.args.arc.arc c.args.arc.way) +ℤ reduced_at c.args.residual.graph.now.rows c.args.residual.potentials.now c.args.arc.arc c.args.arc.way
 distance_is c =
     c.distance_through-distance.ensures ∙ ap (λ (a : ArcRow). distance_at c.args.node_labels.now (start_of a c.args.arc.way) +ℤ ((cost_of a c.args.arc.way +ℤ number_at c.args.residual.potentials.now (start_of a c.args.arc.way)) -ℤ number_at c.args.residual.potentials.now (end_of a c.args.arc.way))) c.row-row.ensures
 
@@ -80,13 +79,13 @@ record FitBound (distance potential : ℤ) : Type 0 where
   potential_fits : SFits w64 potential
   fits : SFits w64 (distance +ℤ potential)
 
-fit_bound : (c : After-distance_through-distance) → distance_at c.args.node_labels.now (start_at (seen c.args.residual.side c.args.residual.graph.now.rows) c.args.arc.arc c.args.arc.way) ≡ pos 0 → FitBound c.distance_through-distance.result (number_at c.args.residual.potentials.now c.args.v)
+fit_bound : (c : After-distance_through-distance) → distance_at c.args.node_labels.now (start_at c.args.residual.graph.now.rows c.args.arc.arc c.args.arc.way) ≡ pos 0 → FitBound c.distance_through-distance.result (number_at c.args.residual.potentials.now c.args.v)
 fit_bound c start_0 =
     let row = c.args.residual.certified.flow.rows c.args.arc.arc c.requires.arc_in in
-    let bounds = cost_of-bounds _ (row_at (seen c.args.residual.side c.args.residual.graph.now.rows) c.args.arc.arc) c.args.arc.way row in
+    let bounds = cost_of-bounds _ (row_at c.args.residual.graph.now.rows c.args.arc.arc) c.args.arc.way row in
     let p = c.args.residual.certified.potentials in
-    let start = start_at (seen c.args.residual.side c.args.residual.graph.now.rows) c.args.arc.arc c.args.arc.way in
-    let end = end_at (seen c.args.residual.side c.args.residual.graph.now.rows) c.args.arc.arc c.args.arc.way in
+    let start = start_at c.args.residual.graph.now.rows c.args.arc.arc c.args.arc.way in
+    let end = end_at c.args.residual.graph.now.rows c.args.arc.arc c.args.arc.way in
     let is = distance_is c in
     record {
       distance_fits = omega (arith, ints, is, start_0, bounds, p.at_least start, p.at_most_0 start, p.at_least end, p.at_most_0 end);

@@ -1,14 +1,13 @@
 use Rattle.std.proofs.Common.{◌≤◌, length}
 use Rattle.shortest_paths.specs.Queue.{IsQueueOf}
 use Rattle.shortest_paths.specs.Search.{IsSearch, AllRelaxed, IsFromAll, unsettled}
-use Rattle.residual_graph.specs.Side.{seen}
 use Rattle.shortest_paths.proofs.labels.search_rest.Given as goal
 
 abbrev pub invariant-loop-u : goal.invariant-loop-u
 invariant-loop-u l = record {
   queue : IsQueueOf l.node_labels l.queue;
-  known : IsSearch (seen l.residual.side l.residual.graph.now.rows) l.residual.flow.now l.residual.potentials.now l.node_labels;
-  relaxed : AllRelaxed (seen l.residual.side l.residual.graph.now.rows) l.residual.flow.now l.residual.potentials.now l.node_labels;
+  known : IsSearch l.residual.graph.now.rows l.residual.flow.now l.residual.potentials.now l.node_labels;
+  relaxed : AllRelaxed l.residual.graph.now.rows l.residual.flow.now l.residual.potentials.now l.node_labels;
   from_all : IsFromAll l.residual.potentials.now l.node_labels;
   place : l.place ≤ length l.order;
 }

@@ -7,7 +7,7 @@ use Rattle.shortest_paths.specs.declared.node_label.State.TheVariants.{Unreached
 use Rattle.residual_graph.specs.Residual.{number_at}
 use Rattle.std.specs.Prelude.{◌<ℤ◌}
 use Rattle.shortest_paths.specs.Search.{HaveBounds, node_label_at, source_node_label, state_at}
-use Rattle.shortest_paths.proofs.SettledOrderLemmas.{HaveBounds-source}
+use Rattle.shortest_paths.proofs.RunLemmas.{HaveBounds-source}
 use Rattle.shortest_paths.proofs.search.open_sources.Goals as goal
 use Rattle.shortest_paths.proofs.search.open_sources.Goals.{then-excess-v-gt0, else-excess-v-gt0}
 

@@ -4,24 +4,18 @@ use Rattle.std.proofs.lemmas.Int.{ints, to_z-of_z}
 use Rattle.residual_graph.specs.declared.residual.ResidualArc.{ResidualArc}
 use Rattle.residual_graph.specs.Residual.{IsResidual, row_at, number_at, start_at}
 use Rattle.shortest_paths.specs.Search.{Takes, distance_at, node_label_at, reduced_at}
-use Rattle.residual_graph.specs.Side.{leading, seen}
+use Rattle.residual_graph.specs.Ends.{leaving}
 use Rattle.shortest_paths.proofs.SearchLemmas.{LastBounds, last_bounds, relaxed_already}
 use Rattle.residual_graph.proofs.RowLemmas.{end_of-in}
-use Rattle.residual_graph.proofs.SideLemmas.{flow_of_seen, seen_length}
 use Rattle.shortest_paths.proofs.search.relax.Goals as goal
 use Rattle.shortest_paths.proofs.search.relax.Goals.{After-distance_beyond-distance, After-priced_beyond-priced, After-takes, Start}
 
 other_in : (c : Start) → c.args.end.other < length c.args.node_labels.now
 other_in c =
-    rw (← c.requires.end.ends, c.requires.search.sized) (end_of-in (length c.args.residual.potentials.now) (row_at (seen c.args.residual.side c.args.residual.graph.now.rows) (leading c.args.residual.side c.args.end).arc) (leading c.args.residual.side c.args.end).way (c.args.residual.certified.flow.rows (leading c.args.residual.side c.args.end).arc c.requires.end.is_arc))
+    rw (← c.requires.end.ends, c.requires.search.sized) (end_of-in (length c.args.residual.potentials.now) (row_at c.args.residual.graph.now.rows (leaving c.args.end).arc) (leaving c.args.end).way (c.args.residual.certified.flow.rows (leaving c.args.end).arc c.requires.end.is_arc))
 
-bounds : (c : Start) → LastBounds c.args.node_labels.now (start_at (seen c.args.residual.side c.args.residual.graph.now.rows) (leading c.args.residual.side c.args.end).arc (leading c.args.residual.side c.args.end).way)
+bounds : (c : Start) → LastBounds c.args.node_labels.now (start_at c.args.residual.graph.now.rows (leaving c.args.end).arc (leaving c.args.end).way)
 bounds c = last_bounds c.args.residual.certified c.requires.search c.requires.last
-
--- a residual arc that the table says has no room is not there, from whichever side the arcs are seen
-pub returns-then-is_saturated-clause-relaxed : goal.returns-then-is_saturated-clause-relaxed
-returns-then-is_saturated-clause-relaxed c = λ residual.
-    absurd (c.is_saturated.ensures c.if-is_saturated.true c.args.residual.graph.now.rows c.args.residual.flow.now c.requires.rooms residual)
 
 pub offset_bounds-node_labels-end : goal.offset_bounds-node_labels-end
 offset_bounds-node_labels-end c = omega (arith, other_in (goal.at.offset_bounds-node_labels-end c).Start, c.requires.search.sized, c.args.residual.certified.flow.few_nodes)
@@ -31,11 +25,11 @@ bounds-node_labels-end c = other_in (goal.at.bounds-node_labels-end c).Start
 
 pub priced_beyond-priced-requires-clause-low : goal.priced_beyond-priced-requires-clause-low
 priced_beyond-priced-requires-clause-low c =
-    omega (arith, ints, c.requires.priced, (bounds (goal.at.priced_beyond-priced-requires-clause-low c).Start).low, c.args.residual.certified.potentials.at_least (start_at (seen c.args.residual.side c.args.residual.graph.now.rows) (leading c.args.residual.side c.args.end).arc (leading c.args.residual.side c.args.end).way))
+    omega (arith, ints, c.requires.priced, (bounds (goal.at.priced_beyond-priced-requires-clause-low c).Start).low, c.args.residual.certified.potentials.at_least (start_at c.args.residual.graph.now.rows (leaving c.args.end).arc (leaving c.args.end).way))
 
 pub priced_beyond-priced-requires-clause-high : goal.priced_beyond-priced-requires-clause-high
 priced_beyond-priced-requires-clause-high c =
-    omega (arith, ints, c.requires.priced, (bounds (goal.at.priced_beyond-priced-requires-clause-high c).Start).high, c.args.residual.certified.potentials.at_most_0 (start_at (seen c.args.residual.side c.args.residual.graph.now.rows) (leading c.args.residual.side c.args.end).arc (leading c.args.residual.side c.args.end).way))
+    omega (arith, ints, c.requires.priced, (bounds (goal.at.priced_beyond-priced-requires-clause-high c).Start).high, c.args.residual.certified.potentials.at_most_0 (start_at c.args.residual.graph.now.rows (leaving c.args.end).arc (leaving c.args.end).way))
 
 pub takes-requires : goal.takes-requires
 takes-requires c = record { limit = omega (arith, ints, c.priced_beyond-priced.ensures.high) }
@@ -49,13 +43,13 @@ takes c inside =
     (c.takes.ensures (number_at c.args.residual.potentials.now c.args.end.other) (c.requires.search.bounds c.args.end.other inside))
 
 -- the length is that of the path by way of the residual arc
-length_is : (c : After-priced_beyond-priced) → (c.priced_beyond-priced.result -ℤ number_at c.args.residual.potentials.now c.args.end.other) ≡ distance_at c.args.node_labels.now (start_at (seen c.args.residual.side c.args.residual.graph.now.rows) (leading c.args.residual.side c.args.end).arc (leading c.args.residual.side c.args.end).way) +ℤ reduced_at (seen c.args.residual.side c.args.residual.graph.now.rows) c.args.residual.potentials.now (leading c.args.residual.side c.args.end).arc (leading c.args.residual.side c.args.end).way
+length_is : (c : After-priced_beyond-priced) → (c.priced_beyond-priced.result -ℤ number_at c.args.residual.potentials.now c.args.end.other) ≡ distance_at c.args.node_labels.now (start_at c.args.residual.graph.now.rows (leaving c.args.end).arc (leaving c.args.end).way) +ℤ reduced_at c.args.residual.graph.now.rows c.args.residual.potentials.now (leaving c.args.end).arc (leaving c.args.end).way
 length_is c = omega (arith, ints, c.priced_beyond-priced.ensures.priced, c.requires.priced, ap (number_at c.args.residual.potentials.now) c.requires.end.ends)
 
 pub returns-then-not-takes-clause-relaxed : goal.returns-then-not-takes-clause-relaxed
 returns-then-not-takes-clause-relaxed c = λ residual.
     (let a = (goal.at.returns-then-not-takes-clause-relaxed c).After-takes in
-    relaxed_already (seen c.args.residual.side c.args.residual.graph.now.rows) c.args.residual.flow.now c.args.residual.potentials.now c.args.node_labels.now (start_at (seen c.args.residual.side c.args.residual.graph.now.rows) (leading c.args.residual.side c.args.end).arc (leading c.args.residual.side c.args.end).way) (leading c.args.residual.side c.args.end).arc (leading c.args.residual.side c.args.end).way (c.priced_beyond-priced.result -ℤ number_at c.args.residual.potentials.now c.args.end.other)
+    relaxed_already c.args.residual.graph.now.rows c.args.residual.flow.now c.args.residual.potentials.now c.args.node_labels.now (start_at c.args.residual.graph.now.rows (leaving c.args.end).arc (leaving c.args.end).way) (leaving c.args.end).arc (leaving c.args.end).way (c.priced_beyond-priced.result -ℤ number_at c.args.residual.potentials.now c.args.end.other)
     c.args.residual.certified c.requires.search c.requires.last residual refl (length_is (goal.at.returns-then-not-takes-clause-relaxed c).After-priced_beyond-priced)
     (λ h. cc ((takes a (other_in (goal.at.returns-then-not-takes-clause-relaxed c).Start)).1 (subst (λ (v : ℕ). Takes (node_label_at c.args.node_labels.now v) (c.priced_beyond-priced.result -ℤ number_at c.args.residual.potentials.now c.args.end.other)) c.requires.end.ends h))))
 
@@ -70,7 +64,7 @@ unpriced c =
     let fits : SFits w64 c.priced_beyond-priced.result = omega (arith, ints, c.priced_beyond-priced.ensures.low, c.priced_beyond-priced.ensures.high) in
     c.distance_beyond-distance.ensures ∙ ap (λ (z : ℤ). z -ℤ number_at c.args.residual.potentials.now c.args.end.other) (to_z-of_z w64 c.priced_beyond-priced.result fits)
 
-distance_is : (c : After-distance_beyond-distance) → c.distance_beyond-distance.result ≡ distance_at c.args.node_labels.now (start_at (seen c.args.residual.side c.args.residual.graph.now.rows) (leading c.args.residual.side c.args.end).arc (leading c.args.residual.side c.args.end).way) +ℤ reduced_at (seen c.args.residual.side c.args.residual.graph.now.rows) c.args.residual.potentials.now (leading c.args.residual.side c.args.end).arc (leading c.args.residual.side c.args.end).way
+distance_is : (c : After-distance_beyond-distance) → c.distance_beyond-distance.result ≡ distance_at c.args.node_labels.now (start_at c.args.residual.graph.now.rows (leaving c.args.end).arc (leaving c.args.end).way) +ℤ reduced_at c.args.residual.graph.now.rows c.args.residual.potentials.now (leaving c.args.end).arc (leaving c.args.end).way
 distance_is c = omega (arith, ints, unpriced c, c.priced_beyond-priced.ensures.priced, c.requires.priced, ap (number_at c.args.residual.potentials.now) c.requires.end.ends)
 
 -- a residual arc would make the path no shorter than those to the settled nodes
@@ -79,20 +73,15 @@ returns-then-distance-queue-clause-relaxed c = λ residual.
     (let here = (goal.at.returns-then-distance-queue-clause-relaxed c).After-distance_beyond-distance in
     let fits : SFits w64 c.distance_beyond-distance.result = search rules in
     let same : to_z w64 (of_z w64 c.distance_beyond-distance.result) ≡ c.distance_beyond-distance.result = to_z-of_z w64 c.distance_beyond-distance.result fits in
-    let present = c.requires.queue.passed (distance_at c.args.node_labels.now (start_at (seen c.args.residual.side c.args.residual.graph.now.rows) (leading c.args.residual.side c.args.end).arc (leading c.args.residual.side c.args.end).way)) (bounds (goal.at.returns-then-distance-queue-clause-relaxed c).Start).low c.requires.last.furthest in
-    absurd (omega (arith, ints, present, distance_is here, same, c.args.residual.certified.none_below (leading c.args.residual.side c.args.end).arc (leading c.args.residual.side c.args.end).way residual)))
+    let present = c.requires.queue.passed (distance_at c.args.node_labels.now (start_at c.args.residual.graph.now.rows (leaving c.args.end).arc (leaving c.args.end).way)) (bounds (goal.at.returns-then-distance-queue-clause-relaxed c).Start).low c.requires.last.furthest in
+    absurd (omega (arith, ints, present, distance_is here, same, c.args.residual.certified.none_below (leaving c.args.end).arc (leaving c.args.end).way residual)))
 
-pub has_room_by-requires-clause-arc_in : goal.has_room_by-requires-clause-arc_in
-has_room_by-requires-clause-arc_in c =
-    omega (arith, c.requires.end.is_arc, seen_length c.args.residual.side c.args.residual.graph.now.rows, ap (λ (a : ResidualArc). a.arc) c.leading-arc.ensures)
-
-pub has_room_by-requires-clause-flow : goal.has_room_by-requires-clause-flow
-has_room_by-requires-clause-flow c =
-    (length c.args.residual.potentials.now, flow_of_seen c.args.residual.side (length c.args.residual.potentials.now) c.args.residual.graph.now.rows c.args.residual.flow.now c.args.residual.certified.flow)
+pub has_room-requires-clause-arc_in : goal.has_room-requires-clause-arc_in
+has_room-requires-clause-arc_in c = omega (arith, c.requires.end.is_arc, ap (λ (a : ResidualArc). a.arc) c.leaving.ensures)
 
 pub take_path-requires-clause-residual : goal.take_path-requires-clause-residual
 take_path-requires-clause-residual c =
-    subst (λ (a : ResidualArc). IsResidual (seen c.args.residual.side c.args.residual.graph.now.rows) c.args.residual.flow.now a.arc a.way) c.leading-arc.ensures ((c.has_room_by.ensures.seen c.args.residual.side).0 c.if-has_room_by.true)
+    subst (λ (a : ResidualArc). IsResidual c.args.residual.graph.now.rows c.args.residual.flow.now a.arc a.way) c.leaving.ensures (c.has_room.ensures.0 c.if-has_room.true)
 
 -- the distance, as it is handed over
 handed : (c : After-distance_beyond-distance) → to_z w64 (of_z w64 c.distance_beyond-distance.result) ≡ c.distance_beyond-distance.result
@@ -110,10 +99,10 @@ take_path-requires-clause-better c =
     let a = (goal.at.take_path-requires-clause-better c).After-distance_beyond-distance in
     subst (λ (z : ℤ). Takes (node_label_at c.args.node_labels.now c.args.end.other) z) (sym (handed a ∙ unpriced a)) ((takes (goal.at.take_path-requires-clause-better c).After-takes (other_in (goal.at.take_path-requires-clause-better c).Start)).0 c.if-not-takes.false)
 
-pub returns-else-has_room_by-clause-relaxed : goal.returns-else-has_room_by-clause-relaxed
-returns-else-has_room_by-clause-relaxed c = λ residual.
-    (let there = subst (λ (a : ResidualArc). IsResidual (seen c.args.residual.side c.args.residual.graph.now.rows) c.args.residual.flow.now a.arc a.way) (sym c.leading-arc.ensures) residual in
-    absurd (cc ((c.has_room_by.ensures.seen c.args.residual.side).1 there)))
+pub returns-else-has_room-clause-relaxed : goal.returns-else-has_room-clause-relaxed
+returns-else-has_room-clause-relaxed c = λ residual.
+    (let there = subst (λ (a : ResidualArc). IsResidual c.args.residual.graph.now.rows c.args.residual.flow.now a.arc a.way) (sym c.leaving.ensures) residual in
+    absurd (cc (c.has_room.ensures.1 there)))
 
 pub take_path-requires-clause-start : goal.take_path-requires-clause-start
 take_path-requires-clause-start c = search rules

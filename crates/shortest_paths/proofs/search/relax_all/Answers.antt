@@ -4,9 +4,9 @@ use Rattle.residual_graph.specs.declared.residual.Way.{Way}
 use Rattle.shortest_paths.specs.declared.node_label.NodeLabel.{NodeLabel}
 use Rattle.residual_graph.specs.Residual.{IsResidual, number_at, start_at}
 use Rattle.shortest_paths.specs.Search.{IsLastSettled, IsRelaxed, distance_at, state_at}
-use Rattle.residual_graph.specs.Side.{IsLeadingAt, seen}
+use Rattle.residual_graph.specs.Ends.{IsEndAt}
 use Rattle.shortest_paths.proofs.SearchLemmas.{Improves-refl, Improves-trans, IsLastSettled-improves, IsRelaxed-improves, in_range, last_bounds, settled_is_reached}
-use Rattle.residual_graph.proofs.SideLemmas.{all_seen_met, all_seen_to_come, is_leading, leading_at, one_seen_more}
+use Rattle.residual_graph.proofs.EndLemmas.{all_come, all_ends_met, is_end, one_end_more}
 use Rattle.shortest_paths.proofs.search.relax_all.Goals as goal
 use Rattle.shortest_paths.proofs.search.relax_all.Goals.{In-Some}
 
@@ -31,38 +31,34 @@ loop-end-init c = record {
   improves = Improves-refl c.args.node_labels.now;
   walk = c.at-walk.ensures.walk;
   node = c.at-walk.ensures.node;
-  done = all_seen_to_come c.args.residual.side c.args.residual.graph.now c.at-walk.result c.args.u
-      (λ k way. start_at (seen c.args.residual.side c.args.residual.graph.now.rows) k way ≡ c.args.u → IsResidual (seen c.args.residual.side c.args.residual.graph.now.rows) c.args.residual.flow.now k way → IsRelaxed (seen c.args.residual.side c.args.residual.graph.now.rows) c.args.residual.potentials.now c.args.node_labels.now k way)
+  done = all_come c.args.residual.graph.now c.at-walk.result c.args.u
+      (λ k way. start_at c.args.residual.graph.now.rows k way ≡ c.args.u → IsResidual c.args.residual.graph.now.rows c.args.residual.flow.now k way → IsRelaxed c.args.residual.graph.now.rows c.args.residual.potentials.now c.args.node_labels.now k way)
       c.at-walk.ensures.all c.at-walk.ensures.node;
 }
 
--- the residual arc that leads on there starts at the node
-leads_on : (c : In-Some) → IsLeadingAt c.args.residual.side (seen c.args.residual.side c.args.residual.graph.now.rows) c.loop-end.walk.node c.in-Some.end
-leads_on c = leading_at c.args.residual.side c.args.residual.graph.now.rows c.loop-end.walk.node c.in-Some.end c.in-Some.ensures.end
-
 pub relax-requires-clause-end : goal.relax-requires-clause-end
 relax-requires-clause-end c =
-    is_leading c.args.residual.side (seen c.args.residual.side c.args.residual.graph.now.rows) c.loop-end.walk.node c.in-Some.end (leads_on (goal.at.relax-requires-clause-end c).In-Some)
+    is_end c.args.residual.graph.now.rows c.loop-end.walk.node c.in-Some.end c.in-Some.ensures.end
 
 pub relax-requires-clause-last : goal.relax-requires-clause-last
 relax-requires-clause-last c =
-    subst (IsLastSettled c.loop-end.node_labels) (sym ((leads_on (goal.at.relax-requires-clause-last c).In-Some).starts ∙ c.loop-end.invariant.node)) (IsLastSettled-improves c.requires.last c.loop-end.invariant.improves)
+    subst (IsLastSettled c.loop-end.node_labels) (sym (c.in-Some.ensures.end.starts ∙ c.loop-end.invariant.node)) (IsLastSettled-improves c.requires.last c.loop-end.invariant.improves)
 
 pub relax-requires-clause-start : goal.relax-requires-clause-start
-relax-requires-clause-start c = sym ((leads_on (goal.at.relax-requires-clause-start c).In-Some).starts ∙ c.loop-end.invariant.node)
+relax-requires-clause-start c = sym (c.in-Some.ensures.end.starts ∙ c.loop-end.invariant.node)
 
 pub relax-requires-clause-priced : goal.relax-requires-clause-priced
 relax-requires-clause-priced c =
     let p = c.args.residual.potentials.now in
     let u = c.args.u in
     let bounds = last_bounds c.args.residual.certified c.requires.search c.requires.last in
-    let starts = (leads_on (goal.at.relax-requires-clause-priced c).In-Some).starts ∙ c.loop-end.invariant.node in
+    let starts = c.in-Some.ensures.end.starts ∙ c.loop-end.invariant.node in
     let kept = ap (λ (e : NodeLabel). e.distance) (c.loop-end.invariant.improves.settled_kept u c.requires.last.settled) in
     omega (arith, ints, ap (distance_at c.loop-end.node_labels) starts, ap (number_at p) starts, kept, bounds.low, bounds.high, c.args.residual.certified.potentials.at_least u, c.args.residual.certified.potentials.at_most_0 u)
 
 pub loop-end-preserved : goal.loop-end-preserved
 loop-end-preserved c =
-    let rows = (seen c.args.residual.side c.args.residual.graph.now.rows) in
+    let rows = c.args.residual.graph.now.rows in
     let flow = c.args.residual.flow.now in
     let p = c.args.residual.potentials.now in
     let u = c.args.u in
@@ -75,12 +71,12 @@ loop-end-preserved c =
       improves = Improves-trans c.loop-end.invariant.improves c.relax.ensures.improves;
       walk = c.next.ensures.walk;
       node = c.next.ensures.node ∙ c.loop-end.invariant.node;
-      done = one_seen_more c.args.residual.side c.args.residual.graph.now c.loop-end.walk c.next.new.self u c.in-Some.end P Q c.loop-end.invariant.done c.in-Some.ensures.rest
+      done = one_end_more c.args.residual.graph.now c.loop-end.walk c.next.new.self u c.in-Some.end P Q c.loop-end.invariant.done c.in-Some.ensures.rest
           (λ k way done starts residual. IsRelaxed-improves (ap (state_at c.loop-end.node_labels) starts ∙ last.settled) c.relax.ensures.improves (done starts residual)) (λ starts residual. c.relax.ensures.relaxed residual);
     }
 
 pub returns-clause-relaxed : goal.returns-clause-relaxed
 returns-clause-relaxed c = λ k way lt residual starts.
-    (let rows = (seen c.args.residual.side c.args.residual.graph.now.rows) in
+    (let rows = c.args.residual.graph.now.rows in
     let P : ℕ → Way → Type 0 = λ k way. start_at rows k way ≡ c.args.u → IsResidual rows c.args.residual.flow.now k way → IsRelaxed rows c.args.residual.potentials.now c.loop-end.node_labels k way in
-    all_seen_met c.args.residual.side c.args.residual.graph.now c.loop-end.walk c.args.u P c.loop-end.invariant.done c.in_default.ensures.rest k way lt starts starts residual)
+    all_ends_met c.args.residual.graph.now c.loop-end.walk c.args.u P c.loop-end.invariant.done c.in_default.ensures.rest k way lt starts starts residual)

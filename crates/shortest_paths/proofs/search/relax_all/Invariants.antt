@@ -3,18 +3,17 @@ use Rattle.residual_graph.specs.Ends.{IsWalk, left_of}
 use Rattle.shortest_paths.specs.Queue.{IsQueueOf}
 use Rattle.residual_graph.specs.Residual.{IsResidual, start_at}
 use Rattle.shortest_paths.specs.Search.{Improves, IsRelaxed, IsSearch}
-use Rattle.residual_graph.specs.Side.{seen}
-use Rattle.residual_graph.proofs.SideLemmas.{AllSeenOrCome}
+use Rattle.residual_graph.proofs.EndLemmas.{AllHaveOrCome}
 use Rattle.shortest_paths.proofs.search.relax_all.Given as goal
 
 abbrev pub invariant-loop-end : goal.invariant-loop-end
 invariant-loop-end l = record {
-  search : IsSearch (seen l.residual.side l.residual.graph.now.rows) l.residual.flow.now l.residual.potentials.now l.node_labels;
+  search : IsSearch l.residual.graph.now.rows l.residual.flow.now l.residual.potentials.now l.node_labels;
   queue : IsQueueOf l.node_labels l.queue;
   improves : Improves l.initial.node_labels l.node_labels;
   walk : IsWalk l.residual.graph.now l.walk;
   node : l.walk.node ≡ l.u;
-  done : AllSeenOrCome l.residual.side l.residual.graph.now l.walk l.u (λ k way. start_at (seen l.residual.side l.residual.graph.now.rows) k way ≡ l.u → IsResidual (seen l.residual.side l.residual.graph.now.rows) l.residual.flow.now k way → IsRelaxed (seen l.residual.side l.residual.graph.now.rows) l.residual.potentials.now l.node_labels k way);
+  done : AllHaveOrCome l.residual.graph.now l.walk l.u (λ k way. start_at l.residual.graph.now.rows k way ≡ l.u → IsResidual l.residual.graph.now.rows l.residual.flow.now k way → IsRelaxed l.residual.graph.now.rows l.residual.potentials.now l.node_labels k way);
 }
 
 abbrev pub decreases-loop-end : goal.decreases-loop-end

@@ -6,15 +6,15 @@ use Rattle.residual_graph.specs.declared.residual.ResidualArc.{ResidualArc}
 use Rattle.residual_graph.specs.Limits.{entry_limit}
 use Rattle.residual_graph.specs.Residual.{row_at, number_at, start_at}
 use Rattle.shortest_paths.specs.Search.{IsSearch, Improves, IsRelaxed, depth_at, distance_at}
-use Rattle.residual_graph.specs.Side.{leading, seen}
+use Rattle.residual_graph.specs.Ends.{leaving}
 use Rattle.shortest_paths.proofs.SearchLemmas.{IsStep, IsStep-put, last_bounds, word_sum}
 use Rattle.residual_graph.proofs.RowLemmas.{cost_of-bounds, end_of-in}
 use Rattle.shortest_paths.proofs.search.take_path.Goals as goal
-use Rattle.shortest_paths.proofs.search.take_path.Goals.{After-leading-arc, Start}
+use Rattle.shortest_paths.proofs.search.take_path.Goals.{After-leaving-arc, Start}
 
 other_in : (c : Start) → c.args.end.other < length c.args.node_labels.now
 other_in c =
-    rw (← c.requires.end.ends, c.requires.search.sized) (end_of-in (length c.args.residual.potentials.now) (row_at (seen c.args.residual.side c.args.residual.graph.now.rows) (leading c.args.residual.side c.args.end).arc) (leading c.args.residual.side c.args.end).way (c.args.residual.certified.flow.rows (leading c.args.residual.side c.args.end).arc c.requires.end.is_arc))
+    rw (← c.requires.end.ends, c.requires.search.sized) (end_of-in (length c.args.residual.potentials.now) (row_at c.args.residual.graph.now.rows (leaving c.args.end).arc) (leaving c.args.end).way (c.args.residual.certified.flow.rows (leaving c.args.end).arc c.requires.end.is_arc))
 
 pub overflow_add-depth : goal.overflow_add-depth
 overflow_add-depth c =
@@ -29,7 +29,7 @@ improve-requires-clause-v_in c = other_in (goal.at.improve-requires-clause-v_in 
 pub improve-requires-clause-not_nearer : goal.improve-requires-clause-not_nearer
 improve-requires-clause-not_nearer c =
     let same : to_z w64 (of_z w64 c.args.distance) ≡ c.args.distance = to_z-of_z w64 c.args.distance c.ranges.distance in
-    let no_shorter : distance_at c.args.node_labels.now (start_at (seen c.args.residual.side c.args.residual.graph.now.rows) (leading c.args.residual.side c.args.end).arc (leading c.args.residual.side c.args.end).way) ≤ℤ c.args.distance = omega (arith, ints, c.args.residual.certified.none_below (leading c.args.residual.side c.args.end).arc (leading c.args.residual.side c.args.end).way c.requires.residual, c.requires.distance) in
+    let no_shorter : distance_at c.args.node_labels.now (start_at c.args.residual.graph.now.rows (leaving c.args.end).arc (leaving c.args.end).way) ≤ℤ c.args.distance = omega (arith, ints, c.args.residual.certified.none_below (leaving c.args.end).arc (leaving c.args.end).way c.requires.residual, c.requires.distance) in
     rw same (c.requires.queue.passed c.args.distance
     (omega (arith, ints, no_shorter, (last_bounds c.args.residual.certified c.requires.search c.requires.last).low))
     (λ v m. omega (arith, ints, no_shorter, c.requires.last.furthest v m)))
@@ -40,10 +40,10 @@ record FitBound (distance potential : ℤ) : Type 0 where
   potential_fits : SFits w64 potential
   fits : SFits w64 (distance +ℤ potential)
 
-fit_bound : (c : After-leading-arc) → FitBound c.args.distance (number_at c.args.residual.potentials.now c.args.end.other)
+fit_bound : (c : After-leaving-arc) → FitBound c.args.distance (number_at c.args.residual.potentials.now c.args.end.other)
 fit_bound c =
-    let rows = seen c.args.residual.side c.args.residual.graph.now.rows in
-    let a = leading c.args.residual.side c.args.end in
+    let rows = c.args.residual.graph.now.rows in
+    let a = leaving c.args.end in
     let start = start_at rows a.arc a.way in
     let p = c.args.residual.certified.potentials in
     let bounds = cost_of-bounds _ (row_at rows a.arc) a.way (c.args.residual.certified.flow.rows a.arc c.requires.end.is_arc) in
@@ -62,28 +62,28 @@ bounds-residual-end c = omega (arith, other_in (goal.at.bounds-residual-end c).S
 
 pub overflow_add-distance : goal.overflow_add-distance
 overflow_add-distance c =
-    let sum = fit_bound (goal.at.overflow_add-distance c).After-leading-arc in
+    let sum = fit_bound (goal.at.overflow_add-distance c).After-leaving-arc in
     rw (to_z-of_z w64 c.args.distance sum.distance_fits, to_z-of_z w64 (number_at c.args.residual.potentials.now c.args.end.other) sum.potential_fits) sum.fits
 
-step : (c : After-leading-arc) → IsStep (seen c.args.residual.side c.args.residual.graph.now.rows) c.args.residual.flow.now c.args.residual.potentials.now c.args.node_labels.now (slice_set c.args.node_labels.now c.args.end.other (record { state = Open; distance = to_z w64 (of_z w64 c.args.distance); depth = depth_at c.args.node_labels.now c.args.start + 1; arc = c.leading-arc.result.arc; way = c.leading-arc.result.way; bound = to_z w64 (of_z w64 (to_z w64 (of_z w64 c.args.distance) +ℤ to_z w64 (of_z w64 (number_at c.args.residual.potentials.now c.args.end.other)))) })) (leading c.args.residual.side c.args.end).arc (leading c.args.residual.side c.args.end).way
+step : (c : After-leaving-arc) → IsStep c.args.residual.graph.now.rows c.args.residual.flow.now c.args.residual.potentials.now c.args.node_labels.now (slice_set c.args.node_labels.now c.args.end.other (record { state = Open; distance = to_z w64 (of_z w64 c.args.distance); depth = depth_at c.args.node_labels.now c.args.start + 1; arc = c.leaving-arc.result.arc; way = c.leaving-arc.result.way; bound = to_z w64 (of_z w64 (to_z w64 (of_z w64 c.args.distance) +ℤ to_z w64 (of_z w64 (number_at c.args.residual.potentials.now c.args.end.other)))) })) (leaving c.args.end).arc (leaving c.args.end).way
 step c =
     let sum = fit_bound c in
     let same : to_z w64 (of_z w64 c.args.distance) ≡ c.args.distance = to_z-of_z w64 c.args.distance c.ranges.distance in
-    IsStep-put (seen c.args.residual.side c.args.residual.graph.now.rows) c.args.residual.flow.now c.args.residual.potentials.now c.args.node_labels.now (start_at (seen c.args.residual.side c.args.residual.graph.now.rows) (leading c.args.residual.side c.args.end).arc (leading c.args.residual.side c.args.end).way) (leading c.args.residual.side c.args.end).arc (leading c.args.residual.side c.args.end).way c.args.end.other
-    (record { state = Open; distance = to_z w64 (of_z w64 c.args.distance); depth = depth_at c.args.node_labels.now c.args.start + 1; arc = c.leading-arc.result.arc; way = c.leading-arc.result.way; bound = to_z w64 (of_z w64 (to_z w64 (of_z w64 c.args.distance) +ℤ to_z w64 (of_z w64 (number_at c.args.residual.potentials.now c.args.end.other)))) })
+    IsStep-put c.args.residual.graph.now.rows c.args.residual.flow.now c.args.residual.potentials.now c.args.node_labels.now (start_at c.args.residual.graph.now.rows (leaving c.args.end).arc (leaving c.args.end).way) (leaving c.args.end).arc (leaving c.args.end).way c.args.end.other
+    (record { state = Open; distance = to_z w64 (of_z w64 c.args.distance); depth = depth_at c.args.node_labels.now c.args.start + 1; arc = c.leaving-arc.result.arc; way = c.leaving-arc.result.way; bound = to_z w64 (of_z w64 (to_z w64 (of_z w64 c.args.distance) +ℤ to_z w64 (of_z w64 (number_at c.args.residual.potentials.now c.args.end.other)))) })
     c.args.residual.certified c.requires.search c.requires.last c.requires.residual refl (sym c.requires.end.ends) refl
-    (same ∙ c.requires.distance) (ap (λ (v : ℕ). depth_at c.args.node_labels.now v + 1) c.requires.start) (ap (λ (a : ResidualArc). a.arc) c.leading-arc.ensures) (ap (λ (a : ResidualArc). a.way) c.leading-arc.ensures)
+    (same ∙ c.requires.distance) (ap (λ (v : ℕ). depth_at c.args.node_labels.now v + 1) c.requires.start) (ap (λ (a : ResidualArc). a.arc) c.leaving-arc.ensures) (ap (λ (a : ResidualArc). a.way) c.leaving-arc.ensures)
     (word_sum c.args.distance (number_at c.args.residual.potentials.now c.args.end.other) sum.distance_fits sum.potential_fits sum.fits ∙ ap (λ (z : ℤ). z +ℤ number_at c.args.residual.potentials.now c.args.end.other) (sym same))
     (rw same c.requires.better)
 
 pub returns-clause-search : goal.returns-clause-search
 returns-clause-search c =
-    subst (λ (t : List NodeLabel). IsSearch (seen c.args.residual.side c.args.residual.graph.now.rows) c.args.residual.flow.now c.args.residual.potentials.now t) (sym c.improve.ensures.node_labels) (step (goal.at.returns-clause-search c).After-leading-arc).known
+    subst (λ (t : List NodeLabel). IsSearch c.args.residual.graph.now.rows c.args.residual.flow.now c.args.residual.potentials.now t) (sym c.improve.ensures.node_labels) (step (goal.at.returns-clause-search c).After-leaving-arc).known
 
 pub returns-clause-improves : goal.returns-clause-improves
 returns-clause-improves c =
-    subst (λ (t : List NodeLabel). Improves c.args.node_labels.now t) (sym c.improve.ensures.node_labels) (step (goal.at.returns-clause-improves c).After-leading-arc).better
+    subst (λ (t : List NodeLabel). Improves c.args.node_labels.now t) (sym c.improve.ensures.node_labels) (step (goal.at.returns-clause-improves c).After-leaving-arc).better
 
 pub returns-clause-relaxed : goal.returns-clause-relaxed
 returns-clause-relaxed c =
-    subst (λ (t : List NodeLabel). IsRelaxed (seen c.args.residual.side c.args.residual.graph.now.rows) c.args.residual.potentials.now t (leading c.args.residual.side c.args.end).arc (leading c.args.residual.side c.args.end).way) (sym c.improve.ensures.node_labels) (step (goal.at.returns-clause-relaxed c).After-leading-arc).done
+    subst (λ (t : List NodeLabel). IsRelaxed c.args.residual.graph.now.rows c.args.residual.potentials.now t (leaving c.args.end).arc (leaving c.args.end).way) (sym c.improve.ensures.node_labels) (step (goal.at.returns-clause-relaxed c).After-leaving-arc).done

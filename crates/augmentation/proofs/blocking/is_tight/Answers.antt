@@ -1,5 +1,0 @@
-use Rattle.std.proofs.Common.{rules}
-use Rattle.augmentation.proofs.blocking.is_tight.Goals as goal
-
-pub returns : goal.returns
-returns c = search rules
