@@ -1,5 +1,5 @@
 -- A network with each arc turned round: what lies in excess there is lacking here.
-use Rattle.std.proofs.Common.{◌≡◌, ℕ, suc, zero, ℤ, neg_ℤ, ◌+ℤ◌, List, [], ◌∷◌, length, map, refl, ap, ◌∙◌, arith}
+use Rattle.std.proofs.Common.{◌≡◌, ℕ, suc, zero, ℤ, neg_ℤ, ◌+ℤ◌, List, [], ◌∷◌, map, refl, ap, ◌∙◌, arith}
 use Rattle.std.proofs.lemmas.List.{length-map}
 use Rattle.std.proofs.lemmas.List.Sums.{sum_by-cons}
 use Rattle.dimacs_text.specs.declared.problem.ArcRow.{ArcRow}

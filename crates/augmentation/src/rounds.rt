@@ -79,7 +79,8 @@ pub(crate) fn push_first(
     pushes
 }
 
-/// Pushes as `finish` does, until so many pushes are made.
+/// Pushes as `finish` does, until so many pushes are made: searches from all nodes in excess for the nearest node in
+/// deficit, pushes along the path to it, and again.
 fn push_some(
     graph: &Graph,
     flow: &mut Tracked<i64>,
@@ -102,35 +103,7 @@ fn push_some(
     ensures parted { result < most → IsParted graph.now.rows flow.new.entries.items excess.new }
     ensures scratch { IsScratchFor (length scratch.old.potentials.items) scratch.new }
 {
-    let pushes = push_to_nearest(graph, flow, excess, scratch, most);
     excess.tidy();
-    pushes
-}
-
-/// Pushes as `push_some` does: searches from all nodes in excess for the nearest node in deficit, pushes along the path to
-/// it, and again.
-fn push_to_nearest(
-    graph: &Graph,
-    flow: &mut Tracked<i64>,
-    excess: &mut Excess,
-    scratch: &mut Scratch,
-    most: u64,
-) -> u64
-    requires flow_tracked { IsTracked flow.old }
-    requires graph { HasEntries (length scratch.old.potentials.items) graph.now }
-    requires certified { IsReducedCostOptimal graph.now.rows flow.old.entries.items scratch.old.potentials.items }
-    requires potentials_in { ArePotentials (length scratch.old.potentials.items) label_floor scratch.old.potentials.items }
-    requires excess_in { length excess.old ≡ length scratch.old.potentials.items }
-    requires scratch { IsScratchFor (length scratch.old.potentials.items) scratch.old }
-    requires small { AreSmall excess.old }
-    ensures flow_written { IsWritten flow.old flow.new }
-    ensures certified { IsReducedCostOptimal graph.now.rows flow.new.entries.items scratch.new.potentials.items }
-    ensures excess_in { length excess.new ≡ length excess.old }
-    ensures small { AreSmall excess.new }
-    ensures pushed { ArePushes graph.now.rows result flow.old.entries.items excess.old flow.new.entries.items excess.new }
-    ensures parted { result < most → IsParted graph.now.rows flow.new.entries.items excess.new }
-    ensures scratch { IsScratchFor (length scratch.old.potentials.items) scratch.new }
-{
     let mut pushes = 0;
     while pushes < most {
         let Some(target) = search_on(graph, flow, excess, scratch) else {

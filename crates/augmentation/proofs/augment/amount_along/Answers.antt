@@ -1,5 +1,4 @@
-use Rattle.std.proofs.Common.{◌≤ℤ◌, pos, arith}
-use Rattle.std.specs.Prelude.{neg_ℤ}
+use Rattle.std.proofs.Common.{arith}
 use Rattle.std.proofs.lemmas.Int.{ints, clamps}
 use Rattle.augmentation.proofs.PushLemmas.{HasRoom-weaker}
 use Rattle.augmentation.proofs.augment.amount_along.Goals as goal

@@ -1,11 +1,9 @@
-use Rattle.std.proofs.Common.{◌≡◌, ◌∙◌, ◌<◌, ℕ, ℤ, List, ◌∷◌, length, pos, ◌≤ℤ◌, ap, arith, rules, subst, sym, slice_set, w64, to_z, of_z, SFits}
+use Rattle.std.proofs.Common.{◌≡◌, ◌∙◌, ◌<◌, ℕ, ℤ, List, ◌∷◌, length, pos, ap, arith, rules, subst, sym, slice_set, w64, to_z, of_z, SFits}
 use Rattle.std.proofs.lemmas.Int.{ints, to_z-of_z}
 use Rattle.std.proofs.lemmas.List.{get_or_default}
-use Rattle.residual_graph.specs.declared.residual.ResidualArc.{ResidualArc}
-use Rattle.residual_graph.specs.Residual.{IsRow, IsWithinRow, number_at, room_of, row_at}
+use Rattle.residual_graph.specs.Residual.{IsWithinRow, number_at, row_at}
 use Rattle.shortest_paths.specs.Search.{depth_at}
-use Rattle.augmentation.specs.Push.{HasRoom, before, hop_to, hops_before, moved, push_along}
-use Rattle.augmentation.specs.Tracked.{IsWritten}
+use Rattle.augmentation.specs.Push.{HasRoom, before, hop_to, hops_before, moved}
 use Rattle.augmentation.proofs.PathLemmas.{IsOnward, onward_more, push_before, room_after, step_back}
 use Rattle.augmentation.proofs.PushLemmas.{IsWithin-moved, push_elsewhere}
 use Rattle.augmentation.proofs.TrackedLemmas.{IsWritten-trans}

@@ -1,6 +1,6 @@
 use Rattle.std.proofs.Common.{◌≡◌, List}
 use Rattle.residual_graph.specs.declared.residual.ResidualArc.{ResidualArc}
-use Rattle.shortest_paths.specs.Search.{IsReached, depth_at}
+use Rattle.shortest_paths.specs.Search.{depth_at}
 use Rattle.augmentation.specs.Push.{hops_before, path_to, push_along}
 use Rattle.augmentation.specs.Tracked.{IsWritten}
 use Rattle.augmentation.proofs.PathLemmas.{IsOnward}

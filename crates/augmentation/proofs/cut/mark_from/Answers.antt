@@ -2,7 +2,7 @@ use Rattle.std.proofs.Common.{◌≡◌, ◌∙◌, ◌+◌, ◌<◌, ℕ, Bool,
 use Rattle.std.proofs.lemmas.List.{get_or-set_same}
 use Rattle.residual_graph.specs.Ends.{leaving}
 use Rattle.residual_graph.specs.declared.residual.ResidualArc.{ResidualArc}
-use Rattle.augmentation.specs.Cut.{IsFarIn, IsGrown, far_at, in_set, near_at}
+use Rattle.augmentation.specs.Cut.{IsFarIn, IsGrown, in_set, near_at}
 use Rattle.residual_graph.specs.Residual.{IsResidual, row_at}
 use Rattle.residual_graph.specs.Side.{leading}
 use Rattle.augmentation.proofs.CutLemmas.{IsGrown-put, IsGrown-refl, IsGrown-trans, IsLeadingAt, all_led_met, all_led_to_come, leading_at, marked_in, one_led_more}

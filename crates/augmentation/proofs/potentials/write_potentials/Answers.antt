@@ -1,6 +1,4 @@
 use Rattle.std.proofs.Common.{◌∙◌, ◌+ℤ◌, ℤ, List, ap, sym, subst, length, FitsSigned, w64}
-use Rattle.std.specs.Vec.{with_items}
-use Rattle.std.proofs.lemmas.List.{with_items_is}
 use Rattle.shortest_paths.specs.declared.node_label.NodeLabel.{NodeLabel}
 use Rattle.residual_graph.specs.Residual.{IsReducedCostOptimal, number_at}
 use Rattle.shortest_paths.specs.Search.{AreLabels, distance_at}

@@ -1,4 +1,4 @@
-use Rattle.std.proofs.Common.{◌≡◌, ◌∙◌, ◌<◌, ℕ, ℤ, pos, List, length, sym, ap, subst, arith, w64, to_z, of_z, SFits}
+use Rattle.std.proofs.Common.{◌≡◌, ◌∙◌, ℤ, pos, List, length, sym, ap, subst, arith, w64, to_z, of_z, SFits}
 use Rattle.std.specs.Prelude.{◌<ℤ◌}
 use Rattle.std.specs.Vec.{with_items}
 use Rattle.std.proofs.lemmas.Int.{ints, to_z-of_z}
@@ -7,7 +7,7 @@ use Rattle.shortest_paths.specs.declared.node_label.NodeLabel.{NodeLabel}
 use Rattle.residual_graph.specs.Residual.{IsReducedCostOptimal, number_at}
 use Rattle.shortest_paths.specs.Search.{IsLowered, IsReach, distance_at, node_label_at}
 use Rattle.augmentation.specs.Push.{AreSmall, ArePushes, HavePaths, IsAugmented, root_to}
-use Rattle.augmentation.specs.Settle.{HasFound, HaveFallen}
+use Rattle.augmentation.specs.Settle.{HaveFallen}
 use Rattle.augmentation.proofs.PathLemmas.{paths_of_search}
 use Rattle.augmentation.proofs.SettleLemmas.{certified_after, fallen_after, is_reach, moved_on, one_pushed, root_from}
 use Rattle.augmentation.proofs.rounds.push_within.Goals as goal

@@ -1,4 +1,4 @@
-use Rattle.std.proofs.Common.{◌≡◌, ◌∙◌, ℕ, ℤ, List, length, sym, subst, MatchOption, Some, None}
+use Rattle.std.proofs.Common.{◌∙◌, ℕ, ℤ, List, length, sym, subst, MatchOption, Some, None}
 use Rattle.std.specs.Prelude.{Option}
 use Rattle.std.specs.Vec.{with_items}
 use Rattle.std.proofs.lemmas.Bool.{false≢true}

@@ -6,7 +6,7 @@ use Rattle.shortest_paths.specs.declared.node_label.State.TheVariants.{Settled}
 use Rattle.shortest_paths.specs.Labels.{IsNoDearer, Opens}
 use Rattle.residual_graph.specs.Residual.{row_at, other_way, turned}
 use Rattle.shortest_paths.specs.Search.{state_at}
-use Rattle.residual_graph.specs.Ends.{IsEndAt, leaving}
+use Rattle.residual_graph.specs.Ends.{leaving}
 use Rattle.residual_graph.proofs.EndLemmas.{all_come, all_entering, one_end_more, starts_other}
 use Rattle.shortest_paths.proofs.LabelLemmas.{IsFound, nearer_opens, nearer_than, root_opens}
 use Rattle.residual_graph.proofs.RowLemmas.{end_of-in}

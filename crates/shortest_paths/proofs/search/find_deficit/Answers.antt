@@ -1,6 +1,6 @@
-use Rattle.std.proofs.Common.{◌≡◌, ◌∙◌, length, arith, rules, subst, sym}
+use Rattle.std.proofs.Common.{◌≡◌, ◌∙◌, length, arith, subst, sym}
 use Rattle.std.proofs.lemmas.Int.{ints}
-use Rattle.shortest_paths.specs.Search.{IsNearestDeficit, Settles}
+use Rattle.shortest_paths.specs.Search.{Settles}
 use Rattle.shortest_paths.proofs.RunLemmas.{HasSearched-first, HasSearched-settles}
 use Rattle.shortest_paths.proofs.search.find_deficit.Goals as goal
 

@@ -4,7 +4,6 @@ use Rattle.residual_graph.specs.declared.residual.Way.{Way}
 use Rattle.shortest_paths.specs.declared.node_label.NodeLabel.{NodeLabel}
 use Rattle.residual_graph.specs.Residual.{IsResidual, number_at, start_at}
 use Rattle.shortest_paths.specs.Search.{IsLastSettled, IsRelaxed, distance_at, state_at}
-use Rattle.residual_graph.specs.Ends.{IsEndAt}
 use Rattle.shortest_paths.proofs.SearchLemmas.{Improves-refl, Improves-trans, IsLastSettled-improves, IsRelaxed-improves, in_range, last_bounds, settled_is_reached}
 use Rattle.residual_graph.proofs.EndLemmas.{all_come, all_ends_met, is_end, one_end_more}
 use Rattle.shortest_paths.proofs.search.relax_all.Goals as goal

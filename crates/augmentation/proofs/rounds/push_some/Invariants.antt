@@ -4,7 +4,7 @@ use Rattle.augmentation.specs.Push.{ArePushes, AreSmall, left}
 use Rattle.augmentation.specs.Scratch.{IsScratchFor}
 use Rattle.augmentation.specs.Settle.{HaveFallen}
 use Rattle.augmentation.specs.Tracked.{IsWritten}
-use Rattle.augmentation.proofs.rounds.push_to_nearest.Given as goal
+use Rattle.augmentation.proofs.rounds.push_some.Given as goal
 
 abbrev pub invariant-loop-pushes : goal.invariant-loop-pushes
 invariant-loop-pushes l = record {

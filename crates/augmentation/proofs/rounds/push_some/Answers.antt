@@ -1,9 +1,10 @@
-use Rattle.std.proofs.Common.{◌∙◌, ℕ, pos, length, ap, arith, refl, subst}
+use Rattle.std.proofs.Common.{◌∙◌, ℕ, pos, length, ap, arith, refl, subst, sym}
 use Rattle.std.proofs.lemmas.Int.{ints}
+use Rattle.augmentation.specs.Push.{AreSmall}
 use Rattle.augmentation.specs.Scratch.{IsScratchFor}
 use Rattle.augmentation.proofs.SettleLemmas.{ArePushes-more, ArePushes-none}
 use Rattle.augmentation.proofs.TrackedLemmas.{IsWritten-same, IsWritten-trans}
-use Rattle.augmentation.proofs.rounds.push_to_nearest.Goals as goal
+use Rattle.augmentation.proofs.rounds.push_some.Goals as goal
 
 pub loop-pushes-init : goal.loop-pushes-init
 loop-pushes-init c = record {
@@ -20,7 +21,7 @@ loop-pushes-init c = record {
     at_least = λ v. omega (arith, ints);
   };
   sized = refl;
-  small = c.requires.small;
+  small = subst AreSmall (sym c.tidy.ensures) c.requires.small;
   scratch = c.requires.scratch;
   pushed = ArePushes-none _ _ _;
 }
