@@ -12,8 +12,8 @@ ghost use Rattle.calls.specs.Library.{IsNotOpened, IsOpening, ReadsAs, Steps, To
 use crate::fault::{Fault, tell_refusal};
 use crate::status::MEMORY;
 use dimacs_text::{
-    Command, Fault as LineFault, Group, LINE_LIMIT, Problem, ProblemReader, TextFault,
-    decided_for_all, is_blank,
+    Command, Group, LINE_LIMIT, LineFault, Problem, ProblemReader, TextFault, decided_for_all,
+    is_blank,
 };
 use session::{Reply, Session, StepRefusal};
 use std::alloc::Global;

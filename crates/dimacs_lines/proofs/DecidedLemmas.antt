@@ -3,8 +3,7 @@ use Rattle.std.proofs.Common.{◌≡◌, ◌≢◌, ℕ, suc, zero, ◌+◌, ◌
 use Rattle.std.proofs.lemmas.Bool.{le-leb}
 use Rattle.std.proofs.lemmas.List.{append-nil, length-append, length-replicate}
 use Rattle.std.proofs.lemmas.List.Elements.{All-replicate, All-cons, All-nil}
-use Rattle.dimacs_lines.specs.declared.fault.Fault.{Fault}
-use Rattle.dimacs_lines.specs.declared.fault.Fault.TheVariants as fault
+use Rattle.dimacs_lines.specs.declared.fault.LineFault.TheVariants as fault
 use Rattle.dimacs_lines.specs.declared.fault.TextFault.{TextFault}
 use Rattle.dimacs_lines.specs.declared.fault.TextFault.TheVariants as text_fault
 use Rattle.dimacs_lines.specs.Fault.{number_of}
@@ -15,37 +14,6 @@ use Rattle.dimacs_lines.proofs.LineLemmas.{joined, parts_of-append}
 use Rattle.dimacs_lines.proofs.GoesOnLemmas.{lines_go_on}
 use Rattle.dimacs_lines.proofs.PartLemmas.{first_parts, parts_with}
 use Rattle.dimacs_lines.proofs.StreamLemmas.{first_of_both, first_fault-append, first_fault-too_long, decided-goes_on, decided_part, no_fault_ended, complete_fault}
-
-too_long_by : (f : Fault) → number_of f ≡ 1 → f ≡ fault.LineTooLong
-too_long_by fault.LineTooLong e = refl
-too_long_by fault.UnknownDesignator e = absurd (omega arith)
-too_long_by fault.WrongFieldCount e = absurd (omega arith)
-too_long_by fault.NotANumber e = absurd (omega arith)
-too_long_by fault.OutOfRange e = absurd (omega arith)
-too_long_by fault.BeforeProblemLine e = absurd (omega arith)
-too_long_by fault.SecondProblemLine e = absurd (omega arith)
-too_long_by fault.UnknownKind e = absurd (omega arith)
-too_long_by fault.NodeAfterArc e = absurd (omega arith)
-too_long_by fault.NamedTwice e = absurd (omega arith)
-too_long_by fault.EndpointMissing e = absurd (omega arith)
-too_long_by fault.TooManyArcs e = absurd (omega arith)
-too_long_by fault.TooFewArcs e = absurd (omega arith)
-too_long_by fault.NoProblemLine e = absurd (omega arith)
-too_long_by fault.LowAboveCap e = absurd (omega arith)
-too_long_by fault.NotAcrossSides e = absurd (omega arith)
-too_long_by fault.UnknownNodeWord e = absurd (omega arith)
-too_long_by fault.OutOfOrder e = absurd (omega arith)
-too_long_by fault.NotForKind e = absurd (omega arith)
-too_long_by fault.NoSuchArc e = absurd (omega arith)
-too_long_by fault.NoSuchNode e = absurd (omega arith)
-too_long_by fault.EditLowAboveCap e = absurd (omega arith)
-too_long_by fault.EditNotAcrossSides e = absurd (omega arith)
-too_long_by fault.ArcTableFull e = absurd (omega arith)
-too_long_by fault.NotInGroup e = absurd (omega arith)
-too_long_by fault.GroupTooLong e = absurd (omega arith)
-too_long_by fault.NoSuchMark e = absurd (omega arith)
-too_long_by fault.NotAName e = absurd (omega arith)
-too_long_by fault.TooManyMarks e = absurd (omega arith)
 
 letters_too_long : (rest : Line) → is_too_long (rest ++ replicate 1025 120) ≡ true
 letters_too_long rest = le-leb 1025 _ (omega (arith, length-append rest (replicate 1025 120), length-replicate {A = ℕ} 1025 120))
@@ -90,7 +58,7 @@ no_bytes : IsBytes []
 no_bytes = All-nil (λ byte. byte < 256)
 
 -- with many letters, the line that is begun is too long
-decided_letters : (rule : Rule) (text : List ℕ) → decided rule text ≡ None → decided rule (text ++ replicate 1025 120) ≡ Some (at_line fault.LineTooLong (length (parts_of text).ended + 1))
+decided_letters : (rule : Rule) (text : List ℕ) → decided rule text ≡ None → decided rule (text ++ replicate 1025 120) ≡ Some (at_line (number_of fault.TooLong) (length (parts_of text).ended + 1))
 decided_letters rule text none =
     let p = parts_of text in let more = replicate 1025 120 in
     decided_part rule text more false more (parts_of-letters 1025) none
@@ -107,20 +75,20 @@ module _ {A : Type 0} (rule : Rule) (ends : List Line → Result A TextFault) wh
   same_error : (a b : TextFault) → ◌≡◌ {A = Result A TextFault} (Err a) (Err b) → a ≡ b
   same_error a b e = cc
 
-  number_of_fault : (f : Fault) (line other : ℕ) → ◌≡◌ {A = Result A TextFault} (Err (at_line f line)) (Err (text_fault.Fault 1 other)) → number_of f ≡ 1
+  number_of_fault : (f : ℕ) (line other : ℕ) → ◌≡◌ {A = Result A TextFault} (Err (at_line f line)) (Err (text_fault.Fault 1 other)) → f ≡ 1
   number_of_fault f line other e = cc
 
   read_as : (text : List ℕ) (lines : List Line) (found : Option TextFault) → lines_of text ≡ lines → first_fault rule [] lines ≡ found → read_by rule ends text ≡ fault_or found (ends lines)
   read_as text lines found e h = rw (e, h) refl
 
-  module _ (rule_other : (before : List Line) (line : Line) → rule before line ≢ Some fault.LineTooLong) (end_other : (lines : List Line) (other : ℕ) → ends lines ≢ Err (text_fault.Fault 1 other)) where
-    complete_other : (long : Bool) (before : List Line) (line : Line) → long ≡ false → cut_fault rule (cond long None (Some line)) true before ≢ Some fault.LineTooLong
+  module _ (rule_other : (before : List Line) (line : Line) → rule before line ≢ Some (number_of fault.TooLong)) (end_other : (lines : List Line) (other : ℕ) → ends lines ≢ Err (text_fault.Fault 1 other)) where
+    complete_other : (long : Bool) (before : List Line) (line : Line) → long ≡ false → cut_fault rule (cond long None (Some line)) true before ≢ Some (number_of fault.TooLong)
     complete_other true before line e = absurd cc
     complete_other false before line e = rule_other before line
 
-    not_too_long : (found : Option Fault) (count other : ℕ) (lines : List Line) → found ≢ Some fault.LineTooLong → fault_or (or_else found count None) (ends lines) ≢ Err (text_fault.Fault 1 other)
+    not_too_long : (found : Option ℕ) (count other : ℕ) (lines : List Line) → found ≢ Some (number_of fault.TooLong) → fault_or (or_else found count None) (ends lines) ≢ Err (text_fault.Fault 1 other)
     not_too_long None count other lines ne = end_other lines other
-    not_too_long (Some f) count other lines ne = λ e. ne (ap (λ (x : Fault). Some x) (too_long_by f (number_of_fault f count other e)))
+    not_too_long (Some f) count other lines ne = λ e. ne (ap (λ (x : ℕ). Some x) (number_of_fault f count other e))
 
     -- with an LF, it is not
     line_feed_other : (text : List ℕ) (other : ℕ) → decided rule text ≡ None → read_by rule ends (text ++ 10 ∷ []) ≢ Err (text_fault.Fault 1 other)
@@ -135,7 +103,7 @@ module _ {A : Type 0} (rule : Rule) (ends : List Line → Result A TextFault) wh
     only_by : (found : Option TextFault) (text : List ℕ) (f : TextFault) → decided rule text ≡ found → ((more : List ℕ) → IsBytes more → read_by rule ends (text ++ more) ≡ Err f) → found ≡ Some f
     only_by (Some g) text f d all = ap (λ (x : TextFault). Some x) (same_error g f (sym (decided_always text [] g d) ∙ all [] no_bytes))
     only_by None text f d all =
-        let letters : read_by rule ends (text ++ replicate 1025 120) ≡ Err (at_line fault.LineTooLong (length (parts_of text).ended + 1)) = rw append-nil at (decided_always (text ++ replicate 1025 120) [] _ (decided_letters rule text d)) in
+        let letters : read_by rule ends (text ++ replicate 1025 120) ≡ Err (at_line (number_of fault.TooLong) (length (parts_of text).ended + 1)) = rw append-nil at (decided_always (text ++ replicate 1025 120) [] _ (decided_letters rule text d)) in
         let letters_say = same_error _ _ (sym letters ∙ all (replicate 1025 120) letters_are_bytes) in
         absurd (line_feed_other text _ d (all (10 ∷ []) line_feed_is_byte ∙ ap (λ (x : TextFault). Err x) (sym letters_say)))
 

@@ -1,12 +1,11 @@
 -- The end of a text, under any rule.
 use Rattle.std.proofs.Common.{◌≡◌, ◌≢◌, ℕ, ◌+◌, ◌-◌, ◌^◌, min, Bool, true, false, cond, List, [], ◌∷◌, ◌++◌, length, Option, Some, None, Err, refl, sym, ap, ◌∙◌, arith}
 use Rattle.std.proofs.lemmas.List.{append-nil, length_push}
-use Rattle.dimacs_lines.specs.declared.fault.Fault.{Fault}
 use Rattle.dimacs_lines.specs.declared.fault.TextFault.{TextFault}
 use Rattle.dimacs_lines.specs.declared.fault.TextFault.TheVariants as text_fault
 use Rattle.dimacs_lines.specs.declared.fault.LineError.{LineError}
 use Rattle.dimacs_lines.specs.declared.fault.LineError.TheVariants as line_error
-use Rattle.dimacs_lines.specs.Fault.{number_of, located}
+use Rattle.dimacs_lines.specs.Fault.{located}
 use Rattle.dimacs_lines.specs.Lines.{Line, parts_of, lines_of, last_line, is_too_long}
 use Rattle.dimacs_lines.specs.Cut.{Cut, kept, begun_line, has_bytes}
 use Rattle.dimacs_lines.proofs.BegunLemmas.{cut_line_of, bytes_begun, no_bytes_begun}
@@ -53,7 +52,7 @@ module _ {T : Type 0} (rule : Rule) (holds : List Line → T → Type 0) (text :
         → (first_fault rule [] (lines_of text) ≡ None) × holds (lines_of text) new × (min (lines + 1) (2 ^ 64 - 1) ≡ counted (length (lines_of text)))
     last_taken new taken =
         let p = parts_of text in let t = taken p.ended open_is.held in
-        let none : first_fault rule [] (lines_of text) ≡ None = found ∙ ap (λ (f : Option Fault). or_else f (length p.ended + 1) None) t.0 in
+        let none : first_fault rule [] (lines_of text) ≡ None = found ∙ ap (λ (f : Option ℕ). or_else f (length p.ended + 1) None) t.0 in
         let lines_eq : lines_after cut.line true p.ended ≡ lines_of text = rw (line_is, all_is) (lines_complete rule (is_too_long p.rest) p.ended p.rest (rw line_is at t.0)) in
         let count : min (lines + 1) (2 ^ 64 - 1) ≡ counted (length (lines_of text)) = rw (all_is, length_push, open_is.lines_are) (omega arith) in
         (none, rw (← lines_eq) t.1, count)
@@ -62,12 +61,12 @@ module _ {T : Type 0} (rule : Rule) (holds : List Line → T → Type 0) (text :
     last_fails line_error.Memory reported =
         let p = parts_of text in record {
           begun = λ e. rest_begun (ap kept e);
-          faultless = found ∙ ap (λ (f : Option Fault). or_else f (length p.ended + 1) None) (reported p.ended open_is.held).0;
+          faultless = found ∙ ap (λ (f : Option ℕ). or_else f (length p.ended + 1) None) (reported p.ended open_is.held).0;
         }
     last_fails (line_error.Fault f) reported =
         let p = parts_of text in
         let count : counted (length p.ended + 1) ≡ min (lines + 1) (2 ^ 64 - 1) = rw open_is.lines_are (omega arith) in
-        found ∙ ap (λ (f : Option Fault). or_else f (length p.ended + 1) None) (reported p.ended open_is.held) ∙ ap (λ (n : ℕ). Some (text_fault.Fault (number_of f) n)) count
+        found ∙ ap (λ (f : Option ℕ). or_else f (length p.ended + 1) None) (reported p.ended open_is.held) ∙ ap (λ (n : ℕ). Some (text_fault.Fault f n)) count
 
 -- a fault that is decided is the first of the lines
 pub finishes_failed : {T : Type 0} (rule : Rule) (holds : List Line → T → Type 0) (fault : TextFault) (text : List ℕ) → decided rule text ≡ Some fault → Finishes rule holds (Err fault) text

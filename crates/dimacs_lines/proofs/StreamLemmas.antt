@@ -2,8 +2,7 @@
 use Rattle.std.proofs.Common.{◌≡◌, ◌≢◌, ℕ, ◌+◌, ◌-◌, ◌^◌, ◌<◌, min, Bool, true, false, cond, if◌then◌else◌, List, [], ◌∷◌, ◌++◌, length, take, drop, Option, Some, None, Result, Err, refl, sym, ap, ◌∙◌, append_assoc, arith}
 use Rattle.std.specs.List.{before_first}
 use Rattle.std.proofs.lemmas.List.{append-nil, length_push, take-append-drop, take_rest}
-use Rattle.dimacs_lines.specs.declared.fault.Fault.{Fault}
-use Rattle.dimacs_lines.specs.declared.fault.Fault.TheVariants as fault
+use Rattle.dimacs_lines.specs.declared.fault.LineFault.TheVariants as fault
 use Rattle.dimacs_lines.specs.declared.fault.TextFault.{TextFault}
 use Rattle.dimacs_lines.specs.declared.fault.TextFault.TheVariants as text_fault
 use Rattle.dimacs_lines.specs.declared.fault.LineError.{LineError}
@@ -21,7 +20,7 @@ abbrev pub first_of_both : Option TextFault → Option TextFault → Option Text
 first_of_both None later = later
 first_of_both (Some fault) later = Some fault
 
-or_else-both : (here : Option Fault) (line : ℕ) (a b : Option TextFault) → or_else here line (first_of_both a b) ≡ first_of_both (or_else here line a) b
+or_else-both : (here : Option ℕ) (line : ℕ) (a b : Option TextFault) → or_else here line (first_of_both a b) ≡ first_of_both (or_else here line a) b
 or_else-both None line a b = refl
 or_else-both (Some f) line a b = refl
 
@@ -32,7 +31,7 @@ first_fault-append rule before (line ∷ lines) more =
     ap (λ (later : Option TextFault). or_else (fault_among rule before line) (length before + 1) later) (first_fault-append rule (before ++ line ∷ []) lines more ∙ ap (λ (b : List Line). first_of_both (first_fault rule (before ++ line ∷ []) lines) (first_fault rule b more)) (append_assoc before (line ∷ []) lines))
     ∙ or_else-both (fault_among rule before line) (length before + 1) (first_fault rule (before ++ line ∷ []) lines) (first_fault rule (before ++ line ∷ lines) more)
 
-pub first_fault-too_long : (rule : Rule) (before : List Line) (line : Line) (others : List Line) → is_too_long line ≡ true → first_fault rule before (line ∷ others) ≡ Some (at_line fault.LineTooLong (length before + 1))
+pub first_fault-too_long : (rule : Rule) (before : List Line) (line : Line) (others : List Line) → is_too_long line ≡ true → first_fault rule before (line ∷ others) ≡ Some (at_line (number_of fault.TooLong) (length before + 1))
 unfolding first_fault fault_among
 first_fault-too_long rule before line others long = rw long refl
 
@@ -129,7 +128,7 @@ module _ {T : Type 0} (rule : Rule) (holds : List Line → T → Type 0) where
     part_undecided fault =
         let line = before_first is_line_feed piece in let p = parts_of text in
         let fault_is : cut_fault rule (kept (p.rest ++ line)) (has_line_feed piece) p.ended ≡ None = rw (← line_is) fault in
-        decided_part rule text (take (bytes_used piece) piece) (has_line_feed piece) line (parts_of-first piece) open_is.undecided ∙ ap (λ (f : Option Fault). or_else f (length p.ended + 1) None) fault_is
+        decided_part rule text (take (bytes_used piece) piece) (has_line_feed piece) line (parts_of-first piece) open_is.undecided ∙ ap (λ (f : Option ℕ). or_else f (length p.ended + 1) None) fault_is
 
     pub part_ends : has_line_feed piece ≡ true → cut_fault rule (part_line cutter piece) (has_line_feed piece) (parts_of text).ended ≡ None → EndsWell rule text piece
     part_ends has fault =
@@ -151,14 +150,14 @@ module _ {T : Type 0} (rule : Rule) (holds : List Line → T → Type 0) where
         let none = part_undecided fault in
         (none, rw line_is (part_open (has_line_feed piece) (is_too_long (p.rest ++ line)) text (take (bytes_used piece) piece) line lines new (parts_of-first piece) refl none open_is.lines_are fault_is held_is))
 
-    pub part_fails : (f : Fault) → cut_fault rule (part_line cutter piece) (has_line_feed piece) (parts_of text).ended ≡ Some f
-        → decided rule (text ++ take (bytes_used piece) piece) ≡ Some (text_fault.Fault (number_of f) (min (lines + 1) (2 ^ 64 - 1)))
+    pub part_fails : (f : ℕ) → cut_fault rule (part_line cutter piece) (has_line_feed piece) (parts_of text).ended ≡ Some f
+        → decided rule (text ++ take (bytes_used piece) piece) ≡ Some (text_fault.Fault f (min (lines + 1) (2 ^ 64 - 1)))
     part_fails f fault =
         let line = before_first is_line_feed piece in let p = parts_of text in
         let fault_is : cut_fault rule (kept (p.rest ++ line)) (has_line_feed piece) p.ended ≡ Some f = rw (← line_is) fault in
         let found = decided_part rule text (take (bytes_used piece) piece) (has_line_feed piece) line (parts_of-first piece) open_is.undecided in
         let count : counted (length p.ended + 1) ≡ min (lines + 1) (2 ^ 64 - 1) = rw open_is.lines_are (omega arith) in
-        found ∙ ap (λ (f : Option Fault). or_else f (length p.ended + 1) None) fault_is ∙ ap (λ (n : ℕ). Some (text_fault.Fault (number_of f) n)) count
+        found ∙ ap (λ (f : Option ℕ). or_else f (length p.ended + 1) None) fault_is ∙ ap (λ (n : ℕ). Some (text_fault.Fault f n)) count
 
   -- ---- by what the calls ensure
 
@@ -184,7 +183,7 @@ piece_failed rule holds (line_error.Fault f) text piece cutter taker lines some 
     whole_piece rule text piece (bytes_used piece) _ (part_fails rule holds text piece cutter taker lines some open_is f (reported (parts_of text).ended open_is.held))
 
 -- want of memory is never decided
-no_memory_by : (here : Option Fault) (line : ℕ) (later : Option TextFault) → later ≢ Some text_fault.Memory → or_else here line later ≢ Some text_fault.Memory
+no_memory_by : (here : Option ℕ) (line : ℕ) (later : Option TextFault) → later ≢ Some text_fault.Memory → or_else here line later ≢ Some text_fault.Memory
 no_memory_by None line later ne = ne
 no_memory_by (Some f) line later ne = λ e. absurd cc
 

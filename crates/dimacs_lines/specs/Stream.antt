@@ -1,7 +1,6 @@
 -- A text whose lines are taken one after the other, each by a rule over itself and the lines before it.
 use Rattle.std.specs.Prelude.{◌≡◌, ◌≢◌, ℕ, ◌+◌, ◌-◌, ◌^◌, min, Bool, true, List, [], ◌∷◌, ◌++◌, Option, Some, None, Result, Ok, Err, length, if◌then◌else◌}
-use Rattle.dimacs_lines.specs.declared.fault.Fault.{Fault}
-use Rattle.dimacs_lines.specs.declared.fault.Fault.TheVariants as fault
+use Rattle.dimacs_lines.specs.declared.fault.LineFault.TheVariants as fault
 use Rattle.dimacs_lines.specs.declared.fault.LineError.{LineError}
 use Rattle.dimacs_lines.specs.declared.fault.LineError.TheVariants as line_error
 use Rattle.dimacs_lines.specs.declared.fault.TextFault.{TextFault}
@@ -10,23 +9,23 @@ use Rattle.dimacs_lines.specs.Fault.{number_of}
 use Rattle.dimacs_lines.specs.Lines.{Line, Parts, parts_of, lines_of, is_too_long}
 use Rattle.dimacs_lines.specs.Cut.{Cut, kept, begun_line, part_line, begun_with, has_line_feed}
 
--- the fault of a line that fits, among the lines before it
+-- the number of the fault of a line that fits, among the lines before it
 abbrev pub Rule : Type 0
-Rule = List Line → Line → Option Fault
+Rule = List Line → Line → Option ℕ
 
 -- the count of lines stops at the greatest number of 64 bits
 abbrev pub counted : ℕ → ℕ
 counted lines = min lines (2 ^ 64 - 1)
 
-abbrev pub at_line : Fault → ℕ → TextFault
-at_line fault line = text_fault.Fault (number_of fault) (counted line)
+abbrev pub at_line : ℕ → ℕ → TextFault
+at_line number line = text_fault.Fault number (counted line)
 
-unfoldable pub fault_among : Rule → List Line → Line → Option Fault
-fault_among rule before line = if is_too_long line then Some fault.LineTooLong else rule before line
+unfoldable pub fault_among : Rule → List Line → Line → Option ℕ
+fault_among rule before line = if is_too_long line then Some (number_of fault.TooLong) else rule before line
 
-abbrev pub or_else : Option Fault → ℕ → Option TextFault → Option TextFault
+abbrev pub or_else : Option ℕ → ℕ → Option TextFault → Option TextFault
 or_else None line later = later
-or_else (Some fault) line later = Some (at_line fault line)
+or_else (Some number) line later = Some (at_line number line)
 
 -- the first of the lines that is faulty, where others stand before them
 unfoldable pub first_fault : Rule → List Line → List Line → Option TextFault
@@ -42,10 +41,10 @@ fault_or (Some fault) result = Err fault
 abbrev pub read_by : {A : Type 0} → Rule → (List Line → Result A TextFault) → List ℕ → Result A TextFault
 read_by rule ends text = fault_or (first_fault rule [] (lines_of text)) (ends (lines_of text))
 
--- a fault at the end, with the number of lines
-abbrev pub or_at : {A : Type 0} → Result A Fault → ℕ → Result A TextFault
+-- a fault at the end by its number, with the number of lines
+abbrev pub or_at : {A : Type 0} → Result A ℕ → ℕ → Result A TextFault
 or_at (Ok x) lines = Ok x
-or_at (Err fault) lines = Err (at_line fault lines)
+or_at (Err number) lines = Err (at_line number lines)
 
 -- the lines of which no further byte changes the fault: those that are ended, and one that is too long
 abbrev pub settled_lines : Parts → List Line
@@ -56,19 +55,19 @@ unfoldable pub decided : Rule → List ℕ → Option TextFault
 decided rule text = first_fault rule [] (settled_lines (parts_of text))
 
 -- what is told of a line that was not taken: its fault, or want of memory where it has none
-abbrev pub Reports : LineError → Option Fault → Type 0
+abbrev pub Reports : LineError → Option ℕ → Type 0
 Reports line_error.Memory found = found ≡ None
-Reports (line_error.Fault fault) found = found ≡ Some fault
+Reports (line_error.Fault number) found = found ≡ Some number
 
 -- a line that is cut: too long, complete, or begun
-abbrev pub cut_fault : Rule → Option Line → Bool → List Line → Option Fault
-cut_fault rule None complete before = Some fault.LineTooLong
+abbrev pub cut_fault : Rule → Option Line → Bool → List Line → Option ℕ
+cut_fault rule None complete before = Some (number_of fault.TooLong)
 cut_fault rule (Some line) complete before = if complete then rule before line else None
 
 -- what is told of a line that is cut: a complete one alone can want memory
 abbrev pub ReportsCut : Rule → LineError → Option Line → Bool → List Line → Type 0
 ReportsCut rule line_error.Memory line complete before = (cut_fault rule line complete before ≡ None) × (complete ≡ true)
-ReportsCut rule (line_error.Fault fault) line complete before = cut_fault rule line complete before ≡ Some fault
+ReportsCut rule (line_error.Fault number) line complete before = cut_fault rule line complete before ≡ Some number
 
 abbrev pub lines_after : Option Line → Bool → List Line → List Line
 lines_after None complete before = before

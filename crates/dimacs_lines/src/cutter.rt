@@ -13,7 +13,7 @@ use std::marker::Model;
 /// The most bytes that a line has before its LF.
 pub const LINE_LIMIT: usize = 1024;
 
-/// One line of a text that comes in pieces. It takes no memory.
+/// One line of a text that comes in pieces. Taking a piece cannot fail for lack of memory.
 #[derive(Drop)]
 pub struct LineCutter {
     bytes: ArrayVec<u8, LINE_LIMIT>,

@@ -1,4 +1,4 @@
-//! The faults of a text.
+//! The faults of a line, and what is answered of a text that has a fault.
 
 ghost use Rattle.std.specs.Prelude.{◌≡◌, ◌+◌, min, ◌-◌, ◌^◌};
 ghost use Rattle.dimacs_lines.specs.Fault.{number_of, located};
@@ -6,96 +6,30 @@ ghost use Rattle.dimacs_lines.specs.Fault.{number_of, located};
 use std::alloc::{AllocError, AllocFailed};
 use thiserror::Error;
 
-/// What is wrong with a line, with the end of a text, or with a command: each has a number of its own.
+/// What is wrong with a line by itself, in any text.
 #[derive(Clone, Copy, Debug, PartialEq, Eq)]
-pub enum Fault {
-    /// A line has more bytes before its LF than `LINE_LIMIT`.
-    LineTooLong,
-    /// The first word is no designator of this text, or no command.
+pub enum LineFault {
+    /// It has more bytes before its LF than `LINE_LIMIT`.
+    TooLong,
+    /// Its first word is no designator of this text, or no command.
     UnknownDesignator,
     WrongFieldCount,
     /// A field is not 1 to 18 digits, after one `-` where a sign is allowed.
     NotANumber,
     OutOfRange,
-    /// A node or arc line stands before the problem line.
-    BeforeProblemLine,
-    SecondProblemLine,
-    UnknownKind,
-    NodeAfterArc,
-    /// A node is named twice, or there is a second source or sink.
-    NamedTwice,
-    /// An arc line or the end comes while the source or the sink is missing.
-    EndpointMissing,
-    TooManyArcs,
-    TooFewArcs,
-    NoProblemLine,
-    /// The lower bound of an arc is above its capacity.
-    LowAboveCap,
-    /// An arc does not lead from the source side to the sink side.
-    NotAcrossSides,
-    /// The word of a node line is neither `s` nor `t`.
-    UnknownNodeWord,
-    /// A line of an answer stands at the wrong place, or one is missing.
-    OutOfOrder,
-    /// Problems of this kind do not have the command.
-    NotForKind,
-    /// A command names an arc that is not there.
-    NoSuchArc,
-    /// A command names a node that is not there.
-    NoSuchNode,
-    /// An edit would put the lower bound of an arc above its capacity.
-    EditLowAboveCap,
-    /// A new arc would not lead from the source side to the sink side.
-    EditNotAcrossSides,
-    /// As many arcs stand as there is room.
-    ArcTableFull,
-    /// A group holds edits alone, and `end` stands after a group.
-    NotInGroup,
-    /// A group has more edits than `GROUP_LIMIT`.
-    GroupTooLong,
-    /// No moment has a mark of this name.
-    NoSuchMark,
-    /// A field is not 1 to `NAME_LIMIT` letters.
-    NotAName,
-    /// As many other names have marks as there may be.
-    TooManyMarks,
 }
 
-impl Fault {
-    /// The number that the fault is told by.
+impl LineFault {
+    /// Its number, by which it is reported in every text.
     pub fn number(self) -> u8
         ensures { result ≡ number_of self }
     {
         match self {
-            Fault::LineTooLong => 1,
-            Fault::UnknownDesignator => 2,
-            Fault::WrongFieldCount => 3,
-            Fault::NotANumber => 4,
-            Fault::OutOfRange => 5,
-            Fault::BeforeProblemLine => 6,
-            Fault::SecondProblemLine => 7,
-            Fault::UnknownKind => 8,
-            Fault::NodeAfterArc => 9,
-            Fault::NamedTwice => 10,
-            Fault::EndpointMissing => 11,
-            Fault::TooManyArcs => 12,
-            Fault::TooFewArcs => 13,
-            Fault::NoProblemLine => 14,
-            Fault::LowAboveCap => 15,
-            Fault::NotAcrossSides => 16,
-            Fault::UnknownNodeWord => 17,
-            Fault::OutOfOrder => 40,
-            Fault::NoSuchArc => 20,
-            Fault::NoSuchNode => 21,
-            Fault::EditLowAboveCap => 22,
-            Fault::NotForKind => 23,
-            Fault::ArcTableFull => 24,
-            Fault::EditNotAcrossSides => 27,
-            Fault::NotInGroup => 29,
-            Fault::GroupTooLong => 31,
-            Fault::NoSuchMark => 28,
-            Fault::NotAName => 32,
-            Fault::TooManyMarks => 33,
+            LineFault::TooLong => 1,
+            LineFault::UnknownDesignator => 2,
+            LineFault::WrongFieldCount => 3,
+            LineFault::NotANumber => 4,
+            LineFault::OutOfRange => 5,
         }
     }
 }
@@ -103,8 +37,8 @@ impl Fault {
 /// Why a line was not taken.
 #[derive(Clone, Copy)]
 pub enum LineError {
-    /// The line is faulty.
-    Fault(Fault),
+    /// The line is faulty, by the number of its fault: each text has faults of its own.
+    Fault(u8),
     /// Want of memory.
     Memory,
 }
@@ -126,23 +60,21 @@ impl LineError {
         ensures { result ≡ located self line }
     {
         match self {
-            LineError::Fault(fault) => TextFault::Fault {
-                number: fault.number(),
-                line,
-            },
+            LineError::Fault(number) => TextFault::Fault { number, line },
             LineError::Memory => TextFault::Memory,
         }
     }
 }
 
-impl From<Fault> for LineError {
+impl From<LineFault> for LineError {
     ghost use Rattle.std.specs.Prelude.{◌≡◌};
     ghost use Rattle.dimacs_lines.specs.declared.fault.LineError.TheVariants as line_error;
+    ghost use Rattle.dimacs_lines.specs.Fault.{number_of};
 
-    ghost from_gives = { λ fault e. e ≡ line_error.Fault fault };
+    ghost from_gives = { λ fault e. e ≡ line_error.Fault (number_of fault) };
 
-    fn from(fault: Fault) -> Self {
-        LineError::Fault(fault)
+    fn from(fault: LineFault) -> Self {
+        LineError::Fault(fault.number())
     }
 }
 

@@ -12,7 +12,7 @@ mod sequence;
 mod words;
 
 pub use cutter::{LINE_LIMIT, LineCutter, ended_lines_stay};
-pub use fault::{Fault, LineError, TextFault};
+pub use fault::{LineError, LineFault, TextFault};
 pub use limits::limits_are;
 pub use name::{NAME_LIMIT, Name, names_are_compared};
 pub use numbers::{DIGIT_LIMIT, VALUE_DIGIT_LIMIT, claimed_value, integer_in, natural_in};

@@ -11,7 +11,7 @@ use std::marker::Model;
 /// The most letters of a name.
 pub const NAME_LIMIT: usize = 32;
 
-/// The name of a mark: 1 to `NAME_LIMIT` letters, `a` to `z` and `A` to `Z`. It takes no memory.
+/// The name of a mark: 1 to `NAME_LIMIT` letters, `a` to `z` and `A` to `Z`. Making one cannot fail for lack of memory.
 #[derive(Clone, Copy, Debug)]
 pub struct Name {
     /// The letters, and 0 in each place behind them.

@@ -6,7 +6,7 @@ ghost use Rattle.dimacs_lines.specs.Fields.{natural, natural_within, integer, cl
 ghost use Rattle.dimacs_lines.specs.Digits.{FrontDigits};
 ghost use Rattle.dimacs_lines.specs.Checks.{natural_in, integer_in};
 
-use crate::fault::Fault;
+use crate::fault::LineFault;
 use crate::words::Word;
 
 /// The most digits of a number.
@@ -99,17 +99,17 @@ fn split_sign(word: &[u8]) -> (bool, &[u8])
 
 /// The number of a field without sign, from `low` to `high`: first its shape is tested, then its range.
 #[inline(always)]
-pub fn natural_in(word: Word, low: u64, high: u64) -> Result<u64, Fault>
+pub fn natural_in(word: Word, low: u64, high: u64) -> Result<u64, LineFault>
     ensures value { result ≡ natural_in low high word.entry }
     ensures range { IfOk result (λ value. (low ≤ value) × (value ≤ high)) }
 {
     match word.natural() {
-        None => Err(Fault::NotANumber),
+        None => Err(LineFault::NotANumber),
         Some(value) => {
             if low <= value && value <= high {
                 Ok(value)
             } else {
-                Err(Fault::OutOfRange)
+                Err(LineFault::OutOfRange)
             }
         }
     }
@@ -117,18 +117,18 @@ pub fn natural_in(word: Word, low: u64, high: u64) -> Result<u64, Fault>
 
 /// The number of a field with a sign, at most the limit either way: first its shape is tested, then its range.
 #[inline(always)]
-pub fn integer_in(word: Word, limit: i64) -> Result<i64, Fault>
+pub fn integer_in(word: Word, limit: i64) -> Result<i64, LineFault>
     requires { pos 0 ≤ℤ limit }
     ensures value { result ≡ integer_in limit word.entry }
     ensures range { IfOk result (λ value. (neg_ℤ limit ≤ℤ value) × (value ≤ℤ limit)) }
 {
     match word.integer() {
-        None => Err(Fault::NotANumber),
+        None => Err(LineFault::NotANumber),
         Some(value) => {
             if -limit <= value && value <= limit {
                 Ok(value)
             } else {
-                Err(Fault::OutOfRange)
+                Err(LineFault::OutOfRange)
             }
         }
     }

@@ -1,22 +1,23 @@
 //! Reading a text in pieces, line by line, under any rule for its lines.
 
 ghost use Rattle.std.specs.Prelude.{◌≡◌, ◌≢◌, ◌<◌, ◌≤◌, List, ℕ, [], ◌++◌, Option, None, Some, Result, Err, IfOk, IfErr, length};
-ghost use Rattle.dimacs_lines.specs.declared.fault.Fault.{Fault};
+ghost use Rattle.dimacs_lines.specs.declared.fault.LineFault.TheVariants as faults;
 ghost use Rattle.dimacs_lines.specs.declared.fault.TextFault.{TextFault};
 ghost use Rattle.dimacs_lines.specs.Cut.{bytes_used, has_line_feed};
+ghost use Rattle.dimacs_lines.specs.Fault.{number_of};
 ghost use Rattle.dimacs_lines.specs.Lines.{Line, IsBytes};
 ghost use Rattle.dimacs_lines.specs.Stream.{Rule, TakesLine, TakesCut, TakesPart, EndsWell, decided, read_by};
 
 use crate::cutter::{LineCutter, whole_line};
-use crate::fault::{Fault, LineError, TextFault};
+use crate::fault::{LineError, LineFault, TextFault};
 
 /// What takes the lines of a text, one after the other.
 pub trait LineTaker: Drop {
     /// What is known before the text begins.
     ghost Setting: { Type 0 } = { Unit {0} };
 
-    /// The fault of a line that fits, among the lines before it.
-    ghost rule: { Self.Setting → List (List ℕ) → List ℕ → Option Fault };
+    /// The number of the fault of a line that fits, among the lines before it.
+    ghost rule: { Self.Setting → List (List ℕ) → List ℕ → Option ℕ };
 
     /// What these lines tell is held.
     ghost holds: { Self.Setting → List (List ℕ) → Self → Type 0 };
@@ -37,7 +38,7 @@ fn take_cut<T: LineTaker>(
         → TakesCut (T.rule setting) (T.holds setting) result before cutter.now.line complete taker.new }
 {
     match cutter.line() {
-        None => Err(LineError::Fault(Fault::LineTooLong)),
+        None => Err(LineFault::TooLong.into()),
         Some(line) => {
             if complete {
                 taker.take_line(line)
@@ -177,8 +178,8 @@ pub fn decided_for_any_rule<A>()
     ensures always { (rule : Rule) (ends : List Line → Result A TextFault) (text more : List ℕ) (fault : TextFault)
         → decided rule text ≡ Some fault → read_by rule ends (text ++ more) ≡ Err fault }
     ensures only { (rule : Rule) (ends : List Line → Result A TextFault)
-        → ((before : List Line) (line : Line) → rule before line ≢ Some Fault.LineTooLong)
-        → ((lines : List Line) (at : ℕ) → ends lines ≢ Err (TextFault.Fault 1 at))
+        → ((before : List Line) (line : Line) → rule before line ≢ Some (number_of faults.TooLong))
+        → ((lines : List Line) (at : ℕ) → ends lines ≢ Err (TextFault.Fault (number_of faults.TooLong) at))
         → (text : List ℕ) (fault : TextFault)
         → ((more : List ℕ) → IsBytes more → read_by rule ends (text ++ more) ≡ Err fault) → decided rule text ≡ Some fault }
 {}

@@ -3,9 +3,9 @@
 ghost use Rattle.std.specs.Prelude.{◌≡◌, ◌≢◌, ◌↔◌, IsTrue, ◌∷◌, [], ◌<◌, ◌≤◌, ◌+◌, length, drop, min, not, if◌then◌else◌, Some, EachIndex, slice_index, slice_index_or, IfSome, MatchOption, MatchResult, ◌^◌};
 ghost use Rattle.std.specs.List.{position_or_len};
 ghost use Rattle.dimacs_lines.specs.Fields.{is_blank, words_of, natural};
-ghost use Rattle.dimacs_lines.specs.declared.fault.Fault.TheVariants as Fault;
+ghost use Rattle.dimacs_lines.specs.declared.fault.LineFault.TheVariants as LineFault;
 
-use crate::fault::Fault;
+use crate::fault::LineFault;
 use crate::numbers::{DIGIT_LIMIT, digits_from, integer};
 use std::marker::Model;
 
@@ -138,27 +138,27 @@ impl<'a> Words<'a> {
 
     /// Takes the next word, which has to be there.
     #[inline(always)]
-    fn word(&mut self) -> Result<Word<'a>, Fault>
-        ensures { MatchResult result (λ word. self.old ≡ word ∷ self.new) (λ fault. (fault ≡ Fault.WrongFieldCount) × (self.old ≡ [])) }
+    fn word(&mut self) -> Result<Word<'a>, LineFault>
+        ensures { MatchResult result (λ word. self.old ≡ word ∷ self.new) (λ fault. (fault ≡ LineFault.WrongFieldCount) × (self.old ≡ [])) }
     {
-        self.next().ok_or(Fault::WrongFieldCount)
+        self.next().ok_or(LineFault::WrongFieldCount)
     }
 
     /// No word may be left, else `WrongFieldCount`.
     #[inline(always)]
-    pub fn none(mut self) -> Result<(), Fault>
-        ensures { MatchResult result (λ _. self.entry ≡ []) (λ fault. (fault ≡ Fault.WrongFieldCount) × (length self.entry ≢ 0)) }
+    pub fn none(mut self) -> Result<(), LineFault>
+        ensures { MatchResult result (λ _. self.entry ≡ []) (λ fault. (fault ≡ LineFault.WrongFieldCount) × (length self.entry ≢ 0)) }
     {
         match self.next() {
             None => Ok(()),
-            Some(_) => Err(Fault::WrongFieldCount),
+            Some(_) => Err(LineFault::WrongFieldCount),
         }
     }
 
     /// The only word that is left, or `WrongFieldCount`.
     #[inline(always)]
-    pub fn one(mut self) -> Result<Word<'a>, Fault>
-        ensures { MatchResult result (λ word. self.entry ≡ word ∷ []) (λ fault. (fault ≡ Fault.WrongFieldCount) × (length self.entry ≢ 1)) }
+    pub fn one(mut self) -> Result<Word<'a>, LineFault>
+        ensures { MatchResult result (λ word. self.entry ≡ word ∷ []) (λ fault. (fault ≡ LineFault.WrongFieldCount) × (length self.entry ≢ 1)) }
     {
         let word = self.word()?;
         self.none()?;
@@ -166,9 +166,9 @@ impl<'a> Words<'a> {
     }
 
     /// The two words that are left, or `WrongFieldCount`.
-    pub fn two(mut self) -> Result<(Word<'a>, Word<'a>), Fault>
+    pub fn two(mut self) -> Result<(Word<'a>, Word<'a>), LineFault>
         ensures { MatchResult result (λ words. self.entry ≡ words.0 ∷ words.1 ∷ [])
-            (λ fault. (fault ≡ Fault.WrongFieldCount) × (length self.entry ≢ 2)) }
+            (λ fault. (fault ≡ LineFault.WrongFieldCount) × (length self.entry ≢ 2)) }
     {
         let first = self.word()?;
         let second = self.one()?;
@@ -176,9 +176,9 @@ impl<'a> Words<'a> {
     }
 
     /// The three words that are left, or `WrongFieldCount`.
-    pub fn three(mut self) -> Result<(Word<'a>, Word<'a>, Word<'a>), Fault>
+    pub fn three(mut self) -> Result<(Word<'a>, Word<'a>, Word<'a>), LineFault>
         ensures { MatchResult result (λ words. self.entry ≡ words.0 ∷ words.1 ∷ words.2 ∷ [])
-            (λ fault. (fault ≡ Fault.WrongFieldCount) × (length self.entry ≢ 3)) }
+            (λ fault. (fault ≡ LineFault.WrongFieldCount) × (length self.entry ≢ 3)) }
     {
         let first = self.word()?;
         let (second, third) = self.two()?;
@@ -186,10 +186,10 @@ impl<'a> Words<'a> {
     }
 
     /// The five words that are left, or `WrongFieldCount`.
-    pub fn five(mut self) -> Result<(Word<'a>, Word<'a>, Word<'a>, Word<'a>, Word<'a>), Fault>
+    pub fn five(mut self) -> Result<(Word<'a>, Word<'a>, Word<'a>, Word<'a>, Word<'a>), LineFault>
         ensures { MatchResult result
             (λ words. self.entry ≡ words.0 ∷ words.1 ∷ words.2 ∷ words.3 ∷ words.4 ∷ [])
-            (λ fault. (fault ≡ Fault.WrongFieldCount) × (length self.entry ≢ 5)) }
+            (λ fault. (fault ≡ LineFault.WrongFieldCount) × (length self.entry ≢ 5)) }
     {
         let first = self.word()?;
         let second = self.word()?;

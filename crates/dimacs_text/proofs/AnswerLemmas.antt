@@ -1,12 +1,12 @@
 -- An answer text is read as its draft and its end say.
 use Rattle.std.proofs.Common.{◌≡◌, ℕ, Bool, true, false, cond, ◌&&◌, ◌==◌, List, [], Option, Some, None, Result, Ok, Err, ℤ, length, refl, sym, ap, subst, ◌∙◌}
 use Rattle.std.proofs.lemmas.Bool.{eqb-true, and_parts}
-use Rattle.dimacs_lines.specs.declared.fault.Fault.{Fault}
-use Rattle.dimacs_lines.specs.declared.fault.Fault.TheVariants as fault
+use Rattle.dimacs_text.specs.declared.answer_fault.AnswerFault.{AnswerFault}
+use Rattle.dimacs_text.specs.declared.answer_fault.AnswerFault.TheVariants as fault
 use Rattle.dimacs_lines.specs.declared.fault.LineError.{LineError}
 use Rattle.dimacs_lines.specs.declared.fault.TextFault.{TextFault}
 use Rattle.dimacs_lines.specs.declared.fault.TextFault.TheVariants as text_fault
-use Rattle.dimacs_lines.specs.Fault.{number_of}
+use Rattle.dimacs_text.specs.AnswerFault.{number_of}
 use Rattle.dimacs_lines.specs.Lines.{Line, lines_of}
 use Rattle.dimacs_lines.specs.Stream.{counted, first_fault, TakesLine}
 use Rattle.dimacs_lines.specs.Reader as generic
@@ -27,7 +27,7 @@ pub nothing_held : (nodes arcs : ℕ) (draft : Drafted) → draft ≡ record { n
 nothing_held nodes arcs draft e = rw said_of_nothing e
 
 whole_by : (met : Bool) (nodes arcs : ℕ) (value : ℤ) (flows : List FlowLine) (potentials : List ℤ) (answer : Answer) → (length flows == arcs && length potentials == nodes) ≡ met
-    → ◌≡◌ {A = Result Answer Fault} (Ok answer) (cond met (Ok (Flow value flows potentials)) (Err fault.OutOfOrder)) → NamesNodes nodes answer → FitsSize nodes arcs answer
+    → ◌≡◌ {A = Result Answer AnswerFault} (Ok answer) (cond met (Ok (Flow value flows potentials)) (Err fault.OutOfOrder)) → NamesNodes nodes answer → FitsSize nodes arcs answer
 whole_by true nodes arcs value flows potentials answer met e named =
     let counts = and_parts (length flows == arcs) (length potentials == nodes) met in
     let is : Flow value flows potentials ≡ answer = cc in
@@ -59,7 +59,7 @@ module _ (nodes arcs : ℕ) (text : List ℕ) where
     unfolding answers
     answers_ok answer closed = rw (found, sym (closed ∙ ending_is)) refl
 
-    pub answers_end : (f : Fault) (lines : ℕ) → lines ≡ counted (length (lines_of text)) → Err f ≡ ending draft.nodes draft.arcs draft.said → answers nodes arcs text ≡ Err (text_fault.Fault (number_of f) lines)
+    pub answers_end : (f : AnswerFault) (lines : ℕ) → lines ≡ counted (length (lines_of text)) → Err f ≡ ending draft.nodes draft.arcs draft.said → answers nodes arcs text ≡ Err (text_fault.Fault (number_of f) lines)
     unfolding answers
     answers_end f lines count closed = rw (found, sym (closed ∙ ending_is), count) refl
 

@@ -1,14 +1,14 @@
 -- A line of an answer text that is taken, by its designator.
 use Rattle.std.proofs.Common.{◌≡◌, List, [], ◌∷◌, ◌++◌, Option, Some, None, Result, Ok, Err, ℤ, refl, sym, ap, ◌∙◌}
 use Rattle.std.proofs.lemmas.List.{append-nil}
-use Rattle.dimacs_lines.specs.declared.fault.Fault.{Fault}
+use Rattle.dimacs_text.specs.declared.answer_fault.AnswerFault.{AnswerFault}
 use Rattle.dimacs_lines.specs.declared.fault.LineError.{LineError}
 use Rattle.dimacs_lines.specs.Lines.{Line}
 use Rattle.dimacs_lines.specs.Fields.{Word, words_of}
-use Rattle.dimacs_text.specs.Problem.{fields_of, fault_of}
+use Rattle.dimacs_text.specs.Problem.{fields_of}
 use Rattle.dimacs_text.specs.declared.answer_line.AnswerLine.{AnswerLine}
 use Rattle.dimacs_text.specs.declared.answer_line.AnswerLine.TheVariants as line_kind
-use Rattle.dimacs_text.specs.Answer.{Said, Drafted, Takes, TakesAs, line_of, first_of, line_fault, and_said, or_value, value_said, flow_said, potential_said, shortage_said, cut_node_said, read_value, read_flow, read_potential, read_shortage, read_cut_node}
+use Rattle.dimacs_text.specs.Answer.{fault_of, Said, Drafted, Takes, TakesAs, line_of, first_of, line_fault, and_said, or_value, value_said, flow_said, potential_said, shortage_said, cut_node_said, read_value, read_flow, read_potential, read_shortage, read_cut_node}
 use Rattle.dimacs_text.proofs.AnswerLineLemmas.{read_value-ok, read_shortage-ok}
 
 -- what one line more says, by its designator
@@ -49,7 +49,7 @@ taken_blank old line e = (rw e refl, same old line None (rw e refl) refl)
 pub taken_comment : (old : Drafted) (line : Line) (word : Word) (fields : List Word) → words_of line ≡ word ∷ fields → line_of word ≡ line_kind.Comment → (line_fault old.nodes old.arcs old.said line ≡ None) × (old ≡ with_said old (and_said old.said line))
 taken_comment old line word fields e d = (rw (e, d) refl, same old line (Some line_kind.Comment) (rw (e, d) refl) refl)
 
-none_before : (read : Result ℤ Fault) (said : Said) (fields : List Word) → read_value said fields ≡ read → fault_of read ≡ None → said.value ≡ None
+none_before : (read : Result ℤ AnswerFault) (said : Said) (fields : List Word) → read_value said fields ≡ read → fault_of read ≡ None → said.value ≡ None
 none_before (Ok value) said fields e none = (read_value-ok said fields value e).first
 none_before (Err f) said fields e none = absurd cc
 
@@ -60,7 +60,7 @@ value_by (Ok x) old new fields taken =
     (taken.0, taken.1 ∙ rw none refl)
 value_by (Err e) old new fields taken = taken
 
-none_short_before : (read : Result ℤ Fault) (said : Said) (fields : List Word) → read_shortage said fields ≡ read → fault_of read ≡ None → said.shortage ≡ None
+none_short_before : (read : Result ℤ AnswerFault) (said : Said) (fields : List Word) → read_shortage said fields ≡ read → fault_of read ≡ None → said.shortage ≡ None
 none_short_before (Ok shortage) said fields e none = (read_shortage-ok said fields shortage e).first
 none_short_before (Err f) said fields e none = absurd cc
 

@@ -2,8 +2,10 @@
 use Rattle.std.proofs.Common.{◌≡◌, ◌↔◌, Bool, true, false, not, ◌&&◌, IsTrue, cond, List, [], ◌∷◌, length, ◌==◌, Option, Some, None, Result, Ok, Err, refl, sym, ap, ◌∙◌, arith}
 use Rattle.std.proofs.lemmas.Bool.{false≢true}
 use Rattle.std.proofs.lemmas.Bool.Decides.{nat_tests}
-use Rattle.dimacs_lines.specs.declared.fault.Fault.{Fault}
-use Rattle.dimacs_lines.specs.declared.fault.Fault.TheVariants as fault
+use Rattle.dimacs_lines.specs.declared.fault.LineFault.{LineFault}
+use Rattle.dimacs_lines.specs.declared.fault.LineFault.TheVariants as of_line
+use Rattle.dimacs_text.specs.declared.command_fault.CommandFault.{CommandFault}
+use Rattle.dimacs_text.specs.declared.command_fault.CommandFault.TheVariants as fault
 use Rattle.dimacs_text.specs.declared.problem.Kind.{Kind}
 use Rattle.dimacs_text.specs.declared.problem.Kind.TheVariants.{Min, Max, Asn}
 use Rattle.dimacs_lines.specs.declared.name.Name.{Name}
@@ -20,7 +22,7 @@ use Rattle.dimacs_text.specs.Command.{asked, as_back, as_edit, as_mark, ends_gro
 use Rattle.dimacs_text.specs.Group.{is_end_asked}
 
 -- a question of what a line asks for
-abbrev asks : (Command → Bool) → Result Command Fault → Bool
+abbrev asks : (Command → Bool) → Result Command CommandFault → Bool
 asks such (Ok command) = such command
 asks such (Err fault) = false
 
@@ -38,19 +40,19 @@ record IsBare (such : Command → Bool) : Type 0 where
   mark : (name : Name) → such (commands.Mark name) ≡ false
   back : (name : Name) → such (commands.Back name) ≡ false
 
-not_edit : (such : Command → Bool) → IsBare such → (r : Result Edit Fault) → asks such (as_edit r) ≡ false
+not_edit : (such : Command → Bool) → IsBare such → (r : Result Edit LineFault) → asks such (as_edit r) ≡ false
 not_edit such bare (Ok edit) = bare.edit edit
 not_edit such bare (Err fault) = refl
 
-not_mark : (such : Command → Bool) → IsBare such → (r : Result Name Fault) → asks such (as_mark r) ≡ false
+not_mark : (such : Command → Bool) → IsBare such → (r : Result Name CommandFault) → asks such (as_mark r) ≡ false
 not_mark such bare (Ok name) = bare.mark name
 not_mark such bare (Err fault) = refl
 
-not_back : (such : Command → Bool) → IsBare such → (r : Result Name Fault) → asks such (as_back r) ≡ false
+not_back : (such : Command → Bool) → IsBare such → (r : Result Name CommandFault) → asks such (as_back r) ≡ false
 not_back such bare (Ok name) = bare.back name
 not_back such bare (Err fault) = refl
 
-abbrev after_verb : Bool → Result Command Fault → Result Command Fault
+abbrev after_verb : Bool → Result Command CommandFault → Result Command CommandFault
 after_verb has read = demand has fault.NotForKind >>= λ _. read
 
 abbrev has_none : List Word → Bool
@@ -66,7 +68,7 @@ never true = refl
 never false = refl
 
 -- a command with fields
-other_by : (such : Command → Bool) (has : Bool) (read : Result Command Fault) (fields : List Word) (command : Command) → asks such read ≡ false → such command ≡ false
+other_by : (such : Command → Bool) (has : Bool) (read : Result Command CommandFault) (fields : List Word) (command : Command) → asks such read ≡ false → such command ≡ false
     → asks such (after_verb has read) ≡ (has_none fields && such command)
 other_by such has read fields command none other = by has ∙ sym (ap (λ x. has_none fields && x) other ∙ never (has_none fields))
   where
@@ -74,7 +76,7 @@ other_by such has read fields command none other = by has ∙ sym (ap (λ x. has
     by false = refl
     by true = none
 
-edit_by : (such : Command → Bool) → IsBare such → (has : Bool) (r : Result Edit Fault) (fields : List Word)
+edit_by : (such : Command → Bool) → IsBare such → (has : Bool) (r : Result Edit LineFault) (fields : List Word)
     → asks such (after_verb has (as_edit r)) ≡ (has_none fields && such (commands.Edit (edits.Close 0)))
 edit_by such bare has r fields = other_by such has (as_edit r) fields (commands.Edit (edits.Close 0)) (not_edit such bare r) (bare.edit (edits.Close 0))
 
@@ -83,7 +85,7 @@ bare_by : (such : Command → Bool) (has : Bool) (fields : List Word) (command :
     → asks such (after_verb has (read_bare fields command)) ≡ (has_none fields && such command)
 bare_by such has fields command e = rw e (rw (none_left fields) (by (has_none fields)))
   where
-    by : (none : Bool) → asks such (cond none (Ok command) (Err fault.WrongFieldCount)) ≡ (none && such command)
+    by : (none : Bool) → asks such (cond none (Ok command) (Err (fault.Line of_line.WrongFieldCount))) ≡ (none && such command)
     by true = refl
     by false = refl
 
@@ -177,7 +179,7 @@ words_ask such is_such b kind [] = refl
 words_ask such is_such b kind (word ∷ fields) = by (verb_of word) refl
   where
     by : (verb : Option Verb) → verb_of word ≡ verb
-        → asks such (some_or verb fault.UnknownDesignator >>= λ v. after_verb (is_for kind v) (read_by kind v fields)) ≡ has_one is_such (word ∷ fields)
+        → asks such (some_or verb (fault.Line of_line.UnknownDesignator) >>= λ v. after_verb (is_for kind v) (read_by kind v fields)) ≡ has_one is_such (word ∷ fields)
     by None e = sym (ap (λ x. has_none fields && x) b.no_verb ∙ never (has_none fields)) ∙ one_by is_such None fields word e
     by (Some verb) e = verb_asks such b.bare kind verb fields ∙ ap (λ x. has_none fields && x) (b.verb verb) ∙ one_by is_such (Some verb) fields word e
 
@@ -185,11 +187,11 @@ line_asks : (such : Command → Bool) (is_such : Option Verb → Bool) → Brack
     → asks such (asked kind line) ≡ (not (is_too_long line) && has_one is_such (words_of line))
 line_asks such is_such b kind line = by (is_too_long line)
   where
-    by : (long : Bool) → asks such (cond long (Err fault.LineTooLong) (read_words kind (words_of line))) ≡ (not long && has_one is_such (words_of line))
+    by : (long : Bool) → asks such (cond long (Err (fault.Line of_line.TooLong)) (read_words kind (words_of line))) ≡ (not long && has_one is_such (words_of line))
     by true = refl
     by false = words_ask such is_such b kind (words_of line)
 
-opening_only : (r : Result Command Fault) → asks is_opening r ≡ true → r ≡ Ok commands.Group
+opening_only : (r : Result Command CommandFault) → asks is_opening r ≡ true → r ≡ Ok commands.Group
 opening_only (Ok (commands.Edit edit)) e = absurd (false≢true e)
 opening_only (Ok commands.Undo) e = absurd (false≢true e)
 opening_only (Ok commands.Redo) e = absurd (false≢true e)
@@ -201,7 +203,7 @@ opening_only (Ok (commands.Mark name)) e = absurd (false≢true e)
 opening_only (Ok (commands.Back name)) e = absurd (false≢true e)
 opening_only (Err fault) e = absurd (false≢true e)
 
-ending_only : (r : Result Command Fault) → asks is_ending r ≡ true → r ≡ Ok commands.End
+ending_only : (r : Result Command CommandFault) → asks is_ending r ≡ true → r ≡ Ok commands.End
 ending_only (Ok (commands.Edit edit)) e = absurd (false≢true e)
 ending_only (Ok commands.Undo) e = absurd (false≢true e)
 ending_only (Ok commands.Redo) e = absurd (false≢true e)
@@ -223,7 +225,7 @@ ends kind line =
     let same = line_asks is_ending is_end ending kind line in
     (λ e. sym same ∙ ap (asks is_ending) e, λ e. ending_only (asked kind line) (same ∙ e))
 
-end_asked : (r : Result Command Fault) → is_end_asked r ≡ asks is_ending r
+end_asked : (r : Result Command CommandFault) → is_end_asked r ≡ asks is_ending r
 end_asked (Ok (commands.Edit edit)) = refl
 end_asked (Ok commands.Undo) = refl
 end_asked (Ok commands.Redo) = refl

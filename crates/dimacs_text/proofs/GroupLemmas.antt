@@ -1,22 +1,22 @@
 -- The lines round a group, and its lines with one line more.
 use Rattle.std.proofs.Common.{◌≡◌, ℕ, ◌+◌, Bool, true, false, cond, List, [], ◌∷◌, ◌++◌, length, Option, Some, None, Result, Ok, Err, refl, sym, ap, ◌∙◌, arith}
-use Rattle.dimacs_lines.specs.declared.fault.Fault.{Fault}
+use Rattle.dimacs_text.specs.declared.command_fault.CommandFault.{CommandFault}
 use Rattle.dimacs_text.specs.declared.problem.Kind.{Kind}
 use Rattle.dimacs_text.specs.declared.command.Edit.{Edit}
 use Rattle.dimacs_lines.specs.Lines.{Line}
 use Rattle.dimacs_text.specs.Command.{asked}
 use Rattle.dimacs_text.specs.Group.{Gathered, with_edit, gathered_by, gathered, gathered_after, stays_or, edit_in, is_end_asked, and_line}
 
-first_line : (r : Result Edit Fault) → gathered_by r (record { edits = []; fault = None }) ≡ stays_or None [] r
+first_line : (r : Result Edit CommandFault) → gathered_by r (record { edits = []; fault = None }) ≡ stays_or None [] r
 first_line (Ok edit) = refl
 first_line (Err fault) = refl
 
-stays_with : (edit : Edit) (fault : Option Fault) (edits : List Edit) (r : Result Edit Fault) → with_edit edit (stays_or fault edits r) ≡ stays_or fault (edit ∷ edits) r
+stays_with : (edit : Edit) (fault : Option CommandFault) (edits : List Edit) (r : Result Edit CommandFault) → with_edit edit (stays_or fault edits r) ≡ stays_or fault (edit ∷ edits) r
 stays_with edit None edits (Ok next) = refl
 stays_with edit None edits (Err fault) = refl
 stays_with edit (Some fault) edits r = refl
 
-line_by : (r : Result Edit Fault) (kind : Kind) (before : ℕ) (later longer : Gathered) (line : Line)
+line_by : (r : Result Edit CommandFault) (kind : Kind) (before : ℕ) (later longer : Gathered) (line : Line)
     → longer ≡ stays_or later.fault later.edits (edit_in kind (before + 1 + length later.edits) line)
     → gathered_by r longer ≡ stays_or (gathered_by r later).fault (gathered_by r later).edits (edit_in kind (before + length (gathered_by r later).edits) line)
 line_by (Ok edit) kind before later longer line e =

@@ -1,10 +1,10 @@
 -- A problem text is read as its taker and its end say.
 use Rattle.std.proofs.Common.{◌≡◌, ℕ, List, [], None, Result, Ok, Err, length, refl, ◌∙◌}
-use Rattle.dimacs_lines.specs.declared.fault.Fault.{Fault}
+use Rattle.dimacs_text.specs.declared.problem_fault.ProblemFault.{ProblemFault}
 use Rattle.dimacs_lines.specs.declared.fault.LineError.{LineError}
 use Rattle.dimacs_lines.specs.declared.fault.TextFault.{TextFault}
 use Rattle.dimacs_lines.specs.declared.fault.TextFault.TheVariants as text_fault
-use Rattle.dimacs_lines.specs.Fault.{number_of}
+use Rattle.dimacs_text.specs.ProblemFault.{number_of}
 use Rattle.dimacs_lines.specs.Lines.{Line, lines_of}
 use Rattle.dimacs_text.specs.Problem.{Parsed, parsed_of}
 use Rattle.dimacs_text.specs.Reading.{ProblemValue, ending, Takes, problem_rule, reads}
@@ -21,7 +21,7 @@ pub reads_ok : (text : List ℕ) (draft : Parsed) (problem : ProblemValue) → f
 unfolding reads
 reads_ok text draft problem found held closed = rw (found, ← held, ← closed) refl
 
-pub reads_end : (text : List ℕ) (draft : Parsed) (f : Fault) (lines : ℕ) → first_fault problem_rule [] (lines_of text) ≡ None → draft ≡ parsed_of (lines_of text) → lines ≡ counted (length (lines_of text)) → Err f ≡ ending draft
+pub reads_end : (text : List ℕ) (draft : Parsed) (f : ProblemFault) (lines : ℕ) → first_fault problem_rule [] (lines_of text) ≡ None → draft ≡ parsed_of (lines_of text) → lines ≡ counted (length (lines_of text)) → Err f ≡ ending draft
     → reads text ≡ Err (text_fault.Fault (number_of f) lines)
 unfolding reads
 reads_end text draft f lines found held count closed = rw (found, ← held, ← closed, count) refl

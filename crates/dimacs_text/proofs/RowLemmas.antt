@@ -6,8 +6,10 @@ use Rattle.std.proofs.lemmas.Float.{T_from_true}
 use Rattle.std.proofs.lemmas.Int.{ints}
 use Rattle.std.proofs.lemmas.List.{nil_from_length}
 use Rattle.std.proofs.lemmas.List.Elements.{All-push}
-use Rattle.dimacs_lines.specs.declared.fault.Fault.{Fault}
-use Rattle.dimacs_lines.specs.declared.fault.Fault.TheVariants as fault
+use Rattle.dimacs_lines.specs.declared.fault.LineFault.{LineFault}
+use Rattle.dimacs_lines.specs.declared.fault.LineFault.TheVariants as of_line
+use Rattle.dimacs_text.specs.declared.problem_fault.ProblemFault.TheVariants as fault
+use Rattle.dimacs_text.specs.ProblemFault.{in_line}
 use Rattle.dimacs_text.specs.declared.problem.Kind.{Kind}
 use Rattle.dimacs_text.specs.declared.problem.Kind.TheVariants.{Min, Max, Asn}
 use Rattle.dimacs_text.specs.declared.problem.NodeMark.{NodeMark}
@@ -16,25 +18,33 @@ use Rattle.dimacs_text.specs.declared.problem.ArcRow.{ArcRow}
 use Rattle.dimacs_text.specs.declared.problem.Size.{Size}
 use Rattle.dimacs_text.specs.declared.problem.TheConstants.{NODE_LIMIT, ARC_LIMIT, CAP_LIMIT, COST_LIMIT, SUPPLY_LIMIT}
 use Rattle.dimacs_lines.specs.Fields.{Word, natural, integer}
-use Rattle.dimacs_lines.specs.Checks.{◌>>=◌, demand, some_or, natural_in, integer_in}
+use Rattle.dimacs_lines.specs.Checks.{◌>>=◌, demand, some_or, held_as, has_fields, natural_in, integer_in}
 use Rattle.dimacs_text.specs.Problem.{Parsed, kind_named, kind_of, kind_in, natural_value, integer_value, is_source_word, is_sink_word, has_source, has_sink, has_terminals, terminal_by, read_size, read_mark, read_mark_of, read_supply, read_terminal, read_side, read_row, read_row_of, read_min_row, read_max_row, read_asn_row, field, node_of, is_named, mark_of, row_of, size_of, new_marks, new_rows}
 use Rattle.dimacs_text.specs.Lawful.{IsNode, IsWithin, IsLawfulSize, IsLawfulMark, IsLawfulRow, HasLawfulSupply, IsSupply, IsSide, AreOpposite, AreTerminals, MarksFit, RowFits}
 
 -- the value of a step that did not fail
-pub bind_ok : {A B : Type 0} (r : Result A Fault) (f : A → Result B Fault) (y : B) → (r >>= f) ≡ Ok y → (x : A) × (r ≡ Ok x) × (f x ≡ Ok y)
+pub bind_ok : {A B F : Type 0} (r : Result A F) (f : A → Result B F) (y : B) → (r >>= f) ≡ Ok y → (x : A) × (r ≡ Ok x) × (f x ≡ Ok y)
 bind_ok (Ok x) f y e = (x, refl, e)
 bind_ok (Err d) f y e = absurd cc
 
-pub demand_ok : (met : Bool) (f : Fault) (x : Unit {0}) → demand met f ≡ Ok x → met ≡ true
+pub demand_ok : {F : Type 0} (met : Bool) (f : F) (x : Unit {0}) → demand met f ≡ Ok x → met ≡ true
 demand_ok true f x e = refl
 demand_ok false f x e = absurd cc
 
-pub some_or_ok : {A : Type 0} (o : Option A) (f : Fault) (x : A) → some_or o f ≡ Ok x → o ≡ Some x
+pub some_or_ok : {A F : Type 0} (o : Option A) (f : F) (x : A) → some_or o f ≡ Ok x → o ≡ Some x
 some_or_ok None f x e = absurd cc
 some_or_ok (Some y) f x e = let same : y ≡ x = cc in ap (λ z. Some z) same
 
-pub ok_is : {A : Type 0} (x y : A) → ◌≡◌ {A = Result A Fault} (Ok x) (Ok y) → x ≡ y
+pub ok_is : {A F : Type 0} (x y : A) → ◌≡◌ {A = Result A F} (Ok x) (Ok y) → x ≡ y
 ok_is x y e = cc
+
+-- a check of a line by itself
+pub held_ok : {A F : Type 0} (as_fault : LineFault → F) (r : Result A LineFault) (x : A) → held_as as_fault r ≡ Ok x → r ≡ Ok x
+held_ok as_fault (Ok y) x e = let same : y ≡ x = cc in ap (λ z. Ok z) same
+held_ok as_fault (Err f) x e = absurd cc
+
+in_line_ok : {A : Type 0} (r : Result A LineFault) (x : A) → in_line r ≡ Ok x → r ≡ Ok x
+in_line_ok r x e = held_ok (λ f. fault.Line f) r x e
 
 -- the value of a field that was read
 pub record NaturalIsRead (low high : ℕ) (word : Word) (n : ℕ) : Type 0 where
@@ -42,38 +52,41 @@ pub record NaturalIsRead (low high : ℕ) (word : Word) (n : ℕ) : Type 0 where
   pub above : low ≤ n
   pub below : n ≤ high
 
-range_ok : (met : Bool) (f : Fault) (n m : ℕ) → cond met (Ok n) (Err f) ≡ Ok m → (met ≡ true) × (n ≡ m)
+range_ok : (met : Bool) (f : LineFault) (n m : ℕ) → cond met (Ok n) (Err f) ≡ Ok m → (met ≡ true) × (n ≡ m)
 range_ok true f n m e = (refl, cc)
 range_ok false f n m e = absurd cc
 
-natural_by : (low high : ℕ) (o : Option ℕ) (n : ℕ) → (some_or o fault.NotANumber >>= λ n. if leb low n && leb n high then Ok n else Err fault.OutOfRange) ≡ Ok n → (unwrap_or o 0 ≡ n) × (low ≤ n) × (n ≤ high)
+natural_by : (low high : ℕ) (o : Option ℕ) (n : ℕ) → (some_or o of_line.NotANumber >>= λ n. if leb low n && leb n high then Ok n else Err of_line.OutOfRange) ≡ Ok n → (unwrap_or o 0 ≡ n) × (low ≤ n) × (n ≤ high)
 natural_by low high None n e = absurd cc
 natural_by low high (Some m) n e =
-    let r = range_ok (leb low m && leb m high) fault.OutOfRange m n e in
+    let r = range_ok (leb low m && leb m high) of_line.OutOfRange m n e in
     let both = and_parts (leb low m) (leb m high) r.0 in
     let above = leb-true low m both.0 in let below = leb-true m high both.1 in
     (r.1, omega (arith, r.1), omega (arith, r.1))
 
-pub natural_in-ok : (low high : ℕ) (word : Word) (n : ℕ) → natural_in low high word ≡ Ok n → NaturalIsRead low high word n
-natural_in-ok low high word n e = let r = natural_by low high (natural word) n e in record { value = r.0; above = r.1; below = r.2 }
+pub natural_is_read : (low high : ℕ) (word : Word) (n : ℕ) → natural_in low high word ≡ Ok n → NaturalIsRead low high word n
+natural_is_read low high word n e = let r = natural_by low high (natural word) n e in record { value = r.0; above = r.1; below = r.2 }
+
+natural_in-ok : (low high : ℕ) (word : Word) (n : ℕ) → in_line (natural_in low high word) ≡ Ok n → NaturalIsRead low high word n
+natural_in-ok low high word n e = natural_is_read low high word n (in_line_ok (natural_in low high word) n e)
 
 pub record IntegerIsRead (limit : ℤ) (word : Word) (z : ℤ) : Type 0 where
   pub value : integer_value word ≡ z
   pub within : IsWithin limit z
 
-integer_range_ok : (met : Bool) (f : Fault) (n m : ℤ) → cond met (Ok n) (Err f) ≡ Ok m → (met ≡ true) × (n ≡ m)
+integer_range_ok : (met : Bool) (f : LineFault) (n m : ℤ) → cond met (Ok n) (Err f) ≡ Ok m → (met ≡ true) × (n ≡ m)
 integer_range_ok true f n m e = (refl, cc)
 integer_range_ok false f n m e = absurd cc
 
-integer_by : (limit : ℤ) (o : Option ℤ) (z : ℤ) → (some_or o fault.NotANumber >>= λ z. if int_le (neg_ℤ limit) z && int_le z limit then Ok z else Err fault.OutOfRange) ≡ Ok z → (unwrap_or o (pos 0) ≡ z) × IsWithin limit z
+integer_by : (limit : ℤ) (o : Option ℤ) (z : ℤ) → (some_or o of_line.NotANumber >>= λ z. if int_le (neg_ℤ limit) z && int_le z limit then Ok z else Err of_line.OutOfRange) ≡ Ok z → (unwrap_or o (pos 0) ≡ z) × IsWithin limit z
 integer_by limit None z e = absurd cc
 integer_by limit (Some y) z e =
-    let r = integer_range_ok (int_le (neg_ℤ limit) y && int_le y limit) fault.OutOfRange y z e in
+    let r = integer_range_ok (int_le (neg_ℤ limit) y && int_le y limit) of_line.OutOfRange y z e in
     let both = and_parts (int_le (neg_ℤ limit) y) (int_le y limit) r.0 in
     (r.1, subst (λ (x : ℤ). IsWithin limit x) r.1 (record { le = T_from_true _ both.0 }, record { le = T_from_true _ both.1 }))
 
-pub integer_in-ok : (limit : ℤ) (word : Word) (z : ℤ) → integer_in limit word ≡ Ok z → IntegerIsRead limit word z
-integer_in-ok limit word z e = let r = integer_by limit (integer word) z e in record { value = r.0; within = r.1 }
+integer_in-ok : (limit : ℤ) (word : Word) (z : ℤ) → in_line (integer_in limit word) ≡ Ok z → IntegerIsRead limit word z
+integer_in-ok limit word z e = let r = integer_by limit (integer word) z (in_line_ok (integer_in limit word) z e) in record { value = r.0; within = r.1 }
 
 kind_is : (kind : Kind) (word : Word) → kind_in word ≡ Ok kind → kind_of word ≡ kind
 kind_is kind word e = ap (λ (o : Option Kind). unwrap_or o Min) (some_or_ok (kind_named word) fault.UnknownKind kind e)
@@ -91,11 +104,11 @@ pub record SizeIsRead (told : Parsed) (fields : List Word) (size : Size) : Type 
 pub read_size-ok : (told : Parsed) (fields : List Word) (size : Size) → read_size told fields ≡ Ok size → SizeIsRead told fields size
 unfolding read_size
 read_size-ok told fields size ok =
-    let s1 = bind_ok (demand (is_none told.size) fault.SecondProblemLine) (λ _. demand (length fields == 3) fault.WrongFieldCount >>= λ _. kind_in (field 0 fields) >>= λ kind. natural_in 1 NODE_LIMIT (field 1 fields) >>= λ nodes. natural_in 0 ARC_LIMIT (field 2 fields) >>= λ arcs. Ok (record { kind = kind; nodes = nodes; arcs = arcs })) size ok in
-    let s2 = bind_ok (demand (length fields == 3) fault.WrongFieldCount) (λ _. kind_in (field 0 fields) >>= λ kind. natural_in 1 NODE_LIMIT (field 1 fields) >>= λ nodes. natural_in 0 ARC_LIMIT (field 2 fields) >>= λ arcs. Ok (record { kind = kind; nodes = nodes; arcs = arcs })) size s1.2 in
-    let s3 = bind_ok (kind_in (field 0 fields)) (λ kind. natural_in 1 NODE_LIMIT (field 1 fields) >>= λ nodes. natural_in 0 ARC_LIMIT (field 2 fields) >>= λ arcs. Ok (record { kind = kind; nodes = nodes; arcs = arcs })) size s2.2 in
-    let s4 = bind_ok (natural_in 1 NODE_LIMIT (field 1 fields)) (λ nodes. natural_in 0 ARC_LIMIT (field 2 fields) >>= λ arcs. Ok (record { kind = s3.0; nodes = nodes; arcs = arcs })) size s3.2 in
-    let s5 = bind_ok (natural_in 0 ARC_LIMIT (field 2 fields)) (λ arcs. Ok (record { kind = s3.0; nodes = s4.0; arcs = arcs })) size s4.2 in
+    let s1 = bind_ok (demand (is_none told.size) fault.SecondProblemLine) (λ _. in_line (has_fields 3 fields) >>= λ _. kind_in (field 0 fields) >>= λ kind. in_line (natural_in 1 NODE_LIMIT (field 1 fields)) >>= λ nodes. in_line (natural_in 0 ARC_LIMIT (field 2 fields)) >>= λ arcs. Ok (record { kind = kind; nodes = nodes; arcs = arcs })) size ok in
+    let s2 = bind_ok (in_line (has_fields 3 fields)) (λ _. kind_in (field 0 fields) >>= λ kind. in_line (natural_in 1 NODE_LIMIT (field 1 fields)) >>= λ nodes. in_line (natural_in 0 ARC_LIMIT (field 2 fields)) >>= λ arcs. Ok (record { kind = kind; nodes = nodes; arcs = arcs })) size s1.2 in
+    let s3 = bind_ok (kind_in (field 0 fields)) (λ kind. in_line (natural_in 1 NODE_LIMIT (field 1 fields)) >>= λ nodes. in_line (natural_in 0 ARC_LIMIT (field 2 fields)) >>= λ arcs. Ok (record { kind = kind; nodes = nodes; arcs = arcs })) size s2.2 in
+    let s4 = bind_ok (in_line (natural_in 1 NODE_LIMIT (field 1 fields))) (λ nodes. in_line (natural_in 0 ARC_LIMIT (field 2 fields)) >>= λ arcs. Ok (record { kind = s3.0; nodes = nodes; arcs = arcs })) size s3.2 in
+    let s5 = bind_ok (in_line (natural_in 0 ARC_LIMIT (field 2 fields))) (λ arcs. Ok (record { kind = s3.0; nodes = s4.0; arcs = arcs })) size s4.2 in
     let nodes = natural_in-ok 1 NODE_LIMIT (field 1 fields) s4.0 s4.1 in
     let arcs = natural_in-ok 0 ARC_LIMIT (field 2 fields) s5.0 s5.1 in
     let is : ◌≡◌ {A = Size} (record { kind = s3.0; nodes = s4.0; arcs = s5.0 }) size = ok_is _ size s5.2 in
@@ -117,9 +130,9 @@ pub record FieldsAreMark (kind : Kind) (nodes : ℕ) (marks : List NodeMark) (fi
 read_supply-ok : (nodes : ℕ) (marks : List NodeMark) (fields : List Word) (mark : NodeMark) → read_supply nodes marks fields ≡ Ok mark → FieldsAreMark Min nodes marks fields mark
 unfolding read_supply
 read_supply-ok nodes marks fields mark ok =
-    let s1 = bind_ok (demand (length fields == 2) fault.WrongFieldCount) (λ _. natural_in 1 nodes (field 0 fields) >>= λ id. integer_in SUPPLY_LIMIT (field 1 fields) >>= λ value. demand (not (is_named id marks)) fault.NamedTwice >>= λ _. Ok (Supply id value)) mark ok in
-    let s2 = bind_ok (natural_in 1 nodes (field 0 fields)) (λ id. integer_in SUPPLY_LIMIT (field 1 fields) >>= λ value. demand (not (is_named id marks)) fault.NamedTwice >>= λ _. Ok (Supply id value)) mark s1.2 in
-    let s3 = bind_ok (integer_in SUPPLY_LIMIT (field 1 fields)) (λ value. demand (not (is_named s2.0 marks)) fault.NamedTwice >>= λ _. Ok (Supply s2.0 value)) mark s2.2 in
+    let s1 = bind_ok (in_line (has_fields 2 fields)) (λ _. in_line (natural_in 1 nodes (field 0 fields)) >>= λ id. in_line (integer_in SUPPLY_LIMIT (field 1 fields)) >>= λ value. demand (not (is_named id marks)) fault.NamedTwice >>= λ _. Ok (Supply id value)) mark ok in
+    let s2 = bind_ok (in_line (natural_in 1 nodes (field 0 fields))) (λ id. in_line (integer_in SUPPLY_LIMIT (field 1 fields)) >>= λ value. demand (not (is_named id marks)) fault.NamedTwice >>= λ _. Ok (Supply id value)) mark s1.2 in
+    let s3 = bind_ok (in_line (integer_in SUPPLY_LIMIT (field 1 fields))) (λ value. demand (not (is_named s2.0 marks)) fault.NamedTwice >>= λ _. Ok (Supply s2.0 value)) mark s2.2 in
     let s4 = bind_ok (demand (not (is_named s2.0 marks)) fault.NamedTwice) (λ _. Ok (Supply s2.0 s3.0)) mark s3.2 in
     let id = natural_in-ok 1 nodes (field 0 fields) s2.0 s2.1 in
     let value = integer_in-ok SUPPLY_LIMIT (field 1 fields) s3.0 s3.1 in
@@ -177,8 +190,8 @@ terminal_by-ok false id marks mark ok =
 read_terminal-ok : (nodes : ℕ) (marks : List NodeMark) (fields : List Word) (mark : NodeMark) → read_terminal nodes marks fields ≡ Ok mark → FieldsAreMark Max nodes marks fields mark
 unfolding read_terminal
 read_terminal-ok nodes marks fields mark ok =
-    let s1 = bind_ok (demand (length fields == 2) fault.WrongFieldCount) (λ _. natural_in 1 nodes (field 0 fields) >>= λ id. demand (is_source_word (field 1 fields) || is_sink_word (field 1 fields)) fault.UnknownNodeWord >>= λ _. demand (not (is_named id marks)) fault.NamedTwice >>= λ _. terminal_by (is_source_word (field 1 fields)) id marks) mark ok in
-    let s2 = bind_ok (natural_in 1 nodes (field 0 fields)) (λ id. demand (is_source_word (field 1 fields) || is_sink_word (field 1 fields)) fault.UnknownNodeWord >>= λ _. demand (not (is_named id marks)) fault.NamedTwice >>= λ _. terminal_by (is_source_word (field 1 fields)) id marks) mark s1.2 in
+    let s1 = bind_ok (in_line (has_fields 2 fields)) (λ _. in_line (natural_in 1 nodes (field 0 fields)) >>= λ id. demand (is_source_word (field 1 fields) || is_sink_word (field 1 fields)) fault.UnknownNodeWord >>= λ _. demand (not (is_named id marks)) fault.NamedTwice >>= λ _. terminal_by (is_source_word (field 1 fields)) id marks) mark ok in
+    let s2 = bind_ok (in_line (natural_in 1 nodes (field 0 fields))) (λ id. demand (is_source_word (field 1 fields) || is_sink_word (field 1 fields)) fault.UnknownNodeWord >>= λ _. demand (not (is_named id marks)) fault.NamedTwice >>= λ _. terminal_by (is_source_word (field 1 fields)) id marks) mark s1.2 in
     let s3 = bind_ok (demand (is_source_word (field 1 fields) || is_sink_word (field 1 fields)) fault.UnknownNodeWord) (λ _. demand (not (is_named s2.0 marks)) fault.NamedTwice >>= λ _. terminal_by (is_source_word (field 1 fields)) s2.0 marks) mark s2.2 in
     let s4 = bind_ok (demand (not (is_named s2.0 marks)) fault.NamedTwice) (λ _. terminal_by (is_source_word (field 1 fields)) s2.0 marks) mark s3.2 in
     let id = natural_in-ok 1 nodes (field 0 fields) s2.0 s2.1 in
@@ -193,8 +206,8 @@ read_terminal-ok nodes marks fields mark ok =
 read_side-ok : (nodes : ℕ) (marks : List NodeMark) (fields : List Word) (mark : NodeMark) → read_side nodes marks fields ≡ Ok mark → FieldsAreMark Asn nodes marks fields mark
 unfolding read_side
 read_side-ok nodes marks fields mark ok =
-    let s1 = bind_ok (demand (length fields == 1) fault.WrongFieldCount) (λ _. natural_in 1 nodes (field 0 fields) >>= λ id. demand (not (is_named id marks)) fault.NamedTwice >>= λ _. Ok (Side id)) mark ok in
-    let s2 = bind_ok (natural_in 1 nodes (field 0 fields)) (λ id. demand (not (is_named id marks)) fault.NamedTwice >>= λ _. Ok (Side id)) mark s1.2 in
+    let s1 = bind_ok (in_line (has_fields 1 fields)) (λ _. in_line (natural_in 1 nodes (field 0 fields)) >>= λ id. demand (not (is_named id marks)) fault.NamedTwice >>= λ _. Ok (Side id)) mark ok in
+    let s2 = bind_ok (in_line (natural_in 1 nodes (field 0 fields))) (λ id. demand (not (is_named id marks)) fault.NamedTwice >>= λ _. Ok (Side id)) mark s1.2 in
     let s3 = bind_ok (demand (not (is_named s2.0 marks)) fault.NamedTwice) (λ _. Ok (Side s2.0)) mark s2.2 in
     let id = natural_in-ok 1 nodes (field 0 fields) s2.0 s2.1 in
     let is : Side s2.0 ≡ mark = ok_is _ mark s3.2 in
@@ -240,12 +253,12 @@ pub record FieldsAreRow (kind : Kind) (nodes : ℕ) (marks : List NodeMark) (fie
 read_min_row-ok : (nodes : ℕ) (marks : List NodeMark) (fields : List Word) (row : ArcRow) → read_min_row nodes fields ≡ Ok row → FieldsAreRow Min nodes marks fields row
 unfolding read_min_row
 read_min_row-ok nodes marks fields row ok =
-    let s1 = bind_ok (demand (length fields == 5) fault.WrongFieldCount) (λ _. natural_in 1 nodes (field 0 fields) >>= λ tail. natural_in 1 nodes (field 1 fields) >>= λ head. natural_in 0 CAP_LIMIT (field 2 fields) >>= λ low. natural_in 0 CAP_LIMIT (field 3 fields) >>= λ cap. integer_in COST_LIMIT (field 4 fields) >>= λ cost. demand (nat_le low cap) fault.LowAboveCap >>= λ _. Ok (record { tail = tail; head = head; low = pos low; cap = pos cap; cost = cost })) row ok in
-    let s2 = bind_ok (natural_in 1 nodes (field 0 fields)) (λ tail. natural_in 1 nodes (field 1 fields) >>= λ head. natural_in 0 CAP_LIMIT (field 2 fields) >>= λ low. natural_in 0 CAP_LIMIT (field 3 fields) >>= λ cap. integer_in COST_LIMIT (field 4 fields) >>= λ cost. demand (nat_le low cap) fault.LowAboveCap >>= λ _. Ok (record { tail = tail; head = head; low = pos low; cap = pos cap; cost = cost })) row s1.2 in
-    let s3 = bind_ok (natural_in 1 nodes (field 1 fields)) (λ head. natural_in 0 CAP_LIMIT (field 2 fields) >>= λ low. natural_in 0 CAP_LIMIT (field 3 fields) >>= λ cap. integer_in COST_LIMIT (field 4 fields) >>= λ cost. demand (nat_le low cap) fault.LowAboveCap >>= λ _. Ok (record { tail = s2.0; head = head; low = pos low; cap = pos cap; cost = cost })) row s2.2 in
-    let s4 = bind_ok (natural_in 0 CAP_LIMIT (field 2 fields)) (λ low. natural_in 0 CAP_LIMIT (field 3 fields) >>= λ cap. integer_in COST_LIMIT (field 4 fields) >>= λ cost. demand (nat_le low cap) fault.LowAboveCap >>= λ _. Ok (record { tail = s2.0; head = s3.0; low = pos low; cap = pos cap; cost = cost })) row s3.2 in
-    let s5 = bind_ok (natural_in 0 CAP_LIMIT (field 3 fields)) (λ cap. integer_in COST_LIMIT (field 4 fields) >>= λ cost. demand (nat_le s4.0 cap) fault.LowAboveCap >>= λ _. Ok (record { tail = s2.0; head = s3.0; low = pos s4.0; cap = pos cap; cost = cost })) row s4.2 in
-    let s6 = bind_ok (integer_in COST_LIMIT (field 4 fields)) (λ cost. demand (nat_le s4.0 s5.0) fault.LowAboveCap >>= λ _. Ok (record { tail = s2.0; head = s3.0; low = pos s4.0; cap = pos s5.0; cost = cost })) row s5.2 in
+    let s1 = bind_ok (in_line (has_fields 5 fields)) (λ _. in_line (natural_in 1 nodes (field 0 fields)) >>= λ tail. in_line (natural_in 1 nodes (field 1 fields)) >>= λ head. in_line (natural_in 0 CAP_LIMIT (field 2 fields)) >>= λ low. in_line (natural_in 0 CAP_LIMIT (field 3 fields)) >>= λ cap. in_line (integer_in COST_LIMIT (field 4 fields)) >>= λ cost. demand (nat_le low cap) fault.LowAboveCap >>= λ _. Ok (record { tail = tail; head = head; low = pos low; cap = pos cap; cost = cost })) row ok in
+    let s2 = bind_ok (in_line (natural_in 1 nodes (field 0 fields))) (λ tail. in_line (natural_in 1 nodes (field 1 fields)) >>= λ head. in_line (natural_in 0 CAP_LIMIT (field 2 fields)) >>= λ low. in_line (natural_in 0 CAP_LIMIT (field 3 fields)) >>= λ cap. in_line (integer_in COST_LIMIT (field 4 fields)) >>= λ cost. demand (nat_le low cap) fault.LowAboveCap >>= λ _. Ok (record { tail = tail; head = head; low = pos low; cap = pos cap; cost = cost })) row s1.2 in
+    let s3 = bind_ok (in_line (natural_in 1 nodes (field 1 fields))) (λ head. in_line (natural_in 0 CAP_LIMIT (field 2 fields)) >>= λ low. in_line (natural_in 0 CAP_LIMIT (field 3 fields)) >>= λ cap. in_line (integer_in COST_LIMIT (field 4 fields)) >>= λ cost. demand (nat_le low cap) fault.LowAboveCap >>= λ _. Ok (record { tail = s2.0; head = head; low = pos low; cap = pos cap; cost = cost })) row s2.2 in
+    let s4 = bind_ok (in_line (natural_in 0 CAP_LIMIT (field 2 fields))) (λ low. in_line (natural_in 0 CAP_LIMIT (field 3 fields)) >>= λ cap. in_line (integer_in COST_LIMIT (field 4 fields)) >>= λ cost. demand (nat_le low cap) fault.LowAboveCap >>= λ _. Ok (record { tail = s2.0; head = s3.0; low = pos low; cap = pos cap; cost = cost })) row s3.2 in
+    let s5 = bind_ok (in_line (natural_in 0 CAP_LIMIT (field 3 fields))) (λ cap. in_line (integer_in COST_LIMIT (field 4 fields)) >>= λ cost. demand (nat_le s4.0 cap) fault.LowAboveCap >>= λ _. Ok (record { tail = s2.0; head = s3.0; low = pos s4.0; cap = pos cap; cost = cost })) row s4.2 in
+    let s6 = bind_ok (in_line (integer_in COST_LIMIT (field 4 fields))) (λ cost. demand (nat_le s4.0 s5.0) fault.LowAboveCap >>= λ _. Ok (record { tail = s2.0; head = s3.0; low = pos s4.0; cap = pos s5.0; cost = cost })) row s5.2 in
     let s7 = bind_ok (demand (nat_le s4.0 s5.0) fault.LowAboveCap) (λ _. Ok (record { tail = s2.0; head = s3.0; low = pos s4.0; cap = pos s5.0; cost = s6.0 })) row s6.2 in
     let tail = natural_in-ok 1 nodes (field 0 fields) s2.0 s2.1 in
     let head = natural_in-ok 1 nodes (field 1 fields) s3.0 s3.1 in
@@ -263,10 +276,10 @@ read_min_row-ok nodes marks fields row ok =
 read_max_row-ok : (nodes : ℕ) (marks : List NodeMark) (fields : List Word) (row : ArcRow) → read_max_row nodes fields ≡ Ok row → FieldsAreRow Max nodes marks fields row
 unfolding read_max_row
 read_max_row-ok nodes marks fields row ok =
-    let s1 = bind_ok (demand (length fields == 3) fault.WrongFieldCount) (λ _. natural_in 1 nodes (field 0 fields) >>= λ tail. natural_in 1 nodes (field 1 fields) >>= λ head. natural_in 0 CAP_LIMIT (field 2 fields) >>= λ cap. Ok (record { tail = tail; head = head; low = pos 0; cap = pos cap; cost = pos 0 })) row ok in
-    let s2 = bind_ok (natural_in 1 nodes (field 0 fields)) (λ tail. natural_in 1 nodes (field 1 fields) >>= λ head. natural_in 0 CAP_LIMIT (field 2 fields) >>= λ cap. Ok (record { tail = tail; head = head; low = pos 0; cap = pos cap; cost = pos 0 })) row s1.2 in
-    let s3 = bind_ok (natural_in 1 nodes (field 1 fields)) (λ head. natural_in 0 CAP_LIMIT (field 2 fields) >>= λ cap. Ok (record { tail = s2.0; head = head; low = pos 0; cap = pos cap; cost = pos 0 })) row s2.2 in
-    let s4 = bind_ok (natural_in 0 CAP_LIMIT (field 2 fields)) (λ cap. Ok (record { tail = s2.0; head = s3.0; low = pos 0; cap = pos cap; cost = pos 0 })) row s3.2 in
+    let s1 = bind_ok (in_line (has_fields 3 fields)) (λ _. in_line (natural_in 1 nodes (field 0 fields)) >>= λ tail. in_line (natural_in 1 nodes (field 1 fields)) >>= λ head. in_line (natural_in 0 CAP_LIMIT (field 2 fields)) >>= λ cap. Ok (record { tail = tail; head = head; low = pos 0; cap = pos cap; cost = pos 0 })) row ok in
+    let s2 = bind_ok (in_line (natural_in 1 nodes (field 0 fields))) (λ tail. in_line (natural_in 1 nodes (field 1 fields)) >>= λ head. in_line (natural_in 0 CAP_LIMIT (field 2 fields)) >>= λ cap. Ok (record { tail = tail; head = head; low = pos 0; cap = pos cap; cost = pos 0 })) row s1.2 in
+    let s3 = bind_ok (in_line (natural_in 1 nodes (field 1 fields))) (λ head. in_line (natural_in 0 CAP_LIMIT (field 2 fields)) >>= λ cap. Ok (record { tail = s2.0; head = head; low = pos 0; cap = pos cap; cost = pos 0 })) row s2.2 in
+    let s4 = bind_ok (in_line (natural_in 0 CAP_LIMIT (field 2 fields))) (λ cap. Ok (record { tail = s2.0; head = s3.0; low = pos 0; cap = pos cap; cost = pos 0 })) row s3.2 in
     let tail = natural_in-ok 1 nodes (field 0 fields) s2.0 s2.1 in
     let head = natural_in-ok 1 nodes (field 1 fields) s3.0 s3.1 in
     let cap = natural_in-ok 0 CAP_LIMIT (field 2 fields) s4.0 s4.1 in
@@ -280,10 +293,10 @@ read_max_row-ok nodes marks fields row ok =
 read_asn_row-ok : (nodes : ℕ) (marks : List NodeMark) (fields : List Word) (row : ArcRow) → read_asn_row nodes marks fields ≡ Ok row → FieldsAreRow Asn nodes marks fields row
 unfolding read_asn_row
 read_asn_row-ok nodes marks fields row ok =
-    let s1 = bind_ok (demand (length fields == 3) fault.WrongFieldCount) (λ _. natural_in 1 nodes (field 0 fields) >>= λ tail. natural_in 1 nodes (field 1 fields) >>= λ head. integer_in COST_LIMIT (field 2 fields) >>= λ cost. demand (is_named tail marks && not (is_named head marks)) fault.NotAcrossSides >>= λ _. Ok (record { tail = tail; head = head; low = pos 0; cap = pos 1; cost = cost })) row ok in
-    let s2 = bind_ok (natural_in 1 nodes (field 0 fields)) (λ tail. natural_in 1 nodes (field 1 fields) >>= λ head. integer_in COST_LIMIT (field 2 fields) >>= λ cost. demand (is_named tail marks && not (is_named head marks)) fault.NotAcrossSides >>= λ _. Ok (record { tail = tail; head = head; low = pos 0; cap = pos 1; cost = cost })) row s1.2 in
-    let s3 = bind_ok (natural_in 1 nodes (field 1 fields)) (λ head. integer_in COST_LIMIT (field 2 fields) >>= λ cost. demand (is_named s2.0 marks && not (is_named head marks)) fault.NotAcrossSides >>= λ _. Ok (record { tail = s2.0; head = head; low = pos 0; cap = pos 1; cost = cost })) row s2.2 in
-    let s4 = bind_ok (integer_in COST_LIMIT (field 2 fields)) (λ cost. demand (is_named s2.0 marks && not (is_named s3.0 marks)) fault.NotAcrossSides >>= λ _. Ok (record { tail = s2.0; head = s3.0; low = pos 0; cap = pos 1; cost = cost })) row s3.2 in
+    let s1 = bind_ok (in_line (has_fields 3 fields)) (λ _. in_line (natural_in 1 nodes (field 0 fields)) >>= λ tail. in_line (natural_in 1 nodes (field 1 fields)) >>= λ head. in_line (integer_in COST_LIMIT (field 2 fields)) >>= λ cost. demand (is_named tail marks && not (is_named head marks)) fault.NotAcrossSides >>= λ _. Ok (record { tail = tail; head = head; low = pos 0; cap = pos 1; cost = cost })) row ok in
+    let s2 = bind_ok (in_line (natural_in 1 nodes (field 0 fields))) (λ tail. in_line (natural_in 1 nodes (field 1 fields)) >>= λ head. in_line (integer_in COST_LIMIT (field 2 fields)) >>= λ cost. demand (is_named tail marks && not (is_named head marks)) fault.NotAcrossSides >>= λ _. Ok (record { tail = tail; head = head; low = pos 0; cap = pos 1; cost = cost })) row s1.2 in
+    let s3 = bind_ok (in_line (natural_in 1 nodes (field 1 fields))) (λ head. in_line (integer_in COST_LIMIT (field 2 fields)) >>= λ cost. demand (is_named s2.0 marks && not (is_named head marks)) fault.NotAcrossSides >>= λ _. Ok (record { tail = s2.0; head = head; low = pos 0; cap = pos 1; cost = cost })) row s2.2 in
+    let s4 = bind_ok (in_line (integer_in COST_LIMIT (field 2 fields))) (λ cost. demand (is_named s2.0 marks && not (is_named s3.0 marks)) fault.NotAcrossSides >>= λ _. Ok (record { tail = s2.0; head = s3.0; low = pos 0; cap = pos 1; cost = cost })) row s3.2 in
     let s5 = bind_ok (demand (is_named s2.0 marks && not (is_named s3.0 marks)) fault.NotAcrossSides) (λ _. Ok (record { tail = s2.0; head = s3.0; low = pos 0; cap = pos 1; cost = s4.0 })) row s4.2 in
     let tail = natural_in-ok 1 nodes (field 0 fields) s2.0 s2.1 in
     let head = natural_in-ok 1 nodes (field 1 fields) s3.0 s3.1 in

@@ -2,15 +2,17 @@
 -- and then a `v ID POTENTIAL` line for each node; or an `i SHORTAGE` line, and then a `k ID` line for each node of a cut.
 use Rattle.std.specs.Prelude.{◌≡◌, ℕ, ◌+◌, ◌-◌, ◌&&◌, List, [], ◌∷◌, ◌++◌, Option, Some, None, Result, Ok, Err, length, unwrap_or, nat_lt, ◌==◌, is_some, is_none, if◌then◌else◌, ℤ, pos, slice_index_or, bytes_eq, codes}
 use Rattle.std.specs.List.{All, flat_map}
-use Rattle.dimacs_lines.specs.declared.fault.Fault.{Fault}
-use Rattle.dimacs_lines.specs.declared.fault.Fault.TheVariants as fault
+use Rattle.dimacs_lines.specs.declared.fault.LineFault.TheVariants as of_line
+use Rattle.dimacs_text.specs.declared.answer_fault.AnswerFault.{AnswerFault}
+use Rattle.dimacs_text.specs.declared.answer_fault.AnswerFault.TheVariants as fault
+use Rattle.dimacs_text.specs.AnswerFault.{number_of, in_line}
 use Rattle.dimacs_lines.specs.declared.fault.LineError.{LineError}
 use Rattle.dimacs_lines.specs.declared.fault.TextFault.{TextFault}
 use Rattle.dimacs_lines.specs.Lines.{Line, lines_of}
-use Rattle.dimacs_lines.specs.Fields.{Word, words_of, natural, integer, claimed_value}
+use Rattle.dimacs_lines.specs.Fields.{Word, words_of, integer, claimed_value}
 use Rattle.dimacs_text.specs.Lawful.{IsNode}
-use Rattle.dimacs_lines.specs.Checks.{◌>>=◌, demand, some_or, natural_in}
-use Rattle.dimacs_text.specs.Problem.{begins_comment, natural_value, integer_value, field, fields_of, fault_of}
+use Rattle.dimacs_lines.specs.Checks.{◌>>=◌, demand, some_or, numbered, has_fields, number_in, natural_in}
+use Rattle.dimacs_text.specs.Problem.{begins_comment, natural_value, integer_value, field, fields_of}
 use Rattle.dimacs_lines.specs.Stream.{Rule, Reports, first_fault, fault_or, or_at}
 use Rattle.dimacs_text.specs.declared.answer.Answer.{Answer}
 use Rattle.dimacs_text.specs.declared.answer.Answer.TheVariants.{Flow, Cut}
@@ -116,43 +118,43 @@ said_of lines = record {
 -- ---- a line among the lines before it
 
 -- an `s` line: it comes first, and once
-unfoldable pub read_value : Said → List Word → Result ℤ Fault
+unfoldable pub read_value : Said → List Word → Result ℤ AnswerFault
 read_value said fields = do
   _ ← demand (is_none said.value) fault.OutOfOrder
   _ ← demand (is_none said.shortage) fault.OutOfOrder
-  _ ← demand (length fields == 1) fault.WrongFieldCount
-  some_or (claimed_value (field 0 fields)) fault.NotANumber
+  _ ← in_line (has_fields 1 fields)
+  in_line (some_or (claimed_value (field 0 fields)) of_line.NotANumber)
 
 -- an `f` line: one an arc, after the `s` line
-unfoldable pub read_flow : ℕ → ℕ → Said → List Word → Result FlowLine Fault
+unfoldable pub read_flow : ℕ → ℕ → Said → List Word → Result FlowLine AnswerFault
 read_flow nodes arcs said fields = do
   _ ← demand (is_some said.value) fault.OutOfOrder
   _ ← demand (nat_lt (length said.flows) arcs) fault.OutOfOrder
-  _ ← demand (length fields == 3) fault.WrongFieldCount
-  tail ← natural_in 1 nodes (field 0 fields)
-  head ← natural_in 1 nodes (field 1 fields)
-  flow ← some_or (natural (field 2 fields)) fault.NotANumber
+  _ ← in_line (has_fields 3 fields)
+  tail ← in_line (natural_in 1 nodes (field 0 fields))
+  head ← in_line (natural_in 1 nodes (field 1 fields))
+  flow ← in_line (number_in (field 2 fields))
   Ok (record { tail = tail; head = head; flow = pos flow })
 
 -- a `v` line: one a node, after all `f` lines, by rising ID
-unfoldable pub read_potential : ℕ → ℕ → Said → List Word → Result ℤ Fault
+unfoldable pub read_potential : ℕ → ℕ → Said → List Word → Result ℤ AnswerFault
 read_potential nodes arcs said fields = do
   _ ← demand (is_some said.value) fault.OutOfOrder
   _ ← demand (length said.flows == arcs) fault.OutOfOrder
   _ ← demand (nat_lt (length said.potentials) nodes) fault.OutOfOrder
-  _ ← demand (length fields == 2) fault.WrongFieldCount
-  id ← natural_in 1 nodes (field 0 fields)
-  potential ← some_or (integer (field 1 fields)) fault.NotANumber
+  _ ← in_line (has_fields 2 fields)
+  id ← in_line (natural_in 1 nodes (field 0 fields))
+  potential ← in_line (some_or (integer (field 1 fields)) of_line.NotANumber)
   _ ← demand (id == length said.potentials + 1) fault.OutOfOrder
   Ok potential
 
 -- an `i` line: it comes first, and once
-unfoldable pub read_shortage : Said → List Word → Result ℤ Fault
+unfoldable pub read_shortage : Said → List Word → Result ℤ AnswerFault
 read_shortage said fields = do
   _ ← demand (is_none said.value) fault.OutOfOrder
   _ ← demand (is_none said.shortage) fault.OutOfOrder
-  _ ← demand (length fields == 1) fault.WrongFieldCount
-  shortage ← some_or (natural (field 0 fields)) fault.NotANumber
+  _ ← in_line (has_fields 1 fields)
+  shortage ← in_line (number_in (field 0 fields))
   Ok (pos shortage)
 
 -- the last node of a cut, or 0, which is no node
@@ -160,16 +162,21 @@ abbrev pub last_node : List ℕ → ℕ
 last_node cut = slice_index_or cut (length cut - 1) 0
 
 -- a `k` line: after the `i` line, by rising ID
-unfoldable pub read_cut_node : ℕ → Said → List Word → Result ℕ Fault
+unfoldable pub read_cut_node : ℕ → Said → List Word → Result ℕ AnswerFault
 read_cut_node nodes said fields = do
   _ ← demand (is_some said.shortage) fault.OutOfOrder
-  _ ← demand (length fields == 1) fault.WrongFieldCount
-  id ← natural_in 1 nodes (field 0 fields)
+  _ ← in_line (has_fields 1 fields)
+  id ← in_line (natural_in 1 nodes (field 0 fields))
   _ ← demand (nat_lt (last_node said.cut) id) fault.OutOfOrder
   Ok id
 
--- the fault of a line that is not too long, by its words
-abbrev pub fault_by : ℕ → ℕ → Said → Option AnswerLine → List Word → Option Fault
+-- the number of the fault, if there is one
+abbrev pub fault_of : {A : Type 0} → Result A AnswerFault → Option ℕ
+fault_of (Ok x) = None
+fault_of (Err fault) = Some (number_of fault)
+
+-- the number of the fault of a line that is not too long, by its words
+abbrev pub fault_by : ℕ → ℕ → Said → Option AnswerLine → List Word → Option ℕ
 fault_by nodes arcs said None fields = None
 fault_by nodes arcs said (Some line.Comment) fields = None
 fault_by nodes arcs said (Some line.Value) fields = fault_of (read_value said fields)
@@ -177,29 +184,29 @@ fault_by nodes arcs said (Some line.Flow) fields = fault_of (read_flow nodes arc
 fault_by nodes arcs said (Some line.Potential) fields = fault_of (read_potential nodes arcs said fields)
 fault_by nodes arcs said (Some line.Shortage) fields = fault_of (read_shortage said fields)
 fault_by nodes arcs said (Some line.CutNode) fields = fault_of (read_cut_node nodes said fields)
-fault_by nodes arcs said (Some line.Unknown) fields = Some fault.UnknownDesignator
+fault_by nodes arcs said (Some line.Unknown) fields = Some (number_of (fault.Line of_line.UnknownDesignator))
 
-abbrev pub line_fault : ℕ → ℕ → Said → Line → Option Fault
+abbrev pub line_fault : ℕ → ℕ → Said → Line → Option ℕ
 line_fault nodes arcs said line = fault_by nodes arcs said (first_of (words_of line)) (fields_of (words_of line))
 
--- the fault of a line that fits, by itself and what the lines before it say
+-- the number of the fault of a line that fits, by itself and what the lines before it say
 abbrev pub answer_rule : ℕ → ℕ → Rule
 answer_rule nodes arcs before line = line_fault nodes arcs (said_of before) line
 
 -- ---- the whole text
 
 -- what lines without a fault give at the end of the text, where the first is an `s` line: no line is missing
-abbrev pub flow_ending : ℕ → ℕ → Option ℤ → Said → Result Answer Fault
+abbrev pub flow_ending : ℕ → ℕ → Option ℤ → Said → Result Answer AnswerFault
 flow_ending nodes arcs None said = Err fault.OutOfOrder
 flow_ending nodes arcs (Some value) said =
     if length said.flows == arcs && length said.potentials == nodes then Ok (Flow value said.flows said.potentials) else Err fault.OutOfOrder
 
 -- the same, where the first may be an `i` line: after it no line is missing
-abbrev pub ending_by : ℕ → ℕ → Option ℤ → Said → Result Answer Fault
+abbrev pub ending_by : ℕ → ℕ → Option ℤ → Said → Result Answer AnswerFault
 ending_by nodes arcs None said = flow_ending nodes arcs said.value said
 ending_by nodes arcs (Some shortage) said = Ok (Cut shortage said.cut)
 
-abbrev pub ending : ℕ → ℕ → Said → Result Answer Fault
+abbrev pub ending : ℕ → ℕ → Said → Result Answer AnswerFault
 ending nodes arcs said = ending_by nodes arcs said.shortage said
 
 -- the nodes that an answer names are those of its problem
@@ -223,7 +230,7 @@ FitsSize nodes arcs (Cut shortage cut) = All (IsNode nodes) cut
 
 -- the answer of lines without a fault, or the fault at their end with their number
 abbrev pub answer_end : ℕ → ℕ → List Line → Result Answer TextFault
-answer_end nodes arcs lines = or_at (ending nodes arcs (said_of lines)) (length lines)
+answer_end nodes arcs lines = or_at (numbered number_of (ending nodes arcs (said_of lines))) (length lines)
 
 -- the first faulty line, or the fault at the end with the number of lines, or the answer
 unfoldable pub answers : ℕ → ℕ → List ℕ → Result Answer TextFault
@@ -252,7 +259,7 @@ and_said said line = record {
 }
 
 -- what was taken is without a fault, and held as expected; or its fault is told, or want of memory where it has none
-abbrev pub TakesAs : Result (Unit {0}) LineError → Option Fault → Drafted → Said → Drafted → Type 0
+abbrev pub TakesAs : Result (Unit {0}) LineError → Option ℕ → Drafted → Said → Drafted → Type 0
 TakesAs (Ok _) found old expected new = (found ≡ None) × (new ≡ record old { said = expected })
 TakesAs (Err e) found old expected new = Reports e found
 

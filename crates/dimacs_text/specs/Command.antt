@@ -1,7 +1,9 @@
 -- Command texts: what a line by itself asks for, or the number of its first check that fails.
 use Rattle.std.specs.Prelude.{ℕ, Bool, true, false, ◌&&◌, not, List, [], ◌∷◌, Option, Some, None, Result, Ok, Err, length, ◌==◌, if◌then◌else◌, pos, bytes_eq, codes}
-use Rattle.dimacs_lines.specs.declared.fault.Fault.{Fault}
-use Rattle.dimacs_lines.specs.declared.fault.Fault.TheVariants as fault
+use Rattle.dimacs_lines.specs.declared.fault.LineFault.{LineFault}
+use Rattle.dimacs_lines.specs.declared.fault.LineFault.TheVariants as of_line
+use Rattle.dimacs_text.specs.declared.command_fault.CommandFault.{CommandFault}
+use Rattle.dimacs_text.specs.declared.command_fault.CommandFault.TheVariants as fault
 use Rattle.dimacs_text.specs.declared.problem.Kind.{Kind}
 use Rattle.dimacs_text.specs.declared.problem.Kind.TheVariants.{Min, Max, Asn}
 use Rattle.dimacs_text.specs.declared.problem.TheConstants.{CAP_LIMIT, COST_LIMIT, SUPPLY_LIMIT}
@@ -12,11 +14,11 @@ use Rattle.dimacs_text.specs.declared.command.Command.{Command}
 use Rattle.dimacs_text.specs.declared.command.Command.TheVariants as commands
 use Rattle.dimacs_text.specs.declared.command.Verb.{Verb}
 use Rattle.dimacs_text.specs.declared.command.Verb.TheVariants as verbs
-use Rattle.dimacs_lines.specs.Fault.{number_of}
+use Rattle.dimacs_text.specs.CommandFault.{number_of, in_line}
 use Rattle.dimacs_lines.specs.Lines.{Line, is_too_long}
-use Rattle.dimacs_lines.specs.Fields.{Word, words_of, natural}
+use Rattle.dimacs_lines.specs.Fields.{Word, words_of}
 use Rattle.dimacs_lines.specs.Name.{name_of}
-use Rattle.dimacs_lines.specs.Checks.{◌>>=◌, demand, some_or, natural_in, integer_in}
+use Rattle.dimacs_lines.specs.Checks.{◌>>=◌, demand, some_or, numbered, has_fields, number_in, natural_in, integer_in}
 use Rattle.dimacs_text.specs.Problem.{field}
 
 -- the verb that a word is
@@ -58,95 +60,95 @@ verb_for (edits.Close arc) = verbs.Close
 
 -- ---- the fields after the verb; arcs and nodes have no range here
 
-unfoldable pub read_cap : List Word → Result Edit Fault
+unfoldable pub read_cap : List Word → Result Edit LineFault
 read_cap fields = do
-  _ ← demand (length fields == 2) fault.WrongFieldCount
-  arc ← some_or (natural (field 0 fields)) fault.NotANumber
+  _ ← has_fields 2 fields
+  arc ← number_in (field 0 fields)
   cap ← natural_in 0 CAP_LIMIT (field 1 fields)
   Ok (edits.Cap arc (pos cap))
 
-unfoldable pub read_low : List Word → Result Edit Fault
+unfoldable pub read_low : List Word → Result Edit LineFault
 read_low fields = do
-  _ ← demand (length fields == 2) fault.WrongFieldCount
-  arc ← some_or (natural (field 0 fields)) fault.NotANumber
+  _ ← has_fields 2 fields
+  arc ← number_in (field 0 fields)
   low ← natural_in 0 CAP_LIMIT (field 1 fields)
   Ok (edits.Low arc (pos low))
 
-unfoldable pub read_cost : List Word → Result Edit Fault
+unfoldable pub read_cost : List Word → Result Edit LineFault
 read_cost fields = do
-  _ ← demand (length fields == 2) fault.WrongFieldCount
-  arc ← some_or (natural (field 0 fields)) fault.NotANumber
+  _ ← has_fields 2 fields
+  arc ← number_in (field 0 fields)
   cost ← integer_in COST_LIMIT (field 1 fields)
   Ok (edits.Cost arc cost)
 
-unfoldable pub read_supply : List Word → Result Edit Fault
+unfoldable pub read_supply : List Word → Result Edit LineFault
 read_supply fields = do
-  _ ← demand (length fields == 2) fault.WrongFieldCount
-  node ← some_or (natural (field 0 fields)) fault.NotANumber
+  _ ← has_fields 2 fields
+  node ← number_in (field 0 fields)
   value ← integer_in SUPPLY_LIMIT (field 1 fields)
   Ok (edits.Supply node value)
 
 -- the fields of the kind's arc line
-unfoldable pub read_min_arc : List Word → Result Edit Fault
+unfoldable pub read_min_arc : List Word → Result Edit LineFault
 read_min_arc fields = do
-  _ ← demand (length fields == 5) fault.WrongFieldCount
-  tail ← some_or (natural (field 0 fields)) fault.NotANumber
-  head ← some_or (natural (field 1 fields)) fault.NotANumber
+  _ ← has_fields 5 fields
+  tail ← number_in (field 0 fields)
+  head ← number_in (field 1 fields)
   low ← natural_in 0 CAP_LIMIT (field 2 fields)
   cap ← natural_in 0 CAP_LIMIT (field 3 fields)
   cost ← integer_in COST_LIMIT (field 4 fields)
   Ok (edits.Add tail head (pos low) (pos cap) cost)
 
-unfoldable pub read_max_arc : List Word → Result Edit Fault
+unfoldable pub read_max_arc : List Word → Result Edit LineFault
 read_max_arc fields = do
-  _ ← demand (length fields == 3) fault.WrongFieldCount
-  tail ← some_or (natural (field 0 fields)) fault.NotANumber
-  head ← some_or (natural (field 1 fields)) fault.NotANumber
+  _ ← has_fields 3 fields
+  tail ← number_in (field 0 fields)
+  head ← number_in (field 1 fields)
   cap ← natural_in 0 CAP_LIMIT (field 2 fields)
   Ok (edits.Add tail head (pos 0) (pos cap) (pos 0))
 
-unfoldable pub read_asn_arc : List Word → Result Edit Fault
+unfoldable pub read_asn_arc : List Word → Result Edit LineFault
 read_asn_arc fields = do
-  _ ← demand (length fields == 3) fault.WrongFieldCount
-  tail ← some_or (natural (field 0 fields)) fault.NotANumber
-  head ← some_or (natural (field 1 fields)) fault.NotANumber
+  _ ← has_fields 3 fields
+  tail ← number_in (field 0 fields)
+  head ← number_in (field 1 fields)
   cost ← integer_in COST_LIMIT (field 2 fields)
   Ok (edits.Add tail head (pos 0) (pos 1) cost)
 
-abbrev pub read_add : Kind → List Word → Result Edit Fault
+abbrev pub read_add : Kind → List Word → Result Edit LineFault
 read_add Min fields = read_min_arc fields
 read_add Max fields = read_max_arc fields
 read_add Asn fields = read_asn_arc fields
 
-unfoldable pub read_close : List Word → Result Edit Fault
+unfoldable pub read_close : List Word → Result Edit LineFault
 read_close fields = do
-  _ ← demand (length fields == 1) fault.WrongFieldCount
-  arc ← some_or (natural (field 0 fields)) fault.NotANumber
+  _ ← has_fields 1 fields
+  arc ← number_in (field 0 fields)
   Ok (edits.Close arc)
 
-abbrev pub as_edit : Result Edit Fault → Result Command Fault
+abbrev pub as_edit : Result Edit LineFault → Result Command CommandFault
 as_edit (Ok edit) = Ok (commands.Edit edit)
-as_edit (Err fault) = Err fault
+as_edit (Err e) = Err (fault.Line e)
 
-abbrev pub read_bare : List Word → Command → Result Command Fault
-read_bare fields command = if length fields == 0 then Ok command else Err fault.WrongFieldCount
+abbrev pub read_bare : List Word → Command → Result Command CommandFault
+read_bare fields command = if length fields == 0 then Ok command else Err (fault.Line of_line.WrongFieldCount)
 
-unfoldable pub read_name : List Word → Result Name Fault
+unfoldable pub read_name : List Word → Result Name CommandFault
 read_name fields = do
-  _ ← demand (length fields == 1) fault.WrongFieldCount
+  _ ← in_line (has_fields 1 fields)
   some_or (name_of (field 0 fields)) fault.NotAName
 
-abbrev pub as_mark : Result Name Fault → Result Command Fault
+abbrev pub as_mark : Result Name CommandFault → Result Command CommandFault
 as_mark (Ok name) = Ok (commands.Mark name)
 as_mark (Err fault) = Err fault
 
-abbrev pub as_back : Result Name Fault → Result Command Fault
+abbrev pub as_back : Result Name CommandFault → Result Command CommandFault
 as_back (Ok name) = Ok (commands.Back name)
 as_back (Err fault) = Err fault
 
 -- ---- a line
 
-abbrev pub read_by : Kind → Verb → List Word → Result Command Fault
+abbrev pub read_by : Kind → Verb → List Word → Result Command CommandFault
 read_by kind verbs.Cap fields = as_edit (read_cap fields)
 read_by kind verbs.Low fields = as_edit (read_low fields)
 read_by kind verbs.Cost fields = as_edit (read_cost fields)
@@ -163,24 +165,20 @@ read_by kind verbs.Mark fields = as_mark (read_name fields)
 read_by kind verbs.Back fields = as_back (read_name fields)
 
 -- the words of a line that is not blank
-unfoldable pub read_words : Kind → List Word → Result Command Fault
-read_words kind [] = Err fault.UnknownDesignator
+unfoldable pub read_words : Kind → List Word → Result Command CommandFault
+read_words kind [] = Err (fault.Line of_line.UnknownDesignator)
 read_words kind (word ∷ fields) = do
-  verb ← some_or (verb_of word) fault.UnknownDesignator
+  verb ← some_or (verb_of word) (fault.Line of_line.UnknownDesignator)
   _ ← demand (is_for kind verb) fault.NotForKind
   read_by kind verb fields
 
 -- what a line asks for
-abbrev pub asked : Kind → Line → Result Command Fault
-asked kind line = if is_too_long line then Err fault.LineTooLong else read_words kind (words_of line)
+abbrev pub asked : Kind → Line → Result Command CommandFault
+asked kind line = if is_too_long line then Err (fault.Line of_line.TooLong) else read_words kind (words_of line)
 
--- an error by its number
-abbrev pub numbered : Result Command Fault → Result Command ℕ
-numbered (Ok command) = Ok command
-numbered (Err fault) = Err (number_of fault)
-
+-- the same, or the number of the fault
 abbrev pub command : Kind → Line → Result Command ℕ
-command kind line = numbered (asked kind line)
+command kind line = numbered number_of (asked kind line)
 
 -- ---- the lines round a group, which are the same for every kind
 

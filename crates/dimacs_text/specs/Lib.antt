@@ -1,3 +1,6 @@
+pub mod ProblemFault
+pub mod AnswerFault
+pub mod CommandFault
 pub mod Problem
 pub mod Lawful
 pub mod Reading

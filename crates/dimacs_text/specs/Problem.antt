@@ -3,9 +3,11 @@ use Rattle.std.specs.Prelude.{ℕ, Bool, true, false, not, ◌&&◌, ◌||◌, L
 use Rattle.std.specs.List.{flat_map, list_any}
 use Rattle.dimacs_lines.specs.Lines.{Line}
 use Rattle.dimacs_lines.specs.Fields.{Word, words_of, natural, integer}
-use Rattle.dimacs_lines.specs.Checks.{◌>>=◌, demand, some_or, natural_in, integer_in}
-use Rattle.dimacs_lines.specs.declared.fault.Fault.{Fault}
-use Rattle.dimacs_lines.specs.declared.fault.Fault.TheVariants as fault
+use Rattle.dimacs_lines.specs.Checks.{◌>>=◌, demand, some_or, has_fields, natural_in, integer_in}
+use Rattle.dimacs_lines.specs.declared.fault.LineFault.TheVariants as of_line
+use Rattle.dimacs_text.specs.declared.problem_fault.ProblemFault.{ProblemFault}
+use Rattle.dimacs_text.specs.declared.problem_fault.ProblemFault.TheVariants as fault
+use Rattle.dimacs_text.specs.ProblemFault.{number_of, in_line}
 use Rattle.dimacs_text.specs.declared.problem.Kind.{Kind}
 use Rattle.dimacs_text.specs.declared.problem.Kind.TheVariants.{Min, Max, Asn}
 use Rattle.dimacs_text.specs.declared.problem.NodeMark.{NodeMark}
@@ -158,7 +160,7 @@ and_parsed told line = record { size = size_with told.size line; marks = told.ma
 
 -- ---- a line among the lines before it
 
-abbrev pub kind_in : Word → Result Kind Fault
+abbrev pub kind_in : Word → Result Kind ProblemFault
 kind_in word = some_or (kind_named word) fault.UnknownKind
 
 -- the node that a mark names
@@ -200,13 +202,13 @@ sink_of (Source id ∷ marks) = sink_of marks
 sink_of (Side id ∷ marks) = sink_of marks
 
 -- the problem line, after its designator
-unfoldable pub read_size : Parsed → List Word → Result Size Fault
+unfoldable pub read_size : Parsed → List Word → Result Size ProblemFault
 read_size told fields = do
   _ ← demand (is_none told.size) fault.SecondProblemLine
-  _ ← demand (length fields == 3) fault.WrongFieldCount
+  _ ← in_line (has_fields 3 fields)
   kind ← kind_in (field 0 fields)
-  nodes ← natural_in 1 NODE_LIMIT (field 1 fields)
-  arcs ← natural_in 0 ARC_LIMIT (field 2 fields)
+  nodes ← in_line (natural_in 1 NODE_LIMIT (field 1 fields))
+  arcs ← in_line (natural_in 0 ARC_LIMIT (field 2 fields))
   Ok (record { kind = kind; nodes = nodes; arcs = arcs })
 
 abbrev pub is_source : NodeMark → Bool
@@ -230,103 +232,104 @@ has_terminals Max marks = has_source marks && has_sink marks
 has_terminals Asn marks = true
 
 -- the fields of a node line of `min`: `ID FLOW`
-unfoldable pub read_supply : ℕ → List NodeMark → List Word → Result NodeMark Fault
+unfoldable pub read_supply : ℕ → List NodeMark → List Word → Result NodeMark ProblemFault
 read_supply nodes marks fields = do
-  _ ← demand (length fields == 2) fault.WrongFieldCount
-  id ← natural_in 1 nodes (field 0 fields)
-  value ← integer_in SUPPLY_LIMIT (field 1 fields)
+  _ ← in_line (has_fields 2 fields)
+  id ← in_line (natural_in 1 nodes (field 0 fields))
+  value ← in_line (integer_in SUPPLY_LIMIT (field 1 fields))
   _ ← demand (not (is_named id marks)) fault.NamedTwice
   Ok (Supply id value)
 
 -- those of `max`: `ID s` or `ID t`
-abbrev pub terminal_by : Bool → ℕ → List NodeMark → Result NodeMark Fault
+abbrev pub terminal_by : Bool → ℕ → List NodeMark → Result NodeMark ProblemFault
 terminal_by true id marks = demand (not (has_source marks)) fault.NamedTwice >>= λ _. Ok (Source id)
 terminal_by false id marks = demand (not (has_sink marks)) fault.NamedTwice >>= λ _. Ok (Sink id)
 
-unfoldable pub read_terminal : ℕ → List NodeMark → List Word → Result NodeMark Fault
+unfoldable pub read_terminal : ℕ → List NodeMark → List Word → Result NodeMark ProblemFault
 read_terminal nodes marks fields = do
-  _ ← demand (length fields == 2) fault.WrongFieldCount
-  id ← natural_in 1 nodes (field 0 fields)
+  _ ← in_line (has_fields 2 fields)
+  id ← in_line (natural_in 1 nodes (field 0 fields))
   _ ← demand (is_source_word (field 1 fields) || is_sink_word (field 1 fields)) fault.UnknownNodeWord
   _ ← demand (not (is_named id marks)) fault.NamedTwice
   terminal_by (is_source_word (field 1 fields)) id marks
 
 -- that of `asn`: `ID`
-unfoldable pub read_side : ℕ → List NodeMark → List Word → Result NodeMark Fault
+unfoldable pub read_side : ℕ → List NodeMark → List Word → Result NodeMark ProblemFault
 read_side nodes marks fields = do
-  _ ← demand (length fields == 1) fault.WrongFieldCount
-  id ← natural_in 1 nodes (field 0 fields)
+  _ ← in_line (has_fields 1 fields)
+  id ← in_line (natural_in 1 nodes (field 0 fields))
   _ ← demand (not (is_named id marks)) fault.NamedTwice
   Ok (Side id)
 
-abbrev pub read_mark_of : Kind → ℕ → List NodeMark → List Word → Result NodeMark Fault
+abbrev pub read_mark_of : Kind → ℕ → List NodeMark → List Word → Result NodeMark ProblemFault
 read_mark_of Min nodes marks fields = read_supply nodes marks fields
 read_mark_of Max nodes marks fields = read_terminal nodes marks fields
 read_mark_of Asn nodes marks fields = read_side nodes marks fields
 
 -- a node line
-unfoldable pub read_mark : Parsed → List Word → Result NodeMark Fault
+unfoldable pub read_mark : Parsed → List Word → Result NodeMark ProblemFault
 read_mark told fields = do
   size ← some_or told.size fault.BeforeProblemLine
   _ ← demand (length told.rows == 0) fault.NodeAfterArc
   read_mark_of size.kind size.nodes told.marks fields
 
 -- the fields of an arc line of `min`: `SRC DST LOW CAP COST`
-unfoldable pub read_min_row : ℕ → List Word → Result ArcRow Fault
+unfoldable pub read_min_row : ℕ → List Word → Result ArcRow ProblemFault
 read_min_row nodes fields = do
-  _ ← demand (length fields == 5) fault.WrongFieldCount
-  tail ← natural_in 1 nodes (field 0 fields)
-  head ← natural_in 1 nodes (field 1 fields)
-  low ← natural_in 0 CAP_LIMIT (field 2 fields)
-  cap ← natural_in 0 CAP_LIMIT (field 3 fields)
-  cost ← integer_in COST_LIMIT (field 4 fields)
+  _ ← in_line (has_fields 5 fields)
+  tail ← in_line (natural_in 1 nodes (field 0 fields))
+  head ← in_line (natural_in 1 nodes (field 1 fields))
+  low ← in_line (natural_in 0 CAP_LIMIT (field 2 fields))
+  cap ← in_line (natural_in 0 CAP_LIMIT (field 3 fields))
+  cost ← in_line (integer_in COST_LIMIT (field 4 fields))
   _ ← demand (nat_le low cap) fault.LowAboveCap
   Ok (record { tail = tail; head = head; low = pos low; cap = pos cap; cost = cost })
 
 -- those of `max`: `SRC DST CAP`
-unfoldable pub read_max_row : ℕ → List Word → Result ArcRow Fault
+unfoldable pub read_max_row : ℕ → List Word → Result ArcRow ProblemFault
 read_max_row nodes fields = do
-  _ ← demand (length fields == 3) fault.WrongFieldCount
-  tail ← natural_in 1 nodes (field 0 fields)
-  head ← natural_in 1 nodes (field 1 fields)
-  cap ← natural_in 0 CAP_LIMIT (field 2 fields)
+  _ ← in_line (has_fields 3 fields)
+  tail ← in_line (natural_in 1 nodes (field 0 fields))
+  head ← in_line (natural_in 1 nodes (field 1 fields))
+  cap ← in_line (natural_in 0 CAP_LIMIT (field 2 fields))
   Ok (record { tail = tail; head = head; low = pos 0; cap = pos cap; cost = pos 0 })
 
 -- those of `asn`: `SRC DST COST`, from a node that is named to one that is not
-unfoldable pub read_asn_row : ℕ → List NodeMark → List Word → Result ArcRow Fault
+unfoldable pub read_asn_row : ℕ → List NodeMark → List Word → Result ArcRow ProblemFault
 read_asn_row nodes marks fields = do
-  _ ← demand (length fields == 3) fault.WrongFieldCount
-  tail ← natural_in 1 nodes (field 0 fields)
-  head ← natural_in 1 nodes (field 1 fields)
-  cost ← integer_in COST_LIMIT (field 2 fields)
+  _ ← in_line (has_fields 3 fields)
+  tail ← in_line (natural_in 1 nodes (field 0 fields))
+  head ← in_line (natural_in 1 nodes (field 1 fields))
+  cost ← in_line (integer_in COST_LIMIT (field 2 fields))
   _ ← demand (is_named tail marks && not (is_named head marks)) fault.NotAcrossSides
   Ok (record { tail = tail; head = head; low = pos 0; cap = pos 1; cost = cost })
 
-abbrev pub read_row_of : Kind → ℕ → List NodeMark → List Word → Result ArcRow Fault
+abbrev pub read_row_of : Kind → ℕ → List NodeMark → List Word → Result ArcRow ProblemFault
 read_row_of Min nodes marks fields = read_min_row nodes fields
 read_row_of Max nodes marks fields = read_max_row nodes fields
 read_row_of Asn nodes marks fields = read_asn_row nodes marks fields
 
 -- an arc line
-unfoldable pub read_row : Parsed → List Word → Result ArcRow Fault
+unfoldable pub read_row : Parsed → List Word → Result ArcRow ProblemFault
 read_row told fields = do
   size ← some_or told.size fault.BeforeProblemLine
   _ ← demand (has_terminals size.kind told.marks) fault.EndpointMissing
   _ ← demand (nat_lt (length told.rows) size.arcs) fault.TooManyArcs
   read_row_of size.kind size.nodes told.marks fields
 
-abbrev pub fault_of : {A : Type 0} → Result A Fault → Option Fault
+-- the number of the fault, if there is one
+abbrev pub fault_of : {A : Type 0} → Result A ProblemFault → Option ℕ
 fault_of (Ok x) = None
-fault_of (Err fault) = Some fault
+fault_of (Err fault) = Some (number_of fault)
 
--- the fault of a line that is not too long, by its words
-abbrev pub fault_by : Parsed → Option Designator → List Word → Option Fault
+-- the number of the fault of a line that is not too long, by its words
+abbrev pub fault_by : Parsed → Option Designator → List Word → Option ℕ
 fault_by told None fields = None
 fault_by told (Some designator.Comment) fields = None
 fault_by told (Some designator.Problem) fields = fault_of (read_size told fields)
 fault_by told (Some designator.Node) fields = fault_of (read_mark told fields)
 fault_by told (Some designator.Arc) fields = fault_of (read_row told fields)
-fault_by told (Some designator.Unknown) fields = Some fault.UnknownDesignator
+fault_by told (Some designator.Unknown) fields = Some (number_of (fault.Line of_line.UnknownDesignator))
 
-abbrev pub line_fault : Parsed → Line → Option Fault
+abbrev pub line_fault : Parsed → Line → Option ℕ
 line_fault told line = fault_by told (first_of (words_of line)) (fields_of (words_of line))

@@ -1,7 +1,9 @@
 -- Reading a problem text: its first faulty line, or the fault at its end, or the problem.
 use Rattle.std.specs.Prelude.{◌≡◌, ℕ, List, [], Option, Some, None, Result, Ok, Err, length, not, nat_lt, if◌then◌else◌}
-use Rattle.dimacs_lines.specs.declared.fault.Fault.{Fault}
-use Rattle.dimacs_lines.specs.declared.fault.Fault.TheVariants as fault
+use Rattle.dimacs_text.specs.declared.problem_fault.ProblemFault.{ProblemFault}
+use Rattle.dimacs_text.specs.declared.problem_fault.ProblemFault.TheVariants as fault
+use Rattle.dimacs_text.specs.ProblemFault.{number_of}
+use Rattle.dimacs_lines.specs.Checks.{numbered}
 use Rattle.dimacs_lines.specs.declared.fault.LineError.{LineError}
 use Rattle.dimacs_lines.specs.declared.fault.TextFault.{TextFault}
 use Rattle.dimacs_text.specs.declared.problem.Kind.{Kind}
@@ -20,30 +22,30 @@ pub record ProblemValue : Type 0 where
   pub arcs : List ArcRow
 
 -- what lines without a fault give at the end of the text
-abbrev pub ending_by : Option Size → Parsed → Result ProblemValue Fault
+abbrev pub ending_by : Option Size → Parsed → Result ProblemValue ProblemFault
 ending_by None told = Err fault.NoProblemLine
 ending_by (Some size) told =
     if not (has_terminals size.kind told.marks) then Err fault.EndpointMissing
     else if nat_lt (length told.rows) size.arcs then Err fault.TooFewArcs
     else Ok (record { kind = size.kind; nodes = size.nodes; marks = told.marks; arcs = told.rows })
 
-abbrev pub ending : Parsed → Result ProblemValue Fault
+abbrev pub ending : Parsed → Result ProblemValue ProblemFault
 ending told = ending_by told.size told
 
--- the fault of a line that fits, by itself and what the lines before it tell
+-- the number of the fault of a line that fits, by itself and what the lines before it tell
 abbrev pub problem_rule : Rule
 problem_rule before line = line_fault (parsed_of before) line
 
 -- the problem of lines without a fault, or the fault at their end with their number
 abbrev pub problem_end : List Line → Result ProblemValue TextFault
-problem_end lines = or_at (ending (parsed_of lines)) (length lines)
+problem_end lines = or_at (numbered number_of (ending (parsed_of lines))) (length lines)
 
 -- the first faulty line, or the fault at the end with the number of lines, or the problem
 unfoldable pub reads : List ℕ → Result ProblemValue TextFault
 reads text = fault_or (first_fault problem_rule [] (lines_of text)) (problem_end (lines_of text))
 
 -- what was taken is without a fault, and told as expected; or its fault is told, or want of memory where it has none
-abbrev pub TakesAs : Result (Unit {0}) LineError → Option Fault → Parsed → Parsed → Type 0
+abbrev pub TakesAs : Result (Unit {0}) LineError → Option ℕ → Parsed → Parsed → Type 0
 TakesAs (Ok _) found expected new = (found ≡ None) × (new ≡ expected)
 TakesAs (Err e) found expected new = Reports e found
 

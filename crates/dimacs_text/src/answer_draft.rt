@@ -1,12 +1,12 @@
 //! What the lines of an answer text say so far.
 
 ghost use Rattle.std.specs.Prelude.{◌≡◌, [], ◌∷◌, ◌++◌, Some, None, IfOk};
-ghost use Rattle.dimacs_text.specs.Problem.{fault_of};
-ghost use Rattle.dimacs_text.specs.Answer.{Takes, TakesAs, read_value, read_flow, read_potential, read_shortage, read_cut_node, value_said, flow_said, potential_said, shortage_said, cut_node_said, last_node, ending, NamesNodes};
+ghost use Rattle.dimacs_text.specs.Answer.{fault_of, Takes, TakesAs, read_value, read_flow, read_potential, read_shortage, read_cut_node, value_said, flow_said, potential_said, shortage_said, cut_node_said, last_node, ending, NamesNodes};
 
 use crate::answer::{Answer, FlowLine};
+use crate::answer_fault::AnswerFault;
 use crate::answer_line::AnswerLine;
-use dimacs_lines::{Fault, LineError, Sequence, Words, claimed_value, natural_in};
+use dimacs_lines::{LineError, LineFault, Sequence, Words, claimed_value, natural_in};
 use std::alloc::Global;
 use std::marker::Model;
 
@@ -67,7 +67,7 @@ impl AnswerDraft {
             AnswerLine::Potential => self.take_potential(words),
             AnswerLine::Shortage => self.take_shortage(words),
             AnswerLine::CutNode => self.take_cut_node(words),
-            AnswerLine::Unknown => Err(LineError::Fault(Fault::UnknownDesignator)),
+            AnswerLine::Unknown => Err(LineFault::UnknownDesignator.into()),
         }
     }
 
@@ -123,77 +123,77 @@ impl AnswerDraft {
 
     /// What an `s` line says, after its designator.
     #[tactic(auto, unfolding(crate::specs::Answer::read_value))]
-    fn read_value(&self, fields: Words) -> Result<i128, Fault>
+    fn read_value(&self, fields: Words) -> Result<i128, AnswerFault>
         ensures { result ≡ read_value self.now.said fields.entry }
     {
         if self.value.is_some() || self.shortage.is_some() {
-            return Err(Fault::OutOfOrder);
+            return Err(AnswerFault::OutOfOrder);
         }
         let word = fields.one()?;
-        claimed_value(word.bytes()).ok_or(Fault::NotANumber)
+        Ok(claimed_value(word.bytes()).ok_or(LineFault::NotANumber)?)
     }
 
     /// What an `f` line says, after its designator.
     #[tactic(auto, unfolding(crate::specs::Answer::read_flow))]
-    fn read_flow(&self, fields: Words) -> Result<FlowLine, Fault>
+    fn read_flow(&self, fields: Words) -> Result<FlowLine, AnswerFault>
         ensures { result ≡ read_flow self.now.nodes self.now.arcs self.now.said fields.entry }
     {
         if self.value.is_none() || self.flows.len() >= self.arcs as usize {
-            return Err(Fault::OutOfOrder);
+            return Err(AnswerFault::OutOfOrder);
         }
         let (tail, head, flow) = fields.three()?;
         let nodes = u64::from(self.nodes);
         let tail = natural_in(tail, 1, nodes)? as u32;
         let head = natural_in(head, 1, nodes)? as u32;
-        let flow = flow.natural().ok_or(Fault::NotANumber)? as i64;
+        let flow = flow.natural().ok_or(LineFault::NotANumber)? as i64;
         Ok(FlowLine { tail, head, flow })
     }
 
     /// What a `v` line says, after its designator.
     #[tactic(auto, unfolding(crate::specs::Answer::read_potential))]
-    fn read_potential(&self, fields: Words) -> Result<i64, Fault>
+    fn read_potential(&self, fields: Words) -> Result<i64, AnswerFault>
         ensures { result ≡ read_potential self.now.nodes self.now.arcs self.now.said fields.entry }
     {
         if self.value.is_none()
             || self.flows.len() != self.arcs as usize
             || self.potentials.len() >= self.nodes as usize
         {
-            return Err(Fault::OutOfOrder);
+            return Err(AnswerFault::OutOfOrder);
         }
         let (id, potential) = fields.two()?;
         let id = natural_in(id, 1, u64::from(self.nodes))?;
-        let potential = potential.integer().ok_or(Fault::NotANumber)?;
+        let potential = potential.integer().ok_or(LineFault::NotANumber)?;
         if id != self.potentials.len() as u64 + 1 {
-            return Err(Fault::OutOfOrder);
+            return Err(AnswerFault::OutOfOrder);
         }
         Ok(potential)
     }
 
     /// What an `i` line says, after its designator.
     #[tactic(auto, unfolding(crate::specs::Answer::read_shortage))]
-    fn read_shortage(&self, fields: Words) -> Result<i64, Fault>
+    fn read_shortage(&self, fields: Words) -> Result<i64, AnswerFault>
         ensures { result ≡ read_shortage self.now.said fields.entry }
     {
         if self.value.is_some() || self.shortage.is_some() {
-            return Err(Fault::OutOfOrder);
+            return Err(AnswerFault::OutOfOrder);
         }
         let shortage = fields.one()?;
-        let shortage = shortage.natural().ok_or(Fault::NotANumber)? as i64;
+        let shortage = shortage.natural().ok_or(LineFault::NotANumber)? as i64;
         Ok(shortage)
     }
 
     /// What a `k` line says, after its designator.
     #[tactic(auto, unfolding(crate::specs::Answer::read_cut_node))]
-    fn read_cut_node(&self, fields: Words) -> Result<u32, Fault>
+    fn read_cut_node(&self, fields: Words) -> Result<u32, AnswerFault>
         ensures { result ≡ read_cut_node self.now.nodes self.now.said fields.entry }
     {
         if self.shortage.is_none() {
-            return Err(Fault::OutOfOrder);
+            return Err(AnswerFault::OutOfOrder);
         }
         let id = fields.one()?;
         let id = natural_in(id, 1, u64::from(self.nodes))? as u32;
         if id <= self.last_node() {
-            return Err(Fault::OutOfOrder);
+            return Err(AnswerFault::OutOfOrder);
         }
         Ok(id)
     }
@@ -209,7 +209,7 @@ impl AnswerDraft {
     }
 
     /// The answer, where no line is missing.
-    pub fn close(self) -> Result<Answer, Fault>
+    pub fn close(self) -> Result<Answer, AnswerFault>
         ensures value { result ≡ ending self.nodes self.arcs self.said }
         ensures ends { IfOk result (NamesNodes self.nodes) }
     {
@@ -229,10 +229,10 @@ impl AnswerDraft {
             });
         }
         let Some(value) = value else {
-            return Err(Fault::OutOfOrder);
+            return Err(AnswerFault::OutOfOrder);
         };
         if flows.len() != arcs as usize || potentials.len() != nodes as usize {
-            return Err(Fault::OutOfOrder);
+            return Err(AnswerFault::OutOfOrder);
         }
         Ok(Answer::Flow {
             value,

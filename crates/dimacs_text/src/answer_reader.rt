@@ -75,7 +75,7 @@ impl AnswerReader {
         let (draft, lines) = reader.finish()?;
         match draft.close() {
             Ok(answer) => Ok(answer),
-            Err(fault) => Err(LineError::Fault(fault).at_line(lines)),
+            Err(fault) => Err(LineError::from(fault).at_line(lines)),
         }
     }
 }

@@ -7,8 +7,9 @@ ghost use Rattle.dimacs_lines.specs.Fields.{words_of};
 ghost use Rattle.dimacs_lines.specs.Lines.{Line};
 ghost use Rattle.dimacs_text.specs.Command.{asked, command, opens_group, ends_group, verb_of, is_for, read_words, read_by, read_bare, read_name, read_cap, read_low, read_cost, read_supply, read_add, read_min_arc, read_max_arc, read_asn_arc, read_close, as_edit};
 
+use crate::command_fault::CommandFault;
 use crate::problem::{CAP_LIMIT, COST_LIMIT, Kind, SUPPLY_LIMIT};
-use dimacs_lines::{Fault, LINE_LIMIT, Name, Words, integer_in, natural_in};
+use dimacs_lines::{LINE_LIMIT, LineFault, Name, Words, integer_in, natural_in};
 
 /// A change of an instance. Arcs and nodes are named by their numbers, counted from 1; whether they exist is not tested
 /// yet.
@@ -177,11 +178,11 @@ pub fn read_command(kind: Kind, line: &[u8]) -> Result<Command, u8>
 }
 
 /// Reads a line of a command text.
-pub(crate) fn read_line(kind: Kind, line: &[u8]) -> Result<Command, Fault>
+pub(crate) fn read_line(kind: Kind, line: &[u8]) -> Result<Command, CommandFault>
     ensures { result ≡ asked kind line.now }
 {
     if line.len() > LINE_LIMIT {
-        return Err(Fault::LineTooLong);
+        return Err(LineFault::TooLong.into());
     }
     read_words(kind, Words::new(line))
 }
@@ -194,19 +195,19 @@ pub fn groups_are_bracketed()
 
 /// Reads the words of a line.
 #[tactic(auto, unfolding(crate::specs::Command::read_words))]
-fn read_words(kind: Kind, mut words: Words) -> Result<Command, Fault>
+fn read_words(kind: Kind, mut words: Words) -> Result<Command, CommandFault>
     ensures { result ≡ read_words kind words.entry }
 {
-    let first = words.next().ok_or(Fault::UnknownDesignator)?;
-    let verb = Verb::of(first.bytes()).ok_or(Fault::UnknownDesignator)?;
+    let first = words.next().ok_or(LineFault::UnknownDesignator)?;
+    let verb = Verb::of(first.bytes()).ok_or(LineFault::UnknownDesignator)?;
     if !verb.is_for(kind) {
-        return Err(Fault::NotForKind);
+        return Err(CommandFault::NotForKind);
     }
     read_by(kind, verb, words)
 }
 
 /// Reads the fields after the verb.
-fn read_by(kind: Kind, verb: Verb, fields: Words) -> Result<Command, Fault>
+fn read_by(kind: Kind, verb: Verb, fields: Words) -> Result<Command, CommandFault>
     ensures { result ≡ read_by kind verb fields.entry }
 {
     match verb {
@@ -228,17 +229,14 @@ fn read_by(kind: Kind, verb: Verb, fields: Words) -> Result<Command, Fault>
 }
 
 /// An edit is a command.
-fn as_edit(edit: Result<Edit, Fault>) -> Result<Command, Fault>
+fn as_edit(edit: Result<Edit, LineFault>) -> Result<Command, CommandFault>
     ensures { result ≡ as_edit edit }
 {
-    match edit {
-        Ok(edit) => Ok(Command::Edit(edit)),
-        Err(fault) => Err(fault),
-    }
+    Ok(Command::Edit(edit?))
 }
 
 /// A command without fields.
-fn read_bare(fields: Words, command: Command) -> Result<Command, Fault>
+fn read_bare(fields: Words, command: Command) -> Result<Command, CommandFault>
     ensures { result ≡ read_bare fields.entry command }
 {
     fields.none()?;
@@ -247,58 +245,58 @@ fn read_bare(fields: Words, command: Command) -> Result<Command, Fault>
 
 /// The field of `mark NAME` and `back NAME`.
 #[tactic(auto, unfolding(crate::specs::Command::read_name))]
-fn read_name(fields: Words) -> Result<Name, Fault>
+fn read_name(fields: Words) -> Result<Name, CommandFault>
     ensures { result ≡ read_name fields.entry }
 {
-    Name::of(fields.one()?.bytes()).ok_or(Fault::NotAName)
+    Name::of(fields.one()?.bytes()).ok_or(CommandFault::NotAName)
 }
 
 /// The fields of `cap K V`.
 #[tactic(auto, unfolding(crate::specs::Command::read_cap))]
-fn read_cap(fields: Words) -> Result<Edit, Fault>
+fn read_cap(fields: Words) -> Result<Edit, LineFault>
     ensures { result ≡ read_cap fields.entry }
 {
     let (arc, cap) = fields.two()?;
-    let arc = arc.natural().ok_or(Fault::NotANumber)?;
+    let arc = arc.natural().ok_or(LineFault::NotANumber)?;
     let cap = natural_in(cap, 0, CAP_LIMIT)? as i64;
     Ok(Edit::Cap { arc, cap })
 }
 
 /// The fields of `low K V`.
 #[tactic(auto, unfolding(crate::specs::Command::read_low))]
-fn read_low(fields: Words) -> Result<Edit, Fault>
+fn read_low(fields: Words) -> Result<Edit, LineFault>
     ensures { result ≡ read_low fields.entry }
 {
     let (arc, low) = fields.two()?;
-    let arc = arc.natural().ok_or(Fault::NotANumber)?;
+    let arc = arc.natural().ok_or(LineFault::NotANumber)?;
     let low = natural_in(low, 0, CAP_LIMIT)? as i64;
     Ok(Edit::Low { arc, low })
 }
 
 /// The fields of `cost K V`.
 #[tactic(auto, unfolding(crate::specs::Command::read_cost))]
-fn read_cost(fields: Words) -> Result<Edit, Fault>
+fn read_cost(fields: Words) -> Result<Edit, LineFault>
     ensures { result ≡ read_cost fields.entry }
 {
     let (arc, cost) = fields.two()?;
-    let arc = arc.natural().ok_or(Fault::NotANumber)?;
+    let arc = arc.natural().ok_or(LineFault::NotANumber)?;
     let cost = integer_in(cost, COST_LIMIT)?;
     Ok(Edit::Cost { arc, cost })
 }
 
 /// The fields of `supply ID V`.
 #[tactic(auto, unfolding(crate::specs::Command::read_supply))]
-fn read_supply(fields: Words) -> Result<Edit, Fault>
+fn read_supply(fields: Words) -> Result<Edit, LineFault>
     ensures { result ≡ read_supply fields.entry }
 {
     let (node, value) = fields.two()?;
-    let node = node.natural().ok_or(Fault::NotANumber)?;
+    let node = node.natural().ok_or(LineFault::NotANumber)?;
     let value = integer_in(value, SUPPLY_LIMIT)?;
     Ok(Edit::Supply { node, value })
 }
 
 /// The fields of `add`, which are those of the kind's arc line.
-fn read_add(kind: Kind, fields: Words) -> Result<Edit, Fault>
+fn read_add(kind: Kind, fields: Words) -> Result<Edit, LineFault>
     ensures { result ≡ read_add kind fields.entry }
 {
     match kind {
@@ -310,12 +308,12 @@ fn read_add(kind: Kind, fields: Words) -> Result<Edit, Fault>
 
 /// The fields `SRC DST LOW CAP COST`.
 #[tactic(auto, unfolding(crate::specs::Command::read_min_arc))]
-fn read_min_arc(fields: Words) -> Result<Edit, Fault>
+fn read_min_arc(fields: Words) -> Result<Edit, LineFault>
     ensures { result ≡ read_min_arc fields.entry }
 {
     let (tail, head, low, cap, cost) = fields.five()?;
-    let tail = tail.natural().ok_or(Fault::NotANumber)?;
-    let head = head.natural().ok_or(Fault::NotANumber)?;
+    let tail = tail.natural().ok_or(LineFault::NotANumber)?;
+    let head = head.natural().ok_or(LineFault::NotANumber)?;
     let low = natural_in(low, 0, CAP_LIMIT)? as i64;
     let cap = natural_in(cap, 0, CAP_LIMIT)? as i64;
     let cost = integer_in(cost, COST_LIMIT)?;
@@ -330,12 +328,12 @@ fn read_min_arc(fields: Words) -> Result<Edit, Fault>
 
 /// The fields `SRC DST CAP`.
 #[tactic(auto, unfolding(crate::specs::Command::read_max_arc))]
-fn read_max_arc(fields: Words) -> Result<Edit, Fault>
+fn read_max_arc(fields: Words) -> Result<Edit, LineFault>
     ensures { result ≡ read_max_arc fields.entry }
 {
     let (tail, head, cap) = fields.three()?;
-    let tail = tail.natural().ok_or(Fault::NotANumber)?;
-    let head = head.natural().ok_or(Fault::NotANumber)?;
+    let tail = tail.natural().ok_or(LineFault::NotANumber)?;
+    let head = head.natural().ok_or(LineFault::NotANumber)?;
     let cap = natural_in(cap, 0, CAP_LIMIT)? as i64;
     Ok(Edit::Add {
         tail,
@@ -348,12 +346,12 @@ fn read_max_arc(fields: Words) -> Result<Edit, Fault>
 
 /// The fields `SRC DST COST`.
 #[tactic(auto, unfolding(crate::specs::Command::read_asn_arc))]
-fn read_asn_arc(fields: Words) -> Result<Edit, Fault>
+fn read_asn_arc(fields: Words) -> Result<Edit, LineFault>
     ensures { result ≡ read_asn_arc fields.entry }
 {
     let (tail, head, cost) = fields.three()?;
-    let tail = tail.natural().ok_or(Fault::NotANumber)?;
-    let head = head.natural().ok_or(Fault::NotANumber)?;
+    let tail = tail.natural().ok_or(LineFault::NotANumber)?;
+    let head = head.natural().ok_or(LineFault::NotANumber)?;
     let cost = integer_in(cost, COST_LIMIT)?;
     Ok(Edit::Add {
         tail,
@@ -366,10 +364,10 @@ fn read_asn_arc(fields: Words) -> Result<Edit, Fault>
 
 /// The field of `close K`.
 #[tactic(auto, unfolding(crate::specs::Command::read_close))]
-fn read_close(fields: Words) -> Result<Edit, Fault>
+fn read_close(fields: Words) -> Result<Edit, LineFault>
     ensures { result ≡ read_close fields.entry }
 {
     let arc = fields.one()?;
-    let arc = arc.natural().ok_or(Fault::NotANumber)?;
+    let arc = arc.natural().ok_or(LineFault::NotANumber)?;
     Ok(Edit::Close { arc })
 }

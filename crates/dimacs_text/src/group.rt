@@ -6,24 +6,25 @@ ghost use Rattle.dimacs_lines.specs.Lines.{Line};
 ghost use Rattle.dimacs_text.specs.Command.{asked, ends_group};
 ghost use Rattle.dimacs_lines.specs.Cut.{kept};
 ghost use Rattle.dimacs_text.specs.Group.{edit_of, is_end_asked, gathered, gathered_after, and_line};
-ghost use Rattle.dimacs_lines.specs.Fault.{number_of};
+ghost use Rattle.dimacs_text.specs.CommandFault.{number_of};
 
 use crate::command::{Command, Edit, read_line};
+use crate::command_fault::CommandFault;
 use crate::problem::Kind;
 use arrayvec::ArrayVec;
-use dimacs_lines::Fault;
+use dimacs_lines::LineFault;
 use std::marker::Model;
 
 /// The most edits of a group.
 pub const GROUP_LIMIT: usize = 1000;
 
-/// The edits between a line `group` and its `end`. It takes no memory.
+/// The edits between a line `group` and its `end`. Taking a line cannot fail for lack of memory.
 ///
 /// The first line that is refused by itself decides the fault of the group, and lines after it are passed over.
 #[derive(Drop)]
 pub struct Group {
     edits: ArrayVec<Edit, GROUP_LIMIT>,
-    fault: Option<Fault>,
+    fault: Option<CommandFault>,
 }
 
 impl Model for Group {
@@ -85,7 +86,7 @@ impl Group {
     }
 
     /// Takes what the next line asks for, and answers whether it ends the group.
-    fn take_asked(&mut self, asked: Result<Command, Fault>) -> bool
+    fn take_asked(&mut self, asked: Result<Command, CommandFault>) -> bool
         ensures ends { result ≡ is_end_asked asked }
         ensures after { self.new ≡ gathered_after self.old asked }
     {
@@ -95,7 +96,7 @@ impl Group {
         if self.fault.is_none() {
             match edit_of(asked) {
                 Ok(edit) if !self.edits.is_full() => self.edits.push(edit),
-                Ok(_) => self.fault = Some(Fault::GroupTooLong),
+                Ok(_) => self.fault = Some(CommandFault::GroupTooLong),
                 Err(fault) => self.fault = Some(fault),
             }
         }
@@ -104,21 +105,21 @@ impl Group {
 }
 
 /// The edit that a line of a group gives: nothing else stands in one.
-fn edit_of(asked: Result<Command, Fault>) -> Result<Edit, Fault>
+fn edit_of(asked: Result<Command, CommandFault>) -> Result<Edit, CommandFault>
     ensures { result ≡ edit_of asked }
 {
     match asked? {
         Command::Edit(edit) => Ok(edit),
-        _ => Err(Fault::NotInGroup),
+        _ => Err(CommandFault::OutOfPlace),
     }
 }
 
 /// What a line asks for; it is not known where it is too long.
-fn asked(kind: Kind, line: Option<&[u8]>) -> Result<Command, Fault>
+fn asked(kind: Kind, line: Option<&[u8]>) -> Result<Command, CommandFault>
     ensures { (whole : Line) → option_map (λ line. line.now) line.entry ≡ kept whole → result ≡ asked kind whole }
 {
     match line {
-        None => Err(Fault::LineTooLong),
+        None => Err(LineFault::TooLong.into()),
         Some(line) => read_line(kind, line),
     }
 }

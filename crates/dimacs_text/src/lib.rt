@@ -3,23 +3,28 @@
 
 mod answer;
 mod answer_draft;
+mod answer_fault;
 mod answer_line;
 mod answer_reader;
 mod command;
+mod command_fault;
 mod designator;
 mod draft;
 mod group;
 mod limits;
 mod problem;
+mod problem_fault;
 mod problem_reader;
 mod terminals;
 mod turns;
 
 pub use answer::{Answer, FlowLine};
+pub use answer_fault::AnswerFault;
 pub use answer_reader::{AnswerReader, answer_decided_for_all};
 pub use command::{Command, Edit, groups_are_bracketed, read_command};
+pub use command_fault::CommandFault;
 pub use dimacs_lines::{
-    Fault, LINE_LIMIT, LineCutter, NAME_LIMIT, Name, Sequence, TextFault, is_blank,
+    LINE_LIMIT, LineCutter, LineFault, NAME_LIMIT, Name, Sequence, TextFault, is_blank,
     names_are_compared,
 };
 pub use group::{GROUP_LIMIT, Group};
@@ -27,5 +32,6 @@ pub use limits::limits_are;
 pub use problem::{
     ARC_LIMIT, ArcRow, CAP_LIMIT, COST_LIMIT, Kind, NODE_LIMIT, NodeMark, Problem, SUPPLY_LIMIT,
 };
+pub use problem_fault::ProblemFault;
 pub use problem_reader::{ProblemReader, decided_for_all};
 pub use turns::turns_follow;

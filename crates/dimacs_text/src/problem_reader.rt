@@ -67,7 +67,7 @@ impl ProblemReader {
         let (draft, lines) = reader.finish()?;
         match draft.close() {
             Ok(problem) => Ok(problem),
-            Err(fault) => Err(LineError::Fault(fault).at_line(lines)),
+            Err(fault) => Err(LineError::from(fault).at_line(lines)),
         }
     }
 }

@@ -4,7 +4,7 @@ ghost use Rattle.std.specs.Prelude.{◌≡◌};
 ghost use Rattle.dimacs_text.specs.Problem.{is_source, is_sink, has_source, has_sink, has_terminals, is_source_word, is_sink_word, terminal_by};
 
 use crate::problem::{Kind, NodeMark};
-use dimacs_lines::Fault;
+use crate::problem_fault::ProblemFault;
 
 /// Whether each terminal that the kind asks for is named.
 pub fn has_terminals(kind: Kind, marks: &[NodeMark]) -> bool
@@ -18,17 +18,17 @@ pub fn has_terminals(kind: Kind, marks: &[NodeMark]) -> bool
 }
 
 /// The mark of a source, or of a sink, where there is none yet.
-pub fn terminal(source: bool, id: u32, marks: &[NodeMark]) -> Result<NodeMark, Fault>
+pub fn terminal(source: bool, id: u32, marks: &[NodeMark]) -> Result<NodeMark, ProblemFault>
     ensures { result ≡ terminal_by source id marks.now }
 {
     if source {
         if has_source(marks) {
-            return Err(Fault::NamedTwice);
+            return Err(ProblemFault::NamedTwice);
         }
         Ok(NodeMark::Source(id))
     } else {
         if has_sink(marks) {
-            return Err(Fault::NamedTwice);
+            return Err(ProblemFault::NamedTwice);
         }
         Ok(NodeMark::Sink(id))
     }

@@ -4,8 +4,8 @@ use Rattle.std.proofs.lemmas.Bool.{false≢true}
 use Rattle.std.proofs.lemmas.List.Elements.{All-nil, All-push}
 use Rattle.std.specs.Prelude.{◌⊎◌, MatchResult}
 use Rattle.std.specs.List.{All}
-use Rattle.dimacs_lines.specs.declared.fault.Fault.{Fault}
-use Rattle.dimacs_lines.specs.Fault.{number_of}
+use Rattle.dimacs_text.specs.declared.command_fault.CommandFault.{CommandFault}
+use Rattle.dimacs_text.specs.CommandFault.{number_of}
 use Rattle.dimacs_lines.specs.Lines.{lines_of}
 use Rattle.dimacs_text.specs.declared.command.Command.{Command}
 use Rattle.dimacs_text.specs.declared.command.Command.TheVariants as commands
@@ -127,7 +127,7 @@ line_step : (r : Result Command ℕ) (old new : SessionState) (reply : Reply)
 line_step (Ok c) old new reply step = command_step c old new reply step
 line_step (Err number) old new reply is = refusal number old new reply is
 
-edits_step : (fault : Option Fault) (edits : List Edit) (old new : SessionState) (reply : Reply) → StepOfEdits fault edits old reply new → StepsRightly old reply new
+edits_step : (fault : Option CommandFault) (edits : List Edit) (old new : SessionState) (reply : Reply) → StepOfEdits fault edits old reply new → StepsRightly old reply new
 edits_step (Some fault) edits old new reply is = refusal (number_of fault) old new reply is
 edits_step None edits old new reply (inl is) =
     accepted old new reply TellsVerdict is.reply_is tells_none (λ all. all_advance IsRightMoment old.moments new.moments is.advances all (right new.moments.present is.edited_to.answered))

@@ -10,22 +10,24 @@ use Rattle.dimacs_text.specs.declared.command.Edit.TheVariants.{Cap, Low, Cost, 
 use Rattle.dimacs_text.specs.declared.problem.ArcRow.{ArcRow}
 use Rattle.dimacs_text.specs.declared.problem.TheConstants.{CAP_LIMIT, COST_LIMIT, SUPPLY_LIMIT}
 use Rattle.dimacs_text.specs.Lawful.{IsLawfulRow, IsWithin}
-use Rattle.dimacs_lines.specs.declared.fault.Fault.{Fault}
-use Rattle.dimacs_lines.specs.declared.fault.Fault.TheVariants.{OutOfRange, NoSuchNode, EditLowAboveCap, EditNotAcrossSides, ArcTableFull, NotForKind}
-use Rattle.network.specs.Edited.{demand, row_or, with_arc, edited, edited_by, tried, by_number, has_edit, has_room, is_across, is_bound, is_node, is_within, suits_kind}
+use Rattle.network.specs.declared.refusal.EditRefusal.{EditRefusal}
+use Rattle.network.specs.declared.refusal.EditRefusal.TheVariants.{OutOfRange, NoSuchNode, LowAboveCap, NotAcrossSides, TableFull, NotForKind}
+use Rattle.dimacs_lines.specs.Checks.{numbered}
+use Rattle.network.specs.Refusal.{number_of}
+use Rattle.network.specs.Edited.{demand, row_or, with_arc, edited, edited_by, tried, has_edit, has_room, is_across, is_bound, is_node, is_within, suits_kind}
 use Rattle.network.specs.Instance.{Demand, Supplies, Terminals, Sides, Instance, IsLawful, ArcFits, arc_at, kind_of, with_supply}
 
 -- ---- checks that were met
 
-pub demand_ok : {A : Type 0} (met : Bool) (fault : Fault) (rest : Result A Fault) (x : A) → demand met fault rest ≡ Ok x → (met ≡ true) × (rest ≡ Ok x)
+pub demand_ok : {A : Type 0} (met : Bool) (fault : EditRefusal) (rest : Result A EditRefusal) (x : A) → demand met fault rest ≡ Ok x → (met ≡ true) × (rest ≡ Ok x)
 demand_ok true fault rest x e = (refl, e)
 demand_ok false fault rest x e = cc
 
-pub by_number-ok : (r : Result Instance Fault) (after : Instance) → by_number r ≡ Ok after → r ≡ Ok after
-by_number-ok (Ok I) after e = cc
-by_number-ok (Err fault) after e = cc
+pub numbered_ok : (r : Result Instance EditRefusal) (after : Instance) → numbered number_of r ≡ Ok after → r ≡ Ok after
+numbered_ok (Ok I) after e = cc
+numbered_ok (Err fault) after e = cc
 
-abbrev pub done_as : Instance → Result Instance Fault
+abbrev pub done_as : Instance → Result Instance EditRefusal
 done_as I = Ok I
 
 lawful_same : (I after : Instance) → done_as I ≡ Ok after → IsLawful I → IsLawful after
@@ -56,7 +58,7 @@ lawful_with_arc I k row lawful limits fits = record {
 }
 
 -- an edit of the arc that is there
-at_row : (I after : Instance) (k : ℕ) (change : ArcRow → Result Instance Fault) → IsLawful I → row_or (arc_at I.arcs k) change ≡ Ok after
+at_row : (I after : Instance) (k : ℕ) (change : ArcRow → Result Instance EditRefusal) → IsLawful I → row_or (arc_at I.arcs k) change ≡ Ok after
     → ((row : ArcRow) → IsLawfulRow I.nodes row → ArcFits I.demand row → change row ≡ Ok after → IsLawful after) → IsLawful after
 at_row I after k change lawful e next = by (arc_at I.arcs k) refl e
   where
@@ -128,7 +130,7 @@ by_edit I (Cap k cap) after lawful has e =
     let range = demand_ok _ OutOfRange _ after e in
     let bound = between (pos 0) (pos CAP_LIMIT) cap range.0 in
     at_row I after k _ lawful range.1 (λ row old fits done.
-    let order = demand_ok (int_le row.low cap) EditLowAboveCap (Ok (with_arc I k (record row { cap = cap }))) after done in
+    let order = demand_ok (int_le row.low cap) LowAboveCap (Ok (with_arc I k (record row { cap = cap }))) after done in
     lawful_same _ after order.1 (lawful_with_arc I k (record row { cap = cap }) lawful (
     record { tail = old.tail; head = old.head; low = old.low; cap = le_from_test row.low cap order.0; limit = bound.1; cost = old.cost })
     (fits_cap I.demand k cap row has fits)))
@@ -136,7 +138,7 @@ by_edit I (Low k low) after lawful has e =
     let range = demand_ok _ OutOfRange _ after e in
     let bound = between (pos 0) (pos CAP_LIMIT) low range.0 in
     at_row I after k _ lawful range.1 (λ row old fits done.
-    let order = demand_ok (int_le low row.cap) EditLowAboveCap (Ok (with_arc I k (record row { low = low }))) after done in
+    let order = demand_ok (int_le low row.cap) LowAboveCap (Ok (with_arc I k (record row { low = low }))) after done in
     lawful_same _ after order.1 (lawful_with_arc I k (record row { low = low }) lawful (
     record { tail = old.tail; head = old.head; low = bound.0; cap = le_from_test low row.cap order.0; limit = old.limit; cost = old.cost })
     (fits_low I.demand k low row has)))
@@ -161,9 +163,9 @@ by_edit I (Add tail head low cap cost) after lawful has e =
     let caps = between (pos 0) (pos CAP_LIMIT) cap bounds.1 in
     let nodes = demand_ok _ NoSuchNode _ after range.1 in
     let ends = and_parts (is_node I.nodes tail) (is_node I.nodes head) nodes.0 in
-    let order = demand_ok _ EditLowAboveCap _ after nodes.1 in
-    let across = demand_ok _ EditNotAcrossSides _ after order.1 in
-    let room = demand_ok _ ArcTableFull _ after across.1 in
+    let order = demand_ok _ LowAboveCap _ after nodes.1 in
+    let across = demand_ok _ NotAcrossSides _ after order.1 in
+    let room = demand_ok _ TableFull _ after across.1 in
     let row : ArcRow = record { tail = tail; head = head; low = low; cap = cap; cost = cost } in
     lawful_same _ after room.1 (lawful_new I row lawful (
     record {
@@ -184,5 +186,5 @@ by_edit I (Close k) after lawful has e =
 -- an edited instance is lawful
 pub edited_lawful : (I : Instance) (edit : Edit) (after : Instance) → IsLawful I → edited I edit ≡ Ok after → IsLawful after
 edited_lawful I edit after lawful e =
-    let met = demand_ok (has_edit (kind_of I.demand) edit) NotForKind (edited_by I edit) after (by_number-ok (tried I edit) after e) in
+    let met = demand_ok (has_edit (kind_of I.demand) edit) NotForKind (edited_by I edit) after (numbered_ok (tried I edit) after e) in
     by_edit I edit after lawful met.0 met.1

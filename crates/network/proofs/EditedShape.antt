@@ -8,12 +8,12 @@ use Rattle.dimacs_text.specs.declared.command.Edit.TheVariants.{Cap, Low, Cost, 
 use Rattle.dimacs_text.specs.declared.problem.ArcRow.{ArcRow}
 use Rattle.dimacs_text.specs.declared.problem.Kind.TheVariants.{Min}
 use Rattle.dimacs_text.specs.Lawful.{IsNode}
-use Rattle.dimacs_lines.specs.declared.fault.Fault.{Fault}
-use Rattle.dimacs_lines.specs.declared.fault.Fault.TheVariants.{OutOfRange, NoSuchNode, EditLowAboveCap, EditNotAcrossSides, ArcTableFull, NotForKind}
+use Rattle.network.specs.declared.refusal.EditRefusal.{EditRefusal}
+use Rattle.network.specs.declared.refusal.EditRefusal.TheVariants.{OutOfRange, NoSuchNode, LowAboveCap, NotAcrossSides, TableFull, NotForKind}
 use Rattle.network.specs.Edited.{row_or, with_arc, edited, edited_by, tried, has_edit, has_room, is_across, is_new_row, is_node}
 use Rattle.network.specs.Instance.{Demand, Supplies, Terminals, Sides, Instance, arc_at, kind_of, with_supply}
 use Rattle.network.proofs.EndLemmas.{no_arc}
-use Rattle.network.proofs.EditedLemmas.{demand_ok, by_number-ok, done_as}
+use Rattle.network.proofs.EditedLemmas.{demand_ok, numbered_ok, done_as}
 
 pub done_is : (I after : Instance) → done_as I ≡ Ok after → after ≡ I
 done_is I after e = cc
@@ -51,7 +51,7 @@ IsChangedBy (Supply v value) I after = IsSupplyChanged v value I after
 IsChangedBy (Add tail head low cap cost) I after = IsArcAdded I after
 IsChangedBy (Close k) I after = IsRowChanged k I after
 
-at_row : (I after : Instance) (k : ℕ) (change : ArcRow → Result Instance Fault) (f : ArcRow → ArcRow) → ((row : ArcRow) → ((f row).tail ≡ row.tail) × ((f row).head ≡ row.head)) → ((row : ArcRow) → change row ≡ Ok after → after ≡ with_arc I k (f row)) → row_or (arc_at I.arcs k) change ≡ Ok after → IsRowChanged k I after
+at_row : (I after : Instance) (k : ℕ) (change : ArcRow → Result Instance EditRefusal) (f : ArcRow → ArcRow) → ((row : ArcRow) → ((f row).tail ≡ row.tail) × ((f row).head ≡ row.head)) → ((row : ArcRow) → change row ≡ Ok after → after ≡ with_arc I k (f row)) → row_or (arc_at I.arcs k) change ≡ Ok after → IsRowChanged k I after
 at_row I after k change f ends next e = by (arc_at I.arcs k) refl e
   where
     by : (o : Option ArcRow) → arc_at I.arcs k ≡ o → row_or o change ≡ Ok after → IsRowChanged k I after
@@ -76,10 +76,10 @@ supply_for_min (Sides marks) v value has = absurd (false≢true has)
 changed_by : (I : Instance) (edit : Edit) (after : Instance) → has_edit (kind_of I.demand) edit ≡ true → edited_by I edit ≡ Ok after → IsChangedBy edit I after
 changed_by I (Cap k cap) after has e =
     let range = demand_ok _ OutOfRange _ after e in
-    at_row I after k _ (λ row. record row { cap = cap }) (λ row. (refl, refl)) (λ row done. done_is _ after (demand_ok (int_le row.low cap) EditLowAboveCap (Ok (with_arc I k (record row { cap = cap }))) after done).1) range.1
+    at_row I after k _ (λ row. record row { cap = cap }) (λ row. (refl, refl)) (λ row done. done_is _ after (demand_ok (int_le row.low cap) LowAboveCap (Ok (with_arc I k (record row { cap = cap }))) after done).1) range.1
 changed_by I (Low k low) after has e =
     let range = demand_ok _ OutOfRange _ after e in
-    at_row I after k _ (λ row. record row { low = low }) (λ row. (refl, refl)) (λ row done. done_is _ after (demand_ok (int_le low row.cap) EditLowAboveCap (Ok (with_arc I k (record row { low = low }))) after done).1) range.1
+    at_row I after k _ (λ row. record row { low = low }) (λ row. (refl, refl)) (λ row done. done_is _ after (demand_ok (int_le low row.cap) LowAboveCap (Ok (with_arc I k (record row { low = low }))) after done).1) range.1
 changed_by I (Cost k cost) after has e =
     let range = demand_ok _ OutOfRange _ after e in
     at_row I after k _ (λ row. record row { cost = cost }) (λ row. (refl, refl)) (λ row done. done_is _ after done) range.1
@@ -91,14 +91,14 @@ changed_by I (Supply v value) after has e =
 changed_by I (Add tail head low cap cost) after has e =
     let range = demand_ok (is_new_row (kind_of I.demand) low cap cost) OutOfRange _ after e in
     let nodes = demand_ok (is_node I.nodes tail && is_node I.nodes head) NoSuchNode _ after range.1 in
-    let order = demand_ok (int_le low cap) EditLowAboveCap _ after nodes.1 in
-    let across = demand_ok (is_across I.demand tail head) EditNotAcrossSides _ after order.1 in
-    let room = demand_ok (has_room I) ArcTableFull _ after across.1 in
+    let order = demand_ok (int_le low cap) LowAboveCap _ after nodes.1 in
+    let across = demand_ok (is_across I.demand tail head) NotAcrossSides _ after order.1 in
+    let room = demand_ok (has_room I) TableFull _ after across.1 in
     record { row = record { tail = tail; head = head; low = low; cap = cap; cost = cost }; changed = done_is _ after room.1 }
 changed_by I (Close k) after has e =
     at_row I after k _ (λ row. record row { low = pos 0; cap = pos 0 }) (λ row. (refl, refl)) (λ row done. done_is _ after done) e
 
 pub changed_by_edit : (I : Instance) (edit : Edit) (after : Instance) → edited I edit ≡ Ok after → IsChangedBy edit I after
 changed_by_edit I edit after e =
-    let met = demand_ok (has_edit (kind_of I.demand) edit) NotForKind (edited_by I edit) after (by_number-ok (tried I edit) after e) in
+    let met = demand_ok (has_edit (kind_of I.demand) edit) NotForKind (edited_by I edit) after (numbered_ok (tried I edit) after e) in
     changed_by I edit after met.0 met.1

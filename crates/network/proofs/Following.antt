@@ -9,15 +9,16 @@ use Rattle.dimacs_text.specs.declared.command.Edit.{Edit}
 use Rattle.dimacs_text.specs.declared.command.Edit.TheVariants.{Cap, Low, Cost, Supply, Add, Close}
 use Rattle.dimacs_text.specs.declared.problem.ArcRow.{ArcRow}
 use Rattle.dimacs_text.specs.declared.problem.TheConstants.{NODE_LIMIT, ARC_LIMIT}
-use Rattle.dimacs_lines.specs.declared.fault.Fault.{Fault}
-use Rattle.dimacs_lines.specs.declared.fault.Fault.TheVariants.{OutOfRange, NoSuchNode, EditLowAboveCap, EditNotAcrossSides, ArcTableFull, NotForKind}
-use Rattle.dimacs_lines.specs.Fault.{number_of}
-use Rattle.network.specs.Edited.{EndsFit, SharesFrame, changed_if, count_after, edited, edited_all, edited_by, has_edit, has_room, is_across, is_new_row, is_node, outcome, by_number, row_after, row_or, tried, with_arc}
+use Rattle.network.specs.declared.refusal.EditRefusal.{EditRefusal}
+use Rattle.network.specs.declared.refusal.EditRefusal.TheVariants.{OutOfRange, NoSuchNode, LowAboveCap, NotAcrossSides, TableFull, NotForKind}
+use Rattle.dimacs_lines.specs.Checks.{numbered}
+use Rattle.network.specs.Refusal.{number_of}
+use Rattle.network.specs.Edited.{EndsFit, SharesFrame, changed_if, count_after, edited, edited_all, edited_by, has_edit, has_room, is_across, is_new_row, is_node, outcome, row_after, row_or, tried, with_arc}
 use Rattle.network.specs.Instance.{Demand, Supplies, Terminals, Sides, Instance, IsLawful, arc_at, kind_of, with_supply}
 use Rattle.network.proofs.EndLinks.{slice_get-set_other}
 use Rattle.network.proofs.EditedAll.{first_made, edited_one, edited_more, refused_more, edited_all-lawful}
 use Rattle.network.proofs.EditedShape.{done_is}
-use Rattle.network.proofs.EditedLemmas.{demand_ok, by_number-ok, node_from_test}
+use Rattle.network.proofs.EditedLemmas.{demand_ok, numbered_ok, node_from_test}
 
 -- ---- the arcs with another row, and with one more
 
@@ -73,7 +74,7 @@ same_frame I arcs = record { nodes = refl; room = refl; kind = refl; across = λ
 abbrev RowFollows : ℕ → (ArcRow → ArcRow) → Instance → Instance → Type 0
 RowFollows j f I J = ((k : ℕ) → changed_if (j == k) f (arc_at I.arcs k) ≡ arc_at J.arcs k) × (length I.arcs ≡ length J.arcs) × SharesFrame I J
 
-at_row : (I after : Instance) (j : ℕ) (change : ArcRow → Result Instance Fault) (f : ArcRow → ArcRow)
+at_row : (I after : Instance) (j : ℕ) (change : ArcRow → Result Instance EditRefusal) (f : ArcRow → ArcRow)
     → ((row : ArcRow) → change row ≡ Ok after → after ≡ with_arc I j (f row)) → row_or (arc_at I.arcs j) change ≡ Ok after → RowFollows j f I after
 at_row I after j change f next e = by (arc_at I.arcs j) refl e
   where
@@ -90,11 +91,11 @@ across_supply (Sides marks) v value = (refl, λ tail head. refl)
 by_edit : (I : Instance) (edit : Edit) (after : Instance) → edited_by I edit ≡ Ok after → Follows edit I after
 by_edit I (Cap j most) after e =
     let range = demand_ok _ OutOfRange _ after e in
-    let made = at_row I after j _ (λ row. record row { cap = most }) (λ row done. done_is _ after (demand_ok (int_le row.low most) EditLowAboveCap (Ok (with_arc I j (record row { cap = most }))) after done).1) range.1 in
+    let made = at_row I after j _ (λ row. record row { cap = most }) (λ row done. done_is _ after (demand_ok (int_le row.low most) LowAboveCap (Ok (with_arc I j (record row { cap = most }))) after done).1) range.1 in
     record { row = made.0; arcs = made.1; frame = made.2 }
 by_edit I (Low j low) after e =
     let range = demand_ok _ OutOfRange _ after e in
-    let made = at_row I after j _ (λ row. record row { low = low }) (λ row done. done_is _ after (demand_ok (int_le low row.cap) EditLowAboveCap (Ok (with_arc I j (record row { low = low }))) after done).1) range.1 in
+    let made = at_row I after j _ (λ row. record row { low = low }) (λ row done. done_is _ after (demand_ok (int_le low row.cap) LowAboveCap (Ok (with_arc I j (record row { low = low }))) after done).1) range.1 in
     record { row = made.0; arcs = made.1; frame = made.2 }
 by_edit I (Cost j cost) after e =
     let range = demand_ok _ OutOfRange _ after e in
@@ -108,9 +109,9 @@ by_edit I (Supply v value) after e =
 by_edit I (Add tail head low most cost) after e =
     let range = demand_ok (is_new_row (kind_of I.demand) low most cost) OutOfRange _ after e in
     let nodes = demand_ok (is_node I.nodes tail && is_node I.nodes head) NoSuchNode _ after range.1 in
-    let order = demand_ok (int_le low most) EditLowAboveCap _ after nodes.1 in
-    let across = demand_ok (is_across I.demand tail head) EditNotAcrossSides _ after order.1 in
-    let room = demand_ok (has_room I) ArcTableFull _ after across.1 in
+    let order = demand_ok (int_le low most) LowAboveCap _ after nodes.1 in
+    let across = demand_ok (is_across I.demand tail head) NotAcrossSides _ after order.1 in
+    let room = demand_ok (has_room I) TableFull _ after across.1 in
     let row : ArcRow = record { tail = tail; head = head; low = low; cap = most; cost = cost } in
     rw (done_is _ after room.1) (record { row = λ k. row_pushed I.arcs k row; arcs = (let l = length_push I.arcs row in omega arith); frame = same_frame I (I.arcs ++ row ∷ []) })
 by_edit I (Close j) after e =
@@ -118,7 +119,7 @@ by_edit I (Close j) after e =
     record { row = made.0; arcs = made.1; frame = made.2 }
 
 edit_is : (I : Instance) (edit : Edit) (after : Instance) → edited I edit ≡ Ok after → edited_by I edit ≡ Ok after
-edit_is I edit after e = (demand_ok (has_edit (kind_of I.demand) edit) NotForKind (edited_by I edit) after (by_number-ok (tried I edit) after e)).1
+edit_is I edit after e = (demand_ok (has_edit (kind_of I.demand) edit) NotForKind (edited_by I edit) after (numbered_ok (tried I edit) after e)).1
 
 pub follows : (I : Instance) (edit : Edit) (after : Instance) → edited I edit ≡ Ok after → Follows edit I after
 follows I edit after e = by_edit I edit after (edit_is I edit after e)
@@ -200,20 +201,20 @@ few_arcs I after edits arcs lawful e same =
 
 -- ---- an edit that is tested once those before it are made
 
-outcome_of : (r : Result Instance Fault) (fault : Fault) → outcome r ≡ Err fault → by_number r ≡ Err (number_of fault)
-outcome_of (Ok I) fault e = cc
-outcome_of (Err found) fault e = let same : found ≡ fault = cc in ap (λ f. Err (number_of f)) same
+outcome_of : (r : Result Instance EditRefusal) (refusal : EditRefusal) → outcome r ≡ Err refusal → numbered number_of r ≡ Err (number_of refusal)
+outcome_of (Ok I) refusal e = cc
+outcome_of (Err found) refusal e = let same : found ≡ refusal = cc in ap (λ f. Err (number_of f)) same
 
-outcome_ok : (r : Result Instance Fault) (done : Unit {0}) → outcome r ≡ Ok done → is_ok (by_number r) ≡ true
+outcome_ok : (r : Result Instance EditRefusal) (done : Unit {0}) → outcome r ≡ Ok done → is_ok (numbered number_of r) ≡ true
 outcome_ok (Ok I) done e = refl
-outcome_ok (Err fault) done e = cc
+outcome_ok (Err refusal) done e = cc
 
 -- the next edit is refused, and so are they all
-pub all_refused : (I before : Instance) (edits : List Edit) (i : ℕ) (d : Edit) (fault : Fault) → i < length edits → edited_all I (take i edits) ≡ Ok before
-    → outcome (tried before (get_or edits i d)) ≡ Err fault → outcome (edited_all I edits) ≡ Err (number_of fault)
-all_refused I before edits i d fault below so_far e =
-    let next : edited_all I (take (i + 1) edits) ≡ Err (number_of fault) = one_edit I before edits i d below so_far ∙ outcome_of (tried before (get_or edits i d)) fault e in
-    ap outcome (sym (ap (edited_all I) (take-append-drop (i + 1) edits)) ∙ refused_more I (take (i + 1) edits) (drop (i + 1) edits) (number_of fault) next)
+pub all_refused : (I before : Instance) (edits : List Edit) (i : ℕ) (d : Edit) (refusal : EditRefusal) → i < length edits → edited_all I (take i edits) ≡ Ok before
+    → outcome (tried before (get_or edits i d)) ≡ Err refusal → outcome (edited_all I edits) ≡ Err (number_of refusal)
+all_refused I before edits i d refusal below so_far e =
+    let next : edited_all I (take (i + 1) edits) ≡ Err (number_of refusal) = one_edit I before edits i d below so_far ∙ outcome_of (tried before (get_or edits i d)) refusal e in
+    ap outcome (sym (ap (edited_all I) (take-append-drop (i + 1) edits)) ∙ refused_more I (take (i + 1) edits) (drop (i + 1) edits) (number_of refusal) next)
 
 -- the next edit is made
 pub one_more : (I before : Instance) (edits : List Edit) (i : ℕ) (d : Edit) (done : Unit {0}) → i < length edits → edited_all I (take i edits) ≡ Ok before

@@ -7,9 +7,10 @@ use Rattle.dimacs_text.specs.declared.problem.ArcRow.{ArcRow}
 use Rattle.dimacs_text.specs.declared.problem.Kind.{Kind}
 use Rattle.dimacs_text.specs.declared.problem.Kind.TheVariants.{Min, Max, Asn}
 use Rattle.dimacs_text.specs.declared.problem.TheConstants.{CAP_LIMIT, COST_LIMIT, SUPPLY_LIMIT}
-use Rattle.dimacs_lines.specs.declared.fault.Fault.{Fault}
-use Rattle.dimacs_lines.specs.declared.fault.Fault.TheVariants.{NotForKind, OutOfRange, NoSuchArc, NoSuchNode, EditLowAboveCap, EditNotAcrossSides, ArcTableFull}
-use Rattle.dimacs_lines.specs.Fault.{number_of}
+use Rattle.network.specs.declared.refusal.EditRefusal.{EditRefusal}
+use Rattle.network.specs.declared.refusal.EditRefusal.TheVariants.{NotForKind, OutOfRange, NoSuchArc, NoSuchNode, LowAboveCap, NotAcrossSides, TableFull}
+use Rattle.network.specs.Refusal.{number_of}
+use Rattle.dimacs_lines.specs.Checks.{numbered}
 use Rattle.dimacs_text.specs.Command.{is_for, verb_for}
 use Rattle.network.specs.Instance.{Demand, Supplies, Terminals, Sides, Instance, arc_at, is_marked, kind_of, reduced_supply, with_supply}
 
@@ -47,29 +48,29 @@ has_room I = nat_lt (length I.arcs) I.room
 
 -- ---- one check after the other
 
-abbrev pub demand : {A : Type 0} → Bool → Fault → Result A Fault → Result A Fault
-demand met fault rest = if met then rest else Err fault
+abbrev pub demand : {A : Type 0} → Bool → EditRefusal → Result A EditRefusal → Result A EditRefusal
+demand met refusal rest = if met then rest else Err refusal
 
-abbrev pub row_or : {A : Type 0} → Option ArcRow → (ArcRow → Result A Fault) → Result A Fault
+abbrev pub row_or : {A : Type 0} → Option ArcRow → (ArcRow → Result A EditRefusal) → Result A EditRefusal
 row_or None rest = Err NoSuchArc
 row_or (Some row) rest = rest row
 
 abbrev pub with_arc : Instance → ℕ → ArcRow → Instance
 with_arc I k row = record I { arcs = slice_set I.arcs (k - 1) row }
 
-abbrev pub added : Instance → ℕ → ℕ → ℤ → ℤ → ℤ → Result Instance Fault
+abbrev pub added : Instance → ℕ → ℕ → ℤ → ℤ → ℤ → Result Instance EditRefusal
 added I tail head low cap cost =
     demand (is_node I.nodes tail && is_node I.nodes head) NoSuchNode (
-    demand (int_le low cap) EditLowAboveCap (
-    demand (is_across I.demand tail head) EditNotAcrossSides (
-    demand (has_room I) ArcTableFull (
+    demand (int_le low cap) LowAboveCap (
+    demand (is_across I.demand tail head) NotAcrossSides (
+    demand (has_room I) TableFull (
     Ok (record I { arcs = I.arcs ++ record { tail = tail; head = head; low = low; cap = cap; cost = cost } ∷ [] })))))
 
-abbrev pub edited_by : Instance → Edit → Result Instance Fault
+abbrev pub edited_by : Instance → Edit → Result Instance EditRefusal
 edited_by I (Cap k cap) =
-    demand (is_bound cap) OutOfRange (row_or (arc_at I.arcs k) (λ row. demand (int_le row.low cap) EditLowAboveCap (Ok (with_arc I k (record row { cap = cap })))))
+    demand (is_bound cap) OutOfRange (row_or (arc_at I.arcs k) (λ row. demand (int_le row.low cap) LowAboveCap (Ok (with_arc I k (record row { cap = cap })))))
 edited_by I (Low k low) =
-    demand (is_bound low) OutOfRange (row_or (arc_at I.arcs k) (λ row. demand (int_le low row.cap) EditLowAboveCap (Ok (with_arc I k (record row { low = low })))))
+    demand (is_bound low) OutOfRange (row_or (arc_at I.arcs k) (λ row. demand (int_le low row.cap) LowAboveCap (Ok (with_arc I k (record row { low = low })))))
 edited_by I (Cost k cost) =
     demand (is_within COST_LIMIT cost) OutOfRange (row_or (arc_at I.arcs k) (λ row. Ok (with_arc I k (record row { cost = cost }))))
 edited_by I (Supply v value) =
@@ -78,16 +79,12 @@ edited_by I (Add tail head low cap cost) = demand (is_new_row (kind_of I.demand)
 edited_by I (Close k) = row_or (arc_at I.arcs k) (λ row. Ok (with_arc I k (record row { low = pos 0; cap = pos 0 })))
 
 -- each check in its order
-abbrev pub tried : Instance → Edit → Result Instance Fault
+abbrev pub tried : Instance → Edit → Result Instance EditRefusal
 tried I edit = demand (has_edit (kind_of I.demand) edit) NotForKind (edited_by I edit)
-
-abbrev pub by_number : Result Instance Fault → Result Instance ℕ
-by_number (Ok I) = Ok I
-by_number (Err fault) = Err (number_of fault)
 
 -- the number of the first refusal that applies, else the instance with that one change
 abbrev pub edited : Instance → Edit → Result Instance ℕ
-edited I edit = by_number (tried I edit)
+edited I edit = numbered number_of (tried I edit)
 
 -- ---- edits made together
 
@@ -104,7 +101,7 @@ edited_all I (edit ∷ edits) = and_then (edited I edit) (λ after. edited_all a
 
 abbrev pub outcome : {E : Type 0} → Result Instance E → Result (Unit {0}) E
 outcome (Ok I) = Ok tt
-outcome (Err fault) = Err fault
+outcome (Err refusal) = Err refusal
 
 -- ---- how far an edit can put a flow off
 

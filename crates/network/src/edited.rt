@@ -7,8 +7,9 @@ ghost use Rattle.network.specs.Edited.{EndsFit, SharesFrame, added, arc_of, coun
 ghost use Rattle.network.specs.Flow.{IsNode};
 ghost use Rattle.network.specs.Instance.{Instance, IsLawful, arc_at, kind_of, reduced};
 
+use crate::refusal::EditRefusal;
 use crate::{Goal, Network};
-use dimacs_text::{ArcRow, CAP_LIMIT, COST_LIMIT, Edit, Fault, Kind, SUPPLY_LIMIT};
+use dimacs_text::{ArcRow, CAP_LIMIT, COST_LIMIT, Edit, Kind, SUPPLY_LIMIT};
 
 /// Is it a bound of an arc?
 fn is_bound(x: i64) -> bool
@@ -63,52 +64,52 @@ fn arc_of(edit: &Edit) -> u64
 }
 
 /// May an arc have the capacity?
-fn cap_edited(row: Option<ArcRow>, cap: i64) -> Result<(), Fault>
+fn cap_edited(row: Option<ArcRow>, cap: i64) -> Result<(), EditRefusal>
     ensures { (before : Instance) (arc : ℕ) → row ≡ arc_at before.arcs arc → result ≡ outcome (edited_by before (Edit.Cap arc cap)) }
 {
     if !is_bound(cap) {
-        return Err(Fault::OutOfRange);
+        return Err(EditRefusal::OutOfRange);
     }
-    let row = row.ok_or(Fault::NoSuchArc)?;
+    let row = row.ok_or(EditRefusal::NoSuchArc)?;
     if row.low <= cap {
         Ok(())
     } else {
-        Err(Fault::EditLowAboveCap)
+        Err(EditRefusal::LowAboveCap)
     }
 }
 
 /// May an arc have the lower bound?
-fn low_edited(row: Option<ArcRow>, low: i64) -> Result<(), Fault>
+fn low_edited(row: Option<ArcRow>, low: i64) -> Result<(), EditRefusal>
     ensures { (before : Instance) (arc : ℕ) → row ≡ arc_at before.arcs arc → result ≡ outcome (edited_by before (Edit.Low arc low)) }
 {
     if !is_bound(low) {
-        return Err(Fault::OutOfRange);
+        return Err(EditRefusal::OutOfRange);
     }
-    let row = row.ok_or(Fault::NoSuchArc)?;
+    let row = row.ok_or(EditRefusal::NoSuchArc)?;
     if low <= row.cap {
         Ok(())
     } else {
-        Err(Fault::EditLowAboveCap)
+        Err(EditRefusal::LowAboveCap)
     }
 }
 
 /// May an arc have the cost?
-fn cost_edited(row: Option<ArcRow>, cost: i64) -> Result<(), Fault>
+fn cost_edited(row: Option<ArcRow>, cost: i64) -> Result<(), EditRefusal>
     ensures { (before : Instance) (arc : ℕ) → row ≡ arc_at before.arcs arc → result ≡ outcome (edited_by before (Edit.Cost arc cost)) }
 {
     if !is_cost(cost) {
-        return Err(Fault::OutOfRange);
+        return Err(EditRefusal::OutOfRange);
     }
     close_edited(row)
 }
 
 /// May an arc be closed?
-fn close_edited(row: Option<ArcRow>) -> Result<(), Fault>
+fn close_edited(row: Option<ArcRow>) -> Result<(), EditRefusal>
     ensures { (before : Instance) (arc : ℕ) → row ≡ arc_at before.arcs arc → result ≡ outcome (edited_by before (Edit.Close arc)) }
 {
     match row {
         Some(_) => Ok(()),
-        None => Err(Fault::NoSuchArc),
+        None => Err(EditRefusal::NoSuchArc),
     }
 }
 
@@ -187,49 +188,55 @@ impl Network {
     }
 
     /// May a node have the supply?
-    fn supply_edited(&self, node: u64, value: i64) -> Result<(), Fault>
+    fn supply_edited(&self, node: u64, value: i64) -> Result<(), EditRefusal>
         ensures { (before : Instance) → SharesFrame self.now before → result ≡ outcome (edited_by before (Edit.Supply node value)) }
     {
         if !is_supply(value) {
-            return Err(Fault::OutOfRange);
+            return Err(EditRefusal::OutOfRange);
         }
         if self.is_node(node) {
             Ok(())
         } else {
-            Err(Fault::NoSuchNode)
+            Err(EditRefusal::NoSuchNode)
         }
     }
 
     /// May an arc of lawful numbers be put between two nodes, where so many arcs stand?
-    fn arc_added(&self, arcs: usize, ends: (u64, u64), low: i64, cap: i64) -> Result<(), Fault>
+    fn arc_added(
+        &self,
+        arcs: usize,
+        ends: (u64, u64),
+        low: i64,
+        cap: i64,
+    ) -> Result<(), EditRefusal>
         ensures { (before : Instance) (cost : ℤ) → SharesFrame self.now before → arcs ≡ length before.arcs
             → result ≡ outcome (added before ends.0 ends.1 low cap cost) }
     {
         let (tail, head) = ends;
         if !self.is_node(tail) || !self.is_node(head) {
-            return Err(Fault::NoSuchNode);
+            return Err(EditRefusal::NoSuchNode);
         }
         if low > cap {
-            return Err(Fault::EditLowAboveCap);
+            return Err(EditRefusal::LowAboveCap);
         }
         if !self.is_across(tail, head) {
-            return Err(Fault::EditNotAcrossSides);
+            return Err(EditRefusal::NotAcrossSides);
         }
         if arcs < self.room {
             Ok(())
         } else {
-            Err(Fault::ArcTableFull)
+            Err(EditRefusal::TableFull)
         }
     }
 
     /// The first refusal of an edit that applies, if one does, where the arc that it names is this one, if it is there,
     /// and so many arcs stand.
-    fn tested(&self, edit: &Edit, row: Option<ArcRow>, arcs: usize) -> Result<(), Fault>
+    fn tested(&self, edit: &Edit, row: Option<ArcRow>, arcs: usize) -> Result<(), EditRefusal>
         ensures { (before : Instance) → SharesFrame self.now before → row ≡ arc_at before.arcs (arc_of edit.now)
             → arcs ≡ length before.arcs → result ≡ outcome (tried before edit.now) }
     {
         if !edit.is_for(self.kind()) {
-            return Err(Fault::NotForKind);
+            return Err(EditRefusal::NotForKind);
         }
         match *edit {
             Edit::Cap { cap, .. } => cap_edited(row, cap),
@@ -244,7 +251,7 @@ impl Network {
                 cost,
             } => {
                 if !is_new_row(self.kind(), low, cap, cost) {
-                    return Err(Fault::OutOfRange);
+                    return Err(EditRefusal::OutOfRange);
                 }
                 self.arc_added(arcs, (tail, head), low, cap)
             }
@@ -268,7 +275,7 @@ impl Network {
     }
 
     /// The first refusal of an edit that applies, if one does, once other edits are made.
-    fn tested_after(&self, edits: &[Edit], edit: &Edit) -> Result<(), Fault>
+    fn tested_after(&self, edits: &[Edit], edit: &Edit) -> Result<(), EditRefusal>
         requires { IsOk (edited_all self.now edits.now) }
         ensures { (before : Instance) → edited_all self.now edits.now ≡ Ok before → result ≡ outcome (tried before edit.now) }
     {
@@ -286,13 +293,13 @@ impl Network {
     }
 
     /// May the edits be made one after the other? Else the number of the first refusal, where each edit is tested on
-    /// what those before it leave. Nothing is changed, and no memory is taken.
+    /// what those before it leave. Nothing is changed, and it cannot fail for lack of memory.
     pub fn edited_all(&self, edits: &[Edit]) -> Result<(), u8>
         ensures { result ≡ outcome (edited_all self.now edits.now) }
     {
         for i in 0..edits.len() {
-            if let Err(fault) = self.tested_after(&edits[..i], &edits[i]) {
-                return Err(fault.number());
+            if let Err(refusal) = self.tested_after(&edits[..i], &edits[i]) {
+                return Err(refusal.number());
             }
         }
         Ok(())

@@ -9,6 +9,7 @@ mod edit;
 mod edited;
 mod limits;
 mod net;
+mod refusal;
 mod signs;
 mod start;
 mod views;
@@ -22,6 +23,7 @@ use dimacs_text::ArcRow;
 pub use edited::{edits_follow, edits_keep_lawful};
 pub use limits::limits_are;
 pub use net::ends_come_once;
+pub use refusal::EditRefusal;
 pub use start::build;
 use std::marker::Model;
 

@@ -2,8 +2,8 @@
 use Rattle.std.proofs.Common.{◌≡◌, ◌≢◌, ℕ, Bool, true, false, Some, None, Option, Ok, Err, Result, List, [], ◌∷◌, ◌++◌, length, length-append, inl, inr, refl, sym, ap, subst, ◌∙◌, arith}
 use Rattle.std.specs.Prelude.{MatchResult, ◌⊎◌}
 use Rattle.std.specs.List.{AllZip}
-use Rattle.dimacs_lines.specs.declared.fault.Fault.{Fault}
-use Rattle.dimacs_lines.specs.Fault.{number_of}
+use Rattle.dimacs_text.specs.declared.command_fault.CommandFault.{CommandFault}
+use Rattle.dimacs_text.specs.CommandFault.{number_of}
 use Rattle.dimacs_text.specs.declared.command.Edit.{Edit}
 use Rattle.dimacs_text.specs.declared.command.Command.{Command}
 use Rattle.dimacs_text.specs.declared.command.Command.TheVariants as commands
@@ -79,7 +79,7 @@ module _ (s t : SessionState) (alike : StatesAlike s t) where
   edit_by (Ok J) e r q s' t' nr nq (inr a) b = absurd (nr a.reply_is)
   edit_by (Err n) e r q s' t' nr nq a b = refused_alike n n r q s' t' refl a b
 
-  edits_by : (f : Option Fault) (es : List Edit) (r q : Reply) (s' t' : SessionState) → r ≢ Refuses 30 → q ≢ Refuses 30 → StepOfEdits f es s r s' → StepOfEdits f es t q t' → Same r q s' t'
+  edits_by : (f : Option CommandFault) (es : List Edit) (r q : Reply) (s' t' : SessionState) → r ≢ Refuses 30 → q ≢ Refuses 30 → StepOfEdits f es s r s' → StepOfEdits f es t q t' → Same r q s' t'
   edits_by (Some f) es r q s' t' nr nq a b = refused_alike (number_of f) (number_of f) r q s' t' refl a b
   edits_by None es r q s' t' nr nq (inl a) (inl b) = group_alike es r q s' t' a b
   edits_by None es r q s' t' nr nq (inl a) (inr b) = absurd (nq b.reply_is)

@@ -2,8 +2,8 @@
 use Rattle.std.proofs.Common.{◌≡◌, ◌≢◌, ℕ, zero, suc, ◌+◌, ◌<◌, ◌≤◌, Bool, true, false, List, [], ◌∷◌, ◌++◌, length, Ok, Err, Result, Option, Some, None, inl, inr, length-append, refl, sym, ap, subst, ◌∙◌, arith}
 use Rattle.std.specs.Prelude.{⊤, ◌⊎◌, MatchResult}
 use Rattle.dimacs_io.specs.Line.{refusal_line}
-use Rattle.dimacs_lines.specs.declared.fault.Fault.{Fault}
-use Rattle.dimacs_lines.specs.Fault.{number_of}
+use Rattle.dimacs_text.specs.declared.command_fault.CommandFault.{CommandFault}
+use Rattle.dimacs_text.specs.CommandFault.{number_of}
 use Rattle.dimacs_text.specs.declared.command.Command.{Command}
 use Rattle.dimacs_text.specs.declared.command.Command.TheVariants as commands
 use Rattle.dimacs_text.specs.declared.command.Edit.{Edit}
@@ -48,21 +48,14 @@ edit_step (Err number) edit old new reply accepts refused = absurd (accepts numb
 
 command_step : (c : Command) (old new : SessionState) (reply : Reply) → IsEditCommand c → Accepts reply → StepBy c old reply new → Advances old.moments new.moments
 command_step (commands.Edit edit) old new reply is accepts step = edit_step (edited old.moments.present.instance edit) edit old new reply accepts step
-command_step commands.Undo old new reply is accepts step = absurd is
-command_step commands.Redo old new reply is accepts step = absurd is
-command_step commands.Show old new reply is accepts step = absurd is
-command_step commands.Proof old new reply is accepts step = absurd is
-command_step commands.Group old new reply is accepts step = absurd is
-command_step commands.End old new reply is accepts step = absurd is
-command_step (commands.Mark name) old new reply is accepts step = absurd is
-command_step (commands.Back name) old new reply is accepts step = absurd is
+command_step other old new reply is accepts step = absurd is
 
 line_step : (r : Result Command ℕ) (old new : SessionState) (reply : Reply) → MatchResult r IsEditCommand (λ number. ⊤) → Accepts reply
     → MatchResult r (λ c. StepBy c old reply new) (λ number. IsRefused number old reply new) → Advances old.moments new.moments
 line_step (Ok c) old new reply is accepts step = command_step c old new reply is accepts step
 line_step (Err number) old new reply is accepts refused = absurd (accepts number refused.reply_is)
 
-edits_step : (fault : Option Fault) (edits : List Edit) (old new : SessionState) (reply : Reply) → Accepts reply → StepOfEdits fault edits old reply new → Advances old.moments new.moments
+edits_step : (fault : Option CommandFault) (edits : List Edit) (old new : SessionState) (reply : Reply) → Accepts reply → StepOfEdits fault edits old reply new → Advances old.moments new.moments
 edits_step (Some fault) edits old new reply accepts refused = absurd (accepts (number_of fault) refused.reply_is)
 edits_step None edits old new reply accepts (inl applied) = applied.advances
 edits_step None edits old new reply accepts (inr refused) = absurd (accepts 30 refused.reply_is)

@@ -9,6 +9,7 @@ pub mod RecordLaws
 pub mod Group
 pub mod Marks
 pub mod Session
+pub mod Refusal
 pub mod Step
 pub mod Reply
 pub mod Turns

@@ -39,7 +39,7 @@ impl Default for Mark {
     }
 }
 
-/// At most `MARK_LIMIT` marks, no two of one name. They take no memory.
+/// At most `MARK_LIMIT` marks, no two of one name. Putting one cannot fail for lack of memory.
 #[derive(Drop)]
 pub(crate) struct Marks {
     all: ArrayVec<Mark, MARK_LIMIT>,

@@ -2,8 +2,9 @@
 
 ghost use Rattle.std.specs.Prelude.{◌≡◌};
 ghost use Rattle.session.specs.declared.refusal.Refusal.TheVariants.{Memory};
-ghost use Rattle.session.specs.Reply.{number_of, of_edits};
+ghost use Rattle.session.specs.Refusal.{number_of, of_edits};
 
+use dimacs_text::CommandFault;
 use std::alloc::AllocError;
 use thiserror::Error;
 
@@ -26,7 +27,7 @@ impl From<AllocError> for Refusal {
     }
 }
 
-/// Why a step was refused: each reason has a number of its own.
+/// Why a step was refused.
 #[derive(Clone, Copy, Debug, PartialEq, Eq, Error)]
 pub enum StepRefusal {
     /// A line or an edit fails a check, by the number that `read_command`, `Group::fault` or `Network::edited_all` gives.
@@ -51,7 +52,7 @@ pub enum StepRefusal {
 }
 
 impl StepRefusal {
-    /// The number that is told of the refusal.
+    /// The number that the refusal is reported by; a line or an edit that is refused keeps its own.
     pub fn number(self) -> u8
         ensures { result ≡ number_of self }
     {
@@ -60,7 +61,7 @@ impl StepRefusal {
             StepRefusal::NothingToUndo => 25,
             StepRefusal::NothingToRedo => 26,
             StepRefusal::NoSuchMark => 28,
-            StepRefusal::OutOfPlace => 29,
+            StepRefusal::OutOfPlace => CommandFault::OutOfPlace.number(),
             StepRefusal::Memory => 30,
             StepRefusal::TooManyMarks => 33,
         }

@@ -12,6 +12,7 @@ ghost use Rattle.flow_solver.specs.Edit.{AreChanges, IsChange};
 ghost use Rattle.session.specs.Marks.{has_place, marked, up_to, with_mark, IsMovedTo};
 ghost use Rattle.session.specs.Parts.{flow_of};
 ghost use Rattle.session.specs.Group.{ArePartsOf};
+ghost use Rattle.session.specs.Refusal.{number_of};
 ghost use Rattle.session.specs.Session.{AreEdited, IsEdited, IsRecord, moment_at, places_of, place_of_edit};
 
 use crate::marks::Marks;
@@ -163,12 +164,13 @@ impl<A: Allocator + Copy> Session<A> {
         self.history.redo(&mut self.tables)
     }
 
-    /// Puts the name's mark on the present moment, or moves it there. It is no step and not undone, and takes no memory.
+    /// Puts the name's mark on the present moment, or moves it there. It is no step and not undone, and it cannot fail for
+    /// lack of memory.
     ///
     /// # Errors
     /// The number of `StepRefusal::TooManyMarks` where `MARK_LIMIT` other names have marks.
     pub fn mark(&mut self, name: &Name) -> Result<(), u8>
-        ensures answer { result ≡ (if has_place self.old.marks name.now then Ok tt else Err 33) }
+        ensures answer { result ≡ (if has_place self.old.marks name.now then Ok tt else Err (number_of StepRefusal.TooManyMarks)) }
         ensures marked { OnOk result (self.new ≡ record self.old { marks = with_mark self.old.marks name.now (length self.old.moments.past) }) }
         ensures refused { OnErr result (self.new ≡ self.old) }
     {
@@ -179,12 +181,13 @@ impl<A: Allocator + Copy> Session<A> {
         Ok(())
     }
 
-    /// Moves to the moment that bears the name, as so many undos or redos do. Nothing is solved, and it takes no memory.
+    /// Moves to the moment that bears the name, as so many undos or redos do. Nothing is solved, and it cannot fail for
+    /// lack of memory.
     ///
     /// # Errors
     /// The number of `StepRefusal::NoSuchMark` where no moment bears the name.
     pub fn back(&mut self, name: &Name) -> Result<(), u8>
-        ensures answer { result ≡ (if is_some (marked self.old.marks name.now) then Ok tt else Err 28) }
+        ensures answer { result ≡ (if is_some (marked self.old.marks name.now) then Ok tt else Err (number_of StepRefusal.NoSuchMark)) }
         ensures moved { IfSome (marked self.old.marks name.now) (λ moment. IsMovedTo moment self.old.moments self.new.moments) }
         ensures places { map places_of self.new.records ≡ map places_of self.old.records }
         ensures marks { self.new.marks ≡ self.old.marks }

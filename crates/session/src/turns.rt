@@ -15,7 +15,7 @@ ghost use Rattle.session.specs.Turns.{TakesLine, asks, gathered_in};
 use crate::refusal::StepRefusal;
 use crate::reply::Reply;
 use crate::session::Session;
-use dimacs_text::{Command, Fault, Group, groups_are_bracketed, is_blank, read_command};
+use dimacs_text::{Command, Group, LineFault, groups_are_bracketed, is_blank, read_command};
 use std::alloc::Allocator;
 
 impl<A: Allocator + Copy> Session<A> {
@@ -60,7 +60,7 @@ impl<A: Allocator + Copy> Session<A> {
     {
         groups_are_bracketed();
         let Some(line) = line else {
-            return Some(Err(StepRefusal::Cause(Fault::LineTooLong.number())));
+            return Some(Err(StepRefusal::Cause(LineFault::TooLong.number())));
         };
         let command = match read_command(self.network().kind(), line) {
             Ok(command) => command,

@@ -11,7 +11,7 @@ loop-i-init c = refl
 pub returns-in-Err : goal.returns-in-Err
 returns-in-Err c =
     let before = made_all c.args.self.now _ c.loop-i.invariant in
-    ap Err c.number.ensures ∙ sym (all_refused c.args.self.now before.0 c.args.edits.now c.loop-i.i (Cap 0 (pos 0)) c.in-Err.fault c.loop-i-test.true before.1 (sym (c.tested_after.ensures before.0 before.1) ∙ c.in-Err.is))
+    ap Err c.number.ensures ∙ sym (all_refused c.args.self.now before.0 c.args.edits.now c.loop-i.i (Cap 0 (pos 0)) c.in-Err.refusal c.loop-i-test.true before.1 (sym (c.tested_after.ensures before.0 before.1) ∙ c.in-Err.is))
 
 pub loop-i-preserved : goal.loop-i-preserved
 loop-i-preserved c =

@@ -1,6 +1,6 @@
 use Rattle.std.proofs.Common.{ℕ, refl, sym, ap, subst}
 use Rattle.std.proofs.lemmas.List.Elements.{All-push}
-use Rattle.dimacs_text.specs.Problem.{fault_of}
+use Rattle.dimacs_text.specs.Answer.{fault_of}
 use Rattle.dimacs_text.specs.Lawful.{IsNode}
 use Rattle.dimacs_text.specs.Answer.{Drafted}
 use Rattle.dimacs_text.proofs.AnswerLineLemmas.{read_cut_node-ok}

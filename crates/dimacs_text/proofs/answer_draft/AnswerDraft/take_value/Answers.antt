@@ -2,7 +2,7 @@ use Rattle.std.proofs.Common.{◌≡◌, refl, sym, ap, rules}
 use Rattle.std.proofs.lemmas.Int.{to_z-of_z}
 use mir.Syntax.{w128}
 use mir.Val.{SFits, to_z, of_z}
-use Rattle.dimacs_text.specs.Problem.{fault_of}
+use Rattle.dimacs_text.specs.Answer.{fault_of}
 use Rattle.dimacs_text.proofs.AnswerLineLemmas.{read_value-ok}
 use Rattle.dimacs_text.proofs.answer_draft.AnswerDraft.take_value.Goals as goal
 

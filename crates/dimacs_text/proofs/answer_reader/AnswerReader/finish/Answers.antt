@@ -16,7 +16,7 @@ returns-in-Ok-clause-text c = λ nodes arcs text stands.
 pub returns-in-Err-clause-text : goal.returns-in-Err-clause-text
 returns-in-Err-clause-text c = λ nodes arcs text stands.
     let done = c.in_ok-draft.ensures.text (nodes, arcs) text stands in
-    rw c.at_line.ensures (law.answers_end nodes arcs text c.in_ok-draft.draft done.0 done.1 c.in-Err.fault c.in_ok-draft.lines done.2 c.in-Err.ensures.value)
+    rw (c.at_line.ensures, c.from.ensures) (law.answers_end nodes arcs text c.in_ok-draft.draft done.0 done.1 c.in-Err.fault c.in_ok-draft.lines done.2 c.in-Err.ensures.value)
 
 pub returns-in-Ok-clause-fits : goal.returns-in-Ok-clause-fits
 returns-in-Ok-clause-fits c = λ nodes arcs text stands.

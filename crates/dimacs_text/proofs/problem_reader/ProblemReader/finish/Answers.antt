@@ -15,4 +15,4 @@ returns-in-Ok-clause-text c = λ text stands.
 pub returns-in-Err-clause-text : goal.returns-in-Err-clause-text
 returns-in-Err-clause-text c = λ text stands.
     let done = c.in_ok-draft.ensures.text tt text stands in
-    rw c.at_line.ensures (reads_end text c.in_ok-draft.draft c.in-Err.fault c.in_ok-draft.lines done.0 done.1 done.2 c.in-Err.ensures)
+    rw (c.at_line.ensures, c.from.ensures) (reads_end text c.in_ok-draft.draft c.in-Err.fault c.in_ok-draft.lines done.0 done.1 done.2 c.in-Err.ensures)

@@ -1,4 +1,4 @@
-use Rattle.std.proofs.Common.{rules, ◌≡◌, ℕ, zero, suc, ◌++◌, ◌∷◌, [], ◌<◌, List, length, reverse, sym, subst, arith}
+use Rattle.std.proofs.Common.{rules, ◌≡◌, zero, suc, ◌++◌, ◌∷◌, [], ◌<◌, List, length, reverse, sym, subst, arith}
 use Rattle.std.proofs.lemmas.List.Elements.{All-nil}
 use Rattle.std.specs.List.{All}
 use Rattle.history.specs.Boards.{Changes, FitInTurn, all_boards, boards, met}
