@@ -12,6 +12,7 @@ pub mod TrackedLemmas
 pub mod NotedLemmas
 pub mod LabelLaws
 pub mod SideLaws
-pub mod DifferenceLemmas
+pub mod JournalLemmas
+pub mod CertificateLemmas
 pub mod TrailLemmas
 pub mod DecompositionLemmas

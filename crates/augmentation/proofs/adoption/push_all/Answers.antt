@@ -1,4 +1,4 @@
-use Rattle.std.proofs.Common.{◌≡◌, ◌≤◌, ◌<◌, ◌+◌, ◌^◌, length, arith, rules}
+use Rattle.std.proofs.Common.{◌≤◌, ◌<◌, ◌+◌, ◌^◌, length, arith, rules}
 use Rattle.augmentation.specs.Limits.{left_limit}
 use Rattle.augmentation.specs.Push.{left}
 use Rattle.augmentation.proofs.SettleLemmas.{ArePushes-more, left-small}
