@@ -8,7 +8,8 @@ pub mod TouchedLemmas
 pub mod ApartLemmas
 pub mod TrackedLemmas
 pub mod LabelLaws
-pub mod DifferenceLemmas
+pub mod JournalLemmas
+pub mod CertificateLemmas
 pub mod TrailLemmas
 pub mod DecompositionLemmas
 pub mod TurnedRows

@@ -1,9 +1,11 @@
 -- Tables beside what was kept of them: what was written in turn, and what the noted places name.
-use Rattle.std.proofs.Common.{◌≡◌, ◌≢◌, ℕ, ◌+◌, ◌<◌, ◌≤◌, List, length, drop, refl, sym, ap, subst, ◌∙◌, inl, inr, arith, true}
+use Rattle.std.proofs.Math.Nat.{ℕ_set}
+use Rattle.std.specs.Vec.{with_items}
+use Rattle.std.proofs.Common.{ℤ, ◌≡◌, ◌≢◌, ℕ, ◌+◌, ◌<◌, ◌≤◌, List, length, drop, refl, sym, ap, subst, ◌∙◌, inl, inr, arith, true}
 use Rattle.std.specs.Prelude.{◌⊎◌, Any, slice_set, slice_index_or, vec_capacity}
 use Rattle.std.proofs.lemmas.Bool.{cases_eq, false≢true, false_from_ne_true}
 use Rattle.std.proofs.lemmas.Grind.{get_or_after_one}
-use Rattle.std.proofs.lemmas.List.{length-set, get_or-set_same, get_or-set_other, get_or-take, get_or_read, same_lists, length-take-le, length-drop}
+use Rattle.std.proofs.lemmas.List.{with_items_is, length-set, get_or-set_same, get_or-set_other, get_or-take, get_or_read, same_lists, length-take-le, length-drop}
 use Rattle.augmentation.specs.declared.tracked.Tracked.{Tracked}
 use Rattle.augmentation.specs.Cut.{in_set}
 use Rattle.augmentation.specs.Touched.{NameChanges, AgreeAt, AreNoted}
@@ -135,3 +137,15 @@ module _ {T : Type 0} where
 
   pub kept_named_after_first : (l : Tracked T) (places : List ℕ) → IsTracked l → ((k : ℕ) → in_set l.touched k ≡ true → Any (λ p. p ≡ k) places) → NameChanges 1 places (drop 1 (kept_in l)) (drop 1 l.entries.items)
   kept_named_after_first l places tracked listed = named_after_first places (kept_in l) l.entries.items (kept_named l places tracked listed)
+
+-- ---- entries that are lent as a slice, and come back as they were
+
+abbrev table_of : (t : Tracked ℤ) (ws : List ℤ) → t.entries.len ≡ length ws → Tracked ℤ
+table_of t ws sized = record t { entries = record t.entries { items = ws; ok = (sized, t.entries.ok.1) } }
+
+table_is : (t : Tracked ℤ) (ws : List ℤ) → t.entries.items ≡ ws → (sized : t.entries.len ≡ length ws) → table_of t ws sized ≡ t
+table_is t ws same = subst (λ (zs : List ℤ). (sized : t.entries.len ≡ length zs) → table_of t zs sized ≡ t) same (λ sized. ap (table_of t t.entries.items) (ℕ_set t.entries.len (length t.entries.items) sized t.entries.ok.0))
+
+pub same_table : (t : Tracked ℤ) (ys : List ℤ) → ys ≡ t.entries.items → record t { entries = with_items t.entries ys } ≡ t
+same_table t ys same =
+    table_is t (with_items t.entries ys).items (sym (with_items_is t.entries ys (ap length same ∙ sym t.entries.ok.0) ∙ same)) (with_items t.entries ys).ok.0

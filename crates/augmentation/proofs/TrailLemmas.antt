@@ -1,5 +1,5 @@
 -- Walks back, hop by hop, and the routes that they leave.
-use Rattle.std.proofs.Common.{◌≡◌, ◌≢◌, ℕ, zero, suc, ◌+◌, ◌-◌, ◌<◌, ◌≤◌, ℤ, pos, neg_ℤ, ◌+ℤ◌, ◌≤ℤ◌, List, [], ◌∷◌, length, sym, ap, subst, ◌∙◌, inl, inr, arith, add-one}
+use Rattle.std.proofs.Common.{◌≡◌, ◌≢◌, ℕ, zero, suc, ◌+◌, ◌-◌, ◌<◌, ◌≤◌, ℤ, pos, ◌+ℤ◌, ◌≤ℤ◌, List, [], ◌∷◌, length, sym, ap, subst, ◌∙◌, inl, inr, arith, add-one}
 use Rattle.std.specs.Prelude.{slice_set}
 use Rattle.std.specs.List.{All, AllPairs}
 use Rattle.std.proofs.lemmas.Int.{ints}
@@ -13,13 +13,11 @@ use Rattle.residual_graph.specs.declared.residual.Way.{Way}
 use Rattle.residual_graph.specs.declared.residual.Way.TheVariants.{Forward, Backward}
 use Rattle.residual_graph.specs.Limits.{flow_limit}
 use Rattle.residual_graph.specs.Residual.{IsPseudoflow, IsWithinRow, end_at, number_at, room_of, row_at, start_at}
-use Rattle.augmentation.specs.Push.{HasRoom, IsPath, moved, nodes_on, push_along}
+use Rattle.augmentation.specs.Push.{HasRoom, IsPath, moved, nodes_on}
 use Rattle.augmentation.proofs.PushLemmas.{AreApart, Avoids, HasRoom-set, IsFlow-set, IsWithin-moved}
 use Rattle.shortest_paths.specs.NodeLists.{node_at}
-use Rattle.augmentation.specs.Trail.{AreLimited, AreLimits, CanMove, IsInRange, IsNextLimit, IsRoute, IsRouteBack, IsShiftable, IsTrail, IsWalkBack, Wants, hop_at, hops_back, place_at, want_along}
-use Rattle.augmentation.specs.Difference.{AreNearer, IsNearer, IsPlan, IsPlanned, want_of}
+use Rattle.augmentation.specs.Trail.{AreLimited, AreLimits, CanMove, IsInRange, IsNextLimit, IsRoute, IsRouteBack, IsShiftable, IsTrail, IsWalkBack, hop_at, hops_back, place_at, room_along}
 use Rattle.augmentation.specs.declared.trail.Trail.{Trail}
-use Rattle.augmentation.proofs.DifferenceLemmas.{are_nearer-none, are_nearer-trans, nearer_flow}
 
 abbrev no_hop : ResidualArc
 no_hop = record { arc = 0; way = Forward }
@@ -46,9 +44,6 @@ at_hop P hops (suc n) j lt all = elim (cases_eq j n) [
 
 pub hops_back-one : (hops : List ResidualArc) (n : ℕ) → hops_back hops (n + 1) ≡ hop_at hops n ∷ hops_back hops n
 hops_back-one hops n = ap (hops_back hops) (add-one n)
-
-pub arcs_planned : (nodes : ℕ) (rows : List ArcRow) (x y : List ℤ) (hops : List ResidualArc) → IsPlan nodes rows x y → All (λ h. h.arc < length rows) hops → All (λ h. IsPlanned x y h.arc) hops
-arcs_planned nodes rows x y hops plan all = All-weaker (λ h. h.arc < length rows) (λ h. IsPlanned x y h.arc) (λ h lt. record { nodes = nodes; rows = rows; plan = plan; is_arc = lt }) hops all
 
 -- what is true of each of the first hops, by its place
 pub all_back : (P : ResidualArc → Type 0) (hops : List ResidualArc) (n : ℕ) → ((j : ℕ) → j < n → P (hop_at hops j)) → All P (hops_back hops n)
@@ -106,23 +101,23 @@ walked rows trail t v walk =
 
 -- ---- how much more may be pushed
 
-pub limits_none : (x y : List ℤ) (held : ℤ) (hops : List ResidualArc) (limits : List ℤ) → AreLimited x y held hops limits 0
-limits_none x y held hops limits = record {
+pub limits_none : (rows : List ArcRow) (x : List ℤ) (held : ℤ) (hops : List ResidualArc) (limits : List ℤ) → AreLimited rows x held hops limits 0
+limits_none rows x held hops limits = record {
   fits = omega arith;
   in_range = λ j lt. absurd (omega (arith, lt));
   each = λ i j le lt. absurd (omega (arith, lt));
 }
 
-pub limits_less : (x y : List ℤ) (held : ℤ) (hops : List ResidualArc) (limits : List ℤ) (len keep : ℕ) → keep ≤ len → AreLimited x y held hops limits len → AreLimited x y held hops limits keep
-limits_less x y held hops limits len keep le are = record {
+pub limits_less : (rows : List ArcRow) (x : List ℤ) (held : ℤ) (hops : List ResidualArc) (limits : List ℤ) (len keep : ℕ) → keep ≤ len → AreLimited rows x held hops limits len → AreLimited rows x held hops limits keep
+limits_less rows x held hops limits len keep le are = record {
   fits = omega (arith, le, are.fits);
   in_range = λ j lt. are.in_range j (omega (arith, lt, le));
   each = λ i j before lt. are.each i j before (omega (arith, lt, le));
 }
 
-pub limits_more : (x y : List ℤ) (held : ℤ) (trail : Trail) (h : ResidualArc) (limit : ℤ) → trail.len < length trail.hops.items → trail.len < length trail.limits.items → IsNextLimit x y held trail h limit → AreLimits x y held trail
-    → AreLimited x y held (slice_set trail.hops.items trail.len h) (slice_set trail.limits.items trail.len limit) (trail.len + 1)
-limits_more x y held trail h limit hops_room room next are =
+pub limits_more : (rows : List ArcRow) (x : List ℤ) (held : ℤ) (trail : Trail) (h : ResidualArc) (limit : ℤ) → trail.len < length trail.hops.items → trail.len < length trail.limits.items → IsNextLimit rows x held trail h limit → AreLimits rows x held trail
+    → AreLimited rows x held (slice_set trail.hops.items trail.len h) (slice_set trail.limits.items trail.len limit) (trail.len + 1)
+limits_more rows x held trail h limit hops_room room next are =
     let hops = trail.hops.items in
     let limits = trail.limits.items in
     let len = trail.len in
@@ -138,9 +133,9 @@ limits_more x y held trail h limit hops_room room next are =
         | inl same ↦ (let at : j ≡ len = omega (arith, same, le, lt) in
             let value : number_at (slice_set limits len limit) j ≡ limit = ap (number_at (slice_set limits len limit)) at ∙ last in
             let hop : hop_at (slice_set hops len h) i ≡ h = ap (hop_at (slice_set hops len h)) same ∙ last_hop in
-            subst (λ (g : ResidualArc). number_at (slice_set limits len limit) j ≤ℤ (want_along x y g +ℤ held)) (sym hop) (subst (λ (z : ℤ). z ≤ℤ (want_along x y h +ℤ held)) (sym value) next.here))
+            subst (λ (g : ResidualArc). number_at (slice_set limits len limit) j ≤ℤ (room_along rows x g +ℤ held)) (sym hop) (subst (λ (z : ℤ). z ≤ℤ (room_along rows x h +ℤ held)) (sym value) next.here))
         | inr ne ↦ (let hop : hop_at (slice_set hops len h) i ≡ hop_at hops i = get_or-set_other hops len i h no_hop ne in
-            subst (λ (g : ResidualArc). number_at (slice_set limits len limit) j ≤ℤ (want_along x y g +ℤ held)) (sym hop) (elim (cases_eq j len) [
+            subst (λ (g : ResidualArc). number_at (slice_set limits len limit) j ≤ℤ (room_along rows x g +ℤ held)) (sym hop) (elim (cases_eq j len) [
               | inl same ↦ (let value : number_at (slice_set limits len limit) j ≡ limit = ap (number_at (slice_set limits len limit)) same ∙ last in
                   let lower = next.before (omega (arith, ne, le, same)) in
                   let before = are.each i (len - 1) (omega (arith, ne, le, same)) (omega (arith, ne, le, same)) in
@@ -152,34 +147,32 @@ limits_more x y held trail h limit hops_room room next are =
       ]);
     }
 
-want_in : (way : Way) (x y : ℤ) → pos 0 ≤ℤ x → x ≤ℤ pos flow_limit → pos 0 ≤ℤ y → y ≤ℤ pos flow_limit → (neg_ℤ (pos flow_limit) ≤ℤ want_of way x y) × (want_of way x y ≤ℤ pos flow_limit)
-want_in Forward x y a b d e = (omega (arith, ints, a, b, d, e), omega (arith, ints, a, b, d, e))
-want_in Backward x y a b d e = (omega (arith, ints, a, b, d, e), omega (arith, ints, a, b, d, e))
+room_in : (way : Way) (a : ArcRow) (x : ℤ) → pos 0 ≤ℤ a.low → a.cap ≤ℤ pos flow_limit → IsWithinRow a x → room_of a x way ≤ℤ pos flow_limit
+room_in Forward a x low high within = omega (arith, ints, low, high, within.low_kept)
+room_in Backward a x low high within = omega (arith, ints, low, high, within.cap_kept)
 
--- what is wanted along an arc is no more than what can flow there
-pub want_small : (nodes : ℕ) (rows : List ArcRow) (x y : List ℤ) (h : ResidualArc) → IsPlan nodes rows x y → h.arc < length rows → (neg_ℤ (pos flow_limit) ≤ℤ want_along x y h) × (want_along x y h ≤ℤ pos flow_limit)
-want_small nodes rows x y h plan is_arc =
-    let row = plan.flow.rows h.arc is_arc in
-    let in_x = plan.flow.within h.arc is_arc in
-    let in_y = plan.wanted.within h.arc is_arc in
-    want_in h.way (number_at x h.arc) (number_at y h.arc) (omega (arith, ints, row.low_at_least_0, in_x.low_kept)) (omega (arith, ints, row.cap_in, in_x.cap_kept)) (omega (arith, ints, row.low_at_least_0, in_y.low_kept)) (omega (arith, ints, row.cap_in, in_y.cap_kept))
+-- no more fits along an arc than can flow there
+pub room_small : (nodes : ℕ) (rows : List ArcRow) (x : List ℤ) (h : ResidualArc) → IsPseudoflow nodes rows x → h.arc < length rows → room_along rows x h ≤ℤ pos flow_limit
+room_small nodes rows x h flow is_arc =
+    let row = flow.rows h.arc is_arc in
+    room_in h.way (row_at rows h.arc) (number_at x h.arc) row.low_at_least_0 row.cap_in (flow.within h.arc is_arc)
 
-want_moved : (way : Way) (x y m : ℤ) → want_of way (moved way x m) y +ℤ m ≡ want_of way x y
-want_moved Forward x y m = omega (arith, ints)
-want_moved Backward x y m = omega (arith, ints)
+room_moved : (way : Way) (a : ArcRow) (x m : ℤ) → room_of a (moved way x m) way +ℤ m ≡ room_of a x way
+room_moved Forward a x m = omega (arith, ints)
+room_moved Backward a x m = omega (arith, ints)
 
 -- so much was pushed along all hops, and came to where the walk began
-pub limits_pushed : (x x' y : List ℤ) (held held' m : ℤ) (hops : List ResidualArc) (limits : List ℤ) (len : ℕ) → All (λ h. number_at x' h.arc ≡ moved h.way (number_at x h.arc) m) (hops_back hops len) → held' ≡ held +ℤ m → AreLimited x y held hops limits len → AreLimited x' y held' hops limits len
-limits_pushed x x' y held held' m hops limits len all more are = record {
+pub limits_pushed : (rows : List ArcRow) (x x' : List ℤ) (held held' m : ℤ) (hops : List ResidualArc) (limits : List ℤ) (len : ℕ) → All (λ h. number_at x' h.arc ≡ moved h.way (number_at x h.arc) m) (hops_back hops len) → held' ≡ held +ℤ m → AreLimited rows x held hops limits len → AreLimited rows x' held' hops limits len
+limits_pushed rows x x' held held' m hops limits len all more are = record {
   fits = are.fits;
   in_range = are.in_range;
   each = λ i j le lt.
       (let h = hop_at hops i in
       let at = at_hop (λ g. number_at x' g.arc ≡ moved g.way (number_at x g.arc) m) hops len i (omega (arith, le, lt)) all in
-      let less = want_moved h.way (number_at x h.arc) (number_at y h.arc) m in
-      let want : want_along x' y h ≡ want_of h.way (moved h.way (number_at x h.arc) m) (number_at y h.arc) = ap (λ (z : ℤ). want_of h.way z (number_at y h.arc)) at in
+      let less = room_moved h.way (row_at rows h.arc) (number_at x h.arc) m in
+      let room : room_along rows x' h ≡ room_of (row_at rows h.arc) (moved h.way (number_at x h.arc) m) h.way = ap (λ (z : ℤ). room_of (row_at rows h.arc) z h.way) at in
       let before = are.each i j le lt in
-      omega (arith, ints, less, want, before, more));
+      omega (arith, ints, less, room, before, more));
 }
 
 -- ---- routes
@@ -212,24 +205,16 @@ apart_of rows (h ∷ hops) v w path simple arcs =
       apart_of rows hops (end_at rows h.arc h.way) w path.1 (AllPairs-tail ◌≢◌ v rest simple) (All-tail (λ g. g.arc < length rows) h hops arcs),
     )
 
--- what is wanted fits
-room_of_want : (a : ArcRow) (x y m : ℤ) (way : Way) → IsWithinRow a y → m ≤ℤ want_of way x y → m ≤ℤ room_of a x way
-room_of_want a x y m Forward within le = omega (arith, ints, within.cap_kept, le)
-room_of_want a x y m Backward within le = omega (arith, ints, within.low_kept, le)
+room_of_all : (rows : List ArcRow) (x : List ℤ) (m : ℤ) (hops : List ResidualArc) → All (λ h. m ≤ℤ room_along rows x h) hops → HasRoom rows x m hops
+room_of_all rows x m [] all = tt
+room_of_all rows x m (h ∷ hops) all = (All-head (λ g. m ≤ℤ room_along rows x g) h hops all, room_of_all rows x m hops (All-tail (λ g. m ≤ℤ room_along rows x g) h hops all))
 
-room_of_wants : (nodes : ℕ) (rows : List ArcRow) (x y : List ℤ) (m : ℤ) (hops : List ResidualArc) → IsPseudoflow nodes rows y → All (λ h. h.arc < length rows) hops → All (Wants x y m) hops → HasRoom rows x m hops
-room_of_wants nodes rows x y m [] flow arcs all = tt
-room_of_wants nodes rows x y m (h ∷ hops) flow arcs all = (
-  room_of_want (row_at rows h.arc) (number_at x h.arc) (number_at y h.arc) m h.way (flow.within h.arc (All-head (λ g. g.arc < length rows) h hops arcs)) (All-head (Wants x y m) h hops all),
-  room_of_wants nodes rows x y m hops flow (All-tail (λ g. g.arc < length rows) h hops arcs) (All-tail (Wants x y m) h hops all),
-)
-
-pub route_of : (nodes : ℕ) (rows : List ArcRow) (x y : List ℤ) (m : ℤ) (hops : List ResidualArc) (v t : ℕ) → IsPlan nodes rows x y → IsRouteBack rows hops v t → All (Wants x y m) hops → IsRoute rows x m hops v t
-route_of nodes rows x y m hops v t plan route all = record {
+pub route_of : (rows : List ArcRow) (x : List ℤ) (m : ℤ) (hops : List ResidualArc) (v t : ℕ) → IsRouteBack rows hops v t → All (λ h. m ≤ℤ room_along rows x h) hops → IsRoute rows x m hops v t
+route_of rows x m hops v t route all = record {
   leads = route.leads;
   simple = route.simple;
   arcs = route.arcs;
-  room = room_of_wants nodes rows x y m hops plan.wanted route.arcs all;
+  room = room_of_all rows x m hops all;
 }
 
 -- the first hop is taken
@@ -256,24 +241,3 @@ shift_more x m h hops can =
         };
       },
     )
-
--- ---- a push along a route comes nearer to the wanted flow
-
-wants_set : (x y : List ℤ) (m : ℤ) (k : ℕ) (z : ℤ) (hops : List ResidualArc) → Avoids k hops → All (Wants x y m) hops → All (Wants (slice_set x k z) y m) hops
-wants_set x y m k z [] apart all = All-nil (Wants (slice_set x k z) y m)
-wants_set x y m k z (h ∷ hops) apart all =
-    All-cons (Wants (slice_set x k z) y m) h hops
-    (subst (λ (n : ℤ). m ≤ℤ want_of h.way n (number_at y h.arc)) (sym (get_or-set_other x k h.arc z (pos 0) apart.0)) (All-head (Wants x y m) h hops all))
-    (wants_set x y m k z hops apart.1 (All-tail (Wants x y m) h hops all))
-
-nearer_moved : (x y m : ℤ) (way : Way) → pos 1 ≤ℤ m → m ≤ℤ want_of way x y → IsNearer x y (moved way x m) y
-nearer_moved x y m Forward at_least le = inl (omega (arith, ints, at_least), omega (arith, ints, le), omega (arith, ints))
-nearer_moved x y m Backward at_least le = inr (omega (arith, ints), omega (arith, ints, le), omega (arith, ints, at_least))
-
-pub nearer_along : (rows : List ArcRow) (x y : List ℤ) (m : ℤ) (hops : List ResidualArc) → length x ≡ length rows → pos 1 ≤ℤ m → AreApart rows hops → All (Wants x y m) hops → AreNearer x y (push_along hops m x) y
-nearer_along rows x y m [] sized at_least apart all = are_nearer-none x y
-nearer_along rows x y m (h ∷ hops) sized at_least apart all =
-    let z = moved h.way (number_at x h.arc) m in
-    are_nearer-trans
-    (nearer_flow x y h.arc z (omega (arith, sized, apart.0)) (nearer_moved (number_at x h.arc) (number_at y h.arc) m h.way at_least (All-head (Wants x y m) h hops all)))
-    (nearer_along rows (slice_set x h.arc z) y m hops (length-set x h.arc z ∙ sized) at_least apart.2 (wants_set x y m h.arc z hops apart.1 (All-tail (Wants x y m) h hops all)))

@@ -6,6 +6,7 @@ pub mod Cut
 pub mod Excess
 pub mod Touched
 pub mod Tracked
+pub mod Journal
 pub mod Scratch
 pub mod Difference
 pub mod Trail

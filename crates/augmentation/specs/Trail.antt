@@ -1,4 +1,4 @@
--- A walk back from a node that lacks something to one that has something to give, along arcs on which a wanted flow has more.
+-- A walk back from a node that lacks something to one that has something to give, along arcs whose flow is to change.
 use Rattle.std.specs.Prelude.{◌≡◌, ◌≢◌, ℕ, zero, suc, ◌-◌, ◌<◌, ◌≤◌, ℤ, pos, neg_ℤ, ◌+ℤ◌, ◌≤ℤ◌, List, [], ◌∷◌, length, slice_index_or}
 use Rattle.std.specs.List.{All, AllPairs}
 use Rattle.dimacs_text.specs.declared.problem.ArcRow.{ArcRow}
@@ -8,14 +8,13 @@ use Rattle.residual_graph.specs.Residual.{IsPseudoflow, end_at, number_at, room_
 use Rattle.shortest_paths.specs.NodeLists.{node_at}
 use Rattle.augmentation.specs.Limits.{walk_limit}
 use Rattle.augmentation.specs.Push.{HasRoom, IsPath, nodes_on}
+use Rattle.augmentation.specs.declared.trail.Hop.{Hop}
 use Rattle.augmentation.specs.declared.trail.Trail.{Trail}
-use Rattle.augmentation.specs.Difference.{want_of}
 
 -- the tables have one entry a node
 pub record IsTrailFor (entries : ℕ) (t : Trail) : Type 0 where
   pub dead_sized : length t.dead.items ≡ entries
-  pub current_sized : length t.current.items ≡ entries
-  pub last_sized : length t.last.items ≡ entries
+  pub first_sized : length t.first.items ≡ entries
   pub places_sized : length t.places.items ≡ entries
   pub nodes_sized : length t.nodes.items ≡ entries
   pub hops_sized : length t.hops.items ≡ entries
@@ -29,15 +28,18 @@ abbrev pub hops_back : List ResidualArc → ℕ → List ResidualArc
 hops_back hops zero = []
 hops_back hops (suc n) = hop_at hops n ∷ hops_back hops n
 
--- m or more is wanted along the residual arc
-abbrev pub Wants : List ℤ → List ℤ → ℤ → ResidualArc → Type 0
-Wants x y m h = m ≤ℤ want_of h.way (number_at x h.arc) (number_at y h.arc)
+-- how much fits along the residual arc
+abbrev pub room_along : List ArcRow → List ℤ → ResidualArc → ℤ
+room_along rows x h = room_of (row_at rows h.arc) (number_at x h.arc) h.way
 
--- the residual arc leads to node v, and something is wanted along it
-pub record IsHopBack (rows : List ArcRow) (x y : List ℤ) (v : ℕ) (h : ResidualArc) : Type 0 where
-  pub is_arc : h.arc < length rows
-  pub wants : Wants x y (pos 1) h
-  pub ends : end_at rows h.arc h.way ≡ v
+-- the hop leads to node v, and something that fits is wanted along it
+pub record IsHopBack (nodes : ℕ) (rows : List ArcRow) (x : List ℤ) (v : ℕ) (h : Hop) : Type 0 where
+  pub is_arc : h.arc.arc < length rows
+  pub at_least_1 : pos 1 ≤ℤ h.want
+  pub fits : h.want ≤ℤ room_along rows x h.arc
+  pub from_in : h.from < nodes
+  pub starts : start_at rows h.arc.arc h.arc.way ≡ h.from
+  pub ends : end_at rows h.arc.arc h.arc.way ≡ v
 
 abbrev pub place_at : List ℕ → ℕ → ℕ
 place_at places v = slice_index_or places v 0
@@ -81,23 +83,19 @@ IsInRange z = (neg_ℤ (pos walk_limit) ≤ℤ z) × (z ≤ℤ pos walk_limit)
 abbrev pub AreInRange : List ℤ → ℕ → Type 0
 AreInRange limits len = (j : ℕ) → j < len → IsInRange (number_at limits j)
 
--- so much is wanted along the residual arc
-abbrev pub want_along : List ℤ → List ℤ → ResidualArc → ℤ
-want_along x y h = want_of h.way (number_at x h.arc) (number_at y h.arc)
-
--- where so much is held now, no more than the limit of a hop will be once all is pushed that is wanted along one of the hops up to it
-pub record AreLimited (x y : List ℤ) (held : ℤ) (hops : List ResidualArc) (limits : List ℤ) (len : ℕ) : Type 0 where
+-- where so much is held now, the limit of a hop is no more than will be held once all is pushed that fits along one of the hops up to it
+pub record AreLimited (rows : List ArcRow) (x : List ℤ) (held : ℤ) (hops : List ResidualArc) (limits : List ℤ) (len : ℕ) : Type 0 where
   pub fits : len ≤ length limits
   pub in_range : AreInRange limits len
-  pub each : (i j : ℕ) → i ≤ j → j < len → number_at limits j ≤ℤ (want_along x y (hop_at hops i) +ℤ held)
+  pub each : (i j : ℕ) → i ≤ j → j < len → number_at limits j ≤ℤ (room_along rows x (hop_at hops i) +ℤ held)
 
-abbrev pub AreLimits : List ℤ → List ℤ → ℤ → Trail → Type 0
-AreLimits x y held trail = AreLimited x y held trail.hops.items trail.limits.items trail.len
+abbrev pub AreLimits : List ArcRow → List ℤ → ℤ → Trail → Type 0
+AreLimits rows x held trail = AreLimited rows x held trail.hops.items trail.limits.items trail.len
 
 -- the limit is one for this hop too, behind those of a walk
-pub record IsNextLimit (x y : List ℤ) (held : ℤ) (trail : Trail) (h : ResidualArc) (limit : ℤ) : Type 0 where
+pub record IsNextLimit (rows : List ArcRow) (x : List ℤ) (held : ℤ) (trail : Trail) (h : ResidualArc) (limit : ℤ) : Type 0 where
   pub in_range : IsInRange limit
-  pub here : limit ≤ℤ (want_along x y h +ℤ held)
+  pub here : limit ≤ℤ (room_along rows x h +ℤ held)
   pub before : 0 < trail.len → limit ≤ℤ number_at trail.limits.items (trail.len - 1)
 
 -- the hops lead from node v to node t and meet no node twice; m more fits on each

@@ -1,121 +1,142 @@
 //! Proposals that are taken where they are certified, and pushes from there.
 
-ghost use Rattle.std.specs.Prelude.{◌≡◌, length, IfSome, IsTrue, MatchOption};
+ghost use Rattle.std.specs.Prelude.{◌≡◌, ℕ, ◌<◌, ◌≤◌, length, IfNone, IfSome, IsTrue, MatchOption, true};
 ghost use Rattle.shortest_paths.specs.Limits.{label_floor};
 ghost use Rattle.residual_graph.specs.Graph.{HasEntries};
-ghost use Rattle.residual_graph.specs.Residual.{ArePotentials, IsPseudoflow, IsReducedCostOptimal};
-ghost use Rattle.augmentation.specs.Cut.{IsParted};
+ghost use Rattle.residual_graph.specs.Residual.{ArePotentials, IsPseudoflow, IsReducedCostOptimal, NoneBelow};
+ghost use Rattle.augmentation.specs.Cut.{IsParted, in_set};
+ghost use Rattle.augmentation.specs.Decomposition.{IsOnTheWay, entries_of};
+ghost use Rattle.augmentation.specs.Journal.{IsJournal, IsSince};
 ghost use Rattle.augmentation.specs.Push.{ArePushes, AreSmall};
 ghost use Rattle.augmentation.specs.Scratch.{IsScratchFor};
 ghost use Rattle.augmentation.specs.Tracked.{IsTracked, IsWritten};
 ghost use Rattle.augmentation.specs.Adoption.{IsAsBefore, IsCertifiedBy};
-ghost use Rattle.augmentation.specs.Certificate.{AreWithin};
 ghost use Rattle.augmentation.specs.Trail.{IsTrailFor};
 
-use crate::certificate::{certifies, is_within};
+use crate::certificate::still_certifies;
 use crate::decomposition::push_towards;
 use crate::draft::Draft;
 use crate::excess::Excess;
+use crate::journal::Journal;
 use crate::rounds::{FIRST_PUSHES, finish, push_first};
 use crate::scratch::Scratch;
 use crate::setting::Setting;
+use crate::touched::Touched;
 use crate::tracked::Tracked;
 use crate::trail::Trail;
 use crate::wanted::shift_potentials;
 use proposals::Wanted;
 use residual_graph::Graph;
+use std::mem;
 
 /// With no more nodes out of balance than these no proposal of a greatest flow is made: so few pushes are quicker than one
 /// look at all arcs.
 const FEW: usize = 32;
 
-/// Whether a proposal has an entry for each arc and each node, and its flow keeps the bounds.
-fn fits(graph: &Graph, excess: &[i64], wanted: &Wanted) -> bool
-    ensures within { IsTrue result → AreWithin graph.now.rows wanted.now.flow.items }
+/// Whether a proposal has an entry for each node, and there is room for what stood in the flow.
+fn fits(flow: &[i64], excess: &[i64], wanted: &Wanted, draft: &Draft) -> bool
+    ensures room { IsTrue result → length flow.now ≤ length draft.now.journal.before.items }
     ensures rests { IsTrue result → length wanted.now.rests.items ≡ length excess.now }
     ensures potentials { IsTrue result → length wanted.now.potentials.items ≡ length excess.now }
 {
     wanted.rests.len() == excess.len()
         && wanted.potentials.len() == excess.len()
-        && is_within(graph, &wanted.flow)
+        && draft.journal.before.len() >= flow.len()
 }
 
 /// Leads a flow towards the proposed one, and counts the pushes: nothing where the proposed potentials do not certify what
-/// comes of it.
+/// comes of it, and then the flow is as it was.
 fn lead(
-    graph: &Graph,
+    setting: Setting<'_>,
     flow: &mut [i64],
-    excess: &mut [i64],
-    wanted: &mut Wanted,
-    trail: &mut Trail,
+    draft: &mut Draft,
+    before: &[i64],
+    potentials: &[i64],
 ) -> Option<u64>
-    requires graph { HasEntries (length excess.old) graph.now }
-    requires flow { IsPseudoflow (length excess.old) graph.now.rows flow.old }
-    requires small { AreSmall excess.old }
-    requires within { AreWithin graph.now.rows wanted.old.flow.items }
-    requires rests { length wanted.old.rests.items ≡ length excess.old }
-    requires potentials { length wanted.old.potentials.items ≡ length excess.old }
-    requires trail { IsTrailFor (length excess.old) trail.old }
-    ensures some { IfSome result (λ n. IsCertifiedBy graph.now n flow.old excess.old flow.new excess.new wanted.new.potentials.items) }
-    ensures trail { IsTrailFor (length excess.old) trail.new }
+    requires state { IsOnTheWay (entries_of setting.graph.now) setting.graph.now.rows flow.old draft.old.excess.items }
+    requires none_below { NoneBelow setting.graph.now.rows flow.old before.now }
+    requires before { ArePotentials (entries_of setting.graph.now) label_floor before.now }
+    requires potentials { length potentials.now ≡ entries_of setting.graph.now }
+    requires journal { IsJournal draft.old.journal }
+    requires room { length flow.old ≤ length draft.old.journal.before.items }
+    requires trail { IsTrailFor (entries_of setting.graph.now) draft.old.trail }
+    ensures none { IfNone result (flow.new ≡ flow.old) }
+    ensures some { IfSome result (λ n. IsCertifiedBy setting.entry.graph.now n flow.old draft.old.excess.items flow.new draft.new.excess.items potentials.now) }
+    ensures since { IfSome result (λ n. IsSince draft.new.journal flow.old flow.new) }
+    ensures journal { IsJournal draft.new.journal }
+    ensures trail { IsTrailFor (entries_of setting.entry.graph.now) draft.new.trail }
 {
-    shift_potentials(&mut wanted.potentials);
-    let setting = Setting {
-        graph,
-        rests: &wanted.rests,
-    };
-    let pushes = push_towards(setting, flow, &mut wanted.flow, excess, trail);
-    if certifies(graph, flow, &wanted.potentials) {
+    draft.journal.clear();
+    let pushes = push_towards(
+        setting,
+        flow,
+        &mut draft.journal,
+        &mut draft.excess,
+        &mut draft.trail,
+    );
+    if still_certifies(
+        setting.graph,
+        flow,
+        &draft.journal.written,
+        before,
+        potentials,
+    ) {
         Some(pushes)
     } else {
+        draft.journal.bring_back(flow);
         None
     }
 }
 
-/// Leads copies of a flow and of its excess towards the proposed flow, and counts the pushes: nothing where the proposal
-/// does not serve.
+/// Leads a flow towards the proposed one, with a copy of its excess, and counts the pushes: nothing where the proposal does
+/// not serve, and then the flow is as it was.
 fn draw(
     graph: &Graph,
-    flow: &[i64],
+    flow: &mut [i64],
     excess: &[i64],
+    potentials: &[i64],
     wanted: &mut Wanted,
     draft: &mut Draft,
 ) -> Option<u64>
     requires graph { HasEntries (length excess.now) graph.now }
-    requires flow { IsPseudoflow (length excess.now) graph.now.rows flow.now }
+    requires flow { IsPseudoflow (length excess.now) graph.now.rows flow.old }
+    requires none_below { NoneBelow graph.now.rows flow.old potentials.now }
+    requires potentials { ArePotentials (length excess.now) label_floor potentials.now }
     requires small { AreSmall excess.now }
+    requires journal { IsJournal draft.old.journal }
     requires trail { IsTrailFor (length excess.now) draft.old.trail }
-    ensures some { IfSome result (λ n. IsCertifiedBy graph.now n flow.now excess.now draft.new.flow.items draft.new.excess.items wanted.new.potentials.items) }
+    ensures none { IfNone result (flow.new ≡ flow.old) }
+    ensures some { IfSome result (λ n. IsCertifiedBy graph.now n flow.old excess.now flow.new draft.new.excess.items wanted.new.potentials.items) }
+    ensures since { IfSome result (λ n. IsSince draft.new.journal flow.old flow.new) }
+    ensures journal { IsJournal draft.new.journal }
     ensures trail { IsTrailFor (length excess.now) draft.new.trail }
 {
-    if !fits(graph, excess, wanted) {
+    if !fits(flow, excess, wanted, draft) {
         return None;
     }
-    draft.flow.clear();
-    draft.flow.extend_from_slice(flow).ok()?;
     draft.excess.clear();
     draft.excess.extend_from_slice(excess).ok()?;
-    lead(
+    shift_potentials(&mut wanted.potentials);
+    mem::swap(&mut wanted.changes, &mut draft.trail.changes);
+    let setting = Setting {
         graph,
-        &mut draft.flow,
-        &mut draft.excess,
-        wanted,
-        &mut draft.trail,
-    )
+        rests: &wanted.rests,
+    };
+    let pushes = lead(setting, flow, draft, potentials, &wanted.potentials);
+    mem::swap(&mut wanted.changes, &mut draft.trail.changes);
+    pushes
 }
 
-/// Makes a flow the same as a copy.
+/// Notes the places in a journal.
 #[inline(never)] // a name of its own in the program: `bench/count` counts its calls
-fn take_flow(flow: &mut Tracked<i64>, copy: &[i64])
-    requires tracked { IsTracked flow.old }
-    requires same_length { length copy.now ≡ length flow.old.entries.items }
-    ensures written { IsWritten flow.old flow.new }
-    ensures same { flow.new.entries.items ≡ copy.now }
+fn note_written(touched: &mut Touched, journal: &Journal)
+    requires room { (k : ℕ) → in_set journal.now.written k ≡ true → k < length touched.old }
+    ensures same_size { length touched.new ≡ length touched.old }
+    ensures still { (k : ℕ) → in_set touched.old k ≡ true → in_set touched.new k ≡ true }
+    ensures noted { (k : ℕ) → in_set journal.now.written k ≡ true → in_set touched.new k ≡ true }
 {
-    for k in 0..copy.len() {
-        if flow.entries[k] != copy[k] {
-            flow.set(k, copy[k]);
-        }
+    for place in journal.written.places() {
+        touched.note(*place as usize);
     }
 }
 
@@ -151,19 +172,25 @@ pub fn adopt(
     ensures scratch { IsScratchFor (length scratch.old.potentials.items) scratch.new }
 {
     let attempt = &mut scratch.attempt;
-    let pushes = draw(
+    let drawn = draw(
         graph,
-        &flow.entries,
+        &mut flow.entries,
         excess.entries(),
+        &scratch.potentials,
         &mut attempt.wanted,
         &mut attempt.draft,
-    )?;
-    take_flow(flow, &attempt.draft.flow);
-    take_excess(excess, &attempt.draft.excess);
-    scratch
-        .potentials
-        .copy_from_slice(&scratch.attempt.wanted.potentials);
-    Some(pushes)
+    );
+    match drawn {
+        Some(pushes) => {
+            note_written(&mut flow.touched, &attempt.draft.journal);
+            take_excess(excess, &attempt.draft.excess);
+            scratch
+                .potentials
+                .copy_from_slice(&scratch.attempt.wanted.potentials);
+            Some(pushes)
+        }
+        None => None,
+    }
 }
 
 /// Whether a proposal pays: for a flow of least cost where both excess and deficit are left, and for a greatest flow where

@@ -6,7 +6,6 @@ ghost use Rattle.residual_graph.specs.Residual.{IsPseudoflow};
 ghost use Rattle.augmentation.specs.Attempt.{IsAttemptFor};
 
 use crate::draft::Draft;
-use crate::trail::Trail;
 use proposals::{Aim, Proposals, Wanted};
 use residual_graph::Graph;
 use std::alloc::{AllocError, Global};
@@ -14,7 +13,7 @@ use std::alloc::{AllocError, Global};
 /// The most arcs for which a proposal has room.
 const MOST_ARCS: usize = 1_000_000_000;
 
-/// A proposal: what makes it, what it comes to, and the copies on which it is tried.
+/// A proposal: what makes it, what it comes to, and the tables in which it is tried.
 #[derive(Drop)]
 pub struct Attempt {
     pub proposals: Proposals,
@@ -23,7 +22,7 @@ pub struct Attempt {
 }
 
 impl Attempt {
-    /// Tables for so many entries, and for the flows of so many arcs.
+    /// Tables for so many entries, and for so many arcs.
     ///
     /// # Errors
     /// Memory for a table was refused.
@@ -34,17 +33,11 @@ impl Attempt {
         let arcs = arcs.min(MOST_ARCS);
         let proposals = Proposals::new(alloc, entries, arcs)?;
         let wanted = Wanted::new(alloc, entries, arcs)?;
-        let flow = Vec::with_capacity(alloc, arcs)?;
-        let excess = Vec::with_capacity(alloc, entries)?;
-        let trail = Trail::new(alloc, entries)?;
+        let draft = Draft::new(alloc, entries, arcs)?;
         Ok(Attempt {
             proposals,
             wanted,
-            draft: Draft {
-                flow,
-                excess,
-                trail,
-            },
+            draft,
         })
     }
 

@@ -1,12 +1,18 @@
 //! Whether potentials certify a flow.
 
-ghost use Rattle.std.specs.Prelude.{◌≡◌, ◌↔◌, ◌+ℤ◌, ◌-ℤ◌, IsTrue, length};
+ghost use Rattle.std.specs.Prelude.{◌≡◌, ◌↔◌, ◌⊎◌, ℕ, ℤ, ◌<◌, ◌+ℤ◌, ◌-ℤ◌, IsTrue, List, length, true, false};
 ghost use Rattle.shortest_paths.specs.Limits.{label_floor};
-ghost use Rattle.residual_graph.specs.Residual.{ArePotentials, IsPseudoflow, IsRow, IsWithinRow, NoneBelow, cost_of, end_of, number_at, start_of};
-ghost use Rattle.augmentation.specs.Certificate.{AreWithin, IsNoneBelowAt, KeepsRow};
+ghost use Rattle.residual_graph.specs.Graph.{HasEntries};
+ghost use Rattle.augmentation.specs.Cut.{in_set};
+ghost use Rattle.residual_graph.specs.Residual.{ArePotentials, IsPseudoflow, IsRow, IsWithinRow, NoneBelow, cost_of, end_of, number_at, row_at, start_of};
+ghost use Rattle.augmentation.specs.Certificate.{AreWithin, IsNoneBelowAt, KeepsAt, KeepsRow};
 
+use crate::touched::Touched;
 use dimacs_text::ArcRow;
-use residual_graph::{Graph, Way};
+use residual_graph::{Graph, Walk, Way};
+
+/// Where more nodes than one in so many have a potential apart, all arcs are looked at in turn.
+const MOST_APART: usize = 8;
 
 /// The least potential with which a run of pushes begins.
 const FLOOR: i64 = -50_000_000_000_000_000;
@@ -59,6 +65,17 @@ fn keeps_row(row: &ArcRow, flow: i64, potentials: &[i64]) -> bool
         && keeps_way(row, flow, potentials, Way::Backward)
 }
 
+/// Whether this is so of the arc in a row.
+fn keeps_arc(graph: &Graph, flow: &[i64], potentials: &[i64], k: usize) -> bool
+    requires arc { k < length graph.now.rows }
+    requires flow { IsPseudoflow (length potentials.now) graph.now.rows flow.now }
+    requires potentials { ArePotentials (length potentials.now) label_floor potentials.now }
+    ensures { IsTrue result ↔ KeepsRow (row_at graph.now.rows k) (number_at flow.now k) potentials.now }
+{
+    let row = graph.row(k);
+    keeps_row(&row, flow[k], potentials)
+}
+
 /// Whether potentials certify a flow: each is in the range with which a run of pushes begins, and no residual arc has a
 /// reduced cost below 0.
 pub fn certifies(graph: &Graph, flow: &[i64], potentials: &[i64]) -> bool
@@ -69,12 +86,119 @@ pub fn certifies(graph: &Graph, flow: &[i64], potentials: &[i64]) -> bool
         return false;
     }
     for k in 0..graph.rows().len() {
-        let row = graph.row(k);
-        if !keeps_row(&row, flow[k], potentials) {
+        if !keeps_arc(graph, flow, potentials, k) {
             return false;
         }
     }
     true
+}
+
+/// Whether potentials certify the flow of these arcs.
+fn keep_arcs(graph: &Graph, flow: &[i64], potentials: &[i64], arcs: &Touched) -> bool
+    requires flow { IsPseudoflow (length potentials.now) graph.now.rows flow.now }
+    requires potentials { ArePotentials (length potentials.now) label_floor potentials.now }
+    ensures { IsTrue result → (k : ℕ) → k < length graph.now.rows → in_set arcs.now k ≡ true → KeepsRow (row_at graph.now.rows k) (number_at flow.now k) potentials.now }
+{
+    for place in arcs.places() {
+        let k = *place as usize;
+        if k >= flow.len() {
+            continue;
+        }
+        if !keeps_arc(graph, flow, potentials, k) {
+            return false;
+        }
+    }
+    true
+}
+
+/// Whether potentials certify the flow of each arc at a node.
+fn keep_node(graph: &Graph, flow: &[i64], potentials: &[i64], node: u32) -> bool
+    requires graph { HasEntries (length potentials.now) graph.now }
+    requires flow { IsPseudoflow (length potentials.now) graph.now.rows flow.now }
+    requires potentials { ArePotentials (length potentials.now) label_floor potentials.now }
+    requires node_in { node < length potentials.now }
+    ensures { IsTrue result → KeepsAt graph.now.rows flow.now potentials.now node }
+{
+    let mut walk = Walk::at(graph, node);
+    while let Some(end) = walk.next(graph) {
+        let leaving = end.leaving();
+        if !keeps_arc(graph, flow, potentials, leaving.arc as usize) {
+            return false;
+        }
+    }
+    true
+}
+
+/// Whether the potential of a node fell by `fall`.
+fn has_fallen(before: &[i64], potentials: &[i64], v: usize, fall: i64) -> bool
+    requires node { v < length potentials.now }
+    requires same_length { length before.now ≡ length potentials.now }
+    requires before { ArePotentials (length before.now) label_floor before.now }
+    requires potentials { ArePotentials (length potentials.now) label_floor potentials.now }
+    ensures { IsTrue result ↔ (number_at before.now v -ℤ number_at potentials.now v ≡ fall) }
+{
+    before[v] - potentials[v] == fall
+}
+
+/// How many potentials did not fall by `fall`.
+fn count_apart(before: &[i64], potentials: &[i64], fall: i64) -> usize
+    requires same_length { length before.now ≡ length potentials.now }
+    requires before { ArePotentials (length before.now) label_floor before.now }
+    requires potentials { ArePotentials (length potentials.now) label_floor potentials.now }
+{
+    let mut count: usize = 0;
+    for v in 0..potentials.len() {
+        if !has_fallen(before, potentials, v, fall) {
+            count = count.saturating_add(1);
+        }
+    }
+    count
+}
+
+/// Whether potentials certify the flow of each arc at a node whose potential did not fall by `fall`.
+fn keep_nodes(graph: &Graph, flow: &[i64], before: &[i64], potentials: &[i64], fall: i64) -> bool
+    requires graph { HasEntries (length potentials.now) graph.now }
+    requires flow { IsPseudoflow (length potentials.now) graph.now.rows flow.now }
+    requires same_length { length before.now ≡ length potentials.now }
+    requires before { ArePotentials (length before.now) label_floor before.now }
+    requires potentials { ArePotentials (length potentials.now) label_floor potentials.now }
+    ensures { IsTrue result → (v : ℕ) → v < length potentials.now → (number_at before.now v -ℤ number_at potentials.now v ≡ fall) ⊎ KeepsAt graph.now.rows flow.now potentials.now v }
+{
+    for v in 0..potentials.len() {
+        if has_fallen(before, potentials, v, fall) {
+            continue;
+        }
+        if !keep_node(graph, flow, potentials, v as u32) {
+            return false;
+        }
+    }
+    true
+}
+
+/// Whether potentials certify a flow that comes of one that other potentials certify, where the flow of these arcs moved.
+/// Where most potentials fell by as much as that of entry 0, which no node has, few arcs are looked at.
+pub(crate) fn still_certifies(
+    graph: &Graph,
+    flow: &[i64],
+    moved: &Touched,
+    before: &[i64],
+    potentials: &[i64],
+) -> bool
+    requires graph { HasEntries (length potentials.now) graph.now }
+    requires flow { IsPseudoflow (length potentials.now) graph.now.rows flow.now }
+    requires same_length { length before.now ≡ length potentials.now }
+    requires before { ArePotentials (length before.now) label_floor before.now }
+    ensures in_range { IsTrue result → ArePotentials (length potentials.now) label_floor potentials.now }
+    ensures none_below { IsTrue result → (x : List ℤ) → NoneBelow graph.now.rows x before.now → ((k : ℕ) → in_set moved.now k ≡ false → number_at flow.now k ≡ number_at x k) → NoneBelow graph.now.rows flow.now potentials.now }
+{
+    if !are_in_range(potentials) {
+        return false;
+    }
+    let fall = before[0] - potentials[0];
+    if count_apart(before, potentials, fall) > potentials.len() / MOST_APART {
+        return certifies(graph, flow, potentials);
+    }
+    keep_arcs(graph, flow, potentials, moved) && keep_nodes(graph, flow, before, potentials, fall)
 }
 
 /// Whether a flow has one entry an arc, each within the bounds.

@@ -1,15 +1,16 @@
 //! Pushes that lead a flow towards a wanted one.
 
-ghost use Rattle.std.specs.Prelude.{◌≡◌, length, slice_set, ◌<◌, ◌≤◌};
+ghost use Rattle.std.specs.Prelude.{◌≡◌, ℕ, ℤ, List, length, slice_set, ◌<◌, ◌≤◌};
 ghost use Rattle.residual_graph.specs.Residual.{number_at};
+ghost use Rattle.augmentation.specs.Journal.{IsJournal, IsSince};
 ghost use Rattle.augmentation.specs.Push.{ArePushes, moved, push_along};
 ghost use Rattle.augmentation.specs.Decomposition.{IsLedOn, IsOnTheWay, entries_of};
 ghost use Rattle.augmentation.specs.Trail.{AreLimits, CanMove, IsShiftable, IsTrail, IsTrailFor, hops_back};
-ghost use Rattle.augmentation.specs.Difference.{AreBetween};
 
 use crate::augment::{FoundPath, transfer};
 use crate::difference::{lacking, spare};
-use crate::route::step;
+use crate::journal::Journal;
+use crate::route::{list_changes, step};
 use crate::setting::Setting;
 use crate::trail::Trail;
 use residual_graph::{ResidualArc, Way};
@@ -27,15 +28,22 @@ fn shift_on(flow: &mut [i64], hop: ResidualArc, amount: i64)
 }
 
 /// Moves `amount` along the hops of the walk.
-fn shift(flow: &mut [i64], trail: &Trail, amount: i64)
+fn shift(flow: &mut [i64], journal: &mut Journal, trail: &Trail, amount: i64)
     requires fits { trail.now.len ≤ length trail.now.hops.items }
     requires route { IsShiftable flow.old amount (hops_back trail.now.hops.items trail.now.len) }
-    ensures { flow.new ≡ push_along (hops_back trail.now.hops.items trail.now.len) amount flow.old }
+    requires journal { IsJournal journal.old }
+    requires room { length flow.old ≤ length journal.old.before.items }
+    ensures flow { flow.new ≡ push_along (hops_back trail.now.hops.items trail.now.len) amount flow.old }
+    ensures journal { IsJournal journal.new }
+    ensures room { length journal.new.before.items ≡ length journal.old.before.items }
+    ensures since { (x : List ℤ) → IsSince journal.old x flow.old → IsSince journal.new x flow.new }
 {
     let mut j = trail.len;
     while j > 0 {
         j -= 1;
-        shift_on(flow, trail.hop(j), amount);
+        let next = trail.hop(j);
+        journal.note(flow, next.arc as usize);
+        shift_on(flow, next, amount);
     }
 }
 
@@ -43,18 +51,23 @@ fn shift(flow: &mut [i64], trail: &Trail, amount: i64)
 fn push_route(
     setting: Setting<'_>,
     flow: &mut [i64],
-    wanted: &[i64],
+    journal: &mut Journal,
     excess: &mut [i64],
     trail: &Trail,
     path: FoundPath,
 ) -> u64
-    requires state { IsOnTheWay (entries_of setting.graph.now) setting.graph.now.rows flow.old wanted.now excess.old }
+    requires state { IsOnTheWay (entries_of setting.graph.now) setting.graph.now.rows flow.old excess.old }
+    requires journal { IsJournal journal.old }
+    requires room { length flow.old ≤ length journal.old.before.items }
     requires root_in { path.root < entries_of setting.graph.now }
     requires target_in { path.target < entries_of setting.graph.now }
     requires walk { IsTrail setting.graph.now.rows trail.now path.target path.root }
-    requires limits { AreLimits flow.old wanted.now (number_at excess.old path.target) trail.now }
-    ensures led { IsLedOn (entries_of setting.entry.graph.now) setting.entry.graph.now.rows result flow.old wanted.now excess.old flow.new wanted.now excess.new }
-    ensures limits { AreLimits flow.new wanted.now (number_at excess.new path.target) trail.now }
+    requires limits { AreLimits setting.graph.now.rows flow.old (number_at excess.old path.target) trail.now }
+    ensures led { IsLedOn (entries_of setting.entry.graph.now) setting.entry.graph.now.rows result flow.old excess.old flow.new excess.new }
+    ensures journal { IsJournal journal.new }
+    ensures room { length journal.new.before.items ≡ length journal.old.before.items }
+    ensures since { (x : List ℤ) → IsSince journal.old x flow.old → IsSince journal.new x flow.new }
+    ensures limits { AreLimits setting.entry.graph.now.rows flow.new (number_at excess.new path.target) trail.now }
 {
     let gives = spare(excess[path.root], setting.rests[path.root]);
     let takes = lacking(excess[path.target], setting.rests[path.target]);
@@ -62,7 +75,7 @@ fn push_route(
     if amount <= 0 {
         return 0;
     }
-    shift(flow, trail, amount);
+    shift(flow, journal, trail, amount);
     transfer(excess, path.root, path.target, amount);
     1
 }
@@ -72,15 +85,20 @@ fn push_route(
 fn push_to(
     setting: Setting<'_>,
     flow: &mut [i64],
-    wanted: &mut [i64],
+    journal: &mut Journal,
     excess: &mut [i64],
     trail: &mut Trail,
     target: usize,
 ) -> u64
-    requires state { IsOnTheWay (entries_of setting.graph.now) setting.graph.now.rows flow.old wanted.old excess.old }
+    requires state { IsOnTheWay (entries_of setting.graph.now) setting.graph.now.rows flow.old excess.old }
+    requires journal { IsJournal journal.old }
+    requires room { length flow.old ≤ length journal.old.before.items }
     requires trail { IsTrailFor (entries_of setting.graph.now) trail.old }
     requires target_in { target < entries_of setting.graph.now }
-    ensures led { IsLedOn (entries_of setting.entry.graph.now) setting.entry.graph.now.rows result flow.old wanted.old excess.old flow.new wanted.new excess.new }
+    ensures led { IsLedOn (entries_of setting.entry.graph.now) setting.entry.graph.now.rows result flow.old excess.old flow.new excess.new }
+    ensures journal { IsJournal journal.new }
+    ensures room { length journal.new.before.items ≡ length journal.old.before.items }
+    ensures since { (x : List ℤ) → IsSince journal.old x flow.old → IsSince journal.new x flow.new }
     ensures trail { IsTrailFor (entries_of setting.entry.graph.now) trail.new }
 {
     let mut pushes = 0;
@@ -98,7 +116,7 @@ fn push_to(
             pushes += push_route(
                 setting,
                 flow,
-                wanted,
+                journal,
                 excess,
                 trail,
                 FoundPath { root, target },
@@ -109,7 +127,7 @@ fn push_to(
             if !trail.spend(0) {
                 return pushes;
             }
-            match step(setting.graph, flow, wanted, trail, node, excess[target]) {
+            match step(setting.graph, flow, trail, node, excess[target]) {
                 Some(next) => node = next,
                 None => return pushes,
             }
@@ -118,27 +136,31 @@ fn push_to(
     pushes
 }
 
-/// Pushes flow towards a wanted one, and counts the pushes: along paths on which the wanted flow has more, from nodes in
-/// excess to nodes in deficit, of which so much is left alone as is to rest there. Circles are left out, and taken off the
-/// wanted flow.
+/// Pushes flow towards a wanted one, and counts the pushes: along paths of arcs whose flow is to change, from nodes in
+/// excess to nodes in deficit, of which so much is left alone as is to rest there. Circles are left out.
 pub fn push_towards(
     setting: Setting<'_>,
     flow: &mut [i64],
-    wanted: &mut [i64],
+    journal: &mut Journal,
     excess: &mut [i64],
     trail: &mut Trail,
 ) -> u64
-    requires state { IsOnTheWay (entries_of setting.graph.now) setting.graph.now.rows flow.old wanted.old excess.old }
+    requires state { IsOnTheWay (entries_of setting.graph.now) setting.graph.now.rows flow.old excess.old }
+    requires journal { IsJournal journal.old }
+    requires room { length flow.old ≤ length journal.old.before.items }
     requires trail { IsTrailFor (entries_of setting.graph.now) trail.old }
-    ensures state { IsOnTheWay (entries_of setting.entry.graph.now) setting.entry.graph.now.rows flow.new wanted.new excess.new }
-    ensures between { AreBetween flow.old flow.new wanted.old }
+    ensures state { IsOnTheWay (entries_of setting.entry.graph.now) setting.entry.graph.now.rows flow.new excess.new }
+    ensures journal { IsJournal journal.new }
+    ensures room { length journal.new.before.items ≡ length journal.old.before.items }
+    ensures since { (x : List ℤ) → IsSince journal.old x flow.old → IsSince journal.new x flow.new }
     ensures pushes { ArePushes setting.entry.graph.now.rows result flow.old excess.old flow.new excess.new }
     ensures trail { IsTrailFor (entries_of setting.entry.graph.now) trail.new }
 {
-    trail.refresh(flow.len());
+    trail.refresh();
+    list_changes(setting.graph, flow, trail);
     let mut pushes = 0;
     for target in 0..excess.len() {
-        pushes += push_to(setting, flow, wanted, excess, trail, target);
+        pushes += push_to(setting, flow, journal, excess, trail, target);
     }
     pushes
 }

@@ -1,44 +1,24 @@
-//! What a wanted flow has more than a flow, and what a node has to give or to take on the way to it.
+//! What is wanted along a residual arc, and what a node has to give or to take.
 
-ghost use Rattle.std.specs.Prelude.{◌≡◌, pos, neg_ℤ, ◌≤ℤ◌};
-ghost use Rattle.residual_graph.specs.Residual.{number_at};
+ghost use Rattle.std.specs.Prelude.{◌≡◌, ℕ, pos, neg_ℤ, ◌≤ℤ◌};
+ghost use Rattle.residual_graph.specs.Residual.{IsRow, IsWithinRow, room_of};
 ghost use Rattle.augmentation.specs.Limits.{excess_limit};
-ghost use Rattle.augmentation.specs.Difference.{AreNearer, IsPlanned, lack_of, spare_of, want_of};
+ghost use Rattle.augmentation.specs.Difference.{lack_of, spare_of};
 
-use residual_graph::{ResidualArc, Way};
+use dimacs_text::ArcRow;
+use residual_graph::Way;
 
-/// How much more the wanted flow has along a residual arc.
-pub fn want_on(flow: &[i64], wanted: &[i64], hop: ResidualArc) -> i64
-    requires { IsPlanned flow.now wanted.now hop.arc }
-    ensures { result ≡ want_of hop.way (number_at flow.now hop.arc) (number_at wanted.now hop.arc) }
+/// How much more is wanted along a residual arc where its arc is to carry `goal`: no more than fits.
+pub fn want_on(row: &ArcRow, flow: i64, goal: i64, way: Way) -> i64
+    requires row { (nodes : ℕ) × IsRow nodes row.now }
+    requires within { IsWithinRow row.now flow }
+    ensures { result ≤ℤ room_of row.now flow way }
 {
-    let k = hop.arc as usize;
-    match hop.way {
-        Way::Forward => wanted[k] - flow[k],
-        Way::Backward => flow[k] - wanted[k],
-    }
-}
-
-/// An amount, where it is above 0, and at most `most`.
-fn within(amount: i64, most: i64) -> i64
-    ensures not_below_0 { pos 0 ≤ℤ result }
-    ensures at_most { pos 0 ≤ℤ most → result ≤ℤ most }
-    ensures none { most ≤ℤ pos 0 → result ≡ pos 0 }
-{
-    amount.min(most).max(0)
-}
-
-/// Takes `amount` off what the wanted flow has more along a residual arc, and at most all of that.
-pub fn cancel(flow: &[i64], wanted: &mut [i64], hop: ResidualArc, amount: i64)
-    requires { IsPlanned flow.now wanted.old hop.arc }
-    ensures { AreNearer flow.now wanted.old flow.now wanted.new }
-{
-    let k = hop.arc as usize;
-    let less = within(amount, want_on(flow, wanted, hop));
-    match hop.way {
-        Way::Forward => wanted[k] -= less,
-        Way::Backward => wanted[k] += less,
-    }
+    let more = match way {
+        Way::Forward => goal.saturating_sub(flow),
+        Way::Backward => flow.saturating_sub(goal),
+    };
+    more.min(way.room(row, flow))
 }
 
 /// How much a node has to give: what lies in excess there, less what is to rest there.

@@ -60,6 +60,14 @@ impl Touched {
         self.len += 1;
     }
 
+    /// Whether a place was noted.
+    pub fn is_noted(&self, place: usize) -> bool
+        requires place { place < length self.now }
+        ensures { result ≡ in_set self.now place }
+    {
+        self.marks[place]
+    }
+
     /// The places that were noted, each once.
     pub fn places(&self) -> &[u32]
         ensures listed { (k : ℕ) → in_set self.now k ≡ true → Any (λ p. p ≡ k) result.now }

@@ -1,21 +1,35 @@
-//! Walks back from nodes that lack something, depth first, along arcs on which a wanted flow has more.
+//! Walks back from nodes that lack something, depth first, along arcs whose flow is to change.
 
 ghost use Rattle.std.specs.Prelude.{◌≡◌, ◌+◌, ◌-◌, ◌≤ℤ◌, ◌^◌, ℕ, ℤ, List, length, pos, neg_ℤ, ◌<◌, ◌≤◌, ◌↔◌, false, IfOk, IsTrue};
 ghost use Rattle.dimacs_text.specs.declared.problem.ArcRow.{ArcRow};
 ghost use Rattle.augmentation.specs.Cut.{in_set};
 ghost use Rattle.augmentation.specs.Limits.{excess_limit};
 ghost use Rattle.residual_graph.specs.Residual.{number_at};
-ghost use Rattle.augmentation.specs.Trail.{AreInRange, AreLimits, IsHop, IsInRange, IsNextLimit, IsOn, IsTrail, IsTrailFor, Wants, hop_at};
+ghost use Rattle.augmentation.specs.Trail.{AreInRange, AreLimits, IsHop, IsInRange, IsNextLimit, IsOn, IsTrail, IsTrailFor, hop_at, room_along};
 
-use residual_graph::{Place, ResidualArc, Way};
+use proposals::Change;
+use residual_graph::{ResidualArc, Way};
 use std::alloc::{AllocError, Global};
 
-/// How many steps a run of walks may take for each node and each arc. Most runs take one or two, and those whose paths
+/// How many steps a run of walks may take for each node and each change. Most runs take one or two, and those whose paths
 /// are long some hundreds; a stair of 50,000 nodes takes 9,375. A bad proposal is to cost seconds at most.
 const STEPS: u64 = 10_000;
 
+/// The place that no change has.
+const NO_CHANGE: u32 = u32::MAX;
+
 /// To push along so many hops costs as much as a step.
 const HOPS_A_STEP: u64 = 8;
+
+/// A hop by which a walk can go back from a node.
+#[derive(Clone, Copy)]
+pub struct Hop {
+    pub arc: ResidualArc,
+    /// Where it comes from.
+    pub from: usize,
+    /// How much is wanted along it.
+    pub want: i64,
+}
 
 /// The tables of walks back. The hops of a walk are its first `len`: the first one leads to the node where it began, and
 /// each other one to where the one before it begins.
@@ -23,10 +37,11 @@ const HOPS_A_STEP: u64 = 8;
 pub struct Trail {
     /// Whether nothing more is to be had from the node: no walk comes to it again.
     pub dead: Vec<bool>,
-    /// Where the node goes on in its ends. This is a hint: any place is a lawful one.
-    pub current: Vec<Place>,
-    /// The hop by which a walk went back from the node last. This is a hint: any hop is a lawful one.
-    pub last: Vec<Option<ResidualArc>>,
+    /// What is to change, for as long as a run goes on. What goes round in circles is taken off.
+    pub changes: Vec<Change>,
+    /// The place of the first change that may still bring something to the node, and for which a walk that came to it goes
+    /// back from there; the others follow by `next`. These are hints: any place is a lawful one.
+    pub first: Vec<u32>,
     /// How many hops the last walk that came to the node had taken by then.
     pub places: Vec<u32>,
     /// The nodes of the walk: that where it began, then that from which each hop comes.
@@ -48,8 +63,7 @@ impl Trail {
         ensures { IfOk result (λ t. IsTrailFor entries t) }
     {
         let dead = vec![in alloc; false; entries]?;
-        let current = vec![in alloc; Place::First; entries]?;
-        let last = vec![in alloc; None; entries]?;
+        let first = vec![in alloc; 0; entries]?;
         let places = vec![in alloc; 0; entries]?;
         let nodes = vec![in alloc; 0; entries]?;
         let no_arc = ResidualArc {
@@ -60,8 +74,8 @@ impl Trail {
         let limits = vec![in alloc; 0; entries]?;
         Ok(Trail {
             dead,
-            current,
-            last,
+            changes: Vec::new(alloc),
+            first,
             places,
             nodes,
             hops,
@@ -71,19 +85,14 @@ impl Trail {
         })
     }
 
-    /// Begins anew in a network of so many arcs: no node is dead, and each goes on from its first end.
-    pub(crate) fn refresh(&mut self, arcs: usize)
-        requires current { length self.old.current.items ≡ length self.old.dead.items }
-        requires last { length self.old.last.items ≡ length self.old.dead.items }
+    /// Begins anew: no node is dead, and no change is listed.
+    pub(crate) fn refresh(&mut self)
         ensures trail { (n : ℕ) → IsTrailFor n self.old → IsTrailFor n self.new }
         ensures alive { (v : ℕ) → in_set self.new.dead.items v ≡ false }
     {
-        for v in 0..self.dead.len() {
-            self.dead[v] = false;
-            self.current[v] = Place::First;
-            self.last[v] = None;
-        }
-        let places = (self.dead.len() as u64).saturating_add(arcs as u64);
+        self.dead.fill(false);
+        self.first.fill(NO_CHANGE);
+        let places = (self.dead.len() as u64).saturating_add(self.changes.len() as u64);
         self.fuel = places.saturating_mul(STEPS);
     }
 
@@ -91,7 +100,7 @@ impl Trail {
     pub(crate) fn spend(&mut self, hops: usize) -> bool
         ensures trail { (n : ℕ) → IsTrailFor n self.old → IsTrailFor n self.new }
         ensures walk { (rows : List ArcRow) (t v : ℕ) → IsTrail rows self.old t v → IsTrail rows self.new t v }
-        ensures limits { (x y : List ℤ) (held : ℤ) → AreLimits x y held self.old → AreLimits x y held self.new }
+        ensures limits { (rows : List ArcRow) (x : List ℤ) (held : ℤ) → AreLimits rows x held self.old → AreLimits rows x held self.new }
         ensures no_more { self.new.fuel ≤ self.old.fuel }
         ensures less { IsTrue result → self.new.fuel < self.old.fuel }
     {
@@ -111,6 +120,18 @@ impl Trail {
         self.hops[j]
     }
 
+    /// The place of the change for which the walk went back from one of its nodes.
+    pub(crate) fn change_at(&self, j: usize) -> u32 {
+        if j >= self.nodes.len() {
+            return NO_CHANGE;
+        }
+        let node = self.nodes[j] as usize;
+        if node >= self.first.len() {
+            return NO_CHANGE;
+        }
+        self.first[node]
+    }
+
     /// A walk from a node, with no hop yet.
     pub(crate) fn begin(&mut self, target: usize)
         requires target_in { target < length self.old.places.items }
@@ -118,7 +139,7 @@ impl Trail {
         requires room { 0 < length self.old.nodes.items }
         ensures trail { (n : ℕ) → IsTrailFor n self.old → IsTrailFor n self.new }
         ensures walk { (rows : List ArcRow) → IsTrail rows self.new target target }
-        ensures limits { (x y : List ℤ) (held : ℤ) → AreLimits x y held self.new }
+        ensures limits { (rows : List ArcRow) (x : List ℤ) (held : ℤ) → AreLimits rows x held self.new }
     {
         self.len = 0;
         self.nodes[0] = target as u32;
@@ -160,7 +181,7 @@ impl Trail {
         requires new { IsOn self.old.nodes.items self.old.places.items self.old.len from → ⊥ }
         ensures trail { (n : ℕ) → IsTrailFor n self.old → IsTrailFor n self.new }
         ensures walk { (rows : List ArcRow) (t v : ℕ) → IsHop rows hop from v → IsTrail rows self.old t v → IsTrail rows self.new t from }
-        ensures limits { (x y : List ℤ) (held : ℤ) → AreLimits x y held self.old → IsNextLimit x y held self.old hop limit → AreLimits x y held self.new }
+        ensures limits { (rows : List ArcRow) (x : List ℤ) (held : ℤ) → AreLimits rows x held self.old → IsNextLimit rows x held self.old hop limit → AreLimits rows x held self.new }
         ensures fuel { self.new.fuel ≡ self.old.fuel }
     {
         self.hops[self.len] = hop;
@@ -176,7 +197,7 @@ impl Trail {
         requires fits { self.old.len < length self.old.nodes.items }
         ensures trail { (n : ℕ) → IsTrailFor n self.old → IsTrailFor n self.new }
         ensures walk { (rows : List ArcRow) (t v : ℕ) → IsTrail rows self.old t v → IsTrail rows self.new t result }
-        ensures limits { (x y : List ℤ) (held : ℤ) → AreLimits x y held self.old → AreLimits x y held self.new }
+        ensures limits { (rows : List ArcRow) (x : List ℤ) (held : ℤ) → AreLimits rows x held self.old → AreLimits rows x held self.new }
         ensures len { self.new.len ≡ keep }
         ensures fuel { self.new.fuel ≡ self.old.fuel }
     {
@@ -191,7 +212,7 @@ impl Trail {
         requires high { held ≤ℤ pos excess_limit }
         requires limits { AreInRange self.now.limits.items self.now.len }
         ensures at_most { result ≤ℤ most }
-        ensures wanted { (x y : List ℤ) → AreLimits x y held self.now → (i : ℕ) → i < self.now.len → Wants x y result (hop_at self.now.hops.items i) }
+        ensures room { (rows : List ArcRow) (x : List ℤ) → AreLimits rows x held self.now → (i : ℕ) → i < self.now.len → result ≤ℤ room_along rows x (hop_at self.now.hops.items i) }
     {
         if self.len == 0 {
             return most;
@@ -199,8 +220,8 @@ impl Trail {
         most.min(self.limits[self.len - 1] - held)
     }
 
-    /// How many hops lie before the first one along which nothing is wanted any more, where so much lies in excess at the
-    /// node where the walk began.
+    /// How many hops lie before the first one along which no more is wanted, where so much lies in excess at the node where
+    /// the walk began.
     pub(crate) fn hops_wanted(&self, held: i64) -> usize
         requires { self.now.len ≤ length self.now.limits.items }
         ensures { result ≤ self.now.len }

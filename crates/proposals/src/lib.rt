@@ -21,4 +21,4 @@ mod tables;
 mod wanted;
 
 pub use tables::{Aim, Proposals};
-pub use wanted::Wanted;
+pub use wanted::{Change, Wanted};

@@ -157,26 +157,32 @@ impl Proposals {
 
     /// Writes down where the proposal stands, less than all where there is no room for it.
     pub fn write(&self, rows: &[ArcRow], flow: &[i64], aim: Aim, wanted: &mut Wanted) {
-        let _whole = write_flow(wanted, &self.proposal, rows).and(wanted.take_nodes(
-            &self.proposal,
-        ));
+        wanted.changes.clear();
+        let _nodes = wanted.take_nodes(&self.proposal);
+        let first = if aim == Aim::GreatestFlow { 1 } else { 0 };
         if aim == Aim::GreatestFlow && !rows.is_empty() && !flow.is_empty() {
             let row = &rows[0];
-            wanted.lead_back(
+            let _back = wanted.lead_back(
                 row.tail as usize,
                 row.head as usize,
                 flow[0],
                 (row.low, row.cap),
             );
         }
+        let _whole = write_flow(wanted, &self.proposal, rows, flow, first);
     }
 }
 
-/// Writes down the flow of each arc.
-fn write_flow(wanted: &mut Wanted, proposal: &Proposal, rows: &[ArcRow]) -> Option<()> {
-    wanted.flow.clear();
-    for k in 0..rows.len() {
-        wanted.flow.push(flow_of(proposal, k, &rows[k])).ok()?;
+/// Writes down the flow of each arc from one on, where it is to change.
+fn write_flow(
+    wanted: &mut Wanted,
+    proposal: &Proposal,
+    rows: &[ArcRow],
+    flow: &[i64],
+    first: usize,
+) -> Option<()> {
+    for k in first..rows.len().min(flow.len()) {
+        wanted.list(k, flow[k], flow_of(proposal, k, &rows[k]))?;
     }
     Some(())
 }

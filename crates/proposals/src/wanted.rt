@@ -3,28 +3,38 @@
 use relaxation::Proposal;
 use std::alloc::{AllocError, Global};
 
-/// A flow that is wanted, the excess that it is to leave at each node, and potentials. Nothing is known of the numbers, nor
-/// of how many there are.
+/// An arc whose flow is to change.
+#[derive(Clone, Copy)]
+pub struct Change {
+    pub arc: u32,
+    /// The place of the next change at the same node: who goes over the changes writes it.
+    pub next: u32,
+    /// The wanted flow.
+    pub flow: i64,
+}
+
+/// What is wanted: changes of a flow, the excess that they are to leave at each node, and potentials. Nothing is known of
+/// the numbers, nor of how many there are.
 #[derive(Drop)]
 pub struct Wanted {
-    /// The wanted flow of each arc. What goes round in circles on the way to it is taken off when it is tried.
-    pub flow: Vec<i64>,
+    /// Each arc whose flow is to change. What goes round in circles is left out when the proposal is tried.
+    pub changes: Vec<Change>,
     /// What is to rest at each node: excess above 0, deficit below.
     pub rests: Vec<i64>,
     pub potentials: Vec<i64>,
 }
 
 impl Wanted {
-    /// Room for so many entries of nodes, and for the flows of so many arcs.
+    /// Room for so many entries of nodes, and for changes of so many arcs.
     ///
     /// # Errors
     /// Memory for a table was refused.
     pub fn new(alloc: Global, entries: usize, arcs: usize) -> Result<Wanted, AllocError> {
-        let flow = Vec::with_capacity(alloc, arcs)?;
+        let changes = Vec::with_capacity(alloc, arcs)?;
         let rests = Vec::with_capacity(alloc, entries)?;
         let potentials = Vec::with_capacity(alloc, entries)?;
         Ok(Wanted {
-            flow,
+            changes,
             rests,
             potentials,
         })
@@ -40,6 +50,21 @@ impl Wanted {
             .ok()
     }
 
+    /// Lists the arc in this row where it is to have another flow than it has, as far as there is room.
+    pub(crate) fn list(&mut self, k: usize, flow: i64, goal: i64) -> Option<()> {
+        if flow == goal {
+            return Some(());
+        }
+        let arc = u32::try_from(k).ok()?;
+        self.changes
+            .push(Change {
+                arc,
+                next: 0,
+                flow: goal,
+            })
+            .ok()
+    }
+
     /// Wants as much less of the return arc, which is the first one, as still lies at its head. So much is then to rest at
     /// its tail.
     pub(crate) fn lead_back(
@@ -48,15 +73,15 @@ impl Wanted {
         head: usize,
         standing: i64,
         bounds: (i64, i64),
-    ) {
-        if self.flow.is_empty() || tail >= self.rests.len() || head >= self.rests.len() {
-            return;
+    ) -> Option<()> {
+        if tail >= self.rests.len() || head >= self.rests.len() {
+            return None;
         }
         let amount = standing.saturating_sub(self.rests[head]);
         let amount = amount.max(bounds.0).min(bounds.1);
         let less = standing.saturating_sub(amount);
-        self.flow[0] = amount;
         self.rests[head] = self.rests[head].saturating_sub(less);
         self.rests[tail] = self.rests[tail].saturating_add(less);
+        self.list(0, standing, amount)
     }
 }

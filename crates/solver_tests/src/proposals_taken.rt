@@ -9,7 +9,7 @@ use crate::steps::{prepare, take_up};
 use augmentation::{Excess, Scratch, Tracked};
 use dimacs_text::{ProblemReader, TextFault};
 use network::{build, check_best};
-use proposals::Wanted;
+use proposals::{Change, Wanted};
 use residual_graph::Graph;
 use std::alloc::{AllocError, Global};
 use std::process::Abort;
@@ -32,8 +32,8 @@ const PAIRS: &[u8] = b"p asn 4 4\nn 1\nn 2\na 1 3 5\na 1 4 2\na 2 3 4\na 2 4 3\n
 /// The one greatest flow fills the arcs out of the source.
 const GREATEST: &[u8] = b"p max 4 5\nn 1 s\nn 4 t\na 1 2 3\na 1 3 2\na 2 3 1\na 2 4 2\na 3 4 3\n";
 
-/// What is proposed: a flow, rests and potentials.
-type Proposed = (&'static [i64], &'static [i64], &'static [i64]);
+/// What is proposed: arcs with the flow that is wanted of each, rests and potentials.
+type Proposed = (&'static [(u32, i64)], &'static [i64], &'static [i64]);
 /// What comes of it: the pushes that led to what was adopted, the pushes of the searches, the flow, what rests, and the
 /// flow's worth where it is best.
 type Outcome = (
@@ -45,53 +45,93 @@ type Outcome = (
 );
 
 /// What is proposed of `TIES`, and what comes of it.
-static PROPOSALS: [(Proposed, Outcome); 11] = [
+static PROPOSALS: [(Proposed, Outcome); 16] = [
     // The one way, the other, both.
     (
-        (&[0, 0, 2, 0, 0], &[0; 5], &[0, -2, -1, 0, 0]),
+        (&[(2, 2)], &[0; 5], &[0, -2, -1, 0, 0]),
         (Some(1), 0, &[0, 0, 2, 0, 0], &[0; 5], Some(4)),
     ),
     (
-        (&[2, 2, 0, 0, 0], &[0; 5], &[0, -2, -1, 0, 0]),
+        (&[(0, 2), (1, 2)], &[0; 5], &[0, -2, -1, 0, 0]),
         (Some(1), 0, &[2, 2, 0, 0, 0], &[0; 5], Some(4)),
     ),
     (
-        (&[1, 1, 1, 0, 0], &[0; 5], &[0, -2, -1, 0, 0]),
+        (&[(0, 1), (1, 1), (2, 1)], &[0; 5], &[0, -2, -1, 0, 0]),
         (Some(2), 0, &[1, 1, 1, 0, 0], &[0; 5], Some(4)),
     ),
     // Potentials that are to be lowered.
     (
-        (&[1, 1, 1, 0, 0], &[0; 5], &[0, 5, 6, 7, 7]),
+        (&[(0, 1), (1, 1), (2, 1)], &[0; 5], &[0, 5, 6, 7, 7]),
         (Some(2), 0, &[1, 1, 1, 0, 0], &[0; 5], Some(4)),
     ),
     // A circle that costs is taken off.
     (
-        (&[1, 1, 1, 5, 5], &[0; 5], &[0, -2, -1, 0, 0]),
+        (
+            &[(0, 1), (1, 1), (2, 1), (3, 5), (4, 5)],
+            &[0; 5],
+            &[0, -2, -1, 0, 0],
+        ),
         (Some(2), 0, &[1, 1, 1, 0, 0], &[0; 5], Some(4)),
     ),
     // A potential off by one.
     (
-        (&[1, 1, 1, 0, 0], &[0; 5], &[0, -2, -2, 0, 0]),
+        (&[(0, 1), (1, 1), (2, 1)], &[0; 5], &[0, -2, -2, 0, 0]),
         (None, 1, &[0, 0, 2, 0, 0], &[0; 5], Some(4)),
     ),
     // A flow out of balance: a unit of it is led on.
     (
-        (&[2, 1, 0, 0, 0], &[0; 5], &[0, -2, -1, 0, 0]),
+        (&[(0, 2), (1, 1)], &[0; 5], &[0, -2, -1, 0, 0]),
         (Some(1), 1, &[1, 1, 1, 0, 0], &[0; 5], Some(4)),
     ),
-    // A flow out of its bounds.
+    // Flows out of their bounds: no more is pushed than fits.
     (
-        (&[3, 3, 0, 0, 0], &[0; 5], &[0, -2, -1, 0, 0]),
+        (&[(0, 3), (1, 3), (2, -1)], &[0; 5], &[0, -2, -1, 0, 0]),
+        (Some(1), 0, &[2, 2, 0, 0, 0], &[0; 5], Some(4)),
+    ),
+    (
+        (
+            &[(0, i64::MAX), (1, i64::MAX), (2, i64::MIN)],
+            &[0; 5],
+            &[0, -2, -1, 0, 0],
+        ),
+        (Some(1), 0, &[2, 2, 0, 0, 0], &[0; 5], Some(4)),
+    ),
+    // An arc listed twice.
+    (
+        (&[(2, 1), (2, 2)], &[0; 5], &[0, -2, -1, 0, 0]),
+        (Some(2), 0, &[0, 0, 2, 0, 0], &[0; 5], Some(4)),
+    ),
+    // An arc that is not there.
+    (
+        (
+            &[(5, 2), (u32::MAX, 2), (2, 2)],
+            &[0; 5],
+            &[0, -2, -1, 0, 0],
+        ),
+        (Some(1), 0, &[0, 0, 2, 0, 0], &[0; 5], Some(4)),
+    ),
+    // More arcs than there are: the last one is passed over.
+    (
+        (
+            &[(0, 0), (1, 0), (2, 1), (3, 0), (4, 0), (2, 2)],
+            &[0; 5],
+            &[0, -2, -1, 0, 0],
+        ),
+        (Some(1), 1, &[0, 0, 2, 0, 0], &[0; 5], Some(4)),
+    ),
+    // A node that is not there.
+    (
+        (&[(2, 2)], &[0; 6], &[0, -2, -1, 0, 0, 0]),
         (None, 1, &[0, 0, 2, 0, 0], &[0; 5], Some(4)),
     ),
     // What rests at the wrong node.
     (
-        (&[2, 2, 0, 0, 0], &[0, 1, 0, 0, 0], &[0, -2, -1, 0, 0]),
+        (&[(0, 2), (1, 2)], &[0, 1, 0, 0, 0], &[0, -2, -1, 0, 0]),
         (Some(1), 1, &[1, 1, 1, 0, 0], &[0; 5], Some(4)),
     ),
     // Nothing.
     (
-        (&[0; 5], &[0, 2, 0, -2, 0], &[0; 5]),
+        (&[], &[0, 2, 0, -2, 0], &[0; 5]),
         (Some(0), 1, &[0, 0, 2, 0, 0], &[0; 5], Some(4)),
     ),
     // Too short.
@@ -106,19 +146,19 @@ static LEFT: [(&[u8], &[i64], Proposed, Outcome); 3] = [
     (
         SHORT,
         &[0, 2, -2],
-        (&[1], &[0, 1, -1], &[0, -1, 0]),
+        (&[(0, 1)], &[0, 1, -1], &[0, -1, 0]),
         (Some(1), 0, &[1], &[0, 1, -1], None),
     ),
     (
         SHORT,
         &[0, 2, -2],
-        (&[1], &[0, 0, 0], &[0, -1, 0]),
+        (&[(0, 1)], &[0, 0, 0], &[0, -1, 0]),
         (Some(1), 0, &[1], &[0, 1, -1], None),
     ),
     (
         PASSED,
         &[0, 3, 2, -3],
-        (&[3, 3], &[0, 0, 2, 0], &[0, -5, -1, 0]),
+        (&[(0, 3), (1, 3)], &[0, 0, 2, 0], &[0, -5, -1, 0]),
         (Some(1), 0, &[3, 3], &[0, 0, 2, 0], None),
     ),
 ];
@@ -129,7 +169,7 @@ static OWN: [(&[u8], &[i64], Outcome); 5] = [
     (
         GAINS,
         &[0, 1, -1, 4, -4],
-        (Some(4), 0, &[2, 2, 2, 2, 0], &[0; 5], Some(10)),
+        (Some(3), 0, &[2, 2, 2, 2, 0], &[0; 5], Some(10)),
     ),
     (
         PAIRS,
@@ -221,10 +261,23 @@ fn excess_of(rt: &impl Abort, alloc: Global, table: &[i64]) -> Result<Excess, Al
     Excess::new(alloc, copy_of(alloc, table)?)
 }
 
+/// Arcs with the flow that is wanted of each, as a proposal has them.
+fn changes_of(alloc: Global, pairs: &[(u32, i64)]) -> Result<Vec<Change>, AllocError> {
+    let mut changes = Vec::with_capacity(alloc, pairs.len())?;
+    for (arc, flow) in pairs {
+        changes.push(Change {
+            arc: *arc,
+            next: 0,
+            flow: *flow,
+        })?;
+    }
+    Ok(changes)
+}
+
 /// A proposal that is written down.
 fn wanted_of(alloc: Global, proposed: &Proposed) -> Result<Wanted, AllocError> {
     Ok(Wanted {
-        flow: copy_of(alloc, proposed.0)?,
+        changes: changes_of(alloc, proposed.0)?,
         rests: copy_of(alloc, proposed.1)?,
         potentials: copy_of(alloc, proposed.2)?,
     })
@@ -339,7 +392,7 @@ fn own_proposals(rt: HostRuntime) -> Result<(), Fail> {
 #[test]
 fn own_proposal_after_spoilt_ones(rt: HostRuntime) -> Result<(), Fail> {
     let mut run = run_of(&rt, rt.alloc(), GAINS, &[0, 1, -1, 4, -4])?;
-    let spoilt = wanted_of(rt.alloc(), &(&[9, 9], &[1], &[]))?;
+    let spoilt = wanted_of(rt.alloc(), &(&[(9, 9)], &[1], &[]))?;
     expect(&rt, rt.alloc(), &mut run, Some(spoilt), &SEARCHED)?;
     expect(&rt, rt.alloc(), &mut run, None, &OWN[0].2)?;
     Ok(())

@@ -3,23 +3,23 @@ use Rattle.std.proofs.lemmas.Int.{ints, clamps, to_z-of_z}
 use Rattle.std.specs.List.{All}
 use Rattle.residual_graph.specs.Residual.{number_at}
 use Rattle.augmentation.specs.Decomposition.{IsLedOn, entries_of}
-use Rattle.augmentation.specs.Trail.{AreLimits, Wants, hops_back}
+use Rattle.augmentation.specs.Trail.{AreLimits, hops_back, room_along}
 use Rattle.augmentation.specs.Difference.{lack_of, spare_of}
 use Rattle.augmentation.proofs.DecompositionLemmas.{lack_in, led-none, led_one, limits_after, spare_in}
 use Rattle.augmentation.proofs.TrailLemmas.{all_back, route_of, walked}
 use Rattle.augmentation.proofs.decomposition.push_route.Goals as goal
 use Rattle.augmentation.proofs.decomposition.push_route.Goals.{After-room-amount}
 
--- what is pushed is no more than what the root has to give, the target has to take, and is wanted on each hop
+-- what is pushed is no more than what the root has to give, the target has to take, and fits on each hop
 pub record IsAmount (c : After-room-amount) : Type 0 where
   pub in_excess : to_z w64 (of_z w64 c.room-amount.result) ≤ℤ number_at c.args.excess.now c.args.path.root
   pub in_deficit : number_at c.args.excess.now c.args.path.target ≤ℤ neg_ℤ (to_z w64 (of_z w64 c.room-amount.result))
-  pub wanted : All (Wants c.args.flow.now c.args.wanted.now (to_z w64 (of_z w64 c.room-amount.result))) (hops_back c.args.trail.now.hops.items c.args.trail.now.len)
+  pub room : All (λ h. to_z w64 (of_z w64 c.room-amount.result) ≤ℤ room_along c.args.setting.graph.now.rows c.args.flow.now h) (hops_back c.args.trail.now.hops.items c.args.trail.now.len)
 
 amount : (c : After-room-amount) → pos 1 ≤ℤ to_z w64 (of_z w64 c.room-amount.result) → IsAmount c
 amount c at_least =
     let x = c.args.flow.now in
-    let y = c.args.wanted.now in
+    let rows = c.args.setting.graph.now.rows in
     let e = c.args.excess.now in
     let r = c.args.setting.rests.now in
     let root = c.args.path.root in
@@ -48,11 +48,11 @@ amount c at_least =
     record {
       in_excess = spare_in (number_at e root) (number_at r root) m at_least (omega (arith, ints, clamps, value, limit, gives, same, most));
       in_deficit = lack_in (number_at e t) (number_at r t) m at_least (omega (arith, ints, clamps, value, limit, takes, same, most));
-      wanted = all_back (Wants x y m) c.args.trail.now.hops.items c.args.trail.now.len (λ i lt. (let wants = c.room-amount.ensures.wanted x y (subst (λ (z : ℤ). AreLimits x y z c.args.trail.now) (sym e_t) c.requires.limits) i lt in omega (arith, ints, wants, same)));
+      room = all_back (λ h. m ≤ℤ room_along rows x h) c.args.trail.now.hops.items c.args.trail.now.len (λ i lt. (let fits = c.room-amount.ensures.room rows x (subst (λ (z : ℤ). AreLimits rows x z c.args.trail.now) (sym e_t) c.requires.limits) i lt in omega (arith, ints, fits, same)));
     }
 
 pub returns-then-amount-le0-clause-led : goal.returns-then-amount-le0-clause-led
-returns-then-amount-le0-clause-led c = led-none (entries_of c.args.setting.graph.now) c.args.setting.graph.now.rows c.args.flow.now c.args.wanted.now c.args.excess.now c.requires.state
+returns-then-amount-le0-clause-led c = led-none (entries_of c.args.setting.graph.now) c.args.setting.graph.now.rows c.args.flow.now c.args.excess.now c.requires.state
 
 pub shift-requires-clause-route : goal.shift-requires-clause-route
 shift-requires-clause-route c =
@@ -63,9 +63,9 @@ shift-requires-clause-route c =
       rows = c.args.setting.graph.now.rows;
       from = c.args.path.root;
       to = c.args.path.target;
-      flow = c.requires.state.plan.flow;
+      flow = c.requires.state.flow;
       at_least_1 = at_least;
-      route = route_of (entries_of c.args.setting.graph.now) c.args.setting.graph.now.rows c.args.flow.now c.args.wanted.now _ _ c.args.path.root c.args.path.target c.requires.state.plan (walked c.args.setting.graph.now.rows c.args.trail.now c.args.path.target c.args.path.root c.requires.walk) at.wanted;
+      route = route_of c.args.setting.graph.now.rows c.args.flow.now _ _ c.args.path.root c.args.path.target (walked c.args.setting.graph.now.rows c.args.trail.now c.args.path.target c.args.path.root c.requires.walk) at.room;
     }
 
 pub transfer-requires-clause-in_excess : goal.transfer-requires-clause-in_excess
@@ -81,14 +81,13 @@ returns-clause-led c =
     let nodes = entries_of c.args.setting.graph.now in
     let rows = c.args.setting.graph.now.rows in
     let x = c.args.flow.now in
-    let y = c.args.wanted.now in
     let e = c.args.excess.now in
     let f = c.transfer.new.excess in
     let m = to_z w64 (of_z w64 c.room-amount.result) in
     let hops = hops_back c.args.trail.now.hops.items c.args.trail.now.len in
-    let route = route_of nodes rows x y m hops c.args.path.root c.args.path.target c.requires.state.plan (walked rows c.args.trail.now c.args.path.target c.args.path.root c.requires.walk) at.wanted in
-    subst (λ (z : List ℤ). IsLedOn nodes rows 1 x y e z y f) (sym c.shift.ensures)
-    (led_one nodes rows x y e f hops c.args.path.root c.args.path.target m c.requires.state route at.wanted at_least c.requires.root_in at.in_excess at.in_deficit c.transfer.ensures)
+    let route = route_of rows x m hops c.args.path.root c.args.path.target (walked rows c.args.trail.now c.args.path.target c.args.path.root c.requires.walk) at.room in
+    subst (λ (z : List ℤ). IsLedOn nodes rows 1 x e z f) (sym c.shift.ensures.flow)
+    (led_one nodes rows x e f hops c.args.path.root c.args.path.target m c.requires.state route at_least c.requires.root_in at.in_excess at.in_deficit c.transfer.ensures)
 
 pub returns-clause-limits : goal.returns-clause-limits
 returns-clause-limits c =
@@ -99,8 +98,8 @@ returns-clause-limits c =
     let trail = c.args.trail.now in
     let t = c.args.path.target in
     let f = c.transfer.new.excess in
-    subst (λ (z : List ℤ). AreLimits z c.args.wanted.now (number_at f t) trail) (sym c.shift.ensures)
-    (limits_after nodes rows c.args.flow.now c.args.wanted.now c.args.excess.now f trail c.args.path.root t _ c.requires.state (walked rows trail t c.args.path.root c.requires.walk) at_least at.in_excess at.in_deficit c.transfer.ensures c.requires.limits)
+    subst (λ (z : List ℤ). AreLimits rows z (number_at f t) trail) (sym c.shift.ensures.flow)
+    (limits_after nodes rows c.args.flow.now c.args.excess.now f trail c.args.path.root t _ c.requires.state (walked rows trail t c.args.path.root c.requires.walk) at_least at.in_excess at.in_deficit c.transfer.ensures c.requires.limits)
 
 pub room-amount-requires-clause-low : goal.room-amount-requires-clause-low
 room-amount-requires-clause-low c =

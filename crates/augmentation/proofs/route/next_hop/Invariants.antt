@@ -1,13 +1,9 @@
-use Rattle.std.proofs.Common.{◌≡◌}
-use Rattle.residual_graph.specs.Ends.{IsWalk, left_of}
+use Rattle.std.proofs.Common.{◌≡◌, length}
+use Rattle.augmentation.specs.Decomposition.{entries_of}
 use Rattle.augmentation.proofs.route.next_hop.Given as goal
 
-abbrev pub invariant-loop-end : goal.invariant-loop-end
-invariant-loop-end l = record {
-  walk : IsWalk l.graph l.walk;
-  node : l.walk.node ≡ l.node;
-  trail : l.trail ≡ l.initial.trail;
+abbrev pub invariant-listed : goal.invariant-listed
+invariant-listed l = record {
+  kept : l.trail ≡ record l.initial.trail { first = l.trail.first };
+  first_sized : length l.trail.first.items ≡ entries_of l.graph;
 }
-
-abbrev pub decreases-loop-end : goal.decreases-loop-end
-decreases-loop-end l = left_of l.graph l.walk

@@ -13,8 +13,7 @@ returns-in-Some-clause-walk c =
     let kept = c.in-Some.ensures.kept in
     IfSome_then c.go_back.result c.go_back.ensures.walk (λ v after. (
       after.0,
-      λ t trail. after.1 t (subst (λ (u : ℕ). IsTrail rows c.next_hop.new.trail t u) (sym c.in-Some.ensures.some.ends)
-          (subst (λ (s : Trail). IsTrail rows s t c.args.node) (sym kept) trail)),
+      λ t trail. after.1 t (subst (λ (s : Trail). IsTrail rows s t c.args.node) (sym kept) trail),
     ))
 
 pub returns-else-trail-eq0-clause-trail : goal.returns-else-trail-eq0-clause-trail
@@ -22,8 +21,7 @@ returns-else-trail-eq0-clause-trail c =
     let before = c.in-None.ensures.trail in
     c.cut.ensures.trail (entries_of c.args.graph.now) (record {
       dead_sized = length-set _ _ _ ∙ before.dead_sized;
-      current_sized = before.current_sized;
-      last_sized = before.last_sized;
+      first_sized = before.first_sized;
       places_sized = before.places_sized;
       nodes_sized = before.nodes_sized;
       hops_sized = before.hops_sized;
@@ -40,8 +38,7 @@ returns-else-trail-eq0-clause-walk c =
     let before = c.in-None.ensures.trail in
     let sized = (c.cut.ensures.trail nodes (record {
       dead_sized = length-set _ _ _ ∙ before.dead_sized;
-      current_sized = before.current_sized;
-      last_sized = before.last_sized;
+      first_sized = before.first_sized;
       places_sized = before.places_sized;
       nodes_sized = before.nodes_sized;
       hops_sized = before.hops_sized;
@@ -52,5 +49,5 @@ returns-else-trail-eq0-clause-walk c =
 pub returns-else-trail-eq0-clause-limits : goal.returns-else-trail-eq0-clause-limits
 returns-else-trail-eq0-clause-limits c =
     let x = c.args.flow.now in
-    let y = c.args.wanted.now in
-    c.cut.ensures.limits x y c.args.held (subst (λ (s : Trail). AreLimits x y c.args.held s) (sym c.in-None.ensures.kept) c.requires.limits)
+    let rows = c.args.graph.now.rows in
+    c.cut.ensures.limits rows x c.args.held (subst (λ (s : Trail). AreLimits rows x c.args.held s) (sym c.in-None.ensures.kept) c.requires.limits)

@@ -2,15 +2,14 @@ use Rattle.std.proofs.Common.{◌≡◌, ◌∙◌, ◌-◌, pos, ◌+ℤ◌, �
 use Rattle.std.proofs.lemmas.Int.{ints, clamps, to_z-of_z}
 use Rattle.std.proofs.lemmas.List.{get_or_default}
 use Rattle.residual_graph.specs.Residual.{number_at}
-use Rattle.augmentation.specs.Difference.{want_of}
-use Rattle.augmentation.specs.Trail.{hop_at}
+use Rattle.augmentation.specs.Trail.{hop_at, room_along}
 use Rattle.augmentation.proofs.trail.Trail.room.Goals as goal
 
-pub returns-clause-wanted : goal.returns-clause-wanted
-returns-clause-wanted c = λ x y are i lt.
+pub returns-clause-room : goal.returns-clause-room
+returns-clause-room c = λ rows x are i lt.
     (let h = hop_at c.args.self.now.hops.items i in
     let last = c.args.self.now.len - 1 in
-    let each : number_at c.args.self.now.limits.items last ≤ℤ (want_of h.way (number_at x h.arc) (number_at y h.arc) +ℤ c.args.held) = are.each i last (omega (arith, lt)) (omega (arith, lt)) in
+    let each : number_at c.args.self.now.limits.items last ≤ℤ (room_along rows x h +ℤ c.args.held) = are.each i last (omega (arith, lt)) (omega (arith, lt)) in
     let in_range = c.requires.limits last (omega (arith, lt)) in
     let fits : SFits w64 c.min.result = search rules in
     let same = to_z-of_z w64 c.min.result fits in

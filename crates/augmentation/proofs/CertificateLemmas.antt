@@ -1,0 +1,56 @@
+-- Potentials that certify a flow, arc by arc.
+use Rattle.std.proofs.Common.{◌≡◌, ℕ, ◌<◌, ℤ, ◌-ℤ◌, ◌<ℤ◌, pos, List, Bool, true, false, length, refl, subst, inl, inr, arith}
+use Rattle.std.specs.Prelude.{◌⊎◌}
+use Rattle.std.proofs.lemmas.Int.{ints}
+use Rattle.dimacs_text.specs.declared.problem.ArcRow.{ArcRow}
+use Rattle.residual_graph.specs.declared.residual.Way.{Way}
+use Rattle.residual_graph.specs.declared.residual.Way.TheVariants.{Forward, Backward}
+use Rattle.residual_graph.specs.Residual.{IsPseudoflow, NoneBelow, end_at, number_at, room_of, row_at, start_at}
+use Rattle.residual_graph.proofs.RowLemmas.{end_of-in, start_of-in}
+use Rattle.augmentation.specs.Certificate.{IsNoneBelowAt, KeepsAt, KeepsRow}
+use Rattle.augmentation.specs.Cut.{in_set}
+use Rattle.augmentation.proofs.TouchedLemmas.{noted_or_not}
+
+pub rows_of : (arcs : List ArcRow) (x p : List ℤ) → NoneBelow arcs x p → (k : ℕ) → k < length arcs → KeepsRow (row_at arcs k) (number_at x k) p
+rows_of arcs x p none k lt = (
+  λ room. none k Forward (record { is_arc = lt; has_room = room }),
+  λ room. none k Backward (record { is_arc = lt; has_room = room }),
+)
+
+keeps_way : (a : ArcRow) (x : ℤ) (p : List ℤ) (way : Way) → KeepsRow a x p → IsNoneBelowAt a x p way
+keeps_way a x p Forward keeps = keeps.0
+keeps_way a x p Backward keeps = keeps.1
+
+pub none_of : (arcs : List ArcRow) (x p : List ℤ) → ((k : ℕ) → k < length arcs → KeepsRow (row_at arcs k) (number_at x k) p) → NoneBelow arcs x p
+none_of arcs x p keeps k way residual = keeps_way (row_at arcs k) (number_at x k) p way (keeps k residual.is_arc) residual.has_room
+
+-- a node's potential fell as others did, or the flow of each arc there is tested
+abbrev pub FellOrKeeps : List ArcRow → List ℤ → List ℤ → List ℤ → ℤ → ℕ → Type 0
+FellOrKeeps rows y p q fall v = (number_at p v -ℤ number_at q v ≡ fall) ⊎ KeepsAt rows y q v
+
+-- where the potentials of both ends fell alike, and the flow did not move, the arc is certified as before
+fell : (rows : List ArcRow) (x y p q : List ℤ) (fall : ℤ) (k : ℕ) (way : Way) → NoneBelow rows x p → k < length rows → number_at y k ≡ number_at x k → number_at p (start_at rows k way) -ℤ number_at q (start_at rows k way) ≡ fall → number_at p (end_at rows k way) -ℤ number_at q (end_at rows k way) ≡ fall → IsNoneBelowAt (row_at rows k) (number_at y k) q way
+fell rows x y p q fall k way none lt same start_fell end_fell room =
+    let before = none k way (record { is_arc = lt; has_room = subst (λ (z : ℤ). pos 0 <ℤ room_of (row_at rows k) z way) same room }) in
+    omega (arith, ints, before, start_fell, end_fell)
+
+one_way : (nodes : ℕ) (rows : List ArcRow) (x y p q : List ℤ) (fall : ℤ) (k : ℕ) (way : Way) → IsPseudoflow nodes rows y → NoneBelow rows x p → k < length rows → number_at y k ≡ number_at x k → ((v : ℕ) → v < nodes → FellOrKeeps rows y p q fall v) → IsNoneBelowAt (row_at rows k) (number_at y k) q way
+one_way nodes rows x y p q fall k way flow none lt same nodes_keep = elim (nodes_keep (start_at rows k way) (start_of-in nodes (row_at rows k) way (flow.rows k lt))) [
+  | inr keeps ↦ keeps_way (row_at rows k) (number_at y k) q way (keeps k way lt refl)
+  | inl start_fell ↦ elim (nodes_keep (end_at rows k way) (end_of-in nodes (row_at rows k) way (flow.rows k lt))) [
+    | inr keeps ↦ keeps_way (row_at rows k) (number_at y k) q way (keeps_end way keeps)
+    | inl end_fell ↦ fell rows x y p q fall k way none lt same start_fell end_fell
+  ]
+]
+  where
+    keeps_end : (w : Way) → KeepsAt rows y q (end_at rows k w) → KeepsRow (row_at rows k) (number_at y k) q
+    keeps_end Forward keeps = keeps k Backward lt refl
+    keeps_end Backward keeps = keeps k Forward lt refl
+
+-- a flow that moved at noted arcs alone is certified where these are tested, and those at each node whose potential did not fall with the others
+pub still_none : (nodes : ℕ) (rows : List ArcRow) (x y p q : List ℤ) (moved : List Bool) (fall : ℤ) → IsPseudoflow nodes rows y → NoneBelow rows x p → ((k : ℕ) → in_set moved k ≡ false → number_at y k ≡ number_at x k)
+    → ((k : ℕ) → k < length rows → in_set moved k ≡ true → KeepsRow (row_at rows k) (number_at y k) q) → ((v : ℕ) → v < nodes → FellOrKeeps rows y p q fall v) → NoneBelow rows y q
+still_none nodes rows x y p q moved fall flow none same arcs_keep nodes_keep = none_of rows y q (λ k lt. elim (noted_or_not moved k) [
+  | inl noted ↦ arcs_keep k lt noted
+  | inr out ↦ (one_way nodes rows x y p q fall k Forward flow none lt (same k out) nodes_keep, one_way nodes rows x y p q fall k Backward flow none lt (same k out) nodes_keep)
+])
