@@ -21,7 +21,7 @@ impl Search {
             let Some(t) = self.settled_at(k) else {
                 return;
             };
-            if proposal.excess::<AHEAD>(t) < 0 && self.is_done(t) {
+            if proposal.is_goal::<AHEAD>(t) && self.is_done(t) {
                 self.serve::<AHEAD>(proposal, t, renewals);
             }
         }
@@ -54,7 +54,7 @@ impl Search {
         self.begin_walk(t);
         let mut u = t;
         for _ in 0..fuel(proposal) {
-            let next = if proposal.excess::<AHEAD>(u) > 0 {
+            let next = if proposal.is_root::<AHEAD>(u) {
                 self.push::<AHEAD>(proposal, t, u)
             } else if let Some(step) = self.step_back::<AHEAD>(proposal, u) {
                 self.walk_on(step);
@@ -152,7 +152,7 @@ impl Search {
         );
         proposal.carry::<AHEAD>(s, t, amount);
         let first_full = draw_all::<AHEAD>(proposal, self.walk.listed(), amount);
-        if proposal.excess::<AHEAD>(t) >= 0 {
+        if !proposal.is_goal::<AHEAD>(t) {
             self.records.set_state(t, State::Done);
             release(&mut self.records, &self.walk, proposal, 0);
             return None;

@@ -15,6 +15,7 @@ mod home;
 mod look;
 mod record;
 mod records;
+mod scaling;
 mod search;
 mod solving;
 mod tables;

@@ -111,6 +111,11 @@ impl Search {
         self.counts = Counts::NONE;
     }
 
+    /// The most arcs on the path to a node that the search settled.
+    pub fn levels(&self) -> u32 {
+        deepest(&self.records, &self.settled)
+    }
+
     /// Takes all nodes into searches again.
     pub fn start(&mut self)
         ensures { self.new ≡ self.old }
@@ -139,7 +144,7 @@ impl Search {
                 continue;
             }
             self.settle(u);
-            if proposal.excess::<AHEAD>(u) < 0 && !self.is_gone(u) {
+            if proposal.is_goal::<AHEAD>(u) && !self.is_gone(u) {
                 got = got.saturating_add(1);
                 if got >= goals {
                     return Some(self.last);
@@ -160,14 +165,13 @@ impl Search {
         let mut goals: usize = 0;
         let mut some = false;
         for v in 0..self.entries() {
-            let excess = proposal.excess::<AHEAD>(v);
-            if excess == 0 || self.is_gone(v) {
+            if self.is_gone(v) {
                 continue;
             }
-            if excess > 0 {
+            if proposal.is_root::<AHEAD>(v) {
                 self.begin_at(v);
                 some = true;
-            } else {
+            } else if proposal.is_goal::<AHEAD>(v) {
                 goals = goals.saturating_add(1);
             }
         }
@@ -273,7 +277,7 @@ impl Search {
         let depth = self.depth(u).saturating_add(1);
         let potential = proposal.potential(u);
         for link in proposal.ends_at(u).links {
-            if link.room::<AHEAD>() > 0 && self.waits(link.other as usize) {
+            if proposal.is_open(link.room::<AHEAD>()) && self.waits(link.other as usize) {
                 let reduced_cost = proposal.reduced_cost::<AHEAD>(potential, link);
                 self.note(link, length_on(key, reduced_cost), depth);
             }
@@ -394,6 +398,17 @@ fn forget_all(records: &mut Records, touched: &Nodes)
     }
 }
 
+/// The greatest depth of these nodes.
+fn deepest(records: &Records, settled: &Nodes) -> u32
+    requires { settled.now ≡ records.now }
+{
+    let mut deepest = 0;
+    for v in settled.listed() {
+        deepest = records.depth(*v as usize).max(deepest);
+    }
+    deepest
+}
+
 /// Takes all nodes into searches again.
 fn call_back_all(records: &mut Records)
     ensures { records.new ≡ records.old }
@@ -409,7 +424,7 @@ fn leave_out_all<const AHEAD: bool>(records: &mut Records, proposal: &Proposal)
     ensures { records.new ≡ records.old }
 {
     for v in 0..records.entries() {
-        if proposal.excess::<AHEAD>(v) < 0 && records.state(v) != State::Done {
+        if proposal.is_goal::<AHEAD>(v) && records.state(v) != State::Done {
             records.leave_out(v);
         }
     }

@@ -3,7 +3,7 @@
 ghost use Rattle.std.specs.Prelude.{◌≡◌, ◌<◌, ◌^◌, ◌*◌, IfOk, length};
 
 use crate::search::Search;
-use crate::solving::{Fuel, Goals, solve, take_turns};
+use crate::solving::{Fuel, solve, solve_greatest};
 use crate::wanted::Wanted;
 use dimacs_text::ArcRow;
 use relaxation::{Limits, Proposal, Ring, Sets};
@@ -111,15 +111,7 @@ impl Proposals {
                 Limits::USUAL,
                 Fuel::USUAL,
             ),
-            Aim::GreatestFlow => {
-                let _ending = take_turns(
-                    &mut self.proposal,
-                    &mut self.search,
-                    &mut Goals::ALL,
-                    Fuel::GREATEST.pairs,
-                    Fuel::GREATEST,
-                );
-            }
+            Aim::GreatestFlow => solve_greatest(&mut self.proposal, &mut self.search),
         }
     }
 

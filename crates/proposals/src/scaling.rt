@@ -1,0 +1,113 @@
+//! Capacity scaling: searches that first use only residual arcs of much room, then in stages those of less.
+
+ghost use Rattle.std.specs.Prelude.{◌≡◌, ◌<◌, ◌^◌, ℕ, length};
+
+use crate::search::Search;
+use crate::solving::{Fuel, Goals, MOST_PAIRS, take_turns};
+use relaxation::Proposal;
+
+/// The most stages: no arc has room of 2^30 or more.
+const STAGES: usize = 30;
+/// In the first stage at most so many percent of the residual arcs have too little room. With more, flow goes a long way
+/// round them, and the next stage begins with many arcs to be filled: a plan of vehicles took five times as long. 10 was
+/// slower on grids with small capacities.
+const CLOSED_PERCENT: u64 = 25;
+/// In the first stage at least so many percent of what is out of balance lie at nodes that searches begin at or look for.
+/// 50 and 90 led to more searches on dense networks and on road networks.
+const HELD_PERCENT: u64 = 75;
+
+/// Brings a flow nearer to balance in stages. In each, searches use the residual arcs of some room or more, as long as there
+/// are paths of such arcs from as much excess to as much deficit. The next stage asks for less room: arcs that have it, and a
+/// negative reduced cost by now, are filled first. So few large pushes take the place of many small ones.
+pub fn scale(proposal: &mut Proposal, search: &mut Search, fuel: Fuel)
+    requires { search.old ≡ proposal.old }
+    ensures proposal { proposal.new ≡ proposal.old }
+    ensures search { search.new ≡ search.old }
+{
+    let mut fuel = fuel;
+    fuel.apart = 0;
+    let mut least = first_least(proposal);
+    for _ in 0..STAGES {
+        if least < 2 || fuel.narrowing < 2 {
+            break;
+        }
+        begin_stage(proposal, least);
+        let _ending = take_turns(proposal, search, &mut Goals::ALL, MOST_PAIRS, fuel);
+        least /= fuel.narrowing;
+    }
+    begin_stage(proposal, 1);
+}
+
+/// The room that an arc needs in the first stage: 1 where no stages are worth while.
+fn first_least(proposal: &Proposal) -> u32 {
+    let mut least: u32 = 1;
+    for _ in 1..STAGES {
+        let next = least.saturating_mul(2);
+        if !holds_enough(proposal, i64::from(next)) || !leaves_open(proposal, i64::from(next)) {
+            break;
+        }
+        least = next;
+    }
+    least
+}
+
+/// Whether enough of what is out of balance lies at nodes where it is so much.
+fn holds_enough(proposal: &Proposal, least: i64) -> bool {
+    let mut all: u64 = 0;
+    let mut held: u64 = 0;
+    for rest in proposal.rests() {
+        let amount = rest.unsigned_abs();
+        all = all.saturating_add(amount);
+        if amount >= least.unsigned_abs() {
+            held = held.saturating_add(amount);
+        }
+    }
+    held.saturating_mul(100) >= all.saturating_mul(HELD_PERCENT)
+}
+
+/// Whether few enough residual arcs have less room.
+fn leaves_open(proposal: &Proposal, least: i64) -> bool {
+    let mut all: u64 = 0;
+    let mut closed: u64 = 0;
+    for v in 0..proposal.entries() {
+        for link in proposal.ends_at(v).links {
+            let room = link.room::<true>();
+            if room > 0 {
+                all = all.saturating_add(1);
+                if room < least {
+                    closed = closed.saturating_add(1);
+                }
+            }
+        }
+    }
+    closed.saturating_mul(100) <= all.saturating_mul(CLOSED_PERCENT)
+}
+
+/// Lets searches use residual arcs of so much room, and fills those of a negative reduced cost.
+fn begin_stage(proposal: &mut Proposal, least: u32)
+    ensures { proposal.new ≡ proposal.old }
+{
+    proposal.set_least(least);
+    for v in 0..proposal.entries() {
+        fill_at(proposal, v);
+    }
+}
+
+/// Fills the residual arcs of a negative reduced cost that leave a node, where searches use them.
+fn fill_at(proposal: &mut Proposal, v: usize)
+    requires { v < proposal.old }
+    ensures { proposal.new ≡ proposal.old }
+{
+    let potential = proposal.potential(v);
+    let first = proposal.ends_at(v).first;
+    for k in 0..proposal.ends_at(v).links.len() {
+        let place = first.saturating_add(k as u32);
+        let Some(link) = proposal.link(place) else {
+            return;
+        };
+        let room = link.room::<true>();
+        if proposal.is_open(room) && proposal.reduced_cost::<true>(potential, &link) < 0 {
+            proposal.push::<true>(place, room);
+        }
+    }
+}
