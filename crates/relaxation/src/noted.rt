@@ -1,0 +1,64 @@
+//! Lists of arcs, each once.
+
+use crate::places::Places;
+use std::alloc::{AllocError, Global};
+use std::marker::Model;
+
+/// Arcs in the order in which they were first noted, of so many that have a number: another one is not listed. It is seen
+/// as how many these are.
+#[derive(Drop)]
+pub struct Noted {
+    marks: Vec<bool>,
+    arcs: Places,
+}
+
+impl Model for Noted {
+    ghost use Rattle.std.specs.Prelude.{ℕ, length};
+
+    ghost Value = { ℕ };
+
+    ghost view = { λ n. length n.marks.items };
+}
+
+impl Noted {
+    /// An empty list.
+    ///
+    /// # Errors
+    /// Memory for a table was refused.
+    pub fn new(alloc: Global, arcs: usize) -> Result<Noted, AllocError> {
+        let marks = vec![in alloc; false; arcs]?;
+        let arcs = Places::new(alloc, arcs)?;
+        Ok(Noted { marks, arcs })
+    }
+
+    /// Lists an arc, if it is not listed.
+    #[inline(always)]
+    pub fn note(&mut self, k: u32) {
+        let place = k as usize;
+        if place < self.marks.len() && !self.marks[place] {
+            self.marks[place] = true;
+            self.arcs.add(k);
+        }
+    }
+
+    /// Those that are listed.
+    pub fn listed(&self) -> &[u32] {
+        self.arcs.listed()
+    }
+
+    /// Forgets all.
+    pub fn clear(&mut self) {
+        take_off(&mut self.marks, self.arcs.listed());
+        self.arcs.clear();
+    }
+}
+
+/// Takes the marks off these arcs.
+fn take_off(marks: &mut [bool], arcs: &[u32]) {
+    for k in arcs {
+        let place = *k as usize;
+        if place < marks.len() {
+            marks[place] = false;
+        }
+    }
+}
