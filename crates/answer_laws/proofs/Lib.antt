@@ -1,5 +1,3 @@
-mod Written
-mod Cutting
 mod Steps
 mod Read
 mod ReadCut

@@ -8,8 +8,8 @@ use Rattle.dimacs_text.specs.declared.answer.Answer.TheVariants.{Flow}
 use Rattle.dimacs_text.specs.Answer.{answers}
 use Rattle.dimacs_text.proofs.SaidLemmas.{said_of_nothing}
 use Rattle.answer_laws.specs.Text.{FlowsFit, PotentialsFit, flow_lines, potential_lines, written}
-use Rattle.answer_laws.proofs.Written.{integer_written}
-use Rattle.answer_laws.proofs.Cutting.{joined, joined-append, AllPlain, AllPlain-append, lines_joined}
+use Rattle.dimacs_lines.proofs.Written.{integer_written}
+use Rattle.dimacs_lines.proofs.Cutting.{joined, joined-append, AllPlain, AllPlain-append, lines_joined}
 use Rattle.answer_laws.proofs.Steps.{Reads, Reads-append, faultless, said_at_end, told, nothing_told, s_line, f_line, v_line, value_reads, flow_reads, flow_plain, potential_reads, potential_plain, same_number}
 
 f_lines : List FlowLine → List Line

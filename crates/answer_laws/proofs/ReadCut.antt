@@ -7,8 +7,8 @@ use Rattle.dimacs_text.specs.declared.answer.Answer.TheVariants.{Cut}
 use Rattle.dimacs_text.specs.Answer.{Said, answers, and_said, read_shortage, read_cut_node, last_node}
 use Rattle.dimacs_text.proofs.SaidLemmas.{said_of_nothing}
 use Rattle.answer_laws.specs.Text.{cut_lines, cut_written, ids_from}
-use Rattle.answer_laws.proofs.Written.{natural_written, last_word, letter_then, number_read}
-use Rattle.answer_laws.proofs.Cutting.{joined, AllPlain, lines_joined}
+use Rattle.dimacs_lines.proofs.Written.{natural_written, last_word, letter_then, number_read}
+use Rattle.dimacs_lines.proofs.Cutting.{joined, AllPlain, lines_joined}
 use Rattle.answer_laws.proofs.Steps.{Reads, Reads-append, faultless, said_at_end, nothing_told, node_in, short_line, lt_true}
 
 abbrev told_cut : ℕ → List ℕ → Said

@@ -13,7 +13,7 @@ use Rattle.dimacs_text.specs.Lawful.{IsNode}
 use Rattle.dimacs_text.specs.Answer.{Said, said_of, and_said, line_fault, answer_rule, read_value, read_flow, read_potential}
 use Rattle.dimacs_text.proofs.SaidLemmas.{said_of_push}
 use Rattle.std.proofs.lemmas.List.Folds.{list_all-append}
-use Rattle.answer_laws.proofs.Written.{is_plain, natural_written, integer_written, word_then, last_word, letter_then, number_read, integer_read, value_read}
+use Rattle.dimacs_lines.proofs.Written.{is_plain, natural_written, integer_written, word_then, last_word, letter_then, number_read, integer_read, value_read}
 
 -- none of the lines is faulty, and with them what is said goes from the one to the other
 abbrev pub Reads : ℕ → ℕ → Said → List Line → Said → Type 0

@@ -1,3 +1,6 @@
 mod ReadLemmas
 mod LineLemmas
 mod ListLemmas
+mod ArrayLemmas
+mod ArrayLines
+mod ArrayTexts

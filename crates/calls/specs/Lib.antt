@@ -1,2 +1,4 @@
 pub mod Library
 pub mod Answer
+pub mod Arrays
+pub mod ArrayText

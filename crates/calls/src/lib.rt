@@ -2,6 +2,9 @@
 #![tactic(auto)]
 
 mod answer;
+mod array_fault;
+mod array_text;
+mod arrays;
 mod fault;
 mod library;
 mod lists;
@@ -10,6 +13,9 @@ mod statuses;
 mod view;
 
 pub use answer::{Answer, solve_text};
+pub use array_fault::ArrayFault;
+pub use array_text::arrays_are_as_their_text;
+pub use arrays::{Arrays, open_arrays};
 pub use fault::Fault;
 pub use library::{open_session, redo, take_line, undo};
 pub use lists::{give_cut, give_flow, give_potentials};

@@ -12,3 +12,5 @@ pub mod ReaderLemmas
 pub mod EndLemmas
 pub mod DecidedLemmas
 pub mod NameLemmas
+pub mod Written
+pub mod Cutting

@@ -31,6 +31,7 @@ pub use group::{GROUP_LIMIT, Group};
 pub use limits::limits_are;
 pub use problem::{
     ARC_LIMIT, ArcRow, CAP_LIMIT, COST_LIMIT, Kind, NODE_LIMIT, NodeMark, Problem, SUPPLY_LIMIT,
+    Size,
 };
 pub use problem_fault::ProblemFault;
 pub use problem_reader::{ProblemReader, decided_for_all};

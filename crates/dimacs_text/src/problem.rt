@@ -75,7 +75,7 @@ pub const COST_LIMIT: i64 = 1_000_000_000_000;
 /// The greatest supply, either way.
 pub const SUPPLY_LIMIT: i64 = 1_000_000_000;
 
-/// A problem that was read. A `ProblemReader` alone makes it, so it keeps the limits and the rules of its kind.
+/// A problem, which keeps the limits and the rules of its kind, whether a `ProblemReader` or a caller made it.
 #[derive(Drop)]
 pub struct Problem {
     kind: Kind,
@@ -99,8 +99,8 @@ impl Model for Problem {
 impl Problem {
     ghost use Rattle.dimacs_text.specs.Lawful.{IsProblem};
 
-    /// A problem of these parts.
-    pub(crate) fn new(size: Size, marks: Vec<NodeMark>, arcs: Vec<ArcRow>) -> Self
+    /// A problem of what its lines say. Its marks and arcs have to keep the limits and the rules of the kind.
+    pub fn new(size: Size, marks: Vec<NodeMark>, arcs: Vec<ArcRow>) -> Self
         requires { IsProblem size.kind size.nodes marks.items arcs.items }
         ensures { result ≡ record { kind = size.kind; nodes = size.nodes; marks = marks.items; arcs = arcs.items } }
     {

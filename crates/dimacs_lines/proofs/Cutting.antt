@@ -2,7 +2,7 @@
 use Rattle.std.proofs.Common.{◌≡◌, ℕ, Bool, true, not, List, [], ◌∷◌, ◌++◌, append-nil, append_assoc, refl, sym, ◌∙◌}
 use Rattle.std.specs.List.{list_all}
 use Rattle.dimacs_lines.specs.Lines.{Line, is_line_feed, parts_of, lines_of}
-use Rattle.answer_laws.proofs.Written.{first_of, not_true, is_plain}
+use Rattle.dimacs_lines.proofs.Written.{first_of, not_true, is_plain}
 
 abbrev pub plain : Line → Bool
 plain line = list_all is_plain line
