@@ -1,4 +1,4 @@
-use Rattle.std.proofs.Common.{ap, codes, true}
+use Rattle.std.proofs.Common.{ap, codes}
 use Rattle.std.specs.Prelude.{Some}
 use Rattle.clap.specs.Words.{Rule}
 use Rattle.clap.specs.declared.builder.ArgAction.TheVariants.{SetTrue}
