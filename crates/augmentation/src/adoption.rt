@@ -18,7 +18,7 @@ use crate::decomposition::push_towards;
 use crate::draft::Draft;
 use crate::excess::Excess;
 use crate::journal::Journal;
-use crate::rounds::{FIRST_PUSHES, finish, push_first};
+use crate::rounds::finish;
 use crate::scratch::Scratch;
 use crate::setting::Setting;
 use crate::touched::Touched;
@@ -252,16 +252,9 @@ pub fn push_all(
     ensures parted { IsParted graph.now.rows flow.new.entries.items excess.new }
     ensures scratch { IsScratchFor (length scratch.old.potentials.items) scratch.new }
 {
-    if scratch.attempt.proposals.is_fresh() {
-        return push_proposed(graph, flow, excess, scratch);
-    }
-    let first = push_first(graph, flow, excess, scratch);
-    if first < FIRST_PUSHES {
-        return first;
-    }
-    if pays(graph, excess) {
-        first + push_proposed(graph, flow, excess, scratch)
+    if scratch.attempt.proposals.is_fresh() || pays(graph, excess) {
+        push_proposed(graph, flow, excess, scratch)
     } else {
-        first + finish(graph, flow, excess, scratch)
+        finish(graph, flow, excess, scratch)
     }
 }

@@ -41,6 +41,15 @@ impl Attempt {
         })
     }
 
+    /// Notes that the arcs in these rows may have got another row or another flow: the next proposal looks at them.
+    pub fn note_all(&mut self, places: &[u32])
+        ensures { self.new ≡ self.old }
+    {
+        for place in places {
+            self.proposals.note(*place);
+        }
+    }
+
     /// Proposes where to lead a flow, its excess and potentials: the first time and for a greatest flow from afar, else near
     /// the nodes out of balance.
     pub(crate) fn propose(

@@ -1,4 +1,4 @@
-//! Potentials that are lowered after a search, and raised to the shortest labels at the end.
+//! Potentials that are lowered after a search, and become the shortest labels at the end.
 
 ghost use Rattle.std.specs.Prelude.{◌≡◌, ℕ, length, ◌+ℤ◌, FitsSigned};
 ghost use Rattle.std.specs.Int.{w64};
@@ -35,30 +35,6 @@ fn find_labels(graph: &Graph, flow: &Tracked<i64>, scratch: &mut Scratch)
         &mut scratch.labels.order,
         &mut scratch.queue,
     );
-}
-
-/// Makes each label a potential.
-fn take_labels(potentials: &mut [i64], node_labels: &[NodeLabel])
-    requires same_length { length node_labels.now ≡ length potentials.old }
-    requires fits { (v : ℕ) → FitsSigned w64 (number_at potentials.old v +ℤ distance_at node_labels.now v) }
-    ensures labels { AreLabels potentials.old potentials.new node_labels.now }
-{
-    for v in 0..potentials.len() {
-        potentials[v] += node_labels[v].distance;
-    }
-}
-
-/// Raises the potentials in the scratch to the shortest labels.
-pub(crate) fn raise(graph: &Graph, flow: &Tracked<i64>, scratch: &mut Scratch)
-    requires graph { HasEntries (length scratch.old.potentials.items) graph.now }
-    requires certified { IsReducedCostOptimal graph.now.rows flow.now.entries.items scratch.old.potentials.items }
-    requires scratch { IsScratchFor (length scratch.old.potentials.items) scratch.old }
-    ensures certified { IsReducedCostOptimal graph.now.rows flow.now.entries.items scratch.new.potentials.items }
-    ensures within { ArePotentials (length scratch.new.potentials.items) label_floor scratch.new.potentials.items }
-    ensures scratch { IsScratchFor (length scratch.old.potentials.items) scratch.new }
-{
-    find_labels(graph, flow, scratch);
-    take_labels(&mut scratch.potentials, &scratch.labels.node_labels);
 }
 
 /// Writes each label into a table where another number stands.

@@ -11,19 +11,16 @@ ghost use Rattle.augmentation.specs.Tracked.{IsTracked, IsWritten};
 ghost use Rattle.augmentation.specs.Cut.{IsParted};
 
 use crate::augment::augment;
-use crate::certificate::are_in_range;
 use crate::excess::Excess;
-use crate::potentials::{lower, raise};
+use crate::potentials::lower;
 use crate::scratch::Scratch;
 use crate::tracked::Tracked;
 use residual_graph::{Graph, Residual};
 use shortest_paths::find_deficit;
 
-/// The most pushes before a proposal is made near an edit: few edits need more.
-pub(crate) const FIRST_PUSHES: u64 = 3;
-
-/// Pushes flow along shortest paths until no node in excess reaches a node in deficit, and counts the pushes: where a
-/// proposal was right, one search that finds nothing is all that it does.
+/// Searches from all nodes in excess for the nearest node in deficit, pushes along the path to it, and again, until no node
+/// in excess reaches a node in deficit; counts the pushes. Where a proposal was right, one search that finds nothing is all
+/// that it does.
 #[inline(never)] // a name of its own in the program: `bench/count` counts its calls
 pub fn finish(
     graph: &Graph,
@@ -46,69 +43,9 @@ pub fn finish(
     ensures parted { IsParted graph.now.rows flow.new.entries.items excess.new }
     ensures scratch { IsScratchFor (length scratch.old.potentials.items) scratch.new }
 {
-    push_some(graph, flow, excess, scratch, u64::MAX)
-}
-
-/// Pushes as `finish` does, and searches no more after `FIRST_PUSHES`.
-pub(crate) fn push_first(
-    graph: &Graph,
-    flow: &mut Tracked<i64>,
-    excess: &mut Excess,
-    scratch: &mut Scratch,
-) -> u64
-    requires flow_tracked { IsTracked flow.old }
-    requires graph { HasEntries (length scratch.old.potentials.items) graph.now }
-    requires certified { IsReducedCostOptimal graph.now.rows flow.old.entries.items scratch.old.potentials.items }
-    requires potentials_in { ArePotentials (length scratch.old.potentials.items) label_floor scratch.old.potentials.items }
-    requires excess_in { length excess.old ≡ length scratch.old.potentials.items }
-    requires scratch { IsScratchFor (length scratch.old.potentials.items) scratch.old }
-    requires small { AreSmall excess.old }
-    ensures flow_written { IsWritten flow.old flow.new }
-    ensures certified { IsReducedCostOptimal graph.now.rows flow.new.entries.items scratch.new.potentials.items }
-    ensures potentials_in { ArePotentials (length scratch.new.potentials.items) label_floor scratch.new.potentials.items }
-    ensures excess_in { length excess.new ≡ length excess.old }
-    ensures small { AreSmall excess.new }
-    ensures pushed { ArePushes graph.now.rows result flow.old.entries.items excess.old flow.new.entries.items excess.new }
-    ensures parted { result < FIRST_PUSHES → IsParted graph.now.rows flow.new.entries.items excess.new }
-    ensures scratch { IsScratchFor (length scratch.old.potentials.items) scratch.new }
-{
-    let pushes = push_some(graph, flow, excess, scratch, FIRST_PUSHES);
-    if !are_in_range(&scratch.potentials) {
-        raise(graph, flow, scratch);
-    }
-    pushes
-}
-
-/// Pushes as `finish` does, until so many pushes are made: searches from all nodes in excess for the nearest node in
-/// deficit, pushes along the path to it, and again.
-fn push_some(
-    graph: &Graph,
-    flow: &mut Tracked<i64>,
-    excess: &mut Excess,
-    scratch: &mut Scratch,
-    most: u64,
-) -> u64
-    requires flow_tracked { IsTracked flow.old }
-    requires graph { HasEntries (length scratch.old.potentials.items) graph.now }
-    requires certified { IsReducedCostOptimal graph.now.rows flow.old.entries.items scratch.old.potentials.items }
-    requires potentials_in { ArePotentials (length scratch.old.potentials.items) label_floor scratch.old.potentials.items }
-    requires excess_in { length excess.old ≡ length scratch.old.potentials.items }
-    requires scratch { IsScratchFor (length scratch.old.potentials.items) scratch.old }
-    requires small { AreSmall excess.old }
-    ensures flow_written { IsWritten flow.old flow.new }
-    ensures certified { IsReducedCostOptimal graph.now.rows flow.new.entries.items scratch.new.potentials.items }
-    ensures excess_in { length excess.new ≡ length excess.old }
-    ensures small { AreSmall excess.new }
-    ensures pushed { ArePushes graph.now.rows result flow.old.entries.items excess.old flow.new.entries.items excess.new }
-    ensures parted { result < most → IsParted graph.now.rows flow.new.entries.items excess.new }
-    ensures scratch { IsScratchFor (length scratch.old.potentials.items) scratch.new }
-{
     excess.tidy();
     let mut pushes = 0;
-    while pushes < most {
-        let Some(target) = search_on(graph, flow, excess, scratch) else {
-            return pushes;
-        };
+    while let Some(target) = search_on(graph, flow, excess, scratch) {
         push_within(graph, flow, excess, scratch, target);
         pushes += 1;
     }

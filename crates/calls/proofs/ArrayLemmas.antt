@@ -6,9 +6,11 @@ use Rattle.std.proofs.lemmas.Bool.{leb-true, and_parts}
 use Rattle.std.proofs.lemmas.Int.{ints}
 use Rattle.std.proofs.lemmas.List.FromFn.{get_or-map-range_with_len, length-map-range_with_len}
 use Rattle.dimacs_lines.specs.Checks.{◌>>=◌, demand}
-use Rattle.dimacs_lines.specs.declared.fault.Fault.{Fault}
-use Rattle.dimacs_lines.specs.declared.fault.Fault.TheVariants as fault
+use Rattle.dimacs_lines.specs.declared.fault.LineFault.{LineFault}
+use Rattle.dimacs_lines.specs.declared.fault.LineFault.TheVariants as of_line
 use Rattle.dimacs_lines.specs.declared.numbers.TheConstants.{DIGIT_LIMIT}
+use Rattle.dimacs_text.specs.declared.problem_fault.ProblemFault.TheVariants as fault
+use Rattle.dimacs_text.specs.ProblemFault.{in_line}
 use Rattle.dimacs_text.specs.declared.problem.ArcRow.{ArcRow}
 use Rattle.dimacs_text.specs.declared.problem.Kind.TheVariants.{Min}
 use Rattle.dimacs_text.specs.declared.problem.NodeMark.{NodeMark}
@@ -20,17 +22,21 @@ use Rattle.calls.specs.declared.arrays.Arrays.{Arrays}
 -- ---- tests that pass
 
 -- the first of two tests passes, and then the second
-both_pass : (r : Result (Unit {0}) Fault) (next : Unit {0} → Result (Unit {0}) Fault) → (r >>= next) ≡ Ok tt → (r ≡ Ok tt) × (next tt ≡ Ok tt)
+both_pass : {F : Type 0} (r : Result (Unit {0}) F) (next : Unit {0} → Result (Unit {0}) F) → (r >>= next) ≡ Ok tt → (r ≡ Ok tt) × (next tt ≡ Ok tt)
 both_pass (Ok x) next e = (refl, e)
 both_pass (Err f) next e = absurd cc
 
-is_met : (met : Bool) (f : Fault) → demand met f ≡ Ok tt → met ≡ true
+is_met : {F : Type 0} (met : Bool) (f : F) → demand met f ≡ Ok tt → met ≡ true
 is_met true f e = refl
 is_met false f e = absurd cc
 
-is_met_then : (met : Bool) (f : Fault) (r : Result (Unit {0}) Fault) → (demand met f >>= λ _. r) ≡ Ok tt → (met ≡ true) × (r ≡ Ok tt)
+is_met_then : {F : Type 0} (met : Bool) (f : F) (r : Result (Unit {0}) F) → (demand met f >>= λ _. r) ≡ Ok tt → (met ≡ true) × (r ≡ Ok tt)
 is_met_then true f r e = (refl, e)
 is_met_then false f r e = absurd cc
+
+as_in_line : (r : Result (Unit {0}) LineFault) → in_line r ≡ Ok tt → r ≡ Ok tt
+as_in_line (Ok x) e = refl
+as_in_line (Err f) e = absurd cc
 
 int_le-true : (a b : ℤ) → int_le a b ≡ true → a ≤ℤ b
 int_le-true a b e = grind (arith, ints)
@@ -38,22 +44,22 @@ int_le-true a b e = grind (arith, ints)
 pub natural_within : (low high n : ℕ) → test_natural low high n ≡ Ok tt → (low ≤ n) × (n ≤ high)
 unfolding test_natural
 natural_within low high n passes =
-    let passed = is_met_then (nat_lt n (10 ^ DIGIT_LIMIT)) fault.NotANumber (demand (nat_le low n && nat_le n high) fault.OutOfRange) passes in
-    let range = and_parts (nat_le low n) (nat_le n high) (is_met (nat_le low n && nat_le n high) fault.OutOfRange passed.1) in
+    let passed = is_met_then (nat_lt n (10 ^ DIGIT_LIMIT)) of_line.NotANumber (demand (nat_le low n && nat_le n high) of_line.OutOfRange) passes in
+    let range = and_parts (nat_le low n) (nat_le n high) (is_met (nat_le low n && nat_le n high) of_line.OutOfRange passed.1) in
     (leb-true low n range.0, leb-true n high range.1)
 
 pub integer_within : (limit z : ℤ) → test_integer limit z ≡ Ok tt → IsWithin limit z
 unfolding test_integer
 integer_within limit z passes =
     let is_within = int_le (neg_ℤ limit) z && int_le z limit in
-    let passed = is_met_then (nat_lt (unsigned_abs z) (10 ^ DIGIT_LIMIT)) fault.NotANumber (demand is_within fault.OutOfRange) passes in
-    let range = and_parts (int_le (neg_ℤ limit) z) (int_le z limit) (is_met is_within fault.OutOfRange passed.1) in
+    let passed = is_met_then (nat_lt (unsigned_abs z) (10 ^ DIGIT_LIMIT)) of_line.NotANumber (demand is_within of_line.OutOfRange) passes in
+    let range = and_parts (int_le (neg_ℤ limit) z) (int_le z limit) (is_met is_within of_line.OutOfRange passed.1) in
     (int_le-true (neg_ℤ limit) z range.0, int_le-true z limit range.1)
 
 pub bound_within : (z : ℤ) → test_bound z ≡ Ok tt → (pos 0 ≤ℤ z) × (z ≤ℤ pos CAP_LIMIT)
 unfolding test_bound
 bound_within z passes =
-    let passed = is_met_then (int_le (pos 0) z) fault.NotANumber (test_natural 0 CAP_LIMIT (unsigned_abs z)) passes in
+    let passed = is_met_then (int_le (pos 0) z) of_line.NotANumber (test_natural 0 CAP_LIMIT (unsigned_abs z)) passes in
     let least = int_le-true (pos 0) z passed.0 in
     let most = (natural_within 0 CAP_LIMIT (unsigned_abs z) passed.1).1 in
     (least, omega (arith, ints))
@@ -68,19 +74,19 @@ counts_within nodes arcs passes =
 pub row_lawful : (nodes : ℕ) (row : ArcRow) → test_row nodes row ≡ Ok tt → IsLawfulRow nodes row
 unfolding test_row
 row_lawful nodes row passes =
-    let at_tail = both_pass (test_natural 1 nodes row.tail) _ passes in
-    let at_head = both_pass (test_natural 1 nodes row.head) _ at_tail.1 in
-    let at_low = both_pass (test_bound row.low) _ at_head.1 in
-    let at_cap = both_pass (test_bound row.cap) _ at_low.1 in
-    let at_cost = both_pass (test_integer COST_LIMIT row.cost) _ at_cap.1 in
+    let at_tail = both_pass (in_line (test_natural 1 nodes row.tail)) _ passes in
+    let at_head = both_pass (in_line (test_natural 1 nodes row.head)) _ at_tail.1 in
+    let at_low = both_pass (in_line (test_bound row.low)) _ at_head.1 in
+    let at_cap = both_pass (in_line (test_bound row.cap)) _ at_low.1 in
+    let at_cost = both_pass (in_line (test_integer COST_LIMIT row.cost)) _ at_cap.1 in
     let in_order = is_met (int_le row.low row.cap) fault.LowAboveCap at_cost.1 in
     record {
-      tail = natural_within 1 nodes row.tail at_tail.0;
-      head = natural_within 1 nodes row.head at_head.0;
-      low = (bound_within row.low at_low.0).0;
+      tail = natural_within 1 nodes row.tail (as_in_line _ at_tail.0);
+      head = natural_within 1 nodes row.head (as_in_line _ at_head.0);
+      low = (bound_within row.low (as_in_line _ at_low.0)).0;
       cap = int_le-true row.low row.cap in_order;
-      limit = (bound_within row.cap at_cap.0).1;
-      cost = integer_within COST_LIMIT row.cost at_cost.0;
+      limit = (bound_within row.cap (as_in_line _ at_cap.0)).1;
+      cost = integer_within COST_LIMIT row.cost (as_in_line _ at_cost.0);
     }
 
 -- ---- the problem of arrays without a fault

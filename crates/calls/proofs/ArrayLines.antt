@@ -6,7 +6,7 @@ use Rattle.std.proofs.lemmas.Bool.Decides.{nat_tests}
 use Rattle.std.proofs.lemmas.Int.{ints}
 use Rattle.std.proofs.lemmas.List.Folds.{list_all-append}
 use Rattle.dimacs_lines.specs.Checks.{◌>>=◌, demand, natural_in, integer_in}
-use Rattle.dimacs_lines.specs.declared.fault.Fault.TheVariants as fault
+use Rattle.dimacs_lines.specs.declared.fault.LineFault.TheVariants as fault
 use Rattle.dimacs_lines.specs.declared.numbers.TheConstants.{DIGIT_LIMIT}
 use Rattle.dimacs_lines.specs.Fields.{Word, digits_value, integer, is_blank, natural, words_of}
 use Rattle.dimacs_lines.specs.Lines.{Line, is_too_long}

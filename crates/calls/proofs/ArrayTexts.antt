@@ -10,14 +10,15 @@ use Rattle.std.proofs.lemmas.List.Folds.{list_any_none}
 use Rattle.std.proofs.lemmas.List.FromFn.{get_or-map-range_with_len, length-map-range_with_len, map-range_with_len_more, take-map-range_with_len}
 use Rattle.std.proofs.Math.Seq.{split_at}
 use Rattle.dimacs_lines.specs.Checks.{◌>>=◌, demand}
-use Rattle.dimacs_lines.specs.Fault.{number_of}
-use Rattle.dimacs_lines.specs.declared.fault.Fault.{Fault}
-use Rattle.dimacs_lines.specs.declared.fault.Fault.TheVariants as fault
+use Rattle.dimacs_lines.specs.declared.fault.LineFault.{LineFault}
 use Rattle.dimacs_lines.specs.declared.fault.TextFault.TheVariants as text_fault
 use Rattle.dimacs_lines.specs.Lines.{Line, is_too_long, lines_of}
 use Rattle.dimacs_lines.specs.Stream.{at_line, counted, first_fault, fault_among}
 use Rattle.dimacs_lines.proofs.Cutting.{AllPlain, AllPlain-append, joined, lines_joined, plain}
 use Rattle.dimacs_lines.proofs.Written.{integer_read, number_read}
+use Rattle.dimacs_text.specs.declared.problem_fault.ProblemFault.{ProblemFault}
+use Rattle.dimacs_text.specs.declared.problem_fault.ProblemFault.TheVariants as fault
+use Rattle.dimacs_text.specs.ProblemFault.{in_line}
 use Rattle.dimacs_text.specs.declared.problem.ArcRow.{ArcRow}
 use Rattle.dimacs_text.specs.declared.problem.Kind.TheVariants.{Min}
 use Rattle.dimacs_text.specs.declared.problem.NodeMark.{NodeMark}
@@ -63,7 +64,7 @@ parsed_at_end before (l ∷ ls) s s' is r =
     ap parsed_of (sym (append_assoc before (l ∷ []) ls)) ∙ parsed_at_end (before ++ l ∷ []) ls r.0 s' (parsed_push before l s r.0 is r.3) r.4
 
 -- the first line with a fault
-faulty : (before ls : List Line) (l : Line) (rest : List Line) (s s' : Parsed) (f : Fault) (at : ℕ) → parsed_of before ≡ s → Reads s ls s' → is_too_long l ≡ false → line_fault s' l ≡ Some f
+faulty : (before ls : List Line) (l : Line) (rest : List Line) (s s' : Parsed) (f at : ℕ) → parsed_of before ≡ s → Reads s ls s' → is_too_long l ≡ false → line_fault s' l ≡ Some f
     → length before + length ls + 1 ≡ at → first_fault problem_rule before (ls ++ l ∷ rest) ≡ Some (at_line f at)
 unfolding first_fault fault_among
 faulty before [] l rest s s' f at is r short found count =
@@ -91,13 +92,13 @@ told nodes arcs marks rows = record { size = Some (record { kind = Min; nodes = 
 abbrev nothing_told : Parsed
 nothing_told = record { size = None; marks = []; rows = [] }
 
-two_tests : {A : Type 0} (r q : Result (Unit {0}) Fault) (n m : ℕ) (made : ℕ → ℕ → A)
-    → fault_of ((r >>= λ _. Ok n) >>= λ x. (q >>= λ _. Ok m) >>= λ y. Ok (made x y)) ≡ fault_of (r >>= λ _. q)
+two_tests : {A : Type 0} (r q : Result (Unit {0}) LineFault) (n m : ℕ) (made : ℕ → ℕ → A)
+    → fault_of (in_line (r >>= λ _. Ok n) >>= λ x. in_line (q >>= λ _. Ok m) >>= λ y. Ok (made x y)) ≡ fault_of (in_line (r >>= λ _. q))
 two_tests (Err f) q n m made = refl
 two_tests (Ok x) (Err f) n m made = refl
 two_tests (Ok x) (Ok y) n m made = refl
 
-size_fault : (nodes arcs : ℕ) → nodes < 2 ^ 64 → arcs < 2 ^ 64 → line_fault nothing_told (size_line nodes arcs) ≡ fault_of (test_counts nodes arcs)
+size_fault : (nodes arcs : ℕ) → nodes < 2 ^ 64 → arcs < 2 ^ 64 → line_fault nothing_told (size_line nodes arcs) ≡ fault_of (in_line (test_counts nodes arcs))
 unfolding read_size test_counts
 size_fault nodes arcs few_nodes few_arcs =
     let line = size_is_line nodes arcs few_nodes few_arcs in
@@ -112,7 +113,7 @@ size_parsed nodes arcs few_nodes few_arcs =
 
 -- a node line, where marks of other nodes stand before it
 node_fault : (nodes arcs : ℕ) (done : List NodeMark) (id : ℕ) (supply : ℤ) → 1 ≤ id → id ≤ nodes → nodes ≤ NODE_LIMIT → unsigned_abs supply ≤ 2 ^ 63 → is_named id done ≡ false
-    → line_fault (told nodes arcs done []) (node_line id supply) ≡ fault_of (test_integer SUPPLY_LIMIT supply)
+    → line_fault (told nodes arcs done []) (node_line id supply) ≡ fault_of (in_line (test_integer SUPPLY_LIMIT supply))
 unfolding read_mark read_supply
 node_fault nodes arcs done id supply least most few small fresh =
     let line = node_is_line id supply (omega arith) small in
@@ -121,7 +122,7 @@ node_fault nodes arcs done id supply least most few small fresh =
     passed : test_natural 1 nodes id ≡ Ok tt
     passed = natural_passes 1 nodes id least most (omega arith)
 
-    one_test : (r : Result (Unit {0}) Fault) (z : ℤ) (made : ℤ → NodeMark) → fault_of ((r >>= λ _. Ok z) >>= λ x. demand true fault.NamedTwice >>= λ _. Ok (made x)) ≡ fault_of r
+    one_test : (r : Result (Unit {0}) LineFault) (z : ℤ) (made : ℤ → NodeMark) → fault_of (in_line (r >>= λ _. Ok z) >>= λ x. demand true fault.NamedTwice >>= λ _. Ok (made x)) ≡ fault_of (in_line r)
     one_test (Err f) z made = refl
     one_test (Ok x) z made = refl
 
@@ -140,10 +141,10 @@ le_same (pos a) (pos b) ha hb = refl
 le_same (pos a) (negsuc b) ha hb = absurd (omega (arith, ints))
 le_same (negsuc a) b ha hb = absurd (omega (arith, ints))
 
-five_tests : (r q s t u : Result (Unit {0}) Fault) (tail head low cap : ℕ) (cost : ℤ) (met : Bool) (made : ℕ → ℕ → ℕ → ℕ → ℤ → ArcRow) → (s ≡ Ok tt → t ≡ Ok tt → nat_le low cap ≡ met)
-    → fault_of ((r >>= λ _. Ok tail) >>= λ tail. (q >>= λ _. Ok head) >>= λ head. (s >>= λ _. Ok low) >>= λ low. (t >>= λ _. Ok cap) >>= λ cap. (u >>= λ _. Ok cost) >>= λ cost.
+five_tests : (r q s t u : Result (Unit {0}) LineFault) (tail head low cap : ℕ) (cost : ℤ) (met : Bool) (made : ℕ → ℕ → ℕ → ℕ → ℤ → ArcRow) → (s ≡ Ok tt → t ≡ Ok tt → nat_le low cap ≡ met)
+    → fault_of (in_line (r >>= λ _. Ok tail) >>= λ tail. in_line (q >>= λ _. Ok head) >>= λ head. in_line (s >>= λ _. Ok low) >>= λ low. in_line (t >>= λ _. Ok cap) >>= λ cap. in_line (u >>= λ _. Ok cost) >>= λ cost.
     demand (nat_le low cap) fault.LowAboveCap >>= λ _. Ok (made tail head low cap cost))
-    ≡ fault_of (r >>= λ _. q >>= λ _. s >>= λ _. t >>= λ _. u >>= λ _. demand met fault.LowAboveCap)
+    ≡ fault_of (in_line r >>= λ _. in_line q >>= λ _. in_line s >>= λ _. in_line t >>= λ _. in_line u >>= λ _. demand met fault.LowAboveCap)
 five_tests (Err f) q s t u tail head low cap cost met made same = refl
 five_tests (Ok x) (Err f) s t u tail head low cap cost met made same = refl
 five_tests (Ok x) (Ok y) (Err f) t u tail head low cap cost met made same = refl
@@ -234,15 +235,12 @@ not_below n = grind (arith, nat_tests)
 same_number : (a b : ℕ) → a ≡ b → (a == b) ≡ true
 same_number a b e = grind (arith, nat_tests)
 
-no_fault : (r : Result (Unit {0}) Fault) (found : Option Fault) → found ≡ fault_of r → r ≡ Ok tt → found ≡ None
+no_fault : (r : Result (Unit {0}) ProblemFault) (found : Option ℕ) → found ≡ fault_of r → r ≡ Ok tt → found ≡ None
 no_fault r found is passes = is ∙ ap fault_of passes
 
-the_fault : (r : Result (Unit {0}) Fault) (found : Option Fault) (f : Fault) → found ≡ fault_of r → r ≡ Err f → found ≡ Some f
-the_fault r found f is fails = is ∙ ap fault_of fails
-
-fails_by : (r : Result (Unit {0}) Fault) (number : ℕ) → FailsBy r number → (f : Fault) × (r ≡ Err f) × (number ≡ number_of f)
-fails_by (Ok x) number fails = absurd fails
-fails_by (Err f) number fails = (f, refl, fails)
+the_fault : (r : Result (Unit {0}) ProblemFault) (found : Option ℕ) (number : ℕ) → found ≡ fault_of r → FailsBy r number → found ≡ Some number
+the_fault (Ok x) found number is fails = absurd fails
+the_fault (Err f) found number is fails = is ∙ ap (λ (n : ℕ). Some n) (sym fails)
 
 -- ---- the text
 
@@ -304,7 +302,7 @@ module _ (a : Arrays) (even : IsEven a) (fit : FitTheirTypes a) where
     size_reads = (
       told nodes arcs [] [],
       (size_is_line nodes arcs fit.nodes fit.arcs).short,
-      no_fault (test_counts nodes arcs) _ (size_fault nodes arcs fit.nodes fit.arcs) counts,
+      no_fault (in_line (test_counts nodes arcs)) _ (size_fault nodes arcs fit.nodes fit.arcs) (rw counts refl),
       size_parsed nodes arcs within_limits.1 within_limits.2,
       refl,
     )
@@ -314,7 +312,7 @@ module _ (a : Arrays) (even : IsEven a) (fit : FitTheirTypes a) where
         let below : i < place = omega (arith, length-map-range_with_len (mark_at a.supply.now) 0 place) in
         rw (get_or-map-range_with_len (mark_at a.supply.now) 0 place i i d below (omega arith)) (ne_eqb (i + 1) (place + 1) (omega arith)))
 
-    node_fault_at : (place : ℕ) → place < nodes → line_fault (told nodes arcs (marks_upto place) []) (node_line_at a.supply.now place) ≡ fault_of (test_integer SUPPLY_LIMIT (supply_in place))
+    node_fault_at : (place : ℕ) → place < nodes → line_fault (told nodes arcs (marks_upto place) []) (node_line_at a.supply.now place) ≡ fault_of (in_line (test_integer SUPPLY_LIMIT (supply_in place)))
     node_fault_at place within =
         node_fault nodes arcs (marks_upto place) (place + 1) (supply_in place) (omega arith) (omega arith) within_limits.1 (fit.supplies place (pos 0) within) (fresh place)
 
@@ -326,7 +324,7 @@ module _ (a : Arrays) (even : IsEven a) (fit : FitTheirTypes a) where
         let here : Reads (told nodes arcs (marks_upto n) []) (node_line_at a.supply.now n ∷ []) (told nodes arcs (marks_upto n ++ mark_at a.supply.now n ∷ []) []) = (
           told nodes arcs (marks_upto n ++ mark_at a.supply.now n ∷ []) [],
           (node_line_is n (omega arith)).short,
-          no_fault (test_integer SUPPLY_LIMIT (supply_in n)) _ (node_fault_at n (omega arith)) passes,
+          no_fault (in_line (test_integer SUPPLY_LIMIT (supply_in n))) _ (node_fault_at n (omega arith)) (rw passes refl),
           node_parsed nodes arcs (marks_upto n) (n + 1) (supply_in n) (omega (arith, within_limits.1)) passes,
           refl,
         ) in
@@ -377,25 +375,23 @@ module _ (a : Arrays) (even : IsEven a) (fit : FitTheirTypes a) where
   counted_is : (n : ℕ) → n < 2 ^ 64 → counted n ≡ n
   counted_is n small = omega arith
 
-  fault_read : (ls : List Line) (l : Line) (rest : List Line) (s : Parsed) (f : Fault) (number at : ℕ) → all_lines ≡ ls ++ l ∷ rest → Reads nothing_told ls s → is_too_long l ≡ false
-      → line_fault s l ≡ Some f → length ls + 1 ≡ at → at < 2 ^ 64 → number ≡ number_of f → reads (text_of a) ≡ Err (text_fault.Fault number at)
+  fault_read : (ls : List Line) (l : Line) (rest : List Line) (s : Parsed) (number at : ℕ) → all_lines ≡ ls ++ l ∷ rest → Reads nothing_told ls s → is_too_long l ≡ false
+      → line_fault s l ≡ Some number → length ls + 1 ≡ at → at < 2 ^ 64 → reads (text_of a) ≡ Err (text_fault.Fault number at)
   unfolding reads
-  fault_read ls l rest s f number at split r short found count small same =
-      let first = faulty [] ls l rest nothing_told s f at (sym parsed_of_nothing) r short found (omega arith) in
-      rw (text_lines, split, first, counted_is at small, same) refl
+  fault_read ls l rest s number at split r short found count small =
+      let first = faulty [] ls l rest nothing_told s number at (sym parsed_of_nothing) r short found (omega arith) in
+      rw (text_lines, split, first, counted_is at small) refl
 
   count_fault_read : (f : ArrayFault) → IsCountFault a f → reads (text_of a) ≡ Err (text_fault.Fault f.number (line_of a f))
   count_fault_read f is =
-      let found = fails_by (test_counts nodes arcs) f.number is.number in
       let line : 1 ≡ line_of a f = rw (same_number f.arc 0 is.arc) (omega (arith, is.node)) in
-      fault_read [] (size_line nodes arcs) (node_lines a.supply.now ++ arc_lines a) nothing_told found.0 f.number (line_of a f) refl refl
-      (size_is_line nodes arcs fit.nodes fit.arcs).short (the_fault (test_counts nodes arcs) _ found.0 (size_fault nodes arcs fit.nodes fit.arcs) found.1)
-      line (omega arith) found.2
+      fault_read [] (size_line nodes arcs) (node_lines a.supply.now ++ arc_lines a) nothing_told f.number (line_of a f) refl refl
+      (size_is_line nodes arcs fit.nodes fit.arcs).short (the_fault (in_line (test_counts nodes arcs)) _ f.number (size_fault nodes arcs fit.nodes fit.arcs) is.number)
+      line (omega arith)
 
   node_fault_read : (f : ArrayFault) → test_counts nodes arcs ≡ Ok tt → IsNodeFault a.supply.now f → reads (text_of a) ≡ Err (text_fault.Fault f.number (line_of a f))
   node_fault_read f counts is =
       let place = is.place in
-      let found = fails_by (test_integer SUPPLY_LIMIT (supply_in place)) f.number is.number in
       let limits = within_limits counts in
       let lines = length-map-range_with_len (node_line_at a.supply.now) 0 place in
       let line : length (size_line nodes arcs ∷ node_lines_upto place) + 1 ≡ line_of a f = rw (same_number f.arc 0 is.arc) (omega (arith, is.node, lines)) in
@@ -405,14 +401,13 @@ module _ (a : Arrays) (even : IsEven a) (fit : FitTheirTypes a) where
       let split : all_lines ≡ (size_line nodes arcs ∷ node_lines_upto place) ++ node_line_at a.supply.now place ∷ (rest ++ arc_lines a) =
       ap (λ (ls : List Line). size_line nodes arcs ∷ (ls ++ arc_lines a)) (upto-split (node_line_at a.supply.now) nodes place within)
       ∙ ap (λ (ls : List Line). size_line nodes arcs ∷ ls) (append_assoc (node_lines_upto place) (node_line_at a.supply.now place ∷ rest) (arc_lines a)) in
-      fault_read (size_line nodes arcs ∷ node_lines_upto place) (node_line_at a.supply.now place) (rest ++ arc_lines a) (told nodes arcs (marks_upto place) []) found.0 f.number (line_of a f) split
+      fault_read (size_line nodes arcs ∷ node_lines_upto place) (node_line_at a.supply.now place) (rest ++ arc_lines a) (told nodes arcs (marks_upto place) []) f.number (line_of a f) split
       (size_and_nodes counts place (omega arith) is.before) (node_line_is place within).short
-      (the_fault (test_integer SUPPLY_LIMIT (supply_in place)) _ found.0 (node_fault_at counts place within) found.1) line small found.2
+      (the_fault (in_line (test_integer SUPPLY_LIMIT (supply_in place))) _ f.number (node_fault_at counts place within) is.number) line small
 
   arc_fault_read : (f : ArrayFault) → test_counts nodes arcs ≡ Ok tt → AreSuppliesFaultless a.supply.now → IsArcFault a f → reads (text_of a) ≡ Err (text_fault.Fault f.number (line_of a f))
   arc_fault_read f counts supplies is =
       let place = is.place in
-      let found = fails_by (test_row nodes (row_at a place)) f.number is.number in
       let limits = within_limits counts in
       let of_nodes = length-map-range_with_len (node_line_at a.supply.now) 0 nodes in
       let of_arcs = length-map-range_with_len (arc_line_at a) 0 place in
@@ -425,9 +420,9 @@ module _ (a : Arrays) (even : IsEven a) (fit : FitTheirTypes a) where
       let split : all_lines ≡ (size_line nodes arcs ∷ (node_lines a.supply.now ++ arc_lines_upto place)) ++ arc_line_at a place ∷ rest =
       ap (λ (ls : List Line). size_line nodes arcs ∷ (node_lines a.supply.now ++ ls)) (upto-split (arc_line_at a) arcs place within)
       ∙ ap (λ (ls : List Line). size_line nodes arcs ∷ ls) (sym (append_assoc (node_lines a.supply.now) (arc_lines_upto place) (arc_line_at a place ∷ rest))) in
-      fault_read (size_line nodes arcs ∷ (node_lines a.supply.now ++ arc_lines_upto place)) (arc_line_at a place) rest (told nodes arcs (marks_upto nodes) (rows_upto place)) found.0 f.number (line_of a f) split
+      fault_read (size_line nodes arcs ∷ (node_lines a.supply.now ++ arc_lines_upto place)) (arc_line_at a place) rest (told nodes arcs (marks_upto nodes) (rows_upto place)) f.number (line_of a f) split
       (and_arcs counts supplies place (omega arith) is.before) (arc_is_line (row_at a place) (row_fits place within)).short
-      (the_fault (test_row nodes (row_at a place)) _ found.0 (arc_fault_at counts (marks_upto nodes) place within) found.1) line small found.2
+      (the_fault (test_row nodes (row_at a place)) _ f.number (arc_fault_at counts (marks_upto nodes) place within) is.number) line small
 
   pub fault_text : (f : ArrayFault) → IsFirstFault a f → reads (text_of a) ≡ Err (text_fault.Fault f.number (line_of a f))
   fault_text f is = elim is [

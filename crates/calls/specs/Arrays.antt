@@ -2,11 +2,13 @@
 use Rattle.std.specs.Prelude.{◌≡◌, ◌⊎◌, ℕ, ◌+◌, ◌<◌, ◌^◌, ℤ, pos, neg_ℤ, int_le, unsigned_abs, ◌&&◌, List, map, length, slice_index_or, Result, Ok, Err, nat_le, nat_lt}
 use Rattle.std.specs.List.{range_with_len}
 use Rattle.dimacs_lines.specs.Checks.{◌>>=◌, demand}
-use Rattle.dimacs_lines.specs.Fault.{number_of}
-use Rattle.dimacs_lines.specs.declared.fault.Fault.{Fault}
-use Rattle.dimacs_lines.specs.declared.fault.Fault.TheVariants as fault
+use Rattle.dimacs_lines.specs.declared.fault.LineFault.{LineFault}
+use Rattle.dimacs_lines.specs.declared.fault.LineFault.TheVariants as of_line
 use Rattle.dimacs_lines.specs.declared.numbers.TheConstants.{DIGIT_LIMIT}
 use Rattle.dimacs_text.specs.Reading.{ProblemValue}
+use Rattle.dimacs_text.specs.declared.problem_fault.ProblemFault.{ProblemFault}
+use Rattle.dimacs_text.specs.declared.problem_fault.ProblemFault.TheVariants as fault
+use Rattle.dimacs_text.specs.ProblemFault.{number_of, in_line}
 use Rattle.dimacs_text.specs.declared.problem.ArcRow.{ArcRow}
 use Rattle.dimacs_text.specs.declared.problem.Kind.TheVariants.{Min}
 use Rattle.dimacs_text.specs.declared.problem.NodeMark.{NodeMark}
@@ -54,29 +56,29 @@ problem_of a = record { kind = Min; nodes = length a.supply.now; marks = marks_o
 -- ---- faults
 
 -- the fault of a number as the field of a line, as in `natural_in`: it has too many digits, or is out of range
-unfoldable pub test_natural : ℕ → ℕ → ℕ → Result (Unit {0}) Fault
-test_natural low high n = demand (nat_lt n (10 ^ DIGIT_LIMIT)) fault.NotANumber >>= λ _. demand (nat_le low n && nat_le n high) fault.OutOfRange
+unfoldable pub test_natural : ℕ → ℕ → ℕ → Result (Unit {0}) LineFault
+test_natural low high n = demand (nat_lt n (10 ^ DIGIT_LIMIT)) of_line.NotANumber >>= λ _. demand (nat_le low n && nat_le n high) of_line.OutOfRange
 
 -- the same where a sign is allowed, as in `integer_in`
-unfoldable pub test_integer : ℤ → ℤ → Result (Unit {0}) Fault
-test_integer limit z = demand (nat_lt (unsigned_abs z) (10 ^ DIGIT_LIMIT)) fault.NotANumber >>= λ _. demand (int_le (neg_ℤ limit) z && int_le z limit) fault.OutOfRange
+unfoldable pub test_integer : ℤ → ℤ → Result (Unit {0}) LineFault
+test_integer limit z = demand (nat_lt (unsigned_abs z) (10 ^ DIGIT_LIMIT)) of_line.NotANumber >>= λ _. demand (int_le (neg_ℤ limit) z && int_le z limit) of_line.OutOfRange
 
 -- a lower bound or a capacity: no sign is allowed
-unfoldable pub test_bound : ℤ → Result (Unit {0}) Fault
-test_bound z = demand (int_le (pos 0) z) fault.NotANumber >>= λ _. test_natural 0 CAP_LIMIT (unsigned_abs z)
+unfoldable pub test_bound : ℤ → Result (Unit {0}) LineFault
+test_bound z = demand (int_le (pos 0) z) of_line.NotANumber >>= λ _. test_natural 0 CAP_LIMIT (unsigned_abs z)
 
 -- how many nodes and arcs there are, as a problem line says it
-unfoldable pub test_counts : ℕ → ℕ → Result (Unit {0}) Fault
+unfoldable pub test_counts : ℕ → ℕ → Result (Unit {0}) LineFault
 test_counts nodes arcs = test_natural 1 NODE_LIMIT nodes >>= λ _. test_natural 0 ARC_LIMIT arcs
 
 -- an arc, as an arc line says it
-unfoldable pub test_row : ℕ → ArcRow → Result (Unit {0}) Fault
+unfoldable pub test_row : ℕ → ArcRow → Result (Unit {0}) ProblemFault
 test_row nodes row = do
-  _ ← test_natural 1 nodes row.tail
-  _ ← test_natural 1 nodes row.head
-  _ ← test_bound row.low
-  _ ← test_bound row.cap
-  _ ← test_integer COST_LIMIT row.cost
+  _ ← in_line (test_natural 1 nodes row.tail)
+  _ ← in_line (test_natural 1 nodes row.head)
+  _ ← in_line (test_bound row.low)
+  _ ← in_line (test_bound row.cap)
+  _ ← in_line (test_integer COST_LIMIT row.cost)
   demand (int_le row.low row.cap) fault.LowAboveCap
 
 abbrev pub AreCountsFaultless : Arrays → Type 0
@@ -94,7 +96,7 @@ pub record AreFaultless (a : Arrays) : Type 0 where
   pub arcs : AreArcsFaultless a
 
 -- a test fails by the fault of this number
-abbrev pub FailsBy : Result (Unit {0}) Fault → ℕ → Type 0
+abbrev pub FailsBy : Result (Unit {0}) ProblemFault → ℕ → Type 0
 FailsBy (Ok _) number = ⊥
 FailsBy (Err found) number = number ≡ number_of found
 
@@ -102,7 +104,7 @@ FailsBy (Err found) number = number ≡ number_of found
 pub record IsCountFault (a : Arrays) (f : ArrayFault) : Type 0 where
   pub node : f.node ≡ 0
   pub arc : f.arc ≡ 0
-  pub number : FailsBy (test_counts (length a.supply.now) (length a.tail.now)) f.number
+  pub number : FailsBy (in_line (test_counts (length a.supply.now) (length a.tail.now))) f.number
 
 -- it is the fault of the first node whose supply has one
 pub record IsNodeFault (supply : List ℤ) (f : ArrayFault) : Type 0 where
@@ -111,7 +113,7 @@ pub record IsNodeFault (supply : List ℤ) (f : ArrayFault) : Type 0 where
   pub node : f.node ≡ place + 1
   pub arc : f.arc ≡ 0
   pub before : (i : ℕ) → i < place → test_integer SUPPLY_LIMIT (slice_index_or supply i (pos 0)) ≡ Ok tt
-  pub number : FailsBy (test_integer SUPPLY_LIMIT (slice_index_or supply place (pos 0))) f.number
+  pub number : FailsBy (in_line (test_integer SUPPLY_LIMIT (slice_index_or supply place (pos 0)))) f.number
 
 -- it is the fault of the first arc that has one
 pub record IsArcFault (a : Arrays) (f : ArrayFault) : Type 0 where

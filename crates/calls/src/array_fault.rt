@@ -4,7 +4,9 @@ ghost use Rattle.std.specs.Prelude.{◌≡◌, ◌≤◌, pos, ◌≤ℤ◌, Mat
 ghost use Rattle.calls.specs.Arrays.{AreFaultless, AreArcsFaultless, AreSuppliesFaultless, IsArcFault, IsEven, IsFirstFault, IsNodeFault, test_bound, test_counts, test_integer, test_natural, test_row};
 
 use crate::arrays::{Arrays, row_at};
-use dimacs_text::{ARC_LIMIT, ArcRow, CAP_LIMIT, COST_LIMIT, Fault, NODE_LIMIT, SUPPLY_LIMIT};
+use dimacs_text::{
+    ARC_LIMIT, ArcRow, CAP_LIMIT, COST_LIMIT, LineFault, NODE_LIMIT, ProblemFault, SUPPLY_LIMIT,
+};
 
 /// The first fault of a problem's arrays: that of a node, that of an arc, or that of their counts.
 #[repr(C)]
@@ -76,7 +78,7 @@ fn faulty_arc(arrays: &Arrays) -> Option<ArrayFault>
 
 /// Tests how many nodes and arcs there are, as the fields of a problem line.
 #[tactic(auto, unfolding(crate::specs::Arrays::test_counts))]
-fn test_counts(arrays: &Arrays) -> Result<(), Fault>
+fn test_counts(arrays: &Arrays) -> Result<(), LineFault>
     ensures { result ≡ test_counts (length arrays.now.supply.now) (length arrays.now.tail.now) }
 {
     test_natural(arrays.supply.len() as u64, 1, u64::from(NODE_LIMIT))?;
@@ -85,7 +87,7 @@ fn test_counts(arrays: &Arrays) -> Result<(), Fault>
 
 /// Tests an arc, as the fields of its line.
 #[tactic(auto, unfolding(crate::specs::Arrays::test_row))]
-fn test_row(nodes: u64, row: &ArcRow) -> Result<(), Fault>
+fn test_row(nodes: u64, row: &ArcRow) -> Result<(), ProblemFault>
     ensures { result ≡ test_row nodes row.now }
 {
     test_natural(u64::from(row.tail), 1, nodes)?;
@@ -94,47 +96,47 @@ fn test_row(nodes: u64, row: &ArcRow) -> Result<(), Fault>
     test_bound(row.cap)?;
     test_integer(row.cost, COST_LIMIT)?;
     if row.low > row.cap {
-        return Err(Fault::LowAboveCap);
+        return Err(ProblemFault::LowAboveCap);
     }
     Ok(())
 }
 
 /// Tests a lower bound or a capacity, which have no sign in a text.
 #[tactic(auto, unfolding(crate::specs::Arrays::test_bound))]
-fn test_bound(value: i64) -> Result<(), Fault>
+fn test_bound(value: i64) -> Result<(), LineFault>
     ensures { result ≡ test_bound value }
 {
     if value < 0 {
-        return Err(Fault::NotANumber);
+        return Err(LineFault::NotANumber);
     }
     test_natural(value as u64, 0, CAP_LIMIT)
 }
 
 /// Tests a number as a field without a sign: whether it has too many digits, and then its range.
 #[tactic(auto, unfolding(crate::specs::Arrays::test_natural))]
-fn test_natural(value: u64, low: u64, high: u64) -> Result<(), Fault>
+fn test_natural(value: u64, low: u64, high: u64) -> Result<(), LineFault>
     ensures { result ≡ test_natural low high value }
 {
     if value >= NO_NUMBER {
-        return Err(Fault::NotANumber);
+        return Err(LineFault::NotANumber);
     }
     if value < low || value > high {
-        return Err(Fault::OutOfRange);
+        return Err(LineFault::OutOfRange);
     }
     Ok(())
 }
 
 /// Tests a number as a field with a sign: whether it has too many digits, and then its range.
 #[tactic(auto, unfolding(crate::specs::Arrays::test_integer))]
-fn test_integer(value: i64, limit: i64) -> Result<(), Fault>
+fn test_integer(value: i64, limit: i64) -> Result<(), LineFault>
     requires { pos 0 ≤ℤ limit }
     ensures { result ≡ test_integer limit value }
 {
     if value.unsigned_abs() >= NO_NUMBER {
-        return Err(Fault::NotANumber);
+        return Err(LineFault::NotANumber);
     }
     if value < -limit || value > limit {
-        return Err(Fault::OutOfRange);
+        return Err(LineFault::OutOfRange);
     }
     Ok(())
 }

@@ -30,6 +30,8 @@ use Rattle.residual_graph.proofs.GraphLemmas.{with_row, with_last}
 use Rattle.flow_solver.proofs.ChangeLemmas.{supplied, row_is, rows_changed, rows_more, rows_kept}
 use Rattle.flow_solver.proofs.EditRows.{row_there}
 use Rattle.flow_solver.proofs.FlowLaws.{bounds_at, bounds_length, greatest_flow, signs_at}
+use Rattle.augmentation.specs.Attempt.{IsAttemptFor}
+use Rattle.augmentation.specs.declared.attempt.Attempt.{Attempt}
 
 -- ---- a step up, where other potentials lie higher
 
@@ -235,6 +237,19 @@ scratch_told n s told of = record {
   queue = of.queue;
   marks_sized = of.marks_sized;
   attempt = of.attempt;
+}
+
+-- the tables of searches stay what they are where those of proposals do
+pub scratch_noted : (n : ℕ) (s : Scratch) (a : Attempt) → a ≡ s.attempt → IsScratchFor n s → IsScratchFor n (record s { attempt = a })
+scratch_noted n s a same of = record {
+  node_labels_sized = of.node_labels_sized;
+  potentials_sized = of.potentials_sized;
+  fresh = of.fresh;
+  labels = of.labels;
+  queue = of.queue;
+  settled_order = of.settled_order;
+  walks = of.walks;
+  attempt = subst (IsAttemptFor n) (sym same) of.attempt;
 }
 
 -- the tables stay tables where nothing is told of the potentials, or what is true of them

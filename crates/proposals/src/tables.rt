@@ -6,7 +6,7 @@ use crate::search::Search;
 use crate::solving::{Fuel, solve, solve_greatest};
 use crate::wanted::Wanted;
 use dimacs_text::ArcRow;
-use relaxation::{Limits, Proposal, Ring, Sets};
+use relaxation::{Limits, Noted, Proposal, Ring, Sets};
 use std::alloc::{AllocError, Global};
 use std::marker::Model;
 use two_sided::{Between, Halt, Readings};
@@ -20,6 +20,9 @@ pub enum Aim {
     GreatestFlow,
 }
 
+/// Where more than one in so many arcs was noted, all are taken over anew: so they are gone over in order.
+const FEWER: usize = 4;
+
 /// A proposal, and what the methods write in that lead it on. It is seen as the number of entries that a table of nodes
 /// has.
 #[derive(Drop)]
@@ -29,6 +32,10 @@ pub struct Proposals {
     sets: Sets,
     search: Search,
     between: Between,
+    /// The arcs whose row or flow may be another than in the proposal; the proposal keeps step with all others.
+    noted: Noted,
+    /// Of how many rows the proposal is, where it keeps step so.
+    rows: Option<usize>,
     /// Nothing was proposed yet.
     fresh: bool,
 }
@@ -62,12 +69,15 @@ impl Proposals {
         let sets = Sets::new(alloc, entries, arcs)?;
         let search = Search::new(alloc, entries)?;
         let between = Between::new(alloc, entries)?;
+        let noted = Noted::new(alloc, arcs)?;
         Ok(Proposals {
             proposal,
             ring,
             sets,
             search,
             between,
+            noted,
+            rows: None,
             fresh: true,
         })
     }
@@ -101,6 +111,7 @@ impl Proposals {
         ensures { self.new ≡ self.old }
     {
         self.fresh = false;
+        self.rows = None;
         self.proposal.load(rows, flow, excess, potentials);
         match aim {
             Aim::LeastCost => solve(
@@ -131,11 +142,12 @@ impl Proposals {
         ensures { self.new ≡ self.old }
     {
         self.fresh = false;
-        self.proposal.load(rows, flow, excess, potentials);
+        self.take_over(rows, flow, excess, potentials);
         let halt = self
             .between
-            .push_between(&mut self.proposal, Readings::USUAL);
+            .push_between(&mut self.proposal, &mut self.noted, Readings::USUAL);
         if halt == Halt::Spent {
+            self.rows = None;
             solve(
                 &mut self.proposal,
                 &mut self.ring,
@@ -145,6 +157,44 @@ impl Proposals {
                 Fuel::USUAL,
             );
         }
+    }
+
+    /// Notes that an arc may have got another row or another flow.
+    pub fn note(&mut self, k: u32)
+        ensures { self.new ≡ self.old }
+    {
+        self.noted.note(k);
+    }
+
+    /// Takes over a flow, what it leaves at each node and potentials: of the arcs those alone that were noted, where the
+    /// proposal keeps step with all others and they are few.
+    fn take_over(&mut self, rows: &[ArcRow], flow: &[i64], excess: &[i64], potentials: &[i64])
+        requires flow { length flow.now ≡ length rows.now }
+        requires excess { length excess.now ≡ self.old }
+        requires potentials { length potentials.now ≡ self.old }
+        ensures { self.new ≡ self.old }
+    {
+        if self.keeps_step(rows)
+            && renew_all(
+                &mut self.proposal,
+                &mut self.between,
+                &self.noted,
+                rows,
+                flow,
+            )
+        {
+            self.proposal.load_nodes(excess, potentials);
+        } else {
+            self.proposal.load(rows, flow, excess, potentials);
+            self.between.load(&self.proposal);
+            self.rows = Some(rows.len());
+        }
+        self.noted.clear();
+    }
+
+    /// Whether the proposal is of so many rows, and few of them were noted.
+    fn keeps_step(&self, rows: &[ArcRow]) -> bool {
+        self.rows == Some(rows.len()) && self.noted.listed().len() <= rows.len() / FEWER
     }
 
     /// Writes down where the proposal stands, less than all where there is no room for it.
@@ -161,8 +211,52 @@ impl Proposals {
                 (row.low, row.cap),
             );
         }
-        let _whole = write_flow(wanted, &self.proposal, rows, flow, first);
+        let _whole = if self.rows == Some(rows.len()) {
+            write_noted(wanted, &self.proposal, rows, flow, &self.noted)
+        } else {
+            write_flow(wanted, &self.proposal, rows, flow, first)
+        };
     }
+}
+
+/// Takes over the rows and the flow of the noted arcs, and says whether all could be.
+fn renew_all(
+    proposal: &mut Proposal,
+    between: &mut Between,
+    noted: &Noted,
+    rows: &[ArcRow],
+    flow: &[i64],
+) -> bool
+    requires between { between.old ≡ proposal.old }
+    requires flow { length flow.now ≡ length rows.now }
+    ensures proposal { proposal.new ≡ proposal.old }
+    ensures between { between.new ≡ between.old }
+{
+    for k in noted.listed() {
+        let k = *k as usize;
+        if k >= rows.len() || !proposal.renew(k, &rows[k], flow[k]) {
+            return false;
+        }
+        between.renew(proposal, k);
+    }
+    true
+}
+
+/// Writes down the flow of each noted arc, where it is to change.
+fn write_noted(
+    wanted: &mut Wanted,
+    proposal: &Proposal,
+    rows: &[ArcRow],
+    flow: &[i64],
+    noted: &Noted,
+) -> Option<()> {
+    for k in noted.listed() {
+        let k = *k as usize;
+        if k < rows.len() && k < flow.len() {
+            wanted.list(k, flow[k], flow_of(proposal, k, &rows[k]))?;
+        }
+    }
+    Some(())
 }
 
 /// Writes down the flow of each arc from one on, where it is to change.

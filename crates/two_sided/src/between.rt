@@ -5,7 +5,7 @@ ghost use Rattle.std.specs.Prelude.{◌≡◌, ◌<◌, ◌^◌, ℕ, IfOk, IfSo
 use crate::free::FreeEnds;
 use crate::front::{Front, Meeting};
 use crate::length::FAR;
-use relaxation::{Nodes, Places, Proposal};
+use relaxation::{Nodes, Noted, Places, Proposal};
 use std::alloc::{AllocError, Global};
 use std::marker::Model;
 
@@ -89,15 +89,36 @@ impl Between {
         })
     }
 
-    /// Pushes along shortest paths until one side is empty, the sides do not meet, or the readings are used up.
+    /// Takes over which arcs of a proposal have room both ways.
+    pub fn load(&mut self, proposal: &Proposal)
+        requires { proposal.now ≡ self.old }
+        ensures { self.new ≡ self.old }
+    {
+        self.free.load(proposal);
+    }
+
+    /// Takes over whether an arc of a proposal has room both ways.
+    pub fn renew(&mut self, proposal: &Proposal, k: usize)
+        requires { proposal.now ≡ self.old }
+        ensures { self.new ≡ self.old }
+    {
+        self.free.renew(proposal, proposal.tail_of(k));
+    }
+
+    /// Pushes along shortest paths until one side is empty, the sides do not meet, or the readings are used up, and notes
+    /// the arcs whose flow it moves. Which arcs have room both ways was taken over before.
     #[inline(never)] // a name of its own in the program: `bench/count` counts its calls
-    pub fn push_between(&mut self, proposal: &mut Proposal, readings: Readings) -> Halt
+    pub fn push_between(
+        &mut self,
+        proposal: &mut Proposal,
+        noted: &mut Noted,
+        readings: Readings,
+    ) -> Halt
         requires { proposal.old ≡ self.old }
         ensures kept { self.new ≡ self.old }
         ensures proposal { proposal.new ≡ proposal.old }
     {
         self.list_roots(proposal);
-        self.free.load(proposal);
         let ends = proposal.ends() as u64;
         let mut reads: u64 = 0;
         for _ in 0..u64::MAX {
@@ -115,7 +136,7 @@ impl Between {
             let Some(meeting) = self.search(proposal) else {
                 return Halt::Apart;
             };
-            self.push(proposal, meeting);
+            self.push(proposal, noted, meeting);
             reads = reads
                 .saturating_add(self.ahead.reads())
                 .saturating_add(self.behind.reads());
@@ -185,7 +206,7 @@ impl Between {
     }
 
     /// Shifts the potentials so that the path is tight, and pushes along it as much as fits.
-    fn push(&mut self, proposal: &mut Proposal, meeting: Meeting)
+    fn push(&mut self, proposal: &mut Proposal, noted: &mut Noted, meeting: Meeting)
         requires proposal { proposal.old ≡ self.old }
         requires node { meeting.node < self.old }
         ensures kept { self.new ≡ self.old }
@@ -205,8 +226,8 @@ impl Between {
         let amount = proposal.excess::<true>(s).min(proposal.excess::<false>(t));
         let amount = room_along::<true>(proposal, &self.path_ahead, amount);
         let amount = room_along::<false>(proposal, &self.path_behind, amount);
-        draw_along::<true>(proposal, &mut self.free, &self.path_ahead, amount);
-        draw_along::<false>(proposal, &mut self.free, &self.path_behind, amount);
+        draw_along::<true>(proposal, &mut self.free, noted, &self.path_ahead, amount);
+        draw_along::<false>(proposal, &mut self.free, noted, &self.path_behind, amount);
         proposal.carry::<true>(s, t, amount);
     }
 }
@@ -328,10 +349,11 @@ fn room_along<const AHEAD: bool>(proposal: &Proposal, path: &Places, amount: i64
     amount
 }
 
-/// Moves flow along a path.
+/// Moves flow along a path, and notes its arcs.
 fn draw_along<const AHEAD: bool>(
     proposal: &mut Proposal,
     free: &mut FreeEnds,
+    noted: &mut Noted,
     path: &Places,
     amount: i64,
 )
@@ -342,5 +364,6 @@ fn draw_along<const AHEAD: bool>(
     for place in path.listed() {
         let _full = proposal.draw::<AHEAD>(*place, amount);
         free.renew(proposal, *place);
+        noted.note(proposal.arc_at(*place));
     }
 }

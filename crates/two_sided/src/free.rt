@@ -40,6 +40,8 @@ pub struct FreeEnds {
     ends: Vec<FreeEnd>,
     /// How many of them were used.
     len: usize,
+    /// The first one that is in no chain any more; these are a chain too.
+    spare: u32,
     /// None was left out for want of room.
     whole: bool,
 }
@@ -67,6 +69,7 @@ impl FreeEnds {
             heads,
             ends,
             len: 0,
+            spare: NONE,
             whole: true,
         })
     }
@@ -78,6 +81,7 @@ impl FreeEnds {
     {
         self.heads.fill(NONE);
         self.len = 0;
+        self.spare = NONE;
         self.whole = true;
         for v in 0..proposal.entries() {
             self.load_at(proposal, v);
@@ -159,8 +163,8 @@ impl FreeEnds {
         requires { v < self.old }
         ensures { self.new ≡ self.old }
     {
-        let at = self.len;
-        if at >= self.ends.len() || at >= NONE as usize {
+        let at = self.take_place() as usize;
+        if at >= self.ends.len() {
             self.whole = false;
             return;
         }
@@ -170,7 +174,20 @@ impl FreeEnds {
             next: self.heads[v],
         };
         self.heads[v] = at as u32;
-        self.len = at + 1;
+    }
+
+    /// Takes a place that is in no chain: past all ends, where there is none.
+    fn take_place(&mut self) -> u32
+        ensures { self.new ≡ self.old }
+    {
+        let spare = self.spare;
+        if let Some(end) = self.at(spare) {
+            self.spare = end.next;
+            return spare;
+        }
+        let place = self.len.min(NONE as usize);
+        self.len = place.saturating_add(1);
+        place as u32
     }
 
     /// Takes an end at a node out of its chain.
@@ -186,10 +203,22 @@ impl FreeEnds {
             };
             if end.opposite == opposite {
                 self.lead_past(v, before, end.next);
+                self.give_place(at);
                 return;
             }
             before = at;
             at = end.next;
+        }
+    }
+
+    /// Puts a place before the others that are in no chain.
+    fn give_place(&mut self, place: u32)
+        ensures { self.new ≡ self.old }
+    {
+        let at = place as usize;
+        if at < self.ends.len() {
+            self.ends[at].next = self.spare;
+            self.spare = place;
         }
     }
 

@@ -252,6 +252,7 @@ impl Tables {
     {
         self.before.verdict = None;
         self.balance.cost = cost_now(self.graph.rows(), &self.flow, self.balance.cost);
+        self.scratch.attempt.note_all(self.flow.touched.places());
         self.flow.snapshot();
         self.potentials.snapshot();
         self.cut.snapshot();
@@ -267,6 +268,7 @@ impl Tables {
         self.before.verdict = None;
         self.scratch.labels.standing = false;
         carry_back(self.graph.rows(), &self.flow, &mut self.balance.excess);
+        self.scratch.attempt.note_all(self.flow.touched.places());
         self.flow.bring_back();
         self.potentials.bring_back();
         self.cut.bring_back();

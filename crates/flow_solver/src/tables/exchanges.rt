@@ -107,6 +107,7 @@ impl Tables {
             self.flow.kept[place],
         );
         self.graph.set_row(k, *row);
+        self.scratch.attempt.note_all(&[place as u32]);
         *row = before;
     }
 

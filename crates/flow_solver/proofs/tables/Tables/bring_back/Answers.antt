@@ -7,7 +7,7 @@ use Rattle.augmentation.specs.Nodes.{IsIdleEntry}
 use Rattle.augmentation.specs.Tracked.{kept_in}
 use Rattle.flow_solver.proofs.CarryLemmas.{balance_back, sends}
 use Rattle.flow_solver.proofs.TablesViewLemmas.{length_kept, nodes_alike}
-use Rattle.flow_solver.proofs.StandingLemmas.{scratch_told}
+use Rattle.flow_solver.proofs.StandingLemmas.{scratch_noted, scratch_told}
 use Rattle.flow_solver.proofs.tables.Tables.bring_back.Goals as goal
 
 pub invariant_of-self : goal.invariant_of-self
@@ -33,7 +33,7 @@ invariant_of-self c =
       balance_is = balance_back I t.graph.rows t.flow c.bring_back.new.self t.balance _ inv.flow_tracked size c.bring_back.ensures.entries c.bring_back.ensures.whole
           c.carry_back.ensures.same_length excess refl inv.balance_is;
       cut_in = nodes_alike I.nodes c.bring_back-3.new.self (kept_in t.cut) (kept_in t.cut) c.bring_back-3.ensures.tracked c.bring_back-3.ensures.entries c.bring_back-3.ensures.kept cut cut;
-      scratch_in = scratch_told _ t.scratch false inv.scratch_in;
+      scratch_in = scratch_noted _ (record t.scratch { labels = record t.scratch.labels { standing = false } }) _ c.note_all.ensures (scratch_told _ t.scratch false inv.scratch_in);
       standing = λ none. cc;
       log_fits = omega (arith, inv.log_fits);
       before_is = tt;

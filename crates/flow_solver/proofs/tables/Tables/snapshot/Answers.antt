@@ -8,6 +8,7 @@ use Rattle.flow_solver.specs.Balance.{IsWrappedCost}
 use Rattle.augmentation.specs.Nodes.{IsIdleEntry}
 use Rattle.flow_solver.proofs.CarryLemmas.{balance_kept}
 use Rattle.flow_solver.proofs.TablesViewLemmas.{nodes_alike}
+use Rattle.flow_solver.proofs.StandingLemmas.{scratch_noted}
 use Rattle.flow_solver.proofs.tables.Tables.snapshot.Goals as goal
 
 pub invariant_of-self : goal.invariant_of-self
@@ -27,7 +28,7 @@ invariant_of-self c =
       kept_idle = subst IsIdleEntry (sym c.snapshot-2.ensures.kept) inv.idle;
       balance_is = balance_kept t.graph.net t.graph.rows t.flow c.snapshot.new.self t.balance _ c.snapshot.ensures.entries c.snapshot.ensures.whole refl cost inv.balance_is;
       cut_in = nodes_alike t.graph.net.nodes c.snapshot-3.new.self t.cut.entries.items t.cut.entries.items c.snapshot-3.ensures.tracked c.snapshot-3.ensures.entries c.snapshot-3.ensures.kept inv.cut_in.entries_in inv.cut_in.entries_in;
-      scratch_in = inv.scratch_in;
+      scratch_in = scratch_noted _ t.scratch _ c.note_all.ensures inv.scratch_in;
       standing = λ stood.
           subst (λ (p : List ℤ). AreGreatestPotentials (reduced t.graph.net) c.snapshot.new.self.entries.items (at_node (drop 1 p))) (sym c.snapshot-2.ensures.entries)
           (subst (λ (x : List ℤ). AreGreatestPotentials (reduced t.graph.net) x (at_node (drop 1 t.potentials.entries.items))) (sym c.snapshot.ensures.entries) (inv.standing stood));

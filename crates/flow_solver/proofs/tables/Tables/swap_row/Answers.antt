@@ -10,7 +10,7 @@ use Rattle.augmentation.specs.Scratch.{IsScratchFor}
 use Rattle.flow_solver.proofs.CarryLemmas.{balance_swapped, place_is}
 use Rattle.flow_solver.proofs.TablesViewLemmas.{tables_written}
 use Rattle.augmentation.proofs.TrackedLemmas.{IsWritten-same}
-use Rattle.flow_solver.proofs.StandingLemmas.{scratch_told}
+use Rattle.flow_solver.proofs.StandingLemmas.{scratch_noted, scratch_told}
 use Rattle.flow_solver.proofs.tables.Tables.swap_row.Goals as goal
 
 pub invariant_of-self : goal.invariant_of-self
@@ -45,7 +45,7 @@ invariant_of-self c =
     tables_written t.graph c.set_row.new.self t.flow t.flow t.potentials t.potentials t.balance now t.cut t.cut t.scratch _ t.before
     inv (ap (λ (K : Instance). K.nodes) net) (ap (λ (K : Instance). K.room) net) c.set_row.ensures.graph c.set_row.ensures.one_a_row
     (IsWritten-same t.flow inv.flow_tracked) (IsWritten-same t.potentials inv.potentials_in.tracked) inv.idle balance (IsWritten-same t.cut inv.cut_in.tracked)
-    (scratch_told _ t.scratch false (subst (λ (K : Instance). IsScratchFor (K.nodes + 1) t.scratch) (sym net) inv.scratch_in)) (λ none. cc)
+    (scratch_noted _ (record t.scratch { labels = record t.scratch.labels { standing = false } }) _ c.note_all.ensures (scratch_told _ t.scratch false (subst (λ (K : Instance). IsScratchFor (K.nodes + 1) t.scratch) (sym net) inv.scratch_in))) (λ none. cc)
 
 pub returns-clause-row : goal.returns-clause-row
 returns-clause-row c =

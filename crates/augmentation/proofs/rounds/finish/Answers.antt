@@ -1,13 +1,13 @@
-use Rattle.std.proofs.Common.{◌∙◌, ℕ, pos, length, ap, arith, refl, subst, sym}
+use Rattle.std.proofs.Common.{◌≡◌, ◌∙◌, ◌<◌, ◌+◌, ◌^◌, ℕ, pos, length, ap, arith, refl, rules, subst, sym}
 use Rattle.std.proofs.lemmas.Int.{ints}
-use Rattle.augmentation.specs.Push.{AreSmall}
+use Rattle.augmentation.specs.Push.{AreSmall, left}
 use Rattle.augmentation.specs.Scratch.{IsScratchFor}
-use Rattle.augmentation.proofs.SettleLemmas.{ArePushes-more, ArePushes-none}
+use Rattle.augmentation.proofs.SettleLemmas.{ArePushes-more, ArePushes-none, left-small}
 use Rattle.augmentation.proofs.TrackedLemmas.{IsWritten-same, IsWritten-trans}
-use Rattle.augmentation.proofs.rounds.push_some.Goals as goal
+use Rattle.augmentation.proofs.rounds.finish.Goals as goal
 
-pub loop-pushes-init : goal.loop-pushes-init
-loop-pushes-init c = record {
+pub loop-target-init : goal.loop-target-init
+loop-target-init c = record {
   flow_written = IsWritten-same _ c.requires.flow_tracked;
   certified = c.requires.certified;
   fallen = record {
@@ -26,9 +26,9 @@ loop-pushes-init c = record {
   pushed = ArePushes-none _ _ _;
 }
 
-pub loop-pushes-preserved : goal.loop-pushes-preserved
-loop-pushes-preserved c =
-    let inv = c.loop-pushes.invariant in
+pub loop-target-preserved : goal.loop-target-preserved
+loop-target-preserved c =
+    let inv = c.loop-target.invariant in
     let call = c.push_within.ensures in
     record {
       flow_written = IsWritten-trans _ _ _ inv.flow_written call.flow_written;
@@ -39,3 +39,11 @@ loop-pushes-preserved c =
       scratch = subst (λ (n : ℕ). IsScratchFor n c.push_within.new.scratch) (ap length c.search_on.ensures.kept ∙ inv.scratch.potentials_sized) call.scratch;
       pushed = ArePushes-more inv.pushed call.pushed;
     }
+
+pub overflow_add-pushes : goal.overflow_add-pushes
+overflow_add-pushes c =
+    let small = left-small (length c.args.scratch.now.potentials.items) c.args.excess.now c.requires.small c.requires.excess_in c.requires.certified.flow.few_nodes in
+    let before : left c.tidy.new.self ≡ left c.args.excess.now = ap left c.tidy.ensures in
+    let count = (ArePushes-more c.loop-target.invariant.pushed c.push_within.ensures.pushed).count in
+    let bound : c.loop-target.pushes + 1 < 2 ^ 64 = omega (arith, small, before, count) in
+    search (rules, bound)

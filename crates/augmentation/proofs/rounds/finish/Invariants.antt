@@ -4,10 +4,10 @@ use Rattle.augmentation.specs.Push.{ArePushes, AreSmall, left}
 use Rattle.augmentation.specs.Scratch.{IsScratchFor}
 use Rattle.augmentation.specs.Settle.{HaveFallen}
 use Rattle.augmentation.specs.Tracked.{IsWritten}
-use Rattle.augmentation.proofs.rounds.push_some.Given as goal
+use Rattle.augmentation.proofs.rounds.finish.Given as goal
 
-abbrev pub invariant-loop-pushes : goal.invariant-loop-pushes
-invariant-loop-pushes l = record {
+abbrev pub invariant-loop-target : goal.invariant-loop-target
+invariant-loop-target l = record {
   flow_written : IsWritten l.initial.flow l.flow;
   certified : IsReducedCostOptimal l.graph.rows l.flow.entries.items l.scratch.potentials.items;
   fallen : HaveFallen l.scratch.potentials.items l.excess;
@@ -17,5 +17,5 @@ invariant-loop-pushes l = record {
   pushed : ArePushes l.graph.rows l.pushes l.initial.flow.entries.items l.initial.excess l.flow.entries.items l.excess;
 }
 
-abbrev pub decreases-loop-pushes : goal.decreases-loop-pushes
-decreases-loop-pushes l = left l.excess
+abbrev pub decreases-loop-target : goal.decreases-loop-target
+decreases-loop-target l = left l.excess

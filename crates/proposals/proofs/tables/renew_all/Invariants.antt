@@ -1,0 +1,5 @@
+use Rattle.std.proofs.Common.{◌≡◌}
+use Rattle.proposals.proofs.tables.renew_all.Given as goal
+
+abbrev pub invariant-loop-k : goal.invariant-loop-k
+invariant-loop-k l = record { proposal : l.proposal ≡ l.initial.proposal; between : l.between ≡ l.initial.between }
