@@ -1,5 +1,5 @@
-/* A minimum-cost flow solver, for C and for whatever calls C: one call that answers a problem text, and a session that
- * answers edits of it.
+/* A minimum-cost flow solver, for C and for whatever calls C: one call that answers a problem text, and a session of a
+ * text or of arrays that answers edits of it.
  *
  * docs/EMBEDDING.md tells how to build the library and what to link it with. Problem texts, the lines of a session's
  * commands, and the numbers of faults and of refusals are those of docs/FORMATS.md. Arcs come in the order of their
@@ -15,6 +15,8 @@
  *   answers meanwhile.
  * - The program's malloc, realloc and free are one allocator that aligns to 16. No call is made in a signal handler, or
  *   after fork in the child of a process with threads. A thread that makes calls has 256 kB of stack left for them.
+ * - The processor is of the level x86-64-v2. The library cannot test it, since nothing in Rattle asks a processor: on an
+ *   older one a call may end in SIGILL, so a program asks first, by __builtin_cpu_supports("x86-64-v2") of GCC and Clang.
  */
 #ifndef MCF_H
 #define MCF_H
@@ -32,9 +34,9 @@ enum {
     MCF_DONE = 0,
     MCF_CLOSED = -1,       /* the handle has no session */
     MCF_OPEN = -2,         /* the handle has a session already */
-    MCF_OTHER_LENGTH = -3, /* the array has another length than the list */
+    MCF_OTHER_LENGTH = -3, /* the array has another length than the list, or than the arrays beside it */
     MCF_NOT_THERE = -4,    /* no flow and no potentials where no flow is legal; no cut where one is */
-    MCF_FAULT = -5,        /* the text has a fault */
+    MCF_FAULT = -5,        /* the text has a fault, or an entry of the arrays has */
     MCF_MEMORY = -6,       /* memory was refused */
     MCF_TOO_SHORT = -7     /* a list of the answer has no room */
 };
@@ -106,6 +108,49 @@ typedef struct mcf_handle {
  * that proves that none is legal. There is room for commands to add `extra` arcs. MCF_OPEN, MCF_FAULT (with the fault)
  * or MCF_MEMORY: the handle is as before. */
 int32_t mcf_open(mcf_handle *handle, const uint8_t *text, size_t length, uint32_t extra, mcf_fault *fault);
+
+/* A problem of the kind min, as arrays: one entry a node in supply, and one entry an arc in each of the others. Nodes
+ * are counted from 1 in tail and head, and node 1 has the first entry of supply. Beside each pointer is the length of
+ * its array. */
+typedef struct mcf_arrays {
+    const int64_t *supply; /* how much the node sends out; below 0 is what it takes in */
+    size_t supply_length;
+    const uint32_t *tail; /* the node that the arc leaves */
+    size_t tail_length;
+    const uint32_t *head; /* the node that it enters */
+    size_t head_length;
+    const int64_t *low; /* the least flow on it */
+    size_t low_length;
+    const int64_t *cap; /* the greatest flow on it */
+    size_t cap_length;
+    const int64_t *cost; /* the cost of a unit of flow on it, which may be below 0 */
+    size_t cost_length;
+} mcf_arrays;
+
+/* The first fault of a problem's arrays: its number, as docs/FORMATS.md has it for a line of a text with the same numbers,
+ * and the node or the arc that has it, each counted from 1; the other of the two is 0. Both are 0 where there are too
+ * many nodes or arcs, or no node. Nodes come before arcs, and an arc's numbers in the order tail, head, low, cap, cost.
+ *
+ *  4: low or cap is below 0, or a number has more than 18 digits
+ *  5: a number is beyond its limits: nodes 1 to 50,000, arcs 0 to 100,000, tail and head 1 to the number of nodes, low
+ *     and cap 0 to 10^9, supply -10^9 to 10^9, cost -10^12 to 10^12
+ * 15: low is above cap */
+typedef struct mcf_array_fault {
+    uint32_t node;
+    uint32_t arc;
+    uint8_t number;
+} mcf_array_fault;
+
+/* Opens a session on the problem of arrays: exactly the session that mcf_open opens on a text of the kind min with a
+ * node line for each entry of supply and an arc line for each arc. It reads the arrays, and does not keep them.
+ * MCF_OPEN, MCF_OTHER_LENGTH (the five arrays of arcs differ in length), MCF_FAULT (with the fault) or MCF_MEMORY: the
+ * handle is as before.
+ *
+ *     mcf_arrays arrays = {supply, nodes, tail, arcs, head, arcs, low, arcs, cap, arcs, cost, arcs};
+ *     mcf_array_fault fault;
+ *     if (mcf_open_arrays(&handle, &arrays, 0, &fault) != MCF_DONE) ...
+ */
+int32_t mcf_open_arrays(mcf_handle *handle, const mcf_arrays *arrays, uint32_t extra, mcf_array_fault *fault);
 
 /* Takes a line of a session's commands, without its line feed, such as "cap 5 3" (arc 5 may carry 3), and solves again.
  * A refusal by its number, or MCF_CLOSED: nothing has changed. "show" and "proof" change nothing; "mark NAME" names the

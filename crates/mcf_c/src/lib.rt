@@ -14,8 +14,9 @@ ghost use Rattle.session.specs.Parts.{flow_of};
 ghost use Rattle.dimacs_lines.specs.Lines.{Line};
 ghost use Rattle.session.specs.Step.{StepBy};
 ghost use Rattle.session.specs.Turns.{gathered_in};
+ghost use Rattle.calls.specs.Arrays.{IsEven, IsFirstFault, IsOpeningBy};
 ghost use Rattle.calls.specs.Answer.{AreListsKept, IsSameRoom, IsSolved, IsTooShort};
-ghost use Rattle.calls.specs.declared.status.TheConstants.{FAULT, TOO_SHORT};
+ghost use Rattle.calls.specs.declared.status.TheConstants.{FAULT, OTHER_LENGTH, TOO_SHORT};
 ghost use Rattle.calls.specs.Library.{Goes, IsOpening, IsViewOf, Steps, Took, arc_count, given_of, has_cut, has_flow, node_count};
 ghost use Rattle.mcf_c.specs.Handles.{group_behind, state_behind};
 
@@ -25,8 +26,8 @@ mod plan;
 mod pointer;
 
 use calls::{
-    Answer, CLOSED, Fault, MEMORY, OPEN, View, give_cut, give_flow, give_potentials, look,
-    open_session, solve_text, take_line,
+    Answer, ArrayFault, Arrays, CLOSED, Fault, MEMORY, OPEN, View, give_cut, give_flow,
+    give_potentials, look, open_arrays, open_session, solve_text, take_line,
 };
 use handle::Handle;
 use plan::Plan;
@@ -76,6 +77,49 @@ pub extern "C" fn mcf_open(
         return OPEN;
     }
     let session = match open_session(alloc, text, extra, fault) {
+        Ok(session) => session,
+        Err(status) => return status,
+    };
+    let plan = Plan {
+        session,
+        group: None,
+    };
+    match Box::new(alloc, plan) {
+        Ok(plan) => {
+            handle.put(plan);
+            0
+        }
+        Err(_) => MEMORY, // No session is kept.
+    }
+}
+
+/// Opens a session on a problem of the kind `min` that is in arrays, with room for `extra` arcs more, up to the limit of
+/// arcs: exactly the session that a text opens whose node and arc lines say the same.
+///
+/// Answers 0, or `OPEN`, `OTHER_LENGTH`, `FAULT` or `MEMORY`, after which the handle is as before.
+#[unsafe(no_mangle)]
+pub extern "C" fn mcf_open_arrays(
+    alloc: Global,
+    handle: &mut Handle,
+    arrays: &Arrays,
+    extra: u32,
+    fault: &mut ArrayFault,
+) -> i32
+    ensures opened { result ≡ pos 0 → (state_behind handle.old ≡ None) × IfSome (state_behind handle.new) (IsOpeningBy arrays.now extra) }
+    ensures open { result ≡ pos 0 → state_behind handle.new ≢ None }
+    ensures no_group { result ≡ pos 0 → group_behind handle.new ≡ None }
+    ensures lengths { result ≡ OTHER_LENGTH → IsEven arrays.now → ⊥ }
+    ensures fault { result ≡ FAULT → IsEven arrays.now × IsFirstFault arrays.now fault.new }
+    ensures in_use { result ≡ OPEN → state_behind handle.old ≢ None }
+    ensures otherwise { result ≢ pos 0 → result ≢ OTHER_LENGTH → result ≢ FAULT → result ≢ OPEN → result ≡ MEMORY }
+    ensures no_fault { result ≢ FAULT → fault.new ≡ fault.old }
+    ensures refused { result ≢ pos 0 → state_behind handle.new ≡ state_behind handle.old }
+    ensures same_group { result ≢ pos 0 → group_behind handle.new ≡ group_behind handle.old }
+{
+    if handle.is_open() {
+        return OPEN;
+    }
+    let session = match open_arrays(alloc, arrays, extra, fault) {
         Ok(session) => session,
         Err(status) => return status,
     };
