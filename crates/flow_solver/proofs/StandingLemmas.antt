@@ -244,11 +244,9 @@ pub scratch_noted : (n : ℕ) (s : Scratch) (a : Attempt) → a ≡ s.attempt �
 scratch_noted n s a same of = record {
   node_labels_sized = of.node_labels_sized;
   potentials_sized = of.potentials_sized;
-  fresh = of.fresh;
   labels = of.labels;
   queue = of.queue;
-  settled_order = of.settled_order;
-  walks = of.walks;
+  marks_sized = of.marks_sized;
   attempt = subst (IsAttemptFor n) (sym same) of.attempt;
 }
 
