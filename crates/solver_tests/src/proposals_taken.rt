@@ -44,6 +44,9 @@ type Outcome = (
     Option<i128>,
 );
 
+/// What is proposed, or nothing where the solver is to propose, and what comes of it.
+type Step = (Option<Proposed>, Outcome);
+
 /// What is proposed of `TIES`, and what comes of it.
 static PROPOSALS: [(Proposed, Outcome); 16] = [
     // The one way, the other, both.
@@ -188,6 +191,9 @@ static OWN: [(&[u8], &[i64], Outcome); 5] = [
         (Some(1), 0, &[1, 1], &[0, 2, 0, -2], None),
     ),
 ];
+
+/// An arc that is not there, and no potentials.
+static MISSING: Proposed = (&[(9, 9)], &[1], &[]);
 
 /// What the searches alone come to where arcs gain.
 static SEARCHED: Outcome = (None, 4, &[2, 2, 2, 2, 0], &[0; 5], Some(10));
@@ -344,28 +350,52 @@ fn expect(
     Ok(())
 }
 
-/// This comes of a proposal, and of the same one once more in the same tables.
-fn expect_twice(
-    rt: &impl Abort,
-    alloc: Global,
-    run: &mut Run,
-    proposed: &Proposed,
-    outcome: &Outcome,
-) -> Result<(), AllocError>
+/// This comes of a proposal that is written down, or where there is none of the solver's own.
+fn expect_step(rt: &impl Abort, alloc: Global, run: &mut Run, step: &Step) -> Result<(), AllocError>
     requires scratch { IsScratchFor (length run.old.scratch.potentials.items) run.old.scratch }
     ensures scratch { IsScratchFor (length run.new.scratch.potentials.items) run.new.scratch }
 {
-    let first = wanted_of(alloc, proposed)?;
-    expect(rt, alloc, run, Some(first), outcome)?;
-    let second = wanted_of(alloc, proposed)?;
-    expect(rt, alloc, run, Some(second), outcome)
+    let wanted = match &step.0 {
+        Some(proposed) => Some(wanted_of(alloc, proposed)?),
+        None => None,
+    };
+    expect(rt, alloc, run, wanted, &step.1)
+}
+
+/// The same of two proposals, one after the other in the same tables.
+fn expect_both(
+    rt: &impl Abort,
+    alloc: Global,
+    run: &mut Run,
+    steps: &[Step; 2],
+) -> Result<(), AllocError>
+    requires scratch { IsScratchFor (length run.old.scratch.potentials.items) run.old.scratch }
+{
+    expect_step(rt, alloc, run, &steps[0])?;
+    expect_step(rt, alloc, run, &steps[1])
+}
+
+/// The same of a problem that begins with these excesses. All tests give their tables back here, at one place, since it
+/// takes long to prove that.
+fn expect_of(
+    rt: &impl Abort,
+    alloc: Global,
+    text: &[u8],
+    balance: &'static [i64],
+    steps: &[Step; 2],
+) -> Result<(), Fail> {
+    let mut run = run_of(rt, alloc, text, balance)?;
+    let done = expect_both(rt, alloc, &mut run, steps);
+    drop(run);
+    done?;
+    Ok(())
 }
 
 #[test]
 fn proposals_for_ties(rt: HostRuntime) -> Result<(), Fail> {
     for (proposed, outcome) in &PROPOSALS {
-        let mut run = run_of(&rt, rt.alloc(), TIES, &[0, 2, 0, -2, 0])?;
-        expect_twice(&rt, rt.alloc(), &mut run, proposed, outcome)?;
+        let step = (Some(*proposed), *outcome);
+        expect_of(&rt, rt.alloc(), TIES, &[0, 2, 0, -2, 0], &[step, step])?;
     }
     Ok(())
 }
@@ -373,8 +403,8 @@ fn proposals_for_ties(rt: HostRuntime) -> Result<(), Fail> {
 #[test]
 fn proposals_that_leave_something(rt: HostRuntime) -> Result<(), Fail> {
     for (text, balance, proposed, outcome) in &LEFT {
-        let mut run = run_of(&rt, rt.alloc(), text, balance)?;
-        expect_twice(&rt, rt.alloc(), &mut run, proposed, outcome)?;
+        let step = (Some(*proposed), *outcome);
+        expect_of(&rt, rt.alloc(), text, balance, &[step, step])?;
     }
     Ok(())
 }
@@ -382,18 +412,15 @@ fn proposals_that_leave_something(rt: HostRuntime) -> Result<(), Fail> {
 #[test]
 fn own_proposals(rt: HostRuntime) -> Result<(), Fail> {
     for (text, balance, outcome) in &OWN {
-        let mut run = run_of(&rt, rt.alloc(), text, balance)?;
-        expect(&rt, rt.alloc(), &mut run, None, outcome)?;
-        expect(&rt, rt.alloc(), &mut run, None, outcome)?;
+        let step = (None, *outcome);
+        expect_of(&rt, rt.alloc(), text, balance, &[step, step])?;
     }
     Ok(())
 }
 
 #[test]
 fn own_proposal_after_spoilt_ones(rt: HostRuntime) -> Result<(), Fail> {
-    let mut run = run_of(&rt, rt.alloc(), GAINS, &[0, 1, -1, 4, -4])?;
-    let spoilt = wanted_of(rt.alloc(), &(&[(9, 9)], &[1], &[]))?;
-    expect(&rt, rt.alloc(), &mut run, Some(spoilt), &SEARCHED)?;
-    expect(&rt, rt.alloc(), &mut run, None, &OWN[0].2)?;
-    Ok(())
+    let spoilt = (Some(MISSING), SEARCHED);
+    let own = (None, OWN[0].2);
+    expect_of(&rt, rt.alloc(), GAINS, &[0, 1, -1, 4, -4], &[spoilt, own])
 }
