@@ -6,7 +6,7 @@ use crate::look::Step;
 use crate::record::State;
 use crate::records::Records;
 use crate::search::Search;
-use relaxation::{Nodes, Places, Proposal};
+use relaxation::{Nodes, Proposal};
 
 impl Search {
     /// Lowers the potentials of the nodes that were settled, so that the paths to them are tight, and pushes from nodes in
@@ -16,7 +16,29 @@ impl Search {
         ensures kept { self.new ≡ self.old }
         ensures proposal { proposal.new ≡ proposal.old }
     {
-        self.tighten::<AHEAD>(proposal, length);
+        tighten_all::<AHEAD>(&self.records, &self.settled, proposal, length);
+        self.serve_all::<AHEAD>(proposal, renewals);
+    }
+
+    /// Pushes on from nodes in excess to those in deficit that were settled, along any tight arcs. Where each path is longer
+    /// than the last one, there are few on the levels of one search.
+    pub fn block_freely<const AHEAD: bool>(&mut self, proposal: &mut Proposal)
+        requires { proposal.old ≡ self.old }
+        ensures kept { self.new ≡ self.old }
+        ensures proposal { proposal.new ≡ proposal.old }
+    {
+        self.free = true;
+        self.serve_all::<AHEAD>(proposal, 0);
+        self.free = false;
+    }
+
+    /// Pushes from nodes in excess to each node in deficit that was settled.
+    fn serve_all<const AHEAD: bool>(&mut self, proposal: &mut Proposal, renewals: u8)
+        requires { proposal.old ≡ self.old }
+        ensures kept { self.new ≡ self.old }
+        ensures proposal { proposal.new ≡ proposal.old }
+    {
+        begin_walks_at(&mut self.records, &self.settled);
         for k in 0..self.entries() {
             let Some(t) = self.settled_at(k) else {
                 return;
@@ -35,15 +57,6 @@ impl Search {
         lower_all::<AHEAD>(&self.settled, proposal, shift);
     }
 
-    /// Lowers the potentials of the nodes that were settled.
-    fn tighten<const AHEAD: bool>(&mut self, proposal: &mut Proposal, length: i64)
-        requires { proposal.old ≡ self.old }
-        ensures kept { self.new ≡ self.old }
-        ensures proposal { proposal.new ≡ proposal.old }
-    {
-        tighten_all::<AHEAD>(&mut self.records, &self.settled, proposal, length);
-    }
-
     /// Walks back from a node in deficit to nodes in excess and pushes along the walks, until nothing lacks or no walk is left.
     fn serve<const AHEAD: bool>(&mut self, proposal: &mut Proposal, t: usize, renewals: u8)
         requires proposal { proposal.old ≡ self.old }
@@ -57,16 +70,17 @@ impl Search {
             let next = if proposal.is_root::<AHEAD>(u) {
                 self.push::<AHEAD>(proposal, t, u)
             } else if let Some(step) = self.step_back::<AHEAD>(proposal, u) {
-                self.walk_on(step);
+                self.walk_on::<AHEAD>(proposal, step);
                 Some(step.other)
             } else {
                 self.turn_back::<AHEAD>(proposal, u, renewals)
             };
             let Some(next) = next else {
-                return;
+                break;
             };
             u = next;
         }
+        let _begin = self.leave::<AHEAD>(proposal, u, Leaving::All);
     }
 
     fn settled_at(&self, k: usize) -> Option<usize>
@@ -92,40 +106,44 @@ impl Search {
 
     /// Goes back along an arc.
     #[inline(always)]
-    fn walk_on(&mut self, step: Step)
-        requires { step.other < self.old }
+    fn walk_on<const AHEAD: bool>(&mut self, proposal: &Proposal, step: Step)
+        requires proposal { proposal.now ≡ self.old }
+        requires node { step.other < self.old }
         ensures { self.new ≡ self.old }
     {
-        self.walk.add(step.place);
-        self.records.set_state(step.other, State::Walked);
+        if let Some(link) = proposal.link(step.place) {
+            self.walk.add(step.place, link.room_back::<AHEAD>());
+            self.records.set_state(step.other, State::Walked);
+        }
     }
 
     /// Leaves a node from which a walk does not get on, and gives the node before it; the node itself where the walk began
     /// there and goes on.
     fn turn_back<const AHEAD: bool>(
         &mut self,
-        proposal: &Proposal,
+        proposal: &mut Proposal,
         u: usize,
         renewals: u8,
     ) -> Option<usize>
-        requires proposal { proposal.now ≡ self.old }
+        requires proposal { proposal.old ≡ self.old }
         requires node { u < self.old }
         ensures kept { self.new ≡ self.old }
+        ensures proposal { proposal.new ≡ proposal.old }
         ensures node { IfSome result (λ v. v < self.old) }
     {
         let renewed = self.renew::<AHEAD>(proposal, u, renewals);
-        let Some(place) = self.walk.take() else {
-            if renewed {
-                return Some(u);
-            }
+        let before = self.leave_last::<AHEAD>(proposal);
+        if !renewed {
             self.records.set_state(u, State::Dead);
-            return None;
-        };
-        self.records
-            .set_state(u, if renewed { State::Done } else { State::Dead });
-        let before = node_at(proposal, place)?;
-        self.records.drop_parent(before);
-        Some(before)
+        }
+        match before {
+            Some(v) => {
+                self.records.drop_parent(v);
+                Some(v)
+            }
+            None if renewed => Some(u),
+            None => None,
+        }
     }
 
     /// Pushes from `s` along the walk to `t`. Gives the node from which the walk goes on: that before the first arc that was
@@ -145,44 +163,95 @@ impl Search {
     {
         self.counts.pushes = self.counts.pushes.saturating_add(1);
         let lack = -proposal.excess::<AHEAD>(t);
-        let amount = narrowest::<AHEAD>(
-            proposal,
-            self.walk.listed(),
-            lack.min(proposal.excess::<AHEAD>(s)),
-        );
+        let amount = self.walk.room(lack.min(proposal.excess::<AHEAD>(s)));
         proposal.carry::<AHEAD>(s, t, amount);
-        let first_full = draw_all::<AHEAD>(proposal, self.walk.listed(), amount);
+        self.walk.push(amount);
         if !proposal.is_goal::<AHEAD>(t) {
             self.records.set_state(t, State::Done);
-            release(&mut self.records, &self.walk, proposal, 0);
             return None;
         }
-        release(&mut self.records, &self.walk, proposal, first_full);
-        self.walk.keep(first_full);
-        match self.walk.last() {
-            Some(place) => node_beyond(proposal, place),
-            None => Some(t),
+        Some(self.leave::<AHEAD>(proposal, s, Leaving::Filled))
+    }
+
+    /// Takes arcs off the walk, which stands at a node, from its end on; gives the node at which it then stands.
+    fn leave<const AHEAD: bool>(
+        &mut self,
+        proposal: &mut Proposal,
+        u: usize,
+        leaving: Leaving,
+    ) -> usize
+        requires proposal { proposal.old ≡ self.old }
+        requires node { u < self.old }
+        ensures kept { self.new ≡ self.old }
+        ensures proposal { proposal.new ≡ proposal.old }
+        ensures node { result < self.old }
+    {
+        let mut u = u;
+        for _ in 0..self.entries() {
+            if leaving == Leaving::Filled && proposal.is_open(self.walk.room(i64::MAX)) {
+                break;
+            }
+            let Some(before) = self.leave_last::<AHEAD>(proposal) else {
+                break;
+            };
+            u = before;
         }
+        u
+    }
+
+    /// Takes the last arc off the walk, with the node to which it led, and moves along it what was pushed. Gives the node from
+    /// which it led; none where the walk has no arc.
+    #[inline(always)]
+    fn leave_last<const AHEAD: bool>(&mut self, proposal: &mut Proposal) -> Option<usize>
+        requires { proposal.old ≡ self.old }
+        ensures kept { self.new ≡ self.old }
+        ensures proposal { proposal.new ≡ proposal.old }
+        ensures node { IfSome result (λ v. v < self.old) }
+    {
+        let (place, amount) = self.walk.take()?;
+        let link = proposal.link(place)?;
+        self.records.set_state(link.other as usize, State::Done);
+        if amount > 0 {
+            let _full = proposal.draw::<AHEAD>(place, amount);
+        }
+        let back = proposal.link(link.opposite)?;
+        Some(back.other as usize)
+    }
+}
+
+/// Which arcs a walk leaves.
+#[derive(Clone, Copy, PartialEq, Eq)]
+enum Leaving {
+    All,
+    /// The first one that is filled, and those behind it.
+    Filled,
+}
+
+/// Lets walks begin anew at these nodes.
+fn begin_walks_at(records: &mut Records, settled: &Nodes)
+    requires { settled.now ≡ records.old }
+    ensures { records.new ≡ records.old }
+{
+    for v in settled.listed() {
+        records.begin_walks(*v as usize);
     }
 }
 
 /// Lowers the potentials of these nodes so that the paths to them are tight.
 fn tighten_all<const AHEAD: bool>(
-    records: &mut Records,
+    records: &Records,
     settled: &Nodes,
     proposal: &mut Proposal,
     length: i64,
 )
-    requires settled { settled.now ≡ records.old }
-    requires proposal { proposal.old ≡ records.old }
-    ensures records { records.new ≡ records.old }
-    ensures proposal { proposal.new ≡ proposal.old }
+    requires settled { settled.now ≡ records.now }
+    requires proposal { proposal.old ≡ records.now }
+    ensures { proposal.new ≡ proposal.old }
 {
     for v in settled.listed() {
         let v = *v as usize;
         let shift = length.saturating_sub(records.key(v));
         let _lowered = proposal.lower::<AHEAD>(v, shift);
-        records.begin_walks(v);
     }
 }
 
@@ -196,61 +265,11 @@ fn lower_all<const AHEAD: bool>(settled: &Nodes, proposal: &mut Proposal, shift:
     }
 }
 
-/// Takes the nodes off the walk to which its arcs lead, from this arc on.
-fn release(records: &mut Records, walk: &Places, proposal: &Proposal, from: usize)
-    requires proposal { proposal.now ≡ records.old }
-    ensures { records.new ≡ records.old }
-{
-    let places = walk.listed();
-    for k in from..places.len() {
-        if let Some(v) = node_beyond(proposal, places[k]) {
-            records.set_state(v, State::Done);
-        }
-    }
-}
+/// The most steps of the walks to one node, for each end of an arc. Where paths are long and each has its own end, walks from
+/// the other side take few steps. 8 and 32 were as quick, and what is filled on the way mostly ends a walk sooner.
+const STEPS: u64 = 16;
 
-/// The node at the other end of the arc at a place.
-fn node_beyond(proposal: &Proposal, place: u32) -> Option<usize>
-    ensures { IfSome result (λ v. v < proposal.now) }
-{
-    let link = proposal.link(place)?;
-    Some(link.other as usize)
-}
-
-/// The node to which a place belongs.
-fn node_at(proposal: &Proposal, place: u32) -> Option<usize>
-    ensures { IfSome result (λ v. v < proposal.now) }
-{
-    let link = proposal.link(place)?;
-    node_beyond(proposal, link.opposite)
-}
-
-/// How many steps a walk may take. No bound that is ever met: what is filled on the way ends it sooner.
+/// How many steps the walks to one node may take.
 fn fuel(proposal: &Proposal) -> u64 {
-    (proposal.entries() as u64).saturating_mul(proposal.ends() as u64)
-}
-
-/// The room along a walk, or this amount if it is less.
-fn narrowest<const AHEAD: bool>(proposal: &Proposal, places: &[u32], amount: i64) -> i64 {
-    let mut amount = amount;
-    for place in places {
-        if let Some(link) = proposal.link(*place) {
-            amount = amount.min(link.room_back::<AHEAD>());
-        }
-    }
-    amount
-}
-
-/// Moves flow along a walk, and gives the number of arcs before the first that is filled.
-fn draw_all<const AHEAD: bool>(proposal: &mut Proposal, places: &[u32], amount: i64) -> usize
-    ensures { proposal.new ≡ proposal.old }
-{
-    let mut first_full = places.len();
-    for j in 0..places.len() {
-        let k = places.len() - 1 - j;
-        if proposal.draw::<AHEAD>(places[k], amount) {
-            first_full = k;
-        }
-    }
-    first_full
+    STEPS.saturating_mul(proposal.ends() as u64)
 }

@@ -19,6 +19,7 @@ mod scaling;
 mod search;
 mod solving;
 mod tables;
+mod walk;
 mod wanted;
 
 pub use tables::{Aim, Proposals};

@@ -120,13 +120,14 @@ impl Records {
         self.table[v].state = state;
     }
 
-    /// Lets walks begin anew at a node.
+    /// Lets walks begin anew at a node that is settled.
     pub fn begin_walks(&mut self, v: usize)
         requires { v < self.old }
         ensures { self.new ≡ self.old }
     {
         self.table[v].current = 0;
         self.table[v].renewed = 0;
+        self.table[v].state = State::Done;
     }
 
     /// Walks do not use the search's own arc to a node any more.

@@ -6,7 +6,8 @@ ghost use Rattle.two_sided.specs.Keys.{key_limit};
 
 use crate::record::{Record, State};
 use crate::records::Records;
-use relaxation::{Link, Nodes, Places, Proposal};
+use crate::walk::Walk;
+use relaxation::{Link, Nodes, Proposal};
 use std::alloc::{AllocError, Global};
 use std::marker::Model;
 use two_sided::{Heap, NO_PLACE};
@@ -41,8 +42,9 @@ pub struct Search {
     pub(crate) settled: Nodes,
     /// The nodes to which a path was found.
     touched: Nodes,
-    /// The places of the walk's arcs, each at the node that the walk came from.
-    pub(crate) walk: Places,
+    pub(crate) walk: Walk,
+    /// Walks go along any tight arc, and not only along those from the level below.
+    pub(crate) free: bool,
     /// What lay at each node at the start.
     pub(crate) home: Vec<i64>,
     /// What is kept apart at each node while leftovers go home.
@@ -82,7 +84,7 @@ impl Search {
         let queue = Nodes::new(alloc, entries)?;
         let settled = Nodes::new(alloc, entries)?;
         let touched = Nodes::new(alloc, entries)?;
-        let walk = Places::new(alloc, entries)?;
+        let walk = Walk::new(alloc, entries)?;
         let home = vec![in alloc; 0; entries]?;
         let apart = vec![in alloc; 0; entries]?;
         Ok(Search {
@@ -92,6 +94,7 @@ impl Search {
             settled,
             touched,
             walk,
+            free: false,
             home,
             apart,
             last: 0,
