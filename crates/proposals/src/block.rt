@@ -6,7 +6,7 @@ use crate::look::Step;
 use crate::record::State;
 use crate::records::Records;
 use crate::search::Search;
-use relaxation::{Nodes, Proposal};
+use relaxation::{Nodes, Proposal, seen};
 
 impl Search {
     /// Lowers the potentials of the nodes that were settled, so that the paths to them are tight, and pushes from nodes in
@@ -250,7 +250,9 @@ fn tighten_all<const AHEAD: bool>(
 {
     for v in settled.listed() {
         let v = *v as usize;
-        let shift = length.saturating_sub(records.key(v));
+        let potential = seen::<AHEAD>(proposal.potential(v));
+        let key = records.reach(v).saturating_sub(potential);
+        let shift = length.saturating_sub(key);
         let _lowered = proposal.lower::<AHEAD>(v, shift);
     }
 }

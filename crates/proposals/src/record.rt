@@ -1,9 +1,6 @@
 //! What a search knows of a node.
 
-ghost use Rattle.std.specs.Prelude.{pos, ◌≤ℤ◌};
-ghost use Rattle.two_sided.specs.Keys.{key_limit};
-
-use two_sided::{FAR, NO_PLACE};
+use two_sided::NO_PLACE;
 
 /// How far a search or a walk has come with a node.
 #[derive(Clone, Copy, PartialEq, Eq)]
@@ -23,9 +20,7 @@ pub enum State {
 /// What a search and the walks after it know of a node.
 #[derive(Clone, Copy)]
 pub struct Record {
-    /// The length of the best path so far.
-    pub key: i64,
-    /// The number of arcs of that path; later the level of the node.
+    /// The number of arcs of the best path so far; later the level of the node.
     pub depth: u32,
     /// The place, at this node, of the last arc of that path.
     pub parent: u32,
@@ -36,14 +31,11 @@ pub struct Record {
     pub renewed: u8,
     /// A search found it out of reach of all nodes on the other side.
     pub gone: bool,
-    ghost key_low: { pos 0 ≤ℤ key },
-    ghost key_high: { key ≤ℤ pos key_limit },
 }
 
 impl Record {
     /// What is known of a node at first.
     pub const NEW: Record = Record {
-        key: FAR,
         depth: 0,
         parent: NO_PLACE,
         current: 0,

@@ -1,9 +1,10 @@
 //! What a search knows of each node.
 
-ghost use Rattle.std.specs.Prelude.{◌≡◌, ◌<◌, ℕ, IfOk, length, pos, ◌≤ℤ◌};
-ghost use Rattle.two_sided.specs.Keys.{key_limit};
+ghost use Rattle.std.specs.Prelude.{◌≡◌, ◌<◌, ℕ, IfOk, length};
+ghost use Rattle.relaxation.specs.Limits.{IsWithin, rest_limit};
 
 use crate::record::{Record, State};
+use relaxation::REST_LIMIT;
 use std::alloc::{AllocError, Global};
 use std::marker::Model;
 use two_sided::{FAR, NO_PLACE};
@@ -12,14 +13,21 @@ use two_sided::{FAR, NO_PLACE};
 #[derive(Drop)]
 pub struct Records {
     table: Vec<Record>,
+    /// How far the best path to each node reaches so far: its length and the potential of the node, so that a look at an
+    /// arc asks for this one number of the node beyond.
+    reaches: Vec<i64>,
 }
 
 impl Model for Records {
-    ghost use Rattle.std.specs.Prelude.{ℕ, length};
+    ghost use Rattle.std.specs.Prelude.{ℕ, ◌≡◌, length};
+    ghost use Rattle.relaxation.specs.Limits.{rest_limit};
+    ghost use Rattle.relaxation.specs.Links.{AreWithin};
 
     ghost Value = { ℕ };
 
     ghost view = { λ r. length r.table.items };
+
+    ghost invariant = { λ r. (length r.reaches.items ≡ length r.table.items) × AreWithin rest_limit r.reaches.items };
 }
 
 impl Records {
@@ -31,7 +39,8 @@ impl Records {
         ensures { IfOk result (λ r. r ≡ entries) }
     {
         let table = vec![in alloc; Record::NEW; entries]?;
-        Ok(Records { table })
+        let reaches = vec![in alloc; FAR; entries]?;
+        Ok(Records { table, reaches })
     }
 
     /// How many records there are.
@@ -57,14 +66,13 @@ impl Records {
         self.table[v].state
     }
 
+    /// How far the best path to a node reaches so far.
     #[inline(always)]
-    pub fn key(&self, v: usize) -> i64
+    pub fn reach(&self, v: usize) -> i64
         requires { v < self.now }
-        ensures low { pos 0 ≤ℤ result }
-        ensures high { result ≤ℤ pos key_limit }
+        ensures { IsWithin rest_limit result }
     {
-        let record = self.table[v];
-        record.key
+        self.reaches[v]
     }
 
     /// Whether the shortest path to a node is not known yet.
@@ -89,15 +97,13 @@ impl Records {
         self.table[v].gone
     }
 
-    /// Writes down a path to a node.
+    /// Writes down a path to a node that reaches so far.
     #[inline(always)]
-    pub fn open(&mut self, v: usize, key: i64, depth: u32, parent: u32)
-        requires node { v < self.old }
-        requires low { pos 0 ≤ℤ key }
-        requires high { key ≤ℤ pos key_limit }
+    pub fn open(&mut self, v: usize, reach: i64, depth: u32, parent: u32)
+        requires { v < self.old }
         ensures { self.new ≡ self.old }
     {
-        self.table[v].key = key;
+        self.reaches[v] = reach.clamp(-REST_LIMIT, REST_LIMIT);
         self.table[v].depth = depth;
         self.table[v].parent = parent;
         self.table[v].state = State::Open;
@@ -108,7 +114,7 @@ impl Records {
         requires { v < self.old }
         ensures { self.new ≡ self.old }
     {
-        self.table[v].key = FAR;
+        self.reaches[v] = FAR;
         self.table[v].state = State::New;
     }
 

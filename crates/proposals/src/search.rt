@@ -1,16 +1,20 @@
 //! A search for shortest paths from all nodes in excess, as a side sees it.
 
-ghost use Rattle.std.specs.Prelude.{◌≡◌, ◌<◌, ◌≤◌, ◌^◌, ℕ, IfOk, IfSome, length, pos, ◌≤ℤ◌};
+ghost use Rattle.std.specs.Prelude.{◌≡◌, ◌<◌, ◌≤◌, ◌^◌, ℕ, IfOk, IfSome, length};
 ghost use Rattle.relaxation.specs.Limits.{IsWithin, rest_limit};
-ghost use Rattle.two_sided.specs.Keys.{key_limit};
 
-use crate::record::{Record, State};
+use crate::record::State;
 use crate::records::Records;
 use crate::walk::Walk;
-use relaxation::{Link, Nodes, Proposal};
+use relaxation::{Link, Nodes, Proposal, seen};
 use std::alloc::{AllocError, Global};
 use std::marker::Model;
 use two_sided::{Heap, NO_PLACE};
+
+/// By so much further a path reaches over an arc that searches do not use: further than any that is known. Added to its
+/// length it takes the place of a test, which the processor foretold wrongly at every fourth arc: the searches of
+/// assignments, plans and infeasible networks took a tenth longer.
+const BARRED: i64 = 4_200_000_000_000_000_000;
 
 /// What was done.
 #[derive(Clone, Copy, Debug, PartialEq, Eq)]
@@ -140,7 +144,7 @@ impl Search {
         }
         let mut got: usize = 0;
         for _ in 0..=2 * self.entries() {
-            let Some(u) = self.next() else {
+            let Some(u) = self.next::<AHEAD>(proposal) else {
                 break;
             };
             if !self.waits(u) {
@@ -172,7 +176,7 @@ impl Search {
                 continue;
             }
             if proposal.is_root::<AHEAD>(v) {
-                self.begin_at(v);
+                self.begin_at(v, seen::<AHEAD>(proposal.potential(v)));
                 some = true;
             } else if proposal.is_goal::<AHEAD>(v) {
                 goals = goals.saturating_add(1);
@@ -181,12 +185,12 @@ impl Search {
         if some { goals } else { 0 }
     }
 
-    /// Begins at a node.
-    fn begin_at(&mut self, v: usize)
+    /// Begins at a node of this potential.
+    fn begin_at(&mut self, v: usize, potential: i64)
         requires { v < self.old }
         ensures { self.new ≡ self.old }
     {
-        self.records.open(v, 0, 0, NO_PLACE);
+        self.records.open(v, potential, 0, NO_PLACE);
         self.touched.add(v);
         self.queue.add(v);
     }
@@ -214,12 +218,21 @@ impl Search {
     }
 
     #[inline(always)]
-    fn key(&self, v: usize) -> i64
+    fn reach(&self, v: usize) -> i64
         requires { v < self.now }
-        ensures low { pos 0 ≤ℤ result }
-        ensures high { result ≤ℤ pos key_limit }
+        ensures { IsWithin rest_limit result }
     {
-        self.records.key(v)
+        self.records.reach(v)
+    }
+
+    /// The length of the best path so far to a node.
+    #[inline(always)]
+    fn key<const AHEAD: bool>(&self, proposal: &Proposal, v: usize) -> i64
+        requires node { v < self.now }
+        requires proposal { proposal.now ≡ self.now }
+    {
+        self.reach(v)
+            .saturating_sub(seen::<AHEAD>(proposal.potential(v)))
     }
 
     #[inline(always)]
@@ -243,7 +256,8 @@ impl Search {
 
     /// Takes the node that comes next, which may be settled already.
     #[inline(always)]
-    fn next(&mut self) -> Option<usize>
+    fn next<const AHEAD: bool>(&mut self, proposal: &Proposal) -> Option<usize>
+        requires { proposal.now ≡ self.old }
         ensures kept { self.new ≡ self.old }
         ensures node { IfSome result (λ v. v < self.old) }
     {
@@ -252,7 +266,7 @@ impl Search {
         }
         let u = self.heap.take()?;
         if self.records.state(u) == State::Open {
-            self.last = self.records.key(u);
+            self.last = self.key::<AHEAD>(proposal, u);
             self.queue.clear();
         }
         Some(u)
@@ -276,31 +290,34 @@ impl Search {
         requires node { u < self.old }
         ensures { self.new ≡ self.old }
     {
-        let key = self.key(u);
+        let reach = self.reach(u);
         let depth = self.depth(u).saturating_add(1);
-        let potential = proposal.potential(u);
         for link in proposal.ends_at(u).links {
-            if proposal.is_open(link.room::<AHEAD>()) && self.waits(link.other as usize) {
-                let reduced_cost = proposal.reduced_cost::<AHEAD>(potential, link);
-                self.note(link, length_on(key, reduced_cost), depth);
+            let reach = reach_over::<AHEAD>(reach, link, proposal.is_open(link.room::<AHEAD>()));
+            if reach < self.reach(link.other as usize) {
+                self.note::<AHEAD>(proposal, link, reach, depth);
             }
         }
     }
 
-    /// Writes down a path that ends with this arc, if it is the best so far.
-    #[inline(always)]
-    fn note(&mut self, link: &Link, key: i64, depth: u32)
+    /// Writes down a path that ends with this arc and reaches so far, if it is the best so far. A reduced cost below 0 counts
+    /// as 0.
+    #[inline(never)] // with this in its loop `look_on` would keep fewer numbers in registers
+    fn note<const AHEAD: bool>(&mut self, proposal: &Proposal, link: &Link, reach: i64, depth: u32)
+        requires proposal { proposal.now ≡ self.old }
         requires node { link.now.other < self.old }
-        requires low { pos 0 ≤ℤ key }
         ensures { self.new ≡ self.old }
     {
         let v = link.other as usize;
-        let record = self.record(v);
-        if key >= record.key {
+        let potential = seen::<AHEAD>(proposal.potential(v));
+        let key = reach.saturating_sub(potential).max(self.last);
+        if key >= self.key::<AHEAD>(proposal, v) {
             return;
         }
-        self.write_path(v, key, depth, link.opposite);
-        if record.state != State::Open {
+        let waited = self.records.state(v) == State::Open;
+        self.records
+            .open(v, key.saturating_add(potential), depth, link.opposite);
+        if !waited {
             self.touch(v);
             if key != self.last {
                 self.wait(v, key);
@@ -311,24 +328,6 @@ impl Search {
             return;
         }
         self.wait_no_more(v);
-    }
-
-    #[inline(always)]
-    fn record(&self, v: usize) -> Record
-        requires { v < self.now }
-    {
-        self.records.get(v)
-    }
-
-    /// Writes down a path to a node.
-    #[inline(always)]
-    fn write_path(&mut self, v: usize, key: i64, depth: u32, parent: u32)
-        requires node { v < self.old }
-        requires low { pos 0 ≤ℤ key }
-        requires high { key ≤ℤ pos key_limit }
-        ensures { self.new ≡ self.old }
-    {
-        self.records.open(v, key, depth, parent);
     }
 
     /// Lists a node as one to which a path was found.
@@ -376,18 +375,16 @@ impl Search {
     }
 }
 
-/// The length of a path that goes on over an arc of this reduced cost: one below 0 counts as 0.
+/// How far a path reaches that goes on over an arc, where searches use it: over another one further than any.
 #[inline(always)]
-fn length_on(key: i64, reduced_cost: i64) -> i64
-    requires low { pos 0 ≤ℤ key }
-    requires high { key ≤ℤ pos key_limit }
-    requires reduced { IsWithin rest_limit reduced_cost }
-    ensures { pos 0 ≤ℤ result }
+fn reach_over<const AHEAD: bool>(reach: i64, link: &Link, is_open: bool) -> i64
+    requires { IsWithin rest_limit reach }
 {
-    if reduced_cost > 0 {
-        key + reduced_cost
+    let barred = if is_open { 0 } else { BARRED };
+    if AHEAD {
+        reach + link.cost + barred
     } else {
-        key
+        reach - link.cost + barred
     }
 }
 
