@@ -15,7 +15,7 @@ use Rattle.shortest_paths.specs.declared.node_label.State.{State}
 use Rattle.shortest_paths.specs.declared.node_label.State.TheVariants.{Unreached, Open, Settled}
 use Rattle.shortest_paths.specs.declared.node_label.NodeLabel.{NodeLabel}
 use Rattle.residual_graph.specs.Residual.{IsReducedCostOptimal, IsPseudoflow, ArePotentials, NoneBelow, NoneBelowBy, AreGreatest, number_at, row_at, start_at, end_at, cost_at, IsResidual}
-use Rattle.shortest_paths.specs.Search.{node_label_at, state_at, distance_at, depth_at, IsReached, HasSearched, HaveBounds, IsFresh, IsSearch, Settles, AllRelaxed, IsFromExcess, IsFromAll, bound_by, is_unsettled, source_node_label, AreLabels, IsReach, lowered_by, IsLowered, NoneOpen}
+use Rattle.shortest_paths.specs.Search.{node_label_at, state_at, distance_at, depth_at, IsReached, AreOpened, HasSearched, HaveBounds, IsFresh, IsSearch, Settles, AllRelaxed, IsFromExcess, IsFromAll, bound_by, is_unsettled, source_node_label, AreLabels, IsReach, lowered_by, IsLowered, NoneOpen}
 
 -- where no node is reached, and any path is better, each node has its bound
 pub HaveBounds-fresh : (p : List ℤ) (s : List NodeLabel) → IsFresh s → HaveBounds p s
@@ -29,15 +29,13 @@ HaveBounds-source p s v before lt =
 
 -- each node in excess is open, and no other is reached
 module _ (arcs : List ArcRow) (x p excess : List ℤ) (s : List NodeLabel) (certified : IsReducedCostOptimal arcs x p) (sized : length s ≡ length p)
-    (sources : (v : ℕ) → pos 0 <ℤ number_at excess v → node_label_at s v ≡ source_node_label (number_at p v))
-    (others : (v : ℕ) → number_at excess v ≤ℤ pos 0 → state_at s v ≡ Unreached)
-    (bounds : HaveBounds p s)
+    (opened : AreOpened excess p s)
   where
     is_source : (v : ℕ) → IsReached s v → pos 0 <ℤ number_at excess v
-    is_source v reached = by_lt_z (pos 0) (number_at excess v) (λ h. h) (λ h. absurd (reached (others v h)))
+    is_source v reached = by_lt_z (pos 0) (number_at excess v) (λ h. h) (λ h. absurd (reached (opened.others v h)))
 
     begins : (v : ℕ) → IsReached s v → node_label_at s v ≡ source_node_label (number_at p v)
-    begins v reached = sources v (is_source v reached)
+    begins v reached = opened.sources v (is_source v reached)
 
     depth_0 : (v : ℕ) → IsReached s v → depth_at s v ≡ 0
     depth_0 v reached = ap (λ (e : NodeLabel). e.depth) (begins v reached)
@@ -61,7 +59,7 @@ module _ (arcs : List ArcRow) (x p excess : List ℤ) (s : List NodeLabel) (cert
       label_low = λ v r. omega (arith, ints, distance_0 v r, certified.potentials.at_least v);
       label_high = λ v r. omega (arith, ints, distance_0 v r, certified.potentials.at_most_0 v);
       traced = λ v r deep. absurd (omega (arith, depth_0 v r));
-      bounds = bounds;
+      bounds = opened.bounds;
     }
 
     relaxed_first : AllRelaxed arcs x p s
@@ -70,7 +68,7 @@ module _ (arcs : List ArcRow) (x p excess : List ℤ) (s : List NodeLabel) (cert
     from_excess_first : IsFromExcess excess s
     from_excess_first = record {
       sources = λ v high.
-          (let o : state_at s v ≡ Open = ap (λ (e : NodeLabel). e.state) (sources v high) in
+          (let o : state_at s v ≡ Open = ap (λ (e : NodeLabel). e.state) (opened.sources v high) in
           let reached = open_is_reached s v o in
           (reached, distance_0 v reached));
       roots = λ v r d. (is_source v r, distance_0 v r);

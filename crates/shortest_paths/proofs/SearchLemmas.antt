@@ -1,20 +1,24 @@
 -- How a search goes on: one step of each kind.
 use Rattle.residual_graph.specs.Limits.{potential_floor, cost_limit, entry_limit}
 use Rattle.shortest_paths.specs.Limits.{distance_limit}
-use Rattle.std.proofs.Common.{◌≡◌, ◌≢◌, ℕ, ◌+◌, ◌*◌, ◌<◌, ◌≤◌, ℤ, pos, neg_ℤ, ◌+ℤ◌, ◌≤ℤ◌, List, length, refl, sym, ap, subst, ◌∙◌, inl, inr, arith, cond, slice_set, w64, to_z, of_z, SFits}
+use Rattle.std.proofs.Common.{◌≡◌, ◌≢◌, ℕ, ◌+◌, ◌*◌, ◌<◌, ◌≤◌, ℤ, pos, neg_ℤ, ◌+ℤ◌, ◌-ℤ◌, ◌≤ℤ◌, List, length, refl, sym, ap, subst, ◌∙◌, inl, inr, arith, cond, slice_set, w64, to_z, of_z, SFits}
 use Rattle.std.specs.Prelude.{◌<ℤ◌}
 use Rattle.std.proofs.lemmas.Int.{ints, by_lt_z, to_z-of_z}
 use Rattle.std.proofs.lemmas.Bool.{cases_eq, cases_lt}
 use Rattle.std.proofs.lemmas.List.{get_or-set_same, get_or-set_other, length-set, get_or_past}
 use Rattle.dimacs_text.specs.declared.problem.ArcRow.{ArcRow}
 use Rattle.residual_graph.specs.declared.residual.Way.{Way}
+use Rattle.residual_graph.specs.declared.residual_network.Residual.{Residual}
+use Rattle.residual_graph.specs.declared.walk.End.{End}
+use Rattle.residual_graph.specs.Ends.{IsEndAt, leaving}
 use Rattle.shortest_paths.specs.declared.node_label.State.{State}
 use Rattle.shortest_paths.specs.declared.node_label.State.TheVariants.{Unreached, Open, Settled}
 use Rattle.shortest_paths.specs.declared.node_label.NodeLabel.{NodeLabel}
 use Rattle.residual_graph.specs.Residual.{IsReducedCostOptimal, IsPseudoflow, NoneBelow, number_at, row_at, start_at, end_at, cost_at, IsResidual}
 use Rattle.std.proofs.lemmas.List.Sums.{sum_by-set}
 use Rattle.residual_graph.proofs.RowLemmas.{cost_of-bounds, end_of-in}
-use Rattle.shortest_paths.specs.Search.{HasBound, HaveBounds, is_unsettled, is_not_settled, node_label_at, state_at, distance_at, depth_at, IsReached, unsettled, reduced_at, IsTraced, IsTracedBy, IsSearch, IsLastSettled, TakesBy, Takes, Settles, settled_node_label, IsLeastOpen, IsRelaxed, AllRelaxed, IsRelaxedFrom, Improves}
+use Rattle.shortest_paths.specs.Search.{HasBound, HaveBounds, is_unsettled, is_not_settled, node_label_at, state_at, distance_at, depth_at, IsReached, unsettled, priced_distance, reduced_at, IsTraced, IsTracedBy, IsSearch, IsLastSettled, TakesBy, Takes, Settles, settled_node_label, IsLeastOpen, IsRelaxed, AllRelaxed, IsRelaxedFrom, Improves}
+use Rattle.shortest_paths.specs.Over.{distance_along}
 
 abbrev pub weight_of : NodeLabel → ℕ
 weight_of r = cond (is_unsettled r) 1 0
@@ -95,6 +99,20 @@ last_bounds {arcs} {x} {p} {s} {u} certified known last =
       high = distance_high arcs x p s u certified known r;
       shallow = depth_small arcs x p s u certified known r;
     }
+
+-- ---- an end at the node settled last
+
+-- the other node there is one of the nodes
+pub other_in : (net : Residual) (s : List NodeLabel) (u : ℕ) (end : End) → length s ≡ length net.potentials.now → IsEndAt net.graph.now.rows u end → end.other < length s
+other_in net s u end sized at =
+    let a = leaving end in
+    rw (← at.ends, sized) (end_of-in (length net.potentials.now) (row_at net.graph.now.rows a.arc) a.way (net.certified.flow.rows a.arc at.is_arc))
+
+-- the path along the residual arc there, from its priced parts
+pub length_beyond : (net : Residual) (s : List NodeLabel) (u : ℕ) (end : End) → IsEndAt net.graph.now.rows u end
+    → ((priced_distance net.potentials.now s u +ℤ end.cost) -ℤ number_at net.potentials.now end.other) ≡ distance_along net s (leaving end)
+length_beyond net s u end at =
+    omega (arith, ints, at.cost, ap (distance_at s) at.starts, ap (number_at net.potentials.now) at.starts, ap (number_at net.potentials.now) at.ends)
 
 -- a residual arc that gives no better path is relaxed already
 pub relaxed_already : (arcs : List ArcRow) (x p : List ℤ) (s : List NodeLabel) (u k : ℕ) (way : Way) (distance : ℤ) → IsReducedCostOptimal arcs x p → IsSearch arcs x p s → IsLastSettled s u → IsResidual arcs x k way → start_at arcs k way ≡ u → distance ≡ distance_at s (start_at arcs k way) +ℤ reduced_at arcs p k way → (Takes (node_label_at s (end_at arcs k way)) distance → ⊥) → IsRelaxed arcs p s k way
@@ -437,10 +455,10 @@ module _ (arcs : List ArcRow) (x p : List ℤ) (s t : List NodeLabel) (u : ℕ)
           (λ v ne m. omega (arith, ints, distance_same v, distance_same u, known.in_order v u (sym (state_same v ne) ∙ m) least.is_open));
     }
 
-    module _ (w : List NodeLabel) (better : Improves t w) (from_u : IsRelaxedFrom arcs x p w u (length arcs)) where
+    module _ (w : List NodeLabel) (better : Improves t w) (from_u : IsRelaxedFrom arcs x p w u) where
       pub relaxed_after : AllRelaxed arcs x p w
       relaxed_after k way residual m = elim (cases_eq (start_at arcs k way) u) [
-        | inl same ↦ from_u k way residual.is_arc residual same
+        | inl same ↦ from_u k way residual same
         | inr ne ↦ (let m_t = better.settled_before _ m in IsRelaxed-improves m_t better (settled_relaxed k way ne m_t residual))
       ]
         where

@@ -2,7 +2,7 @@
 -- (Ahuja, Magnanti, Orlin, "Network Flows": Dijkstra's algorithm, as the successive shortest path algorithm uses it).
 use Rattle.residual_graph.specs.Limits.{potential_floor, cost_limit}
 use Rattle.shortest_paths.specs.Limits.{distance_limit}
-use Rattle.std.specs.Prelude.{◌≡◌, ◌≢◌, ℕ, ◌+◌, ◌*◌, ◌<◌, ◌≤◌, ℤ, pos, neg_ℤ, ◌-ℤ◌, ◌+ℤ◌, ◌<ℤ◌, ◌≤ℤ◌, List, length, slice_index_or, Bool, true, false, ◌⊎◌}
+use Rattle.std.specs.Prelude.{◌≡◌, ◌≢◌, ℕ, ◌+◌, ◌*◌, ◌<◌, ◌≤◌, ℤ, pos, neg_ℤ, ◌-ℤ◌, ◌+ℤ◌, ◌<ℤ◌, ◌≤ℤ◌, List, length, slice_index_or, Bool, true, false, ◌⊎◌, Option, MatchOption}
 use Rattle.std.specs.List.{count_by}
 use Rattle.dimacs_text.specs.declared.problem.ArcRow.{ArcRow}
 use Rattle.residual_graph.specs.declared.residual.Way.{Way}
@@ -11,7 +11,7 @@ use Rattle.shortest_paths.specs.declared.node_label.State.{State}
 use Rattle.shortest_paths.specs.declared.node_label.State.TheVariants.{Unreached, Open, Settled}
 use Rattle.shortest_paths.specs.declared.node_label.NodeLabel.{NodeLabel}
 use Rattle.shortest_paths.specs.declared.node_label.TheConstants.{NO_BOUND, LEAST_BOUND}
-use Rattle.residual_graph.specs.Residual.{number_at, start_at, end_at, cost_at, IsResidual}
+use Rattle.residual_graph.specs.Residual.{number_at, row_at, start_of, end_of, cost_of, start_at, end_at, IsResidual}
 
 abbrev pub node_label_at : List NodeLabel → ℕ → NodeLabel
 node_label_at s v = slice_index_or s v (record { state = Unreached; distance = pos 0; depth = 0; arc = 0; way = Forward; bound = pos 0 })
@@ -44,9 +44,11 @@ abbrev pub unsettled : List NodeLabel → ℕ
 unsettled s = count_by is_unsettled s
 
 -- the cost of a residual arc less what the potentials pay for it
+abbrev pub reduced_by : ArcRow → List ℤ → Way → ℤ
+reduced_by a p way = (cost_of a way +ℤ number_at p (start_of a way)) -ℤ number_at p (end_of a way)
+
 abbrev pub reduced_at : List ArcRow → List ℤ → ℕ → Way → ℤ
-reduced_at arcs p k way =
-    (cost_at arcs k way +ℤ number_at p (start_at arcs k way)) -ℤ number_at p (end_at arcs k way)
+reduced_at arcs p k way = reduced_by (row_at arcs k) p way
 
 -- the length of the path to node u, with the node's potential
 abbrev pub priced_distance : List ℤ → List NodeLabel → ℕ → ℤ
@@ -115,10 +117,10 @@ abbrev pub AllRelaxed : List ArcRow → List ℤ → List ℤ → List NodeLabel
 AllRelaxed arcs x p s =
     (k : ℕ) (way : Way) → IsResidual arcs x k way → state_at s (start_at arcs k way) ≡ Settled → IsRelaxed arcs p s k way
 
--- each residual arc from node u is relaxed, as far as it goes along the first j arcs
-abbrev pub IsRelaxedFrom : List ArcRow → List ℤ → List ℤ → List NodeLabel → ℕ → ℕ → Type 0
-IsRelaxedFrom arcs x p s u j =
-    (k : ℕ) (way : Way) → k < j → IsResidual arcs x k way → start_at arcs k way ≡ u → IsRelaxed arcs p s k way
+-- each residual arc from node u is relaxed
+abbrev pub IsRelaxedFrom : List ArcRow → List ℤ → List ℤ → List NodeLabel → ℕ → Type 0
+IsRelaxedFrom arcs x p s u =
+    (k : ℕ) (way : Way) → IsResidual arcs x k way → start_at arcs k way ≡ u → IsRelaxed arcs p s k way
 
 -- settled nodes stay as they are, reached ones stay reached, distances only fall, and no new root appears
 pub record Improves (s t : List NodeLabel) : Type 0 where
@@ -171,6 +173,12 @@ pub record IsFresh (s : List NodeLabel) : Type 0 where
   pub unreached : (v : ℕ) → state_at s v ≡ Unreached
   pub no_bounds : (v : ℕ) → v < length s → bound_at s v ≡ NO_BOUND
 
+-- each node in excess is open at distance 0, no other is reached, and each node has its bound
+pub record AreOpened (excess p : List ℤ) (s : List NodeLabel) : Type 0 where
+  pub sources : (v : ℕ) → pos 0 <ℤ number_at excess v → node_label_at s v ≡ source_node_label (number_at p v)
+  pub others : (v : ℕ) → number_at excess v ≤ℤ pos 0 → state_at s v ≡ Unreached
+  pub bounds : HaveBounds p s
+
 -- what a search for a node in deficit knows of the nodes in excess: it begins at each, and has settled none in deficit
 pub record IsFromExcess (excess : List ℤ) (s : List NodeLabel) : Type 0 where
   pub sources : (v : ℕ) → pos 0 <ℤ number_at excess v → IsReached s v × (distance_at s v ≡ pos 0)
@@ -187,6 +195,10 @@ pub record HasSearched (arcs : List ArcRow) (x p excess : List ℤ) (s : List No
 pub record IsNearestDeficit (excess : List ℤ) (s : List NodeLabel) (t : ℕ) : Type 0 where
   pub nearest : IsLeastOpen s (length s) t
   pub deficit : number_at excess t <ℤ pos 0
+
+-- the nearest node in deficit is found, or no node is open any more
+abbrev pub IsNearestFound : List ℤ → List NodeLabel → Option ℕ → Type 0
+IsNearestFound excess s found = MatchOption found (NoneOpen s (length s)) (IsNearestDeficit excess s)
 
 -- a settled node's potential falls by what the node is nearer than `reach`
 abbrev pub lowered_by : State → ℤ → ℤ → ℤ → ℤ

@@ -2,16 +2,17 @@
 
 ghost use Rattle.std.specs.Prelude.{◌≡◌, ℕ, ◌≤ℤ◌, ◌<◌, ◌≤◌, ◌+◌, ◌⊎◌, length, false, None, Some, IfSome, IfOk};
 ghost use Rattle.residual_graph.specs.Limits.{entry_limit, potential_floor};
-ghost use Rattle.residual_graph.specs.Residual.{ArePotentials, IsReducedCostOptimal, number_at};
-ghost use Rattle.shortest_paths.specs.Search.{HasBound, IsSearch, AllRelaxed, IsFromAll, NoneOpen, root_node_label, settled_node_label};
+ghost use Rattle.residual_graph.specs.Residual.{ArePotentials, IsRow, number_at};
+ghost use Rattle.shortest_paths.specs.Search.{HasBound, IsFromAll, NoneOpen, reduced_by, root_node_label, settled_node_label};
+ghost use Rattle.shortest_paths.specs.Over.{IsSearchOver, AllRelaxedOver};
 ghost use Rattle.shortest_paths.specs.Labels.{AreInOrder, IsLabelsFor, IsForest, IsHop, IsThrough, Stands, Opens, IsShortest, NothingOpen, IsEntered};
-ghost use Rattle.residual_graph.specs.Graph.{HasEntries};
 ghost use Rattle.shortest_paths.specs.Queue.{IsQueueOf, IsQueueFor};
 ghost use Rattle.shortest_paths.specs.declared.node_label.State.TheVariants.{Open};
 
 use crate::node_label::{NodeLabel, State, clear_states};
 use crate::queue::Queue;
-use crate::search::{distance_through, settle_node};
+use crate::search::settle_node;
+use dimacs_text::ArcRow;
 use residual_graph::{Residual, ResidualArc, Walk, Way};
 use std::alloc::{AllocError, Global};
 
@@ -73,17 +74,29 @@ fn settled(node_label: NodeLabel) -> NodeLabel
     node_label
 }
 
-/// How the node is reached along a residual arc, where it is there and comes from a settled node.
+/// The cost of a residual arc less what the potentials pay for it.
+fn reduced_cost(row: &ArcRow, way: Way, potentials: &[i64]) -> i64
+    requires row { IsRow (length potentials.now) row.now }
+    requires potentials_in { ArePotentials (length potentials.now) potential_floor potentials.now }
+    ensures { result ≡ reduced_by row.now potentials.now way }
+{
+    let start = way.start(row) as usize;
+    let end = way.end(row) as usize;
+    way.unit_cost(row) + potentials[start] - potentials[end]
+}
+
+/// How the node is reached along a residual arc, where it is there and comes from a settled node. Each of these has the
+/// length 0.
 fn node_label_through(
     residual: Residual<'_>,
     node_labels: &[NodeLabel],
     v: usize,
     arc: ResidualArc,
 ) -> Option<NodeLabel>
-    requires forest { IsForest residual.graph.now.rows residual.flow.now residual.potentials.now node_labels.now }
+    requires forest { IsForest residual node_labels.now }
     requires arc_in { arc.arc < length residual.graph.now.rows }
-    ensures none { result ≡ None → IsHop residual.entry.graph.now.rows residual.entry.flow.now node_labels.now v arc.arc arc.way → ⊥ }
-    ensures through { IfSome result (IsThrough residual.entry.graph.now.rows residual.entry.flow.now residual.entry.potentials.now node_labels.now v) }
+    ensures none { result ≡ None → IsHop residual.entry node_labels.now v arc.arc arc.way → ⊥ }
+    ensures through { IfSome result (IsThrough residual.entry node_labels.now v) }
     ensures is_open { IfSome result (λ e. e.state ≡ Open) }
     ensures along { IfSome result (λ e. (e.arc ≡ arc.arc) × (e.way ≡ arc.way)) }
     ensures bound { IfSome result (HasBound (number_at residual.entry.potentials.now v)) }
@@ -100,7 +113,7 @@ fn node_label_through(
     if arc.way.room(&row, residual.flow[k]) <= 0 {
         return None;
     }
-    let distance = distance_through(&row, arc.way, residual.potentials, node_labels);
+    let distance = reduced_cost(&row, arc.way, residual.potentials);
     Some(NodeLabel {
         state: State::Open,
         distance,
@@ -114,9 +127,9 @@ fn node_label_through(
 /// How the node was reached, where it is still reached so: as a root whose potential is 0, or by a residual arc of
 /// reduced cost 0 from a node that is kept.
 fn standing(residual: Residual<'_>, node_labels: &[NodeLabel], v: usize) -> Option<NodeLabel>
-    requires forest { IsForest residual.graph.now.rows residual.flow.now residual.potentials.now node_labels.now }
+    requires forest { IsForest residual node_labels.now }
     requires v_in { v < length node_labels.now }
-    ensures { IfSome result (Stands residual.entry.graph.now.rows residual.entry.flow.now residual.entry.potentials.now node_labels.now v) }
+    ensures { IfSome result (Stands residual.entry node_labels.now v) }
 {
     if residual.potentials[v] == 0 {
         return Some(settled(root(residual.potentials, v)));
@@ -137,9 +150,9 @@ fn standing(residual: Residual<'_>, node_labels: &[NodeLabel], v: usize) -> Opti
 
 /// Settles the node where it stands, and tells whether it does.
 fn keep_node(residual: Residual<'_>, node_labels: &mut [NodeLabel], v: usize) -> bool
-    requires forest { IsForest residual.graph.now.rows residual.flow.now residual.potentials.now node_labels.old }
+    requires forest { IsForest residual node_labels.old }
     requires closed { NothingOpen node_labels.old }
-    ensures forest { IsForest residual.entry.graph.now.rows residual.entry.flow.now residual.entry.potentials.now node_labels.new }
+    ensures forest { IsForest residual.entry node_labels.new }
     ensures closed { NothingOpen node_labels.new }
 {
     if v >= node_labels.len() {
@@ -160,9 +173,9 @@ fn keep_node(residual: Residual<'_>, node_labels: &mut [NodeLabel], v: usize) ->
 /// Settles each node that stands, after the node before it on its path; moves these nodes to the front of `order`, and
 /// gives their number.
 fn keep(residual: Residual<'_>, node_labels: &mut [NodeLabel], order: &mut [u32]) -> usize
-    requires forest { IsForest residual.graph.now.rows residual.flow.now residual.potentials.now node_labels.old }
+    requires forest { IsForest residual node_labels.old }
     requires closed { NothingOpen node_labels.old }
-    ensures forest { IsForest residual.entry.graph.now.rows residual.entry.flow.now residual.entry.potentials.now node_labels.new }
+    ensures forest { IsForest residual.entry node_labels.new }
     ensures closed { NothingOpen node_labels.new }
     ensures count { result ≤ length order.new }
 {
@@ -191,11 +204,10 @@ fn nearer(best: NodeLabel, other: Option<NodeLabel>) -> NodeLabel
 
 /// The node label of least distance that the node can have: as a root, or by a residual arc from a settled node.
 fn nearest(residual: Residual<'_>, node_labels: &[NodeLabel], v: usize) -> NodeLabel
-    requires graph { HasEntries (length residual.potentials.now) residual.graph.now }
-    requires forest { IsForest residual.graph.now.rows residual.flow.now residual.potentials.now node_labels.now }
+    requires forest { IsForest residual node_labels.now }
     requires v_in { v < length node_labels.now }
-    ensures opens { Opens residual.entry.graph.now.rows residual.entry.flow.now residual.entry.potentials.now node_labels.now v result }
-    ensures nearest { IsShortest residual.entry.graph.now.rows residual.entry.flow.now residual.entry.potentials.now node_labels.now v result }
+    ensures opens { Opens residual.entry node_labels.now v result }
+    ensures nearest { IsShortest residual.entry node_labels.now v result }
 {
     let mut best = root(residual.potentials, v);
     let mut walk = Walk::at(residual.graph, v as u32);
@@ -212,11 +224,10 @@ fn nearest(residual: Residual<'_>, node_labels: &[NodeLabel], v: usize) -> NodeL
 
 /// Opens the node, where it is not settled.
 fn enter_node(residual: Residual<'_>, node_labels: &mut [NodeLabel], queue: &mut Queue, v: usize)
-    requires graph { HasEntries (length residual.potentials.now) residual.graph.now }
-    requires entered { IsEntered residual.graph.now.rows residual.flow.now residual.potentials.now node_labels.old v }
+    requires entered { IsEntered residual node_labels.old v }
     requires v_in { v < length node_labels.old }
     requires queue { IsQueueOf node_labels.old queue.old }
-    ensures entered { IsEntered residual.entry.graph.now.rows residual.entry.flow.now residual.entry.potentials.now node_labels.new (v + 1) }
+    ensures entered { IsEntered residual.entry node_labels.new (v + 1) }
     ensures queue { IsQueueOf node_labels.new queue.new }
 {
     if node_labels[v].is_settled() {
@@ -228,11 +239,10 @@ fn enter_node(residual: Residual<'_>, node_labels: &mut [NodeLabel], queue: &mut
 
 /// Opens each node that is not settled.
 fn enter(residual: Residual<'_>, node_labels: &mut [NodeLabel], queue: &mut Queue)
-    requires graph { HasEntries (length residual.potentials.now) residual.graph.now }
-    requires forest { IsForest residual.graph.now.rows residual.flow.now residual.potentials.now node_labels.old }
+    requires forest { IsForest residual node_labels.old }
     requires closed { NothingOpen node_labels.old }
     requires queue { IsQueueOf node_labels.old queue.old }
-    ensures entered { IsEntered residual.entry.graph.now.rows residual.entry.flow.now residual.entry.potentials.now node_labels.new (length node_labels.new) }
+    ensures entered { IsEntered residual.entry node_labels.new (length node_labels.new) }
     ensures queue { IsQueueOf node_labels.new queue.new }
 {
     for v in 0..node_labels.len() {
@@ -261,14 +271,13 @@ fn search_rest(
     queue: &mut Queue,
     kept: usize,
 )
-    requires graph { HasEntries (length residual.potentials.now) residual.graph.now }
-    requires search { IsSearch residual.graph.now.rows residual.flow.now residual.potentials.now node_labels.old }
-    requires relaxed { AllRelaxed residual.graph.now.rows residual.flow.now residual.potentials.now node_labels.old }
+    requires search { IsSearchOver residual node_labels.old }
+    requires relaxed { AllRelaxedOver residual node_labels.old }
     requires from_all { IsFromAll residual.potentials.now node_labels.old }
     requires queue { IsQueueOf node_labels.old queue.old }
     requires kept { kept ≤ length order.old }
-    ensures search { IsSearch residual.entry.graph.now.rows residual.entry.flow.now residual.entry.potentials.now node_labels.new }
-    ensures relaxed { AllRelaxed residual.entry.graph.now.rows residual.entry.flow.now residual.entry.potentials.now node_labels.new }
+    ensures search { IsSearchOver residual.entry node_labels.new }
+    ensures relaxed { AllRelaxedOver residual.entry node_labels.new }
     ensures from_all { IsFromAll residual.entry.potentials.now node_labels.new }
     ensures done { NoneOpen node_labels.new (length node_labels.new) }
     ensures queue { IsQueueOf node_labels.new queue.new }
@@ -287,11 +296,10 @@ pub fn search_labels(
     order: &mut [u32],
     queue: &mut Queue,
 )
-    requires graph { HasEntries (length residual.potentials.now) residual.graph.now }
     requires node_labels_in { length node_labels.old ≡ length residual.potentials.now }
     requires sized { IsQueueFor (length residual.potentials.now) queue.old }
-    ensures search { IsSearch residual.entry.graph.now.rows residual.entry.flow.now residual.entry.potentials.now node_labels.new }
-    ensures relaxed { AllRelaxed residual.entry.graph.now.rows residual.entry.flow.now residual.entry.potentials.now node_labels.new }
+    ensures search { IsSearchOver residual.entry node_labels.new }
+    ensures relaxed { AllRelaxedOver residual.entry node_labels.new }
     ensures from_all { IsFromAll residual.entry.potentials.now node_labels.new }
     ensures done { NoneOpen node_labels.new (length node_labels.new) }
     ensures sized { IsQueueFor (length residual.entry.potentials.now) queue.new }

@@ -3,36 +3,15 @@
 ghost use Rattle.std.specs.Prelude.{◌≡◌, ℕ, pos, ◌≤ℤ◌, ◌+ℤ◌, ◌-ℤ◌, ◌<ℤ◌, ◌<◌, ◌≤◌, int_lt, length, neg_ℤ, MatchOption, ◌+◌};
 ghost use Rattle.residual_graph.specs.Limits.{cost_limit, entry_limit, potential_floor};
 ghost use Rattle.shortest_paths.specs.Limits.{distance_limit};
-ghost use Rattle.residual_graph.specs.Residual.{IsRow, IsPseudoflow, IsReducedCostOptimal, ArePotentials, IsResidual, number_at, start_at, start_of, end_of, cost_at, cost_of};
-ghost use Rattle.shortest_paths.specs.Search.{HaveBounds, IsSearch, IsLastSettled, Improves, Takes, reduced_at, IsRelaxed, IsRelaxedFrom, AllRelaxed, Settles, node_label_at, state_at, distance_at, priced_distance, source_node_label, HasSearched, IsFresh, IsNearestDeficit, NoneOpen};
-ghost use Rattle.residual_graph.specs.Graph.{HasEntries};
+ghost use Rattle.residual_graph.specs.Residual.{ArePotentials, number_at};
+ghost use Rattle.shortest_paths.specs.Search.{IsLastSettled, Improves, Takes, Settles, node_label_at, priced_distance, source_node_label, IsFresh, AreOpened, IsNearestFound};
+ghost use Rattle.shortest_paths.specs.Over.{IsResidualArc, distance_along, IsSearchOver, AllRelaxedOver, IsRelaxedAlong, IsRelaxedFromNode, HasSearchedOver};
 ghost use Rattle.shortest_paths.specs.Queue.{IsQueueOf, IsQueueFor, size, first_of};
-ghost use Rattle.residual_graph.specs.Ends.{IsEnd, leaving};
-ghost use Rattle.shortest_paths.specs.declared.node_label.State.TheVariants.{Unreached};
+ghost use Rattle.residual_graph.specs.Ends.{IsEnd, IsEndAt, leaving};
 
 use crate::node_label::{NodeLabel, State, clear_states};
 use crate::queue::Queue;
-use dimacs_text::ArcRow;
-use residual_graph::{End, Residual, ResidualArc, Walk, Way};
-
-/// The length of the path to the end of a residual arc by way of its start.
-pub fn distance_through(
-    row: &ArcRow,
-    way: Way,
-    potentials: &[i64],
-    node_labels: &[NodeLabel],
-) -> i64
-    requires row { IsRow (length potentials.now) row.now }
-    requires node_labels_in { length node_labels.now ≡ length potentials.now }
-    requires potentials_in { ArePotentials (length potentials.now) potential_floor potentials.now }
-    requires distance_low { pos 0 ≤ℤ distance_at node_labels.now (start_of row.now way) }
-    requires distance_high { distance_at node_labels.now (start_of row.now way) ≤ℤ pos distance_limit }
-    ensures { result ≡ distance_at node_labels.now (start_of row.now way) +ℤ ((cost_of row.now way +ℤ number_at potentials.now (start_of row.now way)) -ℤ number_at potentials.now (end_of row.now way)) }
-{
-    let start = way.start(row) as usize;
-    let end = way.end(row) as usize;
-    node_labels[start].distance + (way.unit_cost(row) + potentials[start] - potentials[end])
-}
+use residual_graph::{End, Residual, Walk, Way};
 
 /// The length of the path that goes on from a settled node at this end, with the potential of the other node there.
 /// `from` is the length of the path to the settled node, with that node's potential.
@@ -40,7 +19,7 @@ fn priced_beyond(residual: Residual<'_>, from: i64, end: End) -> i64
     requires end { IsEnd residual.graph.now.rows end }
     requires low { neg_ℤ (pos potential_floor) ≤ℤ from }
     requires high { from ≤ℤ pos distance_limit }
-    ensures priced { result ≡ from +ℤ cost_at residual.entry.graph.now.rows (leaving end).arc (leaving end).way }
+    ensures priced { result ≡ from +ℤ end.cost }
     ensures low { neg_ℤ (pos (potential_floor + cost_limit)) ≤ℤ result }
     ensures high { result ≤ℤ pos (distance_limit + cost_limit) }
 {
@@ -74,18 +53,17 @@ fn take_path(
     distance: i64,
     end: End,
 )
-    requires search { IsSearch residual.graph.now.rows residual.flow.now residual.potentials.now node_labels.old }
+    requires search { IsSearchOver residual node_labels.old }
     requires queue { IsQueueOf node_labels.old queue.old }
-    requires end { IsEnd residual.graph.now.rows end }
-    requires start { start ≡ start_at residual.graph.now.rows (leaving end).arc (leaving end).way }
-    requires last { IsLastSettled node_labels.old (start_at residual.graph.now.rows (leaving end).arc (leaving end).way) }
-    requires residual { IsResidual residual.graph.now.rows residual.flow.now (leaving end).arc (leaving end).way }
-    requires distance { distance ≡ distance_at node_labels.old (start_at residual.graph.now.rows (leaving end).arc (leaving end).way) +ℤ reduced_at residual.graph.now.rows residual.potentials.now (leaving end).arc (leaving end).way }
+    requires last { IsLastSettled node_labels.old start }
+    requires end { IsEndAt residual.graph.now.rows start end }
+    requires residual { IsResidualArc residual (leaving end) }
+    requires distance { distance ≡ distance_along residual node_labels.old (leaving end) }
     requires better { Takes (node_label_at node_labels.old end.other) distance }
-    ensures search { IsSearch residual.entry.graph.now.rows residual.entry.flow.now residual.entry.potentials.now node_labels.new }
+    ensures search { IsSearchOver residual.entry node_labels.new }
     ensures queue { IsQueueOf node_labels.new queue.new }
     ensures improves { Improves node_labels.old node_labels.new }
-    ensures relaxed { IsRelaxed residual.entry.graph.now.rows residual.entry.potentials.now node_labels.new (leaving end).arc (leaving end).way }
+    ensures relaxed { IsRelaxedAlong residual.entry node_labels.new (leaving end) }
 {
     let arc = end.leaving();
     let depth = node_labels[start].depth + 1;
@@ -111,16 +89,15 @@ fn relax(
     origin: Origin,
     end: End,
 )
-    requires search { IsSearch residual.graph.now.rows residual.flow.now residual.potentials.now node_labels.old }
+    requires search { IsSearchOver residual node_labels.old }
     requires queue { IsQueueOf node_labels.old queue.old }
-    requires end { IsEnd residual.graph.now.rows end }
-    requires last { IsLastSettled node_labels.old (start_at residual.graph.now.rows (leaving end).arc (leaving end).way) }
-    requires start { origin.node ≡ start_at residual.graph.now.rows (leaving end).arc (leaving end).way }
-    requires priced { origin.priced ≡ priced_distance residual.potentials.now node_labels.old (start_at residual.graph.now.rows (leaving end).arc (leaving end).way) }
-    ensures search { IsSearch residual.entry.graph.now.rows residual.entry.flow.now residual.entry.potentials.now node_labels.new }
+    requires last { IsLastSettled node_labels.old origin.node }
+    requires end { IsEndAt residual.graph.now.rows origin.node end }
+    requires priced { origin.priced ≡ priced_distance residual.potentials.now node_labels.old origin.node }
+    ensures search { IsSearchOver residual.entry node_labels.new }
     ensures queue { IsQueueOf node_labels.new queue.new }
     ensures improves { Improves node_labels.old node_labels.new }
-    ensures relaxed { IsResidual residual.entry.graph.now.rows residual.entry.flow.now (leaving end).arc (leaving end).way → IsRelaxed residual.entry.graph.now.rows residual.entry.potentials.now node_labels.new (leaving end).arc (leaving end).way }
+    ensures relaxed { IsResidualArc residual.entry (leaving end) → IsRelaxedAlong residual.entry node_labels.new (leaving end) }
 {
     // Most ends lead to no better path, and then the bound alone is read: neither the potential, nor the arc and its flow,
     // which are far away in memory.
@@ -140,14 +117,13 @@ fn relax(
 
 /// Takes each residual arc from the node settled last into account.
 fn relax_all(residual: Residual<'_>, node_labels: &mut [NodeLabel], queue: &mut Queue, u: usize)
-    requires graph { HasEntries (length residual.potentials.now) residual.graph.now }
-    requires search { IsSearch residual.graph.now.rows residual.flow.now residual.potentials.now node_labels.old }
+    requires search { IsSearchOver residual node_labels.old }
     requires queue { IsQueueOf node_labels.old queue.old }
     requires last { IsLastSettled node_labels.old u }
-    ensures search { IsSearch residual.entry.graph.now.rows residual.entry.flow.now residual.entry.potentials.now node_labels.new }
+    ensures search { IsSearchOver residual.entry node_labels.new }
     ensures queue { IsQueueOf node_labels.new queue.new }
     ensures improves { Improves node_labels.old node_labels.new }
-    ensures relaxed { IsRelaxedFrom residual.entry.graph.now.rows residual.entry.flow.now residual.entry.potentials.now node_labels.new u (length residual.entry.graph.now.rows) }
+    ensures relaxed { IsRelaxedFromNode residual.entry node_labels.new u }
 {
     let origin = Origin {
         node: u,
@@ -165,14 +141,13 @@ pub fn settle_node(
     node_labels: &mut [NodeLabel],
     queue: &mut Queue,
 ) -> usize
-    requires graph { HasEntries (length residual.potentials.now) residual.graph.now }
-    requires search { IsSearch residual.graph.now.rows residual.flow.now residual.potentials.now node_labels.old }
+    requires search { IsSearchOver residual node_labels.old }
     requires queue { IsQueueOf node_labels.old queue.old }
-    requires relaxed { AllRelaxed residual.graph.now.rows residual.flow.now residual.potentials.now node_labels.old }
+    requires relaxed { AllRelaxedOver residual node_labels.old }
     requires some { 0 < size queue.old }
-    ensures search { IsSearch residual.entry.graph.now.rows residual.entry.flow.now residual.entry.potentials.now node_labels.new }
+    ensures search { IsSearchOver residual.entry node_labels.new }
     ensures queue { IsQueueOf node_labels.new queue.new }
-    ensures relaxed { AllRelaxed residual.entry.graph.now.rows residual.entry.flow.now residual.entry.potentials.now node_labels.new }
+    ensures relaxed { AllRelaxedOver residual.entry node_labels.new }
     ensures first { first_of queue.old ≡ result }
     ensures settles { Settles node_labels.old node_labels.new result }
 {
@@ -210,9 +185,7 @@ fn open_sources(
     requires same_length { length node_labels.old ≡ length excess.now }
     requires potentials_in { ArePotentials (length node_labels.old) potential_floor potentials.now }
     requires fresh { IsFresh node_labels.old }
-    ensures sources { (v : ℕ) → pos 0 <ℤ number_at excess.now v → node_label_at node_labels.new v ≡ source_node_label (number_at potentials.now v) }
-    ensures others { (v : ℕ) → number_at excess.now v ≤ℤ pos 0 → state_at node_labels.new v ≡ Unreached }
-    ensures bounds { HaveBounds potentials.now node_labels.new }
+    ensures opened { AreOpened excess.now potentials.now node_labels.new }
     ensures queue { IsQueueOf node_labels.new queue.new }
 {
     for v in 0..node_labels.len() {
@@ -231,12 +204,11 @@ pub fn find_deficit(
     node_labels: &mut [NodeLabel],
     queue: &mut Queue,
 ) -> Option<usize>
-    requires graph { HasEntries (length residual.potentials.now) residual.graph.now }
     requires excess_in { length excess.now ≡ length residual.potentials.now }
     requires node_labels_in { length node_labels.old ≡ length residual.potentials.now }
     requires sized { IsQueueFor (length residual.potentials.now) queue.old }
-    ensures searched { HasSearched residual.entry.graph.now.rows residual.entry.flow.now residual.entry.potentials.now excess.now node_labels.new }
-    ensures found { MatchOption result (NoneOpen node_labels.new (length node_labels.new)) (IsNearestDeficit excess.now node_labels.new) }
+    ensures searched { HasSearchedOver residual.entry excess.now node_labels.new }
+    ensures found { IsNearestFound excess.now node_labels.new result }
     ensures sized { IsQueueFor (length residual.entry.potentials.now) queue.new }
 {
     clear_states(node_labels);

@@ -4,6 +4,6 @@ use Rattle.shortest_paths.proofs.labels.enter.Given as goal
 
 abbrev pub invariant-loop-v : goal.invariant-loop-v
 invariant-loop-v l = record {
-  entered : IsEntered l.residual.graph.now.rows l.residual.flow.now l.residual.potentials.now l.node_labels l.v;
+  entered : IsEntered l.residual l.node_labels l.v;
   queue : IsQueueOf l.node_labels l.queue;
 }

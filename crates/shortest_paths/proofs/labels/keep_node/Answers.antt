@@ -6,7 +6,7 @@ use Rattle.shortest_paths.proofs.labels.keep_node.Goals as goal
 pub returns-in-Some-clause-forest : goal.returns-in-Some-clause-forest
 returns-in-Some-clause-forest c =
     let stands = c.in-Some.ensures in
-    IsForest-stands c.args.residual.graph.now.rows c.args.residual.flow.now c.args.residual.potentials.now c.args.node_labels.now _ c.args.v c.in-Some.node_label c.args.residual.certified c.requires.forest c.requires.closed
+    IsForest-stands c.args.residual c.args.node_labels.now _ c.args.v c.in-Some.node_label c.requires.forest c.requires.closed
     (λ h. cc (c.is_settled.ensures.1 h)) (IsPut-set c.args.node_labels.now c.args.v c.in-Some.node_label (omega (arith, c.if-v-node_labels.false))) stands.settled stands.kept stands.reaches stands.bound
 
 pub returns-in-Some-clause-closed : goal.returns-in-Some-clause-closed

@@ -7,10 +7,10 @@ use Rattle.shortest_paths.proofs.labels.nearest.Given as goal
 
 abbrev pub invariant-loop-end : goal.invariant-loop-end
 invariant-loop-end l = record {
-  opens : Opens l.residual.graph.now.rows l.residual.flow.now l.residual.potentials.now l.node_labels l.v l.best;
+  opens : Opens l.residual l.node_labels l.v l.best;
   walk : IsWalk l.residual.graph.now l.walk;
   node : l.walk.node ≡ l.v;
-  done : AllHaveOrCome l.residual.graph.now l.walk l.v (λ k way. IsNoDearer l.residual.graph.now.rows l.residual.flow.now l.residual.potentials.now l.node_labels l.v l.best k (other_way way));
+  done : AllHaveOrCome l.residual.graph.now l.walk l.v (λ k way. IsNoDearer l.residual l.node_labels l.v l.best k (other_way way));
 }
 
 abbrev pub decreases-loop-end : goal.decreases-loop-end

@@ -1,13 +1,14 @@
 use Rattle.std.proofs.Common.{◌≤◌, length}
 use Rattle.shortest_paths.specs.Queue.{IsQueueOf}
-use Rattle.shortest_paths.specs.Search.{IsSearch, AllRelaxed, IsFromAll, unsettled}
+use Rattle.shortest_paths.specs.Over.{AllRelaxedOver, IsSearchOver}
+use Rattle.shortest_paths.specs.Search.{IsFromAll, unsettled}
 use Rattle.shortest_paths.proofs.labels.search_rest.Given as goal
 
 abbrev pub invariant-loop-u : goal.invariant-loop-u
 invariant-loop-u l = record {
   queue : IsQueueOf l.node_labels l.queue;
-  known : IsSearch l.residual.graph.now.rows l.residual.flow.now l.residual.potentials.now l.node_labels;
-  relaxed : AllRelaxed l.residual.graph.now.rows l.residual.flow.now l.residual.potentials.now l.node_labels;
+  known : IsSearchOver l.residual l.node_labels;
+  relaxed : AllRelaxedOver l.residual l.node_labels;
   from_all : IsFromAll l.residual.potentials.now l.node_labels;
   place : l.place ≤ length l.order;
 }

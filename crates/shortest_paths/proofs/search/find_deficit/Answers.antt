@@ -10,7 +10,7 @@ loop-u-init c =
     let sized : length c.open_sources.new.node_labels ≡ length c.args.residual.potentials.now = c.open_sources.auto.node_labels ∙ c.clear_states.auto.node_labels ∙ c.requires.node_labels_in in
     record {
       queue = opened.queue;
-      searched = HasSearched-first _ _ _ _ _ c.args.residual.certified sized opened.sources opened.others opened.bounds;
+      searched = HasSearched-first _ _ _ _ _ c.args.residual.certified sized opened.opened;
     }
 
 pub loop-u-preserved : goal.loop-u-preserved

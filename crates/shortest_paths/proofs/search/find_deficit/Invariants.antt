@@ -1,11 +1,12 @@
 use Rattle.shortest_paths.specs.Queue.{IsQueueOf}
-use Rattle.shortest_paths.specs.Search.{HasSearched, unsettled}
+use Rattle.shortest_paths.specs.Over.{HasSearchedOver}
+use Rattle.shortest_paths.specs.Search.{unsettled}
 use Rattle.shortest_paths.proofs.search.find_deficit.Given as goal
 
 abbrev pub invariant-loop-u : goal.invariant-loop-u
 invariant-loop-u l = record {
   queue : IsQueueOf l.node_labels l.queue;
-  searched : HasSearched l.residual.graph.now.rows l.residual.flow.now l.residual.potentials.now l.excess l.node_labels;
+  searched : HasSearchedOver l.residual l.excess l.node_labels;
 }
 
 abbrev pub decreases-loop-u : goal.decreases-loop-u

@@ -1,11 +1,12 @@
-use Rattle.std.proofs.Common.{◌≡◌, ◌∙◌, ℕ, SFits, ap, arith, subst, sym, w64}
+use Rattle.std.proofs.Common.{◌≡◌, ◌∙◌, ℕ, SFits, ap, arith, subst, w64}
 use Rattle.std.proofs.lemmas.Int.{ints, to_z-of_z}
 use Rattle.residual_graph.specs.declared.residual.Way.{Way}
 use Rattle.shortest_paths.specs.declared.node_label.NodeLabel.{NodeLabel}
 use Rattle.residual_graph.specs.Residual.{IsResidual, number_at, start_at}
-use Rattle.shortest_paths.specs.Search.{IsLastSettled, IsRelaxed, distance_at, state_at}
+use Rattle.shortest_paths.specs.Search.{IsRelaxed, distance_at, state_at}
 use Rattle.shortest_paths.proofs.SearchLemmas.{Improves-refl, Improves-trans, IsLastSettled-improves, IsRelaxed-improves, in_range, last_bounds, settled_is_reached}
-use Rattle.residual_graph.proofs.EndLemmas.{all_come, all_ends_met, is_end, one_end_more}
+use Rattle.residual_graph.specs.Ends.{IsEndAt}
+use Rattle.residual_graph.proofs.EndLemmas.{all_come, all_ends_met, one_end_more}
 use Rattle.shortest_paths.proofs.search.relax_all.Goals as goal
 use Rattle.shortest_paths.proofs.search.relax_all.Goals.{In-Some}
 
@@ -21,7 +22,7 @@ overflow_add-origin c =
 pub at-walk-requires : goal.at-walk-requires
 at-walk-requires c =
     let below = in_range c.args.node_labels.now c.args.u (settled_is_reached c.args.node_labels.now c.args.u c.requires.last.settled) in
-    record { node = omega (arith, below, c.requires.search.sized, c.requires.graph) }
+    record { node = omega (arith, below, c.requires.search.sized, c.args.residual.entries) }
 
 pub loop-end-init : goal.loop-end-init
 loop-end-init c = record {
@@ -35,25 +36,19 @@ loop-end-init c = record {
       c.at-walk.ensures.all c.at-walk.ensures.node;
 }
 
-pub relax-requires-clause-end : goal.relax-requires-clause-end
-relax-requires-clause-end c =
-    is_end c.args.residual.graph.now.rows c.loop-end.walk.node c.in-Some.end c.in-Some.ensures.end
-
 pub relax-requires-clause-last : goal.relax-requires-clause-last
-relax-requires-clause-last c =
-    subst (IsLastSettled c.loop-end.node_labels) (sym (c.in-Some.ensures.end.starts ∙ c.loop-end.invariant.node)) (IsLastSettled-improves c.requires.last c.loop-end.invariant.improves)
+relax-requires-clause-last c = IsLastSettled-improves c.requires.last c.loop-end.invariant.improves
 
-pub relax-requires-clause-start : goal.relax-requires-clause-start
-relax-requires-clause-start c = sym (c.in-Some.ensures.end.starts ∙ c.loop-end.invariant.node)
+pub relax-requires-clause-end : goal.relax-requires-clause-end
+relax-requires-clause-end c = subst (λ (v : ℕ). IsEndAt c.args.residual.graph.now.rows v c.in-Some.end) c.loop-end.invariant.node c.in-Some.ensures.end
 
 pub relax-requires-clause-priced : goal.relax-requires-clause-priced
 relax-requires-clause-priced c =
-    let p = c.args.residual.potentials.now in
+    let p = c.args.residual.certified.potentials in
     let u = c.args.u in
     let bounds = last_bounds c.args.residual.certified c.requires.search c.requires.last in
-    let starts = c.in-Some.ensures.end.starts ∙ c.loop-end.invariant.node in
     let kept = ap (λ (e : NodeLabel). e.distance) (c.loop-end.invariant.improves.settled_kept u c.requires.last.settled) in
-    omega (arith, ints, ap (distance_at c.loop-end.node_labels) starts, ap (number_at p) starts, kept, bounds.low, bounds.high, c.args.residual.certified.potentials.at_least u, c.args.residual.certified.potentials.at_most_0 u)
+    omega (arith, ints, kept, bounds.low, bounds.high, p.at_least u, p.at_most_0 u)
 
 pub loop-end-preserved : goal.loop-end-preserved
 loop-end-preserved c =
@@ -75,7 +70,7 @@ loop-end-preserved c =
     }
 
 pub returns-clause-relaxed : goal.returns-clause-relaxed
-returns-clause-relaxed c = λ k way lt residual starts.
+returns-clause-relaxed c = λ k way residual starts.
     (let rows = c.args.residual.graph.now.rows in
     let P : ℕ → Way → Type 0 = λ k way. start_at rows k way ≡ c.args.u → IsResidual rows c.args.residual.flow.now k way → IsRelaxed rows c.args.residual.potentials.now c.loop-end.node_labels k way in
-    all_ends_met c.args.residual.graph.now c.loop-end.walk c.args.u P c.loop-end.invariant.done c.in_default.ensures.rest k way lt starts starts residual)
+    all_ends_met c.args.residual.graph.now c.loop-end.walk c.args.u P c.loop-end.invariant.done c.in_default.ensures.rest k way residual.is_arc starts starts residual)

@@ -1,35 +1,33 @@
-use Rattle.std.proofs.Common.{ℕ, ℤ, ◌+ℤ◌, SFits, List, ap, sym, subst, rules, arith, ◌≡◌, ◌+◌, ◌≤ℤ◌, ◌≤◌, ◌<◌, length, refl, ◌∙◌, slice_set, w64, to_z, of_z}
+use Rattle.std.proofs.Common.{ℤ, ◌+ℤ◌, SFits, List, ap, sym, subst, rules, arith, ◌≡◌, ◌+◌, ◌≤ℤ◌, ◌<◌, length, refl, ◌∙◌, slice_set, w64, to_z, of_z}
 use Rattle.std.proofs.lemmas.Int.{ints, to_z-of_z}
 use Rattle.shortest_paths.specs.declared.node_label.NodeLabel.{NodeLabel}
 use Rattle.shortest_paths.specs.declared.node_label.State.TheVariants.{Open}
 use Rattle.residual_graph.specs.declared.residual.ResidualArc.{ResidualArc}
-use Rattle.residual_graph.specs.Limits.{entry_limit}
-use Rattle.residual_graph.specs.Residual.{row_at, number_at, start_at}
-use Rattle.shortest_paths.specs.Search.{IsSearch, Improves, IsRelaxed, depth_at, distance_at}
+use Rattle.residual_graph.specs.Residual.{row_at, number_at}
+use Rattle.shortest_paths.specs.Search.{Improves, depth_at, distance_at}
+use Rattle.shortest_paths.specs.Over.{IsSearchOver, IsRelaxedAlong}
 use Rattle.residual_graph.specs.Ends.{leaving}
-use Rattle.shortest_paths.proofs.SearchLemmas.{IsStep, IsStep-put, last_bounds, word_sum}
-use Rattle.residual_graph.proofs.RowLemmas.{cost_of-bounds, end_of-in}
+use Rattle.shortest_paths.proofs.SearchLemmas.{IsStep, IsStep-put, last_bounds, length_beyond, other_in, word_sum}
+use Rattle.residual_graph.proofs.RowLemmas.{cost_of-bounds}
 use Rattle.shortest_paths.proofs.search.take_path.Goals as goal
 use Rattle.shortest_paths.proofs.search.take_path.Goals.{After-leaving-arc, Start}
 
-other_in : (c : Start) → c.args.end.other < length c.args.node_labels.now
-other_in c =
-    rw (← c.requires.end.ends, c.requires.search.sized) (end_of-in (length c.args.residual.potentials.now) (row_at c.args.residual.graph.now.rows (leaving c.args.end).arc) (leaving c.args.end).way (c.args.residual.certified.flow.rows (leaving c.args.end).arc c.requires.end.is_arc))
+inside : (c : Start) → c.args.end.other < length c.args.node_labels.now
+inside c = other_in c.args.residual c.args.node_labels.now c.args.start c.args.end c.requires.search.sized c.requires.end
 
 pub overflow_add-depth : goal.overflow_add-depth
 overflow_add-depth c =
-    let small = last_bounds c.args.residual.certified c.requires.search c.requires.last in
-    let shallow = subst (λ (v : ℕ). depth_at c.args.node_labels.now v ≤ entry_limit) (sym c.requires.start) small.shallow in
+    let shallow = (last_bounds c.args.residual.certified c.requires.search c.requires.last).shallow in
     search (rules, shallow)
 
 pub improve-requires-clause-v_in : goal.improve-requires-clause-v_in
-improve-requires-clause-v_in c = other_in (goal.at.improve-requires-clause-v_in c).Start
+improve-requires-clause-v_in c = inside (goal.at.improve-requires-clause-v_in c).Start
 
 -- the path to the end is no shorter than that to the node settled last, and so no shorter than those to the other settled nodes
 pub improve-requires-clause-not_nearer : goal.improve-requires-clause-not_nearer
 improve-requires-clause-not_nearer c =
     let same : to_z w64 (of_z w64 c.args.distance) ≡ c.args.distance = to_z-of_z w64 c.args.distance c.ranges.distance in
-    let no_shorter : distance_at c.args.node_labels.now (start_at c.args.residual.graph.now.rows (leaving c.args.end).arc (leaving c.args.end).way) ≤ℤ c.args.distance = omega (arith, ints, c.args.residual.certified.none_below (leaving c.args.end).arc (leaving c.args.end).way c.requires.residual, c.requires.distance) in
+    let no_shorter : distance_at c.args.node_labels.now c.args.start ≤ℤ c.args.distance = omega (arith, ints, c.args.residual.certified.none_below (leaving c.args.end).arc (leaving c.args.end).way c.requires.residual, c.requires.distance, ap (distance_at c.args.node_labels.now) c.requires.end.starts) in
     rw same (c.requires.queue.passed c.args.distance
     (omega (arith, ints, no_shorter, (last_bounds c.args.residual.certified c.requires.search c.requires.last).low))
     (λ v m. omega (arith, ints, no_shorter, c.requires.last.furthest v m)))
@@ -44,21 +42,20 @@ fit_bound : (c : After-leaving-arc) → FitBound c.args.distance (number_at c.ar
 fit_bound c =
     let rows = c.args.residual.graph.now.rows in
     let a = leaving c.args.end in
-    let start = start_at rows a.arc a.way in
     let p = c.args.residual.certified.potentials in
     let bounds = cost_of-bounds _ (row_at rows a.arc) a.way (c.args.residual.certified.flow.rows a.arc c.requires.end.is_arc) in
     let last = last_bounds c.args.residual.certified c.requires.search c.requires.last in
     record {
       distance_fits = c.ranges.distance;
       potential_fits = omega (arith, ints, p.at_least c.args.end.other, p.at_most_0 c.args.end.other);
-      fits = omega (arith, ints, c.requires.distance, bounds, last.low, last.high, p.at_least start, p.at_most_0 start, ap (number_at c.args.residual.potentials.now) c.requires.end.ends);
+      fits = omega (arith, ints, c.requires.distance, length_beyond c.args.residual c.args.node_labels.now c.args.start c.args.end c.requires.end, c.requires.end.cost, bounds, last.low, last.high, p.at_least c.args.start, p.at_most_0 c.args.start);
     }
 
 pub offset_bounds-residual-end : goal.offset_bounds-residual-end
-offset_bounds-residual-end c = omega (arith, other_in (goal.at.offset_bounds-residual-end c).Start, c.requires.search.sized, c.args.residual.certified.flow.few_nodes)
+offset_bounds-residual-end c = omega (arith, inside (goal.at.offset_bounds-residual-end c).Start, c.requires.search.sized, c.args.residual.certified.flow.few_nodes)
 
 pub bounds-residual-end : goal.bounds-residual-end
-bounds-residual-end c = omega (arith, other_in (goal.at.bounds-residual-end c).Start, c.requires.search.sized)
+bounds-residual-end c = omega (arith, inside (goal.at.bounds-residual-end c).Start, c.requires.search.sized)
 
 pub overflow_add-distance : goal.overflow_add-distance
 overflow_add-distance c =
@@ -69,21 +66,21 @@ step : (c : After-leaving-arc) → IsStep c.args.residual.graph.now.rows c.args.
 step c =
     let sum = fit_bound c in
     let same : to_z w64 (of_z w64 c.args.distance) ≡ c.args.distance = to_z-of_z w64 c.args.distance c.ranges.distance in
-    IsStep-put c.args.residual.graph.now.rows c.args.residual.flow.now c.args.residual.potentials.now c.args.node_labels.now (start_at c.args.residual.graph.now.rows (leaving c.args.end).arc (leaving c.args.end).way) (leaving c.args.end).arc (leaving c.args.end).way c.args.end.other
+    IsStep-put c.args.residual.graph.now.rows c.args.residual.flow.now c.args.residual.potentials.now c.args.node_labels.now c.args.start (leaving c.args.end).arc (leaving c.args.end).way c.args.end.other
     (record { state = Open; distance = to_z w64 (of_z w64 c.args.distance); depth = depth_at c.args.node_labels.now c.args.start + 1; arc = c.leaving-arc.result.arc; way = c.leaving-arc.result.way; bound = to_z w64 (of_z w64 (to_z w64 (of_z w64 c.args.distance) +ℤ to_z w64 (of_z w64 (number_at c.args.residual.potentials.now c.args.end.other)))) })
-    c.args.residual.certified c.requires.search c.requires.last c.requires.residual refl (sym c.requires.end.ends) refl
-    (same ∙ c.requires.distance) (ap (λ (v : ℕ). depth_at c.args.node_labels.now v + 1) c.requires.start) (ap (λ (a : ResidualArc). a.arc) c.leaving-arc.ensures) (ap (λ (a : ResidualArc). a.way) c.leaving-arc.ensures)
+    c.args.residual.certified c.requires.search c.requires.last c.requires.residual c.requires.end.starts (sym c.requires.end.ends) refl
+    (same ∙ c.requires.distance) refl (ap (λ (a : ResidualArc). a.arc) c.leaving-arc.ensures) (ap (λ (a : ResidualArc). a.way) c.leaving-arc.ensures)
     (word_sum c.args.distance (number_at c.args.residual.potentials.now c.args.end.other) sum.distance_fits sum.potential_fits sum.fits ∙ ap (λ (z : ℤ). z +ℤ number_at c.args.residual.potentials.now c.args.end.other) (sym same))
     (rw same c.requires.better)
 
 pub returns-clause-search : goal.returns-clause-search
 returns-clause-search c =
-    subst (λ (t : List NodeLabel). IsSearch c.args.residual.graph.now.rows c.args.residual.flow.now c.args.residual.potentials.now t) (sym c.improve.ensures.node_labels) (step (goal.at.returns-clause-search c).After-leaving-arc).known
+    subst (IsSearchOver c.args.residual) (sym c.improve.ensures.node_labels) (step (goal.at.returns-clause-search c).After-leaving-arc).known
 
 pub returns-clause-improves : goal.returns-clause-improves
 returns-clause-improves c =
-    subst (λ (t : List NodeLabel). Improves c.args.node_labels.now t) (sym c.improve.ensures.node_labels) (step (goal.at.returns-clause-improves c).After-leaving-arc).better
+    subst (Improves c.args.node_labels.now) (sym c.improve.ensures.node_labels) (step (goal.at.returns-clause-improves c).After-leaving-arc).better
 
 pub returns-clause-relaxed : goal.returns-clause-relaxed
 returns-clause-relaxed c =
-    subst (λ (t : List NodeLabel). IsRelaxed c.args.residual.graph.now.rows c.args.residual.potentials.now t (leaving c.args.end).arc (leaving c.args.end).way) (sym c.improve.ensures.node_labels) (step (goal.at.returns-clause-relaxed c).After-leaving-arc).done
+    subst (λ (t : List NodeLabel). IsRelaxedAlong c.args.residual t (leaving c.args.end)) (sym c.improve.ensures.node_labels) (step (goal.at.returns-clause-relaxed c).After-leaving-arc).done
