@@ -12,8 +12,8 @@ use std::marker::Model;
 use two_sided::{Heap, NO_PLACE};
 
 /// By so much further a path reaches over an arc that searches do not use: further than any that is known. Added to its
-/// length it takes the place of a test, which the processor foretold wrongly at every fourth arc: the searches of
-/// assignments, plans and infeasible networks took a tenth longer.
+/// length it takes the place of a test, which processors often foretell wrongly: with the test, proposals of plans and
+/// infeasible networks took up to a tenth longer.
 const BARRED: i64 = 4_200_000_000_000_000_000;
 
 /// What was done.
