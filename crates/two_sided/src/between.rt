@@ -119,6 +119,8 @@ impl Between {
         ensures proposal { proposal.new ≡ proposal.old }
     {
         self.list_roots(proposal);
+        self.ahead.forget_margins();
+        self.behind.forget_margins();
         let ends = proposal.ends() as u64;
         let mut reads: u64 = 0;
         for _ in 0..u64::MAX {
@@ -229,6 +231,20 @@ impl Between {
         draw_along::<true>(proposal, &mut self.free, noted, &self.path_ahead, amount);
         draw_along::<false>(proposal, &mut self.free, noted, &self.path_behind, amount);
         proposal.carry::<true>(s, t, amount);
+        self.ahead.shorten(meeting.length);
+        self.behind.shorten(meeting.length);
+        forget_along(
+            &mut self.ahead,
+            &mut self.behind,
+            proposal,
+            &self.path_ahead,
+        );
+        forget_along(
+            &mut self.ahead,
+            &mut self.behind,
+            proposal,
+            &self.path_behind,
+        );
     }
 }
 
@@ -365,5 +381,24 @@ fn draw_along<const AHEAD: bool>(
         let _full = proposal.draw::<AHEAD>(*place, amount);
         free.renew(proposal, *place);
         noted.note(proposal.arc_at(*place));
+    }
+}
+
+/// Forgets how far the ends at the nodes of a path lead on: they changed.
+fn forget_along(ahead: &mut Front, behind: &mut Front, proposal: &Proposal, path: &Places)
+    requires ahead { ahead.old ≡ proposal.now }
+    requires behind { behind.old ≡ proposal.now }
+    ensures ahead { ahead.new ≡ ahead.old }
+    ensures behind { behind.new ≡ behind.old }
+{
+    for place in path.listed() {
+        if let Some(near) = proposal.link(*place) {
+            ahead.forget_margin(near.other as usize);
+            behind.forget_margin(near.other as usize);
+            if let Some(far) = proposal.link(near.opposite) {
+                ahead.forget_margin(far.other as usize);
+                behind.forget_margin(far.other as usize);
+            }
+        }
     }
 }

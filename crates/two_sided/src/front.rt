@@ -94,6 +94,11 @@ impl Meeting {
 pub struct Front {
     labels: Vec<Label>,
     heap: Heap,
+    /// How far beyond each node its other ends lead at least, by `walked` more: 0 where these were not read in this run, or
+    /// changed since.
+    beyond: Vec<i64>,
+    /// Settled nodes whose other ends lead on far only: they are read when the search has come half so far, as a rule never.
+    late: Heap,
     /// The nodes that are settled, in order.
     settled: Nodes,
     /// The nodes to which a path was found.
@@ -108,6 +113,8 @@ pub struct Front {
     spent: bool,
     /// How many ends were read.
     reads: u64,
+    /// How long the paths of this run were together: by so much at most a reduced cost fell.
+    walked: i64,
     ghost last_low: { pos 0 ≤ℤ last },
     ghost last_high: { last ≤ℤ pos key_limit },
 }
@@ -121,6 +128,8 @@ impl Model for Front {
 
     ghost invariant = { λ f. (length f.labels.items < 2 ^ 31)
         × (f.heap ≡ length f.labels.items)
+        × (f.late ≡ length f.labels.items)
+        × (length f.beyond.items ≡ length f.labels.items)
         × (f.settled ≡ length f.labels.items)
         × (f.touched ≡ length f.labels.items) };
 }
@@ -136,11 +145,15 @@ impl Front {
     {
         let labels = vec![in alloc; Label::NONE; entries]?;
         let heap = Heap::new(alloc, entries)?;
+        let beyond = vec![in alloc; 0; entries]?;
+        let late = Heap::new(alloc, entries)?;
         let settled = Nodes::new(alloc, entries)?;
         let touched = Nodes::new(alloc, entries)?;
         Ok(Front {
             labels,
             heap,
+            beyond,
+            late,
             settled,
             touched,
             spread: 0,
@@ -148,6 +161,7 @@ impl Front {
             last: 0,
             spent: false,
             reads: 0,
+            walked: 0,
         })
     }
 
@@ -164,6 +178,7 @@ impl Front {
     {
         forget_all(&mut self.labels, &self.touched);
         self.heap.clear();
+        self.late.clear();
         self.settled.clear();
         self.touched.clear();
         self.spread = 0;
@@ -252,11 +267,66 @@ impl Front {
         if let Some(u) = self.take_waiting() {
             return self.read_free(free, other, u, meeting);
         }
-        if let Some(u) = self.take_unread() {
-            return self.read_others::<AHEAD>(proposal, free, other, u, meeting);
+        match self.take_due(free) {
+            Some(u) => self.read_others::<AHEAD>(proposal, free, other, u, meeting),
+            None => meeting,
         }
-        self.advance();
-        meeting
+    }
+
+    /// Takes the next settled node whose other ends are to be read now, if there is one.
+    #[inline(always)]
+    fn take_due(&mut self, free: &FreeEnds) -> Option<usize>
+        requires { free.now ≡ self.old }
+        ensures kept { self.new ≡ self.old }
+        ensures node { IfSome result (λ v. v < self.old) }
+    {
+        let Some(u) = self.take_unread() else {
+            return self.advance();
+        };
+        if free.are_whole() && self.is_put_off(u) {
+            None
+        } else {
+            Some(u)
+        }
+    }
+
+    /// Puts off reading the other ends at a node, if they lead on far only, and says whether it did. The search has then to
+    /// come half so far: two nodes put off, one a side, are no nearer to each other than both sides have come together.
+    #[inline(always)]
+    fn is_put_off(&mut self, u: usize) -> bool
+        requires { u < self.old }
+        ensures { self.new ≡ self.old }
+    {
+        let half = self.beyond[u].saturating_sub(self.walked) / 2;
+        if half <= 0 {
+            return false;
+        }
+        let due = self.key(u).saturating_add(half);
+        self.late.add(u, due);
+        true
+    }
+
+    /// Forgets how far ends lead on.
+    pub fn forget_margins(&mut self)
+        ensures { self.new ≡ self.old }
+    {
+        self.beyond.fill(0);
+        self.walked = 0;
+    }
+
+    /// Forgets how far the ends at a node lead on.
+    pub fn forget_margin(&mut self, v: usize)
+        requires { v < self.old }
+        ensures { self.new ≡ self.old }
+    {
+        self.beyond[v] = 0;
+    }
+
+    /// All ends may lead on less far by the length of a path, along which the potentials were shifted.
+    pub fn shorten(&mut self, length: i64)
+        ensures { self.new ≡ self.old }
+    {
+        self.walked = self.walked.saturating_add(length);
     }
 
     /// Takes the next settled node whose free ends were not read.
@@ -342,13 +412,16 @@ impl Front {
         let are_read = free.are_whole();
         let links = proposal.ends_at(u).links;
         self.count(links.len());
+        let mut least = FAR;
         for link in links {
             if link.room::<AHEAD>() > 0 && !(are_read && link.room_back::<AHEAD>() > 0) {
                 let reduced_cost = proposal.reduced_cost::<AHEAD>(potential, link);
+                least = least.min(reduced_cost);
                 let label = label_beyond(key, reduced_cost, link.opposite);
                 meeting = self.note(link.other as usize, label, other, meeting);
             }
         }
+        self.beyond[u] = least.saturating_add(self.walked);
         meeting
     }
 
@@ -442,19 +515,37 @@ impl Front {
         self.settled.add(v);
     }
 
-    /// Settles the nearest node that is not settled.
-    fn advance(&mut self)
-        ensures { self.new ≡ self.old }
+    /// Settles the nearest node that is not settled, or gives a settled one of which the other ends are to be read before
+    /// that.
+    fn advance(&mut self) -> Option<usize>
+        ensures kept { self.new ≡ self.old }
+        ensures node { IfSome result (λ v. v < self.old) }
     {
         for _ in 0..=self.labels.len() {
+            if self.late.least() < self.heap.least() {
+                return self.take_late();
+            }
             let Some(u) = self.take_nearest() else {
                 break;
             };
             if self.settle_next(u) {
-                return;
+                return None;
             }
         }
         self.spent = true;
+        None
+    }
+
+    /// Takes the node of which the other ends are to be read next, and comes as far as these lead.
+    fn take_late(&mut self) -> Option<usize>
+        ensures kept { self.new ≡ self.old }
+        ensures node { IfSome result (λ v. v < self.old) }
+    {
+        let due = self.late.least();
+        if due > self.last && due < FAR {
+            self.last = due;
+        }
+        self.late.take()
     }
 
     /// Takes the nearest node out of the heap.
