@@ -10,10 +10,49 @@ ghost use Rattle.augmentation.specs.Trail.{AreLimits, CanMove, IsShiftable, IsTr
 use crate::augment::{FoundPath, transfer};
 use crate::difference::{lacking, spare};
 use crate::journal::Journal;
-use crate::route::{list_changes, step};
+use crate::route::{distance, list_changes, step};
 use crate::setting::Setting;
 use crate::trail::Trail;
+use proposals::Change;
 use residual_graph::{ResidualArc, Way};
+
+/// Where pushes take no more steps for each node and each change than these, all are made in one stage. Most runs take one
+/// or two, and those whose paths are long some hundreds.
+const FEW_STEPS: u64 = 3;
+
+/// How many steps stages may take for each node and each change: a stair of 50,000 nodes takes 9,375. A bad proposal is to
+/// cost seconds at most.
+const STEPS: u64 = 10_000;
+
+/// The most stages.
+const STAGES: usize = 62;
+
+/// In the first stage at least one change in so many is wide enough.
+const ONE_WIDE_IN: usize = 16;
+
+/// How much is to be wanted along each hop of the first stage.
+fn first_least(flow: &[i64], changes: &[Change]) -> i64 {
+    let mut least: i64 = 1;
+    for _ in 0..STAGES {
+        let next = least.saturating_mul(2);
+        if !are_wide(flow, changes, next) {
+            break;
+        }
+        least = next;
+    }
+    least
+}
+
+/// Whether of enough changes at least so much is wanted.
+fn are_wide(flow: &[i64], changes: &[Change], least: i64) -> bool {
+    let mut wide: usize = 0;
+    for change in changes {
+        if distance(flow, change) >= least {
+            wide = wide.saturating_add(1);
+        }
+    }
+    wide.saturating_mul(ONE_WIDE_IN) >= changes.len()
+}
 
 /// Moves `amount` along a residual arc.
 fn shift_on(flow: &mut [i64], hop: ResidualArc, amount: i64)
@@ -136,6 +175,65 @@ fn push_to(
     pushes
 }
 
+/// Pushes to each node in turn, along hops on which at least so much is wanted, and counts the pushes.
+fn push_stage(
+    setting: Setting<'_>,
+    flow: &mut [i64],
+    journal: &mut Journal,
+    excess: &mut [i64],
+    trail: &mut Trail,
+    least: i64,
+) -> u64
+    requires state { IsOnTheWay (entries_of setting.graph.now) setting.graph.now.rows flow.old excess.old }
+    requires journal { IsJournal journal.old }
+    requires room { length flow.old ≤ length journal.old.before.items }
+    requires trail { IsTrailFor (entries_of setting.graph.now) trail.old }
+    ensures led { IsLedOn (entries_of setting.entry.graph.now) setting.entry.graph.now.rows result flow.old excess.old flow.new excess.new }
+    ensures journal { IsJournal journal.new }
+    ensures room { length journal.new.before.items ≡ length journal.old.before.items }
+    ensures since { (x : List ℤ) → IsSince journal.old x flow.old → IsSince journal.new x flow.new }
+    ensures trail { IsTrailFor (entries_of setting.entry.graph.now) trail.new }
+{
+    trail.refresh(least);
+    list_changes(setting.graph, flow, trail);
+    let mut pushes = 0;
+    for target in 0..excess.len() {
+        pushes += push_to(setting, flow, journal, excess, trail, target);
+    }
+    pushes
+}
+
+/// Pushes in stages, each along hops on which half as much is wanted as in the one before, and counts the pushes. So few
+/// large pushes take the place of many small ones.
+fn push_in_stages(
+    setting: Setting<'_>,
+    flow: &mut [i64],
+    journal: &mut Journal,
+    excess: &mut [i64],
+    trail: &mut Trail,
+) -> u64
+    requires state { IsOnTheWay (entries_of setting.graph.now) setting.graph.now.rows flow.old excess.old }
+    requires journal { IsJournal journal.old }
+    requires room { length flow.old ≤ length journal.old.before.items }
+    requires trail { IsTrailFor (entries_of setting.graph.now) trail.old }
+    ensures led { IsLedOn (entries_of setting.entry.graph.now) setting.entry.graph.now.rows result flow.old excess.old flow.new excess.new }
+    ensures journal { IsJournal journal.new }
+    ensures room { length journal.new.before.items ≡ length journal.old.before.items }
+    ensures since { (x : List ℤ) → IsSince journal.old x flow.old → IsSince journal.new x flow.new }
+    ensures trail { IsTrailFor (entries_of setting.entry.graph.now) trail.new }
+{
+    let mut least = first_least(flow, &trail.changes).saturating_mul(2);
+    let mut pushes = 0;
+    for _ in 0..STAGES {
+        if least <= 1 {
+            break;
+        }
+        least /= 2;
+        pushes += push_stage(setting, flow, journal, excess, trail, least);
+    }
+    pushes
+}
+
 /// Pushes flow towards a wanted one, and counts the pushes: along paths of arcs whose flow is to change, from nodes in
 /// excess to nodes in deficit, of which so much is left alone as is to rest there. Circles are left out.
 pub fn push_towards(
@@ -156,11 +254,11 @@ pub fn push_towards(
     ensures pushes { ArePushes setting.entry.graph.now.rows result flow.old excess.old flow.new excess.new }
     ensures trail { IsTrailFor (entries_of setting.entry.graph.now) trail.new }
 {
-    trail.refresh();
-    list_changes(setting.graph, flow, trail);
-    let mut pushes = 0;
-    for target in 0..excess.len() {
-        pushes += push_to(setting, flow, journal, excess, trail, target);
+    trail.allow(FEW_STEPS);
+    let first = push_stage(setting, flow, journal, excess, trail, 1);
+    if trail.fuel > 0 {
+        return first;
     }
-    pushes
+    trail.allow(STEPS);
+    first + push_in_stages(setting, flow, journal, excess, trail)
 }

@@ -11,8 +11,8 @@ use crate::trail::{Hop, Trail};
 use proposals::Change;
 use residual_graph::{Graph, ResidualArc, Way};
 
-/// Lists each change at the node to which it brings flow, of the changes of one node the first one first. A wanted flow
-/// is brought within the bounds.
+/// Lists each change at the node to which it brings enough flow, of the changes of one node the first one first. A wanted
+/// flow is brought within the bounds.
 pub fn list_changes(graph: &Graph, flow: &[i64], trail: &mut Trail)
     requires flow { IsPseudoflow (entries_of graph.now) graph.now.rows flow.now }
     requires trail { IsTrailFor (entries_of graph.now) trail.old }
@@ -25,6 +25,9 @@ pub fn list_changes(graph: &Graph, flow: &[i64], trail: &mut Trail)
         if k < flow.len() {
             let row = graph.row(k);
             let goal = change.flow.max(row.low).min(row.cap);
+            if goal.saturating_sub(flow[k]).saturating_abs() < trail.least {
+                continue;
+            }
             let node = if goal > flow[k] { row.head } else { row.tail };
             trail.changes[j] = Change {
                 arc: change.arc,
@@ -65,8 +68,8 @@ fn hop_for(graph: &Graph, flow: &[i64], change: Change, node: usize) -> Option<H
     })
 }
 
-/// The next hop by which a walk can go back from the node: something is wanted along it, and it comes from a node that is
-/// not dead. Changes that bring nothing more are taken off the node's list.
+/// The next hop by which a walk can go back from the node: enough is wanted along it, and it comes from a node that is not
+/// dead. Changes that bring too little are taken off the node's list.
 fn next_hop(graph: &Graph, flow: &[i64], trail: &mut Trail, node: usize) -> Option<Hop>
     requires flow { IsPseudoflow (entries_of graph.now) graph.now.rows flow.now }
     requires trail { IsTrailFor (entries_of graph.now) trail.old }
@@ -82,7 +85,7 @@ fn next_hop(graph: &Graph, flow: &[i64], trail: &mut Trail, node: usize) -> Opti
         }
         let change = trail.changes[place as usize];
         if let Some(hop) = hop_for(graph, flow, change, node) {
-            if !trail.dead[hop.from] {
+            if hop.want >= trail.least && !trail.dead[hop.from] {
                 return Some(hop);
             }
         }
@@ -92,10 +95,7 @@ fn next_hop(graph: &Graph, flow: &[i64], trail: &mut Trail, node: usize) -> Opti
 }
 
 /// How far a change is from the flow that stands.
-fn distance(flow: &[i64], changes: &[Change], place: u32) -> i64 {
-    let Some(change) = changes.get(place as usize) else {
-        return 0;
-    };
+pub fn distance(flow: &[i64], change: &Change) -> i64 {
     let Some(now) = flow.get(change.arc as usize) else {
         return 0;
     };
@@ -103,6 +103,14 @@ fn distance(flow: &[i64], changes: &[Change], place: u32) -> i64 {
         change.flow.saturating_sub(*now)
     } else {
         now.saturating_sub(change.flow)
+    }
+}
+
+/// How far the change at a place is from the flow that stands: 0 where there is none.
+fn distance_at(flow: &[i64], changes: &[Change], place: u32) -> i64 {
+    match changes.get(place as usize) {
+        Some(change) => distance(flow, change),
+        None => 0,
     }
 }
 
@@ -128,7 +136,7 @@ fn cancel_circle(flow: &[i64], trail: &mut Trail, begin: usize, most: i64)
 {
     let mut least = most;
     for j in begin..trail.len + 1 {
-        least = least.min(distance(flow, &trail.changes, trail.change_at(j)));
+        least = least.min(distance_at(flow, &trail.changes, trail.change_at(j)));
     }
     for j in begin..trail.len + 1 {
         let place = trail.change_at(j);
@@ -136,8 +144,8 @@ fn cancel_circle(flow: &[i64], trail: &mut Trail, begin: usize, most: i64)
     }
 }
 
-/// Goes on by a hop from the node, or takes the circle that the hop closes off the changes and begins the walk anew. Where
-/// it began lies so much in excess as is `held`.
+/// Goes on by a hop from the node, or takes the circle that the hop closes off the changes and goes on from the circle's
+/// first node. Where the walk began lies so much in excess as is `held`.
 fn go_back(
     graph: &Graph,
     flow: &[i64],
@@ -164,7 +172,7 @@ fn go_back(
             return None;
         }
         cancel_circle(flow, trail, begin, hop.want);
-        return Some(trail.cut(0));
+        return Some(trail.cut(begin));
     }
     if trail.len + 1 >= trail.nodes.len() {
         return None;

@@ -11,10 +11,6 @@ use proposals::Change;
 use residual_graph::{ResidualArc, Way};
 use std::alloc::{AllocError, Global};
 
-/// How many steps a run of walks may take for each node and each change. Most runs take one or two, and those whose paths
-/// are long some hundreds; a stair of 50,000 nodes takes 9,375. A bad proposal is to cost seconds at most.
-const STEPS: u64 = 10_000;
-
 /// The place that no change has.
 const NO_CHANGE: u32 = u32::MAX;
 
@@ -50,6 +46,8 @@ pub struct Trail {
     /// What may lie in excess where the walk began, so that something is still wanted along this hop and all before it.
     pub limits: Vec<i64>,
     pub len: usize,
+    /// Hops along which less is wanted than this are passed over.
+    pub least: i64,
     /// How many steps may still be taken.
     pub fuel: u64,
 }
@@ -81,23 +79,32 @@ impl Trail {
             hops,
             limits,
             len: 0,
+            least: 1,
             fuel: 0,
         })
     }
 
-    /// Begins anew: no node is dead, and no change is listed.
-    pub(crate) fn refresh(&mut self)
+    /// Begins anew with hops along which at least so much is wanted: no node is dead, and no change is listed.
+    pub(crate) fn refresh(&mut self, least: i64)
         ensures trail { (n : ℕ) → IsTrailFor n self.old → IsTrailFor n self.new }
         ensures alive { (v : ℕ) → in_set self.new.dead.items v ≡ false }
     {
         self.dead.fill(false);
         self.first.fill(NO_CHANGE);
-        let places = (self.dead.len() as u64).saturating_add(self.changes.len() as u64);
-        self.fuel = places.saturating_mul(STEPS);
+        self.least = least;
     }
 
-    /// Spends a step and what it costs to push along so many hops, where there is fuel for it.
+    /// Allows so many steps for each node and each change.
+    pub(crate) fn allow(&mut self, steps: u64)
+        ensures { (n : ℕ) → IsTrailFor n self.old → IsTrailFor n self.new }
+    {
+        let places = (self.dead.len() as u64).saturating_add(self.changes.len() as u64);
+        self.fuel = places.saturating_mul(steps);
+    }
+
+    /// Spends a step and what it costs to push along so many hops; where there is not enough fuel for it, what is left.
     pub(crate) fn spend(&mut self, hops: usize) -> bool
+        ensures kept { self.new ≡ record self.old { fuel = self.new.fuel } }
         ensures trail { (n : ℕ) → IsTrailFor n self.old → IsTrailFor n self.new }
         ensures walk { (rows : List ArcRow) (t v : ℕ) → IsTrail rows self.old t v → IsTrail rows self.new t v }
         ensures limits { (rows : List ArcRow) (x : List ℤ) (held : ℤ) → AreLimits rows x held self.old → AreLimits rows x held self.new }
@@ -106,6 +113,7 @@ impl Trail {
     {
         let steps = hops as u64 / HOPS_A_STEP;
         if self.fuel <= steps {
+            self.fuel = 0;
             return false;
         }
         self.fuel -= steps + 1;
@@ -220,14 +228,14 @@ impl Trail {
         most.min(self.limits[self.len - 1] - held)
     }
 
-    /// How many hops lie before the first one along which no more is wanted, where so much lies in excess at the node where
+    /// How many hops lie before the first one along which too little is wanted, where so much lies in excess at the node where
     /// the walk began.
     pub(crate) fn hops_wanted(&self, held: i64) -> usize
         requires { self.now.len ≤ length self.now.limits.items }
         ensures { result ≤ self.now.len }
     {
         let mut keep = self.len;
-        while keep > 0 && self.limits[keep - 1] <= held {
+        while keep > 0 && self.limits[keep - 1].saturating_sub(held) < self.least {
             keep -= 1;
         }
         keep

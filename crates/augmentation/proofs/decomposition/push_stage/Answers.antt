@@ -4,7 +4,7 @@ use Rattle.augmentation.specs.Push.{left}
 use Rattle.augmentation.proofs.SettleLemmas.{left-small}
 use Rattle.augmentation.specs.Decomposition.{entries_of}
 use Rattle.augmentation.proofs.DecompositionLemmas.{led-more, led-none}
-use Rattle.augmentation.proofs.decomposition.push_towards.Goals as goal
+use Rattle.augmentation.proofs.decomposition.push_stage.Goals as goal
 
 pub loop-target-init : goal.loop-target-init
 loop-target-init c = record {

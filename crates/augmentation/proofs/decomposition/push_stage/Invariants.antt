@@ -2,7 +2,7 @@ use Rattle.std.proofs.Common.{◌≡◌, ℤ, List, length}
 use Rattle.augmentation.specs.Journal.{IsJournal, IsSince}
 use Rattle.augmentation.specs.Decomposition.{IsLedOn, entries_of}
 use Rattle.augmentation.specs.Trail.{IsTrailFor}
-use Rattle.augmentation.proofs.decomposition.push_towards.Given as goal
+use Rattle.augmentation.proofs.decomposition.push_stage.Given as goal
 
 abbrev pub invariant-loop-target : goal.invariant-loop-target
 invariant-loop-target l = record {

@@ -2,8 +2,8 @@ use Rattle.std.proofs.Common.{ℕ, arith, subst, sym}
 use Rattle.std.proofs.lemmas.Int.{ints}
 use Rattle.augmentation.specs.Decomposition.{entries_of}
 use Rattle.augmentation.specs.declared.trail.Trail.{Trail}
-use Rattle.augmentation.specs.Trail.{AreLimited, IsTrail, IsTrailFor}
-use Rattle.augmentation.proofs.TrailLemmas.{limits_none, room_small, trail_node_in}
+use Rattle.augmentation.specs.Trail.{AreLimits, IsTrail, IsTrailFor}
+use Rattle.augmentation.proofs.TrailLemmas.{room_small, trail_node_in}
 use Rattle.augmentation.proofs.route.go_back.Goals as goal
 use Rattle.augmentation.proofs.route.go_back.Goals.{After-cancel_circle}
 
@@ -39,8 +39,10 @@ returns-then-is_on-clause-walk c =
 
 pub returns-then-is_on-clause-limits : goal.returns-then-is_on-clause-limits
 returns-then-is_on-clause-limits c =
-    subst (λ (n : ℕ). AreLimited c.args.graph.now.rows c.args.flow.now c.args.held c.cut.new.self.hops.items c.cut.new.self.limits.items n) (sym c.cut.ensures.len)
-    (limits_none c.args.graph.now.rows c.args.flow.now c.args.held c.cut.new.self.hops.items c.cut.new.self.limits.items)
+    let rows = c.args.graph.now.rows in
+    let x = c.args.flow.now in
+    let held = c.args.held in
+    c.cut.ensures.limits rows x held (subst (λ (s : Trail). AreLimits rows x held s) (sym c.cancel_circle.ensures) (c.spend.ensures.limits rows x held c.requires.limits))
 
 pub overflow_add-hop : goal.overflow_add-hop
 overflow_add-hop c =
