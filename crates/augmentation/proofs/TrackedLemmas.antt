@@ -1,15 +1,12 @@
 -- Tables beside what was kept of them: what was written in turn, and what the noted places name.
-use Rattle.std.proofs.Math.Nat.{ℕ_set}
-use Rattle.std.specs.Vec.{with_items}
-use Rattle.std.proofs.Common.{ℤ, ◌≡◌, ◌≢◌, ℕ, ◌+◌, ◌<◌, ◌≤◌, List, length, drop, refl, sym, ap, subst, ◌∙◌, inl, inr, arith, true}
-use Rattle.std.specs.Prelude.{◌⊎◌, Any, slice_set, slice_index_or, vec_capacity}
+use Rattle.std.proofs.Common.{◌≡◌, ◌≢◌, ℕ, ◌+◌, ◌<◌, ◌≤◌, Bool, List, length, take, drop, refl, sym, ap, subst, ◌∙◌, inl, inr, arith, true}
+use Rattle.std.specs.Prelude.{◌⊎◌, Any, slice_set, slice_index_or}
 use Rattle.std.proofs.lemmas.Bool.{cases_eq, false≢true, false_from_ne_true}
 use Rattle.std.proofs.lemmas.Grind.{get_or_after_one}
-use Rattle.std.proofs.lemmas.List.{with_items_is, length-set, get_or-set_same, get_or-set_other, get_or-take, get_or_read, same_lists, length-take-le, length-drop}
-use Rattle.augmentation.specs.declared.tracked.Tracked.{Tracked}
+use Rattle.std.proofs.lemmas.List.{length-set, get_or-set_same, get_or-set_other, get_or-take, get_or_read, same_lists, length-take-le, length-drop}
 use Rattle.augmentation.specs.Cut.{in_set}
 use Rattle.augmentation.specs.Touched.{NameChanges, AgreeAt, AreNoted}
-use Rattle.augmentation.specs.Tracked.{IsTracked, IsWritten, kept_in}
+use Rattle.augmentation.specs.Tracked.{IsTracked, IsWritten, TrackedView}
 use Rattle.augmentation.proofs.TouchedLemmas.{noted_or_not}
 
 -- ---- places that a walk has still before it
@@ -33,55 +30,50 @@ IsListedFrom-later places j k at other = elim (cases_eq at.place j) [
 -- ---- what was written in turn, and what is kept
 
 module _ {T : Type 0} where
-  pub IsWritten-same : (l : Tracked T) → IsTracked l → IsWritten l l
-  IsWritten-same l tracked = record { tracked = tracked; kept = refl; size = refl; same_length = refl; same_room = refl }
+  pub IsWritten-same : (l : TrackedView T) → IsWritten l l
+  IsWritten-same l = record { kept = refl; whole = refl; same_length = refl; same_room = refl }
 
-  pub IsWritten-trans : (l m n : Tracked T) → IsWritten l m → IsWritten m n → IsWritten l n
+  pub IsWritten-trans : (l m n : TrackedView T) → IsWritten l m → IsWritten m n → IsWritten l n
   IsWritten-trans l m n first then = record {
-    tracked = then.tracked;
     kept = then.kept ∙ first.kept;
-    size = then.size ∙ first.size;
+    whole = then.whole ∙ first.whole;
     same_length = then.same_length ∙ first.same_length;
     same_room = then.same_room ∙ first.same_room;
   }
 
-  -- a `Tracked` table whose entries were written at noted places alone
-  pub IsWritten-noted : (l m : Tracked T) → IsTracked l → m.kept ≡ l.kept → m.size ≡ l.size → vec_capacity l.entries ≤ vec_capacity m.entries → AreNoted l.touched l.entries.items m.touched m.entries.items → IsWritten l m
-  IsWritten-noted l m tracked kept size room noted = record {
-    tracked = record {
-      same_length = subst (λ v. length v.items ≡ length m.entries.items) (sym kept) (tracked.same_length ∙ sym noted.same_length);
-      size_in = omega (arith, size, tracked.size_in, noted.same_length);
+  module _ (xs whole : List T) (size : ℕ) (marks : List Bool) (entries_room whole_room : ℕ) (tracked : IsTracked xs whole size marks entries_room whole_room) where
+    -- entries were written at noted places alone
+    pub IsTracked-noted : (ys : List T) (marks' : List Bool) (ys_room : ℕ) → entries_room ≤ ys_room → AreNoted marks xs marks' ys → IsTracked ys whole size marks' ys_room whole_room
+    IsTracked-noted ys marks' ys_room room noted = record {
+      same_length = tracked.same_length ∙ sym noted.same_length;
+      size_in = omega (arith, tracked.size_in, noted.same_length);
       marked = omega (arith, tracked.marked, noted.same_length, noted.same_size);
       few = omega (arith, tracked.few, noted.same_size);
       entries_fit = omega (arith, tracked.entries_fit, noted.same_size, room);
-      kept_fit = subst (λ v. length m.touched ≤ vec_capacity v) (sym kept) (omega (arith, tracked.kept_fit, noted.same_size));
-      elsewhere = λ k out d. noted.elsewhere k out d ∙ tracked.elsewhere k (false_from_ne_true (in_set l.touched k) (λ h. false≢true (sym out ∙ noted.still k h))) d ∙ ap (λ v. slice_index_or v.items k d) (sym kept);
-    };
-    kept = kept;
-    size = size;
-    same_length = noted.same_length;
-    same_room = noted.same_size;
-  }
+      whole_fit = omega (arith, tracked.whole_fit, noted.same_size);
+      elsewhere = λ k out d. noted.elsewhere k out d ∙ tracked.elsewhere k (false_from_ne_true (in_set marks k) (λ h. false≢true (sym out ∙ noted.still k h))) d;
+    }
 
-  -- places that name all that is noted name each place at which a `Tracked` table differs from its snapshot
-  pub kept_named : (l : Tracked T) (places : List ℕ) → IsTracked l → ((k : ℕ) → in_set l.touched k ≡ true → Any (λ p. p ≡ k) places) → NameChanges 0 places (kept_in l) l.entries.items
-  kept_named l places tracked listed = λ k lt. elim (noted_or_not l.touched k) [
-    | inl noted ↦ inl (subst (λ (q : ℕ). Any (λ p. p ≡ q) places) (omega arith) (listed k noted))
-    | inr out ↦ inr (λ d. tracked.elsewhere k out d ∙ sym (get_or-take l.size l.kept.items k d (omega (arith, lt, length-take-le l.size l.kept.items (omega (arith, tracked.size_in, tracked.same_length))))))
-  ]
+    module _ (places : List ℕ) (listed : (k : ℕ) → in_set marks k ≡ true → Any (λ p. p ≡ k) places) where
+      -- places that name all that is noted name each place at which the entries differ from the snapshot
+      pub kept_named : NameChanges 0 places (take size whole) xs
+      kept_named k lt = elim (noted_or_not marks k) [
+        | inl noted ↦ inl (subst (λ (q : ℕ). Any (λ p. p ≡ q) places) (omega arith) (listed k noted))
+        | inr out ↦ inr (λ d. tracked.elsewhere k out d ∙ sym (get_or-take size whole k d (omega (arith, lt, length-take-le size whole (omega (arith, tracked.size_in, tracked.same_length))))))
+      ]
 
-  -- the same of all that was kept, and the other way round
-  pub kept_differs : (l : Tracked T) (places : List ℕ) → IsTracked l → ((k : ℕ) → in_set l.touched k ≡ true → Any (λ p. p ≡ k) places) → NameChanges 0 places l.kept.items l.entries.items
-  kept_differs l places tracked listed = λ k lt. elim (noted_or_not l.touched k) [
-    | inl noted ↦ inl (subst (λ (q : ℕ). Any (λ p. p ≡ q) places) (omega arith) (listed k noted))
-    | inr out ↦ inr (λ d. tracked.elsewhere k out d)
-  ]
+      -- the same with what was added since, and the other way round
+      pub kept_differs : NameChanges 0 places whole xs
+      kept_differs k lt = elim (noted_or_not marks k) [
+        | inl noted ↦ inl (subst (λ (q : ℕ). Any (λ p. p ≡ q) places) (omega arith) (listed k noted))
+        | inr out ↦ inr (λ d. tracked.elsewhere k out d)
+      ]
 
-  pub entries_differ : (l : Tracked T) (places : List ℕ) → IsTracked l → ((k : ℕ) → in_set l.touched k ≡ true → Any (λ p. p ≡ k) places) → NameChanges 0 places l.entries.items l.kept.items
-  entries_differ l places tracked listed = λ k lt. elim (noted_or_not l.touched k) [
-    | inl noted ↦ inl (subst (λ (q : ℕ). Any (λ p. p ≡ q) places) (omega arith) (listed k noted))
-    | inr out ↦ inr (λ d. sym (tracked.elsewhere k out d))
-  ]
+      pub entries_differ : NameChanges 0 places xs whole
+      entries_differ k lt = elim (noted_or_not marks k) [
+        | inl noted ↦ inl (subst (λ (q : ℕ). Any (λ p. p ≡ q) places) (omega arith) (listed k noted))
+        | inr out ↦ inr (λ d. sym (tracked.elsewhere k out d))
+      ]
 
   -- the places from the j-th on name each one at which the lists, of one length, differ
   pub record AreLeft (places : List ℕ) (j : ℕ) (xs ys : List T) : Type 0 where
@@ -134,18 +126,3 @@ module _ {T : Type 0} where
     | inl listed ↦ inl (subst (λ (q : ℕ). Any (λ p. p ≡ q) places) (omega arith) listed)
     | inr agree ↦ inr (λ d. get_or_after_one ys k d ∙ (subst (λ (q : ℕ). slice_index_or ys q d ≡ slice_index_or xs q d) (omega arith) (agree d)) ∙ sym (get_or_after_one xs k d))
   ]
-
-  pub kept_named_after_first : (l : Tracked T) (places : List ℕ) → IsTracked l → ((k : ℕ) → in_set l.touched k ≡ true → Any (λ p. p ≡ k) places) → NameChanges 1 places (drop 1 (kept_in l)) (drop 1 l.entries.items)
-  kept_named_after_first l places tracked listed = named_after_first places (kept_in l) l.entries.items (kept_named l places tracked listed)
-
--- ---- entries that are lent as a slice, and come back as they were
-
-abbrev table_of : (t : Tracked ℤ) (ws : List ℤ) → t.entries.len ≡ length ws → Tracked ℤ
-table_of t ws sized = record t { entries = record t.entries { items = ws; ok = (sized, t.entries.ok.1) } }
-
-table_is : (t : Tracked ℤ) (ws : List ℤ) → t.entries.items ≡ ws → (sized : t.entries.len ≡ length ws) → table_of t ws sized ≡ t
-table_is t ws same = subst (λ (zs : List ℤ). (sized : t.entries.len ≡ length zs) → table_of t zs sized ≡ t) same (λ sized. ap (table_of t t.entries.items) (ℕ_set t.entries.len (length t.entries.items) sized t.entries.ok.0))
-
-pub same_table : (t : Tracked ℤ) (ys : List ℤ) → ys ≡ t.entries.items → record t { entries = with_items t.entries ys } ≡ t
-same_table t ys same =
-    table_is t (with_items t.entries ys).items (sym (with_items_is t.entries ys (ap length same ∙ sym t.entries.ok.0) ∙ same)) (with_items t.entries ys).ok.0

@@ -1,6 +1,7 @@
 pub mod Limits
 pub mod Nodes
 pub mod Push
+pub mod Pseudoflow
 pub mod Settle
 pub mod Cut
 pub mod Excess
@@ -8,6 +9,7 @@ pub mod Touched
 pub mod Tracked
 pub mod Journal
 pub mod Scratch
+pub mod ScratchView
 pub mod Difference
 pub mod Trail
 pub mod Decomposition

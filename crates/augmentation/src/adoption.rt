@@ -3,13 +3,13 @@
 ghost use Rattle.std.specs.Prelude.{◌≡◌, ℕ, ◌<◌, ◌≤◌, length, IfNone, IfSome, IsTrue, MatchOption, true};
 ghost use Rattle.shortest_paths.specs.Limits.{label_floor};
 ghost use Rattle.residual_graph.specs.Graph.{HasEntries};
-ghost use Rattle.residual_graph.specs.Residual.{ArePotentials, IsPseudoflow, IsReducedCostOptimal, NoneBelow};
+ghost use Rattle.residual_graph.specs.Residual.{ArePotentials, IsPseudoflow, NoneBelow};
 ghost use Rattle.augmentation.specs.Cut.{IsParted, in_set};
 ghost use Rattle.augmentation.specs.Decomposition.{IsOnTheWay, entries_of};
 ghost use Rattle.augmentation.specs.Journal.{IsJournal, IsSince};
+ghost use Rattle.augmentation.specs.Pseudoflow.{IsCertifiedPseudoflow, IsReady};
 ghost use Rattle.augmentation.specs.Push.{ArePushes, AreSmall};
-ghost use Rattle.augmentation.specs.Scratch.{IsScratchFor};
-ghost use Rattle.augmentation.specs.Tracked.{IsTracked, IsWritten};
+ghost use Rattle.augmentation.specs.Tracked.{IsWritten};
 ghost use Rattle.augmentation.specs.Adoption.{IsAsBefore, IsCertifiedBy};
 ghost use Rattle.augmentation.specs.Trail.{IsTrailFor};
 
@@ -160,16 +160,9 @@ pub fn adopt(
     excess: &mut Excess,
     scratch: &mut Scratch,
 ) -> Option<u64>
-    requires flow_tracked { IsTracked flow.old }
-    requires graph { HasEntries (length scratch.old.potentials.items) graph.now }
-    requires certified { IsReducedCostOptimal graph.now.rows flow.old.entries.items scratch.old.potentials.items }
-    requires potentials_in { ArePotentials (length scratch.old.potentials.items) label_floor scratch.old.potentials.items }
-    requires excess_in { length excess.old ≡ length scratch.old.potentials.items }
-    requires scratch { IsScratchFor (length scratch.old.potentials.items) scratch.old }
-    requires small { AreSmall excess.old }
+    requires ready { IsReady graph.now flow.old.entries scratch.old.potentials excess.old }
     ensures flow_written { IsWritten flow.old flow.new }
-    ensures adopted { MatchOption result (IsAsBefore flow.old flow.new excess.old excess.new scratch.old.potentials.items scratch.new.potentials.items) (λ n. IsCertifiedBy graph.now n flow.old.entries.items excess.old flow.new.entries.items excess.new scratch.new.potentials.items) }
-    ensures scratch { IsScratchFor (length scratch.old.potentials.items) scratch.new }
+    ensures adopted { MatchOption result (IsAsBefore flow.old flow.new excess.old excess.new scratch.old.potentials scratch.new.potentials) (λ n. IsCertifiedBy graph.now n flow.old.entries excess.old flow.new.entries excess.new scratch.new.potentials) }
 {
     let attempt = &mut scratch.attempt;
     let drawn = draw(
@@ -207,22 +200,13 @@ fn push_proposed(
     excess: &mut Excess,
     scratch: &mut Scratch,
 ) -> u64
-    requires flow_tracked { IsTracked flow.old }
-    requires graph { HasEntries (length scratch.old.potentials.items) graph.now }
-    requires certified { IsReducedCostOptimal graph.now.rows flow.old.entries.items scratch.old.potentials.items }
-    requires potentials_in { ArePotentials (length scratch.old.potentials.items) label_floor scratch.old.potentials.items }
-    requires excess_in { length excess.old ≡ length scratch.old.potentials.items }
-    requires scratch { IsScratchFor (length scratch.old.potentials.items) scratch.old }
-    requires small { AreSmall excess.old }
+    requires ready { IsReady graph.now flow.old.entries scratch.old.potentials excess.old }
     ensures flow_written { IsWritten flow.old flow.new }
-    ensures certified { IsReducedCostOptimal graph.now.rows flow.new.entries.items scratch.new.potentials.items }
-    ensures excess_in { length excess.new ≡ length excess.old }
-    ensures small { AreSmall excess.new }
-    ensures pushed { ArePushes graph.now.rows result flow.old.entries.items excess.old flow.new.entries.items excess.new }
-    ensures parted { IsParted graph.now.rows flow.new.entries.items excess.new }
-    ensures scratch { IsScratchFor (length scratch.old.potentials.items) scratch.new }
+    ensures state { IsCertifiedPseudoflow graph.now flow.new.entries scratch.new.potentials excess.new }
+    ensures pushed { ArePushes graph.now.rows result flow.old.entries excess.old flow.new.entries excess.new }
+    ensures parted { IsParted graph.now.rows flow.new.entries excess.new }
 {
-    scratch.attempt.propose(graph, &flow.entries, excess.entries(), &scratch.potentials);
+    scratch.propose(graph, flow.entries(), excess.entries());
     if let Some(adopted) = adopt(graph, flow, excess, scratch) {
         return adopted + finish(graph, flow, excess, scratch);
     }
@@ -237,20 +221,11 @@ pub fn push_all(
     excess: &mut Excess,
     scratch: &mut Scratch,
 ) -> u64
-    requires flow_tracked { IsTracked flow.old }
-    requires graph { HasEntries (length scratch.old.potentials.items) graph.now }
-    requires certified { IsReducedCostOptimal graph.now.rows flow.old.entries.items scratch.old.potentials.items }
-    requires potentials_in { ArePotentials (length scratch.old.potentials.items) label_floor scratch.old.potentials.items }
-    requires excess_in { length excess.old ≡ length scratch.old.potentials.items }
-    requires scratch { IsScratchFor (length scratch.old.potentials.items) scratch.old }
-    requires small { AreSmall excess.old }
+    requires ready { IsReady graph.now flow.old.entries scratch.old.potentials excess.old }
     ensures flow_written { IsWritten flow.old flow.new }
-    ensures certified { IsReducedCostOptimal graph.now.rows flow.new.entries.items scratch.new.potentials.items }
-    ensures excess_in { length excess.new ≡ length excess.old }
-    ensures small { AreSmall excess.new }
-    ensures pushed { ArePushes graph.now.rows result flow.old.entries.items excess.old flow.new.entries.items excess.new }
-    ensures parted { IsParted graph.now.rows flow.new.entries.items excess.new }
-    ensures scratch { IsScratchFor (length scratch.old.potentials.items) scratch.new }
+    ensures state { IsCertifiedPseudoflow graph.now flow.new.entries scratch.new.potentials excess.new }
+    ensures pushed { ArePushes graph.now.rows result flow.old.entries excess.old flow.new.entries excess.new }
+    ensures parted { IsParted graph.now.rows flow.new.entries excess.new }
 {
     if scratch.attempt.proposals.is_fresh() || pays(graph, excess) {
         push_proposed(graph, flow, excess, scratch)

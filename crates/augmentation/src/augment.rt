@@ -5,7 +5,7 @@ ghost use Rattle.std.specs.Prelude.{◌≡◌, ◌≢◌, ℤ, FitsSigned, lengt
 ghost use Rattle.residual_graph.specs.Residual.{IsPseudoflow, number_at};
 ghost use Rattle.shortest_paths.specs.Search.{IsReached};
 ghost use Rattle.augmentation.specs.Push.{AreSmall, HasRoom, HavePaths, IsAugmented, IsTransfer, moved, path_to, push_along, root_to};
-ghost use Rattle.augmentation.specs.Tracked.{IsTracked, IsWritten};
+ghost use Rattle.augmentation.specs.Tracked.{IsWritten};
 
 use crate::tracked::Tracked;
 use residual_graph::{Graph, Way};
@@ -91,20 +91,19 @@ fn shift(
     target: usize,
     amount: i64,
 )
-    requires tracked { IsTracked flow.old }
-    requires flow { IsPseudoflow (length node_labels.now) graph.now.rows flow.old.entries.items }
-    requires paths { HavePaths graph.now.rows flow.old.entries.items node_labels.now }
+    requires flow { IsPseudoflow (length node_labels.now) graph.now.rows flow.old.entries }
+    requires paths { HavePaths graph.now.rows flow.old.entries node_labels.now }
     requires reached { IsReached node_labels.now target }
     requires amount { pos 1 ≤ℤ amount }
-    requires room { HasRoom graph.now.rows flow.old.entries.items amount (path_to graph.now.rows node_labels.now target) }
+    requires room { HasRoom graph.now.rows flow.old.entries amount (path_to graph.now.rows node_labels.now target) }
     ensures written { IsWritten flow.old flow.new }
-    ensures flow { flow.new.entries.items ≡ push_along (path_to graph.now.rows node_labels.now target) amount flow.old.entries.items }
+    ensures flow { flow.new.entries ≡ push_along (path_to graph.now.rows node_labels.now target) amount flow.old.entries }
 {
     let mut node = target;
     while node_labels[node].depth > 0 {
         let label = node_labels[node];
         let k = label.arc as usize;
-        let moved = shifted(flow.entries[k], label.way, amount);
+        let moved = shifted(flow.get(k), label.way, amount);
         flow.set(k, moved);
         node = graph.start(k, label.way);
     }
@@ -133,18 +132,17 @@ pub(crate) fn augment(
     node_labels: &[NodeLabel],
     target: usize,
 )
-    requires tracked { IsTracked flow.old }
-    requires flow { IsPseudoflow (length node_labels.now) graph.now.rows flow.old.entries.items }
-    requires paths { HavePaths graph.now.rows flow.old.entries.items node_labels.now }
+    requires flow { IsPseudoflow (length node_labels.now) graph.now.rows flow.old.entries }
+    requires paths { HavePaths graph.now.rows flow.old.entries node_labels.now }
     requires excess_in { length excess.old ≡ length node_labels.now }
     requires small { AreSmall excess.old }
     requires reached { IsReached node_labels.now target }
     requires some_excess { pos 0 <ℤ number_at excess.old (root_to graph.now.rows node_labels.now target) }
     requires some_deficit { number_at excess.old target <ℤ pos 0 }
     ensures written { IsWritten flow.old flow.new }
-    ensures pushed { IsAugmented graph.now.rows node_labels.now target flow.old.entries.items excess.old flow.new.entries.items excess.new }
+    ensures pushed { IsAugmented graph.now.rows node_labels.now target flow.old.entries excess.old flow.new.entries excess.new }
 {
-    let (root, amount) = amount_along(graph, &flow.entries, excess, node_labels, target);
+    let (root, amount) = amount_along(graph, flow.entries(), excess, node_labels, target);
     shift(graph, flow, node_labels, target, amount);
     transfer(excess, root, target, amount);
 }

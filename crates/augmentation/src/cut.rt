@@ -5,10 +5,13 @@ ghost use Rattle.residual_graph.specs.Limits.{entry_limit};
 ghost use Rattle.residual_graph.specs.Residual.{IsPseudoflow, number_at};
 ghost use Rattle.residual_graph.specs.Graph.{HasEntries};
 ghost use Rattle.augmentation.specs.Cut.{in_set, IsSide, IsListOf, IsGrown, AreFarIn};
+ghost use Rattle.augmentation.specs.Push.{left};
 ghost use Rattle.residual_graph.specs.Side.{IsRoot, leading};
-ghost use Rattle.augmentation.specs.Tracked.{IsTracked, IsWritten};
+ghost use Rattle.residual_graph.specs.declared.side.Side.TheVariants.{Ahead, Behind};
+ghost use Rattle.augmentation.specs.Tracked.{IsWritten};
 
 use crate::excess::Excess;
+use crate::scratch::Scratch;
 use crate::tracked::Tracked;
 use residual_graph::{Graph, Side, Walk};
 
@@ -20,8 +23,41 @@ struct OnSide<'a> {
     flow: &'a [i64],
 }
 
+/// Marks the set that tells why some supply is left over or some demand is not met, first in the scratch.
+pub fn mark_cut(
+    graph: &Graph,
+    flow: &Tracked<i64>,
+    excess: &Excess,
+    scratch: &mut Scratch,
+    cut: &mut Tracked<bool>,
+)
+    requires graph { HasEntries (length excess.now) graph.now }
+    requires flow { IsPseudoflow (length excess.now) graph.now.rows flow.now.entries }
+    requires cut_in { length cut.old.entries ≡ length excess.now }
+    requires scratch_in { length scratch.old.potentials ≡ length excess.now }
+    ensures in_excess { 0 < left excess.now → IsSide Ahead graph.now.rows flow.now.entries excess.now cut.new.entries }
+    ensures no_excess { left excess.now ≡ 0 → IsSide Behind graph.now.rows flow.now.entries excess.now cut.new.entries }
+    ensures written { IsWritten cut.old cut.new }
+    ensures scratch { scratch.new ≡ scratch.old }
+{
+    let side = if excess.has_root(Side::Ahead) {
+        Side::Ahead
+    } else {
+        Side::Behind
+    };
+    mark_side(
+        side,
+        graph,
+        flow.entries(),
+        excess,
+        &mut scratch.marks,
+        &mut scratch.worklist,
+    );
+    take_marks(cut, &scratch.marks);
+}
+
 /// Marks the nodes of a side. `worklist` is a table to list them in.
-pub fn mark_side(
+fn mark_side(
     side: Side,
     graph: &Graph,
     flow: &[i64],
@@ -106,17 +142,16 @@ fn mark_from(on: OnSide<'_>, cut: &mut [bool], worklist: &mut [u32], len: usize,
 }
 
 /// Makes these marks those of a table.
-pub fn take_marks(cut: &mut Tracked<bool>, marks: &[bool])
-    requires tracked { IsTracked cut.old }
-    requires same_length { length marks.now ≡ length cut.old.entries.items }
+fn take_marks(cut: &mut Tracked<bool>, marks: &[bool])
+    requires same_length { length marks.now ≡ length cut.old.entries }
     ensures written { IsWritten cut.old cut.new }
-    ensures cut { cut.new.entries.items ≡ marks.now }
+    ensures cut { cut.new.entries ≡ marks.now }
 {
-    if &*cut.entries == marks {
+    if cut.entries() == marks {
         return;
     }
     for v in 0..marks.len() {
-        if cut.entries[v] != marks[v] {
+        if cut.get(v) != marks[v] {
             cut.set(v, marks[v]);
         }
     }

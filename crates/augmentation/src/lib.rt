@@ -29,7 +29,7 @@ mod wanted;
 pub use adoption::{adopt, push_all};
 pub use attempt::Attempt;
 pub use certificate::{certifies, is_within};
-pub use cut::{mark_side, take_marks};
+pub use cut::mark_cut;
 pub use draft::Draft;
 pub use excess::Excess;
 pub use journal::Journal;

@@ -1,13 +1,10 @@
 //! Searches and pushes in turn, until no node in excess reaches a node in deficit.
 
-ghost use Rattle.residual_graph.specs.Graph.{HasEntries};
-ghost use Rattle.shortest_paths.specs.Limits.{label_floor};
-ghost use Rattle.std.specs.Prelude.{◌≡◌, length, ◌<◌, MatchOption};
-ghost use Rattle.residual_graph.specs.Residual.{IsReducedCostOptimal, ArePotentials};
+ghost use Rattle.std.specs.Prelude.{◌≡◌, length, MatchOption};
 ghost use Rattle.augmentation.specs.Settle.{HasFound, HaveFallen};
-ghost use Rattle.augmentation.specs.Push.{ArePushes, AreSmall};
-ghost use Rattle.augmentation.specs.Scratch.{IsScratchFor};
-ghost use Rattle.augmentation.specs.Tracked.{IsTracked, IsWritten};
+ghost use Rattle.augmentation.specs.Pseudoflow.{IsCertifiedPseudoflow, IsReady};
+ghost use Rattle.augmentation.specs.Push.{ArePushes};
+ghost use Rattle.augmentation.specs.Tracked.{IsWritten};
 ghost use Rattle.augmentation.specs.Cut.{IsParted};
 
 use crate::augment::augment;
@@ -28,20 +25,11 @@ pub fn finish(
     excess: &mut Excess,
     scratch: &mut Scratch,
 ) -> u64
-    requires flow_tracked { IsTracked flow.old }
-    requires graph { HasEntries (length scratch.old.potentials.items) graph.now }
-    requires certified { IsReducedCostOptimal graph.now.rows flow.old.entries.items scratch.old.potentials.items }
-    requires potentials_in { ArePotentials (length scratch.old.potentials.items) label_floor scratch.old.potentials.items }
-    requires excess_in { length excess.old ≡ length scratch.old.potentials.items }
-    requires scratch { IsScratchFor (length scratch.old.potentials.items) scratch.old }
-    requires small { AreSmall excess.old }
+    requires ready { IsReady graph.now flow.old.entries scratch.old.potentials excess.old }
     ensures flow_written { IsWritten flow.old flow.new }
-    ensures certified { IsReducedCostOptimal graph.now.rows flow.new.entries.items scratch.new.potentials.items }
-    ensures excess_in { length excess.new ≡ length excess.old }
-    ensures small { AreSmall excess.new }
-    ensures pushed { ArePushes graph.now.rows result flow.old.entries.items excess.old flow.new.entries.items excess.new }
-    ensures parted { IsParted graph.now.rows flow.new.entries.items excess.new }
-    ensures scratch { IsScratchFor (length scratch.old.potentials.items) scratch.new }
+    ensures state { IsCertifiedPseudoflow graph.now flow.new.entries scratch.new.potentials excess.new }
+    ensures pushed { ArePushes graph.now.rows result flow.old.entries excess.old flow.new.entries excess.new }
+    ensures parted { IsParted graph.now.rows flow.new.entries excess.new }
 {
     excess.tidy();
     let mut pushes = 0;
@@ -61,20 +49,16 @@ fn search_on(
     excess: &Excess,
     scratch: &mut Scratch,
 ) -> Option<usize>
-    requires graph { HasEntries (length scratch.old.potentials.items) graph.now }
-    requires certified { IsReducedCostOptimal graph.now.rows flow.now.entries.items scratch.old.potentials.items }
-    requires excess_in { length excess.now ≡ length scratch.old.potentials.items }
-    requires scratch { IsScratchFor (length scratch.old.potentials.items) scratch.old }
-    ensures found { MatchOption result (IsParted graph.now.rows flow.now.entries.items excess.now) (HasFound graph.now.rows flow.now.entries.items scratch.new.potentials.items excess.now scratch.new.node_labels.items) }
-    ensures kept { scratch.new.potentials.items ≡ scratch.old.potentials.items }
-    ensures scratch { IsScratchFor (length scratch.old.potentials.items) scratch.new }
+    requires state { IsCertifiedPseudoflow graph.now flow.now.entries scratch.old.potentials excess.now }
+    ensures found { MatchOption result (IsParted graph.now.rows flow.now.entries excess.now) (HasFound graph.now.rows flow.now.entries scratch.new.potentials excess.now scratch.new.node_labels) }
+    ensures kept { scratch.new.potentials ≡ scratch.old.potentials }
 {
     if !excess.has_both() {
         return None;
     }
     let residual = Residual {
         graph,
-        flow: &flow.entries,
+        flow: flow.entries(),
         potentials: &scratch.potentials,
     };
     find_deficit(
@@ -95,21 +79,13 @@ fn push_within(
     scratch: &mut Scratch,
     target: usize,
 )
-    requires flow_tracked { IsTracked flow.old }
-    requires graph { HasEntries (length scratch.old.potentials.items) graph.now }
-    requires certified { IsReducedCostOptimal graph.now.rows flow.old.entries.items scratch.old.potentials.items }
-    requires fallen { HaveFallen scratch.old.potentials.items excess.old }
-    requires excess_in { length excess.old ≡ length scratch.old.potentials.items }
-    requires small { AreSmall excess.old }
-    requires found { HasFound graph.now.rows flow.old.entries.items scratch.old.potentials.items excess.old scratch.old.node_labels.items target }
-    requires scratch { IsScratchFor (length scratch.old.potentials.items) scratch.old }
+    requires state { IsCertifiedPseudoflow graph.now flow.old.entries scratch.old.potentials excess.old }
+    requires fallen { HaveFallen scratch.old.potentials excess.old }
+    requires found { HasFound graph.now.rows flow.old.entries scratch.old.potentials excess.old scratch.old.node_labels target }
     ensures flow_written { IsWritten flow.old flow.new }
-    ensures certified { IsReducedCostOptimal graph.now.rows flow.new.entries.items scratch.new.potentials.items }
-    ensures fallen { HaveFallen scratch.new.potentials.items excess.new }
-    ensures excess_in { length excess.new ≡ length excess.old }
-    ensures small { AreSmall excess.new }
-    ensures pushed { ArePushes graph.now.rows 1 flow.old.entries.items excess.old flow.new.entries.items excess.new }
-    ensures scratch { IsScratchFor (length scratch.old.potentials.items) scratch.new }
+    ensures state { IsCertifiedPseudoflow graph.now flow.new.entries scratch.new.potentials excess.new }
+    ensures fallen { HaveFallen scratch.new.potentials excess.new }
+    ensures pushed { ArePushes graph.now.rows 1 flow.old.entries excess.old flow.new.entries excess.new }
 {
     let reach = scratch.node_labels[target].distance;
     lower(&mut scratch.potentials, &scratch.node_labels, reach);

@@ -1,25 +1,43 @@
 //! The tables that searches write in.
 
-ghost use Rattle.std.specs.Prelude.{◌≡◌, ◌≤◌, false, IfOk};
+ghost use Rattle.std.specs.Prelude.{◌≡◌, ◌≤◌, IfOk, length};
+ghost use Rattle.residual_graph.specs.Graph.{HasEntries};
 ghost use Rattle.residual_graph.specs.Limits.{row_limit};
-ghost use Rattle.augmentation.specs.Scratch.{IsScratchFor};
+ghost use Rattle.residual_graph.specs.Residual.{IsPseudoflow};
 
 use crate::attempt::Attempt;
+use proposals::Wanted;
+use residual_graph::Graph;
 use shortest_paths::{Labels, NodeLabel, Queue};
 use std::alloc::{AllocError, Global};
+use std::marker::Model;
 
 /// Tables with one entry a node. Between two calls nothing is known of them but their size. What `labels` holds of the
 /// last pass is a hint.
 #[derive(Drop)]
 pub struct Scratch {
-    pub node_labels: Vec<NodeLabel>,
+    pub(crate) node_labels: Vec<NodeLabel>,
     /// Potentials while flow is pushed.
-    pub potentials: Vec<i64>,
-    pub labels: Labels,
-    pub queue: Queue,
+    pub(crate) potentials: Vec<i64>,
+    pub(crate) labels: Labels,
+    pub(crate) queue: Queue,
     /// Marks of nodes, while a cut is looked for.
-    pub marks: Vec<bool>,
-    pub attempt: Attempt,
+    pub(crate) marks: Vec<bool>,
+    /// The marked nodes.
+    pub(crate) worklist: Vec<u32>,
+    pub(crate) attempt: Attempt,
+}
+
+impl Model for Scratch {
+    ghost use Rattle.augmentation.specs.ScratchView.{ScratchView};
+
+    ghost Value = { ScratchView };
+
+    ghost use Rattle.augmentation.specs.Scratch.{IsScratch};
+
+    ghost view = { λ s. record { potentials = s.potentials.items; node_labels = s.node_labels.items } };
+
+    ghost invariant = { IsScratch };
 }
 
 impl Scratch {
@@ -29,14 +47,14 @@ impl Scratch {
     /// Memory for a table was refused.
     pub fn new(alloc: Global, entries: u32, arcs: usize) -> Result<Scratch, AllocError>
         requires { entries ≤ row_limit }
-        ensures sized { IfOk result (λ s. IsScratchFor entries s) }
-        ensures standing { IfOk result (λ s. s.labels.standing ≡ false) }
+        ensures { IfOk result (λ s. length s.potentials ≡ entries) }
     {
         let node_labels = vec![in alloc; NodeLabel::unreached(); entries as usize]?;
         let potentials = vec![in alloc; 0; entries as usize]?;
         let labels = Labels::new(alloc, entries)?;
         let queue = Queue::new(alloc, entries as usize)?;
         let marks = vec![in alloc; false; entries as usize]?;
+        let worklist = vec![in alloc; 0; entries as usize]?;
         let attempt = Attempt::new(alloc, entries as usize, arcs / 2)?;
         Ok(Scratch {
             node_labels,
@@ -44,7 +62,48 @@ impl Scratch {
             labels,
             queue,
             marks,
+            worklist,
             attempt,
         })
+    }
+
+    /// The potentials at which pushes stand.
+    #[inline(always)]
+    pub fn potentials(&self) -> &[i64]
+        ensures { result.now ≡ self.now.potentials }
+    {
+        &self.potentials
+    }
+
+    /// Makes these the potentials with which pushes begin.
+    pub fn take_potentials(&mut self, potentials: &[i64])
+        requires same_length { length potentials.now ≡ length self.old.potentials }
+        ensures { self.new ≡ record self.old { potentials = potentials.now } }
+    {
+        self.potentials.copy_from_slice(potentials);
+    }
+
+    /// Notes that the arcs in these rows may have got another row or another flow: the next proposal looks at them.
+    pub fn note_all(&mut self, places: &[u32])
+        ensures { self.new ≡ self.old }
+    {
+        self.attempt.note_all(places);
+    }
+
+    /// Has this proposal at hand.
+    pub fn offer(&mut self, wanted: Wanted)
+        ensures { self.new ≡ self.old }
+    {
+        self.attempt.wanted = wanted;
+    }
+
+    /// Proposes where to lead a flow and its excess, from the potentials at which pushes stand.
+    pub fn propose(&mut self, graph: &Graph, flow: &[i64], excess: &[i64])
+        requires graph { HasEntries (length self.old.potentials) graph.now }
+        requires flow { IsPseudoflow (length self.old.potentials) graph.now.rows flow.now }
+        requires excess { length excess.now ≡ length self.old.potentials }
+        ensures { self.new ≡ self.old }
+    {
+        self.attempt.propose(graph, flow, excess, &self.potentials);
     }
 }

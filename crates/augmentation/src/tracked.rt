@@ -1,58 +1,118 @@
 //! A table beside what stood in it before.
 
-ghost use Rattle.std.specs.Prelude.{◌≡◌, ℕ, ◌<◌, ◌≤◌, ◌+◌, ◌++◌, ◌∷◌, [], true, false, length, take, slice_index_or, slice_set, IfOk, vec_capacity};
-ghost use Rattle.augmentation.specs.Cut.{in_set};
+ghost use Rattle.std.specs.Prelude.{◌≡◌, ◌≢◌, ℕ, ◌<◌, ◌≤◌, ◌+◌, ◌++◌, ◌∷◌, [], AllPairs, length, take, slice_index_or, slice_set, IfOk, vec_capacity};
 ghost use Rattle.augmentation.specs.Touched.{NameChanges};
+ghost use Rattle.augmentation.specs.Tracked.{IsWritten};
 ghost use Rattle.residual_graph.specs.Limits.{row_limit};
 
 use crate::touched::Touched;
 use std::alloc::{AllocError, Global};
+use std::marker::Model;
 
 /// A table, what stood in it at the last snapshot, and the places at which it was written since. To take a snapshot, to
 /// compare with it and to bring it back cost no more than these places.
 #[derive(Drop)]
 pub struct Tracked<T> {
-    pub entries: Vec<T>,
-    /// What was kept; as long as the entries.
-    pub kept: Vec<T>,
-    /// How many entries there were then.
-    pub size: usize,
-    pub touched: Touched,
+    pub(crate) entries: Vec<T>,
+    /// What was kept, and behind it what was added since: as long as the entries.
+    whole: Vec<T>,
+    /// How many entries were kept.
+    size: usize,
+    pub(crate) touched: Touched,
 }
 
-ghost use Rattle.augmentation.specs.Tracked.{IsTracked, IsWritten, kept_in};
+impl<T> Model for Tracked<T> {
+    ghost use Rattle.std.specs.Prelude.{length, take, vec_capacity};
+    ghost use Rattle.augmentation.specs.Tracked.{TrackedView, tracked_code, IsTracked};
+
+    ghost Value = { TrackedView T };
+
+    ghost coded = { tracked_code T.code };
+
+    ghost view = { λ t. record {
+      entries = t.entries.items;
+      kept = take t.size t.whole.items;
+      whole = t.whole.items;
+      room = length t.touched;
+    } };
+
+    ghost invariant = { λ t. IsTracked t.entries.items t.whole.items t.size t.touched (vec_capacity t.entries) (vec_capacity t.whole) };
+}
 
 impl<T: Copy> Tracked<T> {
-    /// A `Tracked` table with these entries, with room for as many as they have.
+    /// A table with these entries, all of them kept, with room for as many as they have.
+    ///
+    /// # Errors
+    /// Memory for a table was refused.
     pub fn new(alloc: Global, entries: Vec<T>, room: usize) -> Result<Tracked<T>, AllocError>
         requires fits { length entries.items ≤ room }
         requires few { room ≤ row_limit }
         requires room { room ≤ vec_capacity entries }
-        ensures tracked { IfOk result (λ l. IsTracked l) }
-        ensures entries { IfOk result (λ l. l.entries.items ≡ entries.items) }
-        ensures kept { IfOk result (λ l. kept_in l ≡ entries.items) }
-        ensures whole { IfOk result (λ l. l.kept.items ≡ entries.items) }
-        ensures room { IfOk result (λ l. length l.touched ≡ room) }
+        ensures entries { IfOk result (λ l. l.entries ≡ entries.items) }
+        ensures kept { IfOk result (λ l. l.kept ≡ entries.items) }
+        ensures whole { IfOk result (λ l. l.whole ≡ entries.items) }
+        ensures room { IfOk result (λ l. l.room ≡ room) }
     {
-        let mut kept = Vec::with_capacity(alloc, room)?;
-        kept.extend_from_slice(&entries)?;
+        let mut whole = Vec::with_capacity(alloc, room)?;
+        whole.extend_from_slice(&entries)?;
         let size = entries.len();
         let touched = Touched::new(alloc, room)?;
         Ok(Tracked {
             entries,
-            kept,
+            whole,
             size,
             touched,
         })
     }
 
+    /// The entries.
+    #[inline(always)]
+    pub fn entries(&self) -> &[T]
+        ensures { result.now ≡ self.now.entries }
+    {
+        &self.entries
+    }
+
+    /// An entry.
+    #[inline(always)]
+    pub fn get(&self, place: usize) -> T
+        requires { place < length self.now.entries }
+        ensures { result ≡ slice_index_or self.now.entries place result }
+    {
+        self.entries[place]
+    }
+
+    /// What was kept.
+    pub fn before(&self) -> &[T]
+        ensures { result.now ≡ self.now.kept }
+    {
+        &self.whole[..self.size]
+    }
+
+    /// What was kept, and behind it what was added since.
+    #[inline(always)]
+    pub fn whole(&self) -> &[T]
+        ensures value { result.now ≡ self.now.whole }
+        ensures as_many { length result.now ≡ length self.now.entries }
+    {
+        &self.whole
+    }
+
+    /// Places, each once and in no order, which name each one at which the entries differ from what was kept, and maybe
+    /// others: some may lie past the end.
+    pub fn places(&self) -> &[u32]
+        ensures named { NameChanges 0 result.now self.now.kept self.now.entries }
+        ensures all_named { NameChanges 0 result.now self.now.whole self.now.entries }
+        ensures apart { AllPairs ◌≢◌ result.now }
+    {
+        self.touched.places()
+    }
+
     /// Writes an entry.
     pub fn set(&mut self, place: usize, value: T)
-        requires tracked { IsTracked self.old }
-        requires place { place < length self.old.entries.items }
+        requires place { place < length self.old.entries }
         ensures written { IsWritten self.old self.new }
-        ensures entries { self.new.entries.items ≡ slice_set self.old.entries.items place value }
-        ensures noted { self.new.touched ≡ slice_set self.old.touched place true }
+        ensures entries { self.new.entries ≡ slice_set self.old.entries place value }
     {
         self.entries[place] = value;
         self.touched.note(place);
@@ -60,90 +120,71 @@ impl<T: Copy> Tracked<T> {
 
     /// Exchanges an entry with a value.
     pub fn exchange(&mut self, place: usize, value: &mut T)
-        requires tracked { IsTracked self.old }
-        requires place { place < length self.old.entries.items }
+        requires place { place < length self.old.entries }
         ensures written { IsWritten self.old self.new }
-        ensures entries { self.new.entries.items ≡ slice_set self.old.entries.items place value.old }
-        ensures noted { self.new.touched ≡ slice_set self.old.touched place true }
-        ensures value { value.new ≡ slice_index_or self.old.entries.items place value.old }
+        ensures entries { self.new.entries ≡ slice_set self.old.entries place value.old }
+        ensures value { value.new ≡ slice_index_or self.old.entries place value.old }
     {
-        let before = self.entries[place];
+        let before = self.get(place);
         self.set(place, *value);
         *value = before;
     }
 
     /// Keeps what stands in the table.
     pub fn snapshot(&mut self)
-        requires tracked { IsTracked self.old }
-        ensures tracked { IsTracked self.new }
-        ensures entries { self.new.entries.items ≡ self.old.entries.items }
-        ensures kept { kept_in self.new ≡ self.old.entries.items }
-        ensures whole { self.new.kept.items ≡ self.old.entries.items }
-        ensures cleared { (k : ℕ) → in_set self.new.touched k ≡ false }
-        ensures room { length self.new.touched ≡ length self.old.touched }
+        ensures entries { self.new.entries ≡ self.old.entries }
+        ensures kept { self.new.kept ≡ self.old.entries }
+        ensures whole { self.new.whole ≡ self.old.entries }
+        ensures room { self.new.room ≡ self.old.room }
     {
-        catch_up(&mut self.kept, &self.entries, self.touched.places());
+        catch_up(&mut self.whole, &self.entries, self.touched.places());
         self.size = self.entries.len();
         self.touched.clear();
     }
 
     /// Brings back what was kept.
     pub fn bring_back(&mut self)
-        requires tracked { IsTracked self.old }
-        requires as_many { self.old.size ≡ length self.old.entries.items }
-        ensures tracked { IsTracked self.new }
-        ensures entries { self.new.entries.items ≡ kept_in self.old }
-        ensures kept { kept_in self.new ≡ kept_in self.old }
-        ensures whole { self.new.kept ≡ self.old.kept }
-        ensures cleared { (k : ℕ) → in_set self.new.touched k ≡ false }
-        ensures room { length self.new.touched ≡ length self.old.touched }
+        requires as_many { length self.old.kept ≡ length self.old.entries }
+        ensures none_added { self.old.whole ≡ self.old.kept }
+        ensures entries { self.new.entries ≡ self.old.kept }
+        ensures kept { self.new.kept ≡ self.old.kept }
+        ensures whole { self.new.whole ≡ self.old.whole }
+        ensures room { self.new.room ≡ self.old.room }
     {
-        catch_up(&mut self.entries, &self.kept, self.touched.places());
+        catch_up(&mut self.entries, &self.whole, self.touched.places());
         self.touched.clear();
     }
 
     /// Adds an entry at the end.
     pub fn push(&mut self, value: T)
-        requires tracked { IsTracked self.old }
-        requires room { length self.old.entries.items < length self.old.touched }
-        ensures tracked { IsTracked self.new }
-        ensures entries { self.new.entries.items ≡ self.old.entries.items ++ value ∷ [] }
-        ensures kept { kept_in self.new ≡ kept_in self.old }
-        ensures whole { self.new.kept.items ≡ self.old.kept.items ++ value ∷ [] }
-        ensures room { length self.new.touched ≡ length self.old.touched }
+        requires room { length self.old.entries < self.old.room }
+        ensures entries { self.new.entries ≡ self.old.entries ++ value ∷ [] }
+        ensures kept { self.new.kept ≡ self.old.kept }
+        ensures whole { self.new.whole ≡ self.old.whole ++ value ∷ [] }
+        ensures room { self.new.room ≡ self.old.room }
     {
         let Ok(()) = self.entries.push(value) else {
             unreachable!()
         };
-        let Ok(()) = self.kept.push(value) else {
+        let Ok(()) = self.whole.push(value) else {
             unreachable!()
         };
     }
 
     /// Takes the last entry off. What was kept stays, unless it was the last entry of that.
     pub fn pop(&mut self) -> T
-        requires tracked { IsTracked self.old }
-        requires some { 0 < length self.old.entries.items }
-        ensures tracked { IsTracked self.new }
-        ensures entries { self.old.entries.items ≡ self.new.entries.items ++ result ∷ [] }
-        ensures kept { self.old.size < length self.old.entries.items → kept_in self.new ≡ kept_in self.old }
-        ensures whole { self.new.kept.items ≡ take (length self.new.entries.items) self.old.kept.items }
-        ensures room { length self.new.touched ≡ length self.old.touched }
+        requires some { 0 < length self.old.entries }
+        ensures entries { self.old.entries ≡ self.new.entries ++ result ∷ [] }
+        ensures kept { length self.old.kept < length self.old.entries → self.new.kept ≡ self.old.kept }
+        ensures whole { self.new.whole ≡ take (length self.new.entries) self.old.whole }
+        ensures room { self.new.room ≡ self.old.room }
     {
         let Some(last) = self.entries.pop() else {
             unreachable!()
         };
-        let _ = self.kept.pop();
+        let _ = self.whole.pop();
         self.size = self.size.min(self.entries.len());
         last
-    }
-
-    /// What was kept.
-    pub fn before(&self) -> &[T]
-        requires { IsTracked self.now }
-        ensures { result.now ≡ kept_in self.now }
-    {
-        &self.kept[..self.size]
     }
 }
 

@@ -1,7 +1,7 @@
 -- How the excess and the cost of a flow follow it from one change to the next.
 use Rattle.std.proofs.Common.{◌≡◌, ◌≢◌, ℕ, zero, suc, ◌+◌, ◌<◌, ◌≤◌, ◌^◌, ◌*◌, ◌%◌, ℤ, pos, ◌+ℤ◌, ◌-ℤ◌, ◌*ℤ◌, ◌≤ℤ◌, neg_ℤ, List, [], ◌∷◌, ◌++◌, length, refl, sym, ap, subst, ◌∙◌, inl, inr, arith, FitsSigned, Bool, true, false, cond, eqb, unsigned_abs, take, add-one, mul-le-mul, true≢false}
-use Rattle.std.specs.Prelude.{slice_index_or, slice_set}
-use Rattle.std.specs.List.{All, AllPairs, Any}
+use Rattle.std.specs.Prelude.{◌⊎◌, slice_index_or, slice_set}
+use Rattle.std.specs.List.{AllPairs}
 use Rattle.std.specs.Int.{int_wrap, w64, w128, cast_signed, cast_unsigned}
 use lib.IntN.{*ℤ_comm}
 use mir.Syntax.{Width}
@@ -18,7 +18,7 @@ use Rattle.network.proofs.RunningSums.{abs-add}
 use Rattle.augmentation.specs.Limits.{cap_sum_limit}
 use Rattle.residual_graph.specs.Residual.{IsPseudoflow, IsRow, IsWithinRow, row_at, number_at}
 use Rattle.augmentation.specs.Nodes.{held}
-use Rattle.augmentation.specs.Cut.{in_set}
+use Rattle.augmentation.specs.Touched.{NameChanges}
 use Rattle.augmentation.specs.Push.{AreSmall, AreSupplies, IsExcess, at_node, cap_total}
 use Rattle.flow_solver.specs.Balance.{IsCarried, IsRaised, IsWrappedCost, IsWrappedExcess, gain}
 use Rattle.flow_solver.proofs.ExcessLemmas.{AreWithinCaps, caps_of_flow, flow_in-bounds, flow_in-more, flow_out-bounds, flow_out-more, small_within}
@@ -309,15 +309,34 @@ module _ (places : List ℕ) (before after : List ℤ) (j : ℕ) (z : List ℤ) 
       excess_set arcs supply z e f (slice_index_or places j 0) (number_at after (slice_index_or places j 0)) lt (part.same_length ∙ sized)
       (subst (λ (m : ℤ). IsCarried (row_at arcs (slice_index_or places j 0)) m (number_at after (slice_index_or places j 0)) e f) (sym next_is) carried) is
 
--- at the end of the way the tables agree
-pub part_ends : (noted : List Bool) (places : List ℕ) (before after : List ℤ) (j : ℕ) (z : List ℤ) → length places ≤ j → j ≤ length places → length after ≡ length before → ((k : ℕ) → in_set noted k ≡ true → Any (λ p. p ≡ k) places) → All (λ p. in_set noted p ≡ true) places → ((k : ℕ) → in_set noted k ≡ false → number_at after k ≡ number_at before k) → IsPartWay places before after j z → z ≡ after
-part_ends noted places before after j z all in_places sized listed only elsewhere part =
-    ext_get_or (pos 0) z after (part.same_length ∙ sym sized) (λ k lt. by_mark k (in_set noted k) refl)
-  where
-    by_mark : (k : ℕ) (b : Bool) → in_set noted k ≡ b → number_at z k ≡ number_at after k
-    by_mark k true e =
-        let there = listed k e in
-        let place : slice_index_or places there.0 0 ≡ k = get_or_default places there.0 0 there.1 there.2 ∙ there.3 ∙ there.4 in
-        subst (λ (q : ℕ). number_at z q ≡ number_at after q) place (part.taken there.0 (omega (arith, there.2)))
-    by_mark k false e =
-        part.others k (λ i lt same. true≢false (sym (subst (λ (q : ℕ). in_set noted q ≡ true) same (only i 0 (omega arith))) ∙ e)) ∙ sym (elsewhere k e)
+-- whether a place is among the first j
+placed_or_not : (places : List ℕ) (j k : ℕ) → ((i : ℕ) × (i < j) × (slice_index_or places i 0 ≡ k)) ⊎ ((i : ℕ) → i < j → slice_index_or places i 0 ≢ k)
+placed_or_not places zero k = inr (λ i lt. absurd (omega (arith, lt)))
+placed_or_not places (suc j) k = elim (cases_eq (slice_index_or places j 0) k) [
+  | inl same ↦ inl (j, omega arith, same)
+  | inr other ↦ elim (placed_or_not places j k) [
+    | inl at ↦ inl (at.0, omega (arith, at.1), at.2)
+    | inr none ↦ inr (λ i lt same. elim (cases_eq i j) [
+      | inl last ↦ other (subst (λ (q : ℕ). slice_index_or places q 0 ≡ k) last same)
+      | inr ne ↦ none i (omega (arith, lt, ne)) same
+    ])
+  ]
+]
+
+-- at the end of the way the tables agree, where the places name each one at which they differ
+pub part_ends : (places : List ℕ) (before after : List ℤ) (j : ℕ) (z : List ℤ) → length places ≤ j → length after ≡ length before → NameChanges 0 places before after → IsPartWay places before after j z → z ≡ after
+part_ends places before after j z all sized named part =
+    ext_get_or (pos 0) z after (part.same_length ∙ sym sized) (λ k lt. elim (placed_or_not places j k) [
+      | inl at ↦ subst (λ (q : ℕ). number_at z q ≡ number_at after q) at.2 (part.taken at.0 at.1)
+      | inr none ↦ elim (named k (omega (arith, lt, part.same_length))) [
+        | inl any ↦ absurd (none any.0 (omega (arith, any.2, all)) (get_or_default places any.0 0 any.1 any.2 ∙ any.3 ∙ (omega (arith, any.4))))
+        | inr agree ↦ part.others k none ∙ sym (agree (pos 0))
+      ]
+    ])
+
+-- what names the changes from one table to another names those back
+pub named_back : (places : List ℕ) (xs ys : List ℤ) → length xs ≡ length ys → NameChanges 0 places xs ys → NameChanges 0 places ys xs
+named_back places xs ys sized named = λ k lt. elim (named k (omega (arith, lt, sized))) [
+  | inl any ↦ inl any
+  | inr agree ↦ inr (λ d. sym (agree d))
+]

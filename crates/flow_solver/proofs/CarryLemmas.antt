@@ -2,19 +2,18 @@
 use Rattle.std.proofs.Common.{◌≡◌, ℕ, ◌+◌, ◌-◌, ◌<◌, ◌≤◌, ℤ, pos, ◌+ℤ◌, ◌-ℤ◌, ◌*ℤ◌, List, [], ◌∷◌, ◌++◌, length, take, slice_index_or, slice_set, refl, sym, ap, subst, ◌∙◌, inl, inr, arith}
 use Rattle.std.specs.Int.{int_wrap, w128}
 use Rattle.std.proofs.lemmas.Int.{ints}
-use Rattle.std.proofs.lemmas.List.{length-append, take_all, take_more}
+use Rattle.std.proofs.lemmas.List.{length-append, length-take-le, take_all, take_more}
 use Rattle.dimacs_text.specs.declared.problem.ArcRow.{ArcRow}
 use Rattle.dimacs_text.specs.declared.problem.Kind.TheVariants.{Min}
 use Rattle.network.specs.Flow.{total_cost}
 use Rattle.network.specs.Instance.{Demand, Supplies, Terminals, Sides, Instance, IsLawful, kind_of, reduced, reduced_arcs, reduced_supply}
 use Rattle.flow_solver.specs.declared.balance.Balance.{Balance}
-use Rattle.augmentation.specs.declared.tracked.Tracked.{Tracked}
 use Rattle.flow_solver.specs.Balance.{AreEndsIn, IsBalanceOf, IsCarried, IsRaised, IsWrappedCost, IsWrappedExcess}
 use Rattle.augmentation.specs.Nodes.{held}
 use Rattle.augmentation.specs.Push.{at_node}
 use Rattle.residual_graph.specs.Residual.{IsRow, row_at, number_at}
 use Rattle.flow_solver.specs.TablesView.{flow_index}
-use Rattle.augmentation.specs.Tracked.{IsTracked, kept_in}
+use Rattle.augmentation.specs.Tracked.{TrackedView}
 use Rattle.flow_solver.proofs.BalanceLemmas.{cost_first, cost_last, cost_row, excess_first, excess_last, excess_row, excess_set, excess_supplied}
 use Rattle.residual_graph.proofs.GraphLemmas.{with_last, with_row}
 use Rattle.flow_solver.proofs.ChangeLemmas.{place_in, row_is, rows_changed, rows_more, supplied, supply_at}
@@ -41,24 +40,24 @@ raised_as u x x' y y' e f befores afters raised =
     (subst (λ (n : ℤ). IsRaised u x' n e f) afters raised)
 
 -- the flow of one arc changes
-pub balance_set : (I : Instance) (rows : List ArcRow) (flow flow' : Tracked ℤ) (b b' : Balance) (k : ℕ) (y : ℤ) → k < length rows → length flow.entries.items ≡ length rows → IsCarried (row_at rows k) (number_at flow.entries.items k) y b.excess b'.excess → b'.cost ≡ b.cost → flow'.entries.items ≡ slice_set flow.entries.items k y → flow'.kept ≡ flow.kept → IsBalanceOf I rows flow b → IsBalanceOf I rows flow' b'
+pub balance_set : (I : Instance) (rows : List ArcRow) (flow flow' : TrackedView ℤ) (b b' : Balance) (k : ℕ) (y : ℤ) → k < length rows → length flow.entries ≡ length rows → IsCarried (row_at rows k) (number_at flow.entries k) y b.excess b'.excess → b'.cost ≡ b.cost → flow'.entries ≡ slice_set flow.entries k y → flow'.whole ≡ flow.whole → IsBalanceOf I rows flow b → IsBalanceOf I rows flow' b'
 balance_set I rows flow flow' b b' k y lt many carried same_cost written kept is = record {
   sized = carried.same_length ∙ is.sized;
-  excess = subst (λ (x : List ℤ). IsWrappedExcess rows (sends I) x b'.excess) (sym written) (excess_set rows (sends I) flow.entries.items b.excess b'.excess k y lt many carried is.excess);
-  cost = same_cost ∙ is.cost ∙ ap (λ v. int_wrap w128 (total_cost rows v.items)) (sym kept);
+  excess = subst (λ (x : List ℤ). IsWrappedExcess rows (sends I) x b'.excess) (sym written) (excess_set rows (sends I) flow.entries b.excess b'.excess k y lt many carried is.excess);
+  cost = same_cost ∙ is.cost ∙ ap (λ (x : List ℤ). int_wrap w128 (total_cost rows x)) (sym kept);
 }
 
 -- another row with the same ends
-pub balance_row : (I J : Instance) (rows rows' : List ArcRow) (flow : Tracked ℤ) (b b' : Balance) (k : ℕ) (row : ArcRow) → k < length rows → length flow.entries.items ≡ length rows → length flow.kept.items ≡ length rows → row.tail ≡ (row_at rows k).tail → row.head ≡ (row_at rows k).head → rows' ≡ slice_set rows k row → J.nodes ≡ I.nodes → J.demand ≡ I.demand → b'.excess ≡ b.excess → b'.cost ≡ int_wrap w128 (b.cost +ℤ (row.cost -ℤ (row_at rows k).cost) *ℤ number_at flow.kept.items k) → IsBalanceOf I rows flow b → IsBalanceOf J rows' flow b'
+pub balance_row : (I J : Instance) (rows rows' : List ArcRow) (flow : TrackedView ℤ) (b b' : Balance) (k : ℕ) (row : ArcRow) → k < length rows → length flow.entries ≡ length rows → length flow.whole ≡ length rows → row.tail ≡ (row_at rows k).tail → row.head ≡ (row_at rows k).head → rows' ≡ slice_set rows k row → J.nodes ≡ I.nodes → J.demand ≡ I.demand → b'.excess ≡ b.excess → b'.cost ≡ int_wrap w128 (b.cost +ℤ (row.cost -ℤ (row_at rows k).cost) *ℤ number_at flow.whole k) → IsBalanceOf I rows flow b → IsBalanceOf J rows' flow b'
 balance_row I J rows rows' flow b b' k row lt many as_many tail head rows_are nodes demand same_excess cost is =
-    let excess = excess_row rows (sends I) flow.entries.items b.excess k row lt many tail head is.excess in
-    let other = subst (λ (r : List ArcRow). IsWrappedExcess r (sends I) flow.entries.items b.excess) (sym rows_are) excess in
+    let excess = excess_row rows (sends I) flow.entries b.excess k row lt many tail head is.excess in
+    let other = subst (λ (r : List ArcRow). IsWrappedExcess r (sends I) flow.entries b.excess) (sym rows_are) excess in
     let one : held J.nodes (reduced J).supply ≡ held I.nodes (reduced J).supply = ap (λ (n : ℕ). held n (reduced J).supply) nodes in
     let same : sends J ≡ sends I = one ∙ ap (λ d. held I.nodes (reduced_supply d)) demand in
     record {
       sized = ap (λ (e : List ℤ). length e) same_excess ∙ is.sized ∙ ap (λ (n : ℕ). n + 1) (sym nodes);
-      excess = subst (λ (e : List ℤ). IsWrappedExcess rows' (sends J) flow.entries.items e) (sym same_excess) (subst (λ (s : ℕ → ℤ). IsWrappedExcess rows' s flow.entries.items b.excess) (sym same) other);
-      cost = subst (λ (r : List ArcRow). IsWrappedCost r flow.kept.items b'.cost) (sym rows_are) (cost_row rows flow.kept.items b.cost b'.cost k row lt as_many cost is.cost);
+      excess = subst (λ (e : List ℤ). IsWrappedExcess rows' (sends J) flow.entries e) (sym same_excess) (subst (λ (s : ℕ → ℤ). IsWrappedExcess rows' s flow.entries b.excess) (sym same) other);
+      cost = subst (λ (r : List ArcRow). IsWrappedCost r flow.whole b'.cost) (sym rows_are) (cost_row rows flow.whole b.cost b'.cost k row lt as_many cost is.cost);
     }
 
 -- one node has another supply
@@ -71,62 +70,60 @@ sends_supplied I v z lawful kind node w = elim (is_node_or_not I.nodes w) [
       omega (arith, ints))
 ]
 
-pub balance_supplied : (I : Instance) (rows : List ArcRow) (flow : Tracked ℤ) (b b' : Balance) (v : ℕ) (z : ℤ) → IsLawful I → kind_of I.demand ≡ Min → IsNodeOf I.nodes v → IsRaised v ((reduced I).supply v) z b.excess b'.excess → b'.cost ≡ b.cost → IsBalanceOf I rows flow b → IsBalanceOf (supplied I v z) rows flow b'
+pub balance_supplied : (I : Instance) (rows : List ArcRow) (flow : TrackedView ℤ) (b b' : Balance) (v : ℕ) (z : ℤ) → IsLawful I → kind_of I.demand ≡ Min → IsNodeOf I.nodes v → IsRaised v ((reduced I).supply v) z b.excess b'.excess → b'.cost ≡ b.cost → IsBalanceOf I rows flow b → IsBalanceOf (supplied I v z) rows flow b'
 balance_supplied I rows flow b b' v z lawful kind node raised same_cost is = record {
   sized = raised.same_length ∙ is.sized;
-  excess = excess_supplied rows (sends I) (sends (supplied I v z)) flow.entries.items b.excess b'.excess v ((reduced I).supply v) z (sends_supplied I v z lawful kind node) raised is.excess;
+  excess = excess_supplied rows (sends I) (sends (supplied I v z)) flow.entries b.excess b'.excess v ((reduced I).supply v) z (sends_supplied I v z lawful kind node) raised is.excess;
   cost = same_cost ∙ is.cost;
 }
 
 -- one more arc, with its flow
-pub balance_last : (I J : Instance) (rows rows' : List ArcRow) (flow flow' : Tracked ℤ) (b b' : Balance) (row : ArcRow) (y : ℤ) → length flow.entries.items ≡ length rows → length flow.kept.items ≡ length rows → rows' ≡ rows ++ row ∷ [] → flow'.entries.items ≡ flow.entries.items ++ y ∷ [] → flow'.kept.items ≡ flow.kept.items ++ y ∷ [] → J.nodes ≡ I.nodes → J.demand ≡ I.demand → IsCarried row (pos 0) y b.excess b'.excess → b'.cost ≡ int_wrap w128 (b.cost +ℤ (y -ℤ pos 0) *ℤ row.cost) → IsBalanceOf I rows flow b → IsBalanceOf J rows' flow' b'
+pub balance_last : (I J : Instance) (rows rows' : List ArcRow) (flow flow' : TrackedView ℤ) (b b' : Balance) (row : ArcRow) (y : ℤ) → length flow.entries ≡ length rows → length flow.whole ≡ length rows → rows' ≡ rows ++ row ∷ [] → flow'.entries ≡ flow.entries ++ y ∷ [] → flow'.whole ≡ flow.whole ++ y ∷ [] → J.nodes ≡ I.nodes → J.demand ≡ I.demand → IsCarried row (pos 0) y b.excess b'.excess → b'.cost ≡ int_wrap w128 (b.cost +ℤ (y -ℤ pos 0) *ℤ row.cost) → IsBalanceOf I rows flow b → IsBalanceOf J rows' flow' b'
 balance_last I J rows rows' flow flow' b b' row y many as_many rows_are entries kept nodes demand carried cost is =
     let one : held J.nodes (reduced J).supply ≡ held I.nodes (reduced J).supply = ap (λ (n : ℕ). held n (reduced J).supply) nodes in
     let same : sends J ≡ sends I = one ∙ ap (λ d. held I.nodes (reduced_supply d)) demand in
     record {
       sized = carried.same_length ∙ is.sized ∙ ap (λ (n : ℕ). n + 1) (sym nodes);
-      excess = subst (λ (s : ℕ → ℤ). IsWrappedExcess rows' s flow'.entries.items b'.excess) (sym same)
-          (subst (λ (r : List ArcRow). IsWrappedExcess r (sends I) flow'.entries.items b'.excess) (sym rows_are)
+      excess = subst (λ (s : ℕ → ℤ). IsWrappedExcess rows' s flow'.entries b'.excess) (sym same)
+          (subst (λ (r : List ArcRow). IsWrappedExcess r (sends I) flow'.entries b'.excess) (sym rows_are)
           (subst (λ (x : List ℤ). IsWrappedExcess (rows ++ row ∷ []) (sends I) x b'.excess) (sym entries)
-          (excess_last rows (sends I) flow.entries.items b.excess b'.excess row y many carried is.excess)));
-      cost = subst (λ (r : List ArcRow). IsWrappedCost r flow'.kept.items b'.cost) (sym rows_are)
+          (excess_last rows (sends I) flow.entries b.excess b'.excess row y many carried is.excess)));
+      cost = subst (λ (r : List ArcRow). IsWrappedCost r flow'.whole b'.cost) (sym rows_are)
           (subst (λ (x : List ℤ). IsWrappedCost (rows ++ row ∷ []) x b'.cost) (sym kept)
-          (cost_last rows flow.kept.items b.cost b'.cost row y as_many cost is.cost));
+          (cost_last rows flow.whole b.cost b'.cost row y as_many cost is.cost));
     }
 
 -- the last arc is taken off
-pub balance_first : (I J : Instance) (rows rows' : List ArcRow) (flow flow' : Tracked ℤ) (b b' : Balance) (row : ArcRow) (y z : ℤ) → length flow'.entries.items ≡ length rows' → length flow'.kept.items ≡ length rows' → rows ≡ rows' ++ row ∷ [] → flow.entries.items ≡ flow'.entries.items ++ y ∷ [] → flow.kept.items ≡ flow'.kept.items ++ z ∷ [] → J.nodes ≡ I.nodes → J.demand ≡ I.demand → IsCarried row y (pos 0) b.excess b'.excess → b'.cost ≡ int_wrap w128 (b.cost +ℤ (pos 0 -ℤ z) *ℤ row.cost) → IsBalanceOf I rows flow b → IsBalanceOf J rows' flow' b'
+pub balance_first : (I J : Instance) (rows rows' : List ArcRow) (flow flow' : TrackedView ℤ) (b b' : Balance) (row : ArcRow) (y z : ℤ) → length flow'.entries ≡ length rows' → length flow'.whole ≡ length rows' → rows ≡ rows' ++ row ∷ [] → flow.entries ≡ flow'.entries ++ y ∷ [] → flow.whole ≡ flow'.whole ++ z ∷ [] → J.nodes ≡ I.nodes → J.demand ≡ I.demand → IsCarried row y (pos 0) b.excess b'.excess → b'.cost ≡ int_wrap w128 (b.cost +ℤ (pos 0 -ℤ z) *ℤ row.cost) → IsBalanceOf I rows flow b → IsBalanceOf J rows' flow' b'
 balance_first I J rows rows' flow flow' b b' row y z many as_many rows_are entries kept nodes demand carried cost is =
     let one : held J.nodes (reduced J).supply ≡ held I.nodes (reduced J).supply = ap (λ (n : ℕ). held n (reduced J).supply) nodes in
     let same : sends J ≡ sends I = one ∙ ap (λ d. held I.nodes (reduced_supply d)) demand in
     record {
       sized = carried.same_length ∙ is.sized ∙ ap (λ (n : ℕ). n + 1) (sym nodes);
-      excess = subst (λ (s : ℕ → ℤ). IsWrappedExcess rows' s flow'.entries.items b'.excess) (sym same)
-          (excess_first rows' (sends I) flow'.entries.items b.excess b'.excess row y many carried
+      excess = subst (λ (s : ℕ → ℤ). IsWrappedExcess rows' s flow'.entries b'.excess) (sym same)
+          (excess_first rows' (sends I) flow'.entries b.excess b'.excess row y many carried
           (subst (λ (x : List ℤ). IsWrappedExcess (rows' ++ row ∷ []) (sends I) x b.excess) entries
-          (subst (λ (r : List ArcRow). IsWrappedExcess r (sends I) flow.entries.items b.excess) rows_are is.excess)));
-      cost = cost_first rows' flow'.kept.items b.cost b'.cost row z as_many cost
+          (subst (λ (r : List ArcRow). IsWrappedExcess r (sends I) flow.entries b.excess) rows_are is.excess)));
+      cost = cost_first rows' flow'.whole b.cost b'.cost row z as_many cost
           (subst (λ (x : List ℤ). IsWrappedCost (rows' ++ row ∷ []) x b.cost) kept
-          (subst (λ (r : List ArcRow). IsWrappedCost r flow.kept.items b.cost) rows_are is.cost));
+          (subst (λ (r : List ArcRow). IsWrappedCost r flow.whole b.cost) rows_are is.cost));
     }
 
 -- what stands in the table is kept
-pub balance_kept : (I : Instance) (rows : List ArcRow) (flow flow' : Tracked ℤ) (b b' : Balance) → flow'.entries.items ≡ flow.entries.items → flow'.kept.items ≡ flow.entries.items → b'.excess ≡ b.excess → IsWrappedCost rows flow.entries.items b'.cost → IsBalanceOf I rows flow b → IsBalanceOf I rows flow' b'
+pub balance_kept : (I : Instance) (rows : List ArcRow) (flow flow' : TrackedView ℤ) (b b' : Balance) → flow'.entries ≡ flow.entries → flow'.whole ≡ flow.entries → b'.excess ≡ b.excess → IsWrappedCost rows flow.entries b'.cost → IsBalanceOf I rows flow b → IsBalanceOf I rows flow' b'
 balance_kept I rows flow flow' b b' entries kept same_excess cost is = record {
   sized = ap (λ (e : List ℤ). length e) same_excess ∙ is.sized;
-  excess = subst (λ (e : List ℤ). IsWrappedExcess rows (sends I) flow'.entries.items e) (sym same_excess) (subst (λ (x : List ℤ). IsWrappedExcess rows (sends I) x b.excess) (sym entries) is.excess);
+  excess = subst (λ (e : List ℤ). IsWrappedExcess rows (sends I) flow'.entries e) (sym same_excess) (subst (λ (x : List ℤ). IsWrappedExcess rows (sends I) x b.excess) (sym entries) is.excess);
   cost = subst (λ (x : List ℤ). IsWrappedCost rows x b'.cost) (sym kept) cost;
 }
 
 -- what was kept comes back
-pub balance_back : (I : Instance) (rows : List ArcRow) (flow flow' : Tracked ℤ) (b b' : Balance) → IsTracked flow → flow.size ≡ length flow.entries.items → flow'.entries.items ≡ kept_in flow → flow'.kept ≡ flow.kept → length b'.excess ≡ length b.excess → IsWrappedExcess rows (sends I) flow.kept.items b'.excess → b'.cost ≡ b.cost → IsBalanceOf I rows flow b → IsBalanceOf I rows flow' b'
-balance_back I rows flow flow' b b' tracked size entries kept same_length excess same_cost is =
-    let all : kept_in flow ≡ flow.kept.items = take_all flow.size flow.kept.items (omega (arith, tracked.same_length)) in
-    record {
-      sized = same_length ∙ is.sized;
-      excess = subst (λ (x : List ℤ). IsWrappedExcess rows (sends I) x b'.excess) (sym (entries ∙ all)) excess;
-      cost = same_cost ∙ is.cost ∙ ap (λ v. int_wrap w128 (total_cost rows v.items)) (sym kept);
-    }
+pub balance_back : (I : Instance) (rows : List ArcRow) (flow flow' : TrackedView ℤ) (b b' : Balance) → flow.whole ≡ flow.kept → flow'.entries ≡ flow.kept → flow'.whole ≡ flow.whole → length b'.excess ≡ length b.excess → IsWrappedExcess rows (sends I) flow.whole b'.excess → b'.cost ≡ b.cost → IsBalanceOf I rows flow b → IsBalanceOf I rows flow' b'
+balance_back I rows flow flow' b b' all entries kept same_length excess same_cost is = record {
+  sized = same_length ∙ is.sized;
+  excess = subst (λ (x : List ℤ). IsWrappedExcess rows (sends I) x b'.excess) (all ∙ sym entries) excess;
+  cost = same_cost ∙ is.cost ∙ ap (λ (x : List ℤ). int_wrap w128 (total_cost rows x)) (sym kept);
+}
 
 -- the ends of an arc of the instance are entries of the table
 pub ends_in : (I : Instance) (rows : List ArcRow) (b : Balance) → IsLawful I → rows ≡ (reduced I).arcs → length b.excess ≡ I.nodes + 1 → AreEndsIn (length b.excess) rows
@@ -156,7 +153,7 @@ place_is I rows k place same at is =
     }
 
 -- the row of a numbered arc becomes another with the same ends
-pub balance_swapped : (I J : Instance) (rows rows' : List ArcRow) (flow : Tracked ℤ) (b b' : Balance) (k place : ℕ) (row : ArcRow) → 1 ≤ k → IsPlace I rows k place → rows ≡ (reduced I).arcs → rows' ≡ (reduced J).arcs → J ≡ with_row I (k - 1) row → row.tail ≡ (slice_index_or I.arcs (k - 1) row).tail → row.head ≡ (slice_index_or I.arcs (k - 1) row).head → length flow.entries.items ≡ length rows → length flow.kept.items ≡ length rows → b'.excess ≡ b.excess → b'.cost ≡ int_wrap w128 (b.cost +ℤ (row.cost -ℤ (row_at rows place).cost) *ℤ number_at flow.kept.items place) → IsBalanceOf I rows flow b → IsBalanceOf J rows' flow b'
+pub balance_swapped : (I J : Instance) (rows rows' : List ArcRow) (flow : TrackedView ℤ) (b b' : Balance) (k place : ℕ) (row : ArcRow) → 1 ≤ k → IsPlace I rows k place → rows ≡ (reduced I).arcs → rows' ≡ (reduced J).arcs → J ≡ with_row I (k - 1) row → row.tail ≡ (slice_index_or I.arcs (k - 1) row).tail → row.head ≡ (slice_index_or I.arcs (k - 1) row).head → length flow.entries ≡ length rows → length flow.whole ≡ length rows → b'.excess ≡ b.excess → b'.cost ≡ int_wrap w128 (b.cost +ℤ (row.cost -ℤ (row_at rows place).cost) *ℤ number_at flow.whole place) → IsBalanceOf I rows flow b → IsBalanceOf J rows' flow b'
 balance_swapped I J rows rows' flow b b' k place row one there before after other tail head many as_many same_excess cost is =
     let set : slice_set (reduced I).arcs (flow_index I.demand k) row ≡ slice_set rows place row = ap (λ (n : ℕ). slice_set (reduced I).arcs n row) (sym there.index_is) ∙ ap (λ (r : List ArcRow). slice_set r place row) (sym before) in
     let rows_are : rows' ≡ slice_set rows place row = after ∙ ap (λ (K : Instance). (reduced K).arcs) other ∙ sym (rows_changed I k row one) ∙ set in
@@ -174,28 +171,29 @@ last_is [] y d = refl
 last_is (x ∷ xs) y d = last_is xs y d
 
 -- the balance of an instance with an arc more
-pub balance_put : (I J : Instance) (rows rows' : List ArcRow) (flow flow' : Tracked ℤ) (b b' : Balance) (row : ArcRow) (y : ℤ) → rows ≡ (reduced I).arcs → rows' ≡ (reduced J).arcs → J ≡ with_last I row → length flow.entries.items ≡ length rows → length flow.kept.items ≡ length rows → flow'.entries.items ≡ flow.entries.items ++ y ∷ [] → flow'.kept.items ≡ flow.kept.items ++ y ∷ [] → IsCarried row (pos 0) y b.excess b'.excess → b'.cost ≡ int_wrap w128 (b.cost +ℤ (y -ℤ pos 0) *ℤ row.cost) → IsBalanceOf I rows flow b → IsBalanceOf J rows' flow' b'
+pub balance_put : (I J : Instance) (rows rows' : List ArcRow) (flow flow' : TrackedView ℤ) (b b' : Balance) (row : ArcRow) (y : ℤ) → rows ≡ (reduced I).arcs → rows' ≡ (reduced J).arcs → J ≡ with_last I row → length flow.entries ≡ length rows → length flow.whole ≡ length rows → flow'.entries ≡ flow.entries ++ y ∷ [] → flow'.whole ≡ flow.whole ++ y ∷ [] → IsCarried row (pos 0) y b.excess b'.excess → b'.cost ≡ int_wrap w128 (b.cost +ℤ (y -ℤ pos 0) *ℤ row.cost) → IsBalanceOf I rows flow b → IsBalanceOf J rows' flow' b'
 balance_put I J rows rows' flow flow' b b' row y before after other many as_many entries kept carried cost is =
     balance_last I J rows rows' flow flow' b b' row y many as_many (after ∙ ap (λ (K : Instance). (reduced K).arcs) other ∙ sym (rows_more I row) ∙ ap (λ (r : List ArcRow). r ++ row ∷ []) (sym before)) entries kept
     (ap (λ (K : Instance). K.nodes) other) (ap (λ (K : Instance). K.demand) other) carried cost is
 
 -- the balance of an instance without its last arc
-pub balance_dropped : (I J : Instance) (rows rows' : List ArcRow) (flow flow' : Tracked ℤ) (b b' : Balance) (row : ArcRow) (y : ℤ) (last : ℕ) → rows ≡ (reduced I).arcs → rows' ≡ (reduced J).arcs → I ≡ with_last J row → IsTracked flow' → length flow.entries.items ≡ length rows → length flow.kept.items ≡ length rows → flow.entries.items ≡ flow'.entries.items ++ y ∷ [] → flow'.kept.items ≡ take (length flow'.entries.items) flow.kept.items → last ≡ length rows - 1 → IsCarried (row_at rows last) (number_at flow.entries.items last) (pos 0) b.excess b'.excess → b'.cost ≡ int_wrap w128 (b.cost +ℤ (pos 0 -ℤ number_at flow.kept.items last) *ℤ (row_at rows last).cost) → IsBalanceOf I rows flow b → IsBalanceOf J rows' flow' b'
-balance_dropped I J rows rows' flow flow' b b' row y last before after other tracked sized as_sized entries whole last_at carried cost is =
-    let n = length flow'.entries.items in
-    let z = number_at flow.kept.items last in
+pub balance_dropped : (I J : Instance) (rows rows' : List ArcRow) (flow flow' : TrackedView ℤ) (b b' : Balance) (row : ArcRow) (y : ℤ) (last : ℕ) → rows ≡ (reduced I).arcs → rows' ≡ (reduced J).arcs → I ≡ with_last J row → length flow.entries ≡ length rows → length flow.whole ≡ length rows → flow.entries ≡ flow'.entries ++ y ∷ [] → flow'.whole ≡ take (length flow'.entries) flow.whole → last ≡ length rows - 1 → IsCarried (row_at rows last) (number_at flow.entries last) (pos 0) b.excess b'.excess → b'.cost ≡ int_wrap w128 (b.cost +ℤ (pos 0 -ℤ number_at flow.whole last) *ℤ (row_at rows last).cost) → IsBalanceOf I rows flow b → IsBalanceOf J rows' flow' b'
+balance_dropped I J rows rows' flow flow' b b' row y last before after other sized as_sized entries whole last_at carried cost is =
+    let n = length flow'.entries in
+    let z = number_at flow.whole last in
     let rows_are : rows ≡ rows' ++ row ∷ [] = before ∙ ap (λ (K : Instance). (reduced K).arcs) other ∙ sym (rows_more J row) ∙ ap (λ (r : List ArcRow). r ++ row ∷ []) (sym after) in
     let one_more : length rows ≡ length rows' + 1 = ap (λ (r : List ArcRow). length r) rows_are ∙ length-append rows' (row ∷ []) in
-    let one_flow_more : length flow.entries.items ≡ length flow'.entries.items + 1 = ap (λ (x : List ℤ). length x) entries ∙ length-append flow'.entries.items (y ∷ []) in
+    let one_flow_more : length flow.entries ≡ length flow'.entries + 1 = ap (λ (x : List ℤ). length x) entries ∙ length-append flow'.entries (y ∷ []) in
     let at_rows : last ≡ length rows' = omega (arith, last_at, one_more) in
-    let many : length flow'.entries.items ≡ length rows' = omega (arith, one_more, one_flow_more, sized) in
-    let at_flow : last ≡ length flow'.entries.items = at_rows ∙ sym many in
+    let many : length flow'.entries ≡ length rows' = omega (arith, one_more, one_flow_more, sized) in
+    let at_flow : last ≡ length flow'.entries = at_rows ∙ sym many in
     let row_is : row_at rows last ≡ row = ap (row_at rows) at_rows ∙ ap (λ (r : List ArcRow). row_at r (length rows')) rows_are ∙ last_is rows' row _ in
-    let entry_is : number_at flow.entries.items last ≡ y = ap (number_at flow.entries.items) at_flow ∙ ap (λ (x : List ℤ). number_at x (length flow'.entries.items)) entries ∙ last_is flow'.entries.items y (pos 0) in
-    let kept : flow.kept.items ≡ flow'.kept.items ++ z ∷ [] = sym (take_all (n + 1) flow.kept.items (omega (arith, as_sized, sized, one_flow_more))) ∙ take_more flow.kept.items n (pos 0) (omega (arith, as_sized, sized, one_flow_more))
-    ∙ ap (λ (m : ℕ). take n flow.kept.items ++ number_at flow.kept.items m ∷ []) (sym at_flow) ∙ ap (λ (x : List ℤ). x ++ z ∷ []) (sym whole) in
-    balance_first I J rows rows' flow flow' b b' row y z many (tracked.same_length ∙ many) rows_are entries kept (sym (ap (λ (K : Instance). K.nodes) other)) (sym (ap (λ (K : Instance). K.demand) other))
-    (carried_as row (row_at rows last) y (number_at flow.entries.items last) (pos 0) (pos 0) b.excess b'.excess row_is entry_is refl carried)
+    let entry_is : number_at flow.entries last ≡ y = ap (number_at flow.entries) at_flow ∙ ap (λ (x : List ℤ). number_at x (length flow'.entries)) entries ∙ last_is flow'.entries y (pos 0) in
+    let kept : flow.whole ≡ flow'.whole ++ z ∷ [] = sym (take_all (n + 1) flow.whole (omega (arith, as_sized, sized, one_flow_more))) ∙ take_more flow.whole n (pos 0) (omega (arith, as_sized, sized, one_flow_more))
+    ∙ ap (λ (m : ℕ). take n flow.whole ++ number_at flow.whole m ∷ []) (sym at_flow) ∙ ap (λ (x : List ℤ). x ++ z ∷ []) (sym whole) in
+    let as_many : length flow'.whole ≡ length rows' = ap (λ (x : List ℤ). length x) whole ∙ length-take-le n flow.whole (omega (arith, as_sized, sized, one_flow_more)) ∙ many in
+    balance_first I J rows rows' flow flow' b b' row y z many as_many rows_are entries kept (sym (ap (λ (K : Instance). K.nodes) other)) (sym (ap (λ (K : Instance). K.demand) other))
+    (carried_as row (row_at rows last) y (number_at flow.entries last) (pos 0) (pos 0) b.excess b'.excess row_is entry_is refl carried)
     (cost ∙ ap (λ (a : ArcRow). int_wrap w128 (b.cost +ℤ (pos 0 -ℤ z) *ℤ a.cost)) row_is) is
 
 -- the reduced instance has each arc of the instance

@@ -12,26 +12,25 @@ use Rattle.network.specs.Flow.{MinCost, AllWithinBounds, FollowsSign, IsCertifie
 use Rattle.network.specs.Instance.{ArcFits, Instance, IsLawful, arc_at, at_node, reduced}
 use Rattle.network.proofs.Reduction.{reduced_ends}
 use Rattle.residual_graph.specs.declared.graph.Graph.{Graph}
-use Rattle.augmentation.specs.declared.scratch.Scratch.{Scratch}
 use Rattle.residual_graph.specs.Residual.{AreGreatest, IsWithinRow, number_at, row_at, room_of}
 use Rattle.residual_graph.specs.declared.residual.Way.{Way}
 use Rattle.residual_graph.specs.declared.residual.Way.TheVariants.{Backward, Forward}
-use Rattle.augmentation.specs.Scratch.{IsScratchFor}
+use Rattle.augmentation.specs.ScratchView.{ScratchView}
 use Rattle.residual_graph.specs.Walk.{AreRowsOf}
 use Rattle.flow_solver.specs.Answer.{AreGreatestPotentials}
 use Rattle.flow_solver.specs.declared.balance.Balance.{Balance}
-use Rattle.augmentation.specs.declared.tracked.Tracked.{Tracked}
+use Rattle.augmentation.specs.Tracked.{TrackedView}
 use Rattle.flow_solver.specs.declared.part.Before.{Before}
 use Rattle.flow_solver.specs.Edit.{KeepsResidualArcs}
 use Rattle.flow_solver.specs.TablesView.{flow_index}
+use Rattle.flow_solver.specs.Potentials.{AreAsTold}
+use Rattle.flow_solver.specs.declared.potentials.Potentials.{Potentials}
 use Rattle.flow_solver.specs.Tables.{AreTables}
 use Rattle.flow_solver.proofs.AnswerLemmas.{agrees_at}
 use Rattle.residual_graph.proofs.GraphLemmas.{with_row, with_last}
 use Rattle.flow_solver.proofs.ChangeLemmas.{supplied, row_is, rows_changed, rows_more, rows_kept}
 use Rattle.flow_solver.proofs.EditRows.{row_there}
 use Rattle.flow_solver.proofs.FlowLaws.{bounds_at, bounds_length, greatest_flow, signs_at}
-use Rattle.augmentation.specs.Attempt.{IsAttemptFor}
-use Rattle.augmentation.specs.declared.attempt.Attempt.{Attempt}
 
 -- ---- a step up, where other potentials lie higher
 
@@ -228,44 +227,22 @@ module _ (I : Instance) (k : ℕ) (row : ArcRow) (at : (1 ≤ k) × (k ≤ lengt
 
 -- ---- the tables
 
--- the searches' tables are theirs whatever is told of the potentials
-pub scratch_told : (n : ℕ) (s : Scratch) (told : Bool) → IsScratchFor n s → IsScratchFor n (record s { labels = record s.labels { standing = told } })
-scratch_told n s told of = record {
-  node_labels_sized = of.node_labels_sized;
-  potentials_sized = of.potentials_sized;
-  labels = record { node_labels_sized = of.labels.node_labels_sized; order_sized = of.labels.order_sized };
-  queue = of.queue;
-  marks_sized = of.marks_sized;
-  attempt = of.attempt;
-}
-
--- the tables of searches stay what they are where those of proposals do
-pub scratch_noted : (n : ℕ) (s : Scratch) (a : Attempt) → a ≡ s.attempt → IsScratchFor n s → IsScratchFor n (record s { attempt = a })
-scratch_noted n s a same of = record {
-  node_labels_sized = of.node_labels_sized;
-  potentials_sized = of.potentials_sized;
-  labels = of.labels;
-  queue = of.queue;
-  marks_sized = of.marks_sized;
-  attempt = subst (IsAttemptFor n) (sym same) of.attempt;
-}
-
 -- the tables stay tables where nothing is told of the potentials, or what is true of them
-pub tables_told : (g : Graph) (flow potentials : Tracked ℤ) (balance : Balance) (cut : Tracked Bool) (scratch : Scratch) (before : Before) (told : Bool) →
-    AreTables g flow potentials balance cut scratch before → (told ≡ true → AreGreatestPotentials (reduced g.net) flow.entries.items (at_node (drop 1 potentials.entries.items))) →
-    AreTables g flow potentials balance cut (record scratch { labels = record scratch.labels { standing = told } }) before
-tables_told g flow potentials balance cut scratch before told t standing = record {
+pub tables_told : (g : Graph) (flow : TrackedView ℤ) (potentials : Potentials) (balance : Balance) (cut : TrackedView Bool) (scratch : ScratchView) (before : Before) (greatest : Bool) →
+    AreTables g flow potentials balance cut scratch before → AreAsTold g.net flow.entries (record potentials { greatest = greatest }) →
+    AreTables g flow (record potentials { greatest = greatest }) balance cut scratch before
+tables_told g flow potentials balance cut scratch before greatest t told = record {
   graph = t.graph;
-  flow_tracked = t.flow_tracked;
   flow_in = t.flow_in;
+  flow_whole = t.flow_whole;
   flow_fits = t.flow_fits;
   potentials_in = t.potentials_in;
   idle = t.idle;
   kept_idle = t.kept_idle;
   balance_is = t.balance_is;
   cut_in = t.cut_in;
-  scratch_in = scratch_told (g.net.nodes + 1) scratch told t.scratch_in;
-  standing = standing;
+  scratch_in = t.scratch_in;
+  told = told;
   log_fits = t.log_fits;
   before_is = t.before_is;
 }

@@ -1,18 +1,17 @@
 -- What the tables of a solver keep where entries are written, and what was kept of them.
-use Rattle.std.proofs.Common.{◌≡◌, ℕ, ◌+◌, ℤ, Bool, true, List, [], ◌∷◌, length, take, drop, refl, sym, ap, subst, ◌∙◌, arith, Option, None, Some}
+use Rattle.std.proofs.Common.{◌≡◌, ℕ, ◌+◌, ℤ, Bool, false, List, [], ◌∷◌, length, drop, refl, sym, ap, subst, ◌∙◌, arith, Option, None, Some}
 use Rattle.std.specs.Prelude.{IfSome}
-use Rattle.std.proofs.lemmas.List.{length-take-le, length-drop}
+use Rattle.std.proofs.lemmas.List.{length-drop}
 use Rattle.dimacs_text.specs.declared.problem.ArcRow.{ArcRow}
-use Rattle.network.specs.Instance.{Demand, Supplies, Terminals, Sides, Instance, at_node, numbered_flow, reduced, with_supply}
+use Rattle.network.specs.Instance.{Demand, Supplies, Terminals, Sides, Instance, numbered_flow, reduced, with_supply}
 use Rattle.flow_solver.specs.declared.balance.Balance.{Balance}
 use Rattle.residual_graph.specs.declared.graph.Graph.{Graph}
-use Rattle.augmentation.specs.declared.tracked.Tracked.{Tracked}
 use Rattle.flow_solver.specs.declared.part.Before.{Before}
 use Rattle.flow_solver.specs.declared.part.Part.{Part}
 use Rattle.flow_solver.specs.declared.part.Part.TheVariants.{Arc, Supply, Last, Gone}
-use Rattle.augmentation.specs.declared.scratch.Scratch.{Scratch}
 use Rattle.flow_solver.specs.declared.verdict.Verdict.{Verdict}
-use Rattle.flow_solver.specs.Answer.{AreGreatestPotentials}
+use Rattle.flow_solver.specs.Potentials.{AreAsTold}
+use Rattle.flow_solver.specs.declared.potentials.Potentials.{Potentials}
 use Rattle.flow_solver.specs.Balance.{IsBalanceOf}
 use Rattle.augmentation.specs.Touched.{NameChanges}
 use Rattle.flow_solver.specs.Moment.{IsSized, Snapshot, Moment, kept_of}
@@ -20,89 +19,75 @@ use Rattle.flow_solver.specs.Tables.{AreTables, IsOfNodes}
 use Rattle.residual_graph.specs.Graph.{IsGraph}
 use Rattle.augmentation.specs.Nodes.{IsIdleEntry}
 use Rattle.flow_solver.specs.Part.{before_all, before_of, return_count}
-use Rattle.augmentation.specs.Scratch.{IsScratchFor}
-use Rattle.augmentation.specs.Tracked.{IsTracked, IsWritten, kept_in}
+use Rattle.augmentation.specs.ScratchView.{ScratchView}
+use Rattle.augmentation.specs.Tracked.{IsWritten, TrackedView}
 use Rattle.residual_graph.specs.Walk.{AreRowsOf}
 use Rattle.augmentation.proofs.TrackedLemmas.{named_after_first}
 
 module _ {T : Type 0} where
-  -- a write leaves what was kept
-  pub kept_written : (l m : Tracked T) → IsWritten l m → kept_in m ≡ kept_in l
-  kept_written l m written = ap (λ (n : ℕ). take n m.kept.items) written.size ∙ ap (λ v. take l.size v.items) written.kept
-
-  pub length_kept : (l : Tracked T) → IsTracked l → length (kept_in l) ≡ l.size
-  length_kept l tracked = length-take-le l.size l.kept.items (omega (arith, tracked.size_in, tracked.same_length))
-
-  pub nodes_written : (nodes : ℕ) (l m : Tracked T) → IsOfNodes nodes l → IsWritten l m → IsOfNodes nodes m
+  pub nodes_written : (nodes : ℕ) (l m : TrackedView T) → IsOfNodes nodes l → IsWritten l m → IsOfNodes nodes m
   nodes_written nodes l m of written = record {
-    tracked = written.tracked;
     entries_in = written.same_length ∙ of.entries_in;
-    size_is = written.size ∙ of.size_is;
+    kept_in = ap (λ (xs : List T). length xs) written.kept ∙ of.kept_in;
   }
 
   -- a `Tracked` table of nodes is one still where its entries and its snapshot are as many
-  pub nodes_alike : (nodes : ℕ) (m : Tracked T) (entries kept : List T) → IsTracked m → m.entries.items ≡ entries → kept_in m ≡ kept → length entries ≡ nodes + 1 → length kept ≡ nodes + 1 → IsOfNodes nodes m
-  nodes_alike nodes m entries kept tracked entries_are kept_is many as_many = record {
-    tracked = tracked;
+  pub nodes_alike : (nodes : ℕ) (m : TrackedView T) (entries kept : List T) → m.entries ≡ entries → m.kept ≡ kept → length entries ≡ nodes + 1 → length kept ≡ nodes + 1 → IsOfNodes nodes m
+  nodes_alike nodes m entries kept entries_are kept_is many as_many = record {
     entries_in = ap (λ (xs : List T). length xs) entries_are ∙ many;
-    size_is = sym (length_kept m tracked) ∙ ap (λ (xs : List T). length xs) kept_is ∙ as_many;
+    kept_in = ap (λ (xs : List T). length xs) kept_is ∙ as_many;
   }
 
-pub idle_kept : (l m : Tracked ℤ) → IsWritten l m → IsIdleEntry (kept_in l) → IsIdleEntry (kept_in m)
-idle_kept l m written idle = subst IsIdleEntry (sym (kept_written l m written)) idle
-
 -- the tables of an instance stay tables where they are written, and fit an instance of as many arcs and nodes
-pub tables_written : (g h : Graph) (flow flow' potentials potentials' : Tracked ℤ) (balance balance' : Balance) (cut cut' : Tracked Bool) (scratch scratch' : Scratch) (before : Before) →
+pub tables_written : (g h : Graph) (flow flow' : TrackedView ℤ) (potentials potentials' : Potentials) (balance balance' : Balance) (cut cut' : TrackedView Bool) (scratch scratch' : ScratchView) (before : Before) →
     AreTables g flow potentials balance cut scratch before → h.net.nodes ≡ g.net.nodes → h.net.room ≡ g.net.room → IsGraph h → length h.rows ≡ length g.rows →
-    IsWritten flow flow' → IsWritten potentials potentials' → IsIdleEntry potentials'.entries.items → IsBalanceOf h.net h.rows flow' balance' → IsWritten cut cut' → IsScratchFor (h.net.nodes + 1) scratch' →
-    (scratch'.labels.standing ≡ true → AreGreatestPotentials (reduced h.net) flow'.entries.items (at_node (drop 1 potentials'.entries.items))) →
+    IsWritten flow flow' → IsWritten potentials.table potentials'.table → IsIdleEntry potentials'.table.entries → IsBalanceOf h.net h.rows flow' balance' → IsWritten cut cut' → length scratch'.potentials ≡ h.net.nodes + 1 → AreAsTold h.net flow'.entries potentials' →
     AreTables h flow' potentials' balance' cut' scratch' (record before { verdict = None })
-tables_written g h flow flow' potentials potentials' balance balance' cut cut' scratch scratch' before t nodes room_is graph many flow_written potentials_written idle balance_is cut_written scratch_in standing = record {
+tables_written g h flow flow' potentials potentials' balance balance' cut cut' scratch scratch' before t nodes room_is graph many flow_written potentials_written idle balance_is cut_written scratch_in told = record {
   graph = graph;
-  flow_tracked = flow_written.tracked;
   flow_in = flow_written.same_length ∙ t.flow_in ∙ sym many;
+  flow_whole = ap (λ (xs : List ℤ). length xs) flow_written.whole ∙ t.flow_whole ∙ sym many;
   flow_fits = omega (arith, t.flow_fits, room_is, flow_written.same_room);
-  potentials_in = subst (λ (n : ℕ). IsOfNodes n potentials') (sym nodes) (nodes_written g.net.nodes potentials potentials' t.potentials_in potentials_written);
+  potentials_in = subst (λ (n : ℕ). IsOfNodes n potentials'.table) (sym nodes) (nodes_written g.net.nodes potentials.table potentials'.table t.potentials_in potentials_written);
   idle = idle;
-  kept_idle = idle_kept potentials potentials' potentials_written t.kept_idle;
+  kept_idle = subst IsIdleEntry (sym potentials_written.kept) t.kept_idle;
   balance_is = balance_is;
   cut_in = subst (λ (n : ℕ). IsOfNodes n cut') (sym nodes) (nodes_written g.net.nodes cut cut' t.cut_in cut_written);
   scratch_in = scratch_in;
-  standing = standing;
+  told = told;
   log_fits = t.log_fits;
   before_is = tt;
 }
 
 -- so their moment has its sizes
-pub sized_written : (g h : Graph) (flow flow' potentials potentials' : Tracked ℤ) (balance : Balance) (cut cut' : Tracked Bool) (scratch : Scratch) (before : Before) (verdict : Verdict) →
+pub sized_written : (g h : Graph) (flow flow' : TrackedView ℤ) (potentials potentials' : Potentials) (balance : Balance) (cut cut' : TrackedView Bool) (scratch : ScratchView) (before : Before) (verdict : Verdict) →
     AreTables g flow potentials balance cut scratch before → h.net.nodes ≡ g.net.nodes → AreRowsOf h.net h.rows → length h.rows ≡ length g.rows →
-    IsWritten flow flow' → IsWritten potentials potentials' → IsWritten cut cut' →
-    IsSized (record { instance = h.net; flow = flow'.entries.items; potentials = drop 1 potentials'.entries.items; verdict = verdict; cut = drop 1 cut'.entries.items })
+    IsWritten flow flow' → IsWritten potentials.table potentials'.table → IsWritten cut cut' →
+    IsSized (record { instance = h.net; flow = flow'.entries; potentials = drop 1 potentials'.table.entries; verdict = verdict; cut = drop 1 cut'.entries })
 sized_written g h flow flow' potentials potentials' balance cut cut' scratch before verdict t nodes of many flow_written potentials_written cut_written = record {
   lawful = of.lawful;
   one_flow = flow_written.same_length ∙ t.flow_in ∙ sym many ∙ ap (λ (xs : List ArcRow). length xs) of.rows_are;
-  one_potential = omega (arith, length-drop 1 potentials'.entries.items, potentials_written.same_length, t.potentials_in.entries_in, nodes);
-  one_mark = omega (arith, length-drop 1 cut'.entries.items, cut_written.same_length, t.cut_in.entries_in, nodes);
+  one_potential = omega (arith, length-drop 1 potentials'.table.entries, potentials_written.same_length, t.potentials_in.entries_in, nodes);
+  one_mark = omega (arith, length-drop 1 cut'.entries, cut_written.same_length, t.cut_in.entries_in, nodes);
 }
 
--- the tables stay tables where the arcs become others, with as many flows
-pub tables_with_arcs : (g h : Graph) (flow flow' potentials : Tracked ℤ) (balance balance' : Balance) (cut : Tracked Bool) (scratch scratch' : Scratch) (before : Before) →
+-- the tables stay tables where the arcs become others, with as many flows, and nothing is told of the potentials
+pub tables_with_arcs : (g h : Graph) (flow flow' : TrackedView ℤ) (potentials : Potentials) (balance balance' : Balance) (cut : TrackedView Bool) (scratch : ScratchView) (before : Before) →
     AreTables g flow potentials balance cut scratch before → h.net.nodes ≡ g.net.nodes → h.net.room ≡ g.net.room → IsGraph h →
-    IsTracked flow' → length flow'.entries.items ≡ length h.rows → length flow'.touched ≡ length flow.touched → IsBalanceOf h.net h.rows flow' balance' → IsScratchFor (g.net.nodes + 1) scratch' →
-    (scratch'.labels.standing ≡ true → AreGreatestPotentials (reduced h.net) flow'.entries.items (at_node (drop 1 potentials.entries.items))) →
-    AreTables h flow' potentials balance' cut scratch' (record before { verdict = None })
-tables_with_arcs g h flow flow' potentials balance balance' cut scratch scratch' before t nodes room_is graph tracked flow_in same_room balance_is scratch_in standing = record {
+    length flow'.entries ≡ length h.rows → length flow'.whole ≡ length h.rows → flow'.room ≡ flow.room → IsBalanceOf h.net h.rows flow' balance' →
+    AreTables h flow' (record potentials { greatest = false }) balance' cut scratch (record before { verdict = None })
+tables_with_arcs g h flow flow' potentials balance balance' cut scratch before t nodes room_is graph flow_in flow_whole same_room balance_is = record {
   graph = graph;
-  flow_tracked = tracked;
   flow_in = flow_in;
+  flow_whole = flow_whole;
   flow_fits = omega (arith, t.flow_fits, room_is, same_room);
-  potentials_in = subst (λ (n : ℕ). IsOfNodes n potentials) (sym nodes) t.potentials_in;
+  potentials_in = subst (λ (n : ℕ). IsOfNodes n potentials.table) (sym nodes) t.potentials_in;
   idle = t.idle;
   kept_idle = t.kept_idle;
   balance_is = balance_is;
   cut_in = subst (λ (n : ℕ). IsOfNodes n cut) (sym nodes) t.cut_in;
-  scratch_in = subst (λ (n : ℕ). IsScratchFor (n + 1) scratch') (sym nodes) scratch_in;
-  standing = standing;
+  scratch_in = t.scratch_in ∙ ap (λ (n : ℕ). n + 1) (sym nodes);
+  told = λ none. cc;
   log_fits = t.log_fits;
   before_is = tt;
 }

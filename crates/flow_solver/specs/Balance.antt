@@ -6,7 +6,7 @@ use Rattle.network.specs.Flow.{net, total_cost}
 use Rattle.residual_graph.specs.Residual.{row_at, number_at}
 use Rattle.network.specs.Instance.{Instance, reduced}
 use Rattle.flow_solver.specs.declared.balance.Balance.{Balance}
-use Rattle.augmentation.specs.declared.tracked.Tracked.{Tracked}
+use Rattle.augmentation.specs.Tracked.{TrackedView}
 use Rattle.augmentation.specs.Nodes.{held}
 use Rattle.augmentation.specs.Push.{at_node}
 
@@ -41,7 +41,7 @@ abbrev pub AreEndsIn : ℕ → List ArcRow → Type 0
 AreEndsIn nodes arcs = (k : ℕ) → k < length arcs → ((row_at arcs k).tail < nodes) × ((row_at arcs k).head < nodes)
 
 -- the excess of each node is that of the present flow of a `Tracked` table, the cost that of the flow in its snapshot
-pub record IsBalanceOf (I : Instance) (rows : List ArcRow) (flow : Tracked ℤ) (b : Balance) : Type 0 where
+pub record IsBalanceOf (I : Instance) (rows : List ArcRow) (flow : TrackedView ℤ) (b : Balance) : Type 0 where
   pub sized : length b.excess ≡ I.nodes + 1
-  pub excess : IsWrappedExcess rows (held I.nodes (reduced I).supply) flow.entries.items b.excess
-  pub cost : IsWrappedCost rows flow.kept.items b.cost
+  pub excess : IsWrappedExcess rows (held I.nodes (reduced I).supply) flow.entries b.excess
+  pub cost : IsWrappedCost rows flow.whole b.cost

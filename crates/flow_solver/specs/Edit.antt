@@ -1,17 +1,18 @@
 -- What an edit leaves: a change of one arc or of one supply, or an arc added.
 use Rattle.std.specs.Prelude.{◌≡◌, ℕ, ◌-◌, ◌<◌, ◌≤◌, Ok, Some, slice_index_or, ℤ, pos, ◌-ℤ◌, ◌+ℤ◌, ◌<ℤ◌, ◌≤ℤ◌, unsigned_abs, List, [], ◌∷◌, ◌++◌, length, slice_set}
 use Rattle.dimacs_text.specs.declared.problem.ArcRow.{ArcRow}
-use Rattle.network.specs.Flow.{FollowsSign, reduced_cost, total_excess}
-use Rattle.network.specs.Instance.{Instance, ArcFits, arc_at, kind_of, reduced, with_supply}
+use Rattle.network.specs.Flow.{FollowsSign, IsCertifiedFlow, IsPotential, reduced_cost, total_excess}
+use Rattle.network.specs.Instance.{Instance, ArcFits, arc_at, at_node, kind_of, reduced, with_supply}
 use Rattle.network.specs.Edited.{edited, units, units_all}
 use Rattle.dimacs_text.specs.Lawful.{IsLawfulRow, IsNode, IsWithin}
 use Rattle.dimacs_text.specs.declared.problem.TheConstants.{SUPPLY_LIMIT}
 use Rattle.dimacs_text.specs.declared.problem.Kind.TheVariants.{Min}
 use Rattle.dimacs_text.specs.declared.command.Edit.{Edit}
 use Rattle.dimacs_text.specs.declared.command.Edit.TheVariants.{Cap, Low, Cost, Supply, Add, Close}
-use Rattle.residual_graph.specs.Residual.{number_at, room_of, IsWithinRow}
+use Rattle.residual_graph.specs.Residual.{number_at, room_of, row_at, IsWithinRow}
 use Rattle.residual_graph.specs.declared.residual.Way.{Way}
 use Rattle.augmentation.specs.Push.{Pushes}
+use Rattle.flow_solver.specs.Moment.{Moment}
 use Rattle.flow_solver.specs.TablesView.{flow_index}
 
 -- z is the flow nearest to x that the bounds of the arc and the sign of its reduced cost allow
@@ -132,3 +133,30 @@ IsOfAdd (Cost k cost) = ⊥
 IsOfAdd (Supply v value) = ⊥
 IsOfAdd (Add tail head low cap cost) = Unit {0}
 IsOfAdd (Close k) = ⊥
+
+-- ---- the same of moments
+
+-- the potentials of a moment certify its flow
+abbrev pub IsCertifiedMoment : Moment → Type 0
+IsCertifiedMoment m = IsCertifiedFlow (reduced m.instance) m.flow (at_node m.potentials)
+
+-- they are potentials at all
+abbrev pub HasPotentials : Moment → Type 0
+HasPotentials m = (v : ℕ) → IsNode m.instance.nodes v → IsPotential (at_node m.potentials v)
+
+-- an edit of the first moment made the second
+abbrev pub Makes : Edit → Moment → Moment → Type 0
+Makes edit m n = IsMade m.instance n.instance edit (at_node m.potentials) m.flow n.flow
+
+abbrev pub MakeAll : List Edit → Moment → Moment → Type 0
+MakeAll edits m n = AreMade m.instance edits (at_node m.potentials) m.flow n.instance n.flow
+
+-- the row of an arc, its reduced cost and its flow
+abbrev pub arc_row : Moment → ℕ → ArcRow
+arc_row m k = row_at (reduced m.instance).arcs (flow_index m.instance.demand k)
+
+abbrev pub arc_reduced : Moment → ℕ → ℤ
+arc_reduced m k = reduced_cost (at_node m.potentials) (arc_row m k)
+
+abbrev pub arc_flow : Moment → ℕ → ℤ
+arc_flow m k = number_at m.flow (flow_index m.instance.demand k)

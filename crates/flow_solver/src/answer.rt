@@ -7,7 +7,6 @@ ghost use Rattle.residual_graph.specs.Limits.{entry_limit};
 ghost use Rattle.augmentation.specs.Push.{AreSmall, left, positive_part};
 ghost use Rattle.augmentation.specs.Cut.{lack};
 ghost use Rattle.augmentation.specs.Nodes.{held};
-ghost use Rattle.augmentation.specs.Tracked.{IsTracked};
 ghost use Rattle.flow_solver.specs.Balance.{IsWrappedCost};
 ghost use Rattle.flow_solver.specs.Answer.{IsJudged, worth_by};
 
@@ -65,13 +64,12 @@ fn sum_deficit(excess: &[i64]) -> u64
 fn worth(net: &Network, rows: &[ArcRow], flow: &Tracked<i64>, balance: &Balance) -> i128
     requires lawful { IsLawful net.now }
     requires rows { rows.now ≡ (reduced net.now).arcs }
-    requires tracked { IsTracked flow.now }
-    requires bounds { AllWithinBounds rows.now flow.now.entries.items }
-    requires cost { IsWrappedCost rows.now flow.now.kept.items balance.now.cost }
-    ensures { result ≡ worth_by net.now.demand rows.now flow.now.entries.items }
+    requires bounds { AllWithinBounds rows.now flow.now.entries }
+    requires cost { IsWrappedCost rows.now flow.now.whole balance.now.cost }
+    ensures { result ≡ worth_by net.now.demand rows.now flow.now.entries }
 {
     match net.return_arc() {
-        Some(_) => i128::from(flow.entries[0]),
+        Some(_) => i128::from(flow.get(0)),
         None => cost_now(rows, flow, balance.cost),
     }
 }
@@ -80,14 +78,13 @@ fn worth(net: &Network, rows: &[ArcRow], flow: &Tracked<i64>, balance: &Balance)
 pub fn judge(net: &Network, rows: &[ArcRow], flow: &Tracked<i64>, balance: &Balance) -> Verdict
     requires lawful { IsLawful net.now }
     requires rows { rows.now ≡ (reduced net.now).arcs }
-    requires tracked { IsTracked flow.now }
-    requires bounds { AllWithinBounds rows.now flow.now.entries.items }
-    requires cost { IsWrappedCost rows.now flow.now.kept.items balance.now.cost }
+    requires bounds { AllWithinBounds rows.now flow.now.entries }
+    requires cost { IsWrappedCost rows.now flow.now.whole balance.now.cost }
     requires small { AreSmall balance.now.excess }
     requires few { length balance.now.excess ≤ entry_limit }
     requires left_fits { left balance.now.excess < 2 ^ 63 }
     requires lack_fits { left balance.now.excess ≡ 0 → lack balance.now.excess < 2 ^ 63 }
-    ensures { IsJudged (worth_by net.now.demand rows.now flow.now.entries.items) balance.now.excess result }
+    ensures { IsJudged (worth_by net.now.demand rows.now flow.now.entries) balance.now.excess result }
 {
     if balance.excess.has_root(Side::Ahead) {
         return Verdict::Infeasible(sum_excess(balance.excess.entries()) as i64);

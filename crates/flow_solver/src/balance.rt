@@ -6,7 +6,6 @@ ghost use Rattle.network.specs.Instance.{reduced};
 ghost use Rattle.residual_graph.specs.Limits.{entry_limit};
 ghost use Rattle.residual_graph.specs.Residual.{row_at, number_at};
 ghost use Rattle.augmentation.specs.Nodes.{held};
-ghost use Rattle.augmentation.specs.Tracked.{IsTracked};
 ghost use Rattle.flow_solver.specs.Balance.{AreEndsIn, AreWrapped, IsCarried, IsRaised, IsWrappedCost, IsWrappedExcess};
 
 use crate::answer::supply_at;
@@ -79,18 +78,18 @@ pub fn reprice(cost: i128, before: i64, after: i64, factor: i64) -> i128
 
 /// The cost of what stands in the table, from that of what was kept.
 pub fn cost_now(rows: &[ArcRow], flow: &Tracked<i64>, cost: i128) -> i128
-    requires tracked { IsTracked flow.now }
-    requires as_many { length rows.now ≡ length flow.now.entries.items }
-    requires cost { IsWrappedCost rows.now flow.now.kept.items cost }
-    ensures { IsWrappedCost rows.now flow.now.entries.items result }
+    requires as_many { length rows.now ≡ length flow.now.entries }
+    requires cost { IsWrappedCost rows.now flow.now.whole cost }
+    ensures { IsWrappedCost rows.now flow.now.entries result }
 {
     let mut now = cost;
-    let places = flow.touched.places();
+    let places = flow.places();
+    let kept = flow.whole();
     for j in 0..places.len() {
         let k = places[j] as usize;
         // The last arcs may have been taken off since.
         if k < rows.len() {
-            now = reprice(now, flow.kept[k], flow.entries[k], rows[k].cost);
+            now = reprice(now, kept[k], flow.get(k), rows[k].cost);
         }
     }
     now
@@ -98,17 +97,17 @@ pub fn cost_now(rows: &[ArcRow], flow: &Tracked<i64>, cost: i128) -> i128
 
 /// Carries the excess of what stands in the table back to that of what was kept.
 pub fn carry_back(rows: &[ArcRow], flow: &Tracked<i64>, excess: &mut Excess)
-    requires tracked { IsTracked flow.now }
-    requires as_many { length rows.now ≡ length flow.now.entries.items }
+    requires as_many { length rows.now ≡ length flow.now.entries }
     requires ends { AreEndsIn (length excess.old) rows.now }
     ensures same_length { length excess.new ≡ length excess.old }
-    ensures excess { (supply : ℕ → ℤ) → IsWrappedExcess rows.now supply flow.now.entries.items excess.old → IsWrappedExcess rows.now supply flow.now.kept.items excess.new }
+    ensures excess { (supply : ℕ → ℤ) → IsWrappedExcess rows.now supply flow.now.entries excess.old → IsWrappedExcess rows.now supply flow.now.whole excess.new }
 {
-    let places = flow.touched.places();
+    let places = flow.places();
+    let kept = flow.whole();
     for j in 0..places.len() {
         let k = places[j] as usize;
         if k < rows.len() {
-            carry_over(excess, &rows[k], flow.entries[k], flow.kept[k]);
+            carry_over(excess, &rows[k], flow.get(k), kept[k]);
         }
     }
 }

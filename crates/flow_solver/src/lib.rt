@@ -6,6 +6,7 @@ mod answer;
 mod balance;
 mod edit;
 mod part;
+mod potentials;
 mod settle;
 mod start;
 mod swaps;

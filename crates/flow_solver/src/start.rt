@@ -1,8 +1,6 @@
 //! What the tables begin with.
 
 ghost use Rattle.std.specs.Prelude.{◌≡◌, ◌≤◌, ◌+◌, IfOk, false, length, map, pos, replicate, vec_capacity};
-ghost use Rattle.augmentation.specs.Scratch.{IsScratchFor};
-ghost use Rattle.augmentation.specs.Tracked.{IsTracked, kept_in};
 ghost use Rattle.flow_solver.specs.Balance.{IsBalanceOf};
 ghost use Rattle.flow_solver.specs.Moment.{start};
 ghost use Rattle.residual_graph.specs.Graph.{IsGraph};
@@ -37,10 +35,9 @@ fn flow_at_start(alloc: Global, rows: &[ArcRow], room: usize) -> Result<Vec<i64>
 fn start_flow(alloc: Global, rows: &[ArcRow], room: usize) -> Result<Tracked<i64>, AllocError>
     requires fits { length rows.now ≤ room }
     requires few { room ≤ row_limit }
-    ensures tracked { IfOk result (λ flow. IsTracked flow) }
-    ensures entries { IfOk result (λ flow. flow.entries.items ≡ map start rows.now) }
-    ensures whole { IfOk result (λ flow. flow.kept.items ≡ map start rows.now) }
-    ensures room { IfOk result (λ flow. length flow.touched ≡ room) }
+    ensures entries { IfOk result (λ flow. flow.entries ≡ map start rows.now) }
+    ensures whole { IfOk result (λ flow. flow.whole ≡ map start rows.now) }
+    ensures room { IfOk result (λ flow. flow.room ≡ room) }
 {
     Tracked::new(alloc, flow_at_start(alloc, rows, room)?, room)
 }
@@ -48,10 +45,9 @@ fn start_flow(alloc: Global, rows: &[ArcRow], room: usize) -> Result<Tracked<i64
 /// The potentials at the start.
 fn zeros(alloc: Global, entries: usize) -> Result<Tracked<i64>, AllocError>
     requires few { entries ≤ row_limit }
-    ensures tracked { IfOk result (λ potentials. IsTracked potentials) }
-    ensures entries { IfOk result (λ potentials. potentials.entries.items ≡ replicate entries (pos 0)) }
-    ensures kept { IfOk result (λ potentials. kept_in potentials ≡ replicate entries (pos 0)) }
-    ensures room { IfOk result (λ potentials. length potentials.touched ≡ entries) }
+    ensures entries { IfOk result (λ potentials. potentials.entries ≡ replicate entries (pos 0)) }
+    ensures kept { IfOk result (λ potentials. potentials.kept ≡ replicate entries (pos 0)) }
+    ensures room { IfOk result (λ potentials. potentials.room ≡ entries) }
 {
     Tracked::new(alloc, vec![in alloc; 0; entries]?, entries)
 }
@@ -59,10 +55,9 @@ fn zeros(alloc: Global, entries: usize) -> Result<Tracked<i64>, AllocError>
 /// A cut that marks no node.
 fn no_marks(alloc: Global, entries: usize) -> Result<Tracked<bool>, AllocError>
     requires few { entries ≤ row_limit }
-    ensures tracked { IfOk result (λ cut. IsTracked cut) }
-    ensures entries { IfOk result (λ cut. cut.entries.items ≡ replicate entries false) }
-    ensures kept { IfOk result (λ cut. kept_in cut ≡ replicate entries false) }
-    ensures room { IfOk result (λ cut. length cut.touched ≡ entries) }
+    ensures entries { IfOk result (λ cut. cut.entries ≡ replicate entries false) }
+    ensures kept { IfOk result (λ cut. cut.kept ≡ replicate entries false) }
+    ensures room { IfOk result (λ cut. cut.room ≡ entries) }
 {
     Tracked::new(alloc, vec![in alloc; false; entries]?, entries)
 }
@@ -70,14 +65,14 @@ fn no_marks(alloc: Global, entries: usize) -> Result<Tracked<bool>, AllocError>
 /// The start flow of a network, with room for each arc that it may have, and the balance of that flow.
 pub fn start_balance(alloc: Global, graph: &Graph) -> Result<(Tracked<i64>, Balance), AllocError>
     requires { IsGraph graph.now }
-    ensures tracked { IfOk result (λ t. IsTracked t.0) }
-    ensures flow { IfOk result (λ t. t.0.entries.items ≡ map start graph.now.rows) }
-    ensures room { IfOk result (λ t. length t.0.touched ≡ graph.now.net.room + 1) }
+    ensures flow { IfOk result (λ t. t.0.entries ≡ map start graph.now.rows) }
+    ensures whole { IfOk result (λ t. t.0.whole ≡ map start graph.now.rows) }
+    ensures room { IfOk result (λ t. t.0.room ≡ graph.now.net.room + 1) }
     ensures balance { IfOk result (λ t. IsBalanceOf graph.now.net graph.now.rows t.0 t.1) }
 {
     let room = graph.network().room() as usize + 1;
     let flow = start_flow(alloc, graph.rows(), room)?;
-    let balance = Balance::new(alloc, graph.network(), graph.rows(), &flow.entries)?;
+    let balance = Balance::new(alloc, graph.network(), graph.rows(), flow.entries())?;
     Ok((flow, balance))
 }
 
@@ -89,14 +84,11 @@ pub fn start_nodes(
     arcs: usize,
 ) -> Result<(Tracked<i64>, Tracked<bool>, Scratch), AllocError>
     requires few { nodes + 1 ≤ row_limit }
-    ensures potentials_tracked { IfOk result (λ t. IsTracked t.0) }
-    ensures potentials { IfOk result (λ t. t.0.entries.items ≡ replicate (nodes + 1) (pos 0)) }
-    ensures potentials_kept { IfOk result (λ t. kept_in t.0 ≡ replicate (nodes + 1) (pos 0)) }
-    ensures cut_tracked { IfOk result (λ t. IsTracked t.1) }
-    ensures cut { IfOk result (λ t. t.1.entries.items ≡ replicate (nodes + 1) false) }
-    ensures cut_kept { IfOk result (λ t. kept_in t.1 ≡ replicate (nodes + 1) false) }
-    ensures scratch { IfOk result (λ t. IsScratchFor (nodes + 1) t.2) }
-    ensures standing { IfOk result (λ t. t.2.labels.standing ≡ false) }
+    ensures potentials { IfOk result (λ t. t.0.entries ≡ replicate (nodes + 1) (pos 0)) }
+    ensures potentials_kept { IfOk result (λ t. t.0.kept ≡ replicate (nodes + 1) (pos 0)) }
+    ensures cut { IfOk result (λ t. t.1.entries ≡ replicate (nodes + 1) false) }
+    ensures cut_kept { IfOk result (λ t. t.1.kept ≡ replicate (nodes + 1) false) }
+    ensures scratch { IfOk result (λ t. length t.2.potentials ≡ nodes + 1) }
 {
     let entries = nodes as usize + 1;
     let potentials = zeros(alloc, entries)?;

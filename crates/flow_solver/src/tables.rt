@@ -13,6 +13,7 @@ ghost use Rattle.flow_solver.specs.Part.{return_count};
 
 use crate::balance::Balance;
 use crate::part::{Before, return_count, row_before, supply_before};
+use crate::potentials::Potentials;
 use crate::start::{start_balance, start_nodes};
 use crate::verdict::Verdict;
 use augmentation::{Scratch, Tracked};
@@ -30,7 +31,7 @@ use std::marker::Model;
 pub struct Tables {
     graph: Graph,
     flow: Tracked<i64>,
-    potentials: Tracked<i64>,
+    potentials: Potentials,
     balance: Balance,
     cut: Tracked<bool>,
     scratch: Scratch,
@@ -47,9 +48,9 @@ impl Model for Tables {
     ghost Value = { TablesView };
 
     ghost view = { λ t. record {
-      moment = record { instance = t.graph.net; flow = t.flow.entries.items; potentials = drop 1 t.potentials.entries.items; verdict = t.verdict; cut = drop 1 t.cut.entries.items };
-      kept = kept_by t.flow t.potentials t.cut t.before.log.items;
-      before = before_of t.before.verdict t.graph.net (kept_by t.flow t.potentials t.cut t.before.log.items);
+      moment = record { instance = t.graph.net; flow = t.flow.entries; potentials = drop 1 t.potentials.table.entries; verdict = t.verdict; cut = drop 1 t.cut.entries };
+      kept = kept_by t.flow t.potentials.table t.cut t.before.log.items;
+      before = before_of t.before.verdict t.graph.net (kept_by t.flow t.potentials.table t.cut t.before.log.items);
     } };
 
     ghost invariant = { λ t. AreTables t.graph t.flow t.potentials t.balance t.cut t.scratch t.before };
@@ -75,7 +76,10 @@ impl Tables {
         Ok(Tables {
             graph,
             flow,
-            potentials,
+            potentials: Potentials {
+                table: potentials,
+                greatest: false,
+            },
             balance,
             cut,
             scratch,
@@ -96,7 +100,7 @@ impl Tables {
         ensures value { result.now ≡ numbered_flow self.now.moment.instance.demand self.now.moment.flow }
         ensures one_an_arc { length result.now ≡ length self.now.moment.instance.arcs }
     {
-        &self.flow.entries[self.graph.first_row()..]
+        &self.flow.entries()[self.graph.first_row()..]
     }
 
     /// The potential of each node, in the order of the nodes.
@@ -105,7 +109,7 @@ impl Tables {
         ensures one_a_node { length result.now ≡ self.now.moment.instance.nodes }
         ensures few { length result.now ≤ NODE_LIMIT }
     {
-        &self.potentials.entries[1..]
+        &self.potentials.table.entries()[1..]
     }
 
     /// A mark for each node, set where the node is in the cut.
@@ -114,7 +118,7 @@ impl Tables {
         ensures one_a_node { length result.now ≡ self.now.moment.instance.nodes }
         ensures few { length result.now ≤ NODE_LIMIT }
     {
-        &self.cut.entries[1..]
+        &self.cut.entries()[1..]
     }
 
     /// The verdict.
@@ -138,7 +142,7 @@ impl Tables {
         requires { IsSome self.now.before }
         ensures { IfSome self.now.before (λ old. result.now ≡ old.potentials) }
     {
-        &self.potentials.before()[1..]
+        &self.potentials.table.before()[1..]
     }
 
     /// The marks of the nodes before the last change.
@@ -167,7 +171,7 @@ impl Tables {
         ensures named { IfSome self.now.before (λ old. NameChanges (return_count old.instance.demand) result.now (numbered_flow old.instance.demand old.flow) (numbered_flow self.now.moment.instance.demand self.now.moment.flow)) }
         ensures apart { AllPairs ◌≢◌ result.now }
     {
-        self.flow.touched.places()
+        self.flow.places()
     }
 
     /// Nodes, in no order, which are all those whose potential the last change altered, and maybe others; 0 may be there,
@@ -177,7 +181,7 @@ impl Tables {
         ensures named { IfSome self.now.before (λ old. NameChanges 1 result.now old.potentials self.now.moment.potentials) }
         ensures apart { AllPairs ◌≢◌ result.now }
     {
-        self.potentials.touched.places()
+        self.potentials.table.places()
     }
 
     /// Nodes, in no order, which are all those whose mark the last change altered, and maybe others; 0 may be there, and is
@@ -187,7 +191,7 @@ impl Tables {
         ensures named { IfSome self.now.before (λ old. NameChanges 1 result.now old.cut self.now.moment.cut) }
         ensures apart { AllPairs ◌≢◌ result.now }
     {
-        self.cut.touched.places()
+        self.cut.places()
     }
 
     /// The arc with this number before the last change, if it was there.

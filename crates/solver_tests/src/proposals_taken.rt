@@ -1,8 +1,6 @@
 //! Proposals on small networks: what leads to a best flow is taken, and after a spoilt one the searches do the work.
 
 ghost use Rattle.std.specs.Prelude.{◌≡◌, IfOk, length};
-ghost use Rattle.augmentation.specs.Scratch.{IsScratchFor};
-ghost use Rattle.augmentation.specs.Tracked.{IsTracked};
 
 use crate::start::{MOST_ROWS, are_ready, start_flow};
 use crate::steps::{prepare, take_up};
@@ -221,18 +219,19 @@ fn graph_of(alloc: Global, text: &[u8]) -> Result<Graph, TextFault> {
 }
 
 /// The tables of the searches in a graph.
-fn scratch_of(rt: &impl Abort, alloc: Global, graph: &Graph) -> Result<Scratch, AllocError>
-    ensures { IfOk result (λ s. IsScratchFor (length s.potentials.items) s) }
-{
+fn scratch_of(rt: &impl Abort, alloc: Global, graph: &Graph) -> Result<Scratch, AllocError> {
     let entries = graph.network().nodes().saturating_add(1);
     assert!(rt; entries as usize <= MOST_ROWS);
     Scratch::new(alloc, entries, graph.rows().len().saturating_mul(2))
 }
 
 /// A problem where nothing is pushed yet.
-fn run_of(rt: &impl Abort, alloc: Global, text: &[u8], balance: &'static [i64]) -> Result<Run, Fail>
-    ensures { IfOk result (λ r. IsScratchFor (length r.scratch.potentials.items) r.scratch) }
-{
+fn run_of(
+    rt: &impl Abort,
+    alloc: Global,
+    text: &[u8],
+    balance: &'static [i64],
+) -> Result<Run, Fail> {
     let graph = graph_of(alloc, text)?;
     let scratch = scratch_of(rt, alloc, &graph)?;
     Ok(Run {
@@ -252,9 +251,7 @@ fn copy_of(alloc: Global, table: &[i64]) -> Result<Vec<i64>, AllocError>
 }
 
 /// A flow, one entry an arc.
-fn tracked_of(rt: &impl Abort, alloc: Global, flow: Vec<i64>) -> Result<Tracked<i64>, AllocError>
-    ensures { IfOk result (λ t. IsTracked t) }
-{
+fn tracked_of(rt: &impl Abort, alloc: Global, flow: Vec<i64>) -> Result<Tracked<i64>, AllocError> {
     let room = flow.len();
     assert!(rt; room <= MOST_ROWS);
     assert!(rt; room <= flow.capacity());
@@ -289,7 +286,7 @@ fn wanted_of(alloc: Global, proposed: &Proposed) -> Result<Wanted, AllocError> {
     })
 }
 
-/// Takes up a proposal, or where there is none the solver's own, with potentials of 0; how many pushes led to what was
+/// Takes up a proposal, or where there is none the solver's own; how many pushes led to what was
 /// adopted, and how many came after.
 fn push_from(
     rt: &impl Abort,
@@ -298,15 +295,15 @@ fn push_from(
     excess: &mut Excess,
     scratch: &mut Scratch,
     wanted: Option<Wanted>,
-) -> (Option<u64>, u64)
-    requires flow_tracked { IsTracked flow.old }
-    requires scratch { IsScratchFor (length scratch.old.potentials.items) scratch.old }
-    ensures scratch { IsScratchFor (length scratch.new.potentials.items) scratch.new }
-{
-    scratch.potentials.fill(0);
-    let ready = are_ready(graph, &flow.entries, excess.entries(), &scratch.potentials);
+) -> (Option<u64>, u64) {
+    let ready = are_ready(
+        graph,
+        flow.entries(),
+        excess.entries(),
+        scratch.potentials(),
+    );
     assert!(rt; ready);
-    prepare(graph, &flow.entries, excess.entries(), scratch, wanted);
+    prepare(graph, flow.entries(), excess.entries(), scratch, wanted);
     take_up(graph, flow, excess, scratch)
 }
 
@@ -326,12 +323,11 @@ fn expect(
     run: &mut Run,
     wanted: Option<Wanted>,
     outcome: &Outcome,
-) -> Result<(), AllocError>
-    requires scratch { IsScratchFor (length run.old.scratch.potentials.items) run.old.scratch }
-    ensures scratch { IsScratchFor (length run.new.scratch.potentials.items) run.new.scratch }
-{
+) -> Result<(), AllocError> {
     let mut flow = tracked_of(rt, alloc, start_flow(alloc, run.graph.rows())?)?;
     let mut excess = excess_of(rt, alloc, run.balance)?;
+    let zeros = vec![in alloc; 0; run.scratch.potentials().len()]?;
+    run.scratch.take_potentials(&zeros);
     let pushes = push_from(
         rt,
         &run.graph,
@@ -341,20 +337,22 @@ fn expect(
         wanted,
     );
     assert_eq!(rt; pushes, (outcome.0, outcome.1));
-    assert_eq!(rt; flow.entries.as_slice(), outcome.2);
+    assert_eq!(rt; flow.entries(), outcome.2);
     assert_eq!(rt; excess.entries(), outcome.3);
     if let Some(worth) = outcome.4 {
-        let best = is_best(&run.graph, &flow.entries, &run.scratch.potentials, worth);
+        let best = is_best(&run.graph, flow.entries(), run.scratch.potentials(), worth);
         assert!(rt; best);
     }
     Ok(())
 }
 
 /// This comes of a proposal that is written down, or where there is none of the solver's own.
-fn expect_step(rt: &impl Abort, alloc: Global, run: &mut Run, step: &Step) -> Result<(), AllocError>
-    requires scratch { IsScratchFor (length run.old.scratch.potentials.items) run.old.scratch }
-    ensures scratch { IsScratchFor (length run.new.scratch.potentials.items) run.new.scratch }
-{
+fn expect_step(
+    rt: &impl Abort,
+    alloc: Global,
+    run: &mut Run,
+    step: &Step,
+) -> Result<(), AllocError> {
     let wanted = match &step.0 {
         Some(proposed) => Some(wanted_of(alloc, proposed)?),
         None => None,
@@ -362,17 +360,17 @@ fn expect_step(rt: &impl Abort, alloc: Global, run: &mut Run, step: &Step) -> Re
     expect(rt, alloc, run, wanted, &step.1)
 }
 
-/// The same of two proposals, one after the other in the same tables.
-fn expect_both(
+/// The same of proposals, one after the other in the same tables.
+fn expect_all(
     rt: &impl Abort,
     alloc: Global,
     run: &mut Run,
-    steps: &[Step; 2],
-) -> Result<(), AllocError>
-    requires scratch { IsScratchFor (length run.old.scratch.potentials.items) run.old.scratch }
-{
-    expect_step(rt, alloc, run, &steps[0])?;
-    expect_step(rt, alloc, run, &steps[1])
+    steps: &[Step],
+) -> Result<(), AllocError> {
+    for step in steps {
+        expect_step(rt, alloc, run, step)?;
+    }
+    Ok(())
 }
 
 /// The same of a problem that begins with these excesses. All tests give their tables back here, at one place, since it
@@ -382,10 +380,10 @@ fn expect_of(
     alloc: Global,
     text: &[u8],
     balance: &'static [i64],
-    steps: &[Step; 2],
+    steps: &[Step],
 ) -> Result<(), Fail> {
     let mut run = run_of(rt, alloc, text, balance)?;
-    let done = expect_both(rt, alloc, &mut run, steps);
+    let done = expect_all(rt, alloc, &mut run, steps);
     drop(run);
     done?;
     Ok(())
@@ -413,7 +411,7 @@ fn proposals_that_leave_something(rt: HostRuntime) -> Result<(), Fail> {
 fn own_proposals(rt: HostRuntime) -> Result<(), Fail> {
     for (text, balance, outcome) in &OWN {
         let step = (None, *outcome);
-        expect_of(&rt, rt.alloc(), text, balance, &[step, step])?;
+        expect_of(&rt, rt.alloc(), text, balance, &[step])?;
     }
     Ok(())
 }

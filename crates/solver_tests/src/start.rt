@@ -3,7 +3,7 @@
 ghost use Rattle.std.specs.Prelude.{◌<◌, ℕ, IsTrue, length};
 ghost use Rattle.residual_graph.specs.Residual.{IsPseudoflow, IsRow, row_at};
 ghost use Rattle.augmentation.specs.Push.{AreSmall};
-ghost use Rattle.solver_tests.specs.Ready.{AreReady};
+ghost use Rattle.augmentation.specs.Pseudoflow.{IsReady};
 
 use augmentation::{certifies, is_within};
 use dimacs_text::ArcRow;
@@ -13,7 +13,7 @@ use std::alloc::{AllocError, Global};
 /// The most units in excess or in deficit at a node.
 const MOST_EXCESS: i64 = 301_000_000_000_000;
 /// The most entries of a table of nodes.
-const MOST_ENTRIES: usize = 50_001;
+const MOST_entries: usize = 50_001;
 /// The most rows of a graph.
 pub const MOST_ROWS: usize = 200_001;
 /// The greatest capacity.
@@ -62,7 +62,7 @@ fn are_rows(rows: &[ArcRow], entries: usize) -> bool
 fn is_pseudoflow(graph: &Graph, flow: &[i64], entries: usize) -> bool
     ensures { IsTrue result → IsPseudoflow entries graph.now.rows flow.now }
 {
-    if entries > MOST_ENTRIES || graph.rows().len() > MOST_ROWS {
+    if entries > MOST_entries || graph.rows().len() > MOST_ROWS {
         return false;
     }
     are_rows(graph.rows(), entries) && is_within(graph, flow)
@@ -70,7 +70,7 @@ fn is_pseudoflow(graph: &Graph, flow: &[i64], entries: usize) -> bool
 
 /// Whether pushes may begin with a flow, its excess and potentials.
 pub fn are_ready(graph: &Graph, flow: &[i64], excess: &[i64], potentials: &[i64]) -> bool
-    ensures { IsTrue result → AreReady graph.now flow.now excess.now potentials.now }
+    ensures { IsTrue result → IsReady graph.now flow.now potentials.now excess.now }
 {
     let entries = potentials.len();
     if entries != graph.network().nodes() as usize + 1 || excess.len() != entries {

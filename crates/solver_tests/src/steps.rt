@@ -1,34 +1,11 @@
 //! The steps of a run of pushes that begins with a proposal.
 
 ghost use Rattle.std.specs.Prelude.{◌≡◌, length};
-ghost use Rattle.augmentation.specs.Scratch.{IsScratchFor};
-ghost use Rattle.augmentation.specs.Tracked.{IsTracked};
-ghost use Rattle.solver_tests.specs.Ready.{AreReady};
+ghost use Rattle.augmentation.specs.Pseudoflow.{IsCertifiedPseudoflow, IsReady};
 
 use augmentation::{Excess, Scratch, Tracked, adopt, finish};
-use proposals::{Aim, Wanted};
+use proposals::Wanted;
 use residual_graph::Graph;
-
-/// Makes a proposal by the methods that the solver uses.
-fn propose(graph: &Graph, flow: &[i64], excess: &[i64], scratch: &mut Scratch)
-    requires scratch { IsScratchFor (length scratch.old.potentials.items) scratch.old }
-    requires ready { AreReady graph.now flow.now excess.now scratch.old.potentials.items }
-    ensures scratch { IsScratchFor (length scratch.old.potentials.items) scratch.new }
-    ensures potentials { scratch.new.potentials ≡ scratch.old.potentials }
-{
-    let aim = if graph.first_row() > 0 {
-        Aim::GreatestFlow
-    } else {
-        Aim::LeastCost
-    };
-    let attempt = &mut scratch.attempt;
-    attempt
-        .proposals
-        .propose(graph.rows(), flow, excess, &scratch.potentials, aim);
-    attempt
-        .proposals
-        .write(graph.rows(), flow, aim, &mut attempt.wanted);
-}
 
 /// Has this proposal at hand, or where there is none the solver's own.
 pub fn prepare(
@@ -38,14 +15,12 @@ pub fn prepare(
     scratch: &mut Scratch,
     wanted: Option<Wanted>,
 )
-    requires scratch { IsScratchFor (length scratch.old.potentials.items) scratch.old }
-    requires ready { AreReady graph.now flow.now excess.now scratch.old.potentials.items }
-    ensures scratch { IsScratchFor (length scratch.old.potentials.items) scratch.new }
-    ensures potentials { scratch.new.potentials ≡ scratch.old.potentials }
+    requires state { IsCertifiedPseudoflow graph.now flow.now scratch.old.potentials excess.now }
+    ensures { scratch.new ≡ scratch.old }
 {
     match wanted {
-        Some(wanted) => scratch.attempt.wanted = wanted,
-        None => propose(graph, flow, excess, scratch),
+        Some(wanted) => scratch.offer(wanted),
+        None => scratch.propose(graph, flow, excess),
     }
 }
 
@@ -57,11 +32,7 @@ pub fn take_up(
     excess: &mut Excess,
     scratch: &mut Scratch,
 ) -> (Option<u64>, u64)
-    requires flow_tracked { IsTracked flow.old }
-    requires scratch { IsScratchFor (length scratch.old.potentials.items) scratch.old }
-    requires ready { AreReady graph.now flow.old.entries.items excess.old scratch.old.potentials.items }
-    ensures flow_tracked { IsTracked flow.new }
-    ensures scratch { IsScratchFor (length scratch.old.potentials.items) scratch.new }
+    requires ready { IsReady graph.now flow.old.entries scratch.old.potentials excess.old }
 {
     match adopt(graph, flow, excess, scratch) {
         Some(pushes) => (Some(pushes), finish(graph, flow, excess, scratch)),

@@ -3,14 +3,11 @@
 ghost use Rattle.std.specs.Prelude.{◌≡◌, ℕ, pos, ◌<◌, ◌≤◌, ◌<ℤ◌, ◌≤ℤ◌, ◌++◌, ◌∷◌, [], ◌↔◌, IsTrue, IsOk, IsSome, None, Ok, Some, length};
 ghost use Rattle.network.specs.Edited.{edited, edited_all};
 ghost use Rattle.flow_solver.specs.declared.part.Part.{Part};
-ghost use Rattle.dimacs_text.specs.Lawful.{IsNode};
-ghost use Rattle.network.specs.Flow.{IsCertifiedFlow, IsPotential, reduced_cost, total_excess};
+ghost use Rattle.network.specs.Flow.{IsCertifiedFlow, total_excess};
 ghost use Rattle.network.specs.Instance.{at_node, reduced};
 ghost use Rattle.augmentation.specs.Push.{Pushes};
-ghost use Rattle.residual_graph.specs.Residual.{row_at, number_at};
 ghost use Rattle.flow_solver.specs.Answer.{IsAnswered};
-ghost use Rattle.flow_solver.specs.TablesView.{flow_index};
-ghost use Rattle.flow_solver.specs.Edit.{AreChanges, AreMade, IsChange, IsMade, IsOfAdd, IsOfArc, IsOfSupply, KeepsResidualArcs};
+ghost use Rattle.flow_solver.specs.Edit.{AreChanges, HasPotentials, IsCertifiedMoment, IsChange, IsOfAdd, IsOfArc, IsOfSupply, KeepsResidualArcs, MakeAll, Makes, arc_flow, arc_reduced, arc_row};
 ghost use Rattle.flow_solver.specs.Moment.{IsSized, kept_of};
 ghost use Rattle.flow_solver.specs.Part.{before_all, before_part, CanTakeBack, CanTakeBackAll, IsLogged, LeadsBack};
 
@@ -102,10 +99,10 @@ impl Tables {
     /// its bounds and the sign rule allow under the potentials that stand. So the flow is certified still, and can be
     /// settled.
     fn make(&mut self, edit: &Edit)
-        requires certified { IsCertifiedFlow (reduced self.old.moment.instance) self.old.moment.flow (at_node self.old.moment.potentials) }
+        requires certified { IsCertifiedMoment self.old.moment }
         requires accepted { IsOk (edited self.old.moment.instance edit.now) }
-        ensures made { IsMade self.old.moment.instance self.new.moment.instance edit.now (at_node self.old.moment.potentials) self.old.moment.flow self.new.moment.flow }
-        ensures certified { IsCertifiedFlow (reduced self.new.moment.instance) self.new.moment.flow (at_node self.new.moment.potentials) }
+        ensures made { Makes edit.now self.old.moment self.new.moment }
+        ensures certified { IsCertifiedMoment self.new.moment }
         ensures potentials { self.new.moment.potentials ≡ self.old.moment.potentials }
         ensures kept { self.new.kept ≡ self.old.kept }
     {
@@ -118,11 +115,11 @@ impl Tables {
 
     /// Makes an accepted edit of an arc.
     fn make_row(&mut self, edit: &Edit)
-        requires certified { IsCertifiedFlow (reduced self.old.moment.instance) self.old.moment.flow (at_node self.old.moment.potentials) }
+        requires certified { IsCertifiedMoment self.old.moment }
         requires accepted { IsOk (edited self.old.moment.instance edit.now) }
         requires of_arc { IsOfArc edit.now }
-        ensures made { IsMade self.old.moment.instance self.new.moment.instance edit.now (at_node self.old.moment.potentials) self.old.moment.flow self.new.moment.flow }
-        ensures certified { IsCertifiedFlow (reduced self.new.moment.instance) self.new.moment.flow (at_node self.new.moment.potentials) }
+        ensures made { Makes edit.now self.old.moment self.new.moment }
+        ensures certified { IsCertifiedMoment self.new.moment }
         ensures potentials { self.new.moment.potentials ≡ self.old.moment.potentials }
         ensures kept { self.new.kept ≡ self.old.kept }
     {
@@ -130,18 +127,18 @@ impl Tables {
         let before = self.flow()[k as usize - 1];
         let mut flow = nearest(&row, reduced_cost(&row, self.potentials()), before);
         // Tight arcs alone keep potentials from being greater, by the residual arcs along them.
-        let stands = self.scratch.labels.standing && self.keeps_greatest(k, &row, flow);
+        let stands = self.potentials.greatest && self.keeps_greatest(k, &row, flow);
         self.swap_row(k, &mut row);
         self.swap_flow(k, &mut flow);
-        self.scratch.labels.standing = stands;
+        self.potentials.greatest = stands;
     }
 
     /// Whether no potentials can be greater than before once an arc has this row and this flow: it is not tight, or keeps
     /// its residual arcs.
     fn keeps_greatest(&self, k: u32, row: &ArcRow, flow: i64) -> bool
         requires arc { (1 ≤ k) × (k ≤ length self.now.moment.instance.arcs) }
-        requires range { (v : ℕ) → IsNode self.now.moment.instance.nodes v → IsPotential (at_node self.now.moment.potentials v) }
-        ensures { IsTrue result → reduced_cost (at_node self.now.moment.potentials) (row_at (reduced self.now.moment.instance).arcs (flow_index self.now.moment.instance.demand k)) ≡ pos 0 → KeepsResidualArcs (row_at (reduced self.now.moment.instance).arcs (flow_index self.now.moment.instance.demand k)) (number_at self.now.moment.flow (flow_index self.now.moment.instance.demand k)) row.now flow }
+        requires range { HasPotentials self.now.moment }
+        ensures { IsTrue result → arc_reduced self.now.moment k ≡ pos 0 → KeepsResidualArcs (arc_row self.now.moment k) (arc_flow self.now.moment k) row.now flow }
     {
         !self.is_tight(k) || self.keeps_residual_arcs_along(k, row, flow)
     }
@@ -149,7 +146,7 @@ impl Tables {
     /// Whether an arc keeps its residual arcs once it has this row and this flow.
     fn keeps_residual_arcs_along(&self, k: u32, row: &ArcRow, flow: i64) -> bool
         requires arc { (1 ≤ k) × (k ≤ length self.now.moment.instance.arcs) }
-        ensures { IsTrue result ↔ KeepsResidualArcs (row_at (reduced self.now.moment.instance).arcs (flow_index self.now.moment.instance.demand k)) (number_at self.now.moment.flow (flow_index self.now.moment.instance.demand k)) row.now flow }
+        ensures { IsTrue result ↔ KeepsResidualArcs (arc_row self.now.moment k) (arc_flow self.now.moment k) row.now flow }
     {
         let old = arc_of(self.graph.network(), u64::from(k));
         keeps_residual_arcs(&old, self.flow()[k as usize - 1], row, flow)
@@ -158,8 +155,8 @@ impl Tables {
     /// Whether the reduced cost of an arc is 0 under the potentials that stand.
     fn is_tight(&self, k: u32) -> bool
         requires arc { (1 ≤ k) × (k ≤ length self.now.moment.instance.arcs) }
-        requires range { (v : ℕ) → IsNode self.now.moment.instance.nodes v → IsPotential (at_node self.now.moment.potentials v) }
-        ensures { IsTrue result ↔ (reduced_cost (at_node self.now.moment.potentials) (row_at (reduced self.now.moment.instance).arcs (flow_index self.now.moment.instance.demand k)) ≡ pos 0) }
+        requires range { HasPotentials self.now.moment }
+        ensures { IsTrue result ↔ (arc_reduced self.now.moment k ≡ pos 0) }
     {
         let row = arc_of(self.graph.network(), u64::from(k));
         reduced_cost(&row, self.potentials()) == 0
@@ -167,11 +164,11 @@ impl Tables {
 
     /// Makes an accepted edit of a supply.
     fn make_supply(&mut self, edit: &Edit)
-        requires certified { IsCertifiedFlow (reduced self.old.moment.instance) self.old.moment.flow (at_node self.old.moment.potentials) }
+        requires certified { IsCertifiedMoment self.old.moment }
         requires accepted { IsOk (edited self.old.moment.instance edit.now) }
         requires of_supply { IsOfSupply edit.now }
-        ensures made { IsMade self.old.moment.instance self.new.moment.instance edit.now (at_node self.old.moment.potentials) self.old.moment.flow self.new.moment.flow }
-        ensures certified { IsCertifiedFlow (reduced self.new.moment.instance) self.new.moment.flow (at_node self.new.moment.potentials) }
+        ensures made { Makes edit.now self.old.moment self.new.moment }
+        ensures certified { IsCertifiedMoment self.new.moment }
         ensures potentials { self.new.moment.potentials ≡ self.old.moment.potentials }
         ensures kept { self.new.kept ≡ self.old.kept }
     {
@@ -181,20 +178,20 @@ impl Tables {
 
     /// Makes an accepted edit that adds an arc.
     fn make_arc(&mut self, edit: &Edit)
-        requires certified { IsCertifiedFlow (reduced self.old.moment.instance) self.old.moment.flow (at_node self.old.moment.potentials) }
+        requires certified { IsCertifiedMoment self.old.moment }
         requires accepted { IsOk (edited self.old.moment.instance edit.now) }
         requires of_add { IsOfAdd edit.now }
-        ensures made { IsMade self.old.moment.instance self.new.moment.instance edit.now (at_node self.old.moment.potentials) self.old.moment.flow self.new.moment.flow }
-        ensures certified { IsCertifiedFlow (reduced self.new.moment.instance) self.new.moment.flow (at_node self.new.moment.potentials) }
+        ensures made { Makes edit.now self.old.moment self.new.moment }
+        ensures certified { IsCertifiedMoment self.new.moment }
         ensures potentials { self.new.moment.potentials ≡ self.old.moment.potentials }
         ensures kept { self.new.kept ≡ self.old.kept }
     {
         let row = added_row(self.graph.network(), edit);
         let flow = nearest(&row, reduced_cost(&row, self.potentials()), 0);
         // One arc more only takes certifying potentials away.
-        let stands = self.scratch.labels.standing;
+        let stands = self.potentials.greatest;
         self.put_last(row, flow);
-        self.scratch.labels.standing = stands;
+        self.potentials.greatest = stands;
     }
 
     /// Logs what an edit will replace that the instance accepts.
@@ -252,9 +249,9 @@ impl Tables {
     {
         self.before.verdict = None;
         self.balance.cost = cost_now(self.graph.rows(), &self.flow, self.balance.cost);
-        self.scratch.attempt.note_all(self.flow.touched.places());
+        self.scratch.note_all(self.flow.places());
         self.flow.snapshot();
-        self.potentials.snapshot();
+        self.potentials.table.snapshot();
         self.cut.snapshot();
         self.before.log.clear();
     }
@@ -266,11 +263,11 @@ impl Tables {
         ensures moment { self.new.moment ≡ record self.old.moment { flow = self.old.kept.flow; potentials = self.old.kept.potentials; verdict = verdict; cut = self.old.kept.cut } }
     {
         self.before.verdict = None;
-        self.scratch.labels.standing = false;
+        self.potentials.greatest = false;
         carry_back(self.graph.rows(), &self.flow, &mut self.balance.excess);
-        self.scratch.attempt.note_all(self.flow.touched.places());
+        self.scratch.note_all(self.flow.places());
         self.flow.bring_back();
-        self.potentials.bring_back();
+        self.potentials.table.bring_back();
         self.cut.bring_back();
         self.verdict = verdict;
     }
@@ -296,10 +293,10 @@ fn keeps_room(from: i64, to: i64, new_from: i64, new_to: i64) -> bool
 fn make_all(tables: &mut Tables, edits: &[Edit])
     requires few { length edits.now ≤ GROUP_LIMIT }
     requires fresh { tables.old.kept.log ≡ [] }
-    requires certified { IsCertifiedFlow (reduced tables.old.moment.instance) tables.old.moment.flow (at_node tables.old.moment.potentials) }
+    requires certified { IsCertifiedMoment tables.old.moment }
     requires accepted { IsOk (edited_all tables.old.moment.instance edits.now) }
-    ensures made { AreMade tables.old.moment.instance edits.now (at_node tables.old.moment.potentials) tables.old.moment.flow tables.new.moment.instance tables.new.moment.flow }
-    ensures certified { IsCertifiedFlow (reduced tables.new.moment.instance) tables.new.moment.flow (at_node tables.new.moment.potentials) }
+    ensures made { MakeAll edits.now tables.old.moment tables.new.moment }
+    ensures certified { IsCertifiedMoment tables.new.moment }
     ensures back { LeadsBack tables.new.kept.log tables.old.moment.instance tables.new.moment.instance }
     ensures kept { tables.new.kept ≡ record tables.old.kept { log = tables.new.kept.log } }
 {

@@ -27,12 +27,12 @@ impl Tables {
         ensures before { self.new.before ≡ None }
     {
         self.before.verdict = None;
-        self.scratch.labels.standing = false;
+        self.potentials.greatest = false;
         let place = self.graph.first_row() + (k as usize - 1);
         carry_over(
             &mut self.balance.excess,
             &self.graph.rows()[place],
-            self.flow.entries[place],
+            self.flow.get(place),
             *value,
         );
         self.flow.exchange(place, value);
@@ -48,8 +48,8 @@ impl Tables {
         ensures before { self.new.before ≡ None }
     {
         self.before.verdict = None;
-        self.scratch.labels.standing = false;
-        exchange_node(&mut self.potentials, id, value);
+        self.potentials.greatest = false;
+        exchange_node(&mut self.potentials.table, id, value);
     }
 
     /// Exchanges the mark of a node.
@@ -74,7 +74,7 @@ impl Tables {
         ensures before { self.new.before ≡ None }
     {
         self.before.verdict = None;
-        self.scratch.labels.standing = false;
+        self.potentials.greatest = false;
         carry_worth(
             self.graph.network(),
             self.graph.rows(),
@@ -97,17 +97,17 @@ impl Tables {
         ensures before { self.new.before ≡ None }
     {
         self.before.verdict = None;
-        self.scratch.labels.standing = false;
+        self.potentials.greatest = false;
         let place = self.graph.first_row() + (k as usize - 1);
         let before = self.graph.rows()[place];
         self.balance.cost = reprice(
             self.balance.cost,
             before.cost,
             row.cost,
-            self.flow.kept[place],
+            self.flow.whole()[place],
         );
         self.graph.set_row(k, *row);
-        self.scratch.attempt.note_all(&[place as u32]);
+        self.scratch.note_all(&[place as u32]);
         *row = before;
     }
 
@@ -138,11 +138,11 @@ impl Tables {
         ensures before { self.new.before ≡ None }
     {
         self.before.verdict = None;
-        self.scratch.labels.standing = false;
+        self.potentials.greatest = false;
         let last = self.graph.rows().len() - 1;
         let row = self.graph.rows()[last];
-        carry_over(&mut self.balance.excess, &row, self.flow.entries[last], 0);
-        self.balance.cost = reprice(self.balance.cost, self.flow.kept[last], 0, row.cost);
+        carry_over(&mut self.balance.excess, &row, self.flow.get(last), 0);
+        self.balance.cost = reprice(self.balance.cost, self.flow.whole()[last], 0, row.cost);
         let row = self.graph.pop_arc();
         let flow = self.flow.pop();
         (row, flow)
@@ -161,7 +161,7 @@ impl Tables {
         ensures before { self.new.before ≡ None }
     {
         self.before.verdict = None;
-        self.scratch.labels.standing = false;
+        self.potentials.greatest = false;
         carry_over(&mut self.balance.excess, &row, 0, flow);
         self.balance.cost = reprice(self.balance.cost, 0, flow, row.cost);
         self.graph.push_arc(row);

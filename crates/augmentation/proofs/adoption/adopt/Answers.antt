@@ -1,31 +1,36 @@
-use Rattle.std.proofs.Common.{◌∙◌, ℤ, List, ap, arith, length, refl, subst, sym}
+use Rattle.std.proofs.Common.{◌∙◌, ℤ, List, ap, arith, length, refl, subst, sym, take}
 use Rattle.std.specs.Vec.{with_items}
 use Rattle.std.proofs.lemmas.List.{with_items_is}
 use Rattle.augmentation.specs.Journal.{IsSince}
+use Rattle.augmentation.specs.ScratchView.{ScratchView}
 use Rattle.augmentation.specs.Touched.{AreNoted}
+use Rattle.augmentation.specs.Tracked.{IsTracked, TrackedView}
 use Rattle.augmentation.proofs.JournalLemmas.{since_noted}
-use Rattle.augmentation.proofs.TrackedLemmas.{IsWritten-noted, same_table}
+use Rattle.augmentation.proofs.TrackedLemmas.{IsTracked-noted}
 use Rattle.augmentation.proofs.adoption.adopt.Goals as goal
 
 pub returns-in-None-clause-adopted : goal.returns-in-None-clause-adopted
-returns-in-None-clause-adopted c = record {
-  same_flow = same_table c.args.flow.now c.draw-drawn.new.flow (c.in-None.ensures.none ∙ c.deref_mut.ensures.value);
-  same_excess = refl;
-  same_potentials = refl;
-}
+returns-in-None-clause-adopted c =
+    let f = c.flow.inside in
+    record {
+      same_flow = ap (λ (xs : List ℤ). record { entries = xs; kept = take f.size f.whole.items; whole = f.whole.items; room = length f.touched })
+          (with_items_is f.entries c.draw-drawn.new.flow (c.draw-drawn.auto.flow ∙ c.deref_mut.ensures.len) ∙ c.in-None.ensures.none ∙ c.deref_mut.ensures.value) ∙ c.flow.view_is;
+      same_excess = refl;
+      same_potentials = ap (λ (v : ScratchView). v.potentials) c.scratch.view_is;
+    }
 
 pub note_written-requires : goal.note_written-requires
 note_written-requires c = record {
-  room = λ k noted. omega (arith, c.in-Some.ensures.since.inside k noted, ap length c.deref_mut.ensures.value, c.requires.flow_tracked.marked);
+  room = λ k noted. omega (arith, c.in-Some.ensures.since.inside k noted, ap length c.deref_mut.ensures.value, c.flow.invariant.marked);
 }
 
-pub returns-in-Some-clause-flow_written : goal.returns-in-Some-clause-flow_written
-returns-in-Some-clause-flow_written c =
-    let t = c.args.flow.now in
+pub invariant_of-flow : goal.invariant_of-flow
+invariant_of-flow c =
+    let f = c.flow.inside in
     let y = c.draw-drawn.new.flow in
     let journal = c.draw-drawn.new.draft.journal in
     let now = c.note_written.new.touched in
-    let since : IsSince journal t.entries.items y = subst (λ (x : List ℤ). IsSince journal x y) c.deref_mut.ensures.value c.in-Some.ensures.since in
-    let noted : AreNoted t.touched t.entries.items now y = since_noted journal t.entries.items y t.touched now since c.note_written.ensures.same_size c.note_written.ensures.still c.note_written.ensures.noted in
-    IsWritten-noted t (record { entries = with_items t.entries y; kept = t.kept; size = t.size; touched = now }) c.requires.flow_tracked refl refl (omega arith)
-    (subst (λ (x : List ℤ). AreNoted t.touched t.entries.items now x) (sym (with_items_is t.entries y (c.draw-drawn.auto.flow ∙ c.deref_mut.ensures.len))) noted)
+    let since : IsSince journal f.entries.items y = subst (λ (x : List ℤ). IsSince journal x y) c.deref_mut.ensures.value c.in-Some.ensures.since in
+    let noted : AreNoted f.touched f.entries.items now y = since_noted journal f.entries.items y f.touched now since c.note_written.ensures.same_size c.note_written.ensures.still c.note_written.ensures.noted in
+    IsTracked-noted _ _ _ _ _ _ c.flow.invariant _ now _ (omega arith)
+    (subst (λ (x : List ℤ). AreNoted f.touched f.entries.items now x) (sym (with_items_is f.entries y (c.draw-drawn.auto.flow ∙ c.deref_mut.ensures.len))) noted)

@@ -1,8 +1,7 @@
 use Rattle.std.proofs.Common.{◌∙◌, ℕ, ℤ, List, arith, pos, refl, subst, sym}
 use Rattle.std.proofs.lemmas.Int.{ints}
 use Rattle.std.proofs.lemmas.List.{with_items_is}
-use Rattle.shortest_paths.specs.Limits.{label_floor}
-use Rattle.residual_graph.specs.Residual.{ArePotentials, IsPseudoflow}
+use Rattle.residual_graph.specs.Residual.{IsPseudoflow}
 use Rattle.augmentation.specs.Adoption.{IsCertifiedBy}
 use Rattle.augmentation.specs.Journal.{IsSince}
 use Rattle.augmentation.specs.Push.{ArePushes}
@@ -22,14 +21,19 @@ returns-then-still_certifies-clause-some c =
     let since : IsSince c.push_towards-pushes.new.journal x y = c.push_towards-pushes.ensures.since x (c.clear.ensures.since x c.requires.room) in
     let pushes : ArePushes g.rows n x e y f = subst (λ (d : List ℤ). ArePushes g.rows n x d y f) c.deref_mut.ensures.value c.push_towards-pushes.ensures.pushes in
     let is : IsCertifiedBy g n x e y f p = record {
-      certified = record {
-        flow = subst (λ (m : ℕ). IsPseudoflow m g.rows y) (sym c.requires.potentials) state.flow;
-        potentials = record { sized = refl; at_most_0 = in_range.at_most_0; at_least = λ v. (let low = in_range.at_least v in omega (arith, ints, low)) };
-        none_below = c.still_certifies.ensures.none_below c.if-still_certifies.true x c.requires.none_below (λ k out. since.elsewhere k out (pos 0));
+      ready = record {
+        state = record {
+          graph = c.requires.potentials;
+          certified = record {
+            flow = subst (λ (m : ℕ). IsPseudoflow m g.rows y) (sym c.requires.potentials) state.flow;
+            potentials = record { sized = refl; at_most_0 = in_range.at_most_0; at_least = λ v. (let low = in_range.at_least v in omega (arith, ints, low)) };
+            none_below = c.still_certifies.ensures.none_below c.if-still_certifies.true x c.requires.none_below (λ k out. since.elsewhere k out (pos 0));
+          };
+          excess_in = state.excess_sized ∙ sym c.requires.potentials;
+          small = state.small;
+        };
+        in_range = in_range;
       };
-      potentials_in = subst (λ (m : ℕ). ArePotentials m label_floor p) (c.requires.potentials ∙ sym c.requires.state.excess_sized) in_range;
-      excess_in = state.excess_sized ∙ sym c.requires.state.excess_sized;
-      small = state.small;
       pushes = pushes;
     } in
     subst (λ (d : List ℤ). IsCertifiedBy g n x e y d p) (sym (with_items_is c.args.draft.now.excess f (c.push_towards-pushes.auto.excess ∙ c.deref_mut.ensures.len))) is

@@ -6,8 +6,8 @@ use Rattle.augmentation.proofs.adoption.push_proposed.Goals as goal
 
 pub overflow_add-result : goal.overflow_add-result
 overflow_add-result c =
-    let sized : length c.args.excess.now ≡ length c.args.scratch.now.potentials.items = c.requires.excess_in in
-    let small : left c.args.excess.now ≤ left_limit = left-small (length c.args.scratch.now.potentials.items) c.args.excess.now c.requires.small sized c.requires.certified.flow.few_nodes in
+    let sized : length c.args.excess.now ≡ length c.args.scratch.now.potentials = c.requires.ready.state.excess_in in
+    let small : left c.args.excess.now ≤ left_limit = left-small (length c.args.scratch.now.potentials) c.args.excess.now c.requires.ready.state.small sized c.requires.ready.state.certified.flow.few_nodes in
     let first = c.in-Some.ensures.adopted.pushes.count in
     let rest = c.finish.ensures.pushed.count in
     let bound : c.in-Some.adopted + c.finish.result < 2 ^ 64 = omega (arith, small, first, rest) in

@@ -8,19 +8,19 @@ use Rattle.augmentation.proofs.PathLemmas.{IsOnward, onward_more, push_before, r
 use Rattle.augmentation.proofs.PushLemmas.{IsWithin-moved, push_elsewhere}
 use Rattle.augmentation.proofs.TrackedLemmas.{IsWritten-trans}
 use Rattle.augmentation.proofs.augment.shift.Goals as goal
-use Rattle.augmentation.proofs.augment.shift.Goals.{After-index}
+use Rattle.augmentation.proofs.augment.shift.Goals.{After-get}
 
 -- the hop back from the node, on which nothing was moved yet
-record IsHopBack (c : After-index) : Type 0 where
+record IsHopBack (c : After-get) : Type 0 where
   onward : IsOnward c.args.graph.now.rows c.args.node_labels.now c.args.target (before c.args.graph.now.rows c.args.node_labels.now c.loop-node.node) (hop_to c.args.node_labels.now c.loop-node.node ∷ c.loop-node.invariant.hops.0)
   is_arc : (hop_to c.args.node_labels.now c.loop-node.node).arc < length c.args.graph.now.rows
-  entry : to_z w64 (of_z w64 c.index.result.now) ≡ number_at c.loop-node.flow.entries.items (hop_to c.args.node_labels.now c.loop-node.node).arc
-  within : IsWithinRow (row_at c.args.graph.now.rows (hop_to c.args.node_labels.now c.loop-node.node).arc) (moved (hop_to c.args.node_labels.now c.loop-node.node).way (number_at c.loop-node.flow.entries.items (hop_to c.args.node_labels.now c.loop-node.node).arc) (to_z w64 (of_z w64 c.args.amount)))
+  entry : to_z w64 (of_z w64 c.get.result) ≡ number_at c.loop-node.flow.entries (hop_to c.args.node_labels.now c.loop-node.node).arc
+  within : IsWithinRow (row_at c.args.graph.now.rows (hop_to c.args.node_labels.now c.loop-node.node).arc) (moved (hop_to c.args.node_labels.now c.loop-node.node).way (number_at c.loop-node.flow.entries (hop_to c.args.node_labels.now c.loop-node.node).arc) (to_z w64 (of_z w64 c.args.amount)))
 
-hop_back : (c : After-index) → 0 < depth_at c.args.node_labels.now c.loop-node.node → IsHopBack c
+hop_back : (c : After-get) → 0 < depth_at c.args.node_labels.now c.loop-node.node → IsHopBack c
 hop_back c deep =
     let rows = c.args.graph.now.rows in
-    let x = c.args.flow.now.entries.items in
+    let x = c.args.flow.now.entries in
     let s = c.args.node_labels.now in
     let v = c.loop-node.node in
     let h = hop_to s v in
@@ -29,10 +29,10 @@ hop_back c deep =
     let hops = c.loop-node.invariant.hops in
     let came = c.requires.paths v hops.2.reached deep in
     let more = onward_more rows s x c.requires.paths c.args.target v hops.0 deep hops.2 in
-    let kept : number_at c.loop-node.flow.entries.items h.arc ≡ number_at x h.arc = ap (λ (y : List ℤ). number_at y h.arc) hops.3 ∙ push_elsewhere hops.0 m x h.arc more.apart.1 in
-    let k_in : h.arc < length c.loop-node.flow.entries.items = omega (arith, c.loop-node.invariant.written.same_length, c.requires.flow.same_length, came.residual.is_arc) in
-    let read : c.index.result.now ≡ number_at c.loop-node.flow.entries.items h.arc = c.index.ensures ∙ get_or_default c.loop-node.flow.entries.items h.arc c.index.result.now (pos 0) k_in in
-    let fits : SFits w64 c.index.result.now = search rules in
+    let kept : number_at c.loop-node.flow.entries h.arc ≡ number_at x h.arc = ap (λ (y : List ℤ). number_at y h.arc) hops.3 ∙ push_elsewhere hops.0 m x h.arc more.apart.1 in
+    let k_in : h.arc < length c.loop-node.flow.entries = omega (arith, c.loop-node.invariant.written.same_length, c.requires.flow.same_length, came.residual.is_arc) in
+    let read : c.get.result ≡ number_at c.loop-node.flow.entries h.arc = c.get.ensures ∙ get_or_default c.loop-node.flow.entries h.arc c.get.result (pos 0) k_in in
+    let fits : SFits w64 c.get.result = search rules in
     let path : HasRoom rows x c.args.amount (hops_before rows s (depth_at s (before rows s v)) (before rows s v) (h ∷ hops.0)) =
     subst (HasRoom rows x c.args.amount) (sym hops.1 ∙ step_back rows s x c.requires.paths v hops.0 hops.2.reached deep) c.requires.room in
     let here = (room_after rows s x c.args.amount (depth_at s (before rows s v)) (before rows s v) (h ∷ hops.0) path).0 in
@@ -40,30 +40,30 @@ hop_back c deep =
     record {
       onward = more;
       is_arc = came.residual.is_arc;
-      entry = to_z-of_z w64 c.index.result.now fits ∙ read;
+      entry = to_z-of_z w64 c.get.result fits ∙ read;
       within = subst (λ (y : ℤ). IsWithinRow (row_at rows h.arc) (moved h.way y m)) (sym kept)
           (IsWithin-moved _ (row_at rows h.arc) (number_at x h.arc) m h.way row (c.requires.flow.within h.arc came.residual.is_arc) (omega (arith, ints, same, c.requires.amount)) (omega (arith, ints, same, here)));
     }
 
 pub shifted-moved-requires : goal.shifted-moved-requires
 shifted-moved-requires c =
-    let back = hop_back (goal.at.shifted-moved-requires c).After-index (omega arith) in
+    let back = hop_back (goal.at.shifted-moved-requires c).After-get (omega arith) in
     let row = c.requires.flow.rows (hop_to c.args.node_labels.now c.loop-node.node).arc back.is_arc in
     rw back.entry (omega (arith, ints, back.within.low_kept, back.within.cap_kept, row.low_at_least_0, row.cap_in))
 
 pub loop-node-preserved : goal.loop-node-preserved
 loop-node-preserved c =
     let rows = c.args.graph.now.rows in
-    let x = c.args.flow.now.entries.items in
+    let x = c.args.flow.now.entries in
     let s = c.args.node_labels.now in
     let v = c.loop-node.node in
     let h = hop_to s v in
     let m = to_z w64 (of_z w64 c.args.amount) in
     let hops = c.loop-node.invariant.hops in
-    let back = hop_back (goal.at.loop-node-preserved c).After-index (omega arith) in
+    let back = hop_back (goal.at.loop-node-preserved c).After-get (omega arith) in
     let at_node : c.start-node.result ≡ before rows s v = c.start-node.ensures in
     let fits : SFits w64 c.shifted-moved.result = search rules in
-    let moved_is : to_z w64 (of_z w64 c.shifted-moved.result) ≡ moved h.way (number_at c.loop-node.flow.entries.items h.arc) m =
+    let moved_is : to_z w64 (of_z w64 c.shifted-moved.result) ≡ moved h.way (number_at c.loop-node.flow.entries h.arc) m =
     to_z-of_z w64 c.shifted-moved.result fits ∙ c.shifted-moved.ensures ∙ ap (λ (y : ℤ). moved h.way y m) back.entry in
     record {
       written = IsWritten-trans _ _ _ c.loop-node.invariant.written c.set.ensures.written;
@@ -71,6 +71,6 @@ loop-node-preserved c =
         h ∷ hops.0,
         ap (λ (u : ℕ). hops_before rows s (depth_at s u) u (h ∷ hops.0)) at_node ∙ sym (step_back rows s x c.requires.paths v hops.0 hops.2.reached (omega arith)) ∙ hops.1,
         subst (λ (u : ℕ). IsOnward rows s c.args.target u (h ∷ hops.0)) (sym at_node) back.onward,
-        c.set.ensures.entries ∙ ap (slice_set c.loop-node.flow.entries.items h.arc) moved_is ∙ push_before rows h hops.0 m x c.loop-node.flow.entries.items back.onward.apart hops.3,
+        c.set.ensures.entries ∙ ap (slice_set c.loop-node.flow.entries h.arc) moved_is ∙ push_before rows h hops.0 m x c.loop-node.flow.entries back.onward.apart hops.3,
       );
     }

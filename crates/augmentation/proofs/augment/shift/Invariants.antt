@@ -10,7 +10,7 @@ abbrev pub invariant-loop-node : goal.invariant-loop-node
 invariant-loop-node l = record {
   written : IsWritten l.initial.flow l.flow;
   hops : (hops : List ResidualArc) × (hops_before l.graph.rows l.node_labels (depth_at l.node_labels l.node) l.node hops ≡ path_to l.graph.rows l.node_labels l.target)
-      × IsOnward l.graph.rows l.node_labels l.target l.node hops × (l.flow.entries.items ≡ push_along hops l.amount l.initial.flow.entries.items);
+      × IsOnward l.graph.rows l.node_labels l.target l.node hops × (l.flow.entries ≡ push_along hops l.amount l.initial.flow.entries);
 }
 
 abbrev pub decreases-loop-node : goal.decreases-loop-node

@@ -6,5 +6,5 @@ use Rattle.augmentation.proofs.cut.take_marks.Given as goal
 abbrev pub invariant-loop-v : goal.invariant-loop-v
 invariant-loop-v l = record {
   written : IsWritten l.initial.cut l.cut;
-  taken : (k : ℕ) → k < l.v → (d : Bool) → slice_index_or l.cut.entries.items k d ≡ slice_index_or l.marks k d;
+  taken : (k : ℕ) → k < l.v → (d : Bool) → slice_index_or l.cut.entries k d ≡ slice_index_or l.marks k d;
 }

@@ -7,5 +7,5 @@ use Rattle.augmentation.proofs.potentials.write_labels.Given as goal
 abbrev pub invariant-loop-v : goal.invariant-loop-v
 invariant-loop-v l = record {
   written : IsWritten l.initial.table l.table;
-  done : (k : ℕ) → k < l.v → number_at l.table.entries.items k ≡ number_at l.potentials k +ℤ distance_at l.node_labels k;
+  done : (k : ℕ) → k < l.v → number_at l.table.entries k ≡ number_at l.potentials k +ℤ distance_at l.node_labels k;
 }

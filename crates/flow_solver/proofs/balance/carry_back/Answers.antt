@@ -3,7 +3,7 @@ use Rattle.std.proofs.lemmas.Int.{to_z-of_z}
 use Rattle.std.proofs.lemmas.List.{get_or_default}
 use Rattle.residual_graph.specs.Residual.{row_at, number_at}
 use Rattle.flow_solver.specs.Balance.{IsCarried, IsWrappedExcess}
-use Rattle.flow_solver.proofs.BalanceLemmas.{excess_step, part_step, part_past, part_ends}
+use Rattle.flow_solver.proofs.BalanceLemmas.{IsPartWay, excess_step, named_back, part_step, part_past, part_ends}
 use Rattle.flow_solver.proofs.balance.carry_back.Goals as goal
 use Rattle.flow_solver.proofs.balance.carry_back.Goals.{then-k-rows, else-k-rows}
 
@@ -11,8 +11,8 @@ pub loop-j-preserved : goal.loop-j-preserved
 loop-j-preserved c =
     let places = c.places-places.result.now in
     let rows = c.args.rows.now in
-    let kept = c.args.flow.now.kept.items in
-    let entries = c.args.flow.now.entries.items in
+    let kept = c.whole-kept.result.now in
+    let entries = c.args.flow.now.entries in
     let z = c.loop-j.invariant.1 in
     let part = c.loop-j.invariant.2 in
     let apart = c.places-places.ensures.apart in
@@ -21,13 +21,13 @@ loop-j-preserved c =
       | then-k-rows w ↦ (let place_in : slice_index_or places c.loop-j.j 0 < length c.args.rows.now = w.if-k-rows.true in
           let f = w.carry_over.new.excess in
           let next = slice_set z place (number_at kept place) in
-          let entry_fits : SFits w64 w.index.result.now = search rules in
-          let kept_fits : SFits w64 w.index-then-k-rows.result.now = search rules in
-          let entry : to_z w64 (of_z w64 w.index.result.now) ≡ number_at entries place = to_z-of_z w64 w.index.result.now entry_fits ∙ w.index.ensures ∙ get_or_default entries place w.index.result.now (pos 0) (omega (arith, c.requires.as_many)) in
-          let was : to_z w64 (of_z w64 w.index-then-k-rows.result.now) ≡ number_at kept place = to_z-of_z w64 w.index-then-k-rows.result.now kept_fits ∙ w.index-then-k-rows.ensures ∙ get_or_default kept place w.index-then-k-rows.result.now (pos 0) (omega (arith, c.requires.as_many, c.requires.tracked.same_length)) in
+          let entry_fits : SFits w64 w.get.result = search rules in
+          let kept_fits : SFits w64 (number_at kept place) = search rules in
+          let entry : to_z w64 (of_z w64 w.get.result) ≡ number_at entries place = to_z-of_z w64 w.get.result entry_fits ∙ w.get.ensures ∙ get_or_default entries place w.get.result (pos 0) (omega (arith, c.requires.as_many)) in
+          let was = to_z-of_z w64 (number_at kept place) kept_fits in
           let carried : IsCarried (row_at rows place) (number_at entries place) (number_at kept place) c.loop-j.excess w.carry_over.new.excess =
           subst (λ (m : ℤ). IsCarried (row_at rows place) (number_at entries place) m c.loop-j.excess w.carry_over.new.excess) was
-          (subst (λ (m : ℤ). IsCarried (row_at rows place) m (to_z w64 (of_z w64 w.index-then-k-rows.result.now)) c.loop-j.excess w.carry_over.new.excess) entry w.carry_over.ensures) in (
+          (subst (λ (m : ℤ). IsCarried (row_at rows place) m (to_z w64 (of_z w64 (number_at kept place))) c.loop-j.excess w.carry_over.new.excess) entry w.carry_over.ensures) in (
             ap (λ (e : List ℤ). length e) w.excess-is ∙ w.carry_over.ensures.same_length ∙ c.loop-j.invariant.0,
             next,
             part_step places entries kept c.loop-j.j z (omega arith) apart part (omega (arith, c.requires.as_many)),
@@ -37,7 +37,7 @@ loop-j-preserved c =
       | else-k-rows w ↦ (
         ap (λ (e : List ℤ). length e) w.excess-is ∙ c.loop-j.invariant.0,
         z,
-        part_past places entries kept c.loop-j.j z (omega arith) apart part (omega (arith, c.requires.as_many)) c.requires.tracked.same_length,
+        part_past places entries kept c.loop-j.j z (omega arith) apart part (omega (arith, c.requires.as_many)) c.whole-kept.ensures.as_many,
         λ supply is. subst (λ (e : List ℤ). IsWrappedExcess rows supply z e) (sym w.excess-is) (c.loop-j.invariant.3 supply is),
       )
     ]
@@ -51,8 +51,11 @@ carry_over-requires-clause-head_in c = omega (arith, (c.requires.ends _ c.if-k-r
 pub returns-clause-excess : goal.returns-clause-excess
 returns-clause-excess c =
     let rows = c.args.rows.now in
-    let kept = c.args.flow.now.kept.items in
-    let entries = c.args.flow.now.entries.items in
+    let places = c.places-places.result.now in
+    let kept = c.args.flow.now.whole in
+    let entries = c.args.flow.now.entries in
+    let sized : length kept ≡ length entries = ap length (sym c.whole-kept.ensures.value) ∙ c.whole-kept.ensures.as_many in
     λ supply is. subst (λ (x : List ℤ). IsWrappedExcess rows supply x c.loop-j.excess)
-    (part_ends c.args.flow.now.touched c.places-places.result.now entries kept c.loop-j.j c.loop-j.invariant.1 (omega arith) (omega arith) c.requires.tracked.same_length c.places-places.ensures.listed c.places-places.ensures.noted (λ k none. sym (c.requires.tracked.elsewhere k none (pos 0))) c.loop-j.invariant.2)
+    (part_ends places entries kept c.loop-j.j c.loop-j.invariant.1 (omega arith) sized (named_back places kept entries sized c.places-places.ensures.all_named)
+    (subst (λ (x : List ℤ). IsPartWay places entries x c.loop-j.j c.loop-j.invariant.1) c.whole-kept.ensures.value c.loop-j.invariant.2))
     (c.loop-j.invariant.3 supply is)

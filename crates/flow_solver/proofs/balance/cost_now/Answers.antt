@@ -1,8 +1,9 @@
-use Rattle.std.proofs.Common.{◌≡◌, ◌∙◌, ◌-ℤ◌, ◌*ℤ◌, ◌+ℤ◌, pos, arith, subst, sym, ◌<◌, length, slice_index_or, slice_set, w64, SFits, rules, to_z, of_z}
+use Rattle.std.proofs.Common.{◌≡◌, ◌∙◌, ◌-ℤ◌, ◌*ℤ◌, ◌+ℤ◌, ℤ, List, pos, arith, subst, sym, ◌<◌, length, slice_index_or, slice_set, w64, SFits, rules, to_z, of_z}
 use Rattle.std.specs.Int.{int_wrap, w128}
 use Rattle.std.proofs.lemmas.Int.{to_z-of_z}
 use Rattle.std.proofs.lemmas.List.{get_or_default}
 use Rattle.residual_graph.specs.Residual.{row_at, number_at}
+use Rattle.augmentation.specs.Touched.{NameChanges}
 use Rattle.flow_solver.specs.Balance.{IsWrappedCost}
 use Rattle.flow_solver.proofs.BalanceLemmas.{cost_step, part_step, part_past, part_ends}
 use Rattle.flow_solver.proofs.balance.cost_now.Goals as goal
@@ -11,35 +12,36 @@ use Rattle.flow_solver.proofs.balance.cost_now.Goals.{then-k-rows, else-k-rows}
 pub loop-j-preserved : goal.loop-j-preserved
 loop-j-preserved c =
     let places = c.places-places.result.now in
-    let kept = c.args.flow.now.kept.items in
-    let entries = c.args.flow.now.entries.items in
+    let kept = c.whole-kept.result.now in
+    let entries = c.args.flow.now.entries in
     let z = c.loop-j.invariant.0 in
     let part = c.loop-j.invariant.1 in
     let apart = c.places-places.ensures.apart in
     elim c.if-k-rows.branch [
       | then-k-rows w ↦ (let place = slice_index_or c.places-places.result.now c.loop-j.j 0 in
           let place_in : slice_index_or places c.loop-j.j 0 < length c.args.rows.now = w.if-k-rows.true in
-          let entry_fits : SFits w64 w.index-then-k-rows.result.now = search rules in
-          let kept_fits : SFits w64 w.index.result.now = search rules in
+          let entry_fits : SFits w64 w.get.result = search rules in
+          let kept_fits : SFits w64 (number_at kept place) = search rules in
           let cost_fits : SFits w64 (row_at c.args.rows.now place).cost = search rules in
-          let entry : to_z w64 (of_z w64 w.index-then-k-rows.result.now) ≡ number_at entries place = to_z-of_z w64 w.index-then-k-rows.result.now entry_fits ∙ w.index-then-k-rows.ensures ∙ get_or_default entries place w.index-then-k-rows.result.now (pos 0) (omega (arith, c.requires.as_many)) in
-          let was : to_z w64 (of_z w64 w.index.result.now) ≡ number_at kept place = to_z-of_z w64 w.index.result.now kept_fits ∙ w.index.ensures ∙ get_or_default kept place w.index.result.now (pos 0) (omega (arith, c.requires.as_many, c.requires.tracked.same_length)) in
+          let entry : to_z w64 (of_z w64 w.get.result) ≡ number_at entries place = to_z-of_z w64 w.get.result entry_fits ∙ w.get.ensures ∙ get_or_default entries place w.get.result (pos 0) (omega (arith, c.requires.as_many)) in
+          let was = to_z-of_z w64 (number_at kept place) kept_fits in
           let price : to_z w64 (of_z w64 (row_at c.args.rows.now place).cost) ≡ (row_at c.args.rows.now place).cost = to_z-of_z w64 (row_at c.args.rows.now place).cost cost_fits in
           let result_is : to_z w128 c.if-k-rows.now-bits ≡ int_wrap w128 (to_z w128 c.loop-j.now-bits +ℤ (number_at entries place -ℤ number_at kept place) *ℤ (row_at c.args.rows.now place).cost) =
           w.now-is ∙ to_z-of_z w128 w.reprice-now.result (record { sfits = w.reprice-now.type_inv }) ∙ w.reprice-now.ensures
           ∙ (λ i. int_wrap w128 (to_z w128 c.loop-j.now-bits +ℤ (entry i -ℤ was i) *ℤ price i)) in (
             slice_set z (slice_index_or places c.loop-j.j 0) (number_at entries (slice_index_or places c.loop-j.j 0)),
-            part_step places kept entries c.loop-j.j z (omega arith) apart part (omega (arith, c.requires.as_many, c.requires.tracked.same_length)),
-            cost_step places kept entries c.loop-j.j z (omega arith) apart part c.args.rows.now (to_z w128 c.loop-j.now-bits) (to_z w128 c.if-k-rows.now-bits) (omega (arith, c.requires.as_many, c.requires.tracked.same_length)) place_in result_is c.loop-j.invariant.2,
+            part_step places kept entries c.loop-j.j z (omega arith) apart part (omega (arith, c.requires.as_many, c.whole-kept.ensures.as_many)),
+            cost_step places kept entries c.loop-j.j z (omega arith) apart part c.args.rows.now (to_z w128 c.loop-j.now-bits) (to_z w128 c.if-k-rows.now-bits) (omega (arith, c.requires.as_many, c.whole-kept.ensures.as_many)) place_in result_is c.loop-j.invariant.2,
           ))
-      | else-k-rows w ↦ (z, part_past places kept entries c.loop-j.j z (omega arith) apart part (omega (arith, c.requires.as_many, c.requires.tracked.same_length)) (sym c.requires.tracked.same_length), w.now-is ∙ c.loop-j.invariant.2)
+      | else-k-rows w ↦ (z, part_past places kept entries c.loop-j.j z (omega arith) apart part (omega (arith, c.requires.as_many, c.whole-kept.ensures.as_many)) (sym c.whole-kept.ensures.as_many), w.now-is ∙ c.loop-j.invariant.2)
     ]
 
 pub returns : goal.returns
 returns c =
     let places = c.places-places.result.now in
-    let kept = c.args.flow.now.kept.items in
-    let entries = c.args.flow.now.entries.items in
+    let kept = c.whole-kept.result.now in
+    let entries = c.args.flow.now.entries in
+    let named : NameChanges 0 places kept entries = subst (λ (xs : List ℤ). NameChanges 0 places xs entries) (sym c.whole-kept.ensures.value) c.places-places.ensures.all_named in
     subst (λ x. IsWrappedCost c.args.rows.now x (to_z w128 c.loop-j.now-bits))
-    (part_ends c.args.flow.now.touched places kept entries c.loop-j.j c.loop-j.invariant.0 (omega arith) (omega arith) (sym c.requires.tracked.same_length) c.places-places.ensures.listed c.places-places.ensures.noted (λ k none. c.requires.tracked.elsewhere k none (pos 0)) c.loop-j.invariant.1)
+    (part_ends places kept entries c.loop-j.j c.loop-j.invariant.0 (omega arith) (sym c.whole-kept.ensures.as_many) named c.loop-j.invariant.1)
     c.loop-j.invariant.2

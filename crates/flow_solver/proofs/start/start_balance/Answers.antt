@@ -17,9 +17,9 @@ returns-clause-balance c =
     let balance = c.in_ok-balance.balance in
     record {
       sized = c.in_ok-balance.ensures.sized ∙ ap (λ (J : Instance). J.nodes + 1) c.network-2.ensures;
-      excess = subst (λ (r : List ArcRow). IsWrappedExcess r (sends I) flow.entries.items balance.excess) c.rows-2.ensures
-          (subst (λ (x : List ℤ). IsWrappedExcess c.rows-2.result.now (sends I) x balance.excess) c.deref.ensures.value
-          (subst (λ (J : Instance). IsWrappedExcess c.rows-2.result.now (sends J) c.deref.result.now balance.excess) c.network-2.ensures c.in_ok-balance.ensures.excess));
-      cost = subst (λ (r : List ArcRow). IsWrappedCost r flow.kept.items balance.cost) c.rows-2.ensures
-          (subst (λ (x : List ℤ). IsWrappedCost c.rows-2.result.now x balance.cost) (c.deref.ensures.value ∙ c.in_ok-flow.ensures.entries ∙ sym c.in_ok-flow.ensures.whole) c.in_ok-balance.ensures.cost);
+      excess = subst (λ (r : List ArcRow). IsWrappedExcess r (sends I) flow.entries balance.excess) c.rows-2.ensures
+          (subst (λ (x : List ℤ). IsWrappedExcess c.rows-2.result.now (sends I) x balance.excess) c.entries.ensures
+          (subst (λ (J : Instance). IsWrappedExcess c.rows-2.result.now (sends J) c.entries.result.now balance.excess) c.network-2.ensures c.in_ok-balance.ensures.excess));
+      cost = subst (λ (r : List ArcRow). IsWrappedCost r flow.whole balance.cost) c.rows-2.ensures
+          (subst (λ (x : List ℤ). IsWrappedCost c.rows-2.result.now x balance.cost) (c.entries.ensures ∙ c.in_ok-flow.ensures.entries ∙ sym c.in_ok-flow.ensures.whole) c.in_ok-balance.ensures.cost);
     }

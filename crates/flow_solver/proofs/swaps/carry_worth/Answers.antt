@@ -12,7 +12,7 @@ returns-in-Best-clause-balance c =
     let balance = c.args.balance.now in
     let first : 0 < length c.args.rows.now = search rules in
     let many = c.requires.flow_in ∙ sym (ap length c.requires.rows) in
-    let entry_fits : SFits w64 c.index.result.now = search rules in
-    let entry : to_z w64 (of_z w64 c.index.result.now) ≡ number_at flow.entries.items 0 = to_z-of_z w64 c.index.result.now entry_fits ∙ c.index.ensures ∙ get_or_default flow.entries.items 0 c.index.result.now (pos 0) (omega (arith, first, many)) in
-    let carried = carried_as (row_at rows 0) _ (number_at flow.entries.items 0) _ _ _ balance.excess _ refl entry refl c.carry_over.ensures in
-    balance_set c.args.net.now rows flow c.set.new.self balance _ 0 _ first many carried refl c.set.ensures.entries c.set.ensures.written.kept c.requires.balance
+    let entry_fits : SFits w64 c.get.result = search rules in
+    let entry : to_z w64 (of_z w64 c.get.result) ≡ number_at flow.entries 0 = to_z-of_z w64 c.get.result entry_fits ∙ c.get.ensures ∙ get_or_default flow.entries 0 c.get.result (pos 0) (omega (arith, first, many)) in
+    let carried = carried_as (row_at rows 0) _ (number_at flow.entries 0) _ _ _ balance.excess _ refl entry refl c.carry_over.ensures in
+    balance_set c.args.net.now rows flow c.set.new.self balance _ 0 _ first many carried refl c.set.ensures.entries c.set.ensures.written.whole c.requires.balance

@@ -31,7 +31,7 @@ back c =
     (subst (λ (ps : List Part). LeadsBack ps c.snapshot.new.self.moment.instance c.make_all.new.tables.moment.instance) (sym log) c.make_all.ensures.back))
 
 -- what was kept is kept still
-kept_is : (c : After-self-1) → kept_by c.self-2.inside.flow c.self-2.inside.potentials c.self-2.inside.cut c.self-2.inside.before.log.items ≡ record (kept_of c.args.self.now.moment) { log = c.self-2.inside.before.log.items }
+kept_is : (c : After-self-1) → kept_by c.self-2.inside.flow c.self-2.inside.potentials.table c.self-2.inside.cut c.self-2.inside.before.log.items ≡ record (kept_of c.args.self.now.moment) { log = c.self-2.inside.before.log.items }
 kept_is c =
     let all = ap (λ (d : TablesView). d.kept) c.self-2.view_is ∙ c.settle-pushes.ensures.kept ∙ c.make_all.ensures.kept in
     ap (λ (k : Snapshot). record k { log = c.self-2.inside.before.log.items }) (all ∙ ap (λ (k : Snapshot). record k { log = c.make_all.new.tables.kept.log }) c.snapshot.ensures.kept)
@@ -43,8 +43,8 @@ invariant_of-self c =
     let leads = back c in
     record {
       graph = inv.graph;
-      flow_tracked = inv.flow_tracked;
       flow_in = inv.flow_in;
+      flow_whole = inv.flow_whole;
       flow_fits = inv.flow_fits;
       potentials_in = inv.potentials_in;
       idle = inv.idle;
@@ -52,7 +52,7 @@ invariant_of-self c =
       balance_is = inv.balance_is;
       cut_in = inv.cut_in;
       scratch_in = inv.scratch_in;
-      standing = inv.standing;
+      told = inv.told;
       log_fits = inv.log_fits;
       before_is = (
         leads.can,
@@ -70,7 +70,7 @@ pub returns-clause-before : goal.returns-clause-before
 returns-clause-before c =
     let t = c.self-2.inside in
     let told = ap (λ (d : TablesView). d.moment.verdict) c.self.view_is in
-    ap Some (moment_kept (before_all t.before.log.items t.graph.net) (kept_by t.flow t.potentials t.cut t.before.log.items) c.self.inside.verdict c.args.self.now.moment (back c).back (kept_is c) told)
+    ap Some (moment_kept (before_all t.before.log.items t.graph.net) (kept_by t.flow t.potentials.table t.cut t.before.log.items) c.self.inside.verdict c.args.self.now.moment (back c).back (kept_is c) told)
 
 pub returns-clause-changed : goal.returns-clause-changed
 returns-clause-changed c =

@@ -1,15 +1,13 @@
 use Rattle.std.proofs.Common.{◌≡◌, ◌∙◌, ◌-◌, ◌<◌, ◌∷◌, [], ◌+ℤ◌, ◌-ℤ◌, ◌*ℤ◌, ℕ, ℤ, List, pos, drop, ap, arith, false, length, refl, rules, subst, sym, w64, SFits, to_z, of_z}
 use Rattle.std.specs.Int.{int_wrap, w128}
 use Rattle.std.proofs.lemmas.Int.{to_z-of_z}
-use Rattle.std.proofs.lemmas.List.{get_or_default, length-append}
+use Rattle.std.proofs.lemmas.List.{get_or_default, length-append, length-take-le}
 use Rattle.dimacs_text.specs.declared.problem.ArcRow.{ArcRow}
 use Rattle.network.specs.Instance.{Instance}
 use Rattle.flow_solver.specs.TablesView.{TablesView}
 use Rattle.residual_graph.specs.Residual.{row_at, number_at}
-use Rattle.augmentation.specs.Tracked.{kept_in}
 use Rattle.flow_solver.proofs.CarryLemmas.{arcs_in, balance_dropped, carried_as, ends_in}
-use Rattle.flow_solver.proofs.TablesViewLemmas.{length_kept, tables_with_arcs}
-use Rattle.flow_solver.proofs.StandingLemmas.{scratch_told}
+use Rattle.flow_solver.proofs.TablesViewLemmas.{tables_with_arcs}
 use Rattle.flow_solver.proofs.tables.Tables.drop_last.Goals as goal
 use Rattle.flow_solver.proofs.tables.Tables.drop_last.Goals.{After-rows}
 
@@ -46,27 +44,28 @@ invariant_of-self c =
     let there = last_place (goal.at.invariant_of-self c).After-rows in
     let many = ap (λ (r : List ArcRow). length r) c.rows.ensures in
     let row : row_at c.rows-2.result.now last ≡ row_at t.graph.rows last = ap (λ (r : List ArcRow). row_at r last) c.rows-2.ensures in
-    let entry_fits : SFits w64 c.index.result.now = search rules in
-    let kept_fits : SFits w64 c.index-2.result.now = search rules in
+    let entry_fits : SFits w64 c.get.result = search rules in
+    let kept_fits : SFits w64 (number_at c.whole.result.now last) = search rules in
     let price_fits : SFits w64 (row_at c.rows-2.result.now last).cost = search rules in
     let old_fits : SFits w128 c.self.inside.balance.cost = search rules in
-    let entry : to_z w64 (of_z w64 c.index.result.now) ≡ number_at t.flow.entries.items last = to_z-of_z w64 c.index.result.now entry_fits ∙ c.index.ensures ∙ get_or_default t.flow.entries.items last c.index.result.now (pos 0) (omega (arith, there, inv.flow_in)) in
-    let was : to_z w64 (of_z w64 c.index-2.result.now) ≡ number_at t.flow.kept.items last = to_z-of_z w64 c.index-2.result.now kept_fits ∙ c.index-2.ensures ∙ get_or_default t.flow.kept.items last c.index-2.result.now (pos 0) (omega (arith, there, inv.flow_in, inv.flow_tracked.same_length)) in
+    let entry : to_z w64 (of_z w64 c.get.result) ≡ number_at t.flow.entries last = to_z-of_z w64 c.get.result entry_fits ∙ c.get.ensures ∙ get_or_default t.flow.entries last c.get.result (pos 0) (omega (arith, there, inv.flow_in)) in
+    let was : to_z w64 (of_z w64 (number_at c.whole.result.now last)) ≡ number_at t.flow.whole last = to_z-of_z w64 (number_at c.whole.result.now last) kept_fits ∙ ap (λ (x : List ℤ). number_at x last) c.whole.ensures.value in
     let price : to_z w64 (of_z w64 (row_at c.rows-2.result.now last).cost) ≡ (row_at t.graph.rows last).cost = to_z-of_z w64 (row_at c.rows-2.result.now last).cost price_fits ∙ ap (λ a. a.cost) row in
     let old = to_z-of_z w128 t.balance.cost old_fits in
-    let cost : to_z w128 (of_z w128 c.reprice-self-inside.result) ≡ int_wrap w128 (t.balance.cost +ℤ (pos 0 -ℤ number_at t.flow.kept.items last) *ℤ (row_at t.graph.rows last).cost) =
+    let cost : to_z w128 (of_z w128 c.reprice-self-inside.result) ≡ int_wrap w128 (t.balance.cost +ℤ (pos 0 -ℤ number_at t.flow.whole last) *ℤ (row_at t.graph.rows last).cost) =
     to_z-of_z w128 c.reprice-self-inside.result (record { sfits = c.reprice-self-inside.type_inv }) ∙ c.reprice-self-inside.ensures ∙ (λ i. int_wrap w128 (old i +ℤ (pos 0 -ℤ was i) *ℤ price i)) in
     let now = record t.balance { excess = c.carry_over.new.excess; cost = to_z w128 (of_z w128 c.reprice-self-inside.result) } in
-    let carried = carried_as (row_at t.graph.rows last) _ (number_at t.flow.entries.items last) _ (pos 0) _ t.balance.excess now.excess row entry refl c.carry_over.ensures in
+    let carried = carried_as (row_at t.graph.rows last) _ (number_at t.flow.entries last) _ (pos 0) _ t.balance.excess now.excess row entry refl c.carry_over.ensures in
     let balance = balance_dropped I J t.graph.rows c.pop_arc-row.new.self.rows t.flow c.pop-flow.new.self t.balance now c.pop_arc-row.result c.pop-flow.result last
-    inv.graph.rows.rows_are c.pop_arc-row.ensures.graph.rows.rows_are c.pop_arc-row.ensures.net c.pop-flow.ensures.tracked inv.flow_in (inv.flow_tracked.same_length ∙ inv.flow_in) c.pop-flow.ensures.entries c.pop-flow.ensures.whole
+    inv.graph.rows.rows_are c.pop_arc-row.ensures.graph.rows.rows_are c.pop_arc-row.ensures.net inv.flow_in inv.flow_whole c.pop-flow.ensures.entries c.pop-flow.ensures.whole
     (ap (λ (n : ℕ). n - 1) many) carried cost inv.balance_is in
     let one_less = ap (λ (r : List ArcRow). length r) c.pop_arc-row.ensures.rows ∙ length-append c.pop_arc-row.new.self.rows (c.pop_arc-row.result ∷ []) in
-    tables_with_arcs t.graph c.pop_arc-row.new.self t.flow c.pop-flow.new.self t.potentials t.balance now t.cut t.scratch _ t.before
+    let entries_less = ap (λ (xs : List ℤ). length xs) c.pop-flow.ensures.entries ∙ length-append c.pop-flow.new.self.entries (c.pop-flow.result ∷ []) in
+    tables_with_arcs t.graph c.pop_arc-row.new.self t.flow c.pop-flow.new.self t.potentials t.balance now t.cut t.scratch t.before
     inv (sym (ap (λ (K : Instance). K.nodes) c.pop_arc-row.ensures.net)) (sym (ap (λ (K : Instance). K.room) c.pop_arc-row.ensures.net)) c.pop_arc-row.ensures.graph
-    c.pop-flow.ensures.tracked
-    (omega (arith, ap (λ (xs : List ℤ). length xs) c.pop-flow.ensures.entries, length-append c.pop-flow.new.self.entries.items (c.pop-flow.result ∷ []), inv.flow_in, one_less))
-    c.pop-flow.ensures.room balance (scratch_told _ t.scratch false inv.scratch_in) (λ none. cc)
+    (omega (arith, entries_less, inv.flow_in, one_less))
+    (omega (arith, ap (λ (xs : List ℤ). length xs) c.pop-flow.ensures.whole, length-take-le (length c.pop-flow.new.self.entries) t.flow.whole (omega (arith, entries_less, inv.flow_in, inv.flow_whole)), entries_less, inv.flow_in, one_less))
+    c.pop-flow.ensures.room balance
 
 pub returns-clause-kept : goal.returns-clause-kept
 returns-clause-kept c asked =
@@ -74,6 +73,6 @@ returns-clause-kept c asked =
     let inv = c.self.invariant in
     let view = ap (λ (b : TablesView). length b.kept.flow) c.self.view_is in
     let one_less = ap (λ (r : List ArcRow). length r) c.pop_arc-row.ensures.rows ∙ length-append c.pop_arc-row.new.self.rows (c.pop_arc-row.result ∷ []) in
-    let less : t.flow.size < length t.flow.entries.items = omega (arith, asked, view, length_kept t.flow inv.flow_tracked, ap (λ (r : List ArcRow). length r) c.pop_arc-row.ensures.graph.rows.rows_are, one_less, inv.flow_in) in
-    ap (λ (x : List ℤ). record { flow = x; potentials = drop 1 (kept_in t.potentials); cut = drop 1 (kept_in t.cut); log = t.before.log.items }) (c.pop-flow.ensures.kept less)
+    let less : length t.flow.kept < length t.flow.entries = omega (arith, asked, view, ap (λ (r : List ArcRow). length r) c.pop_arc-row.ensures.graph.rows.rows_are, one_less, inv.flow_in) in
+    ap (λ (x : List ℤ). record { flow = x; potentials = drop 1 t.potentials.table.kept; cut = drop 1 t.cut.kept; log = t.before.log.items }) (c.pop-flow.ensures.kept less)
     ∙ ap (λ (b : TablesView). b.kept) c.self.view_is

@@ -42,7 +42,7 @@ invariant_of-self c =
     tables_told t.graph t.flow t.potentials t.balance t.cut t.scratch t.before _ c.self-2.invariant (λ stood.
     subst (λ (n : Moment). AreGreatestPotentials (reduced n.instance) n.flow (at_node n.potentials)) (sym now)
     (greatest_more m.instance c.added_row-row.result (at_node m.potentials) m.flow (after s) c.requires.certified
-    (subst (λ (b : TablesView). AreGreatestPotentials (reduced b.moment.instance) b.moment.flow (at_node b.moment.potentials)) c.self.view_is (c.self.invariant.standing stood))))
+    (subst (λ (b : TablesView). AreGreatestPotentials (reduced b.moment.instance) b.moment.flow (at_node b.moment.potentials)) c.self.view_is (c.self.invariant.told stood))))
 
 pub returns-clause-made : goal.returns-clause-made
 returns-clause-made c =

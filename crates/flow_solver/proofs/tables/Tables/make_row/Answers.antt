@@ -61,7 +61,7 @@ invariant_of-self c =
           (greatest_changed m.instance c.edited_row-k.result.0 c.edited_row-k.result.1 (at_node m.potentials) m.flow (after s) (edit_is s).arc (edit_is s).tail (edit_is s).head
           (λ tight. subst (λ (y : ℤ). KeepsResidualArcs (row_at (reduced m.instance).arcs (flow_index m.instance.demand c.edited_row-k.result.0)) (number_at m.flow (flow_index m.instance.demand c.edited_row-k.result.0)) c.edited_row-k.result.1 y)
           (to_z-of_z w64 (after s) after_fits) (w.keeps_greatest-stands.ensures (sym w.stands-is ∙ stands) tight)) c.requires.certified
-          (subst (λ (b : TablesView). AreGreatestPotentials (reduced b.moment.instance) b.moment.flow (at_node b.moment.potentials)) c.self.view_is (c.self.invariant.standing w.if-self.true)))
+          (subst (λ (b : TablesView). AreGreatestPotentials (reduced b.moment.instance) b.moment.flow (at_node b.moment.potentials)) c.self.view_is (c.self.invariant.told w.if-self.true)))
       | else-self w ↦ (let wrong : false ≡ true = sym w.if-self.false ∙ sym w.stands-is ∙ stands in cc)
     ])
 

@@ -3,7 +3,6 @@ use Rattle.std.proofs.lemmas.Int.{ints}
 use Rattle.std.proofs.lemmas.List.{length-map, length-replicate}
 use Rattle.network.specs.Flow.{IsCertifiedFlow}
 use Rattle.network.specs.Instance.{Instance, at_node, reduced}
-use Rattle.augmentation.specs.Scratch.{IsScratchFor}
 use Rattle.flow_solver.specs.Moment.{start}
 use Rattle.augmentation.specs.Nodes.{IsIdleEntry}
 use Rattle.residual_graph.specs.Residual.{number_at}
@@ -19,7 +18,7 @@ idle_zeros n =
     (omega (arith, ints, first), omega (arith, ints, first))
 
 -- the flow is that of the start
-started : (c : In_ok-potentials) → c.in_ok-flow.flow.entries.items ≡ map start (reduced c.in_ok-graph.graph.net).arcs
+started : (c : In_ok-potentials) → c.in_ok-flow.flow.entries ≡ map start (reduced c.in_ok-graph.graph.net).arcs
 started c = c.in_ok-flow.ensures.flow ∙ ap (map start) c.in_ok-graph.ensures.graph.rows.rows_are
 
 pub invariant_of-result : goal.invariant_of-result
@@ -31,16 +30,16 @@ invariant_of-result c =
     let entries : c.nodes.result + 1 ≡ graph.net.nodes + 1 = ap (λ (n : ℕ). n + 1) (c.nodes.ensures.value ∙ ap (λ (I : Instance). I.nodes) c.network-2.ensures) in
     record {
       graph = c.in_ok-graph.ensures.graph;
-      flow_tracked = c.in_ok-flow.ensures.tracked;
       flow_in = ap (λ (xs : List ℤ). length xs) c.in_ok-flow.ensures.flow ∙ length-map graph.rows start;
+      flow_whole = ap (λ (xs : List ℤ). length xs) c.in_ok-flow.ensures.whole ∙ length-map graph.rows start;
       flow_fits = omega (arith, c.in_ok-flow.ensures.room);
-      potentials_in = nodes_alike graph.net.nodes c.in_ok-potentials.potentials zeros zeros nodes.potentials_tracked nodes.potentials nodes.potentials_kept (length-replicate (c.nodes.result + 1) (pos 0) ∙ entries) (length-replicate (c.nodes.result + 1) (pos 0) ∙ entries);
+      potentials_in = nodes_alike graph.net.nodes c.in_ok-potentials.potentials zeros zeros nodes.potentials nodes.potentials_kept (length-replicate (c.nodes.result + 1) (pos 0) ∙ entries) (length-replicate (c.nodes.result + 1) (pos 0) ∙ entries);
       idle = subst IsIdleEntry (sym nodes.potentials) (idle_zeros c.nodes.result);
       kept_idle = subst IsIdleEntry (sym nodes.potentials_kept) (idle_zeros c.nodes.result);
       balance_is = c.in_ok-flow.ensures.balance;
-      cut_in = nodes_alike graph.net.nodes c.in_ok-potentials.cut unmarked unmarked nodes.cut_tracked nodes.cut nodes.cut_kept (length-replicate (c.nodes.result + 1) false ∙ entries) (length-replicate (c.nodes.result + 1) false ∙ entries);
-      scratch_in = subst (λ (n : ℕ). IsScratchFor n c.in_ok-potentials.scratch) entries nodes.scratch;
-      standing = λ stood. (let wrong : false ≡ true = sym nodes.standing ∙ stood in cc);
+      cut_in = nodes_alike graph.net.nodes c.in_ok-potentials.cut unmarked unmarked nodes.cut nodes.cut_kept (length-replicate (c.nodes.result + 1) false ∙ entries) (length-replicate (c.nodes.result + 1) false ∙ entries);
+      scratch_in = nodes.scratch ∙ entries;
+      told = λ none. cc;
       log_fits = omega (arith, c.in_ok-log.ensures.capacity);
       before_is = tt;
     }
@@ -58,6 +57,6 @@ returns-clause-start c =
 pub returns-clause-certified : goal.returns-clause-certified
 returns-clause-certified c =
     let I = c.in_ok-graph.graph.net in
-    let potentials = c.in_ok-potentials.potentials.entries.items in
+    let potentials = c.in_ok-potentials.potentials.entries in
     subst (λ (x : List ℤ). IsCertifiedFlow (reduced I) x (at_node (drop 1 potentials))) (sym (started c))
     (start_certified I (at_node (drop 1 potentials)) c.in_ok-graph.ensures.graph.rows.lawful (λ v. ap (λ (p : List ℤ). at_node (drop 1 p) v) c.in_ok-potentials.ensures.potentials ∙ zero_entries (c.nodes.result + 1) v))

@@ -13,7 +13,7 @@ use Rattle.flow_solver.proofs.tables.Tables.old_flow.Goals.{After-before-2}
 within : (c : After-before-2) → c.return_count-first.result ≤ length c.before-2.result.now
 within c =
     let t = c.self.inside in
-    let kept = kept_by t.flow t.potentials t.cut t.before.log.items in
+    let kept = kept_by t.flow t.potentials.table t.cut t.before.log.items in
     let counted = c.return_count-first.ensures ∙ ap (λ (I : Instance). return_count I.demand) c.network.ensures in
     let some = subst (λ (d : TablesView). IsSome d.before) (sym c.self.view_is) c.requires in
     omega (arith, return_kept t.before.verdict t.graph.net kept some c.self.invariant.before_is, counted, ap (λ (xs : List ℤ). length xs) c.before-2.ensures)
@@ -29,7 +29,7 @@ returns c =
     let t = c.self.inside in
     let n = c.return_count-first.result in
     let r = c.before-2.result.now in
-    let kept = kept_by t.flow t.potentials t.cut t.before.log.items in
+    let kept = kept_by t.flow t.potentials.table t.cut t.before.log.items in
     let counted = c.return_count-first.ensures ∙ ap (λ (I : Instance). return_count I.demand) c.network.ensures in
     let all : take (length r - n) (drop n r) ≡ drop (return_count t.graph.net.demand) kept.flow =
     take_all (length r - n) (drop n r) (omega (arith, length-drop n r)) ∙ ap (λ (xs : List ℤ). drop n xs) c.before-2.ensures ∙ ap (λ (k : ℕ). drop k kept.flow) counted in

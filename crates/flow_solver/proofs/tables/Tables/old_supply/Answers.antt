@@ -12,7 +12,7 @@ use Rattle.flow_solver.proofs.tables.Tables.old_supply.Goals as goal
 pub returns-clause-node : goal.returns-clause-node
 returns-clause-node c =
     let t = c.self.inside in
-    let kept = kept_by t.flow t.potentials t.cut t.before.log.items in
+    let kept = kept_by t.flow t.potentials.table t.cut t.before.log.items in
     let id = c.args.id in
     let result = c.supply_before.result in
     let told = subst (λ (I : Instance). IsNode I.nodes id → result ≡ Some (reduced_supply (before_all c.deref.result.now I).demand id)) c.network.ensures c.supply_before.ensures.node in
@@ -22,7 +22,7 @@ returns-clause-node c =
 pub returns-clause-no_node : goal.returns-clause-no_node
 returns-clause-no_node c =
     let t = c.self.inside in
-    let kept = kept_by t.flow t.potentials t.cut t.before.log.items in
+    let kept = kept_by t.flow t.potentials.table t.cut t.before.log.items in
     let id = c.args.id in
     let result = c.supply_before.result in
     subst (λ (d : TablesView). IfSome d.before (λ old. (IsNode old.instance.nodes id → ⊥) → result ≡ None)) c.self.view_is

@@ -8,7 +8,6 @@ use Rattle.flow_solver.specs.TablesView.{TablesView}
 use Rattle.flow_solver.proofs.InstanceLemmas.{rows_counted}
 use Rattle.flow_solver.proofs.CarryLemmas.{balance_put, carried_as}
 use Rattle.flow_solver.proofs.TablesViewLemmas.{tables_with_arcs}
-use Rattle.flow_solver.proofs.StandingLemmas.{scratch_told}
 use Rattle.flow_solver.proofs.tables.Tables.put_last.Goals as goal
 
 pub invariant_of-self : goal.invariant_of-self
@@ -17,7 +16,7 @@ invariant_of-self c =
     let I = t.graph.net in
     let J = c.push_arc.new.self.net in
     let inv = c.self.invariant in
-    let many = ap (λ (xs : List ℤ). length xs) c.push.ensures.entries ∙ length-append t.flow.entries.items _ in
+    let many = ap (λ (xs : List ℤ). length xs) c.push.ensures.entries ∙ length-append t.flow.entries _ in
     let now = record t.balance { excess = c.carry_over.new.excess; cost = to_z w128 (of_z w128 c.reprice-self-inside.result) } in
     let flow_fits : SFits w64 c.args.flow = search rules in
     let price_fits : SFits w64 c.args.row.cost = search rules in
@@ -29,16 +28,16 @@ invariant_of-self c =
     to_z-of_z w128 c.reprice-self-inside.result (record { sfits = c.reprice-self-inside.type_inv }) ∙ c.reprice-self-inside.ensures ∙ (λ i. int_wrap w128 (old i +ℤ (flow i -ℤ pos 0) *ℤ price i)) in
     let carried = carried_as c.args.row _ (pos 0) _ c.args.flow _ t.balance.excess now.excess refl refl flow c.carry_over.ensures in
     let balance = balance_put I J t.graph.rows c.push_arc.new.self.rows t.flow c.push.new.self t.balance now c.args.row c.args.flow inv.graph.rows.rows_are c.push_arc.ensures.graph.rows.rows_are c.push_arc.ensures.net
-    inv.flow_in (inv.flow_tracked.same_length ∙ inv.flow_in) (c.push.ensures.entries ∙ ap (λ (y : ℤ). t.flow.entries.items ++ y ∷ []) flow) (c.push.ensures.whole ∙ ap (λ (y : ℤ). t.flow.kept.items ++ y ∷ []) flow) carried cost inv.balance_is in
-    tables_with_arcs t.graph c.push_arc.new.self t.flow c.push.new.self t.potentials t.balance now t.cut t.scratch _ t.before
+    inv.flow_in inv.flow_whole (c.push.ensures.entries ∙ ap (λ (y : ℤ). t.flow.entries ++ y ∷ []) flow) (c.push.ensures.whole ∙ ap (λ (y : ℤ). t.flow.whole ++ y ∷ []) flow) carried cost inv.balance_is in
+    tables_with_arcs t.graph c.push_arc.new.self t.flow c.push.new.self t.potentials t.balance now t.cut t.scratch t.before
     inv (ap (λ (K : Instance). K.nodes) c.push_arc.ensures.net) (ap (λ (K : Instance). K.room) c.push_arc.ensures.net) c.push_arc.ensures.graph
-    c.push.ensures.tracked
     (omega (arith, many, inv.flow_in, ap (λ (r : List ArcRow). length r) c.push_arc.ensures.rows, length-append t.graph.rows (c.args.row ∷ [])))
-    c.push.ensures.room balance (scratch_told _ t.scratch false inv.scratch_in) (λ none. cc)
+    (omega (arith, ap (λ (xs : List ℤ). length xs) c.push.ensures.whole, length-append t.flow.whole (to_z w64 (of_z w64 c.args.flow) ∷ []), inv.flow_whole, ap (λ (r : List ArcRow). length r) c.push_arc.ensures.rows, length-append t.graph.rows (c.args.row ∷ [])))
+    c.push.ensures.room balance
 
-pub push-requires-clause-room : goal.push-requires-clause-room
-push-requires-clause-room c =
+pub push-requires : goal.push-requires
+push-requires c =
     let I = c.self.inside.graph.net in
     let inv = c.self.invariant in
     let room = subst (λ (b : TablesView). length b.moment.instance.arcs < b.moment.instance.room) (sym c.self.view_is) c.requires.room in
-    omega (arith, inv.flow_in, ap (λ (r : List ArcRow). length r) inv.graph.rows.rows_are, rows_counted I.demand I.arcs, room, inv.flow_fits)
+    record { room = omega (arith, inv.flow_in, ap (λ (r : List ArcRow). length r) inv.graph.rows.rows_are, rows_counted I.demand I.arcs, room, inv.flow_fits) }

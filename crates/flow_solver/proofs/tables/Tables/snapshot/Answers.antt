@@ -6,9 +6,9 @@ use Rattle.network.specs.Instance.{at_node, reduced}
 use Rattle.flow_solver.specs.Answer.{AreGreatestPotentials}
 use Rattle.flow_solver.specs.Balance.{IsWrappedCost}
 use Rattle.augmentation.specs.Nodes.{IsIdleEntry}
+use Rattle.augmentation.specs.ScratchView.{ScratchView}
 use Rattle.flow_solver.proofs.CarryLemmas.{balance_kept}
 use Rattle.flow_solver.proofs.TablesViewLemmas.{nodes_alike}
-use Rattle.flow_solver.proofs.StandingLemmas.{scratch_noted}
 use Rattle.flow_solver.proofs.tables.Tables.snapshot.Goals as goal
 
 pub invariant_of-self : goal.invariant_of-self
@@ -17,21 +17,21 @@ invariant_of-self c =
     let inv = c.self.invariant in
     let result = c.cost_now-self-inside.result in
     let cost = to_z-of_z w128 result (record { sfits = c.cost_now-self-inside.type_inv })
-    ∙ subst (λ (r : List ArcRow). IsWrappedCost r t.flow.entries.items result) c.rows.ensures c.cost_now-self-inside.ensures in
+    ∙ subst (λ (r : List ArcRow). IsWrappedCost r t.flow.entries result) c.rows.ensures c.cost_now-self-inside.ensures in
     record {
       graph = inv.graph;
-      flow_tracked = c.snapshot.ensures.tracked;
       flow_in = ap length c.snapshot.ensures.entries ∙ inv.flow_in;
+      flow_whole = ap length c.snapshot.ensures.whole ∙ inv.flow_in;
       flow_fits = omega (arith, inv.flow_fits, c.snapshot.ensures.room);
-      potentials_in = nodes_alike t.graph.net.nodes c.snapshot-2.new.self t.potentials.entries.items t.potentials.entries.items c.snapshot-2.ensures.tracked c.snapshot-2.ensures.entries c.snapshot-2.ensures.kept inv.potentials_in.entries_in inv.potentials_in.entries_in;
+      potentials_in = nodes_alike t.graph.net.nodes c.snapshot-2.new.self t.potentials.table.entries t.potentials.table.entries c.snapshot-2.ensures.entries c.snapshot-2.ensures.kept inv.potentials_in.entries_in inv.potentials_in.entries_in;
       idle = subst IsIdleEntry (sym c.snapshot-2.ensures.entries) inv.idle;
       kept_idle = subst IsIdleEntry (sym c.snapshot-2.ensures.kept) inv.idle;
       balance_is = balance_kept t.graph.net t.graph.rows t.flow c.snapshot.new.self t.balance _ c.snapshot.ensures.entries c.snapshot.ensures.whole refl cost inv.balance_is;
-      cut_in = nodes_alike t.graph.net.nodes c.snapshot-3.new.self t.cut.entries.items t.cut.entries.items c.snapshot-3.ensures.tracked c.snapshot-3.ensures.entries c.snapshot-3.ensures.kept inv.cut_in.entries_in inv.cut_in.entries_in;
-      scratch_in = scratch_noted _ t.scratch _ c.note_all.ensures inv.scratch_in;
-      standing = λ stood.
-          subst (λ (p : List ℤ). AreGreatestPotentials (reduced t.graph.net) c.snapshot.new.self.entries.items (at_node (drop 1 p))) (sym c.snapshot-2.ensures.entries)
-          (subst (λ (x : List ℤ). AreGreatestPotentials (reduced t.graph.net) x (at_node (drop 1 t.potentials.entries.items))) (sym c.snapshot.ensures.entries) (inv.standing stood));
+      cut_in = nodes_alike t.graph.net.nodes c.snapshot-3.new.self t.cut.entries t.cut.entries c.snapshot-3.ensures.entries c.snapshot-3.ensures.kept inv.cut_in.entries_in inv.cut_in.entries_in;
+      scratch_in = ap (λ (v : ScratchView). length v.potentials) c.note_all.ensures ∙ inv.scratch_in;
+      told = λ stood.
+          subst (λ (p : List ℤ). AreGreatestPotentials (reduced t.graph.net) c.snapshot.new.self.entries (at_node (drop 1 p))) (sym c.snapshot-2.ensures.entries)
+          (subst (λ (x : List ℤ). AreGreatestPotentials (reduced t.graph.net) x (at_node (drop 1 t.potentials.table.entries))) (sym c.snapshot.ensures.entries) (inv.told stood));
       log_fits = omega (arith, inv.log_fits);
       before_is = tt;
     }

@@ -8,7 +8,6 @@ use Rattle.residual_graph.specs.Residual.{row_at, number_at}
 use Rattle.flow_solver.proofs.CarryLemmas.{IsPlace, balance_set, carried_as, ends_in, place_is}
 use Rattle.flow_solver.proofs.TablesViewLemmas.{tables_written}
 use Rattle.augmentation.proofs.TrackedLemmas.{IsWritten-same}
-use Rattle.flow_solver.proofs.StandingLemmas.{scratch_told}
 use Rattle.flow_solver.proofs.tables.Tables.swap_flow.Goals as goal
 use Rattle.flow_solver.proofs.tables.Tables.swap_flow.Goals.{After-first_row}
 
@@ -50,23 +49,23 @@ invariant_of-self c =
     let place = place_in_rows before in
     let there = (place_there before).in_rows in
     let row : row_at c.rows.result.now place ≡ row_at t.graph.rows place = ap (λ (r : List ArcRow). row_at r place) c.rows.ensures in
-    let entry_fits : SFits w64 c.index.result.now = search rules in
-    let entry = to_z-of_z w64 c.index.result.now entry_fits ∙ c.index.ensures ∙ get_or_default t.flow.entries.items place c.index.result.now (pos 0) (omega (arith, there, inv.flow_in)) in
+    let entry_fits : SFits w64 c.get.result = search rules in
+    let entry = to_z-of_z w64 c.get.result entry_fits ∙ c.get.ensures ∙ get_or_default t.flow.entries place c.get.result (pos 0) (omega (arith, there, inv.flow_in)) in
     let value_fits : SFits w64 c.args.value.now = search rules in
     let value = to_z-of_z w64 c.args.value.now value_fits in
-    let carried = carried_as (row_at t.graph.rows place) _ (number_at t.flow.entries.items place) _ c.args.value.now _ t.balance.excess _ row entry value c.carry_over.ensures in
-    let balance = balance_set t.graph.net t.graph.rows t.flow c.exchange.new.self t.balance _ place c.args.value.now there inv.flow_in carried refl c.exchange.ensures.entries c.exchange.ensures.written.kept inv.balance_is in
-    tables_written t.graph t.graph t.flow c.exchange.new.self t.potentials t.potentials t.balance _ t.cut t.cut t.scratch _ t.before
-    inv refl refl inv.graph refl c.exchange.ensures.written (IsWritten-same t.potentials inv.potentials_in.tracked)
-    inv.idle balance (IsWritten-same t.cut inv.cut_in.tracked)
-    (scratch_told _ t.scratch false inv.scratch_in) (λ none. cc)
+    let carried = carried_as (row_at t.graph.rows place) _ (number_at t.flow.entries place) _ c.args.value.now _ t.balance.excess _ row entry value c.carry_over.ensures in
+    let balance = balance_set t.graph.net t.graph.rows t.flow c.exchange.new.self t.balance _ place c.args.value.now there inv.flow_in carried refl c.exchange.ensures.entries c.exchange.ensures.written.whole inv.balance_is in
+    tables_written t.graph t.graph t.flow c.exchange.new.self t.potentials _ t.balance _ t.cut t.cut t.scratch t.scratch t.before
+    inv refl refl inv.graph refl c.exchange.ensures.written (IsWritten-same t.potentials.table)
+    inv.idle balance (IsWritten-same t.cut)
+    inv.scratch_in (λ none. cc)
 
 pub returns-clause-moment : goal.returns-clause-moment
 returns-clause-moment c =
     let t = c.self.inside in
     let index = (place_there (goal.at.returns-clause-moment c).After-first_row).index_is in
-    ap (λ (x : List ℤ). record { instance = t.graph.net; flow = x; potentials = drop 1 t.potentials.entries.items; verdict = t.verdict; cut = drop 1 t.cut.entries.items })
-    (c.exchange.ensures.entries ∙ ap (λ (n : ℕ). slice_set t.flow.entries.items n c.args.value.now) index)
+    ap (λ (x : List ℤ). record { instance = t.graph.net; flow = x; potentials = drop 1 t.potentials.table.entries; verdict = t.verdict; cut = drop 1 t.cut.entries })
+    (c.exchange.ensures.entries ∙ ap (λ (n : ℕ). slice_set t.flow.entries n c.args.value.now) index)
     ∙ ap (λ (b : TablesView). record b.moment { flow = slice_set b.moment.flow (flow_index b.moment.instance.demand c.args.k) c.args.value.now }) c.self.view_is
 
 pub returns-clause-value : goal.returns-clause-value
@@ -74,5 +73,5 @@ returns-clause-value c =
     let t = c.self.inside in
     let index = (place_there (goal.at.returns-clause-value c).After-first_row).index_is in
     c.exchange.ensures.value
-    ∙ ap (λ (n : ℕ). slice_index_or t.flow.entries.items n c.args.value.now) index
+    ∙ ap (λ (n : ℕ). slice_index_or t.flow.entries n c.args.value.now) index
     ∙ ap (λ (b : TablesView). slice_index_or b.moment.flow (flow_index b.moment.instance.demand c.args.k) c.args.value.now) c.self.view_is

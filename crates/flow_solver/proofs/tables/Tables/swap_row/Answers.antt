@@ -1,16 +1,15 @@
-use Rattle.std.proofs.Common.{◌≡◌, ◌∙◌, ◌+◌, ◌-◌, ◌≤◌, ◌+ℤ◌, ◌-ℤ◌, ◌*ℤ◌, List, pos, ap, arith, false, length, refl, rules, slice_index_or, subst, sym, w64, SFits, to_z, of_z}
+use Rattle.std.proofs.Common.{◌≡◌, ◌∙◌, ◌+◌, ◌-◌, ◌<◌, ◌≤◌, ◌^◌, ◌+ℤ◌, ◌-ℤ◌, ◌*ℤ◌, ℤ, List, pos, ap, arith, false, length, refl, rules, slice_index_or, subst, sym, w64, SFits, to_z, of_z}
 use Rattle.std.specs.Int.{int_wrap, w128}
 use Rattle.std.proofs.lemmas.Int.{to_z-of_z}
-use Rattle.std.proofs.lemmas.List.{get_or_default}
 use Rattle.dimacs_text.specs.declared.problem.ArcRow.{ArcRow}
 use Rattle.network.specs.Instance.{Instance}
 use Rattle.flow_solver.specs.TablesView.{TablesView}
 use Rattle.residual_graph.specs.Residual.{row_at, number_at}
-use Rattle.augmentation.specs.Scratch.{IsScratchFor}
+use Rattle.augmentation.specs.ScratchView.{ScratchView}
 use Rattle.flow_solver.proofs.CarryLemmas.{balance_swapped, place_is}
+use Rattle.flow_solver.proofs.InstanceLemmas.{few_rows}
 use Rattle.flow_solver.proofs.TablesViewLemmas.{tables_written}
 use Rattle.augmentation.proofs.TrackedLemmas.{IsWritten-same}
-use Rattle.flow_solver.proofs.StandingLemmas.{scratch_noted, scratch_told}
 use Rattle.flow_solver.proofs.tables.Tables.swap_row.Goals as goal
 
 pub invariant_of-self : goal.invariant_of-self
@@ -30,22 +29,22 @@ invariant_of-self c =
     let at = place_is I t.graph.rows c.args.k place inv.graph.rows.rows_are there
     (omega (arith, c.first_row.ensures)) in
     let before : row_at c.rows.result.now place ≡ row_at t.graph.rows place = ap (λ (r : List ArcRow). row_at r place) c.rows.ensures in
-    let kept : c.index.result.now ≡ number_at t.flow.kept.items place = c.index.ensures ∙ get_or_default t.flow.kept.items place c.index.result.now (pos 0) (omega (arith, at.in_rows, inv.flow_in, inv.flow_tracked.same_length)) in
+    let kept : number_at c.whole.result.now place ≡ number_at t.flow.whole place = ap (λ (x : List ℤ). number_at x place) c.whole.ensures.value in
     let old_fits : SFits w128 c.self.inside.balance.cost = search rules in
     let before_fits : SFits w64 (row_at c.rows.result.now place).cost = search rules in
-    let kept_fits : SFits w64 c.index.result.now = search rules in
+    let kept_fits : SFits w64 (number_at c.whole.result.now place) = search rules in
     let old = to_z-of_z w128 t.balance.cost old_fits in
     let price : to_z w64 (of_z w64 (row_at c.rows.result.now place).cost) ≡ (row_at t.graph.rows place).cost = to_z-of_z w64 (row_at c.rows.result.now place).cost before_fits ∙ ap (λ a. a.cost) before in
-    let factor : to_z w64 (of_z w64 c.index.result.now) ≡ number_at t.flow.kept.items place = to_z-of_z w64 c.index.result.now kept_fits ∙ kept in
-    let cost : to_z w128 (of_z w128 c.reprice-self-inside.result) ≡ int_wrap w128 (t.balance.cost +ℤ (row.cost -ℤ (row_at t.graph.rows place).cost) *ℤ number_at t.flow.kept.items place) =
+    let factor : to_z w64 (of_z w64 (number_at c.whole.result.now place)) ≡ number_at t.flow.whole place = to_z-of_z w64 (number_at c.whole.result.now place) kept_fits ∙ kept in
+    let cost : to_z w128 (of_z w128 c.reprice-self-inside.result) ≡ int_wrap w128 (t.balance.cost +ℤ (row.cost -ℤ (row_at t.graph.rows place).cost) *ℤ number_at t.flow.whole place) =
     to_z-of_z w128 c.reprice-self-inside.result (record { sfits = c.reprice-self-inside.type_inv }) ∙ c.reprice-self-inside.ensures ∙ (λ i. int_wrap w128 (old i +ℤ (after i -ℤ price i) *ℤ factor i)) in
     let now = record t.balance { cost = to_z w128 (of_z w128 c.reprice-self-inside.result) } in
     let balance = balance_swapped I J t.graph.rows c.set_row.new.self.rows t.flow t.balance now c.args.k place row there.0 at inv.graph.rows.rows_are c.set_row.ensures.graph.rows.rows_are net tail head
-    inv.flow_in (inv.flow_tracked.same_length ∙ inv.flow_in) refl cost inv.balance_is in
-    tables_written t.graph c.set_row.new.self t.flow t.flow t.potentials t.potentials t.balance now t.cut t.cut t.scratch _ t.before
+    inv.flow_in inv.flow_whole refl cost inv.balance_is in
+    tables_written t.graph c.set_row.new.self t.flow t.flow t.potentials _ t.balance now t.cut t.cut t.scratch _ t.before
     inv (ap (λ (K : Instance). K.nodes) net) (ap (λ (K : Instance). K.room) net) c.set_row.ensures.graph c.set_row.ensures.one_a_row
-    (IsWritten-same t.flow inv.flow_tracked) (IsWritten-same t.potentials inv.potentials_in.tracked) inv.idle balance (IsWritten-same t.cut inv.cut_in.tracked)
-    (scratch_noted _ (record t.scratch { labels = record t.scratch.labels { standing = false } }) _ c.note_all.ensures (scratch_told _ t.scratch false (subst (λ (K : Instance). IsScratchFor (K.nodes + 1) t.scratch) (sym net) inv.scratch_in))) (λ none. cc)
+    (IsWritten-same t.flow) (IsWritten-same t.potentials.table) inv.idle balance (IsWritten-same t.cut)
+    (ap (λ (v : ScratchView). length v.potentials) c.note_all.ensures ∙ inv.scratch_in ∙ ap (λ (K : Instance). K.nodes + 1) (sym net)) (λ none. cc)
 
 pub returns-clause-row : goal.returns-clause-row
 returns-clause-row c =
@@ -57,3 +56,15 @@ returns-clause-row c =
     let at = place_is t.graph.net t.graph.rows k place c.self.invariant.graph.rows.rows_are there (omega (arith, c.first_row.ensures)) in
     ap (λ (r : List ArcRow). row_at r place) c.rows.ensures ∙ at.row_is row
     ∙ ap (λ (b : TablesView). slice_index_or b.moment.instance.arcs (k - 1) row) c.self.view_is
+
+pub overflow_cast-place-2 : goal.overflow_cast-place-2
+overflow_cast-place-2 c =
+    let t = c.self.inside in
+    let k = c.args.k in
+    let rows = c.self.invariant.graph.rows in
+    let place = c.first_row.result + (k - 1) in
+    let there = subst (λ (b : TablesView). (1 ≤ k) × (k ≤ length b.moment.instance.arcs)) (sym c.self.view_is) (c.requires.ends.0, c.requires.ends.1) in
+    let at = place_is t.graph.net t.graph.rows k place rows.rows_are there (omega (arith, c.first_row.ensures)) in
+    let few = few_rows t.graph.net rows.lawful in
+    let bound : place < 2 ^ 32 = omega (arith, at.in_rows, few, ap (λ (r : List ArcRow). length r) rows.rows_are) in
+    search (rules, bound)

@@ -7,7 +7,6 @@ use Rattle.network.specs.Instance.{Instance, at_node, kind_of, reduced}
 use Rattle.flow_solver.specs.Answer.{AreGreatestPotentials}
 use Rattle.flow_solver.specs.Balance.{IsBalanceOf}
 use Rattle.flow_solver.specs.TablesView.{TablesView, supplies_in}
-use Rattle.augmentation.specs.Scratch.{IsScratchFor}
 use Rattle.augmentation.specs.Nodes.{held}
 use Rattle.flow_solver.proofs.CarryLemmas.{balance_supplied, raised_as}
 use Rattle.flow_solver.proofs.ChangeLemmas.{supplied, supply_entry}
@@ -35,10 +34,10 @@ invariant_of-self c =
     let balance = subst (λ (K : Instance). IsBalanceOf K t.graph.rows t.flow now) (sym net) (balance_supplied I t.graph.rows t.flow t.balance now c.args.id c.args.value.now inv.graph.rows.lawful kind node raised refl inv.balance_is) in
     let rows = c.set_supply.ensures.rows in
     tables_written t.graph c.set_supply.new.self t.flow t.flow t.potentials t.potentials t.balance now t.cut t.cut t.scratch t.scratch t.before
-    inv (ap (λ (K : Instance). K.nodes) net) (ap (λ (K : Instance). K.room) net) c.set_supply.ensures.graph (ap length rows) (IsWritten-same t.flow inv.flow_tracked) (IsWritten-same t.potentials inv.potentials_in.tracked)
-    inv.idle (subst (λ (r : List ArcRow). IsBalanceOf J r t.flow now) (sym rows) balance) (IsWritten-same t.cut inv.cut_in.tracked) (subst (λ (K : Instance). IsScratchFor (K.nodes + 1) t.scratch) (sym net) inv.scratch_in)
-    (λ stood. subst (λ (K : Instance). AreGreatestPotentials (reduced K) t.flow.entries.items (at_node (drop 1 t.potentials.entries.items))) (sym net)
-    (greatest_supplied I c.args.id c.args.value.now (at_node (drop 1 t.potentials.entries.items)) t.flow.entries.items (inv.standing stood)))
+    inv (ap (λ (K : Instance). K.nodes) net) (ap (λ (K : Instance). K.room) net) c.set_supply.ensures.graph (ap length rows) (IsWritten-same t.flow) (IsWritten-same t.potentials.table)
+    inv.idle (subst (λ (r : List ArcRow). IsBalanceOf J r t.flow now) (sym rows) balance) (IsWritten-same t.cut) (inv.scratch_in ∙ ap (λ (K : Instance). K.nodes + 1) (sym net))
+    (λ stood. subst (λ (K : Instance). AreGreatestPotentials (reduced K) t.flow.entries (at_node (drop 1 t.potentials.table.entries))) (sym net)
+    (greatest_supplied I c.args.id c.args.value.now (at_node (drop 1 t.potentials.table.entries)) t.flow.entries (inv.told stood)))
 
 pub returns-clause-value : goal.returns-clause-value
 returns-clause-value c =

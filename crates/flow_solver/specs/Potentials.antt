@@ -1,0 +1,9 @@
+-- What is told of potentials.
+use Rattle.std.specs.Prelude.{◌≡◌, ℤ, List, true, drop}
+use Rattle.network.specs.Instance.{Instance, at_node, reduced}
+use Rattle.flow_solver.specs.Answer.{AreGreatestPotentials}
+use Rattle.flow_solver.specs.declared.potentials.Potentials.{Potentials}
+
+-- potentials that are told to be the greatest of a flow are so
+abbrev pub AreAsTold : Instance → List ℤ → Potentials → Type 0
+AreAsTold I x p = p.greatest ≡ true → AreGreatestPotentials (reduced I) x (at_node (drop 1 p.table.entries))
