@@ -66,6 +66,7 @@ fn no_marks(alloc: Global, entries: usize) -> Result<Tracked<bool>, AllocError>
 pub fn start_balance(alloc: Global, graph: &Graph) -> Result<(Tracked<i64>, Balance), AllocError>
     requires { IsGraph graph.now }
     ensures flow { IfOk result (λ t. t.0.entries ≡ map start graph.now.rows) }
+    ensures whole { IfOk result (λ t. t.0.whole ≡ map start graph.now.rows) }
     ensures room { IfOk result (λ t. t.0.room ≡ graph.now.net.room + 1) }
     ensures balance { IfOk result (λ t. IsBalanceOf graph.now.net graph.now.rows t.0 t.1) }
 {

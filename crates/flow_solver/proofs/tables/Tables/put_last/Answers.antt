@@ -32,12 +32,12 @@ invariant_of-self c =
     tables_with_arcs t.graph c.push_arc.new.self t.flow c.push.new.self t.potentials t.balance now t.cut t.scratch t.before
     inv (ap (λ (K : Instance). K.nodes) c.push_arc.ensures.net) (ap (λ (K : Instance). K.room) c.push_arc.ensures.net) c.push_arc.ensures.graph
     (omega (arith, many, inv.flow_in, ap (λ (r : List ArcRow). length r) c.push_arc.ensures.rows, length-append t.graph.rows (c.args.row ∷ [])))
-    (omega (arith, ap (λ (xs : List ℤ). length xs) c.push.ensures.whole, length-append t.flow.whole _, inv.flow_whole, ap (λ (r : List ArcRow). length r) c.push_arc.ensures.rows, length-append t.graph.rows (c.args.row ∷ [])))
+    (omega (arith, ap (λ (xs : List ℤ). length xs) c.push.ensures.whole, length-append t.flow.whole (to_z w64 (of_z w64 c.args.flow) ∷ []), inv.flow_whole, ap (λ (r : List ArcRow). length r) c.push_arc.ensures.rows, length-append t.graph.rows (c.args.row ∷ [])))
     c.push.ensures.room balance
 
-pub push-requires-clause-room : goal.push-requires-clause-room
-push-requires-clause-room c =
+pub push-requires : goal.push-requires
+push-requires c =
     let I = c.self.inside.graph.net in
     let inv = c.self.invariant in
     let room = subst (λ (b : TablesView). length b.moment.instance.arcs < b.moment.instance.room) (sym c.self.view_is) c.requires.room in
-    omega (arith, inv.flow_in, ap (λ (r : List ArcRow). length r) inv.graph.rows.rows_are, rows_counted I.demand I.arcs, room, inv.flow_fits)
+    record { room = omega (arith, inv.flow_in, ap (λ (r : List ArcRow). length r) inv.graph.rows.rows_are, rows_counted I.demand I.arcs, room, inv.flow_fits) }

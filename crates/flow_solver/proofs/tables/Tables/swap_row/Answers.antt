@@ -1,4 +1,4 @@
-use Rattle.std.proofs.Common.{◌≡◌, ◌∙◌, ◌+◌, ◌-◌, ◌≤◌, ◌+ℤ◌, ◌-ℤ◌, ◌*ℤ◌, ℤ, List, pos, ap, arith, false, length, refl, rules, slice_index_or, subst, sym, w64, SFits, to_z, of_z}
+use Rattle.std.proofs.Common.{◌≡◌, ◌∙◌, ◌+◌, ◌-◌, ◌<◌, ◌≤◌, ◌^◌, ◌+ℤ◌, ◌-ℤ◌, ◌*ℤ◌, ℤ, List, pos, ap, arith, false, length, refl, rules, slice_index_or, subst, sym, w64, SFits, to_z, of_z}
 use Rattle.std.specs.Int.{int_wrap, w128}
 use Rattle.std.proofs.lemmas.Int.{to_z-of_z}
 use Rattle.dimacs_text.specs.declared.problem.ArcRow.{ArcRow}
@@ -7,6 +7,7 @@ use Rattle.flow_solver.specs.TablesView.{TablesView}
 use Rattle.residual_graph.specs.Residual.{row_at, number_at}
 use Rattle.augmentation.specs.ScratchView.{ScratchView}
 use Rattle.flow_solver.proofs.CarryLemmas.{balance_swapped, place_is}
+use Rattle.flow_solver.proofs.InstanceLemmas.{few_rows}
 use Rattle.flow_solver.proofs.TablesViewLemmas.{tables_written}
 use Rattle.augmentation.proofs.TrackedLemmas.{IsWritten-same}
 use Rattle.flow_solver.proofs.tables.Tables.swap_row.Goals as goal
@@ -55,3 +56,15 @@ returns-clause-row c =
     let at = place_is t.graph.net t.graph.rows k place c.self.invariant.graph.rows.rows_are there (omega (arith, c.first_row.ensures)) in
     ap (λ (r : List ArcRow). row_at r place) c.rows.ensures ∙ at.row_is row
     ∙ ap (λ (b : TablesView). slice_index_or b.moment.instance.arcs (k - 1) row) c.self.view_is
+
+pub overflow_cast-place-2 : goal.overflow_cast-place-2
+overflow_cast-place-2 c =
+    let t = c.self.inside in
+    let k = c.args.k in
+    let rows = c.self.invariant.graph.rows in
+    let place = c.first_row.result + (k - 1) in
+    let there = subst (λ (b : TablesView). (1 ≤ k) × (k ≤ length b.moment.instance.arcs)) (sym c.self.view_is) (c.requires.ends.0, c.requires.ends.1) in
+    let at = place_is t.graph.net t.graph.rows k place rows.rows_are there (omega (arith, c.first_row.ensures)) in
+    let few = few_rows t.graph.net rows.lawful in
+    let bound : place < 2 ^ 32 = omega (arith, at.in_rows, few, ap (λ (r : List ArcRow). length r) rows.rows_are) in
+    search (rules, bound)
