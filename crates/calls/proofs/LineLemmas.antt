@@ -4,6 +4,8 @@ use Rattle.std.specs.Prelude.{nat_le, nat_lt}
 use Rattle.std.proofs.lemmas.Bool.{false≢true, lt-ltb, le-ltb, le-leb}
 use Rattle.dimacs_lines.specs.declared.cutter.TheConstants.{LINE_LIMIT}
 use Rattle.dimacs_lines.specs.Cut.{kept}
+use Rattle.dimacs_lines.specs.declared.fault.LineFault.TheVariants as line_fault
+use Rattle.dimacs_lines.specs.Fault.{number_of}
 use Rattle.dimacs_lines.specs.Fields.{Word, words_of}
 use Rattle.dimacs_lines.specs.Lines.{Line, is_too_long}
 use Rattle.dimacs_text.specs.Group.{Gathered}
@@ -52,7 +54,7 @@ took_some old opened line reply new group short some takes =
 
 -- a blank line asks for nothing
 pub took_blank : (s : SessionState) (opened : Option (List Line)) (line : Line) (group : Option Gathered)
-    → length line ≤ LINE_LIMIT → words_of line ≡ [] → group ≡ gathered_in s opened → Took s opened line 2 s group
+    → length line ≤ LINE_LIMIT → words_of line ≡ [] → group ≡ gathered_in s opened → Took s opened line (number_of line_fault.UnknownDesignator) s group
 took_blank s opened line group short none holds =
     let off = short_asks false line short (none_ask (words_of line) none) in
     record {

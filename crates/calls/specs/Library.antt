@@ -1,8 +1,10 @@
 -- What the calls do, in terms of the state behind a handle: its moments and its marks.
 use Rattle.std.specs.Prelude.{◌≡◌, ◌⊎◌, ℕ, ◌^◌, ◌==◌, ℤ, pos, ◌+ℤ◌, ◌*ℤ◌, Bool, true, false, not, List, [], length, Option, None, Some, Result, Ok, Err, if◌then◌else◌}
 use Rattle.std.specs.Option.{MatchOption}
+use Rattle.dimacs_lines.specs.declared.fault.LineFault.TheVariants as line_fault
 use Rattle.dimacs_lines.specs.declared.fault.TextFault.{TextFault}
 use Rattle.dimacs_lines.specs.declared.fault.TextFault.TheVariants as text_fault
+use Rattle.dimacs_lines.specs.Fault.{number_of}
 use Rattle.dimacs_lines.specs.Lines.{Line}
 use Rattle.dimacs_text.specs.Group.{Gathered}
 use Rattle.dimacs_text.specs.Reading.{ProblemValue, reads}
@@ -67,10 +69,10 @@ told_of None = 0
 told_of (Some reply) = told reply
 
 -- a line that asks for something is taken after the lines of the group that stands open, and the reply to the turn that it
--- makes whole is told; any other is no command (2), and changes nothing
+-- makes whole is told; any other is refused as no command, and changes nothing
 pub record Took (old : SessionState) (opened : Option (List Line)) (line : Line) (number : ℕ) (new : SessionState) (group : Option Gathered) : Type 0 where
   pub asked : asks line ≡ true → (reply : Option Reply) × (number ≡ told_of reply) × TakesLine old opened line reply new group
-  pub blank : asks line ≡ false → (number ≡ 2) × (new ≡ old) × (group ≡ gathered_in old opened)
+  pub blank : asks line ≡ false → (number ≡ number_of line_fault.UnknownDesignator) × (new ≡ old) × (group ≡ gathered_in old opened)
 
 -- a closed handle stays so, and this is told; an open one stays open, and goes from its state to the new one
 abbrev pub Goes : Option SessionState → ℤ → Option SessionState → (SessionState → ℕ → SessionState → Type 0) → Type 0

@@ -5,6 +5,7 @@ ghost use Rattle.std.specs.Option.{option_map};
 ghost use Rattle.dimacs_lines.specs.Lines.{Line};
 ghost use Rattle.dimacs_text.specs.declared.command.Command.TheVariants as commands;
 ghost use Rattle.session.specs.Reply.{reply_of};
+ghost use Rattle.session.specs.Session.{kind_in};
 ghost use Rattle.session.specs.Step.{StepBy, state_of};
 ghost use Rattle.session.specs.Turns.{gathered_in};
 ghost use Rattle.calls.specs.Library.{IsNotOpened, IsOpening, ReadsAs, Steps, Took, told_of};
@@ -57,8 +58,9 @@ pub fn open_session(
 /// Takes a line of a command text: it is a step by itself, or it opens the group that C keeps, goes into it or ends it,
 /// which is a step. Answers 0, or the number of the refusal. A blank line is no command, and changes nothing.
 pub fn take_line(session: &mut Session, group: &mut Option<Group>, line: &[u8]) -> u8
-    ensures { (opened : Option (List Line)) → group.old ≡ gathered_in (state_of session.old) opened
+    ensures took { (opened : Option (List Line)) → group.old ≡ gathered_in (state_of session.old) opened
         → Took (state_of session.old) opened line.now result (state_of session.new) group.new }
+    ensures kind { kind_in session.new.moments ≡ kind_in session.old.moments }
 {
     if line.len() > LINE_LIMIT {
         return told(session.take_line(group, None));
@@ -71,14 +73,16 @@ pub fn take_line(session: &mut Session, group: &mut Option<Group>, line: &[u8]) 
 
 /// Goes back one moment.
 pub fn undo(session: &mut Session) -> u8
-    ensures { Steps (StepBy commands.Undo (state_of session.old)) result (state_of session.new) }
+    ensures steps { Steps (StepBy commands.Undo (state_of session.old)) result (state_of session.new) }
+    ensures kind { kind_in session.new.moments ≡ kind_in session.old.moments }
 {
     told(Some(session.step(&Command::Undo)))
 }
 
 /// Goes on one moment.
 pub fn redo(session: &mut Session) -> u8
-    ensures { Steps (StepBy commands.Redo (state_of session.old)) result (state_of session.new) }
+    ensures steps { Steps (StepBy commands.Redo (state_of session.old)) result (state_of session.new) }
+    ensures kind { kind_in session.new.moments ≡ kind_in session.old.moments }
 {
     told(Some(session.step(&Command::Redo)))
 }

@@ -66,7 +66,7 @@ impl End {
         }
     }
 
-    /// Writes the line that is told on the standard error, if there is one. Takes no memory.
+    /// Writes the line that is told on the standard error, if there is one. It cannot fail for want of memory.
     pub fn tell<E: Sink>(&self, err: &mut E) -> Result<(), Broken>
         requires { E.failures err.old < 2 ^ 64 - 1 }
         ensures bytes { WritesUpTo result (E.contents err.old) (E.contents err.new) (told self.now) }

@@ -25,7 +25,9 @@ use Rattle.flow_solver.specs.declared.verdict.Verdict.{Verdict}
 use Rattle.flow_solver.specs.declared.verdict.Verdict.TheVariants.{Best, Infeasible}
 use Rattle.flow_solver.specs.Answer.{IsAnswered, IsVerdict}
 use Rattle.flow_solver.specs.Moment.{Moment}
+use Rattle.session.specs.declared.refusal.StepRefusal.TheVariants as step_refusal
 use Rattle.session.specs.Marks.{has_place, marked}
+use Rattle.session.specs.Refusal.{number_of as step_number}
 use Rattle.session.specs.Step.{Reply, Refuses, TellsVerdict, Shows, SessionState, IsApplied, IsRefused, StepBy, StepOfBack, StepOfEdits, StepOfMark, TurnStep}
 use Rattle.checker.specs.Check.{AreSettled, CheckOnDevices, Judges, Settles, ValidSettles, verdict_line}
 use Rattle.checker.specs.declared.end.End.{End}
@@ -95,30 +97,30 @@ refusal : (number : ℕ) (old new : SessionState) (reply : Reply) → IsRefused 
 refusal number old new reply is = record { remain = unmoved old new is.unchanged; refused = λ n e. is.unchanged }
 
 edit_step : (tested : Result Instance ℕ) (edit : Edit) (old new : SessionState) (reply : Reply)
-    → MatchResult tested (λ _. IsApplied edit old reply new ⊎ IsRefused 30 old reply new) (λ number. IsRefused number old reply new) → StepsRightly old reply new
+    → MatchResult tested (λ _. IsApplied edit old reply new ⊎ IsRefused (step_number step_refusal.Memory) old reply new) (λ number. IsRefused number old reply new) → StepsRightly old reply new
 edit_step (Ok I) edit old new reply (inl is) =
     accepted old new reply TellsVerdict is.reply_is tells_none (λ all. all_advance IsRightMoment old.moments new.moments is.advances all (right new.moments.present is.edited_to.answered))
-edit_step (Ok I) edit old new reply (inr is) = refusal 30 old new reply is
+edit_step (Ok I) edit old new reply (inr is) = refusal _ old new reply is
 edit_step (Err number) edit old new reply is = refusal number old new reply is
 
 mark_step : (place : Bool) (name : List ℕ) (old new : SessionState) (reply : Reply) → StepOfMark place name old reply new → StepsRightly old reply new
 mark_step true name old new reply is = accepted old new reply TellsVerdict is.reply_is tells_none (along old new (ap all_boards is.moments))
-mark_step false name old new reply is = refusal 33 old new reply is
+mark_step false name old new reply is = refusal _ old new reply is
 
 back_step : (moment : Option ℕ) (old new : SessionState) (reply : Reply) → StepOfBack moment old reply new → StepsRightly old reply new
 back_step (Some moment) old new reply is = accepted old new reply TellsVerdict is.reply_is tells_none (along old new is.moved.boards)
-back_step None old new reply is = refusal 28 old new reply is
+back_step None old new reply is = refusal _ old new reply is
 
 command_step : (c : Command) (old new : SessionState) (reply : Reply) → StepBy c old reply new → StepsRightly old reply new
 command_step (commands.Edit edit) old new reply is = edit_step (edited old.moments.present.instance edit) edit old new reply is
 command_step commands.Undo old new reply (inl is) = accepted old new reply TellsVerdict is.reply_is tells_none (along old new (all_boards_back old.moments new.moments is.back))
-command_step commands.Undo old new reply (inr is) = refusal 25 old new reply is.1
+command_step commands.Undo old new reply (inr is) = refusal _ old new reply is.1
 command_step commands.Redo old new reply (inl is) = accepted old new reply TellsVerdict is.reply_is tells_none (along old new (all_boards_forward old.moments new.moments is.forward))
-command_step commands.Redo old new reply (inr is) = refusal 26 old new reply is.1
+command_step commands.Redo old new reply (inr is) = refusal _ old new reply is.1
 command_step commands.Show old new reply is = accepted old new reply (Shows false) is.reply_is (shows_none false) (unmoved old new is.unchanged)
 command_step commands.Proof old new reply is = accepted old new reply (Shows true) is.reply_is (shows_none true) (unmoved old new is.unchanged)
-command_step commands.Group old new reply is = refusal 29 old new reply is
-command_step commands.End old new reply is = refusal 29 old new reply is
+command_step commands.Group old new reply is = refusal _ old new reply is
+command_step commands.End old new reply is = refusal _ old new reply is
 command_step (commands.Mark name) old new reply is = mark_step (has_place old.marks name) name old new reply is
 command_step (commands.Back name) old new reply is = back_step (marked old.marks name) old new reply is
 
@@ -131,7 +133,7 @@ edits_step : (fault : Option CommandFault) (edits : List Edit) (old new : Sessio
 edits_step (Some fault) edits old new reply is = refusal (number_of fault) old new reply is
 edits_step None edits old new reply (inl is) =
     accepted old new reply TellsVerdict is.reply_is tells_none (λ all. all_advance IsRightMoment old.moments new.moments is.advances all (right new.moments.present is.edited_to.answered))
-edits_step None edits old new reply (inr is) = refusal 30 old new reply is
+edits_step None edits old new reply (inr is) = refusal _ old new reply is
 
 group_step : (tested : Result Instance ℕ) (group : Gathered) (old new : SessionState) (reply : Reply)
     → MatchResult tested (λ _. StepOfEdits group.fault group.edits old reply new) (λ number. IsRefused number old reply new) → StepsRightly old reply new

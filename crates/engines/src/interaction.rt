@@ -30,7 +30,8 @@ const PIECE: usize = 4_096;
 /// not end has no reply.
 ///
 /// Nothing is written before the problem text is read to its end, and nothing after a failed write. Each turn is
-/// answered before more of the commands is read, and each reply is passed on at once. Reading commands takes no memory.
+/// answered before more of the commands is read, and each reply is passed on at once. Reading commands cannot fail for
+/// want of memory.
 pub fn run_session<P: Source, C: Source, O: Sink>(
     alloc: Global,
     problem: &mut P,

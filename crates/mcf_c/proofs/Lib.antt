@@ -1,2 +1,3 @@
 mod LooseValues
+mod Groups
 mod Pointers

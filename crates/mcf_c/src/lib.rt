@@ -13,12 +13,11 @@ ghost use Rattle.network.specs.Instance.{IsBest, IsBreach, IsCertified, IsLegal,
 ghost use Rattle.session.specs.Parts.{flow_of};
 ghost use Rattle.dimacs_lines.specs.Lines.{Line};
 ghost use Rattle.session.specs.Step.{StepBy};
-ghost use Rattle.session.specs.Turns.{gathered_in};
 ghost use Rattle.calls.specs.Arrays.{IsEven, IsFirstFault, IsOpeningBy};
 ghost use Rattle.calls.specs.Answer.{AreListsKept, IsSameRoom, IsSolved, IsTooShort};
-ghost use Rattle.calls.specs.declared.status.TheConstants.{FAULT, OTHER_LENGTH, TOO_SHORT};
+ghost use Rattle.calls.specs.declared.status.TheConstants.{FAULT, MEMORY, OTHER_LENGTH, TOO_SHORT};
 ghost use Rattle.calls.specs.Library.{Goes, IsOpening, IsViewOf, Steps, Took, arc_count, given_of, has_cut, has_flow, node_count};
-ghost use Rattle.mcf_c.specs.Handles.{group_behind, state_behind};
+ghost use Rattle.mcf_c.specs.Handles.{HoldsLines, group_behind, state_behind};
 
 mod handle;
 mod loose;
@@ -26,8 +25,8 @@ mod plan;
 mod pointer;
 
 use calls::{
-    Answer, ArrayFault, Arrays, CLOSED, Fault, MEMORY, OPEN, View, give_cut, give_flow,
-    give_potentials, look, open_arrays, open_session, solve_text, take_line,
+    Answer, ArrayFault, Arrays, CLOSED, Fault, OPEN, View, give_cut, give_flow, give_potentials,
+    look, open_arrays, open_session, solve_text, take_line,
 };
 use handle::Handle;
 use plan::Plan;
@@ -76,20 +75,9 @@ pub extern "C" fn mcf_open(
     if handle.is_open() {
         return OPEN;
     }
-    let session = match open_session(alloc, text, extra, fault) {
-        Ok(session) => session,
-        Err(status) => return status,
-    };
-    let plan = Plan {
-        session,
-        group: None,
-    };
-    match Box::new(alloc, plan) {
-        Ok(plan) => {
-            handle.put(plan);
-            0
-        }
-        Err(_) => MEMORY, // No session is kept.
+    match open_session(alloc, text, extra, fault) {
+        Ok(session) => handle.hold(alloc, session),
+        Err(status) => status,
     }
 }
 
@@ -119,20 +107,9 @@ pub extern "C" fn mcf_open_arrays(
     if handle.is_open() {
         return OPEN;
     }
-    let session = match open_arrays(alloc, arrays, extra, fault) {
-        Ok(session) => session,
-        Err(status) => return status,
-    };
-    let plan = Plan {
-        session,
-        group: None,
-    };
-    match Box::new(alloc, plan) {
-        Ok(plan) => {
-            handle.put(plan);
-            0
-        }
-        Err(_) => MEMORY,
+    match open_arrays(alloc, arrays, extra, fault) {
+        Ok(session) => handle.hold(alloc, session),
+        Err(status) => status,
     }
 }
 
@@ -143,7 +120,7 @@ pub extern "C" fn mcf_open_arrays(
 /// neither. A line that opens a group or goes into it is answered by 0, a blank line by 2 wherever it comes.
 #[unsafe(no_mangle)]
 pub extern "C" fn mcf_command(alloc: Global, handle: &mut Handle, line: &[u8]) -> i32
-    ensures { (opened : Option (List Line)) → IfSome (state_behind handle.old) (λ old. group_behind handle.old ≡ gathered_in old opened)
+    ensures { (opened : Option (List Line)) → HoldsLines handle.old opened
         → Goes (state_behind handle.old) result (state_behind handle.new) (λ old number new. Took old opened line.now number new (group_behind handle.new)) }
 {
     let Some(mut plan) = handle.take(alloc) else {
@@ -160,6 +137,7 @@ pub extern "C" fn mcf_command(alloc: Global, handle: &mut Handle, line: &[u8]) -
 pub extern "C" fn mcf_undo(alloc: Global, handle: &mut Handle) -> i32
     ensures goes { Goes (state_behind handle.old) result (state_behind handle.new) (λ old. Steps (StepBy commands.Undo old)) }
     ensures group { group_behind handle.new ≡ group_behind handle.old }
+    ensures lines { (opened : Option (List Line)) → HoldsLines handle.old opened → HoldsLines handle.new opened }
 {
     let Some(mut plan) = handle.take(alloc) else {
         return CLOSED;
@@ -174,6 +152,7 @@ pub extern "C" fn mcf_undo(alloc: Global, handle: &mut Handle) -> i32
 pub extern "C" fn mcf_redo(alloc: Global, handle: &mut Handle) -> i32
     ensures goes { Goes (state_behind handle.old) result (state_behind handle.new) (λ old. Steps (StepBy commands.Redo old)) }
     ensures group { group_behind handle.new ≡ group_behind handle.old }
+    ensures lines { (opened : Option (List Line)) → HoldsLines handle.old opened → HoldsLines handle.new opened }
 {
     let Some(mut plan) = handle.take(alloc) else {
         return CLOSED;

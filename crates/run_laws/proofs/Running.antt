@@ -10,6 +10,8 @@ use Rattle.dimacs_text.specs.Turns.{Turn}
 use Rattle.network.specs.Instance.{Instance, first}
 use Rattle.flow_solver.specs.Moment.{Moment}
 use Rattle.flow_solver.specs.declared.verdict.Verdict.{Verdict}
+use Rattle.session.specs.declared.refusal.StepRefusal.TheVariants as refusal
+use Rattle.session.specs.Refusal.{number_of}
 use Rattle.session.specs.Step.{Reply, TellsVerdict, Shows, Refuses, SessionState}
 use Rattle.checker.specs.Check.{IsProblemText}
 use Rattle.checker.specs.declared.end.End.{End}
@@ -34,18 +36,18 @@ reply_alike TellsVerdict a b alike = same_by (outcome_line a.verdict) (outcome_l
 reply_alike (Shows proof) a b alike = shown_alike proof a b a.instance.room alike.instance alike.one alike.other
 reply_alike (Refuses n) a b alike = same_by (refusal_line n) (refusal_line n) refl
 
-not_memory : (text : List ℕ) (r : Reply) (m : Moment) → text ≡ reply_text r m → text ≢ refusal_line 30 → r ≢ Refuses 30
+not_memory : (text : List ℕ) (r : Reply) (m : Moment) → text ≡ reply_text r m → text ≢ refusal_line (number_of refusal.Memory) → r ≢ Refuses (number_of refusal.Memory)
 not_memory text r m is never e = never (is ∙ ap (λ (q : Reply). reply_text q m) e)
 
--- no reply is `r 30`
+-- no reply tells that memory was refused
 abbrev NoMemory : List (List ℕ) → Type 0
 NoMemory [] = ⊤
-NoMemory (text ∷ texts) = (text ≢ refusal_line 30) × NoMemory texts
+NoMemory (text ∷ texts) = (text ≢ refusal_line (number_of refusal.Memory)) × NoMemory texts
 
 no_memory : (front : List ℕ) (texts : List (List ℕ)) → TellsNoWantOfMemory (front ++ concat texts) → NoMemory texts
 no_memory front [] none = tt
 no_memory front (text ∷ texts) none = (
-  λ (e : text ≡ refusal_line 30). none front (concat texts) (ap (λ (z : List ℕ). front ++ (z ++ concat texts)) e ∙ sym (append_assoc front (refusal_line 30) (concat texts))),
+  λ (e : text ≡ refusal_line (number_of refusal.Memory)). none front (concat texts) (ap (λ (z : List ℕ). front ++ (z ++ concat texts)) e ∙ sym (append_assoc front (refusal_line (number_of refusal.Memory)) (concat texts))),
   no_memory (front ++ text) texts (subst TellsNoWantOfMemory (sym (append_assoc front text (concat texts))) none),
 )
 

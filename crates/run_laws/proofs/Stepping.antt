@@ -14,10 +14,16 @@ use Rattle.history.specs.Boards.{Timeline, all_boards, Advances}
 use Rattle.network.specs.Edited.{edited, edited_all}
 use Rattle.network.specs.Instance.{Instance, kind_of}
 use Rattle.flow_solver.specs.Moment.{Moment}
+use Rattle.session.specs.declared.refusal.StepRefusal.TheVariants as refusal
 use Rattle.session.specs.Marks.{marked, has_place, with_mark, up_to}
+use Rattle.session.specs.Refusal.{number_of as step_number}
 use Rattle.session.specs.Step.{Reply, Refuses, SessionState, IsRefused, IsShown, IsApplied, AreApplied, IsUndone, IsRedone, IsPut, IsMoved, StepOfMark, StepOfBack, StepBy, StepOfEdits, TurnStep}
 use Rattle.run_laws.specs.Alike.{AreAlike, StatesAlike}
 use Rattle.run_laws.proofs.Lists.{joined, parted, as_long}
+
+-- the number by which want of memory is reported
+abbrev memory : ℕ
+memory = step_number refusal.Memory
 
 Same : Reply → Reply → SessionState → SessionState → Type 0
 Same r q s' t' = (q ≡ r) × StatesAlike s' t'
@@ -52,7 +58,7 @@ module _ (s t : SessionState) (alike : StatesAlike s t) where
     marks = n ∙ ap (λ (k : ℕ). up_to k t.marks) (as_long AreAlike s.moments.past t.moments.past alike.past) ∙ ap (up_to (length s.moments.past)) alike.marks ∙ sym m;
   }
 
-  never : (r : Reply) (P : Type 0) → r ≢ Refuses 30 → r ≡ Refuses 30 → P
+  never : (r : Reply) (P : Type 0) → r ≢ Refuses memory → r ≡ Refuses memory → P
   never r P not is = absurd (not is)
 
   applied_alike : (e : Edit) (r q : Reply) (s' t' : SessionState) → IsApplied e s r s' → IsApplied e t q t' → Same r q s' t'
@@ -72,20 +78,20 @@ module _ (s t : SessionState) (alike : StatesAlike s t) where
   )
 
   -- an edit, by what the test of it says
-  edit_by : (m : Result Instance ℕ) (e : Edit) (r q : Reply) (s' t' : SessionState) → r ≢ Refuses 30 → q ≢ Refuses 30
-      → MatchResult m (λ _. IsApplied e s r s' ⊎ IsRefused 30 s r s') (λ n. IsRefused n s r s') → MatchResult m (λ _. IsApplied e t q t' ⊎ IsRefused 30 t q t') (λ n. IsRefused n t q t') → Same r q s' t'
+  edit_by : (m : Result Instance ℕ) (e : Edit) (r q : Reply) (s' t' : SessionState) → r ≢ Refuses memory → q ≢ Refuses memory
+      → MatchResult m (λ _. IsApplied e s r s' ⊎ IsRefused memory s r s') (λ n. IsRefused n s r s') → MatchResult m (λ _. IsApplied e t q t' ⊎ IsRefused memory t q t') (λ n. IsRefused n t q t') → Same r q s' t'
   edit_by (Ok J) e r q s' t' nr nq (inl a) (inl b) = applied_alike e r q s' t' a b
   edit_by (Ok J) e r q s' t' nr nq (inl a) (inr b) = absurd (nq b.reply_is)
   edit_by (Ok J) e r q s' t' nr nq (inr a) b = absurd (nr a.reply_is)
   edit_by (Err n) e r q s' t' nr nq a b = refused_alike n n r q s' t' refl a b
 
-  edits_by : (f : Option CommandFault) (es : List Edit) (r q : Reply) (s' t' : SessionState) → r ≢ Refuses 30 → q ≢ Refuses 30 → StepOfEdits f es s r s' → StepOfEdits f es t q t' → Same r q s' t'
+  edits_by : (f : Option CommandFault) (es : List Edit) (r q : Reply) (s' t' : SessionState) → r ≢ Refuses memory → q ≢ Refuses memory → StepOfEdits f es s r s' → StepOfEdits f es t q t' → Same r q s' t'
   edits_by (Some f) es r q s' t' nr nq a b = refused_alike (number_of f) (number_of f) r q s' t' refl a b
   edits_by None es r q s' t' nr nq (inl a) (inl b) = group_alike es r q s' t' a b
   edits_by None es r q s' t' nr nq (inl a) (inr b) = absurd (nq b.reply_is)
   edits_by None es r q s' t' nr nq (inr a) b = absurd (nr a.reply_is)
 
-  group_by : (m : Result Instance ℕ) (g : Gathered) (r q : Reply) (s' t' : SessionState) → r ≢ Refuses 30 → q ≢ Refuses 30
+  group_by : (m : Result Instance ℕ) (g : Gathered) (r q : Reply) (s' t' : SessionState) → r ≢ Refuses memory → q ≢ Refuses memory
       → MatchResult m (λ _. StepOfEdits g.fault g.edits s r s') (λ n. IsRefused n s r s') → MatchResult m (λ _. StepOfEdits g.fault g.edits t q t') (λ n. IsRefused n t q t') → Same r q s' t'
   group_by (Ok J) g r q s' t' nr nq a b = edits_by g.fault g.edits r q s' t' nr nq a b
   group_by (Err n) g r q s' t' nr nq a b = refused_alike n n r q s' t' refl a b
@@ -149,7 +155,7 @@ module _ (s t : SessionState) (alike : StatesAlike s t) where
 
   mark_by : (b : Bool) (name : List ℕ) (r q : Reply) (s' t' : SessionState) → StepOfMark b name s r s' → StepOfMark b name t q t' → Same r q s' t'
   mark_by true name r q s' t' a b = put_alike name r q s' t' a b
-  mark_by false name r q s' t' a b = refused_alike 33 33 r q s' t' refl a b
+  mark_by false name r q s' t' a b = refused_alike _ _ r q s' t' refl a b
 
   moved_alike : (n : ℕ) (r q : Reply) (s' t' : SessionState) → IsMoved n s r s' → IsMoved n t q t' → Same r q s' t'
   unfolding Same
@@ -161,34 +167,34 @@ module _ (s t : SessionState) (alike : StatesAlike s t) where
 
   back_by : (m : Option ℕ) (r q : Reply) (s' t' : SessionState) → StepOfBack m s r s' → StepOfBack m t q t' → Same r q s' t'
   back_by (Some n) r q s' t' a b = moved_alike n r q s' t' a b
-  back_by None r q s' t' a b = refused_alike 28 28 r q s' t' refl a b
+  back_by None r q s' t' a b = refused_alike _ _ r q s' t' refl a b
 
   -- ---- commands
 
-  by_command : (c : Command) (r q : Reply) (s' t' : SessionState) → r ≢ Refuses 30 → q ≢ Refuses 30 → StepBy c s r s' → StepBy c t q t' → Same r q s' t'
+  by_command : (c : Command) (r q : Reply) (s' t' : SessionState) → r ≢ Refuses memory → q ≢ Refuses memory → StepBy c s r s' → StepBy c t q t' → Same r q s' t'
   by_command (commands.Edit e) r q s' t' nr nq a b =
-      edit_by (edited s.moments.present.instance e) e r q s' t' nr nq a (subst (λ (I : Instance). MatchResult (edited I e) (λ _. IsApplied e t q t' ⊎ IsRefused 30 t q t') (λ n. IsRefused n t q t')) instance_is b)
+      edit_by (edited s.moments.present.instance e) e r q s' t' nr nq a (subst (λ (I : Instance). MatchResult (edited I e) (λ _. IsApplied e t q t' ⊎ IsRefused memory t q t') (λ n. IsRefused n t q t')) instance_is b)
   by_command commands.Undo r q s' t' nr nq (inl a) (inl b) = back_alike r q s' t' a b
   by_command commands.Undo r q s' t' nr nq (inl a) (inr b) = absurd (none_back r s' a b.0)
   by_command commands.Undo r q s' t' nr nq (inr a) (inl b) = absurd (back_none q t' a.0 b)
-  by_command commands.Undo r q s' t' nr nq (inr a) (inr b) = refused_alike 25 25 r q s' t' refl a.1 b.1
+  by_command commands.Undo r q s' t' nr nq (inr a) (inr b) = refused_alike _ _ r q s' t' refl a.1 b.1
   by_command commands.Redo r q s' t' nr nq (inl a) (inl b) = forward_alike r q s' t' a b
   by_command commands.Redo r q s' t' nr nq (inl a) (inr b) = absurd (none_forward r s' a b.0)
   by_command commands.Redo r q s' t' nr nq (inr a) (inl b) = absurd (forward_none q t' a.0 b)
-  by_command commands.Redo r q s' t' nr nq (inr a) (inr b) = refused_alike 26 26 r q s' t' refl a.1 b.1
+  by_command commands.Redo r q s' t' nr nq (inr a) (inr b) = refused_alike _ _ r q s' t' refl a.1 b.1
   by_command commands.Show r q s' t' nr nq a b = shown_alike false r q s' t' a b
   by_command commands.Proof r q s' t' nr nq a b = shown_alike true r q s' t' a b
-  by_command commands.Group r q s' t' nr nq a b = refused_alike 29 29 r q s' t' refl a b
-  by_command commands.End r q s' t' nr nq a b = refused_alike 29 29 r q s' t' refl a b
+  by_command commands.Group r q s' t' nr nq a b = refused_alike _ _ r q s' t' refl a b
+  by_command commands.End r q s' t' nr nq a b = refused_alike _ _ r q s' t' refl a b
   by_command (commands.Mark name) r q s' t' nr nq a b = mark_by (has_place s.marks name) name r q s' t' a (subst (λ ms. StepOfMark (has_place ms name) name t q t') alike.marks b)
   by_command (commands.Back name) r q s' t' nr nq a b = back_by (marked s.marks name) r q s' t' a (subst (λ ms. StepOfBack (marked ms name) t q t') alike.marks b)
 
-  by_line : (m : Result Command ℕ) (r q : Reply) (s' t' : SessionState) → r ≢ Refuses 30 → q ≢ Refuses 30
+  by_line : (m : Result Command ℕ) (r q : Reply) (s' t' : SessionState) → r ≢ Refuses memory → q ≢ Refuses memory
       → MatchResult m (λ c. StepBy c s r s') (λ n. IsRefused n s r s') → MatchResult m (λ c. StepBy c t q t') (λ n. IsRefused n t q t') → Same r q s' t'
   by_line (Ok c) r q s' t' nr nq a b = by_command c r q s' t' nr nq a b
   by_line (Err n) r q s' t' nr nq a b = refused_alike n n r q s' t' refl a b
 
-  by_turn : (turn : Turn) (r q : Reply) (s' t' : SessionState) → r ≢ Refuses 30 → q ≢ Refuses 30 → TurnStep s turn r s' → TurnStep t turn q t' → Same r q s' t'
+  by_turn : (turn : Turn) (r q : Reply) (s' t' : SessionState) → r ≢ Refuses memory → q ≢ Refuses memory → TurnStep s turn r s' → TurnStep t turn q t' → Same r q s' t'
   by_turn (OfLine line) r q s' t' nr nq a b =
       by_line (command (kind_of s.moments.present.instance.demand) line) r q s' t' nr nq a
       (subst (λ (I : Instance). MatchResult (command (kind_of I.demand) line) (λ c. StepBy c t q t') (λ n. IsRefused n t q t')) instance_is b)
@@ -196,6 +202,6 @@ module _ (s t : SessionState) (alike : StatesAlike s t) where
       group_by (edited_all s.moments.present.instance (gathered (kind_of s.moments.present.instance.demand) 0 lines).edits) (gathered (kind_of s.moments.present.instance.demand) 0 lines) r q s' t' nr nq a
       (subst (λ (I : Instance). MatchResult (edited_all I (gathered (kind_of I.demand) 0 lines).edits) (λ _. StepOfEdits (gathered (kind_of I.demand) 0 lines).fault (gathered (kind_of I.demand) 0 lines).edits t q t') (λ n. IsRefused n t q t')) instance_is b)
 
-pub turns_alike : (s t s' t' : SessionState) (turn : Turn) (r q : Reply) → StatesAlike s t → TurnStep s turn r s' → TurnStep t turn q t' → r ≢ Refuses 30 → q ≢ Refuses 30 → (q ≡ r) × StatesAlike s' t'
+pub turns_alike : (s t s' t' : SessionState) (turn : Turn) (r q : Reply) → StatesAlike s t → TurnStep s turn r s' → TurnStep t turn q t' → r ≢ Refuses memory → q ≢ Refuses memory → (q ≡ r) × StatesAlike s' t'
 unfolding Same
 turns_alike s t s' t' turn r q alike a b nr nq = by_turn s t alike turn r q s' t' nr nq a b

@@ -16,6 +16,8 @@ use Rattle.flow_solver.specs.Moment.{Moment}
 use Rattle.history.specs.Boards.{Timeline, Advances, StepsBack}
 use Rattle.history.specs.Repeated.{Repeated}
 use Rattle.history.proofs.Repeating.{new_steps_undone}
+use Rattle.session.specs.declared.refusal.StepRefusal.TheVariants as refusal
+use Rattle.session.specs.Refusal.{number_of as step_number}
 use Rattle.session.specs.Step.{Reply, Refuses, SessionState, IsRefused, IsShown, IsApplied, StepBy, StepOfEdits, TurnStep}
 use Rattle.engines.specs.Printing.{reply_text, solution}
 use Rattle.engines.specs.Run.{Run}
@@ -41,9 +43,9 @@ abbrev Accepts : Reply → Type 0
 Accepts reply = (number : ℕ) → reply ≢ Refuses number
 
 edit_step : (tested : Result Instance ℕ) (edit : Edit) (old new : SessionState) (reply : Reply) → Accepts reply
-    → MatchResult tested (λ _. IsApplied edit old reply new ⊎ IsRefused 30 old reply new) (λ number. IsRefused number old reply new) → Advances old.moments new.moments
+    → MatchResult tested (λ _. IsApplied edit old reply new ⊎ IsRefused (step_number refusal.Memory) old reply new) (λ number. IsRefused number old reply new) → Advances old.moments new.moments
 edit_step (Ok I) edit old new reply accepts (inl applied) = applied.advances
-edit_step (Ok I) edit old new reply accepts (inr refused) = absurd (accepts 30 refused.reply_is)
+edit_step (Ok I) edit old new reply accepts (inr refused) = absurd (accepts (step_number refusal.Memory) refused.reply_is)
 edit_step (Err number) edit old new reply accepts refused = absurd (accepts number refused.reply_is)
 
 command_step : (c : Command) (old new : SessionState) (reply : Reply) → IsEditCommand c → Accepts reply → StepBy c old reply new → Advances old.moments new.moments
@@ -58,7 +60,7 @@ line_step (Err number) old new reply is accepts refused = absurd (accepts number
 edits_step : (fault : Option CommandFault) (edits : List Edit) (old new : SessionState) (reply : Reply) → Accepts reply → StepOfEdits fault edits old reply new → Advances old.moments new.moments
 edits_step (Some fault) edits old new reply accepts refused = absurd (accepts (number_of fault) refused.reply_is)
 edits_step None edits old new reply accepts (inl applied) = applied.advances
-edits_step None edits old new reply accepts (inr refused) = absurd (accepts 30 refused.reply_is)
+edits_step None edits old new reply accepts (inr refused) = absurd (accepts (step_number refusal.Memory) refused.reply_is)
 
 group_step : (tested : Result Instance ℕ) (group : Gathered) (old new : SessionState) (reply : Reply) → Accepts reply
     → MatchResult tested (λ _. StepOfEdits group.fault group.edits old reply new) (λ number. IsRefused number old reply new) → Advances old.moments new.moments

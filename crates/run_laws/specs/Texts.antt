@@ -2,6 +2,8 @@
 use Rattle.std.specs.Prelude.{◌≡◌, ◌≢◌, ℕ, ℤ, List, ◌++◌, ◌⊎◌}
 use Rattle.std.specs.List.{AllZip, concat}
 use Rattle.dimacs_io.specs.Line.{flow_line, refusal_line}
+use Rattle.session.specs.declared.refusal.StepRefusal.TheVariants as refusal
+use Rattle.session.specs.Refusal.{number_of}
 
 -- two `f` lines with the same ends
 pub record AreFlowLines (line other : List ℕ) : Type 0 where
@@ -24,6 +26,6 @@ pub record DifferInFlows (text other : List ℕ) : Type 0 where
   pub other_is : other ≡ concat other_pieces
   pub alike : AllZip ArePiecesAlike pieces other_pieces
 
--- the line `r 30`, which tells that memory was refused, stands nowhere in the text
+-- the line that tells that memory was refused stands nowhere in the text
 abbrev pub TellsNoWantOfMemory : List ℕ → Type 0
-TellsNoWantOfMemory text = (before after : List ℕ) → text ≢ before ++ refusal_line 30 ++ after
+TellsNoWantOfMemory text = (before after : List ℕ) → text ≢ before ++ refusal_line (number_of refusal.Memory) ++ after

@@ -5,6 +5,8 @@ ghost use Rattle.dimacs_text.specs.Reading.{ProblemValue};
 ghost use Rattle.dimacs_text.specs.Turns.{Turn};
 ghost use Rattle.flow_solver.specs.Moment.{Moment};
 ghost use Rattle.flow_solver.specs.Answer.{IsAnswered};
+ghost use Rattle.session.specs.declared.refusal.StepRefusal.TheVariants as refusal;
+ghost use Rattle.session.specs.Refusal.{number_of};
 ghost use Rattle.session.specs.Step.{Reply, Refuses, SessionState, TurnStep};
 ghost use Rattle.checker.specs.Check.{IsProblemText};
 ghost use Rattle.checker.specs.declared.end.End.{End};
@@ -27,11 +29,12 @@ pub fn moments_show_the_same()
 /// is refused.
 pub fn steps_agree()
     ensures { (s t after other : SessionState) (turn : Turn) (reply other_reply : Reply) → StatesAlike s t → TurnStep s turn reply after → TurnStep t turn other_reply other
-        → reply ≢ Refuses 30 → other_reply ≢ Refuses 30 → (other_reply ≡ reply) × StatesAlike after other }
+        → reply ≢ Refuses (number_of refusal.Memory) → other_reply ≢ Refuses (number_of refusal.Memory)
+        → (other_reply ≡ reply) × StatesAlike after other }
 {}
 
 /// A law, with nothing to run: two sessions over one problem text and one command text, each read to its end, with the same
-/// room for arcs more, write the same bytes but for the numbers of `f` lines, where neither replies `r 30`.
+/// room for arcs more, write the same bytes but for the numbers of `f` lines, where neither refuses for want of memory.
 pub fn same_texts_give_the_same_bytes()
     ensures { (extra : ℕ) (problem_text problem_given other_problem_given commands given other_given written other : List ℕ)
         → SessionWrites Ended extra problem_text problem_given commands given written

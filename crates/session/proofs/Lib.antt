@@ -8,6 +8,7 @@ mod Exact
 mod Exchanges
 mod Swapping
 mod Keeping
+mod SameKind
 mod Moving
 mod Names
 mod Leading

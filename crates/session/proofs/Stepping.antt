@@ -9,15 +9,16 @@ use Rattle.network.specs.Edited.{edited, edited_all}
 use Rattle.network.specs.Instance.{Instance}
 use Rattle.session.specs.declared.refusal.Refusal.{Refusal}
 use Rattle.session.specs.declared.refusal.Refusal.TheVariants as refusal
+use Rattle.session.specs.declared.refusal.StepRefusal.TheVariants as step_refusal
 use Rattle.session.specs.Refusal.{number_of, of_edits}
 use Rattle.session.specs.Step.{IsApplied, IsRefused, Refuses, Reply, SessionState, StepOfEdit, StepOfEdits, StepOfGroup}
 
 -- ---- the step of an edit
 
 edit_by : (r : Result Instance ℕ) (edit : Edit) (old : SessionState) (reply : Reply) (new : SessionState) → edited old.moments.present.instance edit ≡ r
-    → MatchResult r (λ _. IsApplied edit old reply new ⊎ IsRefused 30 old reply new) (λ number. IsRefused number old reply new) → StepOfEdit edit old reply new
+    → MatchResult r (λ _. IsApplied edit old reply new ⊎ IsRefused (number_of step_refusal.Memory) old reply new) (λ number. IsRefused number old reply new) → StepOfEdit edit old reply new
 edit_by r edit old reply new e step =
-    subst (λ (q : Result Instance ℕ). MatchResult q (λ _. IsApplied edit old reply new ⊎ IsRefused 30 old reply new) (λ number. IsRefused number old reply new)) (sym e) step
+    subst (λ (q : Result Instance ℕ). MatchResult q (λ _. IsApplied edit old reply new ⊎ IsRefused (number_of step_refusal.Memory) old reply new) (λ number. IsRefused number old reply new)) (sym e) step
 
 pub edit_refused : (edit : Edit) (old new : SessionState) (r : Refusal) → new ≡ old
     → ((number : ℕ) → (◌≡◌ {A = Result ℕ Refusal} (Err r) (Err (refusal.Cause number))) ↔ (edited old.moments.present.instance edit ≡ Err number))
@@ -26,8 +27,8 @@ edit_refused edit old new (refusal.Cause number) same cause =
     edit_by (Err number) edit old (Refuses number) new ((cause number).0 refl) (record { reply_is = refl; unchanged = same })
 edit_refused edit old new refusal.Memory same cause = by (edited old.moments.present.instance edit) refl
   where
-    by : (q : Result Instance ℕ) → edited old.moments.present.instance edit ≡ q → StepOfEdit edit old (Refuses 30) new
-    by (Ok I) e = edit_by (Ok I) edit old (Refuses 30) new e (inr (record { reply_is = refl; unchanged = same }))
+    by : (q : Result Instance ℕ) → edited old.moments.present.instance edit ≡ q → StepOfEdit edit old (Refuses (number_of step_refusal.Memory)) new
+    by (Ok I) e = edit_by (Ok I) edit old (Refuses (number_of step_refusal.Memory)) new e (inr (record { reply_is = refl; unchanged = same }))
     by (Err number) e = absurd (other ((cause number).1 e))
       where
         other : ◌≡◌ {A = Result ℕ Refusal} (Err refusal.Memory) (Err (refusal.Cause number)) → ⊥
@@ -56,9 +57,9 @@ group_refused group old new (refusal.Cause number) none same cause =
     group_by (Err number) group old (Refuses number) new ((cause number).0 refl) (record { reply_is = refl; unchanged = same })
 group_refused group old new refusal.Memory none same cause = by (edited_all old.moments.present.instance group.edits) refl
   where
-    by : (q : Result Instance ℕ) → edited_all old.moments.present.instance group.edits ≡ q → StepOfGroup group old (Refuses 30) new
+    by : (q : Result Instance ℕ) → edited_all old.moments.present.instance group.edits ≡ q → StepOfGroup group old (Refuses (number_of step_refusal.Memory)) new
     by (Ok I) e =
-        group_by (Ok I) group old (Refuses 30) new e (edits_by None group old (Refuses 30) new (no_fault group.fault none) (inr (record { reply_is = refl; unchanged = same })))
+        group_by (Ok I) group old (Refuses (number_of step_refusal.Memory)) new e (edits_by None group old (Refuses (number_of step_refusal.Memory)) new (no_fault group.fault none) (inr (record { reply_is = refl; unchanged = same })))
     by (Err number) e = absurd (other ((cause number).1 e))
       where
         other : ◌≡◌ {A = Result ℕ Refusal} (Err refusal.Memory) (Err (refusal.Cause number)) → ⊥

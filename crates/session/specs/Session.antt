@@ -3,7 +3,9 @@ use Rattle.std.specs.Prelude.{◌≡◌, ℕ, ◌-◌, ◌≤◌, List, length, 
 use Rattle.std.specs.Option.{unwrap_or}
 use Rattle.dimacs_text.specs.declared.command.Edit.{Edit}
 use Rattle.dimacs_text.specs.declared.command.Edit.TheVariants as edits
+use Rattle.dimacs_text.specs.declared.problem.Kind.{Kind}
 use Rattle.network.specs.Edited.{edited, edited_all}
+use Rattle.network.specs.Instance.{kind_of}
 use Rattle.flow_solver.specs.Moment.{Moment}
 use Rattle.flow_solver.specs.Answer.{IsAnswered}
 use Rattle.flow_solver.specs.TablesView.{TablesView}
@@ -25,6 +27,10 @@ pub record Stack : Type 0 where
 -- moment i, counted from 0 at the opening
 abbrev pub moment_at : Stack → ℕ → Moment
 moment_at s i = slice_index_or (all_boards s.moments) i s.moments.present
+
+-- the kind of problem that the present moment is one of
+abbrev pub kind_in : Timeline Moment → Kind
+kind_in moments = kind_of moments.present.instance.demand
 
 -- an edit was applied: the instance is the edited one, and the moment answers it
 pub record IsEdited (edit : Edit) (old new : Moment) : Type 0 where

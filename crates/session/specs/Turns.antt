@@ -5,7 +5,7 @@ use Rattle.dimacs_lines.specs.Fields.{words_of}
 use Rattle.dimacs_lines.specs.Lines.{Line, is_too_long}
 use Rattle.dimacs_text.specs.Group.{Gathered, gathered}
 use Rattle.dimacs_text.specs.Turns.{Turn, Turns, and_turn_by}
-use Rattle.network.specs.Instance.{kind_of}
+use Rattle.session.specs.Session.{kind_in}
 use Rattle.session.specs.Step.{Reply, SessionState, TurnStep}
 
 -- a line asks for something where it is too long or not blank
@@ -18,7 +18,7 @@ turns_by opened line = if asks line then and_turn_by opened [] line else record 
 
 -- what the lines of the group that stands open have given, if one does
 abbrev pub gathered_in : SessionState → Option (List Line) → Option Gathered
-gathered_in s opened = option_map (gathered (kind_of s.moments.present.instance.demand) 0) opened
+gathered_in s opened = option_map (gathered (kind_in s.moments) 0) opened
 
 -- a turn that is whole is one step, with its reply; where none is, nothing changes and nothing is replied
 abbrev pub TakesTurns : List Turn → SessionState → Option Reply → SessionState → Type 0

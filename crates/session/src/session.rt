@@ -13,7 +13,7 @@ ghost use Rattle.session.specs.Marks.{has_place, marked, up_to, with_mark, IsMov
 ghost use Rattle.session.specs.Parts.{flow_of};
 ghost use Rattle.session.specs.Group.{ArePartsOf};
 ghost use Rattle.session.specs.Refusal.{number_of};
-ghost use Rattle.session.specs.Session.{AreEdited, IsEdited, IsRecord, moment_at, places_of, place_of_edit};
+ghost use Rattle.session.specs.Session.{AreEdited, IsEdited, IsRecord, kind_in, moment_at, places_of, place_of_edit};
 
 use crate::marks::Marks;
 use crate::record::Record;
@@ -102,6 +102,7 @@ impl<A: Allocator + Copy> Session<A> {
         ensures advances { OnOk result (Advances self.old.moments self.new.moments) }
         ensures records { OnOk result ((r : Record A) × (self.new.records ≡ take (length self.old.moments.past) self.old.records ++ r ∷ []) × (places_of r ≡ place_of_edit edit.now ∷ [])) }
         ensures marks { OnOk result (self.new.marks ≡ up_to (length self.old.moments.past) self.old.marks) }
+        ensures kind { kind_in self.new.moments ≡ kind_in self.old.moments }
         ensures cause { (number : ℕ) → (result ≡ Err (Refusal.Cause number)) ↔ (edited self.old.moments.present.instance edit.now ≡ Err number) }
         ensures pushes { IfOk result (λ n. IsChange self.old.moments.present.instance self.new.moments.present.instance edit.now (at_node self.old.moments.present.potentials) self.old.moments.present.flow self.new.moments.present.flow n) }
         ensures refused { OnErr result (self.new ≡ self.old) }
@@ -120,6 +121,7 @@ impl<A: Allocator + Copy> Session<A> {
         ensures advances { OnOk result (Advances self.old.moments self.new.moments) }
         ensures records { OnOk result ((r : Record A) × (self.new.records ≡ take (length self.old.moments.past) self.old.records ++ r ∷ []) × ArePartsOf edits.now self.old.moments.present.instance r.parts) }
         ensures marks { OnOk result (self.new.marks ≡ up_to (length self.old.moments.past) self.old.marks) }
+        ensures kind { kind_in self.new.moments ≡ kind_in self.old.moments }
         ensures cause { (number : ℕ) → (result ≡ Err (Refusal.Cause number)) ↔ (edited_all self.old.moments.present.instance edits.now ≡ Err number) }
         ensures pushes { IfOk result (λ n. AreChanges self.old.moments.present.instance self.new.moments.present.instance edits.now (at_node self.old.moments.present.potentials) self.old.moments.present.flow self.new.moments.present.flow n) }
         ensures refused { OnErr result (self.new ≡ self.old) }
@@ -148,6 +150,7 @@ impl<A: Allocator + Copy> Session<A> {
         ensures undone { OnTrue result (StepsBack self.old.moments self.new.moments) }
         ensures places { map places_of self.new.records ≡ map places_of self.old.records }
         ensures marks { self.new.marks ≡ self.old.marks }
+        ensures kind { kind_in self.new.moments ≡ kind_in self.old.moments }
         ensures unchanged { OnFalse result (self.new ≡ self.old) }
     {
         self.history.undo(&mut self.tables)
@@ -159,6 +162,7 @@ impl<A: Allocator + Copy> Session<A> {
         ensures redone { OnTrue result (StepsForward self.old.moments self.new.moments) }
         ensures places { map places_of self.new.records ≡ map places_of self.old.records }
         ensures marks { self.new.marks ≡ self.old.marks }
+        ensures kind { kind_in self.new.moments ≡ kind_in self.old.moments }
         ensures unchanged { OnFalse result (self.new ≡ self.old) }
     {
         self.history.redo(&mut self.tables)
@@ -172,6 +176,7 @@ impl<A: Allocator + Copy> Session<A> {
     pub fn mark(&mut self, name: &Name) -> Result<(), u8>
         ensures answer { result ≡ (if has_place self.old.marks name.now then Ok tt else Err (number_of StepRefusal.TooManyMarks)) }
         ensures marked { OnOk result (self.new ≡ record self.old { marks = with_mark self.old.marks name.now (length self.old.moments.past) }) }
+        ensures kind { kind_in self.new.moments ≡ kind_in self.old.moments }
         ensures refused { OnErr result (self.new ≡ self.old) }
     {
         let (past, _) = self.steps();
@@ -191,6 +196,7 @@ impl<A: Allocator + Copy> Session<A> {
         ensures moved { IfSome (marked self.old.marks name.now) (λ moment. IsMovedTo moment self.old.moments self.new.moments) }
         ensures places { map places_of self.new.records ≡ map places_of self.old.records }
         ensures marks { self.new.marks ≡ self.old.marks }
+        ensures kind { kind_in self.new.moments ≡ kind_in self.old.moments }
         ensures refused { OnErr result (self.new ≡ self.old) }
     {
         let Some(moment) = self.marks.moment_of(name) else {
@@ -211,6 +217,7 @@ impl<A: Allocator + Copy> Session<A> {
         ensures moved { IsMovedTo (length self.old.moments.past - count) self.old.moments self.new.moments }
         ensures places { map places_of self.new.records ≡ map places_of self.old.records }
         ensures marks { self.new.marks ≡ self.old.marks }
+        ensures kind { kind_in self.new.moments ≡ kind_in self.old.moments }
     {
         for _ in 0..count {
             let _ = self.undo();
@@ -223,6 +230,7 @@ impl<A: Allocator + Copy> Session<A> {
         ensures moved { IsMovedTo (length self.old.moments.past + count) self.old.moments self.new.moments }
         ensures places { map places_of self.new.records ≡ map places_of self.old.records }
         ensures marks { self.new.marks ≡ self.old.marks }
+        ensures kind { kind_in self.new.moments ≡ kind_in self.old.moments }
     {
         for _ in 0..count {
             let _ = self.redo();

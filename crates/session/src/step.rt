@@ -4,6 +4,7 @@ ghost use Rattle.std.specs.Prelude.{◌≡◌, MatchResult};
 ghost use Rattle.dimacs_text.specs.declared.command.Command.TheVariants as commands;
 ghost use Rattle.network.specs.Edited.{edited_all};
 ghost use Rattle.session.specs.Reply.{reply_of};
+ghost use Rattle.session.specs.Session.{kind_in};
 ghost use Rattle.session.specs.Step.{StepBy, StepOfEdit, StepOfGroup, state_of};
 
 use crate::refusal::StepRefusal;
@@ -19,7 +20,8 @@ impl<A: Allocator + Copy> Session<A> {
     /// # Errors
     /// Why the step was refused; `Group` and `End` are no steps by themselves.
     pub fn step(&mut self, command: &Command) -> Result<Reply, StepRefusal>
-        ensures { StepBy command.now (state_of self.old) (reply_of result) (state_of self.new) }
+        ensures step { StepBy command.now (state_of self.old) (reply_of result) (state_of self.new) }
+        ensures kind { kind_in self.new.moments ≡ kind_in self.old.moments }
     {
         match command {
             Command::Edit(edit) => self.step_by_edit(edit),
@@ -40,7 +42,8 @@ impl<A: Allocator + Copy> Session<A> {
     /// # Errors
     /// Why the step was refused: by the first of the group's lines that is refused, by itself or by the network.
     pub fn step_group(&mut self, group: &Group) -> Result<Reply, StepRefusal>
-        ensures { StepOfGroup group.now (state_of self.old) (reply_of result) (state_of self.new) }
+        ensures step { StepOfGroup group.now (state_of self.old) (reply_of result) (state_of self.new) }
+        ensures kind { kind_in self.new.moments ≡ kind_in self.old.moments }
     {
         if let Some(number) = group.fault() {
             let first = first_refusal(self.network(), group.edits(), number);
@@ -54,7 +57,8 @@ impl<A: Allocator + Copy> Session<A> {
 
     /// Applies an edit.
     fn step_by_edit(&mut self, edit: &Edit) -> Result<Reply, StepRefusal>
-        ensures { StepOfEdit edit.now (state_of self.old) (reply_of result) (state_of self.new) }
+        ensures step { StepOfEdit edit.now (state_of self.old) (reply_of result) (state_of self.new) }
+        ensures kind { kind_in self.new.moments ≡ kind_in self.old.moments }
     {
         match self.apply(edit) {
             Ok(_) => Ok(Reply::Verdict),
@@ -64,7 +68,8 @@ impl<A: Allocator + Copy> Session<A> {
 
     /// Goes back one moment.
     fn step_back(&mut self) -> Result<Reply, StepRefusal>
-        ensures { StepBy commands.Undo (state_of self.old) (reply_of result) (state_of self.new) }
+        ensures step { StepBy commands.Undo (state_of self.old) (reply_of result) (state_of self.new) }
+        ensures kind { kind_in self.new.moments ≡ kind_in self.old.moments }
     {
         if self.undo() {
             Ok(Reply::Verdict)
@@ -75,7 +80,8 @@ impl<A: Allocator + Copy> Session<A> {
 
     /// Goes on one moment.
     fn step_on(&mut self) -> Result<Reply, StepRefusal>
-        ensures { StepBy commands.Redo (state_of self.old) (reply_of result) (state_of self.new) }
+        ensures step { StepBy commands.Redo (state_of self.old) (reply_of result) (state_of self.new) }
+        ensures kind { kind_in self.new.moments ≡ kind_in self.old.moments }
     {
         if self.redo() {
             Ok(Reply::Verdict)
@@ -86,7 +92,8 @@ impl<A: Allocator + Copy> Session<A> {
 
     /// Puts the name's mark on the present moment.
     fn step_by_mark(&mut self, name: &Name) -> Result<Reply, StepRefusal>
-        ensures { StepBy (commands.Mark name.now) (state_of self.old) (reply_of result) (state_of self.new) }
+        ensures step { StepBy (commands.Mark name.now) (state_of self.old) (reply_of result) (state_of self.new) }
+        ensures kind { kind_in self.new.moments ≡ kind_in self.old.moments }
     {
         match self.mark(name) {
             Ok(()) => Ok(Reply::Verdict),
@@ -96,7 +103,8 @@ impl<A: Allocator + Copy> Session<A> {
 
     /// Moves to the moment that bears the name.
     fn step_to_mark(&mut self, name: &Name) -> Result<Reply, StepRefusal>
-        ensures { StepBy (commands.Back name.now) (state_of self.old) (reply_of result) (state_of self.new) }
+        ensures step { StepBy (commands.Back name.now) (state_of self.old) (reply_of result) (state_of self.new) }
+        ensures kind { kind_in self.new.moments ≡ kind_in self.old.moments }
     {
         match self.back(name) {
             Ok(()) => Ok(Reply::Verdict),

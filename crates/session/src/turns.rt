@@ -9,6 +9,7 @@ ghost use Rattle.dimacs_lines.specs.Lines.{Line};
 ghost use Rattle.dimacs_text.specs.Group.{gathered};
 ghost use Rattle.dimacs_text.specs.declared.problem.Kind.{Kind};
 ghost use Rattle.session.specs.Reply.{reply_of};
+ghost use Rattle.session.specs.Session.{kind_in};
 ghost use Rattle.session.specs.Step.{state_of};
 ghost use Rattle.session.specs.Turns.{TakesLine, asks, gathered_in};
 
@@ -27,9 +28,10 @@ impl<A: Allocator + Copy> Session<A> {
         group: &mut Option<Group>,
         line: Option<&[u8]>,
     ) -> Option<Result<Reply, StepRefusal>>
-        ensures { (whole : Line) → option_map (λ l. l.now) line.entry ≡ kept whole
+        ensures taken { (whole : Line) → option_map (λ l. l.now) line.entry ≡ kept whole
             → (opened : Option (List Line)) → group.old ≡ gathered_in (state_of self.old) opened
             → TakesLine (state_of self.old) opened whole (option_map reply_of result) (state_of self.new) group.new }
+        ensures kind { kind_in self.new.moments ≡ kind_in self.old.moments }
     {
         if !asks(line) {
             return None;
@@ -55,8 +57,9 @@ impl<A: Allocator + Copy> Session<A> {
     ) -> Option<Result<Reply, StepRefusal>>
         requires asks { IfSome line (λ l. words_of l.now ≢ []) }
         requires alone { group.old ≡ None }
-        ensures { (whole : Line) → option_map (λ l. l.now) line.entry ≡ kept whole
+        ensures taken { (whole : Line) → option_map (λ l. l.now) line.entry ≡ kept whole
             → TakesLine (state_of self.old) None whole (option_map reply_of result) (state_of self.new) group.new }
+        ensures kind { kind_in self.new.moments ≡ kind_in self.old.moments }
     {
         groups_are_bracketed();
         let Some(line) = line else {

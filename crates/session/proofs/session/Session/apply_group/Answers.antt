@@ -2,6 +2,7 @@ use Rattle.std.proofs.Common.{List, [], ◌∷◌, ◌++◌, length, sym, ap, ap
 use Rattle.std.proofs.lemmas.List.{append-nil, take_at}
 use Rattle.history.specs.Boards.{Timeline, boards}
 use Rattle.history.proofs.Timelines.{length-past, boards_same}
+use Rattle.network.proofs.Following.{frame_all}
 use Rattle.flow_solver.specs.Moment.{Moment}
 use Rattle.session.specs.Record.{Recorded, swapped}
 use Rattle.session.specs.Session.{Stack}
@@ -44,3 +45,10 @@ returns-in-Ok-clause-records g c =
     let all = ap₂ ◌++◌ past c.push.ensures.future ∙ append-nil (h.past ++ r ∷ []) in
     let kept = take_at h.past h.future (length (boards swapped h c.self.inside.tables.moment).past) (sym (length-past swapped h c.self.inside.tables.moment)) in
     rw (← c.self.view_is) (r, all ∙ sym (ap (λ (rs : List Recorded). rs ++ r ∷ []) kept), rw (was_there c.change_all-pushes.new.self c.self.inside.tables.moment c.change_all-pushes.ensures.before) at c.in-Ok.ensures.parts)
+
+-- edits keep the kind
+pub returns-in-Ok-clause-kind : goal.returns-in-Ok-clause-kind
+returns-in-Ok-clause-kind g c =
+    let m : Moment = c.self.inside.tables.moment in
+    let d : Moment = c.change_all-pushes.new.self.moment in
+    rw (← c.self.view_is) (frame_all m.instance c.args.edits.now d.instance c.change_all-pushes.ensures.instance).kind
