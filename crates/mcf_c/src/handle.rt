@@ -1,13 +1,11 @@
 //! The handle that C keeps of a session.
 
-ghost use Rattle.std.specs.Prelude.{◌≡◌, ◌≢◌, None, Some, pos};
+ghost use Rattle.std.specs.Prelude.{◌≡◌, None, Some};
 ghost use Rattle.std.specs.Option.{is_some, option_map};
 
 use crate::loose::Loose;
 use crate::plan::Plan;
 use crate::pointer::PlanPointer;
-use calls::MEMORY;
-use session::Session;
 use std::alloc::Global;
 use std::{mem, ptr};
 
@@ -62,26 +60,6 @@ impl Handle {
         ensures { self.new.pointer.plan ≡ Some plan.value }
     {
         *self = Handle::of(plan);
-    }
-
-    /// Opens it on a session, with no group open. Answers 0, or `MEMORY`, after which it is closed as before.
-    pub(crate) fn hold(&mut self, alloc: Global, session: Session) -> i32
-        requires { self.old.pointer.plan ≡ None }
-        ensures held { result ≡ pos 0 → self.new.pointer.plan ≡ Some (record { session = session; group = None }) }
-        ensures memory { result ≢ pos 0 → result ≡ MEMORY }
-        ensures unchanged { result ≢ pos 0 → self.new ≡ self.old }
-    {
-        let plan = Plan {
-            session,
-            group: None,
-        };
-        match Box::new(alloc, plan) {
-            Ok(plan) => {
-                self.put(plan);
-                0
-            }
-            Err(_) => MEMORY, // No session is kept.
-        }
     }
 
     /// Whether it has a session.

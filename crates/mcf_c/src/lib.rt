@@ -15,7 +15,7 @@ ghost use Rattle.dimacs_lines.specs.Lines.{Line};
 ghost use Rattle.session.specs.Step.{StepBy};
 ghost use Rattle.calls.specs.Arrays.{IsEven, IsFirstFault, IsOpeningBy};
 ghost use Rattle.calls.specs.Answer.{AreListsKept, IsSameRoom, IsSolved, IsTooShort};
-ghost use Rattle.calls.specs.declared.status.TheConstants.{FAULT, MEMORY, OTHER_LENGTH, TOO_SHORT};
+ghost use Rattle.calls.specs.declared.status.TheConstants.{FAULT, OTHER_LENGTH, TOO_SHORT};
 ghost use Rattle.calls.specs.Library.{Goes, IsOpening, IsViewOf, Steps, Took, arc_count, given_of, has_cut, has_flow, node_count};
 ghost use Rattle.mcf_c.specs.Handles.{HoldsLines, group_behind, state_behind};
 
@@ -25,8 +25,8 @@ mod plan;
 mod pointer;
 
 use calls::{
-    Answer, ArrayFault, Arrays, CLOSED, Fault, OPEN, View, give_cut, give_flow, give_potentials,
-    look, open_arrays, open_session, solve_text, take_line,
+    Answer, ArrayFault, Arrays, CLOSED, Fault, MEMORY, OPEN, View, give_cut, give_flow,
+    give_potentials, look, open_arrays, open_session, solve_text, take_line,
 };
 use handle::Handle;
 use plan::Plan;
@@ -75,9 +75,20 @@ pub extern "C" fn mcf_open(
     if handle.is_open() {
         return OPEN;
     }
-    match open_session(alloc, text, extra, fault) {
-        Ok(session) => handle.hold(alloc, session),
-        Err(status) => status,
+    let session = match open_session(alloc, text, extra, fault) {
+        Ok(session) => session,
+        Err(status) => return status,
+    };
+    let plan = Plan {
+        session,
+        group: None,
+    };
+    match Box::new(alloc, plan) {
+        Ok(plan) => {
+            handle.put(plan);
+            0
+        }
+        Err(_) => MEMORY, // No session is kept.
     }
 }
 
@@ -107,9 +118,20 @@ pub extern "C" fn mcf_open_arrays(
     if handle.is_open() {
         return OPEN;
     }
-    match open_arrays(alloc, arrays, extra, fault) {
-        Ok(session) => handle.hold(alloc, session),
-        Err(status) => status,
+    let session = match open_arrays(alloc, arrays, extra, fault) {
+        Ok(session) => session,
+        Err(status) => return status,
+    };
+    let plan = Plan {
+        session,
+        group: None,
+    };
+    match Box::new(alloc, plan) {
+        Ok(plan) => {
+            handle.put(plan);
+            0
+        }
+        Err(_) => MEMORY,
     }
 }
 

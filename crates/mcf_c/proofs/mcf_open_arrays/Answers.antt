@@ -1,0 +1,8 @@
+use Rattle.std.proofs.Common.{rules}
+use Rattle.mcf_c.proofs.mcf_open_arrays.Goals as goal
+
+pub returns-clause-opened : goal.returns-clause-opened
+returns-clause-opened c = search rules
+
+pub returns-clause-open : goal.returns-clause-open
+returns-clause-open c = search rules
