@@ -13,6 +13,7 @@ pub mod ScratchView
 pub mod Difference
 pub mod Trail
 pub mod Decomposition
+pub mod Changes
 pub mod Certificate
 pub mod Wanted
 pub mod Attempt
