@@ -10,6 +10,7 @@ pub mod TrackedLemmas
 pub mod LabelLaws
 pub mod JournalLemmas
 pub mod CertificateLemmas
+pub mod WantedPaths
 pub mod TrailLemmas
 pub mod DecompositionLemmas
 pub mod TurnedRows
