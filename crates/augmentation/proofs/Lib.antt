@@ -13,3 +13,4 @@ pub mod CertificateLemmas
 pub mod TrailLemmas
 pub mod DecompositionLemmas
 pub mod TurnedRows
+pub mod ChangeLemmas
