@@ -18,6 +18,7 @@ use Rattle.residual_graph.specs.Residual.{IsPseudoflow, IsWithinRow, end_at, num
 use Rattle.augmentation.specs.Push.{ArePushes, HasRoom, IsPath, IsTransfer, left, moved, nodes_on, positive_part, push_along}
 use Rattle.augmentation.specs.Changes.{IsChange, IsNearer, IsWantedPath, RisesAt, wanted_along, wanted_of}
 use Rattle.augmentation.proofs.PushLemmas.{AreApart, Avoids, IsTransfer-put, at_other, at_same, net-along}
+use Rattle.augmentation.proofs.WantedPaths.{wanted_path}
 use Rattle.augmentation.proofs.SettleLemmas.{ArePushes-more, ArePushes-none, IsMoving, IsRoom, left-mono, moving_after, one_push, positive_part-mono}
 
 -- ---- the arcs of a path
@@ -283,23 +284,22 @@ unchanged {nodes} {rows} {x} {e} {y} {f} {ranks} change same n count =
     let none : 0 ≡ n = omega (arith, equal, count) in
     subst (λ (z : List ℤ). ArePushes rows n x e z f) same (subst (λ (g : List ℤ). ArePushes rows n x e x g) kept (subst (λ (k : ℕ). ArePushes rows k x e x e) none (ArePushes-none rows x e)))
 
-module _ (wanted_path : (nodes : ℕ) (rows : List ArcRow) (x e y f : List ℤ) (ranks : List ℕ) → IsChange nodes rows x e y f ranks → (k : ℕ) → k < length rows → number_at x k ≢ number_at y k → IsWantedPath nodes rows x e y f) where
-  -- what is changed lies on a path of changes
-  path_or_none : (nodes : ℕ) (rows : List ArcRow) (x e y f : List ℤ) (ranks : List ℕ) → IsChange nodes rows x e y f ranks → (x ≡ y) ⊎ IsWantedPath nodes rows x e y f
-  path_or_none nodes rows x e y f ranks change = elim (same_or_differ x y (change.before.same_length ∙ sym change.after.same_length)) [
-    | inl same ↦ inl same
-    | inr at ↦ inr (wanted_path nodes rows x e y f ranks change at.place (omega (arith, at.in_list, change.before.same_length)) at.differs)
-  ]
+-- what is changed lies on a path of changes
+path_or_none : (nodes : ℕ) (rows : List ArcRow) (x e y f : List ℤ) (ranks : List ℕ) → IsChange nodes rows x e y f ranks → (x ≡ y) ⊎ IsWantedPath nodes rows x e y f
+path_or_none nodes rows x e y f ranks change = elim (same_or_differ x y (change.before.same_length ∙ sym change.after.same_length)) [
+  | inl same ↦ inl same
+  | inr at ↦ inr (wanted_path nodes rows x e y f ranks change at.place (omega (arith, at.in_list, change.before.same_length)) at.differs)
+]
 
-  -- a change that turns in no circle is as many pushes as units are moved
-  pub pushes_of_change : (nodes : ℕ) (rows : List ArcRow) (x e y f : List ℤ) (ranks : List ℕ) → IsChange nodes rows x e y f ranks → (n : ℕ) → n + left f ≡ left e → ArePushes rows n x e y f
-  pushes_of_change nodes rows x e y f ranks change zero count = elim (path_or_none nodes rows x e y f ranks change) [
-    | inl same ↦ unchanged change same 0 count
-    | inr path ↦ absurd (omega (arith, count, left_after change path, left_not_more (change_after change path)))
-  ]
-  pushes_of_change nodes rows x e y f ranks change (suc n) count = elim (path_or_none nodes rows x e y f ranks change) [
-    | inl same ↦ unchanged change same (suc n) count
-    | inr path ↦ (let rest = pushes_of_change nodes rows (next_flow change path) (next_excess change path) y f ranks (change_after change path) n (omega (arith, count, left_after change path)) in
-        let more : 1 + n ≡ suc n = omega arith in
-        subst (λ (k : ℕ). ArePushes rows k x e y f) more (ArePushes-more (one_unit change path) rest))
-  ]
+-- a change that turns in no circle is as many pushes as units are moved
+pub pushes_of_change : (nodes : ℕ) (rows : List ArcRow) (x e y f : List ℤ) (ranks : List ℕ) → IsChange nodes rows x e y f ranks → (n : ℕ) → n + left f ≡ left e → ArePushes rows n x e y f
+pushes_of_change nodes rows x e y f ranks change zero count = elim (path_or_none nodes rows x e y f ranks change) [
+  | inl same ↦ unchanged change same 0 count
+  | inr path ↦ absurd (omega (arith, count, left_after change path, left_not_more (change_after change path)))
+]
+pushes_of_change nodes rows x e y f ranks change (suc n) count = elim (path_or_none nodes rows x e y f ranks change) [
+  | inl same ↦ unchanged change same (suc n) count
+  | inr path ↦ (let rest = pushes_of_change nodes rows (next_flow change path) (next_excess change path) y f ranks (change_after change path) n (omega (arith, count, left_after change path)) in
+      let more : 1 + n ≡ suc n = omega arith in
+      subst (λ (k : ℕ). ArePushes rows k x e y f) more (ArePushes-more (one_unit change path) rest))
+]
