@@ -14,3 +14,4 @@ pub mod WantedPaths
 pub mod TrailLemmas
 pub mod DecompositionLemmas
 pub mod TurnedRows
+pub mod ChangeLemmas
