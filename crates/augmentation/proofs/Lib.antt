@@ -10,6 +10,7 @@ pub mod TrackedLemmas
 pub mod LabelLaws
 pub mod JournalLemmas
 pub mod ExchangeLemmas
+pub mod WantedPaths
 pub mod ChangeLemmas
 pub mod CertificateLemmas
 pub mod TurnedRows
