@@ -9,7 +9,8 @@ pub mod ApartLemmas
 pub mod TrackedLemmas
 pub mod LabelLaws
 pub mod JournalLemmas
+pub mod ExchangeLemmas
+pub mod WantedPaths
+pub mod ChangeLemmas
 pub mod CertificateLemmas
-pub mod TrailLemmas
-pub mod DecompositionLemmas
 pub mod TurnedRows

@@ -2,10 +2,9 @@
 use Rattle.std.specs.Prelude.{◌≡◌, ℕ}
 use Rattle.augmentation.specs.declared.attempt.Attempt.{Attempt}
 use Rattle.augmentation.specs.Journal.{IsJournal}
-use Rattle.augmentation.specs.Trail.{IsTrailFor}
 
 -- the tables have one entry a node
 pub record IsAttemptFor (entries : ℕ) (a : Attempt) : Type 0 where
   pub proposals : a.proposals ≡ entries
   pub journal : IsJournal a.draft.journal
-  pub trail : IsTrailFor entries a.draft.trail
+  pub order : a.draft.order ≡ entries

@@ -10,9 +10,8 @@ pub mod Tracked
 pub mod Journal
 pub mod Scratch
 pub mod ScratchView
-pub mod Difference
-pub mod Trail
-pub mod Decomposition
+pub mod Changes
+pub mod Exchange
 pub mod Certificate
 pub mod Wanted
 pub mod Attempt

@@ -5,29 +5,24 @@ ghost use Rattle.shortest_paths.specs.Limits.{label_floor};
 ghost use Rattle.residual_graph.specs.Graph.{HasEntries};
 ghost use Rattle.residual_graph.specs.Residual.{ArePotentials, IsPseudoflow, NoneBelow};
 ghost use Rattle.augmentation.specs.Cut.{IsParted, in_set};
-ghost use Rattle.augmentation.specs.Decomposition.{IsOnTheWay, entries_of};
 ghost use Rattle.augmentation.specs.Journal.{IsJournal, IsSince};
 ghost use Rattle.augmentation.specs.Pseudoflow.{IsCertifiedPseudoflow, IsReady};
 ghost use Rattle.augmentation.specs.Push.{ArePushes, AreSmall};
 ghost use Rattle.augmentation.specs.Tracked.{IsWritten};
 ghost use Rattle.augmentation.specs.Adoption.{IsAsBefore, IsCertifiedBy};
-ghost use Rattle.augmentation.specs.Trail.{IsTrailFor};
 
 use crate::certificate::still_certifies;
-use crate::decomposition::push_towards;
 use crate::draft::Draft;
 use crate::excess::Excess;
+use crate::exchange::exchange;
 use crate::journal::Journal;
 use crate::rounds::finish;
 use crate::scratch::Scratch;
-use crate::setting::Setting;
 use crate::touched::Touched;
 use crate::tracked::Tracked;
-use crate::trail::Trail;
 use crate::wanted::shift_potentials;
 use proposals::Wanted;
 use residual_graph::Graph;
-use std::mem;
 
 /// With no more nodes out of balance than these no proposal of a greatest flow is made: so few pushes are quicker than one
 /// look at all arcs.
@@ -36,60 +31,55 @@ const FEW: usize = 32;
 /// Whether a proposal has an entry for each node, and there is room for what stood in the flow.
 fn fits(flow: &[i64], excess: &[i64], wanted: &Wanted, draft: &Draft) -> bool
     ensures room { IsTrue result → length flow.now ≤ length draft.now.journal.before.items }
-    ensures rests { IsTrue result → length wanted.now.rests.items ≡ length excess.now }
     ensures potentials { IsTrue result → length wanted.now.potentials.items ≡ length excess.now }
 {
-    wanted.rests.len() == excess.len()
-        && wanted.potentials.len() == excess.len()
-        && draft.journal.before.len() >= flow.len()
+    wanted.potentials.len() == excess.len() && draft.journal.before.len() >= flow.len()
 }
 
-/// Leads a flow towards the proposed one, and counts the pushes: nothing where the proposed potentials do not certify what
-/// comes of it, and then the flow is as it was.
+/// Makes the flow the proposed one, and counts the units that this moves: nothing where the changes do not serve or the
+/// proposed potentials do not certify what comes of them, and then the flow is as it was.
 fn lead(
-    setting: Setting<'_>,
+    graph: &Graph,
     flow: &mut [i64],
-    draft: &mut Draft,
-    before: &[i64],
+    excess: &[i64],
     potentials: &[i64],
+    wanted: &mut Wanted,
+    draft: &mut Draft,
 ) -> Option<u64>
-    requires state { IsOnTheWay (entries_of setting.graph.now) setting.graph.now.rows flow.old draft.old.excess.items }
-    requires none_below { NoneBelow setting.graph.now.rows flow.old before.now }
-    requires before { ArePotentials (entries_of setting.graph.now) label_floor before.now }
-    requires potentials { length potentials.now ≡ entries_of setting.graph.now }
+    requires graph { HasEntries (length excess.now) graph.now }
+    requires flow { IsPseudoflow (length excess.now) graph.now.rows flow.old }
+    requires none_below { NoneBelow graph.now.rows flow.old potentials.now }
+    requires potentials { ArePotentials (length excess.now) label_floor potentials.now }
+    requires small { AreSmall excess.now }
+    requires copied { draft.old.excess.items ≡ excess.now }
+    requires wanted { length wanted.old.potentials.items ≡ length excess.now }
     requires journal { IsJournal draft.old.journal }
     requires room { length flow.old ≤ length draft.old.journal.before.items }
-    requires trail { IsTrailFor (entries_of setting.graph.now) draft.old.trail }
+    requires order { draft.old.order ≡ length excess.now }
     ensures none { IfNone result (flow.new ≡ flow.old) }
-    ensures some { IfSome result (λ n. IsCertifiedBy setting.entry.graph.now n flow.old draft.old.excess.items flow.new draft.new.excess.items potentials.now) }
+    ensures some { IfSome result (λ n. IsCertifiedBy graph.now n flow.old excess.now flow.new draft.new.excess.items wanted.new.potentials.items) }
     ensures since { IfSome result (λ n. IsSince draft.new.journal flow.old flow.new) }
     ensures journal { IsJournal draft.new.journal }
-    ensures trail { IsTrailFor (entries_of setting.entry.graph.now) draft.new.trail }
+    ensures order { draft.new.order ≡ draft.old.order }
 {
     draft.journal.clear();
-    let pushes = push_towards(
-        setting,
-        flow,
-        &mut draft.journal,
-        &mut draft.excess,
-        &mut draft.trail,
-    );
-    if still_certifies(
-        setting.graph,
-        flow,
-        &draft.journal.written,
-        before,
-        potentials,
-    ) {
-        Some(pushes)
-    } else {
-        draft.journal.bring_back(flow);
-        None
+    if let Some(units) = exchange(graph, flow, excess, &mut wanted.changes, draft) {
+        if still_certifies(
+            graph,
+            flow,
+            &draft.journal.written,
+            potentials,
+            &wanted.potentials,
+        ) {
+            return Some(units);
+        }
     }
+    draft.journal.bring_back(flow);
+    None
 }
 
-/// Leads a flow towards the proposed one, with a copy of its excess, and counts the pushes: nothing where the proposal does
-/// not serve, and then the flow is as it was.
+/// Makes the flow the proposed one, with a copy of its excess, and counts the pushes: nothing where the proposal does not
+/// serve, and then the flow is as it was.
 fn draw(
     graph: &Graph,
     flow: &mut [i64],
@@ -104,12 +94,12 @@ fn draw(
     requires potentials { ArePotentials (length excess.now) label_floor potentials.now }
     requires small { AreSmall excess.now }
     requires journal { IsJournal draft.old.journal }
-    requires trail { IsTrailFor (length excess.now) draft.old.trail }
+    requires order { draft.old.order ≡ length excess.now }
     ensures none { IfNone result (flow.new ≡ flow.old) }
     ensures some { IfSome result (λ n. IsCertifiedBy graph.now n flow.old excess.now flow.new draft.new.excess.items wanted.new.potentials.items) }
     ensures since { IfSome result (λ n. IsSince draft.new.journal flow.old flow.new) }
     ensures journal { IsJournal draft.new.journal }
-    ensures trail { IsTrailFor (length excess.now) draft.new.trail }
+    ensures order { draft.new.order ≡ draft.old.order }
 {
     if !fits(flow, excess, wanted, draft) {
         return None;
@@ -117,14 +107,7 @@ fn draw(
     draft.excess.clear();
     draft.excess.extend_from_slice(excess).ok()?;
     shift_potentials(&mut wanted.potentials);
-    mem::swap(&mut wanted.changes, &mut draft.trail.changes);
-    let setting = Setting {
-        graph,
-        rests: &wanted.rests,
-    };
-    let pushes = lead(setting, flow, draft, potentials, &wanted.potentials);
-    mem::swap(&mut wanted.changes, &mut draft.trail.changes);
-    pushes
+    lead(graph, flow, excess, potentials, wanted, draft)
 }
 
 /// Notes the places in a journal.

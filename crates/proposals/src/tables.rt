@@ -200,16 +200,13 @@ impl Proposals {
     /// Writes down where the proposal stands, less than all where there is no room for it.
     pub fn write(&self, rows: &[ArcRow], flow: &[i64], aim: Aim, wanted: &mut Wanted) {
         wanted.changes.clear();
-        let _nodes = wanted.take_nodes(&self.proposal);
+        let _potentials = wanted.take_potentials(&self.proposal);
         let first = if aim == Aim::GreatestFlow { 1 } else { 0 };
         if aim == Aim::GreatestFlow && !rows.is_empty() && !flow.is_empty() {
             let row = &rows[0];
-            let _back = wanted.lead_back(
-                row.tail as usize,
-                row.head as usize,
-                flow[0],
-                (row.low, row.cap),
-            );
+            if let Some(rest) = self.proposal.rests().get(row.head as usize) {
+                let _back = wanted.lead_back(flow[0], *rest, (row.low, row.cap));
+            }
         }
         let _whole = if self.rows == Some(rows.len()) {
             write_noted(wanted, &self.proposal, rows, flow, &self.noted)

@@ -13,14 +13,11 @@ pub struct Change {
     pub flow: i64,
 }
 
-/// What is wanted: changes of a flow, the excess that they are to leave at each node, and potentials. Nothing is known of
-/// the numbers, nor of how many there are.
+/// What is wanted: changes of a flow, and potentials. Nothing is known of the numbers, nor of how many there are.
 #[derive(Drop)]
 pub struct Wanted {
     /// Each arc whose flow is to change. What goes round in circles is left out when the proposal is tried.
     pub changes: Vec<Change>,
-    /// What is to rest at each node: excess above 0, deficit below.
-    pub rests: Vec<i64>,
     pub potentials: Vec<i64>,
 }
 
@@ -31,19 +28,15 @@ impl Wanted {
     /// Memory for a table was refused.
     pub fn new(alloc: Global, entries: usize, arcs: usize) -> Result<Wanted, AllocError> {
         let changes = Vec::with_capacity(alloc, arcs)?;
-        let rests = Vec::with_capacity(alloc, entries)?;
         let potentials = Vec::with_capacity(alloc, entries)?;
         Ok(Wanted {
             changes,
-            rests,
             potentials,
         })
     }
 
-    /// Takes over what is known of the nodes, as far as there is room.
-    pub(crate) fn take_nodes(&mut self, proposal: &Proposal) -> Option<()> {
-        self.rests.clear();
-        self.rests.extend_from_slice(proposal.rests()).ok()?;
+    /// Takes over the potentials, as far as there is room.
+    pub(crate) fn take_potentials(&mut self, proposal: &Proposal) -> Option<()> {
         self.potentials.clear();
         self.potentials
             .extend_from_slice(proposal.potentials())
@@ -65,23 +58,9 @@ impl Wanted {
             .ok()
     }
 
-    /// Wants as much less of the return arc, which is the first one, as still lies at its head. So much is then to rest at
-    /// its tail.
-    pub(crate) fn lead_back(
-        &mut self,
-        tail: usize,
-        head: usize,
-        standing: i64,
-        bounds: (i64, i64),
-    ) -> Option<()> {
-        if tail >= self.rests.len() || head >= self.rests.len() {
-            return None;
-        }
-        let amount = standing.saturating_sub(self.rests[head]);
-        let amount = amount.max(bounds.0).min(bounds.1);
-        let less = standing.saturating_sub(amount);
-        self.rests[head] = self.rests[head].saturating_sub(less);
-        self.rests[tail] = self.rests[tail].saturating_add(less);
-        self.list(0, standing, amount)
+    /// Wants as much less of the return arc, which is the first one, as still lies at its head.
+    pub(crate) fn lead_back(&mut self, standing: i64, rest: i64, bounds: (i64, i64)) -> Option<()> {
+        let goal = standing.saturating_sub(rest).max(bounds.0).min(bounds.1);
+        self.list(0, standing, goal)
     }
 }

@@ -30,8 +30,8 @@ const PAIRS: &[u8] = b"p asn 4 4\nn 1\nn 2\na 1 3 5\na 1 4 2\na 2 3 4\na 2 4 3\n
 /// The one greatest flow fills the arcs out of the source.
 const GREATEST: &[u8] = b"p max 4 5\nn 1 s\nn 4 t\na 1 2 3\na 1 3 2\na 2 3 1\na 2 4 2\na 3 4 3\n";
 
-/// What is proposed: arcs with the flow that is wanted of each, rests and potentials.
-type Proposed = (&'static [(u32, i64)], &'static [i64], &'static [i64]);
+/// What is proposed: arcs with the flow that is wanted of each, and potentials.
+type Proposed = (&'static [(u32, i64)], &'static [i64]);
 /// What comes of it: the pushes that led to what was adopted, the pushes of the searches, the flow, what rests, and the
 /// flow's worth where it is best.
 type Outcome = (
@@ -46,121 +46,125 @@ type Outcome = (
 type Step = (Option<Proposed>, Outcome);
 
 /// What is proposed of `TIES`, and what comes of it.
-static PROPOSALS: [(Proposed, Outcome); 16] = [
+static PROPOSALS: [(Proposed, Outcome); 19] = [
     // The one way, the other, both.
     (
-        (&[(2, 2)], &[0; 5], &[0, -2, -1, 0, 0]),
-        (Some(1), 0, &[0, 0, 2, 0, 0], &[0; 5], Some(4)),
+        (&[(2, 2)], &[0, -2, -1, 0, 0]),
+        (Some(2), 0, &[0, 0, 2, 0, 0], &[0; 5], Some(4)),
     ),
     (
-        (&[(0, 2), (1, 2)], &[0; 5], &[0, -2, -1, 0, 0]),
-        (Some(1), 0, &[2, 2, 0, 0, 0], &[0; 5], Some(4)),
+        (&[(0, 2), (1, 2)], &[0, -2, -1, 0, 0]),
+        (Some(2), 0, &[2, 2, 0, 0, 0], &[0; 5], Some(4)),
     ),
     (
-        (&[(0, 1), (1, 1), (2, 1)], &[0; 5], &[0, -2, -1, 0, 0]),
+        (&[(0, 1), (1, 1), (2, 1)], &[0, -2, -1, 0, 0]),
+        (Some(2), 0, &[1, 1, 1, 0, 0], &[0; 5], Some(4)),
+    ),
+    // The arcs in another order.
+    (
+        (&[(2, 1), (1, 1), (0, 1)], &[0, -2, -1, 0, 0]),
         (Some(2), 0, &[1, 1, 1, 0, 0], &[0; 5], Some(4)),
     ),
     // Potentials that are to be lowered.
     (
-        (&[(0, 1), (1, 1), (2, 1)], &[0; 5], &[0, 5, 6, 7, 7]),
+        (&[(0, 1), (1, 1), (2, 1)], &[0, 5, 6, 7, 7]),
         (Some(2), 0, &[1, 1, 1, 0, 0], &[0; 5], Some(4)),
     ),
-    // A circle that costs is taken off.
+    // A circle that costs is taken off, alone and where one way round is wanted more often.
     (
         (
             &[(0, 1), (1, 1), (2, 1), (3, 5), (4, 5)],
-            &[0; 5],
             &[0, -2, -1, 0, 0],
         ),
         (Some(2), 0, &[1, 1, 1, 0, 0], &[0; 5], Some(4)),
     ),
-    // A potential off by one.
     (
-        (&[(0, 1), (1, 1), (2, 1)], &[0; 5], &[0, -2, -2, 0, 0]),
+        (
+            &[(4, 5), (0, 1), (3, 5), (1, 1), (2, 1)],
+            &[0, -2, -1, 0, 0],
+        ),
+        (Some(2), 0, &[1, 1, 1, 0, 0], &[0; 5], Some(4)),
+    ),
+    (
+        (
+            &[(0, 1), (1, 1), (2, 1), (3, 5), (4, 4)],
+            &[0, -2, -1, 0, 0],
+        ),
         (None, 1, &[0, 0, 2, 0, 0], &[0; 5], Some(4)),
     ),
-    // A flow out of balance: a unit of it is led on.
+    // A potential off by one.
     (
-        (&[(0, 2), (1, 1)], &[0; 5], &[0, -2, -1, 0, 0]),
-        (Some(1), 1, &[1, 1, 1, 0, 0], &[0; 5], Some(4)),
+        (&[(0, 1), (1, 1), (2, 1)], &[0, -2, -2, 0, 0]),
+        (None, 1, &[0, 0, 2, 0, 0], &[0; 5], Some(4)),
     ),
-    // Flows out of their bounds: no more is pushed than fits.
+    // A node to which more comes than goes on, one from which more goes than comes, one that gives more than it has.
     (
-        (&[(0, 3), (1, 3), (2, -1)], &[0; 5], &[0, -2, -1, 0, 0]),
-        (Some(1), 0, &[2, 2, 0, 0, 0], &[0; 5], Some(4)),
+        (&[(0, 2), (1, 1)], &[0, -2, -1, 0, 0]),
+        (None, 1, &[0, 0, 2, 0, 0], &[0; 5], Some(4)),
+    ),
+    (
+        (&[(1, 1), (2, 1)], &[0, -2, -1, 0, 0]),
+        (None, 1, &[0, 0, 2, 0, 0], &[0; 5], Some(4)),
+    ),
+    (
+        (&[(0, 2), (1, 2), (2, 1)], &[0, -2, -1, 0, 0]),
+        (None, 1, &[0, 0, 2, 0, 0], &[0; 5], Some(4)),
+    ),
+    // Flows out of their bounds: each arc gets what fits.
+    (
+        (&[(0, 3), (1, 3), (2, -1)], &[0, -2, -1, 0, 0]),
+        (Some(2), 0, &[2, 2, 0, 0, 0], &[0; 5], Some(4)),
     ),
     (
         (
             &[(0, i64::MAX), (1, i64::MAX), (2, i64::MIN)],
-            &[0; 5],
             &[0, -2, -1, 0, 0],
         ),
-        (Some(1), 0, &[2, 2, 0, 0, 0], &[0; 5], Some(4)),
+        (Some(2), 0, &[2, 2, 0, 0, 0], &[0; 5], Some(4)),
     ),
-    // An arc listed twice.
+    // An arc listed twice: the last flow counts.
     (
-        (&[(2, 1), (2, 2)], &[0; 5], &[0, -2, -1, 0, 0]),
+        (
+            &[(2, 1), (0, 0), (1, 0), (3, 0), (4, 0), (2, 2)],
+            &[0, -2, -1, 0, 0],
+        ),
         (Some(2), 0, &[0, 0, 2, 0, 0], &[0; 5], Some(4)),
     ),
-    // An arc that is not there.
+    // Arcs that are not there.
     (
-        (
-            &[(5, 2), (u32::MAX, 2), (2, 2)],
-            &[0; 5],
-            &[0, -2, -1, 0, 0],
-        ),
-        (Some(1), 0, &[0, 0, 2, 0, 0], &[0; 5], Some(4)),
-    ),
-    // More arcs than there are: the last one is passed over.
-    (
-        (
-            &[(0, 0), (1, 0), (2, 1), (3, 0), (4, 0), (2, 2)],
-            &[0; 5],
-            &[0, -2, -1, 0, 0],
-        ),
-        (Some(1), 1, &[0, 0, 2, 0, 0], &[0; 5], Some(4)),
+        (&[(5, 2), (u32::MAX, 2), (2, 2)], &[0, -2, -1, 0, 0]),
+        (Some(2), 0, &[0, 0, 2, 0, 0], &[0; 5], Some(4)),
     ),
     // A node that is not there.
     (
-        (&[(2, 2)], &[0; 6], &[0, -2, -1, 0, 0, 0]),
+        (&[(2, 2)], &[0, -2, -1, 0, 0, 0]),
         (None, 1, &[0, 0, 2, 0, 0], &[0; 5], Some(4)),
-    ),
-    // What rests at the wrong node.
-    (
-        (&[(0, 2), (1, 2)], &[0, 1, 0, 0, 0], &[0, -2, -1, 0, 0]),
-        (Some(1), 1, &[1, 1, 1, 0, 0], &[0; 5], Some(4)),
     ),
     // Nothing.
     (
-        (&[], &[0, 2, 0, -2, 0], &[0; 5]),
+        (&[], &[0; 5]),
         (Some(0), 1, &[0, 0, 2, 0, 0], &[0; 5], Some(4)),
     ),
     // Too short.
     (
-        (&[], &[], &[]),
+        (&[], &[]),
         (None, 1, &[0, 0, 2, 0, 0], &[0; 5], Some(4)),
     ),
 ];
 
 /// What is proposed where something stays: a problem, its excesses, and what comes of it.
-static LEFT: [(&[u8], &[i64], Proposed, Outcome); 3] = [
+static LEFT: [(&[u8], &[i64], Proposed, Outcome); 2] = [
     (
         SHORT,
         &[0, 2, -2],
-        (&[(0, 1)], &[0, 1, -1], &[0, -1, 0]),
-        (Some(1), 0, &[1], &[0, 1, -1], None),
-    ),
-    (
-        SHORT,
-        &[0, 2, -2],
-        (&[(0, 1)], &[0, 0, 0], &[0, -1, 0]),
+        (&[(0, 1)], &[0, -1, 0]),
         (Some(1), 0, &[1], &[0, 1, -1], None),
     ),
     (
         PASSED,
         &[0, 3, 2, -3],
-        (&[(0, 3), (1, 3)], &[0, 0, 2, 0], &[0, -5, -1, 0]),
-        (Some(1), 0, &[3, 3], &[0, 0, 2, 0], None),
+        (&[(0, 3), (1, 3)], &[0, -5, -1, 0]),
+        (Some(3), 0, &[3, 3], &[0, 0, 2, 0], None),
     ),
 ];
 
@@ -170,7 +174,7 @@ static OWN: [(&[u8], &[i64], Outcome); 5] = [
     (
         GAINS,
         &[0, 1, -1, 4, -4],
-        (Some(3), 0, &[2, 2, 2, 2, 0], &[0; 5], Some(10)),
+        (Some(5), 0, &[2, 2, 2, 2, 0], &[0; 5], Some(10)),
     ),
     (
         PAIRS,
@@ -180,7 +184,13 @@ static OWN: [(&[u8], &[i64], Outcome); 5] = [
     (
         GREATEST,
         &[0, 100_000_000_000_000, 0, 0, -100_000_000_000_000],
-        (Some(4), 0, &[5, 3, 2, 1, 2, 3], &[0; 5], Some(5)),
+        (
+            Some(100_000_000_000_000),
+            0,
+            &[5, 3, 2, 1, 2, 3],
+            &[0; 5],
+            Some(5),
+        ),
     ),
     (SHORT, &[0, 2, -2], (Some(1), 0, &[1], &[0, 1, -1], None)),
     (
@@ -191,7 +201,7 @@ static OWN: [(&[u8], &[i64], Outcome); 5] = [
 ];
 
 /// An arc that is not there, and no potentials.
-static MISSING: Proposed = (&[(9, 9)], &[1], &[]);
+static MISSING: Proposed = (&[(9, 9)], &[]);
 
 /// What the searches alone come to where arcs gain.
 static SEARCHED: Outcome = (None, 4, &[2, 2, 2, 2, 0], &[0; 5], Some(10));
@@ -281,8 +291,7 @@ fn changes_of(alloc: Global, pairs: &[(u32, i64)]) -> Result<Vec<Change>, AllocE
 fn wanted_of(alloc: Global, proposed: &Proposed) -> Result<Wanted, AllocError> {
     Ok(Wanted {
         changes: changes_of(alloc, proposed.0)?,
-        rests: copy_of(alloc, proposed.1)?,
-        potentials: copy_of(alloc, proposed.2)?,
+        potentials: copy_of(alloc, proposed.1)?,
     })
 }
 

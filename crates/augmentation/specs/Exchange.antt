@@ -1,0 +1,16 @@
+-- A flow that is changed to a wanted one at once.
+use Rattle.std.specs.Prelude.{◌≡◌, ℕ, ◌+◌, ◌<◌, ℤ, ◌<ℤ◌, List}
+use Rattle.dimacs_text.specs.declared.problem.ArcRow.{ArcRow}
+use Rattle.augmentation.specs.Changes.{IsChange, rank_at}
+use Rattle.augmentation.specs.Push.{left}
+
+-- where an arc carries y in place of x, the change leads to a node of higher rank
+pub record RisesBetween (a : ArcRow) (x y : ℤ) (ranks : List ℕ) : Type 0 where
+  pub more : x <ℤ y → rank_at ranks a.tail < rank_at ranks a.head
+  pub less : y <ℤ x → rank_at ranks a.head < rank_at ranks a.tail
+
+-- flow x with excess e is changed to flow y with excess f, and n units are moved
+pub record IsExchange (nodes : ℕ) (rows : List ArcRow) (n : ℕ) (x e y f : List ℤ) : Type 0 where
+  pub ranks : List ℕ
+  pub change : IsChange nodes rows x e y f ranks
+  pub units : n + left f ≡ left e
