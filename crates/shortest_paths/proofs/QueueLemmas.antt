@@ -1,9 +1,8 @@
 -- How the queue of open nodes goes on.
-use Rattle.std.proofs.Common.{◌≡◌, ◌≢◌, ℕ, zero, suc, ◌+◌, ◌<◌, ◌≤◌, ℤ, ◌≤ℤ◌, List, [], ◌∷◌, length, refl, false, sym, ap, subst, ◌∙◌, ◌⊎◌, inl, inr, arith}
-use Rattle.std.specs.Prelude.{slice_index, slice_index_or, slice_set, ◌<ℤ◌}
+use Rattle.std.proofs.Common.{◌≡◌, ◌≢◌, ℕ, zero, suc, ◌+◌, ◌<◌, ◌≤◌, ℤ, ◌≤ℤ◌, List, [], ◌∷◌, ◌++◌, length, refl, false, sym, ap, subst, ◌∙◌, ◌⊎◌, inl, inr, arith}
+use Rattle.std.specs.Prelude.{slice_index_or, slice_set, ◌<ℤ◌}
 use Rattle.std.specs.List.{Contains}
 use Rattle.std.specs.List.Sorted.{IsPermutation}
-use Rattle.std.specs.Vec.{with_item}
 use Rattle.std.specs.BinaryHeap.{IsHeap, IsUpperBound, heap_items, heap_capacity}
 use Rattle.std.specs.Ordering.{int_cmp, is_lt, ordering_then, MatchOrdering}
 use Rattle.std.specs.Cmp.{int_ranks}
@@ -11,37 +10,50 @@ use Rattle.std.specs.declared.cmp.Ordering.{Ordering}
 use Rattle.std.specs.declared.cmp.Ordering.TheVariants.{Less, Equal, Greater}
 use Rattle.std.specs.declared.cmp.Reverse.{Reverse}
 use Rattle.std.specs.declared.collections.BinaryHeap.{BinaryHeap}
+use Rattle.std.specs.declared.collections.VecDeque.{VecDeque}
 use Rattle.std.specs.declared.alloc.Global.{Global}
 use Rattle.std.proofs.lemmas.Int.{ints}
-use Rattle.std.proofs.lemmas.Bool.{cases_lt, cases_eq}
-use Rattle.std.proofs.lemmas.List.{get_or-set_same, get_or-set_other, length-set}
-use Rattle.std.proofs.lemmas.List.Elements.{All-contains, All-from_recursion}
+use Rattle.std.proofs.lemmas.Bool.{cases_eq}
+use Rattle.std.proofs.lemmas.List.Elements.{All-contains, All-from_recursion, Contains-append_left, Contains-push, Contains-push_cases}
 use Rattle.std.proofs.lemmas.List.Sorted.{Contains-permutation, IsPermutation-sym}
 use Rattle.shortest_paths.specs.declared.queue.Queue.{Queue}
 use Rattle.shortest_paths.specs.declared.node_label.NodeLabel.{NodeLabel}
 use Rattle.shortest_paths.specs.declared.heap_entry.HeapEntry.{HeapEntry}
-use Rattle.shortest_paths.specs.declared.node_label.State.TheVariants.{Unreached, Open, Settled}
+use Rattle.shortest_paths.specs.declared.node_label.State.TheVariants.{Open, Settled}
 use Rattle.shortest_paths.specs.Search.{IsReached, state_at, distance_at, node_label_at, Takes, IsLeastOpen, NoneOpen, settled_node_label, settled_in}
-use Rattle.shortest_paths.specs.Queue.{HoldsOpen, IsCurrent, IsEntered, IsEntry, IsLive, IsPassedDistance, IsQueueOf, IsWaiting, entry_now, entry_of, nearness}
+use Rattle.shortest_paths.specs.Queue.{AreApart, HoldsOpen, IsCurrent, IsEntered, IsEntry, IsLive, IsPassedDistance, IsQueueFor, IsQueueOf, entry_now, entry_of, nearness}
 use Rattle.shortest_paths.proofs.SearchLemmas.{IsPut, IsPut-set, takes_lower, in_range, open_is_reached, settled_is_reached}
+
+-- ---- what is in a list
+
+module _ {X : Type 0} where
+  first_or_later : (x : X) (xs : List X) (e : X) → Contains (x ∷ xs) e → (x ≡ e) ⊎ Contains xs e
+  first_or_later x xs e at = by_place at.0 at.1 at.2
+    where
+      by_place : (k : ℕ) → k < length (x ∷ xs) → slice_index_or (x ∷ xs) k e ≡ e → (x ≡ e) ⊎ Contains xs e
+      by_place zero lt is = inl is
+      by_place (suc k) lt is = inr (k, omega arith, is)
+
+  first : (x : X) (xs : List X) → Contains (x ∷ xs) x
+  first x xs = (0, omega arith, refl)
+
+  later : (x : X) (xs : List X) (e : X) → Contains xs e → Contains (x ∷ xs) e
+  later x xs e at = (suc at.0, omega (arith, at.1), at.2)
+
+apart_push : (vs : List ℕ) (v : ℕ) → AreApart vs → (Contains vs v → ⊥) → AreApart (vs ++ v ∷ [])
+apart_push [] v apart new = (λ at. omega (arith, at.1), tt)
+apart_push (w ∷ vs) v apart new = (
+  λ at. (elim (Contains-push_cases vs v w at) [
+    | inl was ↦ apart.0 was
+    | inr same ↦ new (subst (Contains (w ∷ vs)) (sym same) (first w vs))
+  ]),
+  apart_push vs v apart.1 (λ at. new (later w vs v at)),
+)
 
 -- ---- the entries of the heap
 
 abbrev Entry : Type 0
 Entry = Reverse HeapEntry
-
-first_or_later : (x : Entry) (xs : List Entry) (e : Entry) → Contains (x ∷ xs) e → (x ≡ e) ⊎ Contains xs e
-first_or_later x xs e at = by_place at.0 at.1 at.2
-  where
-    by_place : (k : ℕ) → k < length (x ∷ xs) → slice_index_or (x ∷ xs) k e ≡ e → (x ≡ e) ⊎ Contains xs e
-    by_place zero lt is = inl is
-    by_place (suc k) lt is = inr (k, omega arith, is)
-
-first : (x : Entry) (xs : List Entry) → Contains (x ∷ xs) x
-first x xs = (0, omega arith, refl)
-
-later : (x : Entry) (xs : List Entry) (e : Entry) → Contains xs e → Contains (x ∷ xs) e
-later x xs e at = (suc at.0, omega (arith, at.1), at.2)
 
 -- an entry was pushed
 module _ (x : Entry) (old heap : List Entry) (pushed : IsPermutation (x ∷ old) heap) where
@@ -109,36 +121,19 @@ entered_one s v old heap o pushed = record {
 -- ---- the first node
 
 module _ (s : List NodeLabel) (q : Queue) (queue : IsQueueOf s q) where
-  waiting_is_present : (v : ℕ) → IsWaiting q.current.items q.next q.end v → distance_at s v ≡ q.present
-  waiting_is_present v w = ap (distance_at s) (sym w.3) ∙ queue.current.all_present w.0 w.1 w.2
-
-  waiting_is_open : (v : ℕ) → IsWaiting q.current.items q.next q.end v → state_at s v ≡ Open
-  waiting_is_open v w = ap (state_at s) (sym w.3) ∙ queue.current.all_open w.0 w.1 w.2
-
   open_is_beyond : (v : ℕ) → state_at s v ≡ Open → q.present ≤ℤ distance_at s v
   open_is_beyond v o = elim (queue.all v o) [
-    | inl waits ↦ omega (arith, ints, waiting_is_present v waits)
+    | inl waits ↦ omega (arith, ints, queue.current.all_present v waits)
     | inr at ↦ (queue.entries (entry_now s v) at).beyond
   ]
 
   least_open : (v : ℕ) → state_at s v ≡ Open → ((w : ℕ) → state_at s w ≡ Open → distance_at s v ≤ℤ distance_at s w) → IsLeastOpen s (length s) v
   least_open v o least = record { below = in_range s v (open_is_reached s v o); is_open = o; least = λ w lt o_w. least w o_w }
 
-  pub current_first : q.next < q.end → IsLeastOpen s (length s) (slice_index q.current.items q.next)
-  current_first some =
-      least_open (slice_index q.current.items q.next) (queue.current.all_open q.next (omega arith) some)
-      (λ w o. omega (arith, ints, open_is_beyond w o, queue.current.all_present q.next (omega arith) some))
-
--- ---- no node is current
-
-empty_current : (s : List NodeLabel) (current : List ℕ) (distance : ℤ) → IsCurrent s current 0 0 distance
-empty_current s current distance = record {
-  begins = omega arith;
-  ends = omega arith;
-  all_open = λ i le lt. absurd (omega arith);
-  all_present = λ i le lt. absurd (omega arith);
-  apart = λ i j le lt below. absurd (omega arith);
-}
+  pub current_first : (u : ℕ) (rest : List ℕ) → q.current.items ≡ u ∷ rest → IsLeastOpen s (length s) u
+  current_first u rest is =
+      let waits : Contains q.current.items u = rw is (first u rest) in
+      least_open u (queue.current.all_open u waits) (λ w o. omega (arith, ints, open_is_beyond w o, queue.current.all_present u waits))
 
 -- ---- node u is settled, and nothing else changes
 
@@ -185,40 +180,35 @@ module _ (s : List NodeLabel) (u : ℕ) (least : IsLeastOpen s (length s) u) whe
   passed_settled : (distance : ℤ) → distance ≡ distance_at s u → IsPassedDistance (settled_in s u) distance
   passed_settled distance same bound low within = omega (arith, ints, within u now_settled, distance_kept u, same)
 
+  sized_settled : {q : Queue} → length s ≤ heap_capacity q.heap → IsQueueFor (length (settled_in s u)) q
+  sized_settled room = record { room = omega (arith, room, put_settled.same_length) }
+
   -- it was the first of the current nodes
-  module _ (q : Queue) (queue : IsQueueOf s q) (some : q.next < q.end) (is_first : slice_index q.current.items q.next ≡ u) where
-    not_first : (i : ℕ) → q.next + 1 ≤ i → i < q.end → slice_index q.current.items i ≡ u → ⊥
-    not_first i le lt same = queue.current.apart q.next i (omega arith) (omega arith) lt (is_first ∙ sym same)
-
-    current_shorter : IsCurrent (settled_in s u) q.current.items (q.next + 1) q.end q.present
-    current_shorter = record {
-      begins = omega arith;
-      ends = queue.current.ends;
-      all_open = λ i le lt. state_kept (slice_index q.current.items i) (not_first i le lt) ∙ queue.current.all_open i (omega arith) lt;
-      all_present = λ i le lt. distance_kept (slice_index q.current.items i) ∙ queue.current.all_present i (omega arith) lt;
-      apart = λ i j le lt below. queue.current.apart i j (omega arith) lt below;
-    }
-
-    still_waits : (w : ℕ) → (w ≡ u → ⊥) → IsWaiting q.current.items q.next q.end w → IsWaiting q.current.items (q.next + 1) q.end w
-    still_waits w ne waits = elim (cases_eq waits.0 q.next) [
-      | inl same ↦ absurd (ne (sym waits.3 ∙ ap (slice_index q.current.items) same ∙ is_first))
-      | inr other ↦ (waits.0, omega (arith, waits.1, other), waits.2, waits.3)
-    ]
-
-    pub current_settled : IsQueueOf (settled_in s u) (record q { next = q.next + 1 })
-    current_settled = record {
-      sized = record { current_sized = queue.sized.current_sized ∙ sym put_settled.same_length; room = omega (arith, queue.sized.room, put_settled.same_length) };
-      current = current_shorter;
-      ordered = queue.ordered;
-      entries = λ e at. entry_of_settled q.present e (queue.entries e at);
-      passed = passed_settled q.present (sym (queue.current.all_present q.next (omega arith) some) ∙ ap (distance_at s) is_first);
-      all = λ w o.
-          (let was = was_open w o in
-          elim (queue.all w was.1) [
-            | inl waits ↦ inl (still_waits w was.0 waits)
-            | inr at ↦ inr (subst (Contains (heap_items q.heap)) (sym (entry_kept w)) at)
-          ]);
-    }
+  pub current_settled : (q : Queue) (current : VecDeque ℕ Global) → IsQueueOf s q → q.current.items ≡ u ∷ current.items → IsQueueOf (settled_in s u) (record q { current = current })
+  current_settled q current queue is =
+      let known : IsCurrent s q.present (u ∷ current.items) = subst (IsCurrent s q.present) is queue.current in
+      let waited : (w : ℕ) → Contains current.items w → Contains (u ∷ current.items) w = later u current.items in
+      let other : (w : ℕ) → Contains current.items w → w ≡ u → ⊥ = λ w at same. known.apart.0 (subst (Contains current.items) same at) in
+      record {
+        sized = sized_settled queue.sized.room;
+        current = record {
+          all_open = λ w at. state_kept w (other w at) ∙ known.all_open w (waited w at);
+          all_present = λ w at. distance_kept w ∙ known.all_present w (waited w at);
+          apart = known.apart.1;
+        };
+        ordered = queue.ordered;
+        entries = λ e at. entry_of_settled q.present e (queue.entries e at);
+        passed = passed_settled q.present (sym (known.all_present u (first u current.items)));
+        all = λ w o.
+            (let was = was_open w o in
+            elim (queue.all w was.1) [
+              | inl waits ↦ (elim (first_or_later u current.items w (subst (λ (l : List ℕ). Contains l w) is waits)) [
+                | inl same ↦ absurd (was.0 (sym same))
+                | inr still ↦ inl still
+              ])
+              | inr at ↦ inr (subst (Contains (heap_items q.heap)) (sym (entry_kept w)) at)
+            ]);
+      }
 
 -- ---- no node is current, and an entry is taken out of the heap
 
@@ -228,10 +218,10 @@ pub record IsPopped (old : BinaryHeap Entry Global) (x : Entry) (heap : BinaryHe
   pub ordered : IsHeap nearness (heap_items heap)
   pub greatest : IsUpperBound nearness x (heap_items old)
 
-module _ (s : List NodeLabel) (q : Queue) (queue : IsQueueOf s q) (empty : q.end ≤ q.next) where
+module _ (s : List NodeLabel) (q : Queue) (queue : IsQueueOf s q) (empty : q.current.items ≡ []) where
   open_is_in : (v : ℕ) → state_at s v ≡ Open → Contains (heap_items q.heap) (entry_now s v)
   open_is_in v o = elim (queue.all v o) [
-    | inl waits ↦ absurd (omega (arith, empty, waits.1, waits.2))
+    | inl waits ↦ absurd (omega (arith, waits.1, ap length empty))
     | inr at ↦ at
   ]
 
@@ -263,7 +253,7 @@ module _ (s : List NodeLabel) (q : Queue) (queue : IsQueueOf s q) (empty : q.end
     -- its node is not open
     pub passed_over : (state_at s u ≡ Open → ⊥) → IsQueueOf s (record q { heap = heap })
     passed_over shut = record {
-      sized = record { current_sized = queue.sized.current_sized; room = omega (arith, queue.sized.room, popped.room) };
+      sized = record { room = omega (arith, queue.sized.room, popped.room) };
       current = queue.current;
       ordered = popped.ordered;
       entries = λ e at. queue.entries e (was_in e at);
@@ -279,13 +269,10 @@ module _ (s : List NodeLabel) (q : Queue) (queue : IsQueueOf s q) (empty : q.end
       pub heap_first : IsLeastOpen s (length s) u
       heap_first = least_open s q queue u is_open (λ w o. omega (arith, ints, is_distance, no_further x (heap_items q.heap) popped.greatest (entry_now s w) (open_is_in w o)))
 
-      pub popped_settled : IsQueueOf (settled_in s u) (record q { heap = heap; next = 0; end = 0; present = x.0.distance })
+      pub popped_settled : IsQueueOf (settled_in s u) (record q { heap = heap; present = x.0.distance })
       popped_settled = record {
-        sized = record {
-          current_sized = queue.sized.current_sized ∙ sym (put_settled s u heap_first).same_length;
-          room = omega (arith, queue.sized.room, popped.room, (put_settled s u heap_first).same_length);
-        };
-        current = empty_current (settled_in s u) q.current.items x.0.distance;
+        sized = sized_settled s u heap_first (omega (arith, queue.sized.room, popped.room));
+        current = rw empty (record { all_open = λ v at. absurd (omega (arith, at.1)); all_present = λ v at. absurd (omega (arith, at.1)); apart = tt });
         ordered = popped.ordered;
         entries = λ e at.
             (let known = queue.entries e (was_in e at) in
@@ -329,15 +316,22 @@ module _ (s : List NodeLabel) (v : ℕ) (e : NodeLabel) (q : Queue) (known : Can
   not_settled : state_at s v ≡ Settled → ⊥
   not_settled m = rw m at known.better
 
-  -- a node that waits does not get nearer
-  waits_not : IsWaiting q.current.items q.next q.end v → ⊥
+  -- a current node does not get nearer
+  waits_not : Contains q.current.items v → ⊥
   waits_not waits =
-      let o = waiting_is_open s q known.queue v waits in
+      let o = known.queue.current.all_open v waits in
       let falls = takes_lower (node_label_at s v) e.distance known.better (λ h. cc) in
-      omega (arith, ints, falls, known.not_nearer, waiting_is_present s q known.queue v waits)
+      omega (arith, ints, falls, known.not_nearer, known.queue.current.all_present v waits)
 
-  other_waits : (i : ℕ) → q.next ≤ i → i < q.end → slice_index q.current.items i ≡ v → ⊥
-  other_waits i le lt same = waits_not (i, le, lt, same)
+  current_same : IsCurrent (slice_set s v e) q.present q.current.items
+  current_same = record {
+    all_open = λ w at. state_else w (other w at) ∙ known.queue.current.all_open w at;
+    all_present = λ w at. distance_else w (other w at) ∙ known.queue.current.all_present w at;
+    apart = known.queue.current.apart;
+  }
+    where
+      other : (w : ℕ) → Contains q.current.items w → w ≡ v → ⊥
+      other w at same = waits_not (subst (Contains q.current.items) same at)
 
   passed_written : IsPassedDistance (slice_set s v e) q.present
   passed_written bound low within = known.queue.passed bound low (λ w m. omega (arith, ints, distance_else w (other w m), within w (state_else w (other w m) ∙ m)))
@@ -362,66 +356,33 @@ module _ (s : List NodeLabel) (v : ℕ) (e : NodeLabel) (q : Queue) (known : Can
   ]
 
   -- the node is new, and joins the current nodes
-  module _ (is_new : state_at s v ≡ Unreached) (present : e.distance ≡ q.present) (room : q.end < length q.current.items) where
-    current_end : slice_index (slice_set q.current.items q.end v) q.end ≡ v
-    current_end = get_or-set_same q.current.items q.end v 0 room
-
-    current_else : (i : ℕ) → i < q.end → slice_index (slice_set q.current.items q.end v) i ≡ slice_index q.current.items i
-    current_else i lt = get_or-set_other q.current.items q.end i v 0 (λ h. omega (arith, h))
-
-    by_end : (P : ℕ → Type 0) → P q.end → ((i : ℕ) → i < q.end → P i) → (i : ℕ) → i < q.end + 1 → P i
-    by_end P at_end below i lt = elim (cases_lt i q.end) [
-      | inl lower ↦ below i lower
-      | inr above ↦ subst P (omega arith) at_end
-    ]
-
-    current_longer : IsCurrent (slice_set s v e) (slice_set q.current.items q.end v) q.next (q.end + 1) q.present
-    current_longer = record {
-      begins = omega (arith, known.queue.current.begins);
-      ends = omega (arith, length-set q.current.items q.end v);
-      all_open = λ i le lt. by_end (λ j. q.next ≤ j → state_at (slice_set s v e) (slice_index (slice_set q.current.items q.end v) j) ≡ Open)
-          (λ le_j. ap (state_at (slice_set s v e)) current_end ∙ now_open)
-          (λ j below le_j. ap (state_at (slice_set s v e)) (current_else j below) ∙ state_else (slice_index q.current.items j) (other_waits j le_j below) ∙ known.queue.current.all_open j le_j below)
-          i lt le;
-      all_present = λ i le lt. by_end (λ j. q.next ≤ j → distance_at (slice_set s v e) (slice_index (slice_set q.current.items q.end v) j) ≡ q.present)
-          (λ le_j. ap (distance_at (slice_set s v e)) current_end ∙ now_distance ∙ present)
-          (λ j below le_j. ap (distance_at (slice_set s v e)) (current_else j below) ∙ distance_else (slice_index q.current.items j) (other_waits j le_j below) ∙ known.queue.current.all_present j le_j below)
-          i lt le;
-      apart = λ i j le lt below. by_end (λ k. i < k → slice_index (slice_set q.current.items q.end v) i ≢ slice_index (slice_set q.current.items q.end v) k)
-          (λ lt_k same. other_waits i le lt_k (sym (current_else i lt_k) ∙ same ∙ current_end))
-          (λ k below_k lt_k same. known.queue.current.apart i k le lt_k below_k (sym (current_else i (omega arith)) ∙ same ∙ current_else k below_k))
-          j below lt;
-    }
-
-    pub joined : IsQueueOf (slice_set s v e) (record q { current = with_item q.current q.end v; end = q.end + 1 })
-    joined = record {
-      sized = record {
-        current_sized = length-set q.current.items q.end v ∙ known.queue.sized.current_sized ∙ sym put_open.same_length;
-        room = omega (arith, known.queue.sized.room, put_open.same_length);
-      };
-      current = current_longer;
-      ordered = known.queue.ordered;
-      entries = λ x at. entry_written x (known.queue.entries x at);
-      passed = passed_written;
-      all = λ w o. (elim (cases_eq w v) [
-        | inl same ↦ inl (q.end, known.queue.current.begins, omega arith, current_end ∙ sym same)
-        | inr ne ↦ (elim (known.queue.all w (sym (state_else w ne) ∙ o)) [
-          | inl waits ↦ inl (waits.0, waits.1, omega (arith, waits.2), current_else waits.0 waits.2 ∙ waits.3)
-          | inr at ↦ inr (subst (Contains (heap_items q.heap)) (sym (entry_else w ne)) at)
-        ])
+  pub joined : (current : VecDeque ℕ Global) → e.distance ≡ q.present → current.items ≡ q.current.items ++ v ∷ [] → IsQueueOf (slice_set s v e) (record q { current = current })
+  joined current present is = record {
+    sized = record { room = omega (arith, known.queue.sized.room, put_open.same_length) };
+    current = rw is (record {
+      all_open = λ w at. (elim (Contains-push_cases q.current.items v w at) [
+        | inl was ↦ current_same.all_open w was
+        | inr same ↦ subst (λ (n : ℕ). state_at (slice_set s v e) n ≡ Open) same now_open
       ]);
-    }
-
-  -- it is entered in the heap
-  current_same : IsCurrent (slice_set s v e) q.current.items q.next q.end q.present
-  current_same = record {
-    begins = known.queue.current.begins;
-    ends = known.queue.current.ends;
-    all_open = λ i le lt. state_else (slice_index q.current.items i) (other_waits i le lt) ∙ known.queue.current.all_open i le lt;
-    all_present = λ i le lt. distance_else (slice_index q.current.items i) (other_waits i le lt) ∙ known.queue.current.all_present i le lt;
-    apart = known.queue.current.apart;
+      all_present = λ w at. (elim (Contains-push_cases q.current.items v w at) [
+        | inl was ↦ current_same.all_present w was
+        | inr same ↦ subst (λ (n : ℕ). distance_at (slice_set s v e) n ≡ q.present) same (now_distance ∙ present)
+      ]);
+      apart = apart_push q.current.items v known.queue.current.apart waits_not;
+    });
+    ordered = known.queue.ordered;
+    entries = λ x at. entry_written x (known.queue.entries x at);
+    passed = passed_written;
+    all = λ w o. (elim (cases_eq w v) [
+      | inl same ↦ inl (rw (same, is) (Contains-push q.current.items v))
+      | inr ne ↦ (elim (known.queue.all w (sym (state_else w ne) ∙ o)) [
+        | inl waits ↦ inl (rw is (Contains-append_left q.current.items (v ∷ []) w waits))
+        | inr at ↦ inr (subst (Contains (heap_items q.heap)) (sym (entry_else w ne)) at)
+      ])
+    ]);
   }
 
+  -- it is entered in the heap
   open_beyond : (w : ℕ) → state_at (slice_set s v e) w ≡ Open → q.present ≤ℤ distance_at (slice_set s v e) w
   open_beyond w o = elim (cases_eq w v) [
     | inl same ↦ omega (arith, ints, known.not_nearer, now_distance, ap (distance_at (slice_set s v e)) same)
@@ -439,7 +400,7 @@ module _ (s : List NodeLabel) (v : ℕ) (e : NodeLabel) (q : Queue) (known : Can
 
   pub entered : (heap : BinaryHeap Entry Global) → heap_capacity q.heap ≤ heap_capacity heap → IsHeap nearness (heap_items heap) → IsEntered (slice_set s v e) v (heap_items q.heap) (heap_items heap) → IsQueueOf (slice_set s v e) (record q { heap = heap })
   entered heap room ordered enters = record {
-    sized = record { current_sized = known.queue.sized.current_sized ∙ sym put_open.same_length; room = omega (arith, known.queue.sized.room, room, put_open.same_length) };
+    sized = record { room = omega (arith, known.queue.sized.room, room, put_open.same_length) };
     current = current_same;
     ordered = ordered;
     entries = λ x at. (elim (enters.from x at) [

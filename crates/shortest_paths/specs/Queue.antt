@@ -1,6 +1,6 @@
 -- The open nodes of a search: current ones, at the present distance, and the others in a heap, where old entries are
 -- passed over (Ahuja, Magnanti, Orlin, "Network Flows": heaps for Dijkstra's algorithm).
-use Rattle.std.specs.Prelude.{◌≡◌, ◌≢◌, ℕ, ◌<◌, ◌≤◌, ℤ, pos, ◌≤ℤ◌, ◌⊎◌, List, length, slice_index}
+use Rattle.std.specs.Prelude.{◌≡◌, ℕ, ◌<◌, ◌≤◌, ℤ, pos, ◌≤ℤ◌, ◌⊎◌, List, [], ◌∷◌, length}
 use Rattle.std.specs.List.{Contains}
 use Rattle.std.specs.BinaryHeap.{IsHeap, heap_items, heap_capacity}
 use Rattle.std.specs.Ordering.{ordering_then, int_cmp, nat_cmp}
@@ -47,33 +47,31 @@ pub record IsEntry (s : List NodeLabel) (distance : ℤ) (e : Reverse HeapEntry)
   pub no_nearer : distance_at s e.0.node ≤ℤ e.0.distance
   pub beyond : distance ≤ℤ e.0.distance
 
--- node v is current: it stands from place `next` to before place `end`
-abbrev pub IsWaiting : List ℕ → ℕ → ℕ → ℕ → Type 0
-IsWaiting current next end v = (i : ℕ) × (next ≤ i) × (i < end) × (slice_index current i ≡ v)
+-- no node is in the list twice
+abbrev pub AreApart : List ℕ → Type 0
+AreApart [] = Unit {0}
+AreApart (v ∷ vs) = (Contains vs v → ⊥) × AreApart vs
 
 -- the current nodes are open nodes at this distance, none of them twice
-pub record IsCurrent (s : List NodeLabel) (current : List ℕ) (next end : ℕ) (distance : ℤ) : Type 0 where
-  pub begins : next ≤ end
-  pub ends : end ≤ length current
-  pub all_open : (i : ℕ) → next ≤ i → i < end → state_at s (slice_index current i) ≡ Open
-  pub all_present : (i : ℕ) → next ≤ i → i < end → distance_at s (slice_index current i) ≡ distance
-  pub apart : (i j : ℕ) → next ≤ i → i < j → j < end → slice_index current i ≢ slice_index current j
+pub record IsCurrent (s : List NodeLabel) (distance : ℤ) (current : List ℕ) : Type 0 where
+  pub all_open : (v : ℕ) → Contains current v → state_at s v ≡ Open
+  pub all_present : (v : ℕ) → Contains current v → distance_at s v ≡ distance
+  pub apart : AreApart current
 
 -- the search has passed this distance: whatever bounds 0 and the distances of the settled nodes bounds it
 abbrev pub IsPassedDistance : List NodeLabel → ℤ → Type 0
 IsPassedDistance s distance = (bound : ℤ) → pos 0 ≤ℤ bound → ((v : ℕ) → state_at s v ≡ Settled → distance_at s v ≤ℤ bound) → distance ≤ℤ bound
 
--- the queue has room for each entry of a table of nodes
+-- the heap has room for each entry of a table of nodes
 pub record IsQueueFor (entries : ℕ) (q : Queue) : Type 0 where
-  pub current_sized : length q.current.items ≡ entries
   pub room : entries ≤ heap_capacity q.heap
 
 -- each open node is current or has its entry in the heap: the current ones are at the present distance, and no entry is
 -- nearer
 pub record IsQueueOf (s : List NodeLabel) (q : Queue) : Type 0 where
   pub sized : IsQueueFor (length s) q
-  pub current : IsCurrent s q.current.items q.next q.end q.present
+  pub current : IsCurrent s q.present q.current.items
   pub ordered : IsHeap nearness (heap_items q.heap)
   pub entries : (e : Reverse HeapEntry) → Contains (heap_items q.heap) e → IsEntry s q.present e
   pub passed : IsPassedDistance s q.present
-  pub all : (v : ℕ) → state_at s v ≡ Open → IsWaiting q.current.items q.next q.end v ⊎ Contains (heap_items q.heap) (entry_now s v)
+  pub all : (v : ℕ) → state_at s v ≡ Open → Contains q.current.items v ⊎ Contains (heap_items q.heap) (entry_now s v)

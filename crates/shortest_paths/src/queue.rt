@@ -1,10 +1,11 @@
 //! The open nodes of a search, the one of the least distance first.
 
 ghost use Rattle.residual_graph.specs.Limits.{entry_limit};
-ghost use Rattle.std.specs.Prelude.{◌≡◌, ℕ, pos, length, ◌<◌, ◌≤◌, ◌≤ℤ◌, ◌+◌, ◌∷◌, slice_set, MatchOption, IfOk, IfSome, IfNone, IsTrue, ◌↔◌};
+ghost use Rattle.std.specs.Prelude.{◌≡◌, ℕ, pos, length, ◌<◌, ◌≤◌, ◌≤ℤ◌, ◌+◌, ◌^◌, ◌∷◌, ◌++◌, [], slice_set, MatchOption, IfOk, IfSome, IfNone, IsTrue, ◌↔◌};
 ghost use Rattle.shortest_paths.specs.Search.{node_label_at, state_at, distance_at, Takes, IsLeastOpen, NoneOpen, settled_in};
 ghost use Rattle.shortest_paths.specs.Queue.{IsEntered, HoldsOpen, entry_now, nearness};
 ghost use Rattle.std.specs.BinaryHeap.{IsHeap, KeepsHeap, heap_items, heap_len, heap_capacity};
+ghost use Rattle.std.specs.VecDeque.{deque_len, deque_capacity};
 ghost use Rattle.std.specs.List.Sorted.{IsPermutation};
 ghost use Rattle.shortest_paths.specs.declared.node_label.State.TheVariants.{Unreached, Open};
 
@@ -12,17 +13,15 @@ use crate::heap_entry::HeapEntry;
 use crate::node_label::{NodeLabel, State};
 use std::alloc::{AllocError, Global};
 use std::cmp::Reverse;
-use std::collections::BinaryHeap;
+use std::collections::{BinaryHeap, VecDeque};
 
 /// The current nodes, which are open nodes at the present distance, that of the node settled last, first in and first out;
 /// and behind them a heap. Where the path to a node gets better, the node is entered in the heap again, and its old entry
 /// stays: an entry of a settled node is passed over.
 #[derive(Drop)]
 pub struct Queue {
-    /// The current nodes stand from place `next` to before place `end`.
-    pub current: Vec<u32>,
-    pub next: usize,
-    pub end: usize,
+    /// The current nodes.
+    pub current: VecDeque<u32>,
     /// The present distance.
     pub present: i64,
     /// The entry of each other open node, and old ones.
@@ -39,14 +38,12 @@ impl Queue {
     pub fn new(alloc: Global, entries: usize) -> Result<Queue, AllocError>
         ensures { IfOk result (λ q. IsQueueFor entries q) }
     {
-        let current = vec![in alloc; 0; entries]?;
+        let current = VecDeque::with_capacity(alloc, entries)?;
         // Where the heap is full, it drops the old entries. So a search does that once for as many entries as there are
         // nodes, or less often.
         let heap = BinaryHeap::with_capacity(alloc, entries.saturating_mul(2))?;
         Ok(Queue {
             current,
-            next: 0,
-            end: 0,
             present: 0,
             heap,
         })
@@ -55,11 +52,11 @@ impl Queue {
     /// Whether a node that gets this distance joins the current nodes: it is new, the distance is the present one, and there
     /// is room.
     fn joins_current(&self, node_label: &NodeLabel, distance: i64) -> bool
-        ensures { IsTrue result ↔ ((node_label.now.state ≡ Unreached) × (distance ≡ self.now.present) × (self.now.end < length self.now.current.items)) }
+        ensures { IsTrue result ↔ ((node_label.now.state ≡ Unreached) × (distance ≡ self.now.present) × (deque_len self.now.current < deque_capacity self.now.current)) }
     {
         matches!(node_label.state, State::Unreached)
             && distance == self.present
-            && self.end < self.current.len()
+            && self.current.len() < self.current.capacity()
     }
 
     /// Writes what is known of a node whose path got better. A new node at the present distance
@@ -78,8 +75,7 @@ impl Queue {
         let joins = self.joins_current(&node_labels[v], node_label.distance);
         node_labels[v] = node_label;
         if joins {
-            self.current[self.end] = v as u32;
-            self.end += 1;
+            join(&mut self.current, v);
         } else {
             enter(&mut self.heap, node_labels, v);
         }
@@ -92,17 +88,12 @@ impl Queue {
         ensures taken { IfSome result (λ u. IsQueueOf (settled_in node_labels.now u) self.new) }
         ensures none { IfNone result (IsQueueOf node_labels.now self.new) }
     {
-        if self.next < self.end {
-            let first = self.current[self.next] as usize;
-            self.next += 1;
-            return Some(first);
+        if let Some(first) = self.current.pop_front() {
+            return Some(first as usize);
         }
         while let Some(Reverse(entry)) = self.heap.pop() {
             let first = entry.node as usize;
             if node_labels[first].is_open() {
-                // No current node is left, so the table can begin again.
-                self.next = 0;
-                self.end = 0;
                 self.present = entry.distance;
                 return Some(first);
             }
@@ -117,10 +108,21 @@ impl Queue {
         ensures queue { IsQueueOf node_labels.now self.new }
         ensures present { self.new.present ≡ pos 0 }
     {
-        self.next = 0;
-        self.end = 0;
+        self.current.clear();
         self.present = 0;
         self.heap.clear();
+    }
+}
+
+/// Puts a node behind the current ones, where there is room.
+fn join(current: &mut VecDeque<u32>, v: usize)
+    requires room { deque_len current.old < deque_capacity current.old }
+    requires fits { v < 2 ^ 32 }
+    ensures { current.new.items ≡ current.old.items ++ v ∷ [] }
+{
+    let joined = current.push_back(v as u32);
+    if joined.is_err() {
+        unreachable!();
     }
 }
 

@@ -10,7 +10,7 @@ returns-then-joins-clause-queue c =
     let known : CanImprove s c.args.v c.args.node_label q = search rules in
     let joins = c.joins_current-joins.ensures.0 c.if-joins.true in
     let present : c.args.node_label.distance ≡ c.args.self.now.present = omega (arith, ints, joins.1) in
-    joined s c.args.v c.args.node_label q known joins.0 present joins.2
+    joined s c.args.v c.args.node_label q known c.join.new.current present c.join.ensures
 
 pub returns-else-joins-clause-queue : goal.returns-else-joins-clause-queue
 returns-else-joins-clause-queue c =

@@ -1,4 +1,4 @@
-use Rattle.std.proofs.Common.{◌≤◌}
+use Rattle.std.proofs.Common.{◌≡◌, []}
 use Rattle.std.specs.BinaryHeap.{heap_len}
 use Rattle.shortest_paths.specs.Queue.{IsQueueOf}
 use Rattle.shortest_paths.proofs.queue.Queue.take_first.Given as goal
@@ -6,7 +6,7 @@ use Rattle.shortest_paths.proofs.queue.Queue.take_first.Given as goal
 abbrev pub invariant-loop-entry : goal.invariant-loop-entry
 invariant-loop-entry l = record {
   queue : IsQueueOf l.node_labels l.self;
-  empty : l.self.end ≤ l.self.next;
+  empty : l.self.current.items ≡ [];
 }
 
 abbrev pub decreases-loop-entry : goal.decreases-loop-entry
