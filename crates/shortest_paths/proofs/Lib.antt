@@ -1,5 +1,4 @@
 pub mod SearchLemmas
 pub mod RunLemmas
-pub mod HeapLemmas
 pub mod QueueLemmas
 pub mod LabelLemmas

@@ -1,139 +1,141 @@
 -- How the queue of open nodes goes on.
-use Rattle.std.proofs.Common.{◌≡◌, ◌≢◌, ℕ, zero, suc, ◌+◌, ◌-◌, ◌<◌, ◌≤◌, ℤ, pos, ◌≤ℤ◌, List, [], ◌∷◌, length, refl, Bool, true, false, cond, sym, ap, subst, ◌∙◌, inl, inr, arith}
-use Rattle.std.specs.Prelude.{slice_index, slice_set}
-use Rattle.std.specs.Vec.{with_item}
+use Rattle.std.proofs.Common.{◌≡◌, ◌≢◌, ℕ, zero, suc, ◌+◌, ◌<◌, ◌≤◌, ℤ, ◌≤ℤ◌, List, [], ◌∷◌, ◌++◌, length, refl, false, sym, ap, subst, ◌∙◌, ◌⊎◌, inl, inr, arith}
+use Rattle.std.specs.Prelude.{slice_index_or, slice_set, ◌<ℤ◌}
+use Rattle.std.specs.List.{Contains}
+use Rattle.std.specs.List.Sorted.{IsPermutation}
+use Rattle.std.specs.BinaryHeap.{IsHeap, IsUpperBound, heap_items, heap_capacity}
+use Rattle.std.specs.Ordering.{int_cmp, is_lt, ordering_then, MatchOrdering}
+use Rattle.std.specs.Cmp.{int_ranks}
+use Rattle.std.specs.declared.cmp.Ordering.{Ordering}
+use Rattle.std.specs.declared.cmp.Ordering.TheVariants.{Less, Equal, Greater}
+use Rattle.std.specs.declared.cmp.Reverse.{Reverse}
+use Rattle.std.specs.declared.collections.BinaryHeap.{BinaryHeap}
+use Rattle.std.specs.declared.collections.VecDeque.{VecDeque}
+use Rattle.std.specs.declared.alloc.Global.{Global}
 use Rattle.std.proofs.lemmas.Int.{ints}
-use Rattle.std.proofs.lemmas.Bool.{cases_lt, cases_eq}
-use Rattle.std.proofs.lemmas.List.{get_or-set_same, get_or-set_other, length-set}
-use Rattle.std.proofs.lemmas.List.Sums.{sum_by-cons, sum_by-set, count_by-le-length}
+use Rattle.std.proofs.lemmas.Bool.{cases_eq}
+use Rattle.std.proofs.lemmas.List.Elements.{All-contains, All-from_recursion, Contains-append_left, Contains-push, Contains-push_cases}
+use Rattle.std.proofs.lemmas.List.Sorted.{Contains-permutation, IsPermutation-sym}
 use Rattle.shortest_paths.specs.declared.queue.Queue.{Queue}
 use Rattle.shortest_paths.specs.declared.node_label.NodeLabel.{NodeLabel}
 use Rattle.shortest_paths.specs.declared.heap_entry.HeapEntry.{HeapEntry}
-use Rattle.shortest_paths.specs.declared.node_label.State.{State}
-use Rattle.shortest_paths.specs.declared.node_label.State.TheVariants.{Unreached, Open, Settled}
-use Rattle.shortest_paths.specs.Search.{state_at, distance_at, node_label_at, Takes, IsLeastOpen, NoneOpen, settled_node_label}
-use Rattle.shortest_paths.specs.Heap.{IsHeap, IsIn, IsFirstRemoved, IsEntered, entry_of, node_in}
-use Rattle.shortest_paths.specs.Queue.{is_open_state, open_count, IsWaiting, IsCurrent, IsBeyond, IsPassedDistance, HoldsOpen, IsQueueOf, IsQueueFor}
-use Rattle.shortest_paths.proofs.SearchLemmas.{IsPut, IsPut-set, takes_lower, in_range, open_is_reached}
-use Rattle.shortest_paths.proofs.HeapLemmas.{first_is_in, first_is_nearest, index_for}
+use Rattle.shortest_paths.specs.declared.node_label.State.TheVariants.{Open, Settled}
+use Rattle.shortest_paths.specs.Search.{IsReached, state_at, distance_at, node_label_at, Takes, IsLeastOpen, NoneOpen, settled_node_label, settled_in}
+use Rattle.shortest_paths.specs.Queue.{AreApart, HoldsOpen, IsCurrent, IsEntered, IsEntry, IsLive, IsPassedDistance, IsQueueFor, IsQueueOf, entry_now, entry_of, nearness}
+use Rattle.shortest_paths.proofs.SearchLemmas.{IsPut, IsPut-set, takes_lower, in_range, open_is_reached, settled_is_reached}
 
--- ---- how many nodes are open
+-- ---- what is in a list
 
-abbrev open_weight : NodeLabel → ℕ
-open_weight r = cond (is_open_state r.state) 1 0
+module _ {X : Type 0} where
+  first_or_later : (x : X) (xs : List X) (e : X) → Contains (x ∷ xs) e → (x ≡ e) ⊎ Contains xs e
+  first_or_later x xs e at = by_place at.0 at.1 at.2
+    where
+      by_place : (k : ℕ) → k < length (x ∷ xs) → slice_index_or (x ∷ xs) k e ≡ e → (x ≡ e) ⊎ Contains xs e
+      by_place zero lt is = inl is
+      by_place (suc k) lt is = inr (k, omega arith, is)
 
-weight_open : (r : NodeLabel) → r.state ≡ Open → open_weight r ≡ 1
-weight_open r h = ap (λ (m : State). cond (is_open_state m) 1 0) h
+  first : (x : X) (xs : List X) → Contains (x ∷ xs) x
+  first x xs = (0, omega arith, refl)
 
-weight_shut : (r : NodeLabel) → (r.state ≡ Open → ⊥) → open_weight r ≡ 0
-weight_shut r h = by_state r.state h
+  later : (x : X) (xs : List X) (e : X) → Contains xs e → Contains (x ∷ xs) e
+  later x xs e at = (suc at.0, omega (arith, at.1), at.2)
+
+apart_push : (vs : List ℕ) (v : ℕ) → AreApart vs → (Contains vs v → ⊥) → AreApart (vs ++ v ∷ [])
+apart_push [] v apart new = (λ at. omega (arith, at.1), tt)
+apart_push (w ∷ vs) v apart new = (
+  λ at. (elim (Contains-push_cases vs v w at) [
+    | inl was ↦ apart.0 was
+    | inr same ↦ new (subst (Contains (w ∷ vs)) (sym same) (first w vs))
+  ]),
+  apart_push vs v apart.1 (λ at. new (later w vs v at)),
+)
+
+-- ---- the entries of the heap
+
+abbrev Entry : Type 0
+Entry = Reverse HeapEntry
+
+-- an entry was pushed
+module _ (x : Entry) (old heap : List Entry) (pushed : IsPermutation (x ∷ old) heap) where
+  pub pushed_in : Contains heap x
+  pushed_in = Contains-permutation (x ∷ old) heap x pushed (first x old)
+
+  pub stays_in : (e : Entry) → Contains old e → Contains heap e
+  stays_in e at = Contains-permutation (x ∷ old) heap e pushed (later x old e at)
+
+  pub pushed_or_old : (e : Entry) → Contains heap e → (x ≡ e) ⊎ Contains old e
+  pushed_or_old e at = first_or_later x old e (Contains-permutation heap (x ∷ old) e (IsPermutation-sym (x ∷ old) heap pushed) at)
+
+-- the entry that the heap gives is no further than any
+no_further : (x : Entry) (xs : List Entry) → IsUpperBound nearness x xs → (e : Entry) → Contains xs e → x.0.distance ≤ℤ e.0.distance
+no_further x xs greatest e at =
+    by_order (int_cmp e.0.distance x.0.distance) _ (int_ranks e.0.distance x.0.distance)
+    (All-contains (λ y. is_lt (nearness x y) ≡ false) xs e (All-from_recursion (λ y. is_lt (nearness x y) ≡ false) xs greatest) at)
   where
-    by_state : (m : State) → (m ≡ Open → ⊥) → ◌≡◌ {A = ℕ} (cond (is_open_state m) 1 0) 0
-    by_state Unreached g = refl
-    by_state Open g = absurd (g refl)
-    by_state Settled g = refl
+    by_order : (o tie : Ordering) → MatchOrdering o (e.0.distance <ℤ x.0.distance) (e.0.distance ≡ x.0.distance) (x.0.distance <ℤ e.0.distance) → is_lt (ordering_then o tie) ≡ false → x.0.distance ≤ℤ e.0.distance
+    by_order Less tie by is_not = absurd cc
+    by_order Equal tie by is_not = omega (arith, ints, by)
+    by_order Greater tie by is_not = omega (arith, ints, by)
 
-none_open_count : (s : List NodeLabel) → NoneOpen s (length s) → open_count s ≡ 0
-none_open_count [] none = refl
-none_open_count (e ∷ s) none =
-    omega (arith, sum_by-cons open_weight e s, weight_shut e (none 0 (omega arith)), none_open_count s (λ v lt. none (suc v) (omega arith)))
+-- ---- the heap that is made anew
 
--- where some node is not open, not all nodes are
-open_count-less : (s : List NodeLabel) (v : ℕ) → v < length s → (state_at s v ≡ Open → ⊥) → open_count s < length s
-open_count-less [] v lt shut = absurd (omega arith)
-open_count-less (e ∷ s) zero lt shut =
-    omega (arith, sum_by-cons open_weight e s, weight_shut e shut, count_by-le-length (λ (r : NodeLabel). is_open_state r.state) s)
-open_count-less (e ∷ s) (suc v) lt shut = omega (arith, sum_by-cons open_weight e s, at_most_1 (is_open_state e.state), open_count-less s v (omega arith) shut)
-  where
-    at_most_1 : (b : Bool) → cond b 1 0 ≤ 1
-    at_most_1 true = omega arith
-    at_most_1 false = omega arith
+-- node v is entered: it is open
+live_now : (s : List NodeLabel) (v : ℕ) (e : Entry) → state_at s v ≡ Open → entry_now s v ≡ e → IsLive s e
+live_now s v e o is = subst (IsLive s) is (record { is_open = o; is_now = refl })
 
-count_put : (s : List NodeLabel) (v : ℕ) (e : NodeLabel) → v < length s → open_count (slice_set s v e) + open_weight (node_label_at s v) ≡ open_count s + open_weight e
-count_put s v e v_in = sum_by-set open_weight s v e _ v_in
+pub holds_one_more : (s : List NodeLabel) (v : ℕ) (old heap : List Entry) → HoldsOpen s v old → state_at s v ≡ Open → IsPermutation (entry_now s v ∷ old) heap → HoldsOpen s (v + 1) heap
+holds_one_more s v old heap holds o pushed = record {
+  all = λ w lt o_w. (elim (cases_eq w v) [
+    | inl same ↦ subst (λ (n : ℕ). Contains heap (entry_now s n)) (sym same) (pushed_in (entry_now s v) old heap pushed)
+    | inr ne ↦ stays_in (entry_now s v) old heap pushed (entry_now s w) (holds.all w (omega (arith, lt, ne)) o_w)
+  ]);
+  live = λ e at. (elim (pushed_or_old (entry_now s v) old heap pushed e at) [
+    | inl is ↦ live_now s v e o is
+    | inr was ↦ holds.live e was
+  ]);
+}
+
+pub holds_no_more : (s : List NodeLabel) (v : ℕ) (heap : List Entry) → HoldsOpen s v heap → (state_at s v ≡ Open → ⊥) → HoldsOpen s (v + 1) heap
+holds_no_more s v heap holds shut = record {
+  all = λ w lt o. holds.all w (omega (arith, lt, λ (same : w ≡ v). shut (ap (state_at s) (sym same) ∙ o))) o;
+  live = holds.live;
+}
+
+pub entered_all : (s : List NodeLabel) (v : ℕ) (old heap : List Entry) → state_at s v ≡ Open → HoldsOpen s (length s) heap → IsEntered s v old heap
+entered_all s v old heap o holds = record {
+  entered = holds.all v (in_range s v (open_is_reached s v o)) o;
+  kept = λ w o_w at. holds.all w (in_range s w (open_is_reached s w o_w)) o_w;
+  from = λ e at. inr (holds.live e at);
+}
+
+pub entered_one : (s : List NodeLabel) (v : ℕ) (old heap : List Entry) → state_at s v ≡ Open → IsPermutation (entry_now s v ∷ old) heap → IsEntered s v old heap
+entered_one s v old heap o pushed = record {
+  entered = pushed_in (entry_now s v) old heap pushed;
+  kept = λ w o_w at. stays_in (entry_now s v) old heap pushed (entry_now s w) at;
+  from = λ e at. (elim (pushed_or_old (entry_now s v) old heap pushed e at) [
+    | inl is ↦ inr (live_now s v e o is)
+    | inr was ↦ inl was
+  ]);
+}
 
 -- ---- the first node
 
 module _ (s : List NodeLabel) (q : Queue) (queue : IsQueueOf s q) where
-  waiting_is_present : (v : ℕ) → IsWaiting q.current.items q.next q.end v → distance_at s v ≡ q.present
-  waiting_is_present v w = ap (distance_at s) (sym w.3) ∙ queue.current.all_present w.0 w.1 w.2
+  open_is_beyond : (v : ℕ) → state_at s v ≡ Open → q.present ≤ℤ distance_at s v
+  open_is_beyond v o = elim (queue.all v o) [
+    | inl waits ↦ omega (arith, ints, queue.current.all_present v waits)
+    | inr at ↦ (queue.entries (entry_now s v) at).beyond
+  ]
 
-  waiting_is_open : (v : ℕ) → IsWaiting q.current.items q.next q.end v → state_at s v ≡ Open
-  waiting_is_open v w = ap (state_at s) (sym w.3) ∙ queue.current.all_open w.0 w.1 w.2
+  least_open : (v : ℕ) → state_at s v ≡ Open → ((w : ℕ) → state_at s w ≡ Open → distance_at s v ≤ℤ distance_at s w) → IsLeastOpen s (length s) v
+  least_open v o least = record { below = in_range s v (open_is_reached s v o); is_open = o; least = λ w lt o_w. least w o_w }
 
-  pub current_first : q.next < q.end → IsLeastOpen s (length s) (slice_index q.current.items q.next)
-  current_first some =
-      let is_open = queue.current.all_open q.next (omega arith) some in
-      record {
-        below = in_range s (slice_index q.current.items q.next) (open_is_reached s (slice_index q.current.items q.next) is_open);
-        is_open = is_open;
-        least = λ v lt o. (elim (queue.holds.all v o) [
-          | inl inside ↦ omega (arith, ints, queue.beyond.no_nearer v inside, queue.current.all_present q.next (omega arith) some)
-          | inr waits ↦ omega (arith, ints, waiting_is_present v waits, queue.current.all_present q.next (omega arith) some)
-        ]);
-      }
-
-  module _ (empty : q.next < q.end → ⊥) where
-    none_waits : (v : ℕ) → IsWaiting q.current.items q.next q.end v → ⊥
-    none_waits v w = empty (omega (arith, w.1, w.2))
-
-    pub open_is_in : (v : ℕ) → state_at s v ≡ Open → IsIn q.order.items q.place.items q.len v
-    open_is_in v o = elim (queue.holds.all v o) [
-      | inl inside ↦ inside
-      | inr waits ↦ absurd (none_waits v waits)
-    ]
-
-    pub heap_first : 0 < q.len → IsLeastOpen s (length s) (node_in q.order.items 0)
-    heap_first some =
-        let is_open = queue.beyond.all_open (node_in q.order.items 0) (first_is_in s q.order.items q.place.items q.len queue.heap some) in
-        record {
-          below = in_range s (node_in q.order.items 0) (open_is_reached s (node_in q.order.items 0) is_open);
-          is_open = is_open;
-          least = λ v lt o. first_is_nearest s q.order.items q.place.items q.len queue.heap v (open_is_in v o);
-        }
-
--- ---- an empty queue
-
-pub empty_current : (s : List NodeLabel) (current : List ℕ) (distance : ℤ) → length current ≡ length s → IsCurrent s current 0 0 distance
-empty_current s current distance sized = record {
-  sized = sized;
-  begins = omega arith;
-  ends = omega arith;
-  all_open = λ i le lt. absurd (omega arith);
-  all_present = λ i le lt. absurd (omega arith);
-  apart = λ i j le lt below. absurd (omega arith);
-}
-
-pub empty_queue : (s : List NodeLabel) (q : Queue) → NoneOpen s (length s) → IsQueueFor (length s) q → IsQueueOf s (record q { next = 0; end = 0; present = pos 0; len = 0 })
-empty_queue s q none sized = record {
-  heap = record {
-    index = record {
-      order_sized = sized.order_sized;
-      place_sized = sized.place_sized;
-      len_in = omega arith;
-      in_nodes = λ i lt. absurd (omega arith);
-      placed = λ i lt. absurd (omega arith);
-    };
-    keyed = λ v inside. absurd (omega (arith, inside.0));
-    ordered = λ i pos_i lt. absurd (omega arith);
-  };
-  current = empty_current s q.current.items (pos 0) sized.current_sized;
-  beyond = record {
-    all_open = λ v inside. absurd (omega (arith, inside.0));
-    no_nearer = λ v inside. absurd (omega (arith, inside.0));
-  };
-  passed = λ bound low within. low;
-  holds = record {
-    all = λ v o. absurd (none v (in_range s v (open_is_reached s v o)) o);
-    not_both = λ v waits inside. omega (arith, inside.0);
-    counted = sym (none_open_count s none);
-  };
-}
+  pub current_first : (u : ℕ) (rest : List ℕ) → q.current.items ≡ u ∷ rest → IsLeastOpen s (length s) u
+  current_first u rest is =
+      let waits : Contains q.current.items u = rw is (first u rest) in
+      least_open u (queue.current.all_open u waits) (λ w o. omega (arith, ints, open_is_beyond w o, queue.current.all_present u waits))
 
 -- ---- node u is settled, and nothing else changes
-
-abbrev pub settled_in : List NodeLabel → ℕ → List NodeLabel
-settled_in s u = slice_set s u (settled_node_label (node_label_at s u))
 
 module _ (s : List NodeLabel) (u : ℕ) (least : IsLeastOpen s (length s) u) where
   put_settled : IsPut s (settled_in s u) u (settled_node_label (node_label_at s u))
@@ -151,17 +153,20 @@ module _ (s : List NodeLabel) (u : ℕ) (least : IsLeastOpen s (length s) u) whe
   state_kept : (w : ℕ) → (w ≡ u → ⊥) → state_at (settled_in s u) w ≡ state_at s w
   state_kept w ne = ap (λ (r : NodeLabel). r.state) (put_settled.elsewhere w ne)
 
+  entry_kept : (w : ℕ) → entry_now (settled_in s u) w ≡ entry_now s w
+  entry_kept = of_node (λ w. entry_now (settled_in s u) w ≡ entry_now s w) (ap (λ (r : NodeLabel). record { 0 = entry_of u r }) put_settled.here) (λ w ne. ap (λ (r : NodeLabel). record { 0 = entry_of w r }) (put_settled.elsewhere w ne))
+
   distance_kept : (w : ℕ) → distance_at (settled_in s u) w ≡ distance_at s w
-  distance_kept = of_node (λ w. distance_at (settled_in s u) w ≡ distance_at s w) (ap (λ (r : NodeLabel). r.distance) put_settled.here) (λ w ne. ap (λ (r : NodeLabel). r.distance) (put_settled.elsewhere w ne))
+  distance_kept w = ap (λ (e : Entry). e.0.distance) (entry_kept w)
 
-  entry_kept : (w : ℕ) → entry_of w (node_label_at (settled_in s u) w) ≡ entry_of w (node_label_at s w)
-  entry_kept = of_node (λ w. entry_of w (node_label_at (settled_in s u) w) ≡ entry_of w (node_label_at s w)) (ap (entry_of u) put_settled.here) (λ w ne. ap (entry_of w) (put_settled.elsewhere w ne))
+  reached_kept : (w : ℕ) → IsReached s w → IsReached (settled_in s u) w
+  reached_kept = of_node (λ w. IsReached s w → IsReached (settled_in s u) w) (λ was. settled_is_reached (settled_in s u) u now_settled) (λ w ne was m. was (sym (state_kept w ne) ∙ m))
 
-  heap_settled : (order : List HeapEntry) (place : List ℕ) (len : ℕ) → IsHeap s order place len → IsHeap (settled_in s u) order place len
-  heap_settled order place len heap = record {
-    index = index_for (length (settled_in s u)) heap.index (sym put_settled.same_length);
-    keyed = λ w inside. heap.keyed w inside ∙ sym (entry_kept w);
-    ordered = heap.ordered;
+  entry_of_settled : (distance : ℤ) (e : Entry) → IsEntry s distance e → IsEntry (settled_in s u) distance e
+  entry_of_settled distance e known = record {
+    reached = reached_kept e.0.node known.reached;
+    no_nearer = omega (arith, ints, distance_kept e.0.node, known.no_nearer);
+    beyond = known.beyond;
   }
 
   -- what is open was open, and is another node
@@ -171,90 +176,113 @@ module _ (s : List NodeLabel) (u : ℕ) (least : IsLeastOpen s (length s) u) whe
     | inr ne ↦ (ne, sym (state_kept w ne) ∙ o)
   ]
 
-  pub settled_distance : distance_at (settled_in s u) u ≡ distance_at s u
-  settled_distance = distance_kept u
-
   -- the distance of the node that was settled is that of a settled node
-  pub passed_settled : (distance : ℤ) → distance ≡ distance_at s u → IsPassedDistance (settled_in s u) distance
+  passed_settled : (distance : ℤ) → distance ≡ distance_at s u → IsPassedDistance (settled_in s u) distance
   passed_settled distance same bound low within = omega (arith, ints, within u now_settled, distance_kept u, same)
 
-  one_less : open_count (settled_in s u) + 1 ≡ open_count s
-  one_less =
-      omega (arith, count_put s u (settled_node_label (node_label_at s u)) least.below, weight_open (node_label_at s u) least.is_open)
+  sized_settled : {q : Queue} → length s ≤ heap_capacity q.heap → IsQueueFor (length (settled_in s u)) q
+  sized_settled room = record { room = omega (arith, room, put_settled.same_length) }
 
   -- it was the first of the current nodes
-  module _ (q : Queue) (queue : IsQueueOf s q) (some : q.next < q.end) (is_first : slice_index q.current.items q.next ≡ u) where
-    not_first : (i : ℕ) → q.next + 1 ≤ i → i < q.end → slice_index q.current.items i ≡ u → ⊥
-    not_first i le lt same = queue.current.apart q.next i (omega arith) (omega arith) lt (is_first ∙ sym same)
+  pub current_settled : (q : Queue) (current : VecDeque ℕ Global) → IsQueueOf s q → q.current.items ≡ u ∷ current.items → IsQueueOf (settled_in s u) (record q { current = current })
+  current_settled q current queue is =
+      let known : IsCurrent s q.present (u ∷ current.items) = subst (IsCurrent s q.present) is queue.current in
+      let waited : (w : ℕ) → Contains current.items w → Contains (u ∷ current.items) w = later u current.items in
+      let other : (w : ℕ) → Contains current.items w → w ≡ u → ⊥ = λ w at same. known.apart.0 (subst (Contains current.items) same at) in
+      record {
+        sized = sized_settled queue.sized.room;
+        current = record {
+          all_open = λ w at. state_kept w (other w at) ∙ known.all_open w (waited w at);
+          all_present = λ w at. distance_kept w ∙ known.all_present w (waited w at);
+          apart = known.apart.1;
+        };
+        ordered = queue.ordered;
+        entries = λ e at. entry_of_settled q.present e (queue.entries e at);
+        passed = passed_settled q.present (sym (known.all_present u (first u current.items)));
+        all = λ w o.
+            (let was = was_open w o in
+            elim (queue.all w was.1) [
+              | inl waits ↦ (elim (first_or_later u current.items w (subst (λ (l : List ℕ). Contains l w) is waits)) [
+                | inl same ↦ absurd (was.0 (sym same))
+                | inr still ↦ inl still
+              ])
+              | inr at ↦ inr (subst (Contains (heap_items q.heap)) (sym (entry_kept w)) at)
+            ]);
+      }
 
-    u_waits : IsWaiting q.current.items q.next q.end u
-    u_waits = (q.next, omega arith, some, is_first)
+-- ---- no node is current, and an entry is taken out of the heap
 
-    not_inside : (w : ℕ) → IsIn q.order.items q.place.items q.len w → w ≡ u → ⊥
-    not_inside w inside same = queue.holds.not_both u u_waits (subst (IsIn q.order.items q.place.items q.len) same inside)
+pub record IsPopped (old : BinaryHeap Entry Global) (x : Entry) (heap : BinaryHeap Entry Global) : Type 0 where
+  pub room : heap_capacity heap ≡ heap_capacity old
+  pub all : IsPermutation (heap_items old) (x ∷ heap_items heap)
+  pub ordered : IsHeap nearness (heap_items heap)
+  pub greatest : IsUpperBound nearness x (heap_items old)
 
-    current_shorter : IsCurrent (settled_in s u) q.current.items (q.next + 1) q.end q.present
-    current_shorter = record {
-      sized = queue.current.sized ∙ sym put_settled.same_length;
-      begins = omega arith;
-      ends = queue.current.ends;
-      all_open = λ i le lt. state_kept (slice_index q.current.items i) (not_first i le lt) ∙ queue.current.all_open i (omega arith) lt;
-      all_present = λ i le lt. distance_kept (slice_index q.current.items i) ∙ queue.current.all_present i (omega arith) lt;
-      apart = λ i j le lt below. queue.current.apart i j (omega arith) lt below;
-    }
+module _ (s : List NodeLabel) (q : Queue) (queue : IsQueueOf s q) (empty : q.current.items ≡ []) where
+  open_is_in : (v : ℕ) → state_at s v ≡ Open → Contains (heap_items q.heap) (entry_now s v)
+  open_is_in v o = elim (queue.all v o) [
+    | inl waits ↦ absurd (omega (arith, waits.1, ap length empty))
+    | inr at ↦ at
+  ]
 
-    beyond_kept : IsBeyond (settled_in s u) q.order.items q.place.items q.len q.present
-    beyond_kept = record {
-      all_open = λ w inside. state_kept w (not_inside w inside) ∙ queue.beyond.all_open w inside;
-      no_nearer = λ w inside. omega (arith, ints, distance_kept w, queue.beyond.no_nearer w inside);
-    }
+  pub none_open : heap_items q.heap ≡ [] → NoneOpen s (length s)
+  none_open none v lt o = (let at = open_is_in v o in omega (arith, at.1, ap length none))
 
-    passed_kept : IsPassedDistance (settled_in s u) q.present
-    passed_kept = passed_settled q.present (sym (queue.current.all_present q.next (omega arith) some) ∙ ap (distance_at s) is_first)
+  module _ (x : Entry) (heap : BinaryHeap Entry Global) (popped : IsPopped q.heap x heap) where
+    abbrev u : ℕ
+    u = x.0.node
 
-    still_waits : (w : ℕ) → (w ≡ u → ⊥) → IsWaiting q.current.items q.next q.end w → IsWaiting q.current.items (q.next + 1) q.end w
-    still_waits w ne waits = elim (cases_eq waits.0 q.next) [
-      | inl same ↦ absurd (ne (sym waits.3 ∙ ap (slice_index q.current.items) same ∙ is_first))
-      | inr other ↦ (waits.0, omega (arith, waits.1, other), waits.2, waits.3)
+    back : IsPermutation (x ∷ heap_items heap) (heap_items q.heap)
+    back = IsPermutation-sym (heap_items q.heap) (x ∷ heap_items heap) popped.all
+
+    was_in : (e : Entry) → Contains (heap_items heap) e → Contains (heap_items q.heap) e
+    was_in = stays_in x (heap_items heap) (heap_items q.heap) back
+
+    stays : (v : ℕ) → v ≢ u → state_at s v ≡ Open → Contains (heap_items heap) (entry_now s v)
+    stays v other o = elim (pushed_or_old x (heap_items heap) (heap_items q.heap) back (entry_now s v) (open_is_in v o)) [
+      | inl is ↦ absurd (other (sym (ap (λ (e : Entry). e.0.node) is)))
+      | inr at ↦ at
     ]
 
-    holds_current_shorter : HoldsOpen (settled_in s u) q.current.items (q.next + 1) q.end q.order.items q.place.items q.len
-    holds_current_shorter = record {
-      all = λ w o.
-          (let was = was_open w o in
-          elim (queue.holds.all w was.1) [
-            | inl inside ↦ inl inside
-            | inr waits ↦ inr (still_waits w was.0 waits)
-          ]);
-      not_both = λ w waits inside. queue.holds.not_both w (waits.0, omega (arith, waits.1), waits.2, waits.3) inside;
-      counted = omega (arith, queue.holds.counted, one_less);
+    its : IsEntry s q.present x
+    its = queue.entries x (pushed_in x (heap_items heap) (heap_items q.heap) back)
+
+    pub node_in : u < length s
+    node_in = in_range s u its.reached
+
+    -- its node is not open
+    pub passed_over : (state_at s u ≡ Open → ⊥) → IsQueueOf s (record q { heap = heap })
+    passed_over shut = record {
+      sized = record { room = omega (arith, queue.sized.room, popped.room) };
+      current = queue.current;
+      ordered = popped.ordered;
+      entries = λ e at. queue.entries e (was_in e at);
+      passed = queue.passed;
+      all = λ v o. inr (stays v (λ same. shut (ap (state_at s) (sym same) ∙ o)) o);
     }
 
-    pub current_settled : IsQueueOf (settled_in s u) (record q { next = q.next + 1 })
-    current_settled = record {
-      heap = heap_settled q.order.items q.place.items q.len queue.heap;
-      current = current_shorter;
-      beyond = beyond_kept;
-      passed = passed_kept;
-      holds = holds_current_shorter;
-    }
+    -- its node is open, and so its distance is that of the node
+    module _ (is_open : state_at s u ≡ Open) where
+      pub is_distance : x.0.distance ≡ distance_at s u
+      is_distance = omega (arith, ints, its.no_nearer, no_further x (heap_items q.heap) popped.greatest (entry_now s u) (open_is_in u is_open))
 
-  -- no node was current, and it was the first in the heap
-  module _ (q : Queue) (queue : IsQueueOf s q) (empty : q.next < q.end → ⊥) (order : List HeapEntry) (place : List ℕ) (len : ℕ) (removed : IsFirstRemoved q.order.items q.place.items q.len order place len u) (some : 0 < q.len) where
-    pub beyond_first : IsBeyond (settled_in s u) order place len (distance_at (settled_in s u) u)
-    beyond_first = record {
-      all_open = λ w inside. (let was = removed.before w inside in state_kept w was.1 ∙ queue.beyond.all_open w was.0);
-      no_nearer = λ w inside.
-          (let was = removed.before w inside in
-          omega (arith, ints, distance_kept w, distance_kept u, first_is_nearest s q.order.items q.place.items q.len queue.heap w was.0, ap (distance_at s) removed.was_first));
-    }
+      pub heap_first : IsLeastOpen s (length s) u
+      heap_first = least_open s q queue u is_open (λ w o. omega (arith, ints, is_distance, no_further x (heap_items q.heap) popped.greatest (entry_now s w) (open_is_in w o)))
 
-    pub holds_heap_shorter : HoldsOpen (settled_in s u) q.current.items 0 0 order place len
-    holds_heap_shorter = record {
-      all = λ w o. (let was = was_open w o in inl (removed.kept w was.0 (open_is_in s q queue empty w was.1)));
-      not_both = λ w waits inside. omega (arith, waits.2);
-      counted = omega (arith, queue.holds.counted, one_less, removed.one_less);
-    }
+      pub popped_settled : IsQueueOf (settled_in s u) (record q { heap = heap; present = x.0.distance })
+      popped_settled = record {
+        sized = sized_settled s u heap_first (omega (arith, queue.sized.room, popped.room));
+        current = rw empty (record { all_open = λ v at. absurd (omega (arith, at.1)); all_present = λ v at. absurd (omega (arith, at.1)); apart = tt });
+        ordered = popped.ordered;
+        entries = λ e at.
+            (let known = queue.entries e (was_in e at) in
+            let beyond = no_further x (heap_items q.heap) popped.greatest e (was_in e at) in
+            entry_of_settled s u heap_first x.0.distance e (record { reached = known.reached; no_nearer = known.no_nearer; beyond = beyond }));
+        passed = passed_settled s u heap_first x.0.distance is_distance;
+        all = λ w o.
+            (let was = was_open s u heap_first w o in
+            inr (subst (Contains (heap_items heap)) (sym (entry_kept s u heap_first w)) (stays w was.0 was.1)));
+      }
 
 -- ---- what is known of node v is written again, and no nearer than the present distance
 
@@ -270,7 +298,7 @@ module _ (s : List NodeLabel) (v : ℕ) (e : NodeLabel) (q : Queue) (known : Can
   put_open : IsPut s (slice_set s v e) v e
   put_open = IsPut-set s v e known.v_in
 
-  now_open : state_at (slice_set s v e) v ≡ Open
+  pub now_open : state_at (slice_set s v e) v ≡ Open
   now_open = ap (λ (r : NodeLabel). r.state) put_open.here ∙ known.is_open
 
   now_distance : distance_at (slice_set s v e) v ≡ e.distance
@@ -282,156 +310,109 @@ module _ (s : List NodeLabel) (v : ℕ) (e : NodeLabel) (q : Queue) (known : Can
   distance_else : (w : ℕ) → (w ≡ v → ⊥) → distance_at (slice_set s v e) w ≡ distance_at s w
   distance_else w ne = ap (λ (r : NodeLabel). r.distance) (put_open.elsewhere w ne)
 
+  entry_else : (w : ℕ) → (w ≡ v → ⊥) → entry_now (slice_set s v e) w ≡ entry_now s w
+  entry_else w ne = ap (λ (r : NodeLabel). record { 0 = entry_of w r }) (put_open.elsewhere w ne)
+
   not_settled : state_at s v ≡ Settled → ⊥
   not_settled m = rw m at known.better
 
-  -- a node that waits does not get nearer
-  waits_not : IsWaiting q.current.items q.next q.end v → ⊥
+  -- a current node does not get nearer
+  waits_not : Contains q.current.items v → ⊥
   waits_not waits =
-      let o = waiting_is_open s q known.queue v waits in
+      let o = known.queue.current.all_open v waits in
       let falls = takes_lower (node_label_at s v) e.distance known.better (λ h. cc) in
-      omega (arith, ints, falls, known.not_nearer, waiting_is_present s q known.queue v waits)
+      omega (arith, ints, falls, known.not_nearer, known.queue.current.all_present v waits)
 
-  other_waits : (i : ℕ) → q.next ≤ i → i < q.end → slice_index q.current.items i ≡ v → ⊥
-  other_waits i le lt same = waits_not (i, le, lt, same)
+  current_same : IsCurrent (slice_set s v e) q.present q.current.items
+  current_same = record {
+    all_open = λ w at. state_else w (other w at) ∙ known.queue.current.all_open w at;
+    all_present = λ w at. distance_else w (other w at) ∙ known.queue.current.all_present w at;
+    apart = known.queue.current.apart;
+  }
+    where
+      other : (w : ℕ) → Contains q.current.items w → w ≡ v → ⊥
+      other w at same = waits_not (subst (Contains q.current.items) same at)
 
-  pub passed_written : IsPassedDistance (slice_set s v e) q.present
+  passed_written : IsPassedDistance (slice_set s v e) q.present
   passed_written bound low within = known.queue.passed bound low (λ w m. omega (arith, ints, distance_else w (other w m), within w (state_else w (other w m) ∙ m)))
     where
       other : (w : ℕ) → state_at s w ≡ Settled → w ≡ v → ⊥
       other w m same = not_settled (ap (state_at s) (sym same) ∙ m)
 
-  -- the node is new, and joins the current nodes
-  module _ (is_new : state_at s v ≡ Unreached) (present : e.distance ≡ q.present) (room : q.end < length q.current.items) where
-    v_not_in : (w : ℕ) → IsIn q.order.items q.place.items q.len w → w ≡ v → ⊥
-    v_not_in w inside same = (let o : state_at s w ≡ Open = known.queue.beyond.all_open w inside in let n : state_at s w ≡ Unreached = ap (state_at s) same ∙ is_new in cc)
-
-    heap_same : IsHeap (slice_set s v e) q.order.items q.place.items q.len
-    heap_same = record {
-      index = index_for (length (slice_set s v e)) known.queue.heap.index (sym put_open.same_length);
-      keyed = λ w inside. known.queue.heap.keyed w inside ∙ ap (entry_of w) (sym (put_open.elsewhere w (v_not_in w inside)));
-      ordered = known.queue.heap.ordered;
+  entry_written : (x : Entry) → IsEntry s q.present x → IsEntry (slice_set s v e) q.present x
+  entry_written x old = elim (cases_eq x.0.node v) [
+    | inl same ↦
+        (let reached : IsReached s v = subst (IsReached s) same old.reached in
+        record {
+          reached = subst (IsReached (slice_set s v e)) (sym same) (open_is_reached (slice_set s v e) v now_open);
+          no_nearer = omega (arith, ints, takes_lower (node_label_at s v) e.distance known.better reached, ap (distance_at s) same, ap (distance_at (slice_set s v e)) same, now_distance, old.no_nearer);
+          beyond = old.beyond;
+        })
+    | inr ne ↦ record {
+      reached = λ m. old.reached (sym (state_else x.0.node ne) ∙ m);
+      no_nearer = omega (arith, ints, distance_else x.0.node ne, old.no_nearer);
+      beyond = old.beyond;
     }
-
-    beyond_same : IsBeyond (slice_set s v e) q.order.items q.place.items q.len q.present
-    beyond_same = record {
-      all_open = λ w inside. state_else w (v_not_in w inside) ∙ known.queue.beyond.all_open w inside;
-      no_nearer = λ w inside. omega (arith, ints, distance_else w (v_not_in w inside), known.queue.beyond.no_nearer w inside);
-    }
-
-    current_end : slice_index (slice_set q.current.items q.end v) q.end ≡ v
-    current_end = get_or-set_same q.current.items q.end v 0 room
-
-    current_else : (i : ℕ) → i < q.end → slice_index (slice_set q.current.items q.end v) i ≡ slice_index q.current.items i
-    current_else i lt = get_or-set_other q.current.items q.end i v 0 (λ h. omega (arith, h))
-
-    by_end : (P : ℕ → Type 0) → P q.end → ((i : ℕ) → i < q.end → P i) → (i : ℕ) → i < q.end + 1 → P i
-    by_end P at_end below i lt = elim (cases_lt i q.end) [
-      | inl lower ↦ below i lower
-      | inr above ↦ subst P (omega arith) at_end
-    ]
-
-    current_longer : IsCurrent (slice_set s v e) (slice_set q.current.items q.end v) q.next (q.end + 1) q.present
-    current_longer = record {
-      sized = length-set q.current.items q.end v ∙ known.queue.current.sized ∙ sym put_open.same_length;
-      begins = omega (arith, known.queue.current.begins);
-      ends = omega (arith, length-set q.current.items q.end v);
-      all_open = λ i le lt. by_end (λ j. q.next ≤ j → state_at (slice_set s v e) (slice_index (slice_set q.current.items q.end v) j) ≡ Open)
-          (λ le_j. ap (state_at (slice_set s v e)) current_end ∙ now_open)
-          (λ j below le_j. ap (state_at (slice_set s v e)) (current_else j below) ∙ state_else (slice_index q.current.items j) (other_waits j le_j below) ∙ known.queue.current.all_open j le_j below)
-          i lt le;
-      all_present = λ i le lt. by_end (λ j. q.next ≤ j → distance_at (slice_set s v e) (slice_index (slice_set q.current.items q.end v) j) ≡ q.present)
-          (λ le_j. ap (distance_at (slice_set s v e)) current_end ∙ now_distance ∙ present)
-          (λ j below le_j. ap (distance_at (slice_set s v e)) (current_else j below) ∙ distance_else (slice_index q.current.items j) (other_waits j le_j below) ∙ known.queue.current.all_present j le_j below)
-          i lt le;
-      apart = λ i j le lt below. by_end (λ k. i < k → slice_index (slice_set q.current.items q.end v) i ≢ slice_index (slice_set q.current.items q.end v) k)
-          (λ lt_k same. other_waits i le lt_k (sym (current_else i lt_k) ∙ same ∙ current_end))
-          (λ k below_k lt_k same. known.queue.current.apart i k le lt_k below_k (sym (current_else i (omega arith)) ∙ same ∙ current_else k below_k))
-          j below lt;
-    }
-
-    holds_current_longer : HoldsOpen (slice_set s v e) (slice_set q.current.items q.end v) q.next (q.end + 1) q.order.items q.place.items q.len
-    holds_current_longer = record {
-      all = λ w o. (elim (cases_eq w v) [
-        | inl same ↦ inr (q.end, known.queue.current.begins, omega arith, current_end ∙ sym same)
-        | inr ne ↦ (elim (known.queue.holds.all w (sym (state_else w ne) ∙ o)) [
-          | inl inside ↦ inl inside
-          | inr waits ↦ inr (waits.0, waits.1, omega (arith, waits.2), current_else waits.0 waits.2 ∙ waits.3)
-        ])
-      ]);
-      not_both = λ w waits inside. by_end (λ j. q.next ≤ j → slice_index (slice_set q.current.items q.end v) j ≡ w → ⊥)
-          (λ le same. v_not_in w inside (sym same ∙ current_end))
-          (λ j below le same. known.queue.holds.not_both w (j, le, below, sym (current_else j below) ∙ same) inside)
-          waits.0 waits.2 waits.1 waits.3;
-      counted = omega (arith, count_put s v e known.v_in, weight_open e known.is_open, weight_shut (node_label_at s v) (λ h. cc), known.queue.holds.counted, known.queue.current.begins);
-    }
-
-    pub joined : IsQueueOf (slice_set s v e) (record q { current = with_item q.current q.end v; end = q.end + 1 })
-    joined = record { heap = heap_same; current = current_longer; beyond = beyond_same; passed = passed_written; holds = holds_current_longer }
-
-  -- it enters the heap, or moves in it
-  open_inside : state_at s v ≡ Open → IsIn q.order.items q.place.items q.len v
-  open_inside o = elim (known.queue.holds.all v o) [
-    | inl inside ↦ inside
-    | inr waits ↦ absurd (waits_not waits)
   ]
 
-  pub room_in : (IsIn q.order.items q.place.items q.len v → ⊥) → q.len < length s
-  room_in out = omega (arith, known.queue.holds.counted, open_count-less s v known.v_in (λ o. out (open_inside o)))
-
-  pub current_same : IsCurrent (slice_set s v e) q.current.items q.next q.end q.present
-  current_same = record {
-    sized = known.queue.current.sized ∙ sym put_open.same_length;
-    begins = known.queue.current.begins;
-    ends = known.queue.current.ends;
-    all_open = λ i le lt. state_else (slice_index q.current.items i) (other_waits i le lt) ∙ known.queue.current.all_open i le lt;
-    all_present = λ i le lt. distance_else (slice_index q.current.items i) (other_waits i le lt) ∙ known.queue.current.all_present i le lt;
-    apart = known.queue.current.apart;
+  -- the node is new, and joins the current nodes
+  pub joined : (current : VecDeque ℕ Global) → e.distance ≡ q.present → current.items ≡ q.current.items ++ v ∷ [] → IsQueueOf (slice_set s v e) (record q { current = current })
+  joined current present is = record {
+    sized = record { room = omega (arith, known.queue.sized.room, put_open.same_length) };
+    current = rw is (record {
+      all_open = λ w at. (elim (Contains-push_cases q.current.items v w at) [
+        | inl was ↦ current_same.all_open w was
+        | inr same ↦ subst (λ (n : ℕ). state_at (slice_set s v e) n ≡ Open) same now_open
+      ]);
+      all_present = λ w at. (elim (Contains-push_cases q.current.items v w at) [
+        | inl was ↦ current_same.all_present w was
+        | inr same ↦ subst (λ (n : ℕ). distance_at (slice_set s v e) n ≡ q.present) same (now_distance ∙ present)
+      ]);
+      apart = apart_push q.current.items v known.queue.current.apart waits_not;
+    });
+    ordered = known.queue.ordered;
+    entries = λ x at. entry_written x (known.queue.entries x at);
+    passed = passed_written;
+    all = λ w o. (elim (cases_eq w v) [
+      | inl same ↦ inl (rw (same, is) (Contains-push q.current.items v))
+      | inr ne ↦ (elim (known.queue.all w (sym (state_else w ne) ∙ o)) [
+        | inl waits ↦ inl (rw is (Contains-append_left q.current.items (v ∷ []) w waits))
+        | inr at ↦ inr (subst (Contains (heap_items q.heap)) (sym (entry_else w ne)) at)
+      ])
+    ]);
   }
 
-  module _ (order : List HeapEntry) (place : List ℕ) (len : ℕ) (entered : IsEntered q.order.items q.place.items q.len order place len (entry_of v e)) where
-    pub beyond_entered : IsBeyond (slice_set s v e) order place len q.present
-    beyond_entered = record {
-      all_open = λ w inside. (elim (cases_eq w v) [
-        | inl same ↦ ap (state_at (slice_set s v e)) same ∙ now_open
-        | inr ne ↦ state_else w ne ∙ known.queue.beyond.all_open w (entered.before w ne inside)
-      ]);
-      no_nearer = λ w inside. (elim (cases_eq w v) [
-        | inl same ↦ (let here : distance_at (slice_set s v e) w ≡ e.distance = ap (distance_at (slice_set s v e)) same ∙ now_distance in omega (arith, ints, known.not_nearer))
-        | inr ne ↦ omega (arith, ints, distance_else w ne, known.queue.beyond.no_nearer w (entered.before w ne inside))
-      ]);
-    }
+  -- it is entered in the heap
+  open_beyond : (w : ℕ) → state_at (slice_set s v e) w ≡ Open → q.present ≤ℤ distance_at (slice_set s v e) w
+  open_beyond w o = elim (cases_eq w v) [
+    | inl same ↦ omega (arith, ints, known.not_nearer, now_distance, ap (distance_at (slice_set s v e)) same)
+    | inr ne ↦ omega (arith, ints, distance_else w ne, open_is_beyond s q known.queue w (sym (state_else w ne) ∙ o))
+  ]
 
-    counted_entered : (m : State) → state_at s v ≡ m → len + (q.end - q.next) ≡ open_count (slice_set s v e)
-    counted_entered Unreached m = one_more (λ o. cc)
-      where
-        one_more : (state_at s v ≡ Open → ⊥) → len + (q.end - q.next) ≡ open_count (slice_set s v e)
-        one_more shut = omega (arith, count_put s v e known.v_in, weight_open e known.is_open, weight_shut (node_label_at s v) shut, known.queue.holds.counted, entered.one_more (λ inside. shut (known.queue.beyond.all_open v inside)))
-    counted_entered Open m = omega (arith, count_put s v e known.v_in, weight_open e known.is_open, weight_open (node_label_at s v) m, known.queue.holds.counted, entered.as_many (open_inside m))
-    counted_entered Settled m = absurd (not_settled m)
+  live_is_entry : (x : Entry) → IsLive (slice_set s v e) x → IsEntry (slice_set s v e) q.present x
+  live_is_entry x live =
+      let same = ap (λ (y : Entry). y.0.distance) live.is_now in
+      record {
+        reached = open_is_reached (slice_set s v e) x.0.node live.is_open;
+        no_nearer = omega (arith, ints, same);
+        beyond = omega (arith, ints, same, open_beyond x.0.node live.is_open);
+      }
 
-    pub holds_entered : HoldsOpen (slice_set s v e) q.current.items q.next q.end order place len
-    holds_entered = record {
-      all = λ w o. (elim (cases_eq w v) [
-        | inl same ↦ inl (subst (IsIn order place len) (sym same) entered.entered)
-        | inr ne ↦ (elim (known.queue.holds.all w (sym (state_else w ne) ∙ o)) [
-          | inl inside ↦ inl (entered.kept w inside)
-          | inr waits ↦ inr waits
-        ])
-      ]);
-      not_both = λ w waits inside. (elim (cases_eq w v) [
-        | inl same ↦ waits_not (waits.0, waits.1, waits.2, waits.3 ∙ same)
-        | inr ne ↦ known.queue.holds.not_both w waits (entered.before w ne inside)
-      ]);
-      counted = counted_entered (state_at s v) refl;
-    }
-
--- a queue whose heap is lent out comes back with it
-pub queue_of : (t s : List NodeLabel) (q : Queue) (order : List HeapEntry) (place : List ℕ) → t ≡ s → q.order.items ≡ order → q.place.items ≡ place → IsHeap s order place q.len → IsCurrent s q.current.items q.next q.end q.present → IsBeyond s order place q.len q.present → IsPassedDistance s q.present → HoldsOpen s q.current.items q.next q.end order place q.len → IsQueueOf t q
-queue_of t s q order place same order_is place_is heap current beyond passed holds = subst (λ (v : List NodeLabel). IsQueueOf v q) (sym same) (record {
-  heap = rw (order_is, place_is) heap;
-  current = current;
-  beyond = rw (order_is, place_is) beyond;
-  passed = passed;
-  holds = rw (order_is, place_is) holds;
-})
+  pub entered : (heap : BinaryHeap Entry Global) → heap_capacity q.heap ≤ heap_capacity heap → IsHeap nearness (heap_items heap) → IsEntered (slice_set s v e) v (heap_items q.heap) (heap_items heap) → IsQueueOf (slice_set s v e) (record q { heap = heap })
+  entered heap room ordered enters = record {
+    sized = record { room = omega (arith, known.queue.sized.room, room, put_open.same_length) };
+    current = current_same;
+    ordered = ordered;
+    entries = λ x at. (elim (enters.from x at) [
+      | inl was ↦ entry_written x (known.queue.entries x was)
+      | inr live ↦ live_is_entry x live
+    ]);
+    passed = passed_written;
+    all = λ w o. (elim (cases_eq w v) [
+      | inl same ↦ inr (subst (λ (n : ℕ). Contains (heap_items heap) (entry_now (slice_set s v e) n)) (sym same) enters.entered)
+      | inr ne ↦ (elim (known.queue.all w (sym (state_else w ne) ∙ o)) [
+        | inl waits ↦ inl waits
+        | inr at ↦ inr (enters.kept w o (subst (Contains (heap_items q.heap)) (sym (entry_else w ne)) at))
+      ])
+    ]);
+  }

@@ -1,7 +1,6 @@
 pub mod Limits
 pub mod Search
 pub mod Over
-pub mod Heap
 pub mod Queue
 pub mod NodeLists
 pub mod Labels

@@ -1,69 +1,77 @@
--- The open nodes of a search: current ones, at the present distance, and the others in a heap.
-use Rattle.std.specs.Prelude.{◌≡◌, ◌≢◌, ℕ, ◌+◌, ◌-◌, ◌<◌, ◌≤◌, ℤ, pos, ◌≤ℤ◌, ◌⊎◌, Bool, true, false, List, length, slice_index, cond, nat_lt}
-use Rattle.std.specs.List.{count_by}
+-- The open nodes of a search: current ones, at the present distance, and the others in a heap, where old entries are
+-- passed over (Ahuja, Magnanti, Orlin, "Network Flows": heaps for Dijkstra's algorithm).
+use Rattle.std.specs.Prelude.{◌≡◌, ℕ, ◌<◌, ◌≤◌, ℤ, pos, ◌≤ℤ◌, ◌⊎◌, List, [], ◌∷◌, length}
+use Rattle.std.specs.List.{Contains}
+use Rattle.std.specs.BinaryHeap.{IsHeap, heap_items, heap_capacity}
+use Rattle.std.specs.Ordering.{ordering_then, int_cmp, nat_cmp}
+use Rattle.std.specs.declared.cmp.Ordering.{Ordering}
+use Rattle.std.specs.declared.cmp.Reverse.{Reverse}
 use Rattle.shortest_paths.specs.declared.queue.Queue.{Queue}
-use Rattle.shortest_paths.specs.declared.node_label.NodeLabel.{NodeLabel}
-use Rattle.shortest_paths.specs.declared.node_label.State.{State}
-use Rattle.shortest_paths.specs.declared.node_label.State.TheVariants.{Unreached, Open, Settled}
-use Rattle.shortest_paths.specs.Search.{state_at, distance_at}
 use Rattle.shortest_paths.specs.declared.heap_entry.HeapEntry.{HeapEntry}
-use Rattle.shortest_paths.specs.Heap.{IsHeap, IsIn, node_in}
+use Rattle.shortest_paths.specs.declared.node_label.NodeLabel.{NodeLabel}
+use Rattle.shortest_paths.specs.declared.node_label.State.TheVariants.{Open, Settled}
+use Rattle.shortest_paths.specs.Search.{IsReached, node_label_at, state_at, distance_at}
 
-abbrev pub is_open_state : State → Bool
-is_open_state Unreached = false
-is_open_state Open = true
-is_open_state Settled = false
+-- what the heap keeps of node v: the distance and the depth of its label
+abbrev pub entry_of : ℕ → NodeLabel → HeapEntry
+entry_of v e = record { distance = e.distance; depth = e.depth; node = v }
 
--- how many nodes are open
-abbrev pub open_count : List NodeLabel → ℕ
-open_count s = count_by (λ e. is_open_state e.state) s
+-- the entry of node v by its label as it is now, as it stands in the heap, which gives the greatest first
+abbrev pub entry_now : List NodeLabel → ℕ → Reverse HeapEntry
+entry_now s v = record { 0 = entry_of v (node_label_at s v) }
 
--- node v is current: it stands from place `next` to before place `end`
-abbrev pub IsWaiting : List ℕ → ℕ → ℕ → ℕ → Type 0
-IsWaiting current next end v = (i : ℕ) × (next ≤ i) × (i < end) × (slice_index current i ≡ v)
+-- the order of the heap: an entry is the less, the further its node is
+abbrev pub nearness : Reverse HeapEntry → Reverse HeapEntry → Ordering
+nearness a b = ordering_then (int_cmp b.0.distance a.0.distance) (ordering_then (nat_cmp b.0.depth a.0.depth) (nat_cmp b.0.node a.0.node))
+
+-- the entry is that of an open node
+pub record IsLive (s : List NodeLabel) (e : Reverse HeapEntry) : Type 0 where
+  pub is_open : state_at s e.0.node ≡ Open
+  pub is_now : e ≡ entry_now s e.0.node
+
+-- the heap has the entries of the open nodes below n and no others
+pub record HoldsOpen (s : List NodeLabel) (n : ℕ) (heap : List (Reverse HeapEntry)) : Type 0 where
+  pub all : (v : ℕ) → v < n → state_at s v ≡ Open → Contains heap (entry_now s v)
+  pub live : (e : Reverse HeapEntry) → Contains heap e → IsLive s e
+
+-- the heap has got the entry of node v, has those of the open nodes that it had, and no other new one but those of open
+-- nodes
+pub record IsEntered (s : List NodeLabel) (v : ℕ) (old heap : List (Reverse HeapEntry)) : Type 0 where
+  pub entered : Contains heap (entry_now s v)
+  pub kept : (w : ℕ) → state_at s w ≡ Open → Contains old (entry_now s w) → Contains heap (entry_now s w)
+  pub from : (e : Reverse HeapEntry) → Contains heap e → Contains old e ⊎ IsLive s e
+
+-- the entry names a node that is reached, by a path as long as this distance and as its best path, or longer
+pub record IsEntry (s : List NodeLabel) (distance : ℤ) (e : Reverse HeapEntry) : Type 0 where
+  pub reached : IsReached s e.0.node
+  pub no_nearer : distance_at s e.0.node ≤ℤ e.0.distance
+  pub beyond : distance ≤ℤ e.0.distance
+
+-- no node is in the list twice
+abbrev pub AreApart : List ℕ → Type 0
+AreApart [] = Unit {0}
+AreApart (v ∷ vs) = (Contains vs v → ⊥) × AreApart vs
 
 -- the current nodes are open nodes at this distance, none of them twice
-pub record IsCurrent (s : List NodeLabel) (current : List ℕ) (next end : ℕ) (distance : ℤ) : Type 0 where
-  pub sized : length current ≡ length s
-  pub begins : next ≤ end
-  pub ends : end ≤ length current
-  pub all_open : (i : ℕ) → next ≤ i → i < end → state_at s (slice_index current i) ≡ Open
-  pub all_present : (i : ℕ) → next ≤ i → i < end → distance_at s (slice_index current i) ≡ distance
-  pub apart : (i j : ℕ) → next ≤ i → i < j → j < end → slice_index current i ≢ slice_index current j
-
--- each node in the heap is open, and no nearer than this distance
-pub record IsBeyond (s : List NodeLabel) (order : List HeapEntry) (place : List ℕ) (len : ℕ) (distance : ℤ) : Type 0 where
-  pub all_open : (v : ℕ) → IsIn order place len v → state_at s v ≡ Open
-  pub no_nearer : (v : ℕ) → IsIn order place len v → distance ≤ℤ distance_at s v
+pub record IsCurrent (s : List NodeLabel) (distance : ℤ) (current : List ℕ) : Type 0 where
+  pub all_open : (v : ℕ) → Contains current v → state_at s v ≡ Open
+  pub all_present : (v : ℕ) → Contains current v → distance_at s v ≡ distance
+  pub apart : AreApart current
 
 -- the search has passed this distance: whatever bounds 0 and the distances of the settled nodes bounds it
 abbrev pub IsPassedDistance : List NodeLabel → ℤ → Type 0
 IsPassedDistance s distance = (bound : ℤ) → pos 0 ≤ℤ bound → ((v : ℕ) → state_at s v ≡ Settled → distance_at s v ≤ℤ bound) → distance ≤ℤ bound
 
--- each open node is current or in the heap, and none is both
-pub record HoldsOpen (s : List NodeLabel) (current : List ℕ) (next end : ℕ) (order : List HeapEntry) (place : List ℕ) (len : ℕ) : Type 0 where
-  pub all : (v : ℕ) → state_at s v ≡ Open → IsIn order place len v ⊎ IsWaiting current next end v
-  pub not_both : (v : ℕ) → IsWaiting current next end v → IsIn order place len v → ⊥
-  pub counted : len + (end - next) ≡ open_count s
-
--- the queue holds exactly the open nodes: the current ones are at the present distance, and none in the heap is nearer
-pub record IsQueueOf (s : List NodeLabel) (q : Queue) : Type 0 where
-  pub heap : IsHeap s q.order.items q.place.items q.len
-  pub current : IsCurrent s q.current.items q.next q.end q.present
-  pub beyond : IsBeyond s q.order.items q.place.items q.len q.present
-  pub passed : IsPassedDistance s q.present
-  pub holds : HoldsOpen s q.current.items q.next q.end q.order.items q.place.items q.len
-
--- how many nodes are in the queue
-abbrev pub size : Queue → ℕ
-size q = q.len + (q.end - q.next)
-
--- the node that the queue gives next: the first of the current ones, or in the heap where there are none
-abbrev pub first_of : Queue → ℕ
-first_of q = cond (nat_lt q.next q.end) (slice_index q.current.items q.next) (node_in q.order.items 0)
-
--- the queue has room for each entry of a table of nodes
+-- the heap has room for each entry of a table of nodes
 pub record IsQueueFor (entries : ℕ) (q : Queue) : Type 0 where
-  pub current_sized : length q.current.items ≡ entries
-  pub order_sized : length q.order.items ≡ entries
-  pub place_sized : length q.place.items ≡ entries
+  pub room : entries ≤ heap_capacity q.heap
+
+-- each open node is current or has its entry in the heap: the current ones are at the present distance, and no entry is
+-- nearer
+pub record IsQueueOf (s : List NodeLabel) (q : Queue) : Type 0 where
+  pub sized : IsQueueFor (length s) q
+  pub current : IsCurrent s q.present q.current.items
+  pub ordered : IsHeap nearness (heap_items q.heap)
+  pub entries : (e : Reverse HeapEntry) → Contains (heap_items q.heap) e → IsEntry s q.present e
+  pub passed : IsPassedDistance s q.present
+  pub all : (v : ℕ) → state_at s v ≡ Open → Contains q.current.items v ⊎ Contains (heap_items q.heap) (entry_now s v)

@@ -2,7 +2,7 @@
 -- (Ahuja, Magnanti, Orlin, "Network Flows": Dijkstra's algorithm, as the successive shortest path algorithm uses it).
 use Rattle.residual_graph.specs.Limits.{potential_floor, cost_limit}
 use Rattle.shortest_paths.specs.Limits.{distance_limit}
-use Rattle.std.specs.Prelude.{◌≡◌, ◌≢◌, ℕ, ◌+◌, ◌*◌, ◌<◌, ◌≤◌, ℤ, pos, neg_ℤ, ◌-ℤ◌, ◌+ℤ◌, ◌<ℤ◌, ◌≤ℤ◌, List, length, slice_index_or, Bool, true, false, ◌⊎◌, Option, MatchOption}
+use Rattle.std.specs.Prelude.{◌≡◌, ◌≢◌, ℕ, ◌+◌, ◌*◌, ◌<◌, ◌≤◌, ℤ, pos, neg_ℤ, ◌-ℤ◌, ◌+ℤ◌, ◌<ℤ◌, ◌≤ℤ◌, List, length, slice_index_or, slice_set, Bool, true, false, ◌⊎◌, Option, MatchOption}
 use Rattle.std.specs.List.{count_by}
 use Rattle.dimacs_text.specs.declared.problem.ArcRow.{ArcRow}
 use Rattle.residual_graph.specs.declared.residual.Way.{Way}
@@ -156,6 +156,10 @@ pub record Settles (s t : List NodeLabel) (u : ℕ) : Type 0 where
 
 abbrev pub settled_node_label : NodeLabel → NodeLabel
 settled_node_label e = record { state = Settled; distance = e.distance; depth = e.depth; arc = e.arc; way = e.way; bound = LEAST_BOUND }
+
+-- what is known once node u is settled
+abbrev pub settled_in : List NodeLabel → ℕ → List NodeLabel
+settled_in s u = slice_set s u (settled_node_label (node_label_at s u))
 
 abbrev pub forgotten_node_label : NodeLabel → NodeLabel
 forgotten_node_label e = record { state = Unreached; distance = e.distance; depth = e.depth; arc = e.arc; way = e.way; bound = NO_BOUND }

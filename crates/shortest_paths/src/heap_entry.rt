@@ -1,13 +1,14 @@
 //! What the heap keeps of a node.
 
-ghost use Rattle.std.specs.Prelude.{◌≡◌, ◌<◌, ◌^◌, ◌<ℤ◌, IsTrue, ◌↔◌};
-ghost use Rattle.shortest_paths.specs.Heap.{entry_of, rank};
+ghost use Rattle.std.specs.Prelude.{◌≡◌, ◌<◌, ◌^◌};
+ghost use Rattle.shortest_paths.specs.Queue.{entry_of};
 
 use crate::node_label::NodeLabel;
 
-/// A node in the heap, with the distance and the depth of its label: so two nodes are compared where they stand in the
-/// heap, and their labels, which are far away in memory, are not read.
-#[derive(Clone, Copy)]
+/// A node in the heap, with the distance and the depth of its label when it was entered: so two nodes are compared where
+/// they stand in the heap, and their labels, which are far away in memory, are not read. The nearer is the lesser, and of
+/// two that are equally near the one of fewer arcs.
+#[derive(Clone, Copy, PartialEq, Eq, PartialOrd, Ord, Drop)]
 pub struct HeapEntry {
     pub distance: i64,
     pub depth: u32,
@@ -25,14 +26,5 @@ impl HeapEntry {
             depth: node_label.depth,
             node: v as u32,
         }
-    }
-
-    #[tactic(auto, unfolding(crate::specs::Heap::rank))]
-    /// Whether the entry has a lower rank than another one.
-    pub fn is_lower(&self, other: &HeapEntry) -> bool
-        ensures { IsTrue result ↔ (rank self.now <ℤ rank other.now) }
-    {
-        self.distance < other.distance
-            || self.distance == other.distance && self.depth < other.depth
     }
 }

@@ -1,6 +1,6 @@
 //! The labels of all nodes: what still stands of the forest that the last pass left is kept, and the rest is searched.
 
-ghost use Rattle.std.specs.Prelude.{◌≡◌, ℕ, ◌≤ℤ◌, ◌<◌, ◌≤◌, ◌+◌, ◌⊎◌, length, false, None, Some, IfSome, IfOk};
+ghost use Rattle.std.specs.Prelude.{◌≡◌, ℕ, ◌≤ℤ◌, ◌<◌, ◌≤◌, ◌+◌, ◌⊎◌, length, None, Some, IfSome, IfOk};
 ghost use Rattle.residual_graph.specs.Limits.{entry_limit, potential_floor};
 ghost use Rattle.residual_graph.specs.Residual.{ArePotentials, IsRow, number_at};
 ghost use Rattle.shortest_paths.specs.Search.{HasBound, IsFromAll, NoneOpen, reduced_by, root_node_label, settled_node_label};
@@ -22,8 +22,6 @@ use std::alloc::{AllocError, Global};
 pub struct Labels {
     pub node_labels: Vec<NodeLabel>,
     pub order: Vec<u32>,
-    /// Whether the potentials that the last pass gave are known to be the greatest still. No search reads it.
-    pub standing: bool,
 }
 
 impl Labels {
@@ -33,7 +31,6 @@ impl Labels {
     /// Memory for a table was refused.
     pub fn new(alloc: Global, entries: u32) -> Result<Labels, AllocError>
         ensures sized { IfOk result (λ l. IsLabelsFor entries l) }
-        ensures standing { IfOk result (λ l. l.standing ≡ false) }
         ensures in_order { IfOk result (λ l. AreInOrder l.order.items entries) }
     {
         let node_labels = vec![in alloc; NodeLabel::unreached(); entries as usize]?;
@@ -41,11 +38,7 @@ impl Labels {
         for v in 0..entries {
             order[v as usize] = v;
         }
-        Ok(Labels {
-            node_labels,
-            order,
-            standing: false,
-        })
+        Ok(Labels { node_labels, order })
     }
 }
 
@@ -283,8 +276,8 @@ fn search_rest(
     ensures queue { IsQueueOf node_labels.new queue.new }
 {
     let mut place = kept;
-    while let Some(u) = queue.first(node_labels) {
-        let _settled = settle_node(residual, node_labels, queue);
+    while let Some(u) = queue.take_first(node_labels) {
+        settle_node(residual, node_labels, queue, u);
         place = note(order, place, u);
     }
 }

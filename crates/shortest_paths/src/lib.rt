@@ -5,7 +5,6 @@
 //! entry a row of the graph. Flow and excess are in units of flow; costs, potentials and distances in cost a unit of flow.
 #![tactic(auto)]
 
-mod heap;
 mod heap_entry;
 mod labels;
 mod node_label;

@@ -4,7 +4,7 @@ ghost use Rattle.std.specs.Prelude.{◌≡◌, ℤ, pos, neg_ℤ, ◌-ℤ◌, �
 ghost use Rattle.shortest_paths.specs.Limits.{distance_limit};
 ghost use Rattle.residual_graph.specs.Limits.{potential_floor};
 ghost use Rattle.shortest_paths.specs.Search.{HasBound, IsFresh, Takes, forgotten_node_label, lowered, settled_node_label, unreached_node_label};
-ghost use Rattle.shortest_paths.specs.declared.node_label.State.TheVariants.{Settled};
+ghost use Rattle.shortest_paths.specs.declared.node_label.State.TheVariants.{Open, Settled};
 
 use residual_graph::Way;
 
@@ -79,6 +79,13 @@ impl NodeLabel {
     {
         self.state = State::Unreached;
         self.bound = NO_BOUND;
+    }
+
+    /// Whether the node is open.
+    pub(crate) fn is_open(&self) -> bool
+        ensures { IsTrue result ↔ (self.now.state ≡ Open) }
+    {
+        matches!(self.state, State::Open)
     }
 
     /// Whether the node is settled.

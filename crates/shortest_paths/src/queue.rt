@@ -1,34 +1,35 @@
 //! The open nodes of a search, the one of the least distance first.
 
 ghost use Rattle.residual_graph.specs.Limits.{entry_limit};
-ghost use Rattle.std.specs.Prelude.{◌≡◌, ℕ, pos, length, ◌<◌, ◌≤◌, ◌≤ℤ◌, slice_index, slice_set, MatchOption, IfOk, IfSome, IsTrue, ◌↔◌};
-ghost use Rattle.shortest_paths.specs.Search.{node_label_at, distance_at, Takes, IsLeastOpen, NoneOpen, settled_node_label};
+ghost use Rattle.std.specs.Prelude.{◌≡◌, ℕ, pos, length, ◌<◌, ◌≤◌, ◌≤ℤ◌, ◌+◌, ◌^◌, ◌∷◌, ◌++◌, [], slice_set, MatchOption, IfOk, IfSome, IfNone, IsTrue, ◌↔◌};
+ghost use Rattle.shortest_paths.specs.Search.{node_label_at, state_at, distance_at, Takes, IsLeastOpen, NoneOpen, settled_in};
+ghost use Rattle.shortest_paths.specs.Queue.{IsEntered, HoldsOpen, entry_now, nearness};
+ghost use Rattle.std.specs.BinaryHeap.{IsHeap, KeepsHeap, heap_items, heap_len, heap_capacity};
+ghost use Rattle.std.specs.VecDeque.{deque_len, deque_capacity};
+ghost use Rattle.std.specs.List.Sorted.{IsPermutation};
 ghost use Rattle.shortest_paths.specs.declared.node_label.State.TheVariants.{Unreached, Open};
 
-use crate::heap;
 use crate::heap_entry::HeapEntry;
 use crate::node_label::{NodeLabel, State};
 use std::alloc::{AllocError, Global};
+use std::cmp::Reverse;
+use std::collections::{BinaryHeap, VecDeque};
 
 /// The current nodes, which are open nodes at the present distance, that of the node settled last, first in and first out;
-/// and behind them a binary heap of the other open nodes. Each table has one entry a node.
+/// and behind them a heap. Where the path to a node gets better, the node is entered in the heap again, and its old entry
+/// stays: an entry of a settled node is passed over.
 #[derive(Drop)]
 pub struct Queue {
-    /// The current nodes stand from place `next` to before place `end`.
-    pub current: Vec<u32>,
-    pub next: usize,
-    pub end: usize,
+    /// The current nodes.
+    pub current: VecDeque<u32>,
     /// The present distance.
     pub present: i64,
-    /// The heap: its first `len` places hold nodes, each with its distance and depth.
-    pub order: Vec<HeapEntry>,
-    /// The place of each node in the heap.
-    pub place: Vec<u32>,
-    pub len: usize,
+    /// The entry of each other open node, and old ones.
+    pub heap: BinaryHeap<Reverse<HeapEntry>>,
 }
 
 impl Queue {
-    ghost use Rattle.shortest_paths.specs.Queue.{IsQueueOf, IsQueueFor, size, first_of};
+    ghost use Rattle.shortest_paths.specs.Queue.{IsQueueOf, IsQueueFor};
 
     /// An empty queue, with room for each of `entries` nodes.
     ///
@@ -37,29 +38,25 @@ impl Queue {
     pub fn new(alloc: Global, entries: usize) -> Result<Queue, AllocError>
         ensures { IfOk result (λ q. IsQueueFor entries q) }
     {
-        let current = vec![in alloc; 0; entries]?;
-        let no_node = HeapEntry::of(0, &NodeLabel::unreached());
-        let order = vec![in alloc; no_node; entries]?;
-        let place = vec![in alloc; 0; entries]?;
+        let current = VecDeque::with_capacity(alloc, entries)?;
+        // Where the heap is full, it drops the old entries. So a search does that once for as many entries as there are
+        // nodes, or less often.
+        let heap = BinaryHeap::with_capacity(alloc, entries.saturating_mul(2))?;
         Ok(Queue {
             current,
-            next: 0,
-            end: 0,
             present: 0,
-            order,
-            place,
-            len: 0,
+            heap,
         })
     }
 
     /// Whether a node that gets this distance joins the current nodes: it is new, the distance is the present one, and there
     /// is room.
     fn joins_current(&self, node_label: &NodeLabel, distance: i64) -> bool
-        ensures { IsTrue result ↔ ((node_label.now.state ≡ Unreached) × (distance ≡ self.now.present) × (self.now.end < length self.now.current.items)) }
+        ensures { IsTrue result ↔ ((node_label.now.state ≡ Unreached) × (distance ≡ self.now.present) × (deque_len self.now.current < deque_capacity self.now.current)) }
     {
         matches!(node_label.state, State::Unreached)
             && distance == self.present
-            && self.end < self.current.len()
+            && self.current.len() < self.current.capacity()
     }
 
     /// Writes what is known of a node whose path got better. A new node at the present distance
@@ -74,71 +71,34 @@ impl Queue {
         ensures node_labels { node_labels.new ≡ slice_set node_labels.old v node_label }
         ensures queue { IsQueueOf node_labels.new self.new }
         ensures present { self.new.present ≡ self.old.present }
-        ensures next { self.new.next ≡ self.old.next }
-        ensures current { (i : ℕ) → i < self.old.end → slice_index self.new.current.items i ≡ slice_index self.old.current.items i }
     {
-        if self.joins_current(&node_labels[v], node_label.distance) {
-            node_labels[v] = node_label;
-            self.current[self.end] = v as u32;
-            self.end += 1;
+        let joins = self.joins_current(&node_labels[v], node_label.distance);
+        node_labels[v] = node_label;
+        if joins {
+            join(&mut self.current, v);
         } else {
-            self.len = heap::improve(
-                node_labels,
-                &mut self.order,
-                &mut self.place,
-                self.len,
-                v,
-                node_label,
-            );
+            enter(&mut self.heap, node_labels, v);
         }
     }
 
-    /// The open node of the least distance, where there is one.
-    pub fn first(&self, node_labels: &[NodeLabel]) -> Option<usize>
-        requires queue { IsQueueOf node_labels.now self.now }
+    /// Takes out the open node of the least distance, where there is one. It is to be settled next.
+    pub fn take_first(&mut self, node_labels: &[NodeLabel]) -> Option<usize>
+        requires queue { IsQueueOf node_labels.now self.old }
         ensures found { MatchOption result (NoneOpen node_labels.now (length node_labels.now)) (IsLeastOpen node_labels.now (length node_labels.now)) }
-        ensures at { IfSome result (λ u. first_of self.now ≡ u) }
-        ensures some { IfSome result (λ u. 0 < size self.now) }
+        ensures taken { IfSome result (λ u. IsQueueOf (settled_in node_labels.now u) self.new) }
+        ensures none { IfNone result (IsQueueOf node_labels.now self.new) }
     {
-        if self.next < self.end {
-            Some(self.current[self.next] as usize)
-        } else if self.len > 0 {
-            Some(self.order[0].node as usize)
-        } else {
-            None
+        if let Some(first) = self.current.pop_front() {
+            return Some(first as usize);
         }
-    }
-
-    /// Settles the first node.
-    pub fn settle_first(&mut self, node_labels: &mut [NodeLabel]) -> usize
-        requires queue { IsQueueOf node_labels.old self.old }
-        requires few { length node_labels.old ≤ entry_limit }
-        requires some { 0 < size self.old }
-        ensures first { first_of self.old ≡ result }
-        ensures least { IsLeastOpen node_labels.old (length node_labels.old) result }
-        ensures node_labels { node_labels.new ≡ slice_set node_labels.old result (settled_node_label (node_label_at node_labels.old result)) }
-        ensures queue { IsQueueOf node_labels.new self.new }
-        ensures present { self.new.present ≡ distance_at node_labels.old result }
-    {
-        if self.next < self.end {
-            let first = self.current[self.next] as usize;
-            node_labels[first].settle();
-            self.next += 1;
-            first
-        } else {
-            let (first, len) = heap::settle_first(
-                node_labels,
-                &mut self.order,
-                &mut self.place,
-                self.len,
-            );
-            self.len = len;
-            // No current node is left, so the table can begin again.
-            self.next = 0;
-            self.end = 0;
-            self.present = distance_of(&node_labels[first]);
-            first
+        while let Some(Reverse(entry)) = self.heap.pop() {
+            let first = entry.node as usize;
+            if node_labels[first].is_open() {
+                self.present = entry.distance;
+                return Some(first);
+            }
         }
+        None
     }
 
     /// Empties the queue, where no node is open.
@@ -148,16 +108,68 @@ impl Queue {
         ensures queue { IsQueueOf node_labels.now self.new }
         ensures present { self.new.present ≡ pos 0 }
     {
-        self.next = 0;
-        self.end = 0;
+        self.current.clear();
         self.present = 0;
-        self.len = 0;
+        self.heap.clear();
     }
 }
 
-/// The length of the best path to a node.
-fn distance_of(node_label: &NodeLabel) -> i64
-    ensures { result ≡ node_label.now.distance }
+/// Puts a node behind the current ones, where there is room.
+fn join(current: &mut VecDeque<u32>, v: usize)
+    requires room { deque_len current.old < deque_capacity current.old }
+    requires fits { v < 2 ^ 32 }
+    ensures { current.new.items ≡ current.old.items ++ v ∷ [] }
 {
-    node_label.distance
+    let joined = current.push_back(v as u32);
+    if joined.is_err() {
+        unreachable!();
+    }
+}
+
+/// Enters an open node in the heap. Where the heap is full, it is made anew of the open nodes alone.
+fn enter(heap: &mut BinaryHeap<Reverse<HeapEntry>>, node_labels: &[NodeLabel], v: usize)
+    requires is_open { state_at node_labels.now v ≡ Open }
+    requires few { length node_labels.now ≤ entry_limit }
+    requires room { length node_labels.now ≤ heap_capacity heap.old }
+    ensures capacity { heap_capacity heap.old ≤ heap_capacity heap.new }
+    ensures ordered { KeepsHeap nearness (heap_items heap.old) (heap_items heap.new) }
+    ensures entered { IsEntered node_labels.now v (heap_items heap.old) (heap_items heap.new) }
+{
+    if heap.len() < heap.capacity() {
+        push(heap, node_labels, v);
+    } else {
+        enter_all(heap, node_labels);
+    }
+}
+
+/// Enters each open node in an empty heap.
+fn enter_all(heap: &mut BinaryHeap<Reverse<HeapEntry>>, node_labels: &[NodeLabel])
+    requires few { length node_labels.now ≤ entry_limit }
+    requires room { length node_labels.now ≤ heap_capacity heap.old }
+    ensures capacity { heap_capacity heap.old ≤ heap_capacity heap.new }
+    ensures ordered { IsHeap nearness (heap_items heap.new) }
+    ensures all { HoldsOpen node_labels.now (length node_labels.now) (heap_items heap.new) }
+{
+    heap.clear();
+    for v in 0..node_labels.len() {
+        if node_labels[v].is_open() {
+            push(heap, node_labels, v);
+        }
+    }
+}
+
+/// Enters a node in a heap that has room.
+fn push(heap: &mut BinaryHeap<Reverse<HeapEntry>>, node_labels: &[NodeLabel], v: usize)
+    requires v_in { v < length node_labels.now }
+    requires few { length node_labels.now ≤ entry_limit }
+    requires room { heap_len heap.old < heap_capacity heap.old }
+    ensures capacity { heap_capacity heap.old ≤ heap_capacity heap.new }
+    ensures len { heap_len heap.new ≡ heap_len heap.old + 1 }
+    ensures ordered { KeepsHeap nearness (heap_items heap.old) (heap_items heap.new) }
+    ensures entered { IsPermutation (entry_now node_labels.now v ∷ heap_items heap.old) (heap_items heap.new) }
+{
+    let entered = heap.push(Reverse(HeapEntry::of(v, &node_labels[v])));
+    if entered.is_err() {
+        unreachable!();
+    }
 }

@@ -4,9 +4,9 @@ ghost use Rattle.std.specs.Prelude.{◌≡◌, ℕ, pos, ◌≤ℤ◌, ◌+ℤ�
 ghost use Rattle.residual_graph.specs.Limits.{cost_limit, entry_limit, potential_floor};
 ghost use Rattle.shortest_paths.specs.Limits.{distance_limit};
 ghost use Rattle.residual_graph.specs.Residual.{ArePotentials, number_at};
-ghost use Rattle.shortest_paths.specs.Search.{IsLastSettled, Improves, Takes, Settles, node_label_at, priced_distance, source_node_label, IsFresh, AreOpened, IsNearestFound};
+ghost use Rattle.shortest_paths.specs.Search.{IsLastSettled, IsLeastOpen, settled_in, Improves, Takes, Settles, node_label_at, priced_distance, source_node_label, IsFresh, AreOpened, IsNearestFound};
 ghost use Rattle.shortest_paths.specs.Over.{IsResidualArc, distance_along, IsSearchOver, AllRelaxedOver, IsRelaxedAlong, IsRelaxedFromNode, HasSearchedOver};
-ghost use Rattle.shortest_paths.specs.Queue.{IsQueueOf, IsQueueFor, size, first_of};
+ghost use Rattle.shortest_paths.specs.Queue.{IsQueueOf, IsQueueFor};
 ghost use Rattle.residual_graph.specs.Ends.{IsEnd, IsEndAt, leaving};
 
 use crate::node_label::{NodeLabel, State, clear_states};
@@ -135,25 +135,24 @@ fn relax_all(residual: Residual<'_>, node_labels: &mut [NodeLabel], queue: &mut 
     }
 }
 
-/// Settles the open node of the least distance.
+/// Settles the open node of the least distance, which the queue gave.
 pub fn settle_node(
     residual: Residual<'_>,
     node_labels: &mut [NodeLabel],
     queue: &mut Queue,
-) -> usize
+    first: usize,
+)
     requires search { IsSearchOver residual node_labels.old }
-    requires queue { IsQueueOf node_labels.old queue.old }
+    requires least { IsLeastOpen node_labels.old (length node_labels.old) first }
+    requires queue { IsQueueOf (settled_in node_labels.old first) queue.old }
     requires relaxed { AllRelaxedOver residual node_labels.old }
-    requires some { 0 < size queue.old }
     ensures search { IsSearchOver residual.entry node_labels.new }
     ensures queue { IsQueueOf node_labels.new queue.new }
     ensures relaxed { AllRelaxedOver residual.entry node_labels.new }
-    ensures first { first_of queue.old ≡ result }
-    ensures settles { Settles node_labels.old node_labels.new result }
+    ensures settles { Settles node_labels.old node_labels.new first }
 {
-    let first = queue.settle_first(node_labels);
+    node_labels[first].settle();
     relax_all(residual, node_labels, queue, first);
-    first
 }
 
 /// A source: a node that is open at distance 0.
@@ -214,11 +213,11 @@ pub fn find_deficit(
     clear_states(node_labels);
     queue.clear(node_labels);
     open_sources(excess, residual.potentials, node_labels, queue);
-    while let Some(u) = queue.first(node_labels) {
+    while let Some(u) = queue.take_first(node_labels) {
         if excess[u] < 0 {
             return Some(u);
         }
-        let _settled = settle_node(residual, node_labels, queue);
+        settle_node(residual, node_labels, queue, u);
     }
     None
 }

@@ -5,9 +5,9 @@ use Rattle.shortest_paths.proofs.labels.search_rest.Goals as goal
 
 pub loop-u-preserved : goal.loop-u-preserved
 loop-u-preserved c = record {
-  queue = c.settle_node-settled.ensures.queue;
-  known = c.settle_node-settled.ensures.search;
-  relaxed = c.settle_node-settled.ensures.relaxed;
-  from_all = IsFromAll-settles c.loop-u.invariant.from_all c.settle_node-settled.ensures.settles (λ v r. omega (arith, in_range c.settle_node-settled.new.node_labels v r, c.settle_node-settled.ensures.search.sized));
+  queue = c.settle_node.ensures.queue;
+  known = c.settle_node.ensures.search;
+  relaxed = c.settle_node.ensures.relaxed;
+  from_all = IsFromAll-settles c.loop-u.invariant.from_all c.settle_node.ensures.settles (λ v r. omega (arith, in_range c.settle_node.new.node_labels v r, c.settle_node.ensures.search.sized));
   place = c.note-place.ensures;
 }

@@ -1,6 +1,5 @@
-use Rattle.std.proofs.Common.{◌≡◌, ◌∙◌, length, arith, subst, sym}
+use Rattle.std.proofs.Common.{◌≡◌, ◌∙◌, length, arith}
 use Rattle.std.proofs.lemmas.Int.{ints}
-use Rattle.shortest_paths.specs.Search.{Settles}
 use Rattle.shortest_paths.proofs.RunLemmas.{HasSearched-first, HasSearched-settles}
 use Rattle.shortest_paths.proofs.search.find_deficit.Goals as goal
 
@@ -14,9 +13,7 @@ loop-u-init c =
     }
 
 pub loop-u-preserved : goal.loop-u-preserved
-loop-u-preserved c =
-    let settles = subst (Settles c.loop-u.node_labels c.settle_node-settled.new.node_labels) (sym c.settle_node-settled.ensures.first ∙ c.in-Some.ensures.at) c.settle_node-settled.ensures.settles in
-    record {
-      queue = c.settle_node-settled.ensures.queue;
-      searched = HasSearched-settles c.loop-u.invariant.searched c.settle_node-settled.ensures.search c.settle_node-settled.ensures.relaxed settles (omega (arith, ints, c.if-excess-u-lt0.false));
-    }
+loop-u-preserved c = record {
+  queue = c.settle_node.ensures.queue;
+  searched = HasSearched-settles c.loop-u.invariant.searched c.settle_node.ensures.search c.settle_node.ensures.relaxed c.settle_node.ensures.settles (omega (arith, ints, c.if-excess-u-lt0.false));
+}
