@@ -24,10 +24,6 @@ use crate::wanted::shift_potentials;
 use proposals::Wanted;
 use residual_graph::Graph;
 
-/// With no more nodes out of balance than these no proposal of a greatest flow is made: so few pushes are quicker than one
-/// look at all arcs.
-const FEW: usize = 32;
-
 /// Whether a proposal has an entry for each node, and there is room for what stood in the flow.
 fn fits(flow: &[i64], excess: &[i64], wanted: &Wanted, draft: &Draft) -> bool
     ensures room { IsTrue result → length flow.now ≤ length draft.now.journal.before.items }
@@ -169,12 +165,6 @@ pub fn adopt(
     }
 }
 
-/// Whether a proposal pays: for a flow of least cost where both excess and deficit are left, and for a greatest flow where
-/// many nodes are out of balance, since a search for one settles few nodes.
-fn pays(graph: &Graph, excess: &Excess) -> bool {
-    excess.are_more_than(FEW) || (graph.first_row() == 0 && excess.has_both())
-}
-
 /// Makes a proposal, takes it where it is certified, and pushes until no node in excess reaches a node in deficit; counts
 /// the pushes.
 fn push_proposed(
@@ -196,8 +186,8 @@ fn push_proposed(
     finish(graph, flow, excess, scratch)
 }
 
-/// Pushes flow until no node in excess reaches a node in deficit, and counts the pushes. The first time, and where the
-/// first pushes leave much to do, a proposal is made and tried.
+/// Pushes flow until no node in excess reaches a node in deficit, and counts the pushes. The first time, and where there
+/// are nodes of both kinds, a proposal is made and tried.
 pub fn push_all(
     graph: &Graph,
     flow: &mut Tracked<i64>,
@@ -210,7 +200,7 @@ pub fn push_all(
     ensures pushed { ArePushes graph.now.rows result flow.old.entries excess.old flow.new.entries excess.new }
     ensures parted { IsParted graph.now.rows flow.new.entries excess.new }
 {
-    if scratch.attempt.proposals.is_fresh() || pays(graph, excess) {
+    if scratch.attempt.proposals.is_fresh() || excess.has_both() {
         push_proposed(graph, flow, excess, scratch)
     } else {
         finish(graph, flow, excess, scratch)

@@ -50,8 +50,8 @@ impl Attempt {
         }
     }
 
-    /// Proposes where to lead a flow, its excess and potentials: the first time and for a greatest flow from afar, else near
-    /// the nodes out of balance.
+    /// Proposes where to lead a flow, its excess and potentials: the first time from afar, else near the nodes out of
+    /// balance.
     pub(crate) fn propose(
         &mut self,
         graph: &Graph,
@@ -70,14 +70,13 @@ impl Attempt {
         } else {
             Aim::LeastCost
         };
-        if self.proposals.is_fresh() || aim == Aim::GreatestFlow {
+        if self.proposals.is_fresh() {
             self.proposals
                 .propose(graph.rows(), flow, excess, potentials, aim);
         } else {
             self.proposals
                 .propose_near(graph.rows(), flow, excess, potentials);
         }
-        self.proposals
-            .write(graph.rows(), flow, aim, &mut self.wanted);
+        self.proposals.write(graph.rows(), flow, &mut self.wanted);
     }
 }

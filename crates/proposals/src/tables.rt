@@ -36,6 +36,8 @@ pub struct Proposals {
     noted: Noted,
     /// Of how many rows the proposal is, where it keeps step so.
     rows: Option<usize>,
+    /// The first arc in the proposal: from afar a greatest flow has no return arc.
+    first: usize,
     /// Nothing was proposed yet.
     fresh: bool,
 }
@@ -78,6 +80,7 @@ impl Proposals {
             between,
             noted,
             rows: None,
+            first: 0,
             fresh: true,
         })
     }
@@ -112,7 +115,12 @@ impl Proposals {
     {
         self.fresh = false;
         self.rows = None;
-        self.proposal.load(rows, flow, excess, potentials);
+        self.first = match aim {
+            Aim::LeastCost => 0,
+            Aim::GreatestFlow => 1,
+        };
+        self.proposal
+            .load(rows, flow, self.first, excess, potentials);
         match aim {
             Aim::LeastCost => solve(
                 &mut self.proposal,
@@ -126,8 +134,9 @@ impl Proposals {
         }
     }
 
-    /// Leads a flow on to one of least cost as `propose` does, where it is likely that few nodes are out of balance: by
-    /// searches from both sides, and where these take long by relaxation too.
+    /// Leads a flow on to one of least cost, where it is likely that few nodes are out of balance: by searches from both
+    /// sides, and where these take long by relaxation too. The return arc is an arc as others are, so that this is a
+    /// greatest flow.
     #[inline(never)] // a name of its own in the program: `bench/count` counts its calls
     pub fn propose_near(
         &mut self,
@@ -185,7 +194,8 @@ impl Proposals {
         {
             self.proposal.load_nodes(excess, potentials);
         } else {
-            self.proposal.load(rows, flow, excess, potentials);
+            self.first = 0;
+            self.proposal.load(rows, flow, 0, excess, potentials);
             self.between.load(&self.proposal);
             self.rows = Some(rows.len());
         }
@@ -198,11 +208,10 @@ impl Proposals {
     }
 
     /// Writes down where the proposal stands, less than all where there is no room for it.
-    pub fn write(&self, rows: &[ArcRow], flow: &[i64], aim: Aim, wanted: &mut Wanted) {
+    pub fn write(&self, rows: &[ArcRow], flow: &[i64], wanted: &mut Wanted) {
         wanted.changes.clear();
         let _potentials = wanted.take_potentials(&self.proposal);
-        let first = if aim == Aim::GreatestFlow { 1 } else { 0 };
-        if aim == Aim::GreatestFlow && !rows.is_empty() && !flow.is_empty() {
+        if self.first > 0 && !rows.is_empty() && !flow.is_empty() {
             let row = &rows[0];
             if let Some(rest) = self.proposal.rests().get(row.head as usize) {
                 let _back = wanted.lead_back(flow[0], *rest, (row.low, row.cap));
@@ -211,7 +220,7 @@ impl Proposals {
         let _whole = if self.rows == Some(rows.len()) {
             write_noted(wanted, &self.proposal, rows, flow, &self.noted)
         } else {
-            write_flow(wanted, &self.proposal, rows, flow, first)
+            write_flow(wanted, &self.proposal, rows, flow, self.first)
         };
     }
 }
@@ -250,7 +259,7 @@ fn write_noted(
     for k in noted.listed() {
         let k = *k as usize;
         if k < rows.len() && k < flow.len() {
-            wanted.list(k, flow[k], flow_of(proposal, k, &rows[k]))?;
+            wanted.list(k, flow[k], flow_of(proposal, k, &rows[k], flow[k]))?;
         }
     }
     Some(())
@@ -265,15 +274,15 @@ fn write_flow(
     first: usize,
 ) -> Option<()> {
     for k in first..rows.len().min(flow.len()) {
-        wanted.list(k, flow[k], flow_of(proposal, k, &rows[k]))?;
+        wanted.list(k, flow[k], flow_of(proposal, k, &rows[k], flow[k]))?;
     }
     Some(())
 }
 
-/// The flow that is wanted of an arc.
-fn flow_of(proposal: &Proposal, k: usize, row: &ArcRow) -> i64 {
+/// The flow that is wanted of an arc that has this flow.
+fn flow_of(proposal: &Proposal, k: usize, row: &ArcRow, flow: i64) -> i64 {
     if row.low <= row.cap {
-        proposal.wanted(k, row)
+        proposal.wanted(k, row, flow)
     } else {
         row.low
     }

@@ -1,5 +1,5 @@
 -- The ranges of numbers.
-use Rattle.std.specs.Prelude.{ℕ, ℤ, pos, neg_ℤ, ◌≤ℤ◌}
+use Rattle.std.specs.Prelude.{ℕ, ℤ, pos, neg_ℤ, ◌+ℤ◌, ◌≤ℤ◌}
 use Rattle.dimacs_text.specs.declared.problem.ArcRow.{ArcRow}
 
 -- a cost, either way
@@ -8,7 +8,7 @@ cost_limit = 1000000000000
 
 -- the rooms of an arc, both ways together
 abbrev pub room_limit : ℕ
-room_limit = 1000000000
+room_limit = 2000000000
 
 -- a potential, either way
 abbrev pub potential_limit : ℕ
@@ -29,4 +29,4 @@ pub record IsInLimits (row : ArcRow) (flow : ℤ) : Type 0 where
   pub low : pos 0 ≤ℤ row.low
   pub above : row.low ≤ℤ flow
   pub below : flow ≤ℤ row.cap
-  pub cap : row.cap ≤ℤ pos room_limit
+  pub cap : row.cap ≤ℤ (row.low +ℤ pos room_limit)

@@ -100,16 +100,33 @@ impl Link {
     }
 }
 
+/// An arc with no more room than the limits allow, of which this flow is one: where it has more, a part on either side of
+/// the flow.
+pub(crate) fn narrowed(row: &ArcRow, flow: i64) -> ArcRow
+    ensures tail { result.tail ≡ row.now.tail }
+    ensures head { result.head ≡ row.now.head }
+{
+    if row.cap <= ROOM_LIMIT {
+        return *row;
+    }
+    ArcRow {
+        low: row.low.max(flow.saturating_sub(ROOM_LIMIT / 2)),
+        cap: row.cap.min(flow.saturating_add(ROOM_LIMIT / 2)),
+        ..*row
+    }
+}
+
 /// Whether the numbers of an arc and its flow are within the limits.
 pub(crate) fn are_in_limits(row: &ArcRow, flow: i64) -> bool
     ensures { IsTrue result → IsInLimits row.now flow }
 {
-    row.cost >= -COST_LIMIT
-        && row.cost <= COST_LIMIT
-        && row.low >= 0
-        && row.low <= flow
-        && flow <= row.cap
-        && row.cap <= ROOM_LIMIT
+    if row.low < 0 || row.low > flow || flow > row.cap {
+        return false;
+    }
+    if row.cap - row.low > ROOM_LIMIT {
+        return false;
+    }
+    row.cost >= -COST_LIMIT && row.cost <= COST_LIMIT
 }
 
 /// A number as a side sees it: behind, excess is deficit and a potential counts the other way.

@@ -200,6 +200,38 @@ static OWN: [(&[u8], &[i64], Outcome); 5] = [
     ),
 ];
 
+/// The same, where the solver proposes twice: the second time near the nodes out of balance. Of a greatest flow more lies at
+/// the source than the arcs can carry, and the rest goes back over the return arc.
+static TWICE: [(&[u8], &[i64], Outcome); 3] = [
+    (
+        PAIRS,
+        &[0, 1, 1, -1, -1],
+        (Some(2), 0, &[0, 1, 1, 0], &[0; 5], Some(6)),
+    ),
+    (
+        GREATEST,
+        &[0, 7, 0, 0, -7],
+        (
+            Some(4),
+            0,
+            &[99_999_999_999_998, 3, 2, 1, 2, 3],
+            &[0; 5],
+            Some(5),
+        ),
+    ),
+    (
+        GREATEST,
+        &[0, 1_000_000_005, 0, 0, -1_000_000_005],
+        (
+            Some(4),
+            0,
+            &[99_999_000_000_000, 3, 2, 1, 2, 3],
+            &[0; 5],
+            Some(5),
+        ),
+    ),
+];
+
 /// An arc that is not there, and no potentials.
 static MISSING: Proposed = (&[(9, 9)], &[]);
 
@@ -421,6 +453,15 @@ fn own_proposals(rt: HostRuntime) -> Result<(), Fail> {
     for (text, balance, outcome) in &OWN {
         let step = (None, *outcome);
         expect_of(&rt, rt.alloc(), text, balance, &[step])?;
+    }
+    Ok(())
+}
+
+#[test]
+fn own_proposals_near_an_edit(rt: HostRuntime) -> Result<(), Fail> {
+    for (text, balance, outcome) in &TWICE {
+        let step = (None, *outcome);
+        expect_of(&rt, rt.alloc(), text, balance, &[step, step])?;
     }
     Ok(())
 }
