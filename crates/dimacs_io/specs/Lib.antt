@@ -1,3 +1,4 @@
+pub mod Buffered
 pub mod Device
 pub mod Line
 pub mod Testing

@@ -1,4 +1,5 @@
-//! One line, put together in place before it is written, so that it is handed over whole and takes no memory.
+//! One line, put together in place before it is written, so that it is handed over whole and can't fail for want of
+//! memory.
 ghost use Rattle.std.specs.Prelude.{◌≡◌, ◌+◌, ◌≤◌, [], ◌∷◌, ◌++◌, length};
 
 use itoa::{Buffer, Integer};

@@ -4,7 +4,10 @@ ghost use Rattle.std.specs.Option.{option_map};
 ghost use Rattle.dimacs_io.specs.Device.{CountsFailure, CountsFlush, EndsBy};
 ghost use Rattle.dimacs_io.specs.declared.device.LastCall.TheVariants as last;
 
+mod buffered;
+
 use crate::device::{Broken, LastCall, Sink, Source};
+pub use buffered::BufferedSink;
 use std::io;
 use std::io::{ErrorKind, Read, Write};
 
@@ -128,6 +131,21 @@ impl<W: Write> WriteSink<W> {
             last_call: LastCall::Flush,
         }
     }
+
+    /// Tells what a flush of the writer answered, and counts it.
+    fn told_of_flush(&mut self, answer: io::Result<()>) -> Result<(), Broken>
+        requires { self.old.failures < 2 ^ 64 - 1 }
+        ensures told { MatchResult answer (λ x. result ≡ Ok x) (λ _. IsErr result) }
+        ensures inner { self.new.inner ≡ self.old.inner }
+        ensures failed { CountsFailure result self.old.failures self.new.failures }
+        ensures flushed { CountsFlush result self.old.flushes self.new.flushes }
+        ensures last { EndsBy result last.Flush self.new.last_call }
+    {
+        let told = counted(&mut self.failures, answer);
+        count_flush(&mut self.flushes, &told);
+        self.last_call = last_of(&told, LastCall::Flush);
+        told
+    }
 }
 
 impl<W: Write> Sink for WriteSink<W> {
@@ -149,9 +167,7 @@ impl<W: Write> Sink for WriteSink<W> {
     }
 
     fn flush(&mut self) -> Result<(), Broken> {
-        let answer = counted(&mut self.failures, self.inner.flush());
-        count_flush(&mut self.flushes, &answer);
-        self.last_call = last_of(&answer, LastCall::Flush);
-        answer
+        let answer = self.inner.flush();
+        self.told_of_flush(answer)
     }
 }

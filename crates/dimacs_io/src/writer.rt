@@ -1,5 +1,5 @@
 //! Writers of one line each: the lines of a solution in the DIMACS formats for network flows, and the refusal line of a
-//! session. Each is written whole or given up at the first failed call, and none takes memory.
+//! session. Each is written whole or given up at the first failed call, and none can fail for want of memory.
 ghost use Rattle.std.specs.Prelude.{◌≡◌, ◌-◌, ◌^◌, ◌<◌};
 ghost use Rattle.dimacs_io.specs.Device.{CountsFailure, FailsLast, WritesUpTo};
 ghost use Rattle.dimacs_io.specs.Line.{value_line, flow_line, potential_line, shortage_line, cut_line, refusal_line};

@@ -1,11 +1,15 @@
 -- What a task does to the devices that it is performed on.
-use Rattle.std.specs.Prelude.{ℕ, List, Option, None, Some}
+use Rattle.std.specs.Prelude.{◌≡◌, ◌⊎◌, ◌≢◌, ℕ, List, Option, None, Some}
 use Rattle.std.specs.Borrow.{Bor}
 use Rattle.dimacs_io.specs.Device.{RisesBy}
 use Rattle.checker.specs.Check.{CheckOnDevices, answer_failures, flushes_by}
 use Rattle.checker.specs.declared.end.End.{End}
+use Rattle.checker.specs.declared.end.End.TheVariants.{Memory, ReadFailed}
+use Rattle.checker.specs.declared.end.Text.TheVariants as the
+use Rattle.clap.specs.Words.{Row, Text}
 use Rattle.engines.specs.Session.{FlushesOnDevices, SessionOnDevices, command_failures}
 use Rattle.engines.specs.Solve.{SolveOnDevices}
+use Rattle.mcf.specs.Tasks.{Names}
 use Rattle.mcf.specs.declared.command_line.Task.{Task}
 use Rattle.mcf.specs.declared.command_line.Task.TheVariants.{Solve, Session, Check}
 
@@ -48,3 +52,33 @@ abbrev pub answer_file : Task → Option (Bor (List ℕ))
 answer_file (Solve proof file) = None
 answer_file (Session file extra) = None
 answer_file (Check file other) = Some other
+
+-- the bytes of the problem: of the file that the task names, and else of the standard input
+abbrev pub problem_of : (List ℕ → Option (List ℕ)) → Option (List ℕ) → Task → Option (List ℕ)
+problem_of file typed (Solve proof None) = typed
+problem_of file typed (Solve proof (Some path)) = file path.now
+problem_of file typed (Session path extra) = file path.now
+problem_of file typed (Check path other) = file path.now
+
+-- the bytes of the answer: of the file that the task names
+abbrev pub answer_of : (List ℕ → Option (List ℕ)) → Task → Option (List ℕ)
+answer_of file (Check path other) = file other.now
+answer_of file _ = None
+
+-- a file of the task was not opened: no text was read, and nothing is written
+pub record IsNotOpened (task : Task) (end : End) (before after : Option (List ℕ)) : Type 0 where
+  pub ends : (end ≡ Memory) ⊎ ((end ≡ ReadFailed the.Problem) × (problem_file task ≢ None))
+      ⊎ ((end ≡ ReadFailed the.Answer) × (answer_file task ≢ None))
+  pub kept : after ≡ before
+
+-- the engine of the task runs on so many bytes of the texts that the task names, or one of these was not opened
+abbrev pub PerformsOnTexts : (List ℕ → Option (List ℕ)) → Option (List ℕ) → Task → End → Option (List ℕ) → Option (List ℕ) → Type 0
+PerformsOnTexts file typed task end before after = IsNotOpened task end before after
+    ⊎ ((problem answer commands : ℕ) × Performs task end
+    (record { known = problem_of file typed task; count = problem })
+    (record { known = answer_of file task; count = answer })
+    (record { known = typed; count = commands }) before after)
+
+-- the name and the matches of a command say a task, which is performed on the texts that it names
+abbrev pub PerformsNamed : (List ℕ → Option (List ℕ)) → Option (List ℕ) → Option (Text × List Row) → End → Option (List ℕ) → Option (List ℕ) → Type 0
+PerformsNamed file typed used end before after = (task : Task) × Names used task × PerformsOnTexts file typed task end before after

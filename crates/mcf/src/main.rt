@@ -1,10 +1,8 @@
 //! The program `mcf`: solves flow problems in the DIMACS formats, runs sessions of edits on them, and checks answers.
 #![tactic(auto)]
 
-ghost use Rattle.std.specs.Prelude.{◌≡◌, ◌<◌, ◌+◌, ◌-◌, ◌^◌, ◌⊎◌, ◌<ℤ◌, IfOk, IsTrue, pos};
+ghost use Rattle.std.specs.Prelude.{◌≡◌, ◌<ℤ◌, IfOk, IsTrue, None, pos};
 ghost use Rattle.std.specs.Fd.{file_raw_fd};
-ghost use Rattle.checker.specs.Check.{last_by, write_failures};
-ghost use Rattle.checker.specs.declared.end.End.TheVariants as end;
 ghost use Rattle.checker.specs.End.{status_of};
 
 mod command_line;
@@ -12,19 +10,21 @@ mod commands;
 mod help;
 mod parse;
 mod performing;
+mod texts;
 
 pub use checker::{End, Text, check};
 use clap::error::ErrorKind;
 pub use command_line::{Task, Usage};
-use dimacs_io::{ReadSource, Sink, WriteSink};
+use dimacs_io::{BufferedSink, ReadSource, WriteSink};
 pub use engines::{run_session, solve};
 pub use parse::task;
-pub use performing::perform_on;
+pub use performing::{perform, perform_on, perform_on_texts};
 use std::fs::File;
-use std::io::BufWriter;
+use std::io::Stdin;
 use std::os::fd::AsRawFd;
 use std::process::ExitCode;
 use std::{env, io};
+pub use texts::Texts;
 
 /// The exit status of a command line that names no task.
 const USAGE_STATUS: u8 = 2;
@@ -41,8 +41,14 @@ fn run(rt: &HostRuntime) -> u8 {
         Ok(words) => words,
         Err(error) => return refuse_words(rt, &error),
     };
-    match task(rt.alloc(), words.as_slice()) {
-        Ok(task) => tell(rt, perform(rt, task)),
+    let Ok(mut out) = BufferedSink::new(rt.alloc(), rt.stdout()) else {
+        return tell(rt, End::Memory);
+    };
+    let performed = perform(rt.alloc(), &System { rt }, words.as_slice(), &mut out);
+    // Each task passes on what it wrote. What waits still was refused by the device: it is not tried again.
+    let _refused = out.close();
+    match performed {
+        Ok(end) => tell(rt, end),
         Err(usage) => tell_usage(rt, &usage),
     }
 }
@@ -55,44 +61,28 @@ fn words(rt: &HostRuntime) -> io::Result<Vec<String>> {
     Ok(words)
 }
 
-/// Performs a task, with the standard output behind a buffer.
-fn perform(rt: &HostRuntime, task: Task<'_>) -> End {
-    let mut buffer = match BufWriter::new(rt.alloc(), rt.stdout()) {
-        Ok(buffer) => buffer,
-        Err(_) => return End::Memory,
-    };
-    let mut out = WriteSink::new(&mut buffer);
-    let end = perform_in_files(rt, task, &mut out);
-    // Each task passes on what it wrote. What is there still was refused by the device: it is not tried again.
-    let _refused = buffer.into_parts();
-    end
+/// The files of the system, and the standard input, of which std tells no bytes.
+#[derive(Clone, Copy)]
+struct System<'a> {
+    rt: &'a HostRuntime,
 }
 
-/// Opens the files of a task, all before one is read, and performs it on them. The problem is on the standard input where
-/// the task names no file of it, and the commands are there always.
-fn perform_in_files<O: Sink>(rt: &HostRuntime, task: Task<'_>, out: &mut O) -> End
-    requires { O.failures out.old < 2 ^ 64 - 1 }
-    ensures out_failed { O.failures out.new ≡ O.failures out.old + write_failures result }
-    ensures out_last { O.last_call out.new ≡ last_by result (O.last_call out.old) }
-{
-    let mut input = ReadSource::new(rt.stdin());
-    let mut none = ReadSource::new(rt.stdin());
-    let Some(path) = task.problem() else {
-        let mut problem = ReadSource::new(rt.stdin());
-        return perform_on(rt.alloc(), task, &mut problem, &mut none, &mut input, out);
-    };
-    let mut problem = match open(rt, path) {
-        Ok(file) => ReadSource::new(file),
-        Err(error) => return not_opened(&error, Text::Problem),
-    };
-    let Some(path) = task.answer() else {
-        return perform_on(rt.alloc(), task, &mut problem, &mut none, &mut input, out);
-    };
-    let mut answer = match open(rt, path) {
-        Ok(file) => ReadSource::new(file),
-        Err(error) => return not_opened(&error, Text::Answer),
-    };
-    perform_on(rt.alloc(), task, &mut problem, &mut answer, &mut input, out)
+impl Texts for System<'_> {
+    type File = ReadSource<File>;
+
+    type Input = ReadSource<Stdin>;
+
+    ghost file = { λ _ _. None };
+
+    ghost typed = { λ _. None };
+
+    fn open(&self, path: &str) -> io::Result<ReadSource<File>> {
+        Ok(ReadSource::new(open(self.rt, path)?))
+    }
+
+    fn input(&self) -> ReadSource<Stdin> {
+        ReadSource::new(self.rt.stdin())
+    }
 }
 
 /// Opens a file for reading, at a descriptor above those of the standard streams.
@@ -119,16 +109,6 @@ fn is_apart(file: &File) -> bool
     ensures { IsTrue result → pos 2 <ℤ file_raw_fd file.now }
 {
     file.as_raw_fd() > STANDARD_ERROR
-}
-
-/// A file that is not opened is told as a failed read of it.
-fn not_opened(error: &io::Error, text: Text) -> End
-    ensures { (result ≡ end.Memory) ⊎ (result ≡ end.ReadFailed text) }
-{
-    match error.kind() {
-        io::ErrorKind::OutOfMemory => End::Memory,
-        _ => End::ReadFailed(text),
-    }
 }
 
 /// Tells on the standard error how the run ended, and answers its status, whether or not the line was written.
