@@ -97,8 +97,8 @@ impl Proposals {
         self.fresh
     }
 
-    /// Leads a flow, what it leaves at each node and potentials on towards the aim. It takes no memory: an arc for which
-    /// there is no room is left out.
+    /// Leads a flow, what it leaves at each node and potentials on towards the aim. It can't fail for want of memory: an arc
+    /// for which there is no room is left out.
     #[inline(never)] // a name of its own in the program: `bench/count` counts its calls
     pub fn propose(
         &mut self,
