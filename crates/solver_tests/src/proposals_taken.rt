@@ -146,10 +146,7 @@ static PROPOSALS: [(Proposed, Outcome); 19] = [
         (Some(0), 1, &[0, 0, 2, 0, 0], &[0; 5], Some(4)),
     ),
     // Too short.
-    (
-        (&[], &[]),
-        (None, 1, &[0, 0, 2, 0, 0], &[0; 5], Some(4)),
-    ),
+    ((&[], &[]), (None, 1, &[0, 0, 2, 0, 0], &[0; 5], Some(4))),
 ];
 
 /// What is proposed where something stays: a problem, its excesses, and what comes of it.
