@@ -1,13 +1,12 @@
 -- A flow that is changed arc by arc, with the excess at the ends of each arc.
-use Rattle.std.proofs.Common.{◌≡◌, ℕ, ◌+◌, ◌<◌, ℤ, pos, neg_ℤ, ◌-ℤ◌, ◌+ℤ◌, ◌≤ℤ◌, List, Bool, true, false, length, refl, sym, ap, subst, ◌∙◌, inl, inr, arith, cond, eqb}
-use Rattle.std.specs.Prelude.{◌<ℤ◌, slice_set}
+use Rattle.std.proofs.Common.{◌≡◌, ℕ, ◌<◌, ℤ, pos, neg_ℤ, ◌-ℤ◌, ◌+ℤ◌, List, Bool, true, false, length, refl, sym, subst, ◌∙◌, inl, inr, arith, cond, eqb}
+use Rattle.std.specs.Prelude.{slice_set}
 use Rattle.std.proofs.lemmas.Int.{ints}
 use Rattle.std.proofs.lemmas.Bool.{cases_eq}
 use Rattle.std.proofs.lemmas.List.{get_or-set_same, get_or-set_other, length-set}
 use Rattle.dimacs_text.specs.declared.problem.ArcRow.{ArcRow}
-use Rattle.network.specs.Flow.{net}
 use Rattle.residual_graph.specs.Residual.{number_at, row_at}
-use Rattle.augmentation.specs.Changes.{AreNearer, IsExcessAfter, IsNearer, Rises}
+use Rattle.augmentation.specs.Changes.{AreNearer, IsExcessAfter, Rises}
 use Rattle.augmentation.specs.Cut.{in_set}
 use Rattle.augmentation.specs.Exchange.{RisesBetween}
 use Rattle.augmentation.specs.Journal.{IsSince}

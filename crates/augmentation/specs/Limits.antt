@@ -16,7 +16,3 @@ excess_limit = 301000000000000
 -- the sum of all excesses
 abbrev pub left_limit : ℕ
 left_limit = 15050301000000000000
-
--- what may lie in excess, either way, at the node where a walk began, once all is pushed that is wanted along an arc
-abbrev pub walk_limit : ℕ
-walk_limit = 500000000000000

@@ -1,5 +1,5 @@
 -- The tables that searches write in.
-use Rattle.std.specs.Prelude.{◌≡◌, ℕ, length}
+use Rattle.std.specs.Prelude.{◌≡◌, length}
 use Rattle.augmentation.specs.declared.scratch.Scratch.TheInside.{Inside}
 use Rattle.augmentation.specs.Attempt.{IsAttemptFor}
 use Rattle.shortest_paths.specs.Labels.{IsLabelsFor}

@@ -11,13 +11,6 @@ use crate::tracked::Tracked;
 use residual_graph::{Graph, Way};
 use shortest_paths::NodeLabel;
 
-/// A path from `root`, a node in excess, to `target`, one in deficit.
-#[derive(Clone, Copy)]
-pub struct FoundPath {
-    pub root: usize,
-    pub target: usize,
-}
-
 /// Where the path to a node begins, and how much fits along it, at most `limit`.
 fn bottleneck(
     graph: &Graph,
@@ -110,7 +103,7 @@ fn shift(
 }
 
 /// Moves `amount` from the excess of `source` to the deficit of `target`.
-pub fn transfer(excess: &mut [i64], source: usize, target: usize, amount: i64)
+fn transfer(excess: &mut [i64], source: usize, target: usize, amount: i64)
     requires source_in { source < length excess.old }
     requires target_in { target < length excess.old }
     requires small { AreSmall excess.old }

@@ -1,10 +1,8 @@
 use Rattle.std.proofs.Common.{◌∙◌, ℤ, List, ap, arith, length, refl, subst, sym, take}
-use Rattle.std.specs.Vec.{with_items}
 use Rattle.std.proofs.lemmas.List.{with_items_is}
 use Rattle.augmentation.specs.Journal.{IsSince}
 use Rattle.augmentation.specs.ScratchView.{ScratchView}
 use Rattle.augmentation.specs.Touched.{AreNoted}
-use Rattle.augmentation.specs.Tracked.{IsTracked, TrackedView}
 use Rattle.augmentation.proofs.JournalLemmas.{since_noted}
 use Rattle.augmentation.proofs.TrackedLemmas.{IsTracked-noted}
 use Rattle.augmentation.proofs.adoption.adopt.Goals as goal

@@ -1,4 +1,4 @@
-use Rattle.std.proofs.Common.{◌∙◌, arith, refl, subst, sym}
+use Rattle.std.proofs.Common.{◌∙◌, refl}
 use Rattle.augmentation.proofs.ExchangeLemmas.{after-more, after-same}
 use Rattle.augmentation.proofs.exchange.change_arcs.Goals as goal
 

@@ -1,9 +1,8 @@
-use Rattle.std.proofs.Common.{◌≡◌, ◌∙◌, ◌+◌, ℕ, ℤ, List, ap, arith, length, refl, subst, sym}
+use Rattle.std.proofs.Common.{◌≡◌, ◌∙◌, ◌+◌, ℕ, ℤ, List, ap, length, refl, subst, sym}
 use Rattle.std.proofs.lemmas.List.{with_items_is}
 use Rattle.residual_graph.specs.Residual.{IsPseudoflow}
 use Rattle.augmentation.specs.Changes.{AreNearer, IsExcessAfter}
 use Rattle.augmentation.specs.Exchange.{IsExchange}
-use Rattle.augmentation.specs.Journal.{IsSince}
 use Rattle.augmentation.specs.Push.{left}
 use Rattle.augmentation.proofs.exchange.exchange.Goals as goal
 

@@ -1,4 +1,4 @@
-use Rattle.std.proofs.Common.{◌≡◌, ◌+◌, ◌∙◌, ℕ, ℤ, arith, inl, inr, pos, rules, subst, sym, take, w64, to_z, of_z, SFits}
+use Rattle.std.proofs.Common.{◌≡◌, ◌+◌, ℕ, arith, inl, inr, pos, rules, subst, sym, take, w64, SFits}
 use Rattle.std.proofs.lemmas.Bool.{cases_eq}
 use Rattle.std.proofs.lemmas.Int.{to_z-of_z}
 use Rattle.std.proofs.lemmas.List.Sums.{sum_by_more}
