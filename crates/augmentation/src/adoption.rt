@@ -186,8 +186,8 @@ fn push_proposed(
     finish(graph, flow, excess, scratch)
 }
 
-/// Pushes flow until no node in excess reaches a node in deficit, and counts the pushes. The first time, and where there
-/// are nodes of both kinds, a proposal is made and tried.
+/// Pushes flow until no node in excess reaches a node in deficit, and counts the pushes. The first time, and where
+/// there are nodes of both kinds, a proposal is made and tried.
 pub fn push_all(
     graph: &Graph,
     flow: &mut Tracked<i64>,

@@ -134,9 +134,9 @@ impl Proposals {
         }
     }
 
-    /// Leads a flow on to one of least cost, where it is likely that few nodes are out of balance: by searches from both
-    /// sides, and where these take long by relaxation too. The return arc is an arc as others are, so that this is a
-    /// greatest flow.
+    /// Leads a flow on to one of least cost, where it is likely that few nodes are out of balance: by searches from
+    /// both sides, and where these take long by relaxation too. The return arc is an arc as others are, so that a
+    /// greatest flow is one of least cost.
     #[inline(never)] // a name of its own in the program: `bench/count` counts its calls
     pub fn propose_near(
         &mut self,

@@ -100,8 +100,8 @@ impl Link {
     }
 }
 
-/// An arc with no more room than the limits allow, of which this flow is one: where it has more, a part on either side of
-/// the flow.
+/// An arc with no more room than the limits allow, of which this flow is one: where it has more, a part on either side
+/// of the flow.
 pub(crate) fn narrowed(row: &ArcRow, flow: i64) -> ArcRow
     ensures tail { result.tail ≡ row.now.tail }
     ensures head { result.head ≡ row.now.head }

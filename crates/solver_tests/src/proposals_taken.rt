@@ -197,8 +197,8 @@ static OWN: [(&[u8], &[i64], Outcome); 5] = [
     ),
 ];
 
-/// The same, where the solver proposes twice: the second time near the nodes out of balance. Of a greatest flow more lies at
-/// the source than the arcs can carry, and the rest goes back over the return arc.
+/// The same, where the solver proposes twice: the second time near the nodes out of balance. Of a greatest flow more
+/// lies at the source than the arcs can carry, and the rest goes back over the return arc.
 static TWICE: [(&[u8], &[i64], Outcome); 3] = [
     (
         PAIRS,
