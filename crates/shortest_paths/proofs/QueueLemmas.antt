@@ -21,7 +21,7 @@ use Rattle.shortest_paths.specs.declared.node_label.NodeLabel.{NodeLabel}
 use Rattle.shortest_paths.specs.declared.heap_entry.HeapEntry.{HeapEntry}
 use Rattle.shortest_paths.specs.declared.node_label.State.TheVariants.{Open, Settled}
 use Rattle.shortest_paths.specs.Search.{IsReached, state_at, distance_at, node_label_at, Takes, IsLeastOpen, settled_node_label, settled_in}
-use Rattle.shortest_paths.specs.Queue.{AreApart, HoldsOpen, IsCurrent, IsEntered, IsEntry, IsLive, IsPassedDistance, IsQueueFor, IsQueueOf, entry_now, entry_of, nearness}
+use Rattle.shortest_paths.specs.Queue.{AreApart, HoldsOpen, IsCurrent, IsEntered, IsEntry, IsLive, IsPassedDistance, IsQueueOf, entry_now, entry_of, nearness}
 use Rattle.shortest_paths.proofs.SearchLemmas.{IsPut, IsPut-set, takes_lower, in_range, open_is_reached, settled_is_reached}
 
 -- ---- what is in a list
@@ -92,16 +92,12 @@ no_further x xs greatest e at =
 
 -- ---- the heap that is made anew
 
--- node v is entered: it is open
-live_now : (s : List NodeLabel) (v : ℕ) (e : Entry) → state_at s v ≡ Open → entry_now s v ≡ e → IsLive s e
-live_now s v e o is = subst (IsLive s) is (record { is_open = o; is_now = refl })
-
 pub holds_one_more : (s : List NodeLabel) (v : ℕ) (old heap : List Entry) → HoldsOpen s v old → state_at s v ≡ Open → IsPermutation (entry_now s v ∷ old) heap → HoldsOpen s (v + 1) heap
 holds_one_more s v old heap holds o pushed = record {
   all = by_node (λ w. w < v + 1 → state_at s w ≡ Open → Contains heap (entry_now s w)) v (λ lt o_v. pushed_in (entry_now s v) old heap pushed)
       (λ w ne lt o_w. stays_in (entry_now s v) old heap pushed (entry_now s w) (holds.all w (omega (arith, lt, ne)) o_w));
   live = λ e at. (elim (pushed_or_old (entry_now s v) old heap pushed e at) [
-    | inl is ↦ live_now s v e o is
+    | inl is ↦ subst (IsLive s) is (record { is_open = o; is_now = refl })
     | inr was ↦ holds.live e was
   ]);
 }
@@ -124,7 +120,7 @@ entered_one s v old heap o pushed = record {
   entered = pushed_in (entry_now s v) old heap pushed;
   kept = λ w o_w at. stays_in (entry_now s v) old heap pushed (entry_now s w) at;
   from = λ e at. (elim (pushed_or_old (entry_now s v) old heap pushed e at) [
-    | inl is ↦ inr (live_now s v e o is)
+    | inl is ↦ inr (subst (IsLive s) is (record { is_open = o; is_now = refl }))
     | inr was ↦ inl was
   ]);
 }
@@ -185,9 +181,6 @@ module _ (s : List NodeLabel) (u : ℕ) (least : IsLeastOpen s (length s) u) whe
   passed_settled : (distance : ℤ) → distance ≡ distance_at s u → IsPassedDistance (settled_in s u) distance
   passed_settled distance same bound low within = omega (arith, ints, within u now_settled, distance_kept u, same)
 
-  sized_settled : {q : Queue} → length s ≤ heap_capacity q.heap → IsQueueFor (length (settled_in s u)) q
-  sized_settled room = record { room = omega (arith, room, put_settled.same_length) }
-
   -- it was the first of the current nodes
   pub current_settled : (q : Queue) (current : VecDeque ℕ Global) → IsQueueOf s q → q.current.items ≡ u ∷ current.items → IsQueueOf (settled_in s u) (record q { current = current })
   current_settled q current queue is =
@@ -195,7 +188,7 @@ module _ (s : List NodeLabel) (u : ℕ) (least : IsLeastOpen s (length s) u) whe
       let waited : (w : ℕ) → Contains current.items w → Contains (u ∷ current.items) w = later u current.items in
       let other : (w : ℕ) → Contains current.items w → w ≡ u → ⊥ = λ w at same. known.apart.0 (subst (Contains current.items) same at) in
       record {
-        sized = sized_settled queue.sized.room;
+        sized = record { room = omega (arith, queue.sized.room, put_settled.same_length) };
         current = record {
           all_open = λ w at. state_kept w (other w at) ∙ known.all_open w (waited w at);
           all_present = λ w at. distance_kept w ∙ known.all_present w (waited w at);
@@ -273,7 +266,7 @@ module _ (s : List NodeLabel) (q : Queue) (queue : IsQueueOf s q) (empty : q.cur
 
       pub popped_settled : IsQueueOf (settled_in s u) (record q { heap = heap; present = x.0.distance })
       popped_settled = record {
-        sized = sized_settled s u heap_first (omega (arith, queue.sized.room, popped.room));
+        sized = record { room = omega (arith, queue.sized.room, popped.room, (put_settled s u heap_first).same_length) };
         current = rw empty (record { all_open = λ v at. absurd (omega (arith, at.1)); all_present = λ v at. absurd (omega (arith, at.1)); apart = tt });
         ordered = popped.ordered;
         entries = λ e at.

@@ -123,6 +123,7 @@ fn join(current: &mut VecDeque<u32>, v: usize)
 
 /// Enters an open node in the heap. Where the heap is full, it is made anew of the open nodes alone.
 fn enter(heap: &mut BinaryHeap<Reverse<HeapEntry>>, node_labels: &[NodeLabel], v: usize)
+    requires v_in { v < length node_labels.now }
     requires is_open { state_at node_labels.now v ≡ Open }
     requires few { length node_labels.now ≤ entry_limit }
     requires room { length node_labels.now ≤ heap_capacity heap.old }
