@@ -15,9 +15,9 @@ use std::alloc::{AllocError, Global};
 use std::cmp::Reverse;
 use std::collections::{BinaryHeap, VecDeque};
 
-/// The current nodes, which are open nodes at the present distance, that of the node settled last, first in and first out;
-/// and behind them a heap. Where the path to a node gets better, the node is put in again, and its old entry in the heap
-/// stays: the entry of a node that is settled by then is passed over.
+/// The current nodes, which are open nodes at the present distance, that of the node settled last, first in and first
+/// out; and behind them a heap. Where the path to a node gets better, the node is put in again, and its old entry in the
+/// heap stays: the entry of a node that is settled by then is passed over.
 #[derive(Drop)]
 pub struct Queue {
     /// The current nodes.
@@ -69,7 +69,7 @@ impl Queue {
         }
     }
 
-    /// Whether a node that gets this distance joins the current nodes: the distance is the present one, and there is room.
+    /// Whether a node that gets this distance joins the current nodes: it is the present one, and there is room.
     fn joins_current(&self, distance: i64) -> bool
         ensures { IsTrue result ↔ ((distance ≡ self.now.present) × (deque_len self.now.current < deque_capacity self.now.current)) }
     {
