@@ -20,8 +20,8 @@ use Rattle.shortest_paths.specs.declared.queue.Queue.{Queue}
 use Rattle.shortest_paths.specs.declared.node_label.NodeLabel.{NodeLabel}
 use Rattle.shortest_paths.specs.declared.heap_entry.HeapEntry.{HeapEntry}
 use Rattle.shortest_paths.specs.declared.node_label.State.TheVariants.{Open, Settled}
-use Rattle.shortest_paths.specs.Search.{IsReached, state_at, distance_at, node_label_at, Takes, IsLeastOpen, NoneOpen, settled_node_label, settled_in}
-use Rattle.shortest_paths.specs.Queue.{AreApart, HoldsOpen, IsCurrent, IsEntered, IsEntry, IsLive, IsPassedDistance, IsQueueFor, IsQueueOf, entry_now, entry_of, nearness}
+use Rattle.shortest_paths.specs.Search.{IsReached, state_at, distance_at, node_label_at, Takes, IsLeastOpen, settled_node_label, settled_in}
+use Rattle.shortest_paths.specs.Queue.{AreApart, HoldsOpen, IsCurrent, IsEntered, IsEntry, IsLive, IsPassedDistance, IsQueueOf, entry_now, entry_of, nearness}
 use Rattle.shortest_paths.proofs.SearchLemmas.{IsPut, IsPut-set, takes_lower, in_range, open_is_reached, settled_is_reached}
 
 -- ---- what is in a list
@@ -40,6 +40,12 @@ module _ {X : Type 0} where
   later : (x : X) (xs : List X) (e : X) → Contains xs e → Contains (x ∷ xs) e
   later x xs e at = (suc at.0, omega (arith, at.1), at.2)
 
+by_push : (P : ℕ → Type 0) (vs : List ℕ) (v : ℕ) → ((w : ℕ) → Contains vs w → P w) → P v → (w : ℕ) → Contains (vs ++ v ∷ []) w → P w
+by_push P vs v before new w at = elim (Contains-push_cases vs v w at) [
+  | inl was ↦ before w was
+  | inr same ↦ subst P same new
+]
+
 apart_push : (vs : List ℕ) (v : ℕ) → AreApart vs → (Contains vs v → ⊥) → AreApart (vs ++ v ∷ [])
 apart_push [] v apart new = (λ at. omega (arith, at.1), tt)
 apart_push (w ∷ vs) v apart new = (
@@ -49,6 +55,13 @@ apart_push (w ∷ vs) v apart new = (
   ]),
   apart_push vs v apart.1 (λ at. new (later w vs v at)),
 )
+
+-- what holds of one node and of the others holds of all
+by_node : (P : ℕ → Type 0) (v : ℕ) → P v → ((w : ℕ) → w ≢ v → P w) → (w : ℕ) → P w
+by_node P v here other w = elim (cases_eq w v) [
+  | inl same ↦ subst P (sym same) here
+  | inr ne ↦ other w ne
+]
 
 -- ---- the entries of the heap
 
@@ -79,18 +92,12 @@ no_further x xs greatest e at =
 
 -- ---- the heap that is made anew
 
--- node v is entered: it is open
-live_now : (s : List NodeLabel) (v : ℕ) (e : Entry) → state_at s v ≡ Open → entry_now s v ≡ e → IsLive s e
-live_now s v e o is = subst (IsLive s) is (record { is_open = o; is_now = refl })
-
 pub holds_one_more : (s : List NodeLabel) (v : ℕ) (old heap : List Entry) → HoldsOpen s v old → state_at s v ≡ Open → IsPermutation (entry_now s v ∷ old) heap → HoldsOpen s (v + 1) heap
 holds_one_more s v old heap holds o pushed = record {
-  all = λ w lt o_w. (elim (cases_eq w v) [
-    | inl same ↦ subst (λ (n : ℕ). Contains heap (entry_now s n)) (sym same) (pushed_in (entry_now s v) old heap pushed)
-    | inr ne ↦ stays_in (entry_now s v) old heap pushed (entry_now s w) (holds.all w (omega (arith, lt, ne)) o_w)
-  ]);
+  all = by_node (λ w. w < v + 1 → state_at s w ≡ Open → Contains heap (entry_now s w)) v (λ lt o_v. pushed_in (entry_now s v) old heap pushed)
+      (λ w ne lt o_w. stays_in (entry_now s v) old heap pushed (entry_now s w) (holds.all w (omega (arith, lt, ne)) o_w));
   live = λ e at. (elim (pushed_or_old (entry_now s v) old heap pushed e at) [
-    | inl is ↦ live_now s v e o is
+    | inl is ↦ subst (IsLive s) is (record { is_open = o; is_now = refl })
     | inr was ↦ holds.live e was
   ]);
 }
@@ -113,7 +120,7 @@ entered_one s v old heap o pushed = record {
   entered = pushed_in (entry_now s v) old heap pushed;
   kept = λ w o_w at. stays_in (entry_now s v) old heap pushed (entry_now s w) at;
   from = λ e at. (elim (pushed_or_old (entry_now s v) old heap pushed e at) [
-    | inl is ↦ inr (live_now s v e o is)
+    | inl is ↦ inr (subst (IsLive s) is (record { is_open = o; is_now = refl }))
     | inr was ↦ inl was
   ]);
 }
@@ -141,12 +148,6 @@ module _ (s : List NodeLabel) (u : ℕ) (least : IsLeastOpen s (length s) u) whe
   put_settled : IsPut s (settled_in s u) u (settled_node_label (node_label_at s u))
   put_settled = IsPut-set s u (settled_node_label (node_label_at s u)) least.below
 
-  of_node : (P : ℕ → Type 0) → P u → ((w : ℕ) → (w ≡ u → ⊥) → P w) → (w : ℕ) → P w
-  of_node P here other w = elim (cases_eq w u) [
-    | inl same ↦ subst P (sym same) here
-    | inr ne ↦ other w ne
-  ]
-
   now_settled : state_at (settled_in s u) u ≡ Settled
   now_settled = ap (λ (r : NodeLabel). r.state) put_settled.here
 
@@ -154,13 +155,13 @@ module _ (s : List NodeLabel) (u : ℕ) (least : IsLeastOpen s (length s) u) whe
   state_kept w ne = ap (λ (r : NodeLabel). r.state) (put_settled.elsewhere w ne)
 
   entry_kept : (w : ℕ) → entry_now (settled_in s u) w ≡ entry_now s w
-  entry_kept = of_node (λ w. entry_now (settled_in s u) w ≡ entry_now s w) (ap (λ (r : NodeLabel). record { 0 = entry_of u r }) put_settled.here) (λ w ne. ap (λ (r : NodeLabel). record { 0 = entry_of w r }) (put_settled.elsewhere w ne))
+  entry_kept = by_node (λ w. entry_now (settled_in s u) w ≡ entry_now s w) u (ap (λ (r : NodeLabel). record { 0 = entry_of u r }) put_settled.here) (λ w ne. ap (λ (r : NodeLabel). record { 0 = entry_of w r }) (put_settled.elsewhere w ne))
 
   distance_kept : (w : ℕ) → distance_at (settled_in s u) w ≡ distance_at s w
   distance_kept w = ap (λ (e : Entry). e.0.distance) (entry_kept w)
 
   reached_kept : (w : ℕ) → IsReached s w → IsReached (settled_in s u) w
-  reached_kept = of_node (λ w. IsReached s w → IsReached (settled_in s u) w) (λ was. settled_is_reached (settled_in s u) u now_settled) (λ w ne was m. was (sym (state_kept w ne) ∙ m))
+  reached_kept = by_node (λ w. IsReached s w → IsReached (settled_in s u) w) u (λ was. settled_is_reached (settled_in s u) u now_settled) (λ w ne was m. was (sym (state_kept w ne) ∙ m))
 
   entry_of_settled : (distance : ℤ) (e : Entry) → IsEntry s distance e → IsEntry (settled_in s u) distance e
   entry_of_settled distance e known = record {
@@ -180,9 +181,6 @@ module _ (s : List NodeLabel) (u : ℕ) (least : IsLeastOpen s (length s) u) whe
   passed_settled : (distance : ℤ) → distance ≡ distance_at s u → IsPassedDistance (settled_in s u) distance
   passed_settled distance same bound low within = omega (arith, ints, within u now_settled, distance_kept u, same)
 
-  sized_settled : {q : Queue} → length s ≤ heap_capacity q.heap → IsQueueFor (length (settled_in s u)) q
-  sized_settled room = record { room = omega (arith, room, put_settled.same_length) }
-
   -- it was the first of the current nodes
   pub current_settled : (q : Queue) (current : VecDeque ℕ Global) → IsQueueOf s q → q.current.items ≡ u ∷ current.items → IsQueueOf (settled_in s u) (record q { current = current })
   current_settled q current queue is =
@@ -190,7 +188,7 @@ module _ (s : List NodeLabel) (u : ℕ) (least : IsLeastOpen s (length s) u) whe
       let waited : (w : ℕ) → Contains current.items w → Contains (u ∷ current.items) w = later u current.items in
       let other : (w : ℕ) → Contains current.items w → w ≡ u → ⊥ = λ w at same. known.apart.0 (subst (Contains current.items) same at) in
       record {
-        sized = sized_settled queue.sized.room;
+        sized = record { room = omega (arith, queue.sized.room, put_settled.same_length) };
         current = record {
           all_open = λ w at. state_kept w (other w at) ∙ known.all_open w (waited w at);
           all_present = λ w at. distance_kept w ∙ known.all_present w (waited w at);
@@ -224,9 +222,6 @@ module _ (s : List NodeLabel) (q : Queue) (queue : IsQueueOf s q) (empty : q.cur
     | inl waits ↦ absurd (omega (arith, waits.1, ap length empty))
     | inr at ↦ at
   ]
-
-  pub none_open : heap_items q.heap ≡ [] → NoneOpen s (length s)
-  none_open none v lt o = (let at = open_is_in v o in omega (arith, at.1, ap length none))
 
   module _ (x : Entry) (heap : BinaryHeap Entry Global) (popped : IsPopped q.heap x heap) where
     abbrev u : ℕ
@@ -271,7 +266,7 @@ module _ (s : List NodeLabel) (q : Queue) (queue : IsQueueOf s q) (empty : q.cur
 
       pub popped_settled : IsQueueOf (settled_in s u) (record q { heap = heap; present = x.0.distance })
       popped_settled = record {
-        sized = sized_settled s u heap_first (omega (arith, queue.sized.room, popped.room));
+        sized = record { room = omega (arith, queue.sized.room, popped.room, (put_settled s u heap_first).same_length) };
         current = rw empty (record { all_open = λ v at. absurd (omega (arith, at.1)); all_present = λ v at. absurd (omega (arith, at.1)); apart = tt });
         ordered = popped.ordered;
         entries = λ e at.
@@ -313,8 +308,8 @@ module _ (s : List NodeLabel) (v : ℕ) (e : NodeLabel) (q : Queue) (known : Can
   entry_else : (w : ℕ) → (w ≡ v → ⊥) → entry_now (slice_set s v e) w ≡ entry_now s w
   entry_else w ne = ap (λ (r : NodeLabel). record { 0 = entry_of w r }) (put_open.elsewhere w ne)
 
-  not_settled : state_at s v ≡ Settled → ⊥
-  not_settled m = rw m at known.better
+  abbrev IsInQueue : List ℕ → List Entry → ℕ → Type 0
+  IsInQueue current heap w = state_at (slice_set s v e) w ≡ Open → Contains current w ⊎ Contains heap (entry_now (slice_set s v e) w)
 
   -- a current node does not get nearer
   waits_not : Contains q.current.items v → ⊥
@@ -334,60 +329,44 @@ module _ (s : List NodeLabel) (v : ℕ) (e : NodeLabel) (q : Queue) (known : Can
       other w at same = waits_not (subst (Contains q.current.items) same at)
 
   passed_written : IsPassedDistance (slice_set s v e) q.present
-  passed_written bound low within = known.queue.passed bound low (λ w m. omega (arith, ints, distance_else w (other w m), within w (state_else w (other w m) ∙ m)))
-    where
-      other : (w : ℕ) → state_at s w ≡ Settled → w ≡ v → ⊥
-      other w m same = not_settled (ap (state_at s) (sym same) ∙ m)
+  passed_written bound low within = known.queue.passed bound low (by_node (λ w. state_at s w ≡ Settled → distance_at s w ≤ℤ bound) v (λ m. absurd (rw m at known.better)) (λ w ne m. omega (arith, ints, distance_else w ne, within w (state_else w ne ∙ m))))
+
+  still_reached : (w : ℕ) → IsReached s w → IsReached (slice_set s v e) w
+  still_reached = by_node (λ w. IsReached s w → IsReached (slice_set s v e) w) v (λ was. open_is_reached (slice_set s v e) v now_open) (λ w ne was m. was (sym (state_else w ne) ∙ m))
+
+  falls : (w : ℕ) → IsReached s w → distance_at (slice_set s v e) w ≤ℤ distance_at s w
+  falls = by_node (λ w. IsReached s w → distance_at (slice_set s v e) w ≤ℤ distance_at s w) v (λ was. omega (arith, ints, takes_lower (node_label_at s v) e.distance known.better was, now_distance)) (λ w ne was. omega (arith, ints, distance_else w ne))
 
   entry_written : (x : Entry) → IsEntry s q.present x → IsEntry (slice_set s v e) q.present x
-  entry_written x old = elim (cases_eq x.0.node v) [
-    | inl same ↦
-        (let reached : IsReached s v = subst (IsReached s) same old.reached in
-        record {
-          reached = subst (IsReached (slice_set s v e)) (sym same) (open_is_reached (slice_set s v e) v now_open);
-          no_nearer = omega (arith, ints, takes_lower (node_label_at s v) e.distance known.better reached, ap (distance_at s) same, ap (distance_at (slice_set s v e)) same, now_distance, old.no_nearer);
-          beyond = old.beyond;
-        })
-    | inr ne ↦ record {
-      reached = λ m. old.reached (sym (state_else x.0.node ne) ∙ m);
-      no_nearer = omega (arith, ints, distance_else x.0.node ne, old.no_nearer);
-      beyond = old.beyond;
-    }
-  ]
+  entry_written x old = record {
+    reached = still_reached x.0.node old.reached;
+    no_nearer = omega (arith, ints, falls x.0.node old.reached, old.no_nearer);
+    beyond = old.beyond;
+  }
 
-  -- the node is new, and joins the current nodes
+  -- it joins the current nodes
   pub joined : (current : VecDeque ℕ Global) → e.distance ≡ q.present → current.items ≡ q.current.items ++ v ∷ [] → IsQueueOf (slice_set s v e) (record q { current = current })
   joined current present is = record {
     sized = record { room = omega (arith, known.queue.sized.room, put_open.same_length) };
     current = rw is (record {
-      all_open = λ w at. (elim (Contains-push_cases q.current.items v w at) [
-        | inl was ↦ current_same.all_open w was
-        | inr same ↦ subst (λ (n : ℕ). state_at (slice_set s v e) n ≡ Open) same now_open
-      ]);
-      all_present = λ w at. (elim (Contains-push_cases q.current.items v w at) [
-        | inl was ↦ current_same.all_present w was
-        | inr same ↦ subst (λ (n : ℕ). distance_at (slice_set s v e) n ≡ q.present) same (now_distance ∙ present)
-      ]);
+      all_open = by_push (λ w. state_at (slice_set s v e) w ≡ Open) q.current.items v current_same.all_open now_open;
+      all_present = by_push (λ w. distance_at (slice_set s v e) w ≡ q.present) q.current.items v current_same.all_present (now_distance ∙ present);
       apart = apart_push q.current.items v known.queue.current.apart waits_not;
     });
     ordered = known.queue.ordered;
     entries = λ x at. entry_written x (known.queue.entries x at);
     passed = passed_written;
-    all = λ w o. (elim (cases_eq w v) [
-      | inl same ↦ inl (rw (same, is) (Contains-push q.current.items v))
-      | inr ne ↦ (elim (known.queue.all w (sym (state_else w ne) ∙ o)) [
-        | inl waits ↦ inl (rw is (Contains-append_left q.current.items (v ∷ []) w waits))
-        | inr at ↦ inr (subst (Contains (heap_items q.heap)) (sym (entry_else w ne)) at)
-      ])
-    ]);
+    all = by_node (IsInQueue current.items (heap_items q.heap)) v (λ o. inl (rw is (Contains-push q.current.items v)))
+        (λ w ne o. elim (known.queue.all w (sym (state_else w ne) ∙ o)) [
+          | inl waits ↦ inl (rw is (Contains-append_left q.current.items (v ∷ []) w waits))
+          | inr at ↦ inr (subst (Contains (heap_items q.heap)) (sym (entry_else w ne)) at)
+        ]);
   }
 
   -- it is entered in the heap
   open_beyond : (w : ℕ) → state_at (slice_set s v e) w ≡ Open → q.present ≤ℤ distance_at (slice_set s v e) w
-  open_beyond w o = elim (cases_eq w v) [
-    | inl same ↦ omega (arith, ints, known.not_nearer, now_distance, ap (distance_at (slice_set s v e)) same)
-    | inr ne ↦ omega (arith, ints, distance_else w ne, open_is_beyond s q known.queue w (sym (state_else w ne) ∙ o))
-  ]
+  open_beyond = by_node (λ w. state_at (slice_set s v e) w ≡ Open → q.present ≤ℤ distance_at (slice_set s v e) w) v (λ o. omega (arith, ints, known.not_nearer, now_distance))
+      (λ w ne o. omega (arith, ints, distance_else w ne, open_is_beyond s q known.queue w (sym (state_else w ne) ∙ o)))
 
   live_is_entry : (x : Entry) → IsLive (slice_set s v e) x → IsEntry (slice_set s v e) q.present x
   live_is_entry x live =
@@ -408,11 +387,9 @@ module _ (s : List NodeLabel) (v : ℕ) (e : NodeLabel) (q : Queue) (known : Can
       | inr live ↦ live_is_entry x live
     ]);
     passed = passed_written;
-    all = λ w o. (elim (cases_eq w v) [
-      | inl same ↦ inr (subst (λ (n : ℕ). Contains (heap_items heap) (entry_now (slice_set s v e) n)) (sym same) enters.entered)
-      | inr ne ↦ (elim (known.queue.all w (sym (state_else w ne) ∙ o)) [
-        | inl waits ↦ inl waits
-        | inr at ↦ inr (enters.kept w o (subst (Contains (heap_items q.heap)) (sym (entry_else w ne)) at))
-      ])
-    ]);
+    all = by_node (IsInQueue q.current.items (heap_items heap)) v (λ o. inr enters.entered)
+        (λ w ne o. elim (known.queue.all w (sym (state_else w ne) ∙ o)) [
+          | inl waits ↦ inl waits
+          | inr at ↦ inr (enters.kept w o (subst (Contains (heap_items q.heap)) (sym (entry_else w ne)) at))
+        ]);
   }

@@ -5,9 +5,9 @@ ghost use Rattle.shortest_paths.specs.Queue.{entry_of};
 
 use crate::node_label::NodeLabel;
 
-/// A node in the heap, with the distance and the depth of its label when it was entered: so two nodes are compared where
-/// they stand in the heap, and their labels, which are far away in memory, are not read. The nearer is the lesser, and of
-/// two that are equally near the one of fewer arcs.
+/// A node in the heap, with the distance and the depth of its label when it was entered: so two nodes are compared
+/// where they stand in the heap, and their labels, which are far away in memory, are not read. The nearer is the lesser,
+/// and of two that are equally near the one of fewer arcs.
 #[derive(Clone, Copy, PartialEq, Eq, PartialOrd, Ord, Drop)]
 pub struct HeapEntry {
     pub distance: i64,

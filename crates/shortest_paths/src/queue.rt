@@ -7,17 +7,17 @@ ghost use Rattle.shortest_paths.specs.Queue.{IsEntered, HoldsOpen, entry_now, ne
 ghost use Rattle.std.specs.BinaryHeap.{IsHeap, KeepsHeap, heap_items, heap_len, heap_capacity};
 ghost use Rattle.std.specs.VecDeque.{deque_len, deque_capacity};
 ghost use Rattle.std.specs.List.Sorted.{IsPermutation};
-ghost use Rattle.shortest_paths.specs.declared.node_label.State.TheVariants.{Unreached, Open};
+ghost use Rattle.shortest_paths.specs.declared.node_label.State.TheVariants.{Open};
 
 use crate::heap_entry::HeapEntry;
-use crate::node_label::{NodeLabel, State};
+use crate::node_label::NodeLabel;
 use std::alloc::{AllocError, Global};
 use std::cmp::Reverse;
 use std::collections::{BinaryHeap, VecDeque};
 
-/// The current nodes, which are open nodes at the present distance, that of the node settled last, first in and first out;
-/// and behind them a heap. Where the path to a node gets better, the node is entered in the heap again, and its old entry
-/// stays: an entry of a settled node is passed over.
+/// The current nodes, which are open nodes at the present distance, that of the node settled last, first in and first
+/// out; and behind them a heap. Where the path to a node gets better, the node is put in again, and its old entry in the
+/// heap stays: the entry of a node that is settled by then is passed over.
 #[derive(Drop)]
 pub struct Queue {
     /// The current nodes.
@@ -39,8 +39,7 @@ impl Queue {
         ensures { IfOk result (λ q. IsQueueFor entries q) }
     {
         let current = VecDeque::with_capacity(alloc, entries)?;
-        // Where the heap is full, it drops the old entries. So a search does that once for as many entries as there are
-        // nodes, or less often.
+        // A full heap is made anew of the open nodes, which are half of its entries or fewer: so that comes seldom.
         let heap = BinaryHeap::with_capacity(alloc, entries.saturating_mul(2))?;
         Ok(Queue {
             current,
@@ -49,18 +48,8 @@ impl Queue {
         })
     }
 
-    /// Whether a node that gets this distance joins the current nodes: it is new, the distance is the present one, and there
-    /// is room.
-    fn joins_current(&self, node_label: &NodeLabel, distance: i64) -> bool
-        ensures { IsTrue result ↔ ((node_label.now.state ≡ Unreached) × (distance ≡ self.now.present) × (deque_len self.now.current < deque_capacity self.now.current)) }
-    {
-        matches!(node_label.state, State::Unreached)
-            && distance == self.present
-            && self.current.len() < self.current.capacity()
-    }
-
-    /// Writes what is known of a node whose path got better. A new node at the present distance
-    /// is the last of the current ones.
+    /// Writes what is known of a node whose path got better. One that is at the present distance now is the last of the
+    /// current ones.
     pub fn improve(&mut self, node_labels: &mut [NodeLabel], v: usize, node_label: NodeLabel)
         requires queue { IsQueueOf node_labels.old self.old }
         requires few { length node_labels.old ≤ entry_limit }
@@ -72,13 +61,19 @@ impl Queue {
         ensures queue { IsQueueOf node_labels.new self.new }
         ensures present { self.new.present ≡ self.old.present }
     {
-        let joins = self.joins_current(&node_labels[v], node_label.distance);
         node_labels[v] = node_label;
-        if joins {
+        if self.joins_current(node_label.distance) {
             join(&mut self.current, v);
         } else {
             enter(&mut self.heap, node_labels, v);
         }
+    }
+
+    /// Whether a node that gets this distance joins the current nodes: it is the present one, and there is room.
+    fn joins_current(&self, distance: i64) -> bool
+        ensures { IsTrue result ↔ ((distance ≡ self.now.present) × (deque_len self.now.current < deque_capacity self.now.current)) }
+    {
+        distance == self.present && self.current.len() < self.current.capacity()
     }
 
     /// Takes out the open node of the least distance, where there is one. It is to be settled next.
@@ -128,6 +123,7 @@ fn join(current: &mut VecDeque<u32>, v: usize)
 
 /// Enters an open node in the heap. Where the heap is full, it is made anew of the open nodes alone.
 fn enter(heap: &mut BinaryHeap<Reverse<HeapEntry>>, node_labels: &[NodeLabel], v: usize)
+    requires v_in { v < length node_labels.now }
     requires is_open { state_at node_labels.now v ≡ Open }
     requires few { length node_labels.now ≤ entry_limit }
     requires room { length node_labels.now ≤ heap_capacity heap.old }

@@ -1,9 +1,5 @@
 use Rattle.shortest_paths.proofs.QueueLemmas.{entered_all, entered_one}
-use Rattle.shortest_paths.proofs.SearchLemmas.{in_range, open_is_reached}
 use Rattle.shortest_paths.proofs.queue.enter.Goals as goal
-
-pub push-requires-clause-v_in : goal.push-requires-clause-v_in
-push-requires-clause-v_in c = in_range c.args.node_labels.now c.args.v (open_is_reached c.args.node_labels.now c.args.v c.requires.is_open)
 
 pub returns-then-len-capacity-clause-entered : goal.returns-then-len-capacity-clause-entered
 returns-then-len-capacity-clause-entered c = entered_one c.args.node_labels.now c.args.v _ _ c.requires.is_open c.push.ensures.entered
