@@ -77,17 +77,6 @@ impl Excess {
         }
     }
 
-    /// Whether more nodes than so many are out of balance.
-    pub fn are_more_than(&self, few: usize) -> bool {
-        let mut count: usize = 0;
-        for place in self.unbalanced.places() {
-            if self.entries[*place as usize] != 0 {
-                count = count.saturating_add(1);
-            }
-        }
-        count > few
-    }
-
     /// Whether a side has a root: ahead a node in excess, behind a node in deficit.
     pub fn has_root(&self, side: Side) -> bool
         ensures { IsTrue result ↔ (0 < amount side self.now) }
