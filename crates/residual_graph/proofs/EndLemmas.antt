@@ -88,13 +88,6 @@ pub starts_here : (I : Instance) (rows : List ArcRow) (v row end : ℕ) → AreR
 starts_here I rows v row end of split lt here =
     ap (λ (a : ArcRow). start_of a (end_way end)) (row_is I rows row (end / 2) of split) ∙ sym (start_is I.arcs end lt) ∙ here
 
--- and the end is one of the node that it leaves
-pub stands_here : (g : Graph) (v row end : ℕ) → AreRowsOf g.net g.rows → row + length g.net.arcs ≡ length g.rows → g.star.arcs ≤ end / 2 → end / 2 < length g.net.arcs → start_at g.rows (end / 2 + row) (end_way end) ≡ v
-    → StandsIn g v row (Added end)
-stands_here g v row end of split later lt starts =
-    let is_end : end < 2 * length g.net.arcs = omega (arith, lt) in
-    (later, is_end, start_is g.net.arcs end is_end ∙ sym (ap (λ (a : ArcRow). start_of a (end_way end)) (row_is g.net g.rows row (end / 2) of split)) ∙ starts)
-
 -- ---- the stage at an end of the network's list
 
 pub stage_stands : (g : Graph) (v row n : ℕ) (next : Option ℕ) → n ≤ 2 * length g.net.arcs → IsNextEnd g.net.arcs v n next → StandsIn g v row (stage_of g.star.arcs next)

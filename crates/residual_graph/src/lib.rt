@@ -17,4 +17,4 @@ pub use graph::Graph;
 pub use residual::{ResidualArc, Way};
 pub use residual_network::Residual;
 pub use side::Side;
-pub use walk::{End, Place, Walk};
+pub use walk::{End, Walk};

@@ -69,17 +69,6 @@ pub struct Walk {
     last: usize,
 }
 
-/// Where a node goes on in its ends, from one walk to the next.
-#[derive(Clone, Copy)]
-pub enum Place {
-    /// Before all of them.
-    First,
-    /// At this end of an arc which the star does not cover.
-    Added(u32),
-    /// At this place in the star.
-    Incidence(u32),
-}
-
 impl Walk {
     /// The walk from the first of the node's ends.
     pub fn at(graph: &Graph, node: u32) -> Walk
@@ -101,48 +90,11 @@ impl Walk {
         }
     }
 
-    /// A walk over the node's ends that goes on from this place. Any place is a lawful one.
-    pub fn resume(graph: &Graph, node: u32, place: Place) -> Walk
-        requires node { HasNode graph.now node }
-        ensures walk { IsWalk graph.now result }
-        ensures node { result.node ≡ node }
-    {
-        let mut walk = Walk::at(graph, node);
-        match place {
-            Place::First => {}
-            Place::Added(end) => {
-                if is_added_at(graph, end, node, walk.first_row) {
-                    walk.enter(graph, Stage::Added(end));
-                }
-            }
-            Place::Incidence(i) => {
-                walk.enter(graph, Stage::Incidences);
-                walk.next = walk.next.max(i as usize);
-            }
-        }
-        walk
-    }
-
     /// Whether the star covers the arc of an incidence.
     fn covers(&self, incidence: Incidence) -> bool
         ensures { IsTrue result ↔ (incidence.end < self.now.covered) }
     {
         incidence.end < self.covered
-    }
-
-    /// Where the walk stands. A place too far to be written down is the first.
-    pub fn place(&self) -> Place {
-        match self.stage {
-            Stage::Return(_) => Place::First,
-            Stage::Added(end) => Place::Added(end),
-            Stage::Incidences => {
-                if self.next <= u32::MAX as usize {
-                    Place::Incidence(self.next as u32)
-                } else {
-                    Place::First
-                }
-            }
-        }
     }
 
     /// Comes to a stage.
@@ -290,18 +242,6 @@ fn return_end(way: Way) -> u32
         Way::Forward => 0,
         Way::Backward => 1,
     }
-}
-
-/// Whether an end is one of the node's, of an arc which the star does not cover.
-fn is_added_at(graph: &Graph, end: u32, node: u32, first_row: usize) -> bool
-    requires rows { AreRowsOf graph.now.net graph.now.rows }
-    requires split { first_row + length graph.now.net.arcs ≡ length graph.now.rows }
-    ensures { IsTrue result → StandsIn graph.now node first_row (Added end) }
-{
-    if end / 2 < graph.covered() || end / 2 >= graph.network().arcs() {
-        return false;
-    }
-    graph.start(end as usize / 2 + first_row, Way::of_end(end)) == node as usize
 }
 
 /// The number of an end of the network among those of the rows.
