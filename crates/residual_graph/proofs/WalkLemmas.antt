@@ -82,11 +82,6 @@ pub ends_left_less : (arcs : List ArcRow) (u end : ℕ) (next : Option ℕ) → 
 ends_left_less arcs u end None is = omega arith
 ends_left_less arcs u end (Some e) is = omega (arith, (is.found e refl).0)
 
-pub rows_at_least : (D : Demand) (arcs : List ArcRow) → length arcs ≤ length (reduced_arcs D arcs)
-rows_at_least (Supplies s) arcs = omega arith
-rows_at_least (Terminals source sink) arcs = omega arith
-rows_at_least (Sides marks) arcs = omega arith
-
 pub rows_push : (D : Demand) (xs : List ArcRow) (a : ArcRow) → reduced_arcs D xs ++ a ∷ [] ≡ reduced_arcs D (xs ++ a ∷ [])
 rows_push (Supplies s) xs a = refl
 rows_push (Terminals source sink) xs a = refl
