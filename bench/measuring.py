@@ -14,7 +14,7 @@ import time
 from contextlib import suppress
 from dataclasses import dataclass, replace
 from pathlib import Path
-from typing import IO, List, Optional, Sequence, Tuple, Union
+from typing import IO, Dict, List, Optional, Sequence, Tuple, Union
 
 Word = Union[str, Path]
 Stream = Union[int, IO[bytes]]
@@ -39,6 +39,17 @@ class Run:
 
     def without_output(self) -> "Run":
         return replace(self, output=b"")
+
+
+def read_programs(words: Sequence[str]) -> Dict[str, Path]:
+    """Programs by their names, as they are given by NAME=PATH."""
+    programs = {}
+    for place, word in enumerate(words, start=1):
+        name, separator, path = word.partition("=")
+        if not separator:
+            name, path = ("mcf" if len(words) == 1 else f"mcf{place}"), word
+        programs[name] = Path(path).resolve()
+    return programs
 
 
 def start(words: Sequence[Word], entry: Stream, output: Stream) -> "subprocess.Popen[bytes]":
@@ -110,6 +121,13 @@ class Dialogue:
             reply = self.reply()
             return processor_seconds(self.process.pid) - before, reply
         return math.nan, b""
+
+    def ask_lines(self, command: bytes) -> List[bytes]:
+        """Sends a command that may be answered by many lines; gives these."""
+        # No command is a question mark: its refusal tells where the answer ends.
+        self.entry.write(command + b"?\n")
+        self.entry.flush()
+        return list(iter(self.output.readline, b"r 2\n"))
 
     def reply(self) -> bytes:
         if not select.select([self.output], [], [], self.limit)[0]:
