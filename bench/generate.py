@@ -7,7 +7,13 @@ import random
 import sys
 
 # Name of a size: nodes, arcs.
-SIZES = {"small": (200, 2_000), "middle": (3_000, 25_000), "large": (10_000, 100_000), "wide": (50_000, 100_000)}
+SIZES = {
+    "small": (200, 2_000),
+    "middle": (3_000, 25_000),
+    "roomy": (10_000, 80_000),
+    "large": (10_000, 100_000),
+    "wide": (50_000, 100_000),
+}
 # What sizes are divided by, so that a test sees a command run and end soon; the least that each shape is made of.
 SHRINK = int(os.environ.get("BENCH_SHRINK", "1"))
 LEAST_NODES, LEAST_ARCS = 20, 200

@@ -6,7 +6,7 @@ import ctypes
 import math
 import os
 import re
-import resource
+import select
 import signal
 import subprocess
 import tempfile
@@ -14,7 +14,7 @@ import time
 from contextlib import suppress
 from dataclasses import dataclass, replace
 from pathlib import Path
-from typing import IO, List, Optional, Sequence, Tuple, Union
+from typing import IO, Dict, List, Optional, Sequence, Tuple, Union
 
 Word = Union[str, Path]
 Stream = Union[int, IO[bytes]]
@@ -41,17 +41,20 @@ class Run:
         return replace(self, output=b"")
 
 
-def start(words: Sequence[Word], limit: int, entry: Stream, output: Stream) -> "subprocess.Popen[bytes]":
-    """Starts a command that the system ends after `limit` seconds of processor time."""
-    # The command takes the limit over from this process, which has it for so long alone: code to be run between the
-    # start of the process and that of the program would count as time of the program.
-    old = resource.getrlimit(resource.RLIMIT_CPU)
-    signal.signal(signal.SIGXCPU, lambda *_: None)
-    resource.setrlimit(resource.RLIMIT_CPU, (limit, old[1]))
-    try:
-        return subprocess.Popen(words, stdin=entry, stdout=output, stderr=subprocess.STDOUT)
-    finally:
-        resource.setrlimit(resource.RLIMIT_CPU, old)
+def read_programs(words: Sequence[str]) -> Dict[str, Path]:
+    """Programs by their names, as they are given by NAME=PATH."""
+    programs = {}
+    for place, word in enumerate(words, start=1):
+        name, separator, path = word.partition("=")
+        if not separator:
+            name, path = ("mcf" if len(words) == 1 else f"mcf{place}"), word
+        programs[name] = Path(path).resolve()
+    return programs
+
+
+def start(words: Sequence[Word], entry: Stream, output: Stream) -> "subprocess.Popen[bytes]":
+    # A limit by the system would make the process's clock tell ticks of some milliseconds, to itself and to others.
+    return subprocess.Popen(words, stdin=entry, stdout=output, stderr=subprocess.STDOUT)
 
 
 def run(words: Sequence[Word], limit: int, commands: bytes = b"") -> Run:
@@ -59,12 +62,14 @@ def run(words: Sequence[Word], limit: int, commands: bytes = b"") -> Run:
     with tempfile.TemporaryFile() as entry, tempfile.TemporaryFile() as output:
         entry.write(commands)
         entry.seek(0)
-        process = start(words, limit, entry, output)
+        process = start(words, entry, output)
         peaks: List[float] = []
         while True:
             ended, status, usage = os.wait4(process.pid, os.WNOHANG)
             if ended:
                 break
+            if processor_seconds(process.pid) > limit:
+                os.kill(process.pid, signal.SIGXCPU)
             # What the system tells at the end would begin with the peak of this process, which may be the greater one.
             peaks += peak_of(process.pid)
             time.sleep(SAMPLE_SECONDS)
@@ -88,11 +93,53 @@ def peak_of(process: int) -> List[float]:
     return [int(peak) / 1024 for peak in re.findall(r"^VmHWM:\s*(\d+) kB", status, re.MULTILINE)]
 
 
-def processor_seconds(process: "subprocess.Popen[bytes]") -> float:
+class Dialogue:
+    """A session under way, which is told one command after the other, and cut off where a reply takes too long."""
+
+    def __init__(self, words: Sequence[Word], limit: int) -> None:
+        self.process = start(words, subprocess.PIPE, subprocess.PIPE)
+        assert self.process.stdin is not None and self.process.stdout is not None
+        self.entry, self.output, self.limit = self.process.stdin, self.process.stdout, limit
+        self.opening = self.reply()
+
+    def __enter__(self) -> "Dialogue":
+        return self
+
+    def __exit__(self, *_: object) -> None:
+        with suppress(BrokenPipeError):
+            self.entry.close()
+        self.process.wait()
+        self.output.close()
+
+    def ask(self, command: bytes) -> Tuple[float, bytes]:
+        """Sends a command; gives the processor time until its reply, and the reply, which is empty where none came."""
+        # Where a session has ended, the reply that is missing tells it.
+        with suppress(BrokenPipeError):
+            before = processor_seconds(self.process.pid)
+            self.entry.write(command)
+            self.entry.flush()
+            reply = self.reply()
+            return processor_seconds(self.process.pid) - before, reply
+        return math.nan, b""
+
+    def ask_lines(self, command: bytes) -> List[bytes]:
+        """Sends a command that may be answered by many lines; gives these."""
+        # No command is a question mark: its refusal tells where the answer ends.
+        self.entry.write(command + b"?\n")
+        self.entry.flush()
+        return list(iter(self.output.readline, b"r 2\n"))
+
+    def reply(self) -> bytes:
+        if not select.select([self.output], [], [], self.limit)[0]:
+            self.process.send_signal(signal.SIGXCPU)
+        return self.output.readline()
+
+
+def processor_seconds(process: int) -> float:
     """The processor time that a process has taken so far."""
     clock = ctypes.c_int()
-    if ctypes.CDLL(None).clock_getcpuclockid(process.pid, ctypes.byref(clock)) != 0:
-        raise ProcessLookupError(process.pid)
+    if ctypes.CDLL(None).clock_getcpuclockid(process, ctypes.byref(clock)) != 0:
+        raise ProcessLookupError(process)
     return time.clock_gettime(clock.value)
 
 
@@ -102,21 +149,14 @@ def ask_all(words: Sequence[Word], limit: int, commands: Sequence[bytes]) -> Tup
     Where the session ends before the last command, both lists are shorter.
     """
     taken: List[float] = []
-    process = start(words, limit, subprocess.PIPE, subprocess.PIPE)
-    assert process.stdin is not None and process.stdout is not None
-    replies = [process.stdout.readline()]
-    # Where a session has ended, the replies that are missing tell it.
-    with suppress(BrokenPipeError, ProcessLookupError):
+    with Dialogue(words, limit) as session:
+        replies = [session.opening]
         for command in commands:
-            before = processor_seconds(process)
-            process.stdin.write(command)
-            process.stdin.flush()
-            replies.append(process.stdout.readline())
-            taken.append(processor_seconds(process) - before)
-    with suppress(BrokenPipeError):
-        process.stdin.close()
-    process.wait()
-    process.stdout.close()
+            seconds, reply = session.ask(command)
+            if not reply:
+                break
+            taken.append(seconds)
+            replies.append(reply)
     return taken, replies
 
 

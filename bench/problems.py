@@ -3,7 +3,7 @@
 from __future__ import annotations
 
 from dataclasses import dataclass, field
-from typing import Iterator, List, NamedTuple
+from typing import Iterable, Iterator, List, NamedTuple, Sequence
 
 
 class Arc(NamedTuple):
@@ -61,6 +61,18 @@ class Problem:
     def text(self) -> str:
         return "\n".join(self.lines()) + "\n"
 
+    def arc_of(self, numbers: Sequence[int]) -> Arc:
+        """The arc that an arc line of this kind of problem tells with these numbers."""
+        tail, head, *rest = numbers
+        if self.kind == "max":
+            return Arc(tail, head, 0, rest[0], 0)
+        return Arc(tail, head, 0, 1, rest[0]) if self.kind == "asn" else Arc(tail, head, *rest)
+
+    def copy(self) -> "Problem":
+        told = Problem(self.kind, self.nodes, self.source, self.sink)
+        told.arcs, told.supplies = list(self.arcs), list(self.supplies)
+        return told
+
     def as_min(self) -> "Problem":
         """An assignment told as a minimum-cost flow; a problem of another kind as it is."""
         if self.kind != "asn":
@@ -68,3 +80,30 @@ class Problem:
         told = Problem("min", self.nodes)
         told.arcs, told.supplies = self.arcs, self.supplies
         return told
+
+    def with_return_arc(self) -> "Problem":
+        """A maximum flow told as a minimum-cost flow: an arc of cost -1 leads from the sink back to the source."""
+        told = Problem("min", self.nodes)
+        most = sum(arc.cap for arc in self.arcs if arc.tail == self.source)
+        told.arcs = [*self.arcs, Arc(self.sink, self.source, 0, most, -1)]
+        return told
+
+
+def read_problem(text: Iterable[str]) -> Problem:
+    """Reads the lines of a text that one of these scripts wrote."""
+    lines = iter(text)
+    _, kind, nodes, _ = next(lines).split()
+    problem = Problem(kind, int(nodes))
+    if kind == "asn":
+        problem.supplies = [0] + [-1] * problem.nodes
+    for line in lines:
+        letter, *fields = line.split()
+        if letter == "a":
+            problem.arcs.append(problem.arc_of([int(word) for word in fields]))
+        elif kind == "max" and fields[1] == "s":
+            problem.source = int(fields[0])
+        elif kind == "max":
+            problem.sink = int(fields[0])
+        else:
+            problem.supplies[int(fields[0])] = 1 if kind == "asn" else int(fields[1])
+    return problem
