@@ -151,13 +151,11 @@ place_of_edit (edits.Close arc) = OfArc arc
 -- an edit, or several together, lead to the new present moment by so many pushes, under the potentials of the old one
 abbrev pub EditLeads : Edit → Stack → Stack → ℕ → Type 0
 EditLeads edit old new n =
-    let m = present old in
-    IsChange m.instance (present new).instance edit (at_node m.potentials) m.flow (present new).flow n
+    IsChange (present old).instance (present new).instance edit (at_node (present old).potentials) (present old).flow (present new).flow n
 
 abbrev pub EditsLead : List Edit → Stack → Stack → ℕ → Type 0
 EditsLead edits old new n =
-    let m = present old in
-    AreChanges m.instance (present new).instance edits (at_node m.potentials) m.flow (present new).flow n
+    AreChanges (present old).instance (present new).instance edits (at_node (present old).potentials) (present old).flow (present new).flow n
 
 -- the records of the past stay, and this one follows
 abbrev pub AddsRecord : Recorded → Stack → Stack → Type 0
