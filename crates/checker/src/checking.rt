@@ -1,5 +1,5 @@
 //! Checks an answer to a problem, and writes whether it is right.
-ghost use Rattle.std.specs.Prelude.{◌≡◌, ◌+◌, ◌-◌, ◌^◌, ◌<◌, ◌↔◌, true, IfOk, IsTrue, length};
+ghost use Rattle.std.specs.Prelude.{◌≡◌, ◌-◌, ◌^◌, ◌<◌, ◌↔◌, true, IfOk, IsTrue, length};
 ghost use Rattle.dimacs_io.specs.Device.{CountsFailure, CountsFlush, EndsBy, Fails, RisesBy, Writes};
 ghost use Rattle.dimacs_io.specs.declared.device.LastCall.TheVariants as last;
 ghost use Rattle.checker.specs.Check.{CheckOnDevices, NamesEnds, NameEnds, IsRight, Settles, ValidSettles, answer_failures, flow_of_lines, flushes_by, last_by, marks_of, problem_failures, verdict_line, write_failures};
@@ -37,7 +37,7 @@ pub fn check<P: Source, A: Source, O: Sink>(
     ensures answer_failed { Fails (answer_failures result) A.failures answer.old answer.new }
     ensures out_failed { Fails (write_failures result) O.failures out.old out.new }
 
-    // A call that failed was the last on its device, and what is written is passed on, by one flush.
+    // A call that failed was the last on its device, and one flush passes on what is written.
     ensures problem_last { problem_failures result ≡ 1 → P.last_failed problem.new ≡ true }
     ensures answer_last { answer_failures result ≡ 1 → A.last_failed answer.new ≡ true }
     ensures out_flushed { RisesBy (flushes_by result) (O.flushes out.old) (O.flushes out.new) }

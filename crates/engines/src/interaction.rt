@@ -44,7 +44,7 @@ pub fn run_session<P: Source, C: Source, O: Sink>(
     requires script { C.failures script.old < 2 ^ 64 - 1 }
     requires out { O.failures out.old < 2 ^ 64 - 1 }
 
-    // A run's printing is written, or its beginning at a failed call, and no end is without its cause.
+    // A run's printing is written, or its beginning at a failed call, and no end lacks its cause.
     ensures session { SessionOnDevices result extra
         (P.remaining problem.old) (P.most_left problem.old - P.most_left problem.new)
         (C.remaining script.old) (C.most_left script.old - C.most_left script.new)
@@ -80,7 +80,7 @@ pub fn run_session_in<A: Allocator + Copy, P: Source, C: Source, O: Sink>(
     requires script { C.failures script.old < 2 ^ 64 - 1 }
     requires out { O.failures out.old < 2 ^ 64 - 1 }
 
-    // A run's printing is written, or its beginning at a failed call, and no end is without its cause.
+    // A run's printing is written, or its beginning at a failed call, and no end lacks its cause.
     ensures session { SessionOnDevices result extra
         (P.remaining problem.old) (P.most_left problem.old - P.most_left problem.new)
         (C.remaining script.old) (C.most_left script.old - C.most_left script.new)

@@ -1,5 +1,5 @@
 //! Solves a problem, and writes the solution.
-ghost use Rattle.std.specs.Prelude.{◌≡◌, ◌+◌, ◌-◌, ◌^◌, ◌<◌, true};
+ghost use Rattle.std.specs.Prelude.{◌≡◌, ◌-◌, ◌^◌, ◌<◌, true};
 ghost use Rattle.dimacs_io.specs.Device.{CountsFailure, CountsFlush, EndsBy, Fails, RisesBy, Writes};
 ghost use Rattle.dimacs_io.specs.declared.device.LastCall.TheVariants as last;
 ghost use Rattle.checker.specs.Check.{flushes_by, last_by, problem_failures, write_failures};

@@ -1,6 +1,6 @@
 //! Performs a task on devices, and the task that words name on the texts that it names.
 
-ghost use Rattle.std.specs.Prelude.{◌≡◌, ◌+◌, ◌-◌, ◌^◌, ◌<◌, ◌⊎◌, true, IfOk, IfErr, map, string_bytes};
+ghost use Rattle.std.specs.Prelude.{◌≡◌, ◌-◌, ◌^◌, ◌<◌, ◌⊎◌, true, IfOk, IfErr, map, string_bytes};
 ghost use Rattle.dimacs_io.specs.Device.{Fails};
 ghost use Rattle.checker.specs.Check.{last_by, problem_failures, write_failures};
 ghost use Rattle.checker.specs.declared.end.End.TheVariants as end;
