@@ -1,15 +1,14 @@
 -- What a line of C asks for.
-use Rattle.std.proofs.Common.{◌≡◌, ◌≤◌, ◌<◌, ◌||◌, Bool, true, false, cond, List, [], ◌∷◌, length, Option, None, Some, refl, sym, ap, ◌∙◌, arith}
-use Rattle.std.specs.Prelude.{nat_le, nat_lt}
+use Rattle.std.proofs.Common.{◌≡◌, ◌≤◌, ◌<◌, Bool, true, false, List, [], ◌∷◌, length, Option, None, Some, refl, sym, ◌∙◌, arith}
+use Rattle.std.specs.Prelude.{nat_le}
 use Rattle.std.proofs.lemmas.Bool.{false≢true, lt-ltb, le-ltb, le-leb}
 use Rattle.dimacs_lines.specs.declared.cutter.TheConstants.{LINE_LIMIT}
 use Rattle.dimacs_lines.specs.Cut.{kept}
 use Rattle.dimacs_lines.specs.declared.fault.LineFault.TheVariants as line_fault
 use Rattle.dimacs_lines.specs.Fault.{number_of}
 use Rattle.dimacs_lines.specs.Fields.{Word, words_of}
-use Rattle.dimacs_lines.specs.Lines.{Line, is_too_long}
+use Rattle.dimacs_lines.specs.Lines.{Line}
 use Rattle.dimacs_text.specs.Group.{Gathered}
-use Rattle.session.specs.Reply.{reply_of}
 use Rattle.session.specs.Step.{Reply, SessionState}
 use Rattle.session.specs.Turns.{TakesLine, asks, gathered_in}
 use Rattle.calls.specs.Library.{Took, told_of}
