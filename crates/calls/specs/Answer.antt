@@ -4,10 +4,10 @@ use Rattle.dimacs_text.specs.Reading.{ProblemValue, reads}
 use Rattle.flow_solver.specs.Moment.{Moment}
 use Rattle.flow_solver.specs.declared.verdict.Verdict.{Verdict}
 use Rattle.flow_solver.specs.declared.verdict.Verdict.TheVariants.{Best, Infeasible}
-use Rattle.network.specs.Instance.{IsBest, IsBreach, IsCertified, IsLegal, at_node, is_marked}
+use Rattle.network.specs.Instance.{IsBest, IsBreach, is_marked}
 use Rattle.session.specs.Parts.{flow_of}
 use Rattle.session.specs.Step.{SessionState}
-use Rattle.calls.specs.Library.{IsOpeningOf, IsViewOf}
+use Rattle.calls.specs.Library.{CertifyFlow, IsOpeningOf, IsViewOf, NoneIsLegal}
 use Rattle.calls.specs.declared.answer.Answer.{Answer}
 
 -- room for each list of the problem's answer
@@ -26,7 +26,7 @@ pub record IsBestGiven (m : Moment) (old new : Answer) : Type 0 where
   pub potentials_are : new.potentials.now ≡ filled m.potentials old.potentials.now
   pub cut_stays : new.cut.now ≡ old.cut.now
   pub best : IsBest m.instance (flow_of m)
-  pub certified : IsCertified m.instance (flow_of m) (at_node m.potentials)
+  pub certified : CertifyFlow m.potentials m
 
 -- a cut is in its room that is a breach by the shortage, and no flow is legal
 pub record IsCutGiven (m : Moment) (shortage : ℤ) (old new : Answer) : Type 0 where
@@ -34,7 +34,7 @@ pub record IsCutGiven (m : Moment) (shortage : ℤ) (old new : Answer) : Type 0 
   pub flow_stays : new.flow.now ≡ old.flow.now
   pub potentials_stay : new.potentials.now ≡ old.potentials.now
   pub breach : IsBreach m.instance (is_marked m.cut) shortage
-  pub none_legal : (flow : List ℤ) → IsLegal m.instance flow → ⊥
+  pub none_legal : NoneIsLegal m
 
 abbrev pub IsGivenBy : Verdict → Moment → Answer → Answer → Type 0
 IsGivenBy (Best worth) m old new = IsBestGiven m old new

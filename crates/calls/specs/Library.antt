@@ -1,6 +1,5 @@
 -- What the calls do, in terms of the state behind a handle: its moments and its marks.
 use Rattle.std.specs.Prelude.{◌≡◌, ◌⊎◌, ℕ, ◌^◌, ◌==◌, ℤ, pos, ◌+ℤ◌, ◌*ℤ◌, Bool, true, false, not, List, [], length, Option, None, Some, Result, Ok, Err, if◌then◌else◌}
-use Rattle.std.specs.Option.{MatchOption}
 use Rattle.dimacs_lines.specs.declared.fault.LineFault.TheVariants as line_fault
 use Rattle.dimacs_lines.specs.declared.fault.TextFault.{TextFault}
 use Rattle.dimacs_lines.specs.declared.fault.TextFault.TheVariants as text_fault
@@ -8,17 +7,18 @@ use Rattle.dimacs_lines.specs.Fault.{number_of}
 use Rattle.dimacs_lines.specs.Lines.{Line}
 use Rattle.dimacs_text.specs.Group.{Gathered}
 use Rattle.dimacs_text.specs.Reading.{ProblemValue, reads}
-use Rattle.flow_solver.specs.Answer.{IsAnswered}
+use Rattle.flow_solver.specs.Answer.{AreGreatestPotentials, IsAnswered, IsChosenCut}
 use Rattle.flow_solver.specs.Moment.{Moment}
 use Rattle.flow_solver.specs.declared.verdict.Verdict.{Verdict}
 use Rattle.flow_solver.specs.declared.verdict.Verdict.TheVariants.{Best, Infeasible}
 use Rattle.history.specs.Boards.{Timeline}
-use Rattle.network.specs.Instance.{first}
+use Rattle.network.specs.Instance.{IsBreach, IsCertified, IsLegal, at_node, first, is_marked, reduced}
+use Rattle.session.specs.Parts.{flow_of}
 use Rattle.session.specs.Step.{Reply, SessionState, TellsVerdict, Shows, Refuses}
 use Rattle.session.specs.Turns.{TakesLine, asks, gathered_in}
 use Rattle.calls.specs.declared.fault.Fault.{Fault}
 use Rattle.calls.specs.declared.view.View.{View}
-use Rattle.calls.specs.declared.status.TheConstants.{CLOSED, FAULT, MEMORY, NOT_THERE, OTHER_LENGTH}
+use Rattle.calls.specs.declared.status.TheConstants.{FAULT, MEMORY, NOT_THERE, OTHER_LENGTH}
 
 -- ---- opening
 
@@ -47,9 +47,13 @@ pub record IsOpening (text : List ℕ) (extra : ℕ) (s : SessionState) : Type 0
   pub problem_read : reads text ≡ Ok problem
   pub opening : IsOpeningOf problem extra s
 
+-- it is the first fault of the text
+abbrev pub IsFaultOf : List ℕ → Fault → Type 0
+IsFaultOf text fault = reads text ≡ Err (text_fault.Fault fault.number fault.line)
+
 -- no session begins: by a fault of the text, which is put where C looks for it, or for want of memory
 abbrev pub IsNotOpened : List ℕ → ℤ → Fault → Fault → Type 0
-IsNotOpened text status old new = ((status ≡ FAULT) × (reads text ≡ Err (text_fault.Fault new.number new.line))) ⊎ ((status ≡ MEMORY) × (new ≡ old))
+IsNotOpened text status old new = ((status ≡ FAULT) × IsFaultOf text new) ⊎ ((status ≡ MEMORY) × (new ≡ old))
 
 -- ---- steps
 
@@ -70,14 +74,9 @@ told_of (Some reply) = told reply
 
 -- a line that asks for something is taken after the lines of the group that stands open, and the reply to the turn that it
 -- makes whole is told; any other is refused as no command, and changes nothing
-pub record Took (old : SessionState) (opened : Option (List Line)) (line : Line) (number : ℕ) (new : SessionState) (group : Option Gathered) : Type 0 where
+pub record Took (opened : Option (List Line)) (line : Line) (group : Option Gathered) (old : SessionState) (number : ℕ) (new : SessionState) : Type 0 where
   pub asked : asks line ≡ true → (reply : Option Reply) × (number ≡ told_of reply) × TakesLine old opened line reply new group
   pub blank : asks line ≡ false → (number ≡ number_of line_fault.UnknownDesignator) × (new ≡ old) × (group ≡ gathered_in old opened)
-
--- a closed handle stays so, and this is told; an open one stays open, and goes from its state to the new one
-abbrev pub Goes : Option SessionState → ℤ → Option SessionState → (SessionState → ℕ → SessionState → Type 0) → Type 0
-Goes old status new Step =
-    MatchOption old ((status ≡ CLOSED) × (new ≡ None)) (λ before. (number : ℕ) × (status ≡ pos number) × (after : SessionState) × (new ≡ Some after) × Step before number after)
 
 -- ---- views
 
@@ -105,10 +104,9 @@ pub record IsViewOf (t : Timeline Moment) (view : View) : Type 0 where
 abbrev pub given : Bool → ℕ → ℕ → ℤ
 given there count room = if there then (if count == room then pos 0 else OTHER_LENGTH) else NOT_THERE
 
--- the same of a list of the present moment, by the verdict and the instance's sizes, behind a handle that may be closed
-abbrev pub given_of : Option SessionState → (Moment → Bool) → (Moment → ℕ) → ℕ → ℤ
-given_of None there count room = CLOSED
-given_of (Some s) there count room = given (there s.moments.present) (count s.moments.present) room
+-- the same of a list of a moment, by its verdict and its instance's sizes
+abbrev pub given_of : Moment → (Moment → Bool) → (Moment → ℕ) → ℕ → ℤ
+given_of m there count room = given (there m) (count m) room
 
 abbrev pub has_flow : Moment → Bool
 has_flow m = is_feasible m.verdict
@@ -121,3 +119,23 @@ arc_count m = length m.instance.arcs
 
 abbrev pub node_count : Moment → ℕ
 node_count m = m.instance.nodes
+
+-- ---- what the lists of a moment show
+
+-- the potentials certify its flow, and none that do are greater
+abbrev pub CertifyFlow : List ℤ → Moment → Type 0
+CertifyFlow potentials m = IsCertified m.instance (flow_of m) (at_node potentials)
+
+abbrev pub AreGreatest : List ℤ → Moment → Type 0
+AreGreatest potentials m = AreGreatestPotentials (reduced m.instance) m.flow (at_node potentials)
+
+-- no flow of it is legal
+abbrev pub NoneIsLegal : Moment → Type 0
+NoneIsLegal m = (flow : List ℤ) → IsLegal m.instance flow → ⊥
+
+-- the cut is a breach by the shortage that is told, and the one that is chosen
+abbrev pub IsBreachOf : List Bool → Moment → Type 0
+IsBreachOf cut m = (shortage : ℤ) → m.verdict ≡ Infeasible shortage → IsBreach m.instance (is_marked cut) shortage
+
+abbrev pub IsChosen : List Bool → Moment → Type 0
+IsChosen cut m = IsChosenCut m.verdict (reduced m.instance) (is_marked cut)

@@ -1,9 +1,8 @@
 //! The answer to a problem, in room of the caller's.
 
-ghost use Rattle.std.specs.Prelude.{◌≡◌, ◌≢◌, ◌≤◌, ◌↔◌, IsTrue, Err, pos, length};
-ghost use Rattle.dimacs_lines.specs.declared.fault.TextFault.TheVariants as faults;
-ghost use Rattle.dimacs_text.specs.Reading.{reads};
-ghost use Rattle.calls.specs.Library.{IsViewOf};
+ghost use Rattle.std.specs.Prelude.{◌≡◌, ◌≢◌, ◌≤◌, ◌↔◌, IsTrue, pos, length};
+ghost use Rattle.session.specs.Session.{present};
+ghost use Rattle.calls.specs.Library.{IsFaultOf, IsViewOf};
 ghost use Rattle.calls.specs.Answer.{AreListsKept, HasRoom, IsGiven, IsProblemSolved, IsProblemTooLong, IsSameRoom, IsSolved, IsTooShort, filled};
 ghost use Rattle.calls.specs.declared.status.TheConstants.{FAULT, MEMORY, TOO_SHORT};
 
@@ -36,7 +35,7 @@ pub struct Answer<'a> {
 /// anything is solved; or `MEMORY`. Nothing else is written then.
 pub fn solve_text(alloc: Global, text: &[u8], answer: &mut Answer) -> i32
     ensures solved { result ≡ pos 0 → IsSolved text.now answer.old answer.new }
-    ensures fault { result ≡ FAULT → reads text.now ≡ Err (faults.Fault answer.new.fault.number answer.new.fault.line) }
+    ensures fault { result ≡ FAULT → IsFaultOf text.now answer.new.fault }
     ensures too_short { result ≡ TOO_SHORT → IsTooShort text.now answer.old answer.new }
     ensures otherwise { result ≢ pos 0 → result ≢ FAULT → result ≢ TOO_SHORT → result ≡ MEMORY }
     ensures refused { result ≢ pos 0 → AreListsKept answer.old answer.new }
@@ -88,11 +87,11 @@ fn has_room(answer: &Answer, problem: &Problem) -> bool
 
 /// Gives the answer of the present moment.
 fn give_answer(session: &Session, answer: &mut Answer)
-    requires flow { length session.now.moments.present.instance.arcs ≤ length answer.old.flow.now }
-    requires potentials { session.now.moments.present.instance.nodes ≤ length answer.old.potentials.now }
-    requires cut { session.now.moments.present.instance.nodes ≤ length answer.old.cut.now }
+    requires flow { length (present session.now).instance.arcs ≤ length answer.old.flow.now }
+    requires potentials { (present session.now).instance.nodes ≤ length answer.old.potentials.now }
+    requires cut { (present session.now).instance.nodes ≤ length answer.old.cut.now }
     ensures view { IsViewOf session.now.moments answer.new.view }
-    ensures lists { IsGiven session.now.moments.present answer.old answer.new }
+    ensures lists { IsGiven (present session.now) answer.old answer.new }
     ensures no_fault { answer.new.fault ≡ answer.old.fault }
     ensures same_room { IsSameRoom answer.old answer.new }
 {

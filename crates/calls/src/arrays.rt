@@ -1,6 +1,6 @@
 //! A problem of the kind `min` by arrays, for a program that has no text of it.
 
-ghost use Rattle.std.specs.Prelude.{◌≡◌, ◌≤◌, ◌<◌, ◌↔◌, IfErr, IfOk, IsTrue, length};
+ghost use Rattle.std.specs.Prelude.{◌≡◌, ◌≤◌, ◌<◌, ◌↔◌, IfErr, IfOk, OnOk, IsTrue, length};
 ghost use Rattle.dimacs_text.specs.declared.problem.TheConstants.{NODE_LIMIT};
 ghost use Rattle.session.specs.Step.{state_of};
 ghost use Rattle.calls.specs.Arrays.{AreFaultless, IsEven, IsNotOpenedBy, IsOpeningBy, marks_of, problem_of, row_at, rows_of};
@@ -40,7 +40,8 @@ pub fn open_arrays(
     extra: u32,
     fault: &mut ArrayFault,
 ) -> Result<Session, i32>
-    ensures opened { IfOk result (λ session. IsOpeningBy arrays.now extra (state_of session) × (fault.new ≡ fault.old)) }
+    ensures opened { IfOk result (λ session. IsOpeningBy arrays.now extra (state_of session)) }
+    ensures no_fault { OnOk result (fault.new ≡ fault.old) }
     ensures refused { IfErr result (λ status. IsNotOpenedBy arrays.now status fault.old fault.new) }
 {
     if !is_even(arrays) {

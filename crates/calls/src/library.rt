@@ -1,9 +1,9 @@
 //! The calls, over a session that is there.
 
-ghost use Rattle.std.specs.Prelude.{◌≡◌, IfErr, IfOk, List, Option};
+ghost use Rattle.std.specs.Prelude.{◌≡◌, IfErr, IfOk, OnOk, List, Option};
 ghost use Rattle.std.specs.Option.{option_map};
 ghost use Rattle.dimacs_lines.specs.Lines.{Line};
-ghost use Rattle.dimacs_text.specs.declared.command.Command.TheVariants as commands;
+ghost use Rattle.dimacs_text.specs.declared.command.Command.TheVariants.{Redo, Undo};
 ghost use Rattle.session.specs.Reply.{reply_of};
 ghost use Rattle.session.specs.Session.{kind_in};
 ghost use Rattle.session.specs.Step.{StepBy, state_of};
@@ -42,7 +42,8 @@ pub fn open_session(
     extra: u32,
     fault: &mut Fault,
 ) -> Result<Session, i32>
-    ensures opened { IfOk result (λ session. IsOpening text.now extra (state_of session) × (fault.new ≡ fault.old)) }
+    ensures opened { IfOk result (λ session. IsOpening text.now extra (state_of session)) }
+    ensures no_fault { OnOk result (fault.new ≡ fault.old) }
     ensures refused { IfErr result (λ status. IsNotOpened text.now status fault.old fault.new) }
 {
     let problem = match read_problem(alloc, text) {
@@ -59,7 +60,7 @@ pub fn open_session(
 /// which is a step. Answers 0, or the number of the refusal. A blank line is no command, and changes nothing.
 pub fn take_line(session: &mut Session, group: &mut Option<Group>, line: &[u8]) -> u8
     ensures took { (opened : Option (List Line)) → group.old ≡ gathered_in (state_of session.old) opened
-        → Took (state_of session.old) opened line.now result (state_of session.new) group.new }
+        → Took opened line.now group.new (state_of session.old) result (state_of session.new) }
     ensures kind { kind_in session.new.moments ≡ kind_in session.old.moments }
 {
     if line.len() > LINE_LIMIT {
@@ -73,7 +74,7 @@ pub fn take_line(session: &mut Session, group: &mut Option<Group>, line: &[u8]) 
 
 /// Goes back one moment.
 pub fn undo(session: &mut Session) -> u8
-    ensures steps { Steps (StepBy commands.Undo (state_of session.old)) result (state_of session.new) }
+    ensures steps { Steps (StepBy Undo (state_of session.old)) result (state_of session.new) }
     ensures kind { kind_in session.new.moments ≡ kind_in session.old.moments }
 {
     told(Some(session.step(&Command::Undo)))
@@ -81,7 +82,7 @@ pub fn undo(session: &mut Session) -> u8
 
 /// Goes on one moment.
 pub fn redo(session: &mut Session) -> u8
-    ensures steps { Steps (StepBy commands.Redo (state_of session.old)) result (state_of session.new) }
+    ensures steps { Steps (StepBy Redo (state_of session.old)) result (state_of session.new) }
     ensures kind { kind_in session.new.moments ≡ kind_in session.old.moments }
 {
     told(Some(session.step(&Command::Redo)))

@@ -20,6 +20,10 @@ pub record Gives (old new : Option (List ℕ)) (given : List ℕ) (left_old left
   pub bytes : Consumes old new given
   pub count : left_new + length given ≡ left_old
 
+-- the same of a source, by what it tells of its bytes and how many can still come
+abbrev pub SourceGives : {S : Type 0} → (S → Option (List ℕ)) → (S → ℕ) → S → S → List ℕ → Type 0
+SourceGives remaining most_left old new given = Gives (remaining old) (remaining new) given (most_left old) (most_left new)
+
 -- of the text `given` has come, and `rest` is known to be left: the whole text reads as this, its fault is decided by now, or a read failed before that
 abbrev pub ReadsText : {X : Type 0} → (List ℕ → Option TextFault) → (List ℕ → Result X TextFault) → Result X ReadError → List ℕ → Option (List ℕ) → Type 0
 ReadsText decided reads (Ok x) given rest = IsAtEnd rest × (reads given ≡ Ok x)

@@ -1,6 +1,6 @@
 //! Checks an answer to a problem, and writes whether it is right.
-ghost use Rattle.std.specs.Prelude.{◌≡◌, ◌+◌, ◌-◌, ◌^◌, ◌<◌, ◌↔◌, true, IfOk, IsTrue, length};
-ghost use Rattle.dimacs_io.specs.Device.{CountsFailure, CountsFlush, EndsBy, RisesBy, WritesUpTo};
+ghost use Rattle.std.specs.Prelude.{◌≡◌, ◌-◌, ◌^◌, ◌<◌, ◌↔◌, true, IfOk, IsTrue, length};
+ghost use Rattle.dimacs_io.specs.Device.{CountsFailure, CountsFlush, EndsBy, Fails, RisesBy, Writes};
 ghost use Rattle.dimacs_io.specs.declared.device.LastCall.TheVariants as last;
 ghost use Rattle.checker.specs.Check.{CheckOnDevices, NamesEnds, NameEnds, IsRight, Settles, ValidSettles, answer_failures, flow_of_lines, flushes_by, last_by, marks_of, problem_failures, verdict_line, write_failures};
 
@@ -33,11 +33,11 @@ pub fn check<P: Source, A: Source, O: Sink>(
     ensures best { ValidSettles result (P.remaining problem.old) (A.remaining answer.old) }
 
     // The end tells of each call that failed.
-    ensures problem_failed { P.failures problem.new ≡ P.failures problem.old + problem_failures result }
-    ensures answer_failed { A.failures answer.new ≡ A.failures answer.old + answer_failures result }
-    ensures out_failed { O.failures out.new ≡ O.failures out.old + write_failures result }
+    ensures problem_failed { Fails (problem_failures result) P.failures problem.old problem.new }
+    ensures answer_failed { Fails (answer_failures result) A.failures answer.old answer.new }
+    ensures out_failed { Fails (write_failures result) O.failures out.old out.new }
 
-    // A call that failed was the last one on its device, and what is written is passed on, by one flush.
+    // A call that failed was the last on its device, and one flush passes on what is written.
     ensures problem_last { problem_failures result ≡ 1 → P.last_failed problem.new ≡ true }
     ensures answer_last { answer_failures result ≡ 1 → A.last_failed answer.new ≡ true }
     ensures out_flushed { RisesBy (flushes_by result) (O.flushes out.old) (O.flushes out.new) }
@@ -65,7 +65,7 @@ pub fn check<P: Source, A: Source, O: Sink>(
 /// Writes the verdict, and passes it on.
 fn write_verdict<O: Sink>(right: bool, out: &mut O) -> Result<(), Broken>
     requires { O.failures out.old < 2 ^ 64 - 1 }
-    ensures bytes { WritesUpTo result (O.contents out.old) (O.contents out.new) (verdict_line right) }
+    ensures bytes { Writes O.contents result out.old out.new (verdict_line right) }
     ensures failed { CountsFailure result (O.failures out.old) (O.failures out.new) }
     ensures flushed { CountsFlush result (O.flushes out.old) (O.flushes out.new) }
     ensures last { EndsBy result last.Flush (O.last_call out.new) }

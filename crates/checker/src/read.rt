@@ -3,7 +3,7 @@ ghost use Rattle.std.specs.Prelude.{◌≡◌, ℕ, ◌-◌, ◌^◌, ◌<◌, L
 ghost use Rattle.dimacs_lines.specs.Stream.{decided};
 ghost use Rattle.dimacs_text.specs.Reading.{problem_rule, reads};
 ghost use Rattle.dimacs_text.specs.Answer.{answer_rule, answers};
-ghost use Rattle.checker.specs.Reading.{CountsRead, FailsLastRead, Gives, ReadsKnown, ReadsText};
+ghost use Rattle.checker.specs.Reading.{CountsRead, FailsLastRead, ReadsKnown, ReadsText, SourceGives};
 
 use crate::end::{End, Text};
 use dimacs_io::{Broken, Source};
@@ -70,7 +70,7 @@ impl From<Broken> for ReadError {
 pub fn read_problem<P: Source>(alloc: Global, problem: &mut P) -> Result<Problem, ReadError>
     requires { P.failures problem.old < 2 ^ 64 - 1 }
     ensures read { (given : List ℕ)
-        × Gives (P.remaining problem.old) (P.remaining problem.new) given (P.most_left problem.old) (P.most_left problem.new)
+        × SourceGives P.remaining P.most_left problem.old problem.new given
         × ReadsText (decided problem_rule) reads result given (P.remaining problem.new) }
     ensures known { ReadsKnown (decided problem_rule) reads result
         (P.remaining problem.old) (P.most_left problem.old - P.most_left problem.new) }
@@ -100,7 +100,7 @@ pub fn read_answer<A: Source>(
 ) -> Result<Answer, ReadError>
     requires { A.failures answer.old < 2 ^ 64 - 1 }
     ensures read { (given : List ℕ)
-        × Gives (A.remaining answer.old) (A.remaining answer.new) given (A.most_left answer.old) (A.most_left answer.new)
+        × SourceGives A.remaining A.most_left answer.old answer.new given
         × ReadsText (decided (answer_rule nodes arcs)) (answers nodes arcs) result given (A.remaining answer.new) }
     ensures known { ReadsKnown (decided (answer_rule nodes arcs)) (answers nodes arcs) result
         (A.remaining answer.old) (A.most_left answer.old - A.most_left answer.new) }

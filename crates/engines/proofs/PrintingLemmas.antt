@@ -6,10 +6,10 @@ use Rattle.std.specs.Prelude.{slice_get}
 use Rattle.std.specs.Io.KnownBytes.{Appends}
 use Rattle.dimacs_io.specs.Device.{AppendsBeginning}
 use Rattle.std.proofs.KnownBytes.{Appends-nil, Appends-trans}
-use Rattle.dimacs_io.specs.Line.{flow_line, potential_line, cut_line}
+use Rattle.dimacs_io.specs.Line.{potential_line, cut_line}
 use Rattle.dimacs_text.specs.declared.problem.ArcRow.{ArcRow}
 use Rattle.network.specs.Instance.{arc_at}
-use Rattle.engines.specs.Printing.{flow_lines, potential_lines, cut_lines}
+use Rattle.engines.specs.Printing.{flow_line_of, flow_lines, potential_lines, cut_lines}
 
 -- what a sink holds that tells its bytes
 pub appended : (held written : List ℕ) (after : Option (List ℕ)) → Appends (Some held) after written → after ≡ Some (held ++ written)
@@ -50,11 +50,11 @@ Wrote-stopped a b c whole rest next more w e p =
 -- ---- the lines that are still to come
 
 flow_lines-front : (arcs arcs' : List ArcRow) (flow flow' : List ℤ) (arc : ArcRow) (x : ℤ) → arcs ≡ arc ∷ arcs' → flow ≡ x ∷ flow'
-    → flow_lines arcs flow ≡ flow_line arc.tail arc.head x ++ flow_lines arcs' flow'
+    → flow_lines arcs flow ≡ flow_line_of arc x ++ flow_lines arcs' flow'
 flow_lines-front arcs arcs' flow flow' arc x p q = rw (p, q) refl
 
 pub flow_lines-step : (arcs : List ArcRow) (flow : List ℤ) (k id : ℕ) (arc : ArcRow) → id ≡ suc k → k < length flow → arc_at arcs id ≡ Some arc
-    → flow_lines (drop k arcs) (drop k flow) ≡ flow_line arc.tail arc.head (get_or flow k (pos 0)) ++ flow_lines (drop (k + 1) arcs) (drop (k + 1) flow)
+    → flow_lines (drop k arcs) (drop k flow) ≡ flow_line_of arc (get_or flow k (pos 0)) ++ flow_lines (drop (k + 1) arcs) (drop (k + 1) flow)
 flow_lines-step arcs flow k id arc e h at =
     let there : slice_get arcs k ≡ Some arc = subst (λ n. arc_at arcs n ≡ Some arc) e at in
     let first : get_or arcs k arc ≡ arc = get_or_from_slice_get arcs k arc arc there in

@@ -13,13 +13,13 @@ use Rattle.checker.specs.declared.end.End.{End}
 use Rattle.checker.specs.declared.end.End.TheVariants.{Solved, Infeasible, Ended, Valid, NotValid, Refused, ReadFailed, WriteFailed, Memory}
 use Rattle.checker.specs.declared.read.ReadError.{ReadError}
 use Rattle.checker.specs.declared.read.ReadError.TheVariants as read_error
-use Rattle.checker.specs.Check.{IsProblemText, write_failures, problem_failures}
+use Rattle.checker.specs.Check.{IsProblemText}
 use Rattle.engines.specs.Printing.{outcome_line}
 use Rattle.checker.specs.Reading.{Gives, ReadsKnown, ReadsWhole, end_of}
 use Rattle.engines.specs.Run.{Answers, reply_count}
-use Rattle.engines.specs.Serving.{CommandsEnd, CommandsFail, Output, Stopped}
+use Rattle.engines.specs.Serving.{CommandsEnd, Output, Stopped}
 use Rattle.engines.specs.Opening.{IsNotOpened, Opens}
-use Rattle.engines.specs.Session.{FlushesOnDevices, PrintsBeginning, PrintsRun, SessionFlushes, SessionOnDevices, SessionWrites, command_failures}
+use Rattle.engines.specs.Session.{FlushesOnDevices, PrintsBeginning, PrintsRun, SessionFlushes, SessionOnDevices, SessionWrites}
 use Rattle.checker.proofs.SourceLemmas.{all_given, text_at_end, text_given}
 use Rattle.engines.proofs.FlushLemmas.{RisesBy-more, RisesBy-none}
 use Rattle.engines.proofs.PrintingLemmas.{appended, stopped_after}
@@ -167,48 +167,6 @@ SessionOnDevices-commands end extra problem opening (Some text) read_count (Some
 SessionOnDevices-commands end extra problem opening (Some text) read_count (Some commands) rest given left_old left_new (Some held) mid after read opens line gives ends =
     commands_end end extra problem opening text (take read_count text) commands given held rest left_old left_new mid after
     (problem_text text (take read_count text) problem read) opens gives line ends
-
--- ---- the counts of failed calls
-
-pub write_counted : (end : End) (script_old script_new out_old out_new : ℕ) → CommandsFail end script_old script_new out_old out_new → out_new ≡ out_old + write_failures end
-write_counted Ended script_old script_new out_old out_new fail = omega (arith, fail.1)
-write_counted (ReadFailed the.Commands) script_old script_new out_old out_new fail = omega (arith, fail.1)
-write_counted WriteFailed script_old script_new out_old out_new fail = fail.1
-write_counted Solved script_old script_new out_old out_new fail = absurd fail
-write_counted Infeasible script_old script_new out_old out_new fail = absurd fail
-write_counted Valid script_old script_new out_old out_new fail = absurd fail
-write_counted NotValid script_old script_new out_old out_new fail = absurd fail
-write_counted (Refused input number line) script_old script_new out_old out_new fail = absurd fail
-write_counted (ReadFailed the.Problem) script_old script_new out_old out_new fail = absurd fail
-write_counted (ReadFailed the.Answer) script_old script_new out_old out_new fail = absurd fail
-write_counted Memory script_old script_new out_old out_new fail = absurd fail
-
-pub reads_counted : (end : End) (script_old script_new out_old out_new : ℕ) → CommandsFail end script_old script_new out_old out_new → script_new ≡ script_old + command_failures end
-reads_counted Ended script_old script_new out_old out_new fail = omega (arith, fail.0)
-reads_counted (ReadFailed the.Commands) script_old script_new out_old out_new fail = fail.0
-reads_counted WriteFailed script_old script_new out_old out_new fail = omega (arith, fail.0)
-reads_counted Solved script_old script_new out_old out_new fail = absurd fail
-reads_counted Infeasible script_old script_new out_old out_new fail = absurd fail
-reads_counted Valid script_old script_new out_old out_new fail = absurd fail
-reads_counted NotValid script_old script_new out_old out_new fail = absurd fail
-reads_counted (Refused input number line) script_old script_new out_old out_new fail = absurd fail
-reads_counted (ReadFailed the.Problem) script_old script_new out_old out_new fail = absurd fail
-reads_counted (ReadFailed the.Answer) script_old script_new out_old out_new fail = absurd fail
-reads_counted Memory script_old script_new out_old out_new fail = absurd fail
-
--- the problem text was read to its end before the commands
-pub no_problem_counted : (end : End) (script_old script_new out_old out_new : ℕ) → CommandsFail end script_old script_new out_old out_new → (before after : ℕ) → after ≡ before → after ≡ before + problem_failures end
-no_problem_counted Ended script_old script_new out_old out_new fail before after same = omega (arith, same)
-no_problem_counted (ReadFailed the.Commands) script_old script_new out_old out_new fail before after same = omega (arith, same)
-no_problem_counted WriteFailed script_old script_new out_old out_new fail before after same = omega (arith, same)
-no_problem_counted Solved script_old script_new out_old out_new fail before after same = absurd fail
-no_problem_counted Infeasible script_old script_new out_old out_new fail before after same = absurd fail
-no_problem_counted Valid script_old script_new out_old out_new fail before after same = absurd fail
-no_problem_counted NotValid script_old script_new out_old out_new fail before after same = absurd fail
-no_problem_counted (Refused input number line) script_old script_new out_old out_new fail before after same = absurd fail
-no_problem_counted (ReadFailed the.Problem) script_old script_new out_old out_new fail before after same = absurd fail
-no_problem_counted (ReadFailed the.Answer) script_old script_new out_old out_new fail before after same = absurd fail
-no_problem_counted Memory script_old script_new out_old out_new fail before after same = absurd fail
 
 -- ---- the counts of flushes
 

@@ -8,11 +8,14 @@ use Rattle.flow_solver.specs.declared.verdict.Verdict.TheVariants.{Best, Infeasi
 use Rattle.flow_solver.specs.Moment.{Moment}
 use Rattle.session.specs.Step.{Reply, TellsVerdict, Shows, Refuses}
 
--- one `f` line an arc, in the order of the arcs
+-- the `f` line of an arc, and one an arc in the order of the arcs
+abbrev pub flow_line_of : ArcRow → ℤ → List ℕ
+flow_line_of arc x = flow_line arc.tail arc.head x
+
 abbrev pub flow_lines : List ArcRow → List ℤ → List ℕ
 flow_lines [] flow = []
 flow_lines (arc ∷ arcs) [] = []
-flow_lines (arc ∷ arcs) (x ∷ flow) = flow_line arc.tail arc.head x ++ flow_lines arcs flow
+flow_lines (arc ∷ arcs) (x ∷ flow) = flow_line_of arc x ++ flow_lines arcs flow
 
 -- one `v` line a node, of which this is the first
 abbrev pub potential_lines : ℕ → List ℤ → List ℕ
@@ -28,6 +31,10 @@ cut_lines id (mark ∷ marks) = (if mark then cut_line id else []) ++ cut_lines 
 abbrev pub outcome_line : Verdict → List ℕ
 outcome_line (Best worth) = value_line worth
 outcome_line (Infeasible shortage) = shortage_line shortage
+
+-- that of a moment
+abbrev pub outcome : Moment → List ℕ
+outcome m = outcome_line m.verdict
 
 -- a best flow, with its potentials where a proof is asked for
 abbrev pub best_text : ℤ → Bool → Moment → List ℕ
@@ -48,6 +55,6 @@ solution proof m = solution_by m.verdict proof m
 
 -- what is printed for a reply, where this is the present moment after the step
 abbrev pub reply_text : Reply → Moment → List ℕ
-reply_text TellsVerdict m = outcome_line m.verdict
+reply_text TellsVerdict m = outcome m
 reply_text (Shows proof) m = solution proof m
 reply_text (Refuses number) m = refusal_line number

@@ -20,8 +20,8 @@ pub record Output : Type 0 where
   pub contents : Option (List ℕ)
   pub flushes : ℕ
 
-abbrev pub output : Option (List ℕ) → ℕ → Output
-output contents flushes = record { contents = contents; flushes = flushes }
+abbrev pub output_of : {S : Type 0} → (S → Option (List ℕ)) → (S → ℕ) → S → Output
+output_of contents flushes sink = record { contents = contents sink; flushes = flushes sink }
 
 -- after the lines of the group that stands open, the turn that a line makes whole is answered by one step
 abbrev pub AnswersLine : SessionState → Option (List Line) → Line → List ℕ → SessionState → Type 0
@@ -85,10 +85,3 @@ CommandsEnd (ReadFailed the.Commands) opening given rest before now = (last : Se
 CommandsEnd WriteFailed opening given rest before now =
     Stopped opening (parts_of given).ended before now ⊎ (IsAtEnd rest × Stopped opening (lines_of given) before now)
 CommandsEnd _ opening given rest before now = ⊥
-
--- which device failed, by how the commands end
-abbrev pub CommandsFail : End → ℕ → ℕ → ℕ → ℕ → Type 0
-CommandsFail Ended script_old script_new out_old out_new = (script_new ≡ script_old) × (out_new ≡ out_old)
-CommandsFail (ReadFailed the.Commands) script_old script_new out_old out_new = (script_new ≡ script_old + 1) × (out_new ≡ out_old)
-CommandsFail WriteFailed script_old script_new out_old out_new = (script_new ≡ script_old) × (out_new ≡ out_old + 1)
-CommandsFail _ script_old script_new out_old out_new = ⊥

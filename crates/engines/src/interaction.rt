@@ -2,14 +2,15 @@
 ghost use Rattle.std.specs.Prelude.{◌≡◌, ℕ, ◌+◌, ◌-◌, ◌^◌, ◌<◌, true, is_err, List, ◌++◌};
 ghost use Rattle.std.specs.Io.{ReadsAtMost};
 ghost use Rattle.std.specs.Io.KnownBytes.{ReadConsumes};
-ghost use Rattle.dimacs_io.specs.Device.{CountsFailure, CountsFlush, EndsBy, LowersByCount, WritesUpTo};
+ghost use Rattle.dimacs_io.specs.Device.{CountsFailure, CountsFlush, EndsBy, Fails, LowersByCount, Writes};
 ghost use Rattle.dimacs_io.specs.declared.device.LastCall.{LastCall};
 ghost use Rattle.dimacs_io.specs.declared.device.LastCall.TheVariants as last;
+ghost use Rattle.session.specs.Session.{present};
 ghost use Rattle.session.specs.Step.{SessionState, state_of};
 ghost use Rattle.checker.specs.Check.{last_by, problem_failures, write_failures};
-ghost use Rattle.engines.specs.Printing.{outcome_line};
-ghost use Rattle.checker.specs.Reading.{Gives};
-ghost use Rattle.engines.specs.Serving.{CommandsEnd, CommandsFail, Finishes, GoesOn, Output, Stands, StaysPassedOn, output};
+ghost use Rattle.engines.specs.Printing.{outcome};
+ghost use Rattle.checker.specs.Reading.{SourceGives};
+ghost use Rattle.engines.specs.Serving.{CommandsEnd, Finishes, GoesOn, Output, Stands, StaysPassedOn, output_of};
 ghost use Rattle.engines.specs.Session.{FlushesOnDevices, SessionOnDevices, command_failures};
 
 use crate::opening::open_text;
@@ -43,22 +44,23 @@ pub fn run_session<P: Source, C: Source, O: Sink>(
     requires script { C.failures script.old < 2 ^ 64 - 1 }
     requires out { O.failures out.old < 2 ^ 64 - 1 }
 
-    // What is written is the printing of a run, or what is left of it at a failed call, and no end comes without its cause.
+    // A run's printing is written, or its beginning at a failed call, and no end lacks its cause.
     ensures session { SessionOnDevices result extra
         (P.remaining problem.old) (P.most_left problem.old - P.most_left problem.new)
         (C.remaining script.old) (C.most_left script.old - C.most_left script.new)
         (O.contents out.old) (O.contents out.new) }
 
     // The end tells of each call that failed.
-    ensures problem_failed { P.failures problem.new ≡ P.failures problem.old + problem_failures result }
-    ensures script_failed { C.failures script.new ≡ C.failures script.old + command_failures result }
-    ensures out_failed { O.failures out.new ≡ O.failures out.old + write_failures result }
+    ensures problem_failed { Fails (problem_failures result) P.failures problem.old problem.new }
+    ensures script_failed { Fails (command_failures result) C.failures script.old script.new }
+    ensures out_failed { Fails (write_failures result) O.failures out.old out.new }
 
-    // A call that failed was the last one on its device, and what is written is passed on: by one flush after what is told
-    // of the opening, and one after each reply.
+    // A call that failed was the last on its device, and what is written is passed on: by one flush
+    // after what is told of the opening, and one after each reply.
     ensures problem_last { problem_failures result ≡ 1 → P.last_failed problem.new ≡ true }
     ensures script_last { command_failures result ≡ 1 → C.last_failed script.new ≡ true }
-    ensures out_flushed { FlushesOnDevices result (C.remaining script.old) (C.most_left script.old - C.most_left script.new)
+    ensures out_flushed { FlushesOnDevices result
+        (C.remaining script.old) (C.most_left script.old - C.most_left script.new)
         (O.flushes out.old) (O.flushes out.new) }
     ensures out_last { O.last_call out.new ≡ last_by result (O.last_call out.old) }
 {
@@ -78,22 +80,23 @@ pub fn run_session_in<A: Allocator + Copy, P: Source, C: Source, O: Sink>(
     requires script { C.failures script.old < 2 ^ 64 - 1 }
     requires out { O.failures out.old < 2 ^ 64 - 1 }
 
-    // What is written is the printing of a run, or what is left of it at a failed call, and no end comes without its cause.
+    // A run's printing is written, or its beginning at a failed call, and no end lacks its cause.
     ensures session { SessionOnDevices result extra
         (P.remaining problem.old) (P.most_left problem.old - P.most_left problem.new)
         (C.remaining script.old) (C.most_left script.old - C.most_left script.new)
         (O.contents out.old) (O.contents out.new) }
 
     // The end tells of each call that failed.
-    ensures problem_failed { P.failures problem.new ≡ P.failures problem.old + problem_failures result }
-    ensures script_failed { C.failures script.new ≡ C.failures script.old + command_failures result }
-    ensures out_failed { O.failures out.new ≡ O.failures out.old + write_failures result }
+    ensures problem_failed { Fails (problem_failures result) P.failures problem.old problem.new }
+    ensures script_failed { Fails (command_failures result) C.failures script.old script.new }
+    ensures out_failed { Fails (write_failures result) O.failures out.old out.new }
 
-    // A call that failed was the last one on its device, and what is written is passed on: by one flush after what is told
-    // of the opening, and one after each reply.
+    // A call that failed was the last on its device, and what is written is passed on: by one flush
+    // after what is told of the opening, and one after each reply.
     ensures problem_last { problem_failures result ≡ 1 → P.last_failed problem.new ≡ true }
     ensures script_last { command_failures result ≡ 1 → C.last_failed script.new ≡ true }
-    ensures out_flushed { FlushesOnDevices result (C.remaining script.old) (C.most_left script.old - C.most_left script.new)
+    ensures out_flushed { FlushesOnDevices result
+        (C.remaining script.old) (C.most_left script.old - C.most_left script.new)
         (O.flushes out.old) (O.flushes out.new) }
     ensures out_last { O.last_call out.new ≡ last_by result (O.last_call out.old) }
 {
@@ -121,7 +124,7 @@ fn tell_opening<A: Allocator + Copy, O: Sink>(
     out: &mut O,
 ) -> Result<(), Broken>
     requires { O.failures out.old < 2 ^ 64 - 1 }
-    ensures bytes { WritesUpTo result (O.contents out.old) (O.contents out.new) (outcome_line session.now.moments.present.verdict) }
+    ensures bytes { Writes O.contents result out.old out.new (outcome (present session.now)) }
     ensures failed { CountsFailure result (O.failures out.old) (O.failures out.new) }
     ensures flushed { CountsFlush result (O.flushes out.old) (O.flushes out.new) }
     ensures last { EndsBy result last.Flush (O.last_call out.new) }
@@ -140,10 +143,12 @@ fn serve_commands<A: Allocator + Copy, C: Source, O: Sink>(
     requires out { O.failures out.old < 2 ^ 64 - 1 }
     requires passed_on { O.last_call out.old ≡ last.Flush }
     ensures served { (given : List ℕ)
-        × Gives (C.remaining script.old) (C.remaining script.new) given (C.most_left script.old) (C.most_left script.new)
+        × SourceGives C.remaining C.most_left script.old script.new given
         × CommandsEnd result (state_of session.old) given (C.remaining script.new)
-        (output (O.contents out.old) (O.flushes out.old)) (output (O.contents out.new) (O.flushes out.new)) }
-    ensures failed { CommandsFail result (C.failures script.old) (C.failures script.new) (O.failures out.old) (O.failures out.new) }
+        (output_of O.contents O.flushes out.old) (output_of O.contents O.flushes out.new) }
+    ensures no_problem { problem_failures result ≡ 0 }
+    ensures script_failed { Fails (command_failures result) C.failures script.old script.new }
+    ensures out_failed { Fails (write_failures result) O.failures out.old out.new }
     ensures script_last { command_failures result ≡ 1 → C.last_failed script.new ≡ true }
     ensures out_last { (before : LastCall) → O.last_call out.new ≡ last_by result before }
 {
@@ -194,9 +199,9 @@ fn serve_piece<A: Allocator + Copy, O: Sink>(
     requires { O.failures out.old < 2 ^ 64 - 1 }
     ensures goes_on { (opening : SessionState) (given : List ℕ) (before : Output)
         → Stands opening given (state_of session.old) group.old cutter.old before
-        (output (O.contents out.old) (O.flushes out.old))
-        → GoesOn result opening (given ++ piece.now) (state_of session.new) group.new cutter.new before
-        (output (O.contents out.new) (O.flushes out.new)) }
+        (output_of O.contents O.flushes out.old)
+        → GoesOn result opening (given ++ piece.now) (state_of session.new) group.new cutter.new
+        before (output_of O.contents O.flushes out.new) }
     ensures failed { CountsFailure result (O.failures out.old) (O.failures out.new) }
     ensures passed_on { StaysPassedOn result (O.last_call out.old) (O.last_call out.new) }
 {
@@ -223,8 +228,9 @@ fn serve_rest<A: Allocator + Copy, O: Sink>(
     requires { O.failures out.old < 2 ^ 64 - 1 }
     ensures rest { (opening : SessionState) (given : List ℕ) (before : Output)
         → Stands opening given (state_of session.old) group.old cutter.now before
-        (output (O.contents out.old) (O.flushes out.old))
-        → Finishes result opening given (state_of session.new) before (output (O.contents out.new) (O.flushes out.new)) }
+        (output_of O.contents O.flushes out.old)
+        → Finishes result opening given (state_of session.new)
+        before (output_of O.contents O.flushes out.new) }
     ensures failed { CountsFailure result (O.failures out.old) (O.failures out.new) }
     ensures passed_on { StaysPassedOn result (O.last_call out.old) (O.last_call out.new) }
 {

@@ -1,5 +1,6 @@
 //! Opens the session of a run: reads its problem, and solves it.
 ghost use Rattle.std.specs.Prelude.{◌≡◌, ℕ, ◌+◌, ◌-◌, ◌^◌, ◌<◌, true, IfErr, IfOk};
+ghost use Rattle.dimacs_io.specs.Device.{Fails};
 ghost use Rattle.checker.specs.Check.{problem_failures};
 ghost use Rattle.session.specs.Step.{state_of};
 ghost use Rattle.engines.specs.Opening.{IsNotOpened, IsOpened};
@@ -21,10 +22,13 @@ pub(crate) fn open_text<A: Allocator + Copy, P: Source>(
     extra: u32,
 ) -> Result<Session<A>, End>
     requires { P.failures input.old < 2 ^ 64 - 1 }
-    ensures opened { IfOk result (λ s. IsOpened (P.remaining input.old) (P.most_left input.old - P.most_left input.new) extra (state_of s)) }
-    ensures ended { IfErr result (λ end. IsNotOpened (P.remaining input.old) (P.most_left input.old - P.most_left input.new) end) }
+    ensures opened { IfOk result (λ s. IsOpened
+        (P.remaining input.old) (P.most_left input.old - P.most_left input.new)
+        extra (state_of s)) }
+    ensures ended { IfErr result (IsNotOpened
+        (P.remaining input.old) (P.most_left input.old - P.most_left input.new)) }
     ensures read { IfOk result (λ _. P.failures input.new ≡ P.failures input.old) }
-    ensures failed { IfErr result (λ end. P.failures input.new ≡ P.failures input.old + problem_failures end) }
+    ensures failed { IfErr result (λ end. Fails (problem_failures end) P.failures input.old input.new) }
     ensures last { IfErr result (λ end. problem_failures end ≡ 1 → P.last_failed input.new ≡ true) }
 {
     let problem = match read_problem(alloc, input) {

@@ -1,15 +1,14 @@
 //! Answers the turns of a command text, each by one step of the session and its reply.
 ghost use Rattle.std.specs.Prelude.{◌≡◌, ◌-◌, ◌^◌, ◌<◌, List, Option};
-ghost use Rattle.std.specs.Option.{option_map};
-ghost use Rattle.dimacs_io.specs.Device.{CountsFailure, CountsFlush, EndsBy, FailsLast, WritesUpTo};
+ghost use Rattle.dimacs_io.specs.Device.{CountsFailure, CountsFlush, EndsBy, FailsLast, Writes};
 ghost use Rattle.dimacs_io.specs.declared.device.LastCall.TheVariants as last;
-ghost use Rattle.dimacs_lines.specs.Cut.{kept};
 ghost use Rattle.dimacs_lines.specs.Lines.{Line};
 ghost use Rattle.session.specs.Reply.{reply_of};
+ghost use Rattle.session.specs.Session.{present};
 ghost use Rattle.session.specs.Step.{state_of};
-ghost use Rattle.session.specs.Turns.{gathered_in};
+ghost use Rattle.session.specs.Turns.{gathered_in, IsPassedAs};
 ghost use Rattle.engines.specs.Printing.{reply_text};
-ghost use Rattle.engines.specs.Serving.{ServesLine, StaysPassedOn, output};
+ghost use Rattle.engines.specs.Serving.{ServesLine, StaysPassedOn, output_of};
 
 use crate::solution::{write_outcome, write_solution};
 use dimacs_io::{Broken, Sink, write_r};
@@ -26,10 +25,10 @@ pub fn serve_line<A: Allocator + Copy, O: Sink>(
     out: &mut O,
 ) -> Result<(), Broken>
     requires { O.failures out.old < 2 ^ 64 - 1 }
-    ensures served { (whole : Line) → option_map (λ l. l.now) line.entry ≡ kept whole
+    ensures served { (whole : Line) → IsPassedAs line.entry whole
         → (opened : Option (List Line)) → group.old ≡ gathered_in (state_of session.old) opened
         → ServesLine result (state_of session.old) opened whole (state_of session.new) group.new
-        (output (O.contents out.old) (O.flushes out.old)) (output (O.contents out.new) (O.flushes out.new)) }
+        (output_of O.contents O.flushes out.old) (output_of O.contents O.flushes out.new) }
     ensures failed { CountsFailure result (O.failures out.old) (O.failures out.new) }
     ensures passed_on { StaysPassedOn result (O.last_call out.old) (O.last_call out.new) }
 {
@@ -46,7 +45,7 @@ fn send_reply<A: Allocator + Copy, O: Sink>(
     out: &mut O,
 ) -> Result<(), Broken>
     requires { O.failures out.old < 2 ^ 64 - 1 }
-    ensures bytes { WritesUpTo result (O.contents out.old) (O.contents out.new) (reply_text (reply_of reply) session.now.moments.present) }
+    ensures bytes { Writes O.contents result out.old out.new (reply_text (reply_of reply) (present session.now)) }
     ensures failed { CountsFailure result (O.failures out.old) (O.failures out.new) }
     ensures flushed { CountsFlush result (O.flushes out.old) (O.flushes out.new) }
     ensures last { EndsBy result last.Flush (O.last_call out.new) }
@@ -62,7 +61,7 @@ fn write_reply<A: Allocator + Copy, O: Sink>(
     out: &mut O,
 ) -> Result<(), Broken>
     requires { O.failures out.old < 2 ^ 64 - 1 }
-    ensures bytes { WritesUpTo result (O.contents out.old) (O.contents out.new) (reply_text (reply_of reply) session.now.moments.present) }
+    ensures bytes { Writes O.contents result out.old out.new (reply_text (reply_of reply) (present session.now)) }
     ensures failed { CountsFailure result (O.failures out.old) (O.failures out.new) }
     ensures flushed { O.flushes out.new ≡ O.flushes out.old }
     ensures last { FailsLast result (O.last_call out.new) }

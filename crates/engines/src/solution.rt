@@ -1,9 +1,9 @@
 //! Writes what is told of the present moment of a session.
 ghost use Rattle.std.specs.Prelude.{◌≡◌, ◌-◌, ◌^◌, ◌<◌, ◌≤◌, [], length, if◌then◌else◌};
-ghost use Rattle.dimacs_io.specs.Line.{cut_line, flow_line, potential_line};
-ghost use Rattle.dimacs_io.specs.Device.{CountsFailure, FailsLast, WritesUpTo};
-ghost use Rattle.engines.specs.Printing.{best_text, cut_lines, flow_lines, outcome_line, potential_lines, solution, breach_text};
-ghost use Rattle.network.specs.Instance.{numbered_flow};
+ghost use Rattle.dimacs_io.specs.Line.{cut_line, potential_line};
+ghost use Rattle.dimacs_io.specs.Device.{CountsFailure, FailsLast, Writes};
+ghost use Rattle.engines.specs.Printing.{best_text, cut_lines, flow_line_of, flow_lines, outcome, potential_lines, solution, breach_text};
+ghost use Rattle.session.specs.Session.{present};
 
 use dimacs_io::{Broken, Sink, write_f, write_i, write_k, write_s, write_v, writes_follow};
 use dimacs_text::ArcRow;
@@ -18,7 +18,7 @@ pub fn write_outcome<A: Allocator + Copy, O: Sink>(
     out: &mut O,
 ) -> Result<(), Broken>
     requires { O.failures out.old < 2 ^ 64 - 1 }
-    ensures bytes { WritesUpTo result (O.contents out.old) (O.contents out.new) (outcome_line session.now.moments.present.verdict) }
+    ensures bytes { Writes O.contents result out.old out.new (outcome (present session.now)) }
     ensures failed { CountsFailure result (O.failures out.old) (O.failures out.new) }
     ensures flushed { O.flushes out.new ≡ O.flushes out.old }
     ensures last { FailsLast result (O.last_call out.new) }
@@ -37,7 +37,7 @@ pub fn write_solution<A: Allocator + Copy, O: Sink>(
     out: &mut O,
 ) -> Result<(), Broken>
     requires { O.failures out.old < 2 ^ 64 - 1 }
-    ensures bytes { WritesUpTo result (O.contents out.old) (O.contents out.new) (solution proof session.now.moments.present) }
+    ensures bytes { Writes O.contents result out.old out.new (solution proof (present session.now)) }
     ensures failed { CountsFailure result (O.failures out.old) (O.failures out.new) }
     ensures flushed { O.flushes out.new ≡ O.flushes out.old }
     ensures last { FailsLast result (O.last_call out.new) }
@@ -56,7 +56,7 @@ fn write_best<A: Allocator + Copy, O: Sink>(
     out: &mut O,
 ) -> Result<(), Broken>
     requires { O.failures out.old < 2 ^ 64 - 1 }
-    ensures bytes { WritesUpTo result (O.contents out.old) (O.contents out.new) (best_text worth proof session.now.moments.present) }
+    ensures bytes { Writes O.contents result out.old out.new (best_text worth proof (present session.now)) }
     ensures failed { CountsFailure result (O.failures out.old) (O.failures out.new) }
     ensures flushed { O.flushes out.new ≡ O.flushes out.old }
     ensures last { FailsLast result (O.last_call out.new) }
@@ -74,8 +74,8 @@ fn write_breach<A: Allocator + Copy, O: Sink>(
     out: &mut O,
 ) -> Result<(), Broken>
     requires { O.failures out.old < 2 ^ 64 - 1 }
-    ensures bytes { WritesUpTo result (O.contents out.old) (O.contents out.new)
-        (breach_text shortage session.now.moments.present.cut) }
+    ensures bytes { Writes O.contents result out.old out.new
+        (breach_text shortage (present session.now).cut) }
     ensures failed { CountsFailure result (O.failures out.old) (O.failures out.new) }
     ensures flushed { O.flushes out.new ≡ O.flushes out.old }
     ensures last { FailsLast result (O.last_call out.new) }
@@ -90,7 +90,7 @@ fn write_flows<O: Sink>(net: &Network, flow: &[i64], out: &mut O) -> Result<(), 
     requires out { O.failures out.old < 2 ^ 64 - 1 }
     requires one_an_arc { length flow.now ≡ length net.now.arcs }
     requires count { length flow.now < 2 ^ 32 - 1 }
-    ensures bytes { WritesUpTo result (O.contents out.old) (O.contents out.new) (flow_lines net.now.arcs flow.now) }
+    ensures bytes { Writes O.contents result out.old out.new (flow_lines net.now.arcs flow.now) }
     ensures failed { CountsFailure result (O.failures out.old) (O.failures out.new) }
     ensures flushed { O.flushes out.new ≡ O.flushes out.old }
     ensures last { FailsLast result (O.last_call out.new) }
@@ -107,7 +107,7 @@ fn write_flows<O: Sink>(net: &Network, flow: &[i64], out: &mut O) -> Result<(), 
 /// Writes the flow of an arc.
 fn write_arc<O: Sink>(arc: &ArcRow, x: &i64, out: &mut O) -> Result<(), Broken>
     requires { O.failures out.old < 2 ^ 64 - 1 }
-    ensures bytes { WritesUpTo result (O.contents out.old) (O.contents out.new) (flow_line arc.now.tail arc.now.head x.now) }
+    ensures bytes { Writes O.contents result out.old out.new (flow_line_of arc.now x.now) }
     ensures failed { CountsFailure result (O.failures out.old) (O.failures out.new) }
     ensures flushed { O.flushes out.new ≡ O.flushes out.old }
     ensures last { FailsLast result (O.last_call out.new) }
@@ -119,7 +119,7 @@ fn write_arc<O: Sink>(arc: &ArcRow, x: &i64, out: &mut O) -> Result<(), Broken>
 fn write_proof<O: Sink>(proof: bool, potentials: &[i64], out: &mut O) -> Result<(), Broken>
     requires out { O.failures out.old < 2 ^ 64 - 1 }
     requires count { length potentials.now < 2 ^ 32 - 1 }
-    ensures bytes { WritesUpTo result (O.contents out.old) (O.contents out.new)
+    ensures bytes { Writes O.contents result out.old out.new
         (if proof then potential_lines 1 potentials.now else []) }
     ensures failed { CountsFailure result (O.failures out.old) (O.failures out.new) }
     ensures flushed { O.flushes out.new ≡ O.flushes out.old }
@@ -136,7 +136,7 @@ fn write_proof<O: Sink>(proof: bool, potentials: &[i64], out: &mut O) -> Result<
 fn write_potentials<O: Sink>(potentials: &[i64], out: &mut O) -> Result<(), Broken>
     requires out { O.failures out.old < 2 ^ 64 - 1 }
     requires count { length potentials.now < 2 ^ 32 - 1 }
-    ensures bytes { WritesUpTo result (O.contents out.old) (O.contents out.new) (potential_lines 1 potentials.now) }
+    ensures bytes { Writes O.contents result out.old out.new (potential_lines 1 potentials.now) }
     ensures failed { CountsFailure result (O.failures out.old) (O.failures out.new) }
     ensures flushed { O.flushes out.new ≡ O.flushes out.old }
     ensures last { FailsLast result (O.last_call out.new) }
@@ -150,7 +150,7 @@ fn write_potentials<O: Sink>(potentials: &[i64], out: &mut O) -> Result<(), Brok
 /// Writes the potential of a node.
 fn write_node<O: Sink>(id: u32, potential: &i64, out: &mut O) -> Result<(), Broken>
     requires { O.failures out.old < 2 ^ 64 - 1 }
-    ensures bytes { WritesUpTo result (O.contents out.old) (O.contents out.new) (potential_line id potential.now) }
+    ensures bytes { Writes O.contents result out.old out.new (potential_line id potential.now) }
     ensures failed { CountsFailure result (O.failures out.old) (O.failures out.new) }
     ensures flushed { O.flushes out.new ≡ O.flushes out.old }
     ensures last { FailsLast result (O.last_call out.new) }
@@ -162,7 +162,7 @@ fn write_node<O: Sink>(id: u32, potential: &i64, out: &mut O) -> Result<(), Brok
 fn write_cut<O: Sink>(marks: &[bool], out: &mut O) -> Result<(), Broken>
     requires out { O.failures out.old < 2 ^ 64 - 1 }
     requires count { length marks.now < 2 ^ 32 - 1 }
-    ensures bytes { WritesUpTo result (O.contents out.old) (O.contents out.new) (cut_lines 1 marks.now) }
+    ensures bytes { Writes O.contents result out.old out.new (cut_lines 1 marks.now) }
     ensures failed { CountsFailure result (O.failures out.old) (O.failures out.new) }
     ensures flushed { O.flushes out.new ≡ O.flushes out.old }
     ensures last { FailsLast result (O.last_call out.new) }
@@ -176,7 +176,7 @@ fn write_cut<O: Sink>(marks: &[bool], out: &mut O) -> Result<(), Broken>
 /// Writes a node where it is marked.
 fn write_mark<O: Sink>(id: u32, mark: bool, out: &mut O) -> Result<(), Broken>
     requires { O.failures out.old < 2 ^ 64 - 1 }
-    ensures bytes { WritesUpTo result (O.contents out.old) (O.contents out.new) (if mark then cut_line id else []) }
+    ensures bytes { Writes O.contents result out.old out.new (if mark then cut_line id else []) }
     ensures failed { CountsFailure result (O.failures out.old) (O.failures out.new) }
     ensures flushed { O.flushes out.new ≡ O.flushes out.old }
     ensures last { FailsLast result (O.last_call out.new) }

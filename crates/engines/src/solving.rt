@@ -1,8 +1,9 @@
 //! Solves a problem, and writes the solution.
-ghost use Rattle.std.specs.Prelude.{◌≡◌, ◌+◌, ◌-◌, ◌^◌, ◌<◌, true};
-ghost use Rattle.dimacs_io.specs.Device.{CountsFailure, CountsFlush, EndsBy, RisesBy, WritesUpTo};
+ghost use Rattle.std.specs.Prelude.{◌≡◌, ◌-◌, ◌^◌, ◌<◌, true};
+ghost use Rattle.dimacs_io.specs.Device.{CountsFailure, CountsFlush, EndsBy, Fails, RisesBy, Writes};
 ghost use Rattle.dimacs_io.specs.declared.device.LastCall.TheVariants as last;
 ghost use Rattle.checker.specs.Check.{flushes_by, last_by, problem_failures, write_failures};
+ghost use Rattle.session.specs.Session.{present};
 ghost use Rattle.engines.specs.Printing.{solution};
 ghost use Rattle.engines.specs.Solve.{SolveOnDevices, end_by};
 
@@ -29,10 +30,10 @@ pub fn solve<P: Source, O: Sink>(alloc: Global, input: &mut P, out: &mut O, proo
         (O.contents out.old) (O.contents out.new) }
 
     // The end tells of each call that failed.
-    ensures input_failed { P.failures input.new ≡ P.failures input.old + problem_failures result }
-    ensures out_failed { O.failures out.new ≡ O.failures out.old + write_failures result }
+    ensures input_failed { Fails (problem_failures result) P.failures input.old input.new }
+    ensures out_failed { Fails (write_failures result) O.failures out.old out.new }
 
-    // A call that failed was the last one on its device, and what is written is passed on, by one flush.
+    // A call that failed was the last on its device, and one flush passes on what is written.
     ensures input_last { problem_failures result ≡ 1 → P.last_failed input.new ≡ true }
     ensures out_flushed { RisesBy (flushes_by result) (O.flushes out.old) (O.flushes out.new) }
     ensures out_last { O.last_call out.new ≡ last_by result (O.last_call out.old) }
@@ -58,7 +59,7 @@ pub fn solve<P: Source, O: Sink>(alloc: Global, input: &mut P, out: &mut O, proo
 /// Writes the solution of the present moment, and passes it on.
 fn tell_solution<O: Sink>(session: &Session, proof: bool, out: &mut O) -> Result<(), Broken>
     requires { O.failures out.old < 2 ^ 64 - 1 }
-    ensures bytes { WritesUpTo result (O.contents out.old) (O.contents out.new) (solution proof session.now.moments.present) }
+    ensures bytes { Writes O.contents result out.old out.new (solution proof (present session.now)) }
     ensures failed { CountsFailure result (O.failures out.old) (O.failures out.new) }
     ensures flushed { CountsFlush result (O.flushes out.old) (O.flushes out.new) }
     ensures last { EndsBy result last.Flush (O.last_call out.new) }

@@ -1,5 +1,5 @@
 -- What a task does to the devices that it is performed on.
-use Rattle.std.specs.Prelude.{◌≡◌, ◌⊎◌, ◌≢◌, ℕ, List, Option, None, Some}
+use Rattle.std.specs.Prelude.{◌≡◌, ◌⊎◌, ◌≢◌, ℕ, ◌-◌, List, Option, None, Some}
 use Rattle.std.specs.Borrow.{Bor}
 use Rattle.dimacs_io.specs.Device.{RisesBy}
 use Rattle.checker.specs.Check.{CheckOnDevices, answer_failures, flushes_by}
@@ -17,6 +17,10 @@ use Rattle.mcf.specs.declared.command_line.Task.TheVariants.{Solve, Session, Che
 pub record Given : Type 0 where
   pub known : Option (List ℕ)
   pub count : ℕ
+
+-- the same by what a source tells before and after
+abbrev pub given_by : {S : Type 0} → (S → Option (List ℕ)) → (S → ℕ) → S → S → Given
+given_by remaining most_left old new = record { known = remaining old; count = most_left old - most_left new }
 
 -- the engine of the task runs: on the problem, with a proof or not; on the problem and the commands, with room for so many
 -- arcs more; or on the problem and the answer

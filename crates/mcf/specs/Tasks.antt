@@ -2,7 +2,7 @@
 use Rattle.std.specs.Prelude.{◌≡◌, ◌↔◌, ℕ, pos, true, List, Option, Some, Ok, MatchOption, codes, option_map}
 use Rattle.std.specs.Str.Parse.{ParsesUnsigned}
 use Rattle.clap.specs.Simple.{on_top}
-use Rattle.clap.specs.Words.{App, Row, Rule, Text, first_of, one_of, new_app, new_rule, with_rule, with_subcommand}
+use Rattle.clap.specs.Words.{App, Row, Rule, Text, first_of, one_of, new_app, new_rule, subcommand_of, with_rule, with_subcommand}
 use Rattle.clap.specs.declared.builder.ArgAction.TheVariants.{Set, SetTrue}
 use Rattle.clap.specs.declared.builder.value_parser.ValueParser.TheVariants as parser
 use Rattle.mcf.specs.declared.command_line.Task.{Task}
@@ -43,6 +43,10 @@ named = on_top (λ top. record top { has_version = true; subcommand_required = t
 -- `mcf` with its commands
 abbrev pub program : App
 program = with_subcommand (with_subcommand (with_subcommand named solve_command.top) session_command.top) check_command.top
+
+-- the name and the matches of the command that the words name
+abbrev pub command_of : List Text → Option (Text × List Row)
+command_of words = subcommand_of program words
 
 -- the number that a text says, and 1,000 where there is none
 abbrev pub IsExtra : Option Text → ℕ → Type 0

@@ -1,7 +1,7 @@
 //! The task that a command line names.
 ghost use Rattle.std.specs.Prelude.{◌≡◌, IfOk, Some, codes, map, string_bytes};
-ghost use Rattle.clap.specs.Words.{found_of, rows_of, subcommand_of};
-ghost use Rattle.mcf.specs.Tasks.{Names, program as program_command};
+ghost use Rattle.clap.specs.Words.{found_of, rows_of};
+ghost use Rattle.mcf.specs.Tasks.{Names, command_of};
 
 use crate::command_line::{DEFAULT_EXTRA, Task, Usage};
 use crate::commands::program;
@@ -10,7 +10,7 @@ use std::alloc::Global;
 
 /// Reads the words of a command line, the program's own name first.
 pub fn task<'a>(alloc: Global, words: &'a [String]) -> Result<Task<'a>, Usage>
-    ensures { IfOk result (Names (subcommand_of program_command (map string_bytes words.entry.now))) }
+    ensures { IfOk result (Names (command_of (map string_bytes words.entry.now))) }
 {
     let matches = program(alloc)?.try_get_matches_from(words)?;
     let Some((name, found)) = matches.subcommand() else {

@@ -1,11 +1,11 @@
 //! Performs a task on devices, and the task that words name on the texts that it names.
 
-ghost use Rattle.std.specs.Prelude.{◌≡◌, ◌+◌, ◌-◌, ◌^◌, ◌<◌, ◌⊎◌, true, IfOk, IfErr, map, string_bytes};
+ghost use Rattle.std.specs.Prelude.{◌≡◌, ◌-◌, ◌^◌, ◌<◌, ◌⊎◌, true, IfOk, IfErr, map, string_bytes};
+ghost use Rattle.dimacs_io.specs.Device.{Fails};
 ghost use Rattle.checker.specs.Check.{last_by, problem_failures, write_failures};
 ghost use Rattle.checker.specs.declared.end.End.TheVariants as end;
-ghost use Rattle.clap.specs.Words.{subcommand_of};
-ghost use Rattle.mcf.specs.Performing.{Performs, PerformsFlushes, PerformsNamed, PerformsOnTexts, answer_failed, commands_failed};
-ghost use Rattle.mcf.specs.Tasks.{program};
+ghost use Rattle.mcf.specs.Performing.{Performs, PerformsFlushes, PerformsNamed, PerformsOnTexts, answer_failed, commands_failed, given_by};
+ghost use Rattle.mcf.specs.Tasks.{command_of};
 
 use crate::command_line::{Task, Usage};
 use crate::parse::task;
@@ -30,22 +30,22 @@ pub fn perform_on<P: Source, A: Source, C: Source, O: Sink>(
     requires commands { C.failures commands.old < 2 ^ 64 - 1 }
     requires out { O.failures out.old < 2 ^ 64 - 1 }
     ensures engine { Performs task.entry result
-        (record { known = P.remaining problem.old; count = P.most_left problem.old - P.most_left problem.new })
-        (record { known = A.remaining answer.old; count = A.most_left answer.old - A.most_left answer.new })
-        (record { known = C.remaining commands.old; count = C.most_left commands.old - C.most_left commands.new })
+        (given_by P.remaining P.most_left problem.old problem.new)
+        (given_by A.remaining A.most_left answer.old answer.new)
+        (given_by C.remaining C.most_left commands.old commands.new)
         (O.contents out.old) (O.contents out.new) }
 
     // The end tells of each call that failed.
-    ensures problem_failed { P.failures problem.new ≡ P.failures problem.old + problem_failures result }
-    ensures answer_failed { A.failures answer.new ≡ A.failures answer.old + answer_failed task.entry result }
-    ensures commands_failed { C.failures commands.new ≡ C.failures commands.old + commands_failed task.entry result }
-    ensures out_failed { O.failures out.new ≡ O.failures out.old + write_failures result }
+    ensures problem_failed { Fails (problem_failures result) P.failures problem.old problem.new }
+    ensures answer_failed { Fails (answer_failed task.entry result) A.failures answer.old answer.new }
+    ensures commands_failed { Fails (commands_failed task.entry result) C.failures commands.old commands.new }
+    ensures out_failed { Fails (write_failures result) O.failures out.old out.new }
 
-    // A call that failed was the last one on its device, and what is written is passed on, by as many flushes as the engine
-    // makes.
+    // A call that failed was the last on its device, and what is written is passed on, by as many
+    // flushes as the engine makes.
     ensures problem_last { problem_failures result ≡ 1 → P.last_failed problem.new ≡ true }
     ensures out_flushed { PerformsFlushes task.entry result
-        (record { known = C.remaining commands.old; count = C.most_left commands.old - C.most_left commands.new })
+        (given_by C.remaining C.most_left commands.old commands.new)
         (O.flushes out.old) (O.flushes out.new) }
     ensures out_last { O.last_call out.new ≡ last_by result (O.last_call out.old) }
 {
@@ -65,8 +65,9 @@ pub fn perform_on_texts<T: Texts, O: Sink>(
     out: &mut O,
 ) -> End
     requires { O.failures out.old < 2 ^ 64 - 1 }
-    ensures engine { PerformsOnTexts (T.file texts.now) (T.typed texts.now) task.entry result (O.contents out.old) (O.contents out.new) }
-    ensures out_failed { O.failures out.new ≡ O.failures out.old + write_failures result }
+    ensures engine { PerformsOnTexts (T.file texts.now) (T.typed texts.now) task.entry result
+        (O.contents out.old) (O.contents out.new) }
+    ensures out_failed { Fails (write_failures result) O.failures out.old out.new }
     ensures out_last { O.last_call out.new ≡ last_by result (O.last_call out.old) }
 {
     let mut input = texts.input();
@@ -108,9 +109,10 @@ pub fn perform<T: Texts, O: Sink>(
 ) -> Result<End, Usage>
     requires { O.failures out.old < 2 ^ 64 - 1 }
     ensures performed { IfOk result (λ end. PerformsNamed (T.file texts.now) (T.typed texts.now)
-        (subcommand_of program (map string_bytes words.entry.now)) end (O.contents out.old) (O.contents out.new)) }
+        (command_of (map string_bytes words.entry.now)) end
+        (O.contents out.old) (O.contents out.new)) }
     ensures unnamed { IfErr result (λ _. O.contents out.new ≡ O.contents out.old) }
-    ensures out_failed { IfOk result (λ end. O.failures out.new ≡ O.failures out.old + write_failures end) }
+    ensures out_failed { IfOk result (λ end. Fails (write_failures end) O.failures out.old out.new) }
     ensures out_last { IfOk result (λ end. O.last_call out.new ≡ last_by end (O.last_call out.old)) }
 {
     let named = task(alloc, words)?;

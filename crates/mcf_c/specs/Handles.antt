@@ -1,8 +1,11 @@
 -- What stands behind a handle.
-use Rattle.std.specs.Prelude.{◌≡◌, IfSome, List, Option, None, Some}
-use Rattle.std.specs.Option.{option_map}
+use Rattle.std.specs.Prelude.{◌≡◌, ℕ, ℤ, pos, Bool, IfSome, List, MatchOption, Option, None, Some}
+use Rattle.std.specs.Option.{option_map, unwrap_or}
+use Rattle.calls.specs.declared.status.TheConstants.{CLOSED}
+use Rattle.calls.specs.Library.{given_of}
 use Rattle.dimacs_lines.specs.Lines.{Line}
 use Rattle.dimacs_text.specs.Group.{Gathered}
+use Rattle.flow_solver.specs.Moment.{Moment}
 use Rattle.session.specs.Step.{SessionState, state_of}
 use Rattle.session.specs.Turns.{gathered_in}
 use Rattle.mcf_c.specs.declared.handle.Handle.{Handle}
@@ -23,3 +26,21 @@ group_behind handle = group_in handle.pointer.plan
 -- the group that stands open there holds these lines, where the handle is open
 abbrev pub HoldsLines : Handle → Option (List Line) → Type 0
 HoldsLines handle opened = IfSome (state_behind handle) (λ s. group_behind handle ≡ gathered_in s opened)
+
+-- they are the same lines after as before, where they were so
+abbrev pub KeepsLines : Handle → Handle → Type 0
+KeepsLines old new = (opened : Option (List Line)) → HoldsLines old opened → HoldsLines new opened
+
+-- a closed handle stays so, and this is told; an open one stays open, and goes from its state to the new one
+abbrev pub Goes : Handle → ℤ → Handle → (SessionState → ℕ → SessionState → Type 0) → Type 0
+Goes old status new Step =
+    MatchOption (state_behind old) ((status ≡ CLOSED) × (state_behind new ≡ None))
+    (λ before. (number : ℕ) × (status ≡ pos number) × (after : SessionState) × (state_behind new ≡ Some after) × Step before number after)
+
+-- this holds of the present moment behind a handle, where it is open
+abbrev pub AtPresent : Handle → (Moment → Type 0) → Type 0
+AtPresent handle Holds = IfSome (state_behind handle) (λ s. Holds s.moments.present)
+
+-- what is told of a list of the present moment, for a room of this length
+abbrev pub given_behind : Handle → (Moment → Bool) → (Moment → ℕ) → ℕ → ℤ
+given_behind handle there count room = unwrap_or (option_map (λ s. given_of s.moments.present there count room) (state_behind handle)) CLOSED

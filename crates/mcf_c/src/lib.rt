@@ -3,21 +3,17 @@
 //! Each call of a session takes it out of its handle, does its work on it by a function of `calls`, and puts it back.
 #![tactic(auto)]
 
-ghost use Rattle.std.specs.Prelude.{◌≡◌, ◌≢◌, ◌⊎◌, ℕ, ℤ, List, Option, None, Some, Err, pos, length, IfSome};
-ghost use Rattle.dimacs_text.specs.Reading.{reads};
+ghost use Rattle.std.specs.Prelude.{◌≡◌, ◌≢◌, List, Option, None, pos, length, IfSome};
 ghost use Rattle.dimacs_text.specs.declared.command.Command.TheVariants as commands;
-ghost use Rattle.dimacs_lines.specs.declared.fault.TextFault.TheVariants as faults;
-ghost use Rattle.flow_solver.specs.Answer.{AreGreatestPotentials, IsChosenCut};
-ghost use Rattle.flow_solver.specs.declared.verdict.Verdict.TheVariants.{Infeasible};
-ghost use Rattle.network.specs.Instance.{IsBest, IsBreach, IsCertified, IsLegal, at_node, is_marked, reduced};
+ghost use Rattle.network.specs.Instance.{IsBest};
 ghost use Rattle.session.specs.Parts.{flow_of};
 ghost use Rattle.dimacs_lines.specs.Lines.{Line};
 ghost use Rattle.session.specs.Step.{StepBy};
 ghost use Rattle.calls.specs.Arrays.{IsEven, IsFirstFault, IsOpeningBy};
 ghost use Rattle.calls.specs.Answer.{AreListsKept, IsSameRoom, IsSolved, IsTooShort};
 ghost use Rattle.calls.specs.declared.status.TheConstants.{FAULT, OTHER_LENGTH, TOO_SHORT};
-ghost use Rattle.calls.specs.Library.{Goes, IsOpening, IsViewOf, Steps, Took, arc_count, given_of, has_cut, has_flow, node_count};
-ghost use Rattle.mcf_c.specs.Handles.{HoldsLines, group_behind, state_behind};
+ghost use Rattle.calls.specs.Library.{AreGreatest, CertifyFlow, IsBreachOf, IsChosen, IsFaultOf, IsOpening, IsViewOf, NoneIsLegal, Steps, Took, arc_count, has_cut, has_flow, node_count};
+ghost use Rattle.mcf_c.specs.Handles.{AtPresent, Goes, HoldsLines, KeepsLines, given_behind, group_behind, state_behind};
 
 mod handle;
 mod loose;
@@ -40,7 +36,7 @@ use std::alloc::Global;
 #[unsafe(no_mangle)]
 pub extern "C" fn mcf_solve(alloc: Global, text: &[u8], answer: &mut Answer) -> i32
     ensures solved { result ≡ pos 0 → IsSolved text.now answer.old answer.new }
-    ensures fault { result ≡ FAULT → reads text.now ≡ Err (faults.Fault answer.new.fault.number answer.new.fault.line) }
+    ensures fault { result ≡ FAULT → IsFaultOf text.now answer.new.fault }
     ensures too_short { result ≡ TOO_SHORT → IsTooShort text.now answer.old answer.new }
     ensures otherwise { result ≢ pos 0 → result ≢ FAULT → result ≢ TOO_SHORT → result ≡ MEMORY }
     ensures refused { result ≢ pos 0 → AreListsKept answer.old answer.new }
@@ -62,10 +58,11 @@ pub extern "C" fn mcf_open(
     extra: u32,
     fault: &mut Fault,
 ) -> i32
-    ensures opened { result ≡ pos 0 → (state_behind handle.old ≡ None) × IfSome (state_behind handle.new) (IsOpening text.now extra) }
+    ensures was_closed { result ≡ pos 0 → state_behind handle.old ≡ None }
+    ensures opened { result ≡ pos 0 → IfSome (state_behind handle.new) (IsOpening text.now extra) }
     ensures open { result ≡ pos 0 → state_behind handle.new ≢ None }
     ensures no_group { result ≡ pos 0 → group_behind handle.new ≡ None }
-    ensures fault { result ≡ FAULT → reads text.now ≡ Err (faults.Fault fault.new.number fault.new.line) }
+    ensures fault { result ≡ FAULT → IsFaultOf text.now fault.new }
     ensures in_use { result ≡ OPEN → state_behind handle.old ≢ None }
     ensures otherwise { result ≢ pos 0 → result ≢ FAULT → result ≢ OPEN → result ≡ MEMORY }
     ensures no_fault { result ≢ FAULT → fault.new ≡ fault.old }
@@ -104,7 +101,8 @@ pub extern "C" fn mcf_open_arrays(
     extra: u32,
     fault: &mut ArrayFault,
 ) -> i32
-    ensures opened { result ≡ pos 0 → (state_behind handle.old ≡ None) × IfSome (state_behind handle.new) (IsOpeningBy arrays.now extra) }
+    ensures was_closed { result ≡ pos 0 → state_behind handle.old ≡ None }
+    ensures opened { result ≡ pos 0 → IfSome (state_behind handle.new) (IsOpeningBy arrays.now extra) }
     ensures open { result ≡ pos 0 → state_behind handle.new ≢ None }
     ensures no_group { result ≡ pos 0 → group_behind handle.new ≡ None }
     ensures lengths { result ≡ OTHER_LENGTH → IsEven arrays.now → ⊥ }
@@ -143,7 +141,7 @@ pub extern "C" fn mcf_open_arrays(
 #[unsafe(no_mangle)]
 pub extern "C" fn mcf_command(alloc: Global, handle: &mut Handle, line: &[u8]) -> i32
     ensures { (opened : Option (List Line)) → HoldsLines handle.old opened
-        → Goes (state_behind handle.old) result (state_behind handle.new) (λ old number new. Took old opened line.now number new (group_behind handle.new)) }
+        → Goes handle.old result handle.new (Took opened line.now (group_behind handle.new)) }
 {
     let Some(mut plan) = handle.take(alloc) else {
         return CLOSED;
@@ -157,9 +155,9 @@ pub extern "C" fn mcf_command(alloc: Global, handle: &mut Handle, line: &[u8]) -
 /// Goes back one moment. Answers 0, or 25 where there is none, or `CLOSED`. A group that stands open stays so.
 #[unsafe(no_mangle)]
 pub extern "C" fn mcf_undo(alloc: Global, handle: &mut Handle) -> i32
-    ensures goes { Goes (state_behind handle.old) result (state_behind handle.new) (λ old. Steps (StepBy commands.Undo old)) }
+    ensures goes { Goes handle.old result handle.new (λ old. Steps (StepBy commands.Undo old)) }
     ensures group { group_behind handle.new ≡ group_behind handle.old }
-    ensures lines { (opened : Option (List Line)) → HoldsLines handle.old opened → HoldsLines handle.new opened }
+    ensures lines { KeepsLines handle.old handle.new }
 {
     let Some(mut plan) = handle.take(alloc) else {
         return CLOSED;
@@ -172,9 +170,9 @@ pub extern "C" fn mcf_undo(alloc: Global, handle: &mut Handle) -> i32
 /// Goes on one moment. Answers 0, or 26 where there is none, or `CLOSED`. A group that stands open stays so.
 #[unsafe(no_mangle)]
 pub extern "C" fn mcf_redo(alloc: Global, handle: &mut Handle) -> i32
-    ensures goes { Goes (state_behind handle.old) result (state_behind handle.new) (λ old. Steps (StepBy commands.Redo old)) }
+    ensures goes { Goes handle.old result handle.new (λ old. Steps (StepBy commands.Redo old)) }
     ensures group { group_behind handle.new ≡ group_behind handle.old }
-    ensures lines { (opened : Option (List Line)) → HoldsLines handle.old opened → HoldsLines handle.new opened }
+    ensures lines { KeepsLines handle.old handle.new }
 {
     let Some(mut plan) = handle.take(alloc) else {
         return CLOSED;
@@ -187,7 +185,8 @@ pub extern "C" fn mcf_redo(alloc: Global, handle: &mut Handle) -> i32
 /// Tells the verdict of the present moment, its sizes, and how many moments are past and future. Answers 0 or `CLOSED`.
 #[unsafe(no_mangle)]
 pub extern "C" fn mcf_look(alloc: Global, handle: &mut Handle, view: &mut View) -> i32
-    ensures shown { IfSome (state_behind handle.old) (λ s. (result ≡ pos 0) × IsViewOf s.moments view.new) }
+    ensures status { IfSome (state_behind handle.old) (λ _. result ≡ pos 0) }
+    ensures shown { IfSome (state_behind handle.old) (λ s. IsViewOf s.moments view.new) }
     ensures closed { state_behind handle.old ≡ None → (result ≡ CLOSED) × (view.new ≡ view.old) }
     ensures unchanged { state_behind handle.new ≡ state_behind handle.old }
     ensures group { group_behind handle.new ≡ group_behind handle.old }
@@ -205,9 +204,9 @@ pub extern "C" fn mcf_look(alloc: Global, handle: &mut Handle, view: &mut View) 
 /// Answers 0, or `NOT_THERE` where no flow is legal, `OTHER_LENGTH` or `CLOSED`, after which the room is as before.
 #[unsafe(no_mangle)]
 pub extern "C" fn mcf_flow(alloc: Global, handle: &mut Handle, flow: &mut [i64]) -> i32
-    ensures status { result ≡ given_of (state_behind handle.old) has_flow arc_count (length flow.old) }
-    ensures copied { result ≡ pos 0 → IfSome (state_behind handle.old) (λ s. flow.new ≡ flow_of s.moments.present) }
-    ensures best { result ≡ pos 0 → IfSome (state_behind handle.old) (λ s. IsBest s.moments.present.instance flow.new) }
+    ensures status { result ≡ given_behind handle.old has_flow arc_count (length flow.old) }
+    ensures copied { result ≡ pos 0 → AtPresent handle.old (λ m. flow.new ≡ flow_of m) }
+    ensures best { result ≡ pos 0 → AtPresent handle.old (λ m. IsBest m.instance flow.new) }
     ensures room { result ≢ pos 0 → flow.new ≡ flow.old }
     ensures unchanged { state_behind handle.new ≡ state_behind handle.old }
     ensures group { group_behind handle.new ≡ group_behind handle.old }
@@ -225,11 +224,10 @@ pub extern "C" fn mcf_flow(alloc: Global, handle: &mut Handle, flow: &mut [i64])
 /// Answers 0, or `NOT_THERE` where no flow is legal, `OTHER_LENGTH` or `CLOSED`, after which the room is as before.
 #[unsafe(no_mangle)]
 pub extern "C" fn mcf_potentials(alloc: Global, handle: &mut Handle, potentials: &mut [i64]) -> i32
-    ensures status { result ≡ given_of (state_behind handle.old) has_flow node_count (length potentials.old) }
-    ensures copied { result ≡ pos 0 → IfSome (state_behind handle.old) (λ s. potentials.new ≡ s.moments.present.potentials) }
-    ensures certified { result ≡ pos 0 → IfSome (state_behind handle.old) (λ s. IsCertified s.moments.present.instance (flow_of s.moments.present) (at_node potentials.new)) }
-    ensures greatest { result ≡ pos 0 → IfSome (state_behind handle.old)
-        (λ s. AreGreatestPotentials (reduced s.moments.present.instance) s.moments.present.flow (at_node potentials.new)) }
+    ensures status { result ≡ given_behind handle.old has_flow node_count (length potentials.old) }
+    ensures copied { result ≡ pos 0 → AtPresent handle.old (λ m. potentials.new ≡ m.potentials) }
+    ensures certified { result ≡ pos 0 → AtPresent handle.old (CertifyFlow potentials.new) }
+    ensures greatest { result ≡ pos 0 → AtPresent handle.old (AreGreatest potentials.new) }
     ensures room { result ≢ pos 0 → potentials.new ≡ potentials.old }
     ensures unchanged { state_behind handle.new ≡ state_behind handle.old }
     ensures group { group_behind handle.new ≡ group_behind handle.old }
@@ -247,13 +245,11 @@ pub extern "C" fn mcf_potentials(alloc: Global, handle: &mut Handle, potentials:
 /// Answers 0, or `NOT_THERE` where a flow is legal, `OTHER_LENGTH` or `CLOSED`, after which the room is as before.
 #[unsafe(no_mangle)]
 pub extern "C" fn mcf_cut(alloc: Global, handle: &mut Handle, cut: &mut [bool]) -> i32
-    ensures status { result ≡ given_of (state_behind handle.old) has_cut node_count (length cut.old) }
-    ensures copied { result ≡ pos 0 → IfSome (state_behind handle.old) (λ s. cut.new ≡ s.moments.present.cut) }
-    ensures none_legal { result ≡ pos 0 → IfSome (state_behind handle.old) (λ s. (flow : List ℤ) → IsLegal s.moments.present.instance flow → ⊥) }
-    ensures breach { (shortage : ℤ) → result ≡ pos 0 → IfSome (state_behind handle.old)
-        (λ s. s.moments.present.verdict ≡ Infeasible shortage → IsBreach s.moments.present.instance (is_marked cut.new) shortage) }
-    ensures chosen { result ≡ pos 0 → IfSome (state_behind handle.old)
-        (λ s. IsChosenCut s.moments.present.verdict (reduced s.moments.present.instance) (is_marked cut.new)) }
+    ensures status { result ≡ given_behind handle.old has_cut node_count (length cut.old) }
+    ensures copied { result ≡ pos 0 → AtPresent handle.old (λ m. cut.new ≡ m.cut) }
+    ensures none_legal { result ≡ pos 0 → AtPresent handle.old NoneIsLegal }
+    ensures breach { result ≡ pos 0 → AtPresent handle.old (IsBreachOf cut.new) }
+    ensures chosen { result ≡ pos 0 → AtPresent handle.old (IsChosen cut.new) }
     ensures room { result ≢ pos 0 → cut.new ≡ cut.old }
     ensures unchanged { state_behind handle.new ≡ state_behind handle.old }
     ensures group { group_behind handle.new ≡ group_behind handle.old }

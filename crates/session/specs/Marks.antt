@@ -14,9 +14,13 @@ abbrev pub marked : List Mark → List ℕ → Option ℕ
 marked [] name = None
 marked (mark ∷ marks) name = if has_name mark name then Some mark.moment else marked marks name
 
+-- whether a moment bears the name
+abbrev pub has_mark : List Mark → List ℕ → Bool
+has_mark marks name = is_some (marked marks name)
+
 -- whether the name has a mark, or may have one: fewer than MARK_LIMIT names have
 abbrev pub has_place : List Mark → List ℕ → Bool
-has_place marks name = is_some (marked marks name) || nat_lt (length marks) MARK_LIMIT
+has_place marks name = has_mark marks name || nat_lt (length marks) MARK_LIMIT
 
 -- the name's mark stands on the moment: it is moved there, or put last
 abbrev pub with_mark : List Mark → List ℕ → ℕ → List Mark

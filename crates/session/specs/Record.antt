@@ -22,6 +22,16 @@ pub record Recorded : Type 0 where
 abbrev pub with_flow : Moment → List ℤ → Moment
 with_flow m flow = record m { flow = returned m.instance.demand m.verdict ++ flow }
 
+-- the moment with these values at their places: flows of numbered arcs, potentials, marks
+abbrev pub flows_swapped : List (ℕ × ℤ) → Moment → Moment
+flows_swapped places m = with_flow m (exchanged places (flow_of m))
+
+abbrev pub potentials_swapped : List (ℕ × ℤ) → Moment → Moment
+potentials_swapped places m = record m { potentials = exchanged places m.potentials }
+
+abbrev pub marks_swapped : List (ℕ × Bool) → Moment → Moment
+marks_swapped places m = record m { cut = exchanged places m.cut }
+
 -- the moment with the record's values; the return arc's flow is what the verdict tells
 abbrev pub swapped : Recorded → Moment → Moment
 swapped r m = record {
@@ -45,12 +55,16 @@ turned r m = record {
 abbrev pub IsMark : Bool → Type 0
 IsMark mark = Unit {0}
 
+-- there is one flow an arc, beside that of the return arc
+abbrev pub HasOneFlowAnArc : Moment → Type 0
+HasOneFlowAnArc m = length (flow_of m) ≡ length m.instance.arcs
+
 -- the tables hold such a moment, be it answered or not; the verdict tells the return arc's flow
 pub record IsInRange (m : Moment) : Type 0 where
   pub lawful : IsLawful m.instance
   pub verdict : VerdictFits m.instance.demand m.verdict
   pub told : m.flow ≡ returned m.instance.demand m.verdict ++ flow_of m
-  pub one_an_arc : length (flow_of m) ≡ length m.instance.arcs
+  pub one_an_arc : HasOneFlowAnArc m
   pub flow : All IsFlowValue (flow_of m)
   pub one_a_node : length m.potentials ≡ m.instance.nodes
   pub potentials : All IsPotential m.potentials

@@ -1,5 +1,5 @@
 -- The numbers of refused steps.
-use Rattle.std.specs.Prelude.{ℕ}
+use Rattle.std.specs.Prelude.{◌≡◌, ◌↔◌, ℕ, Bool, Result, Ok, Err, if◌then◌else◌}
 use Rattle.dimacs_text.specs.declared.command_fault.CommandFault.TheVariants as command
 use Rattle.dimacs_text.specs.CommandFault.{number_of as number_in_command}
 use Rattle.session.specs.declared.refusal.Refusal.{Refusal}
@@ -21,3 +21,11 @@ number_of refusal.TooManyMarks = 33
 abbrev pub of_edits : Refusal → StepRefusal
 of_edits (edits.Cause number) = refusal.Cause number
 of_edits edits.Memory = refusal.Memory
+
+-- a cause is given exactly where the network refuses, by the same number
+abbrev pub RefusesAs : {N T : Type 0} → Result N ℕ → Result T Refusal → Type 0
+RefusesAs checked result = (number : ℕ) → (result ≡ Err (edits.Cause number)) ↔ (checked ≡ Err number)
+
+-- nothing more to tell where it can be done, and else the number of the refusal
+abbrev pub ok_or : StepRefusal → Bool → Result (Unit {0}) ℕ
+ok_or refused can = if can then Ok tt else Err (number_of refused)

@@ -1,21 +1,24 @@
 -- A session as whole moments, and what lies between each moment and the next.
-use Rattle.std.specs.Prelude.{◌≡◌, ℕ, ◌-◌, ◌≤◌, List, length, map, All, Ok, slice_index_or}
+use Rattle.std.specs.Prelude.{◌≡◌, ℕ, ◌+◌, ◌-◌, ◌≤◌, ℤ, pos, List, [], ◌∷◌, ◌++◌, length, map, take, All, Ok, IfSome, slice_index_or}
 use Rattle.std.specs.Option.{unwrap_or}
 use Rattle.dimacs_text.specs.declared.command.Edit.{Edit}
 use Rattle.dimacs_text.specs.declared.command.Edit.TheVariants as edits
+use Rattle.dimacs_text.specs.declared.problem.ArcRow.{ArcRow}
 use Rattle.dimacs_text.specs.declared.problem.Kind.{Kind}
 use Rattle.network.specs.Edited.{edited, edited_all}
-use Rattle.network.specs.Instance.{kind_of}
+use Rattle.network.specs.Instance.{Instance, at_node, kind_of}
 use Rattle.flow_solver.specs.Moment.{Moment}
 use Rattle.flow_solver.specs.Answer.{IsAnswered}
-use Rattle.flow_solver.specs.TablesView.{TablesView}
+use Rattle.flow_solver.specs.Edit.{AreChanges, IsChange}
+use Rattle.flow_solver.specs.TablesView.{TablesView, supplies_in}
 use Rattle.history.specs.Boards.{Changes, all_changes, Timeline, all_boards, boards, StandsFor}
 use Rattle.session.specs.declared.marks.Mark.{Mark}
 use Rattle.flow_solver.specs.declared.part.Part.{Part}
 use Rattle.flow_solver.specs.declared.part.Part.TheVariants.{Arc, Supply, Last, Gone}
-use Rattle.session.specs.Marks.{AreOn}
+use Rattle.session.specs.Group.{ArePartsOf, valued}
+use Rattle.session.specs.Marks.{AreOn, IsMovedTo, marked, with_mark}
 use Rattle.session.specs.Places.{IsRising, AreWithin, IsDifference, end_of}
-use Rattle.session.specs.Parts.{named, listed, flow_of, instance_swapped, IsOneEnd}
+use Rattle.session.specs.Parts.{named, listed, flow_of, instance_swapped, no_row, supply_parts, arc_parts, IsOneEnd}
 use Rattle.session.specs.Record.{Recorded, RecordFits, Differs, swapped}
 
 -- the moments in the order of time, the record between each moment and the next, and the marks of moments
@@ -23,6 +26,14 @@ pub record Stack : Type 0 where
   pub moments : Timeline Moment
   pub records : List Recorded
   pub marks : List Mark
+
+-- the present moment
+abbrev pub present : Stack → Moment
+present s = s.moments.present
+
+-- how many moments are past
+abbrev pub past_count : Stack → ℕ
+past_count s = length s.moments.past
 
 -- moment i, counted from 0 at the opening
 abbrev pub moment_at : Stack → ℕ → Moment
@@ -48,9 +59,25 @@ pub record AreAcceptedEdits (edits : List Edit) (old new : Moment) : Type 0 wher
   pub accepted : edited_all old.instance edits ≡ Ok new.instance
   pub after : IsAnswered new
 
--- the moment before the last change of the tables, where there was one
+-- the moment before the last change of the tables, where there was one, and its instance with supplies and arcs
 abbrev pub old_moment : TablesView → Moment
 old_moment shown = unwrap_or shown.before shown.moment
+
+abbrev pub old_instance : TablesView → Instance
+old_instance shown = (old_moment shown).instance
+
+abbrev pub old_supplies : TablesView → List ℤ
+old_supplies shown = supplies_in (old_instance shown).demand
+
+abbrev pub old_arcs : TablesView → List ArcRow
+old_arcs shown = (old_instance shown).arcs
+
+-- the parts that bring back what these nodes and arcs were then
+abbrev pub nodes_back : List ℕ → TablesView → List Part
+nodes_back nodes shown = supply_parts (valued nodes (old_supplies shown) (pos 0))
+
+abbrev pub arcs_back : List ℕ → TablesView → List Part
+arcs_back arcs shown = arc_parts (valued arcs (old_arcs shown) no_row)
 
 -- the parts, in their normal form, name places with what the other moment has there: nodes and arcs once and rising, then
 -- arcs that only the other moment has, with their flows, or how many arcs only this one has. Outside these places the
@@ -72,6 +99,13 @@ pub record IsRecord (r : Recorded) (present other : Moment) : Type 0 where
   pub potentials : IsDifference r.potentials other.potentials present.potentials
   pub marks : IsDifference r.marks other.cut present.cut
   pub verdict : r.verdict ≡ other.verdict
+
+-- the record leads from moment i + 1 back to moment i, or from moment i on to moment i + 1
+abbrev pub LeadsBack : Stack → ℕ → Recorded → Type 0
+LeadsBack s i r = IsRecord r (moment_at s (i + 1)) (moment_at s i)
+
+abbrev pub LeadsOn : Stack → ℕ → Recorded → Type 0
+LeadsOn s i r = IsRecord r (moment_at s i) (moment_at s (i + 1))
 
 -- what a session keeps of its changes and its tables
 pub record IsKept (h : Changes Recorded) (m : Moment) : Type 0 where
@@ -111,3 +145,33 @@ place_of_edit (edits.Cost arc cost) = OfArc arc
 place_of_edit (edits.Supply node value) = OfNode node
 place_of_edit (edits.Add tail head low cap cost) = OfNewArc
 place_of_edit (edits.Close arc) = OfArc arc
+
+-- ---- what a call does to moments, records and marks
+
+-- an edit, or several together, lead to the new present moment by so many pushes, under the potentials of the old one
+abbrev pub EditLeads : Edit → Stack → Stack → ℕ → Type 0
+EditLeads edit old new n =
+    IsChange (present old).instance (present new).instance edit (at_node (present old).potentials) (present old).flow (present new).flow n
+
+abbrev pub EditsLead : List Edit → Stack → Stack → ℕ → Type 0
+EditsLead edits old new n =
+    AreChanges (present old).instance (present new).instance edits (at_node (present old).potentials) (present old).flow (present new).flow n
+
+-- the records of the past stay, and this one follows
+abbrev pub AddsRecord : Recorded → Stack → Stack → Type 0
+AddsRecord r old new = new.records ≡ take (past_count old) old.records ++ r ∷ []
+
+-- one follows whose one part is at the place of the edit, or whose parts are those of the edits
+abbrev pub RecordsEdit : Edit → Stack → Stack → Type 0
+RecordsEdit edit old new = (r : Recorded) × AddsRecord r old new × (places_of r ≡ place_of_edit edit ∷ [])
+
+abbrev pub RecordsEdits : List Edit → Stack → Stack → Type 0
+RecordsEdits edits old new = (r : Recorded) × AddsRecord r old new × ArePartsOf edits (present old).instance r.parts
+
+-- the name's mark stands on the present moment
+abbrev pub present_marked : Stack → List ℕ → Stack
+present_marked s name = record s { marks = with_mark s.marks name (past_count s) }
+
+-- where a moment bears the name, it is the present one now
+abbrev pub MovesToMark : List ℕ → Stack → Stack → Type 0
+MovesToMark name old new = IfSome (marked old.marks name) (λ moment. IsMovedTo moment old.moments new.moments)

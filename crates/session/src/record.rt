@@ -4,7 +4,7 @@ ghost use Rattle.std.specs.Prelude.{◌≡◌, IsSome, IfOk, Some};
 ghost use Rattle.flow_solver.specs.Part.{return_count};
 ghost use Rattle.session.specs.Group.{ArePartsOf};
 ghost use Rattle.session.specs.Record.{RecordFits, Differs, swapped};
-ghost use Rattle.session.specs.Session.{AreAcceptedEdits, old_moment};
+ghost use Rattle.session.specs.Session.{AreAcceptedEdits, old_instance, old_moment};
 
 mod building;
 
@@ -54,7 +54,7 @@ impl<A: Allocator + Copy> Record<A> {
     ) -> Result<Self, AllocError>
         requires before { IsSome tables.now.before }
         requires change { AreAcceptedEdits edits.now (old_moment tables.now) tables.now.moment }
-        ensures parts { IfOk result (λ r. ArePartsOf edits.now (old_moment tables.now).instance r.parts) }
+        ensures parts { IfOk result (λ r. ArePartsOf edits.now (old_instance tables.now) r.parts) }
         ensures fits { IfOk result (λ r. RecordFits r tables.now.moment) }
         ensures leads { IfOk result (λ r. tables.now.before ≡ Some (swapped r tables.now.moment)) }
         ensures exact { IfOk result (λ r. Differs r tables.now.moment) }

@@ -1,19 +1,18 @@
 //! A session: whole moments in the order of time, of which one is present, and marks of moments.
 
-ghost use Rattle.std.specs.Prelude.{◌≡◌, ℕ, ◌+◌, ◌-◌, ◌^◌, ◌<◌, ◌≤◌, ◌↔◌, ◌++◌, ◌∷◌, [], length, map, take, Ok, Err, IsTrue, IsNone, IfOk, IfSome, OnOk, OnErr, slice_get, is_some, if◌then◌else◌};
+ghost use Rattle.std.specs.Prelude.{◌≡◌, ◌+◌, ◌-◌, ◌^◌, ◌<◌, ◌≤◌, ◌↔◌, [], length, map, IsTrue, IsNone, IfOk, IfSome, OnOk, OnErr, slice_get};
 ghost use Rattle.std.specs.Bool.{OnTrue, OnFalse};
 ghost use Rattle.std.specs.Option.{option_copied};
 ghost use Rattle.history.specs.Boards.{Advances, StepsBack, StepsForward};
 ghost use Rattle.dimacs_text.specs.declared.group.TheConstants.{GROUP_LIMIT};
 ghost use Rattle.network.specs.Edited.{edited, edited_all};
-ghost use Rattle.network.specs.Instance.{at_node, first};
+ghost use Rattle.network.specs.Instance.{first};
 ghost use Rattle.flow_solver.specs.Answer.{IsAnswered};
-ghost use Rattle.flow_solver.specs.Edit.{AreChanges, IsChange};
-ghost use Rattle.session.specs.Marks.{has_place, marked, up_to, with_mark, IsMovedTo};
+ghost use Rattle.session.specs.declared.refusal.StepRefusal.TheVariants as refusal;
+ghost use Rattle.session.specs.Marks.{has_mark, has_place, up_to, IsMovedTo};
 ghost use Rattle.session.specs.Parts.{flow_of};
-ghost use Rattle.session.specs.Group.{ArePartsOf};
-ghost use Rattle.session.specs.Refusal.{number_of};
-ghost use Rattle.session.specs.Session.{AreEdited, IsEdited, IsRecord, kind_in, moment_at, places_of, place_of_edit};
+ghost use Rattle.session.specs.Refusal.{ok_or, RefusesAs};
+ghost use Rattle.session.specs.Session.{kind_in, past_count, places_of, present, present_marked, AreEdited, EditLeads, EditsLead, IsEdited, LeadsBack, LeadsOn, MovesToMark, RecordsEdit, RecordsEdits};
 
 use crate::marks::Marks;
 use crate::record::Record;
@@ -98,13 +97,13 @@ impl<A: Allocator + Copy> Session<A> {
     /// # Errors
     /// `Cause` with the number of the first refusal of `Network::edited`; `Memory` where a growth was refused.
     pub fn apply(&mut self, edit: &Edit) -> Result<u64, Refusal>
-        ensures edited { OnOk result (IsEdited edit.now self.old.moments.present self.new.moments.present) }
+        ensures edited { OnOk result (IsEdited edit.now (present self.old) (present self.new)) }
         ensures advances { OnOk result (Advances self.old.moments self.new.moments) }
-        ensures records { OnOk result ((r : Record A) × (self.new.records ≡ take (length self.old.moments.past) self.old.records ++ r ∷ []) × (places_of r ≡ place_of_edit edit.now ∷ [])) }
-        ensures marks { OnOk result (self.new.marks ≡ up_to (length self.old.moments.past) self.old.marks) }
+        ensures records { OnOk result (RecordsEdit edit.now self.old self.new) }
+        ensures marks { OnOk result (self.new.marks ≡ up_to (past_count self.old) self.old.marks) }
         ensures kind { kind_in self.new.moments ≡ kind_in self.old.moments }
-        ensures cause { (number : ℕ) → (result ≡ Err (Refusal.Cause number)) ↔ (edited self.old.moments.present.instance edit.now ≡ Err number) }
-        ensures pushes { IfOk result (λ n. IsChange self.old.moments.present.instance self.new.moments.present.instance edit.now (at_node self.old.moments.present.potentials) self.old.moments.present.flow self.new.moments.present.flow n) }
+        ensures cause { RefusesAs (edited (present self.old).instance edit.now) result }
+        ensures pushes { IfOk result (EditLeads edit.now self.old self.new) }
         ensures refused { OnErr result (self.new ≡ self.old) }
     {
         self.apply_group(&[*edit])
@@ -117,13 +116,13 @@ impl<A: Allocator + Copy> Session<A> {
     /// `Cause` with the number of the first refusal of `Network::edited_all`; `Memory` where a growth was refused.
     pub fn apply_group(&mut self, edits: &[Edit]) -> Result<u64, Refusal>
         requires few { length edits.now ≤ GROUP_LIMIT }
-        ensures edited { OnOk result (AreEdited edits.now self.old.moments.present self.new.moments.present) }
+        ensures edited { OnOk result (AreEdited edits.now (present self.old) (present self.new)) }
         ensures advances { OnOk result (Advances self.old.moments self.new.moments) }
-        ensures records { OnOk result ((r : Record A) × (self.new.records ≡ take (length self.old.moments.past) self.old.records ++ r ∷ []) × ArePartsOf edits.now self.old.moments.present.instance r.parts) }
-        ensures marks { OnOk result (self.new.marks ≡ up_to (length self.old.moments.past) self.old.marks) }
+        ensures records { OnOk result (RecordsEdits edits.now self.old self.new) }
+        ensures marks { OnOk result (self.new.marks ≡ up_to (past_count self.old) self.old.marks) }
         ensures kind { kind_in self.new.moments ≡ kind_in self.old.moments }
-        ensures cause { (number : ℕ) → (result ≡ Err (Refusal.Cause number)) ↔ (edited_all self.old.moments.present.instance edits.now ≡ Err number) }
-        ensures pushes { IfOk result (λ n. AreChanges self.old.moments.present.instance self.new.moments.present.instance edits.now (at_node self.old.moments.present.potentials) self.old.moments.present.flow self.new.moments.present.flow n) }
+        ensures cause { RefusesAs (edited_all (present self.old).instance edits.now) result }
+        ensures pushes { IfOk result (EditsLead edits.now self.old self.new) }
         ensures refused { OnErr result (self.new ≡ self.old) }
     {
         let (past, _) = self.steps();
@@ -174,8 +173,8 @@ impl<A: Allocator + Copy> Session<A> {
     /// # Errors
     /// The number of `StepRefusal::TooManyMarks` where `MARK_LIMIT` other names have marks.
     pub fn mark(&mut self, name: &Name) -> Result<(), u8>
-        ensures answer { result ≡ (if has_place self.old.marks name.now then Ok tt else Err (number_of StepRefusal.TooManyMarks)) }
-        ensures marked { OnOk result (self.new ≡ record self.old { marks = with_mark self.old.marks name.now (length self.old.moments.past) }) }
+        ensures answer { result ≡ ok_or refusal.TooManyMarks (has_place self.old.marks name.now) }
+        ensures marked { OnOk result (self.new ≡ present_marked self.old name.now) }
         ensures kind { kind_in self.new.moments ≡ kind_in self.old.moments }
         ensures refused { OnErr result (self.new ≡ self.old) }
     {
@@ -192,8 +191,8 @@ impl<A: Allocator + Copy> Session<A> {
     /// # Errors
     /// The number of `StepRefusal::NoSuchMark` where no moment bears the name.
     pub fn back(&mut self, name: &Name) -> Result<(), u8>
-        ensures answer { result ≡ (if is_some (marked self.old.marks name.now) then Ok tt else Err (number_of StepRefusal.NoSuchMark)) }
-        ensures moved { IfSome (marked self.old.marks name.now) (λ moment. IsMovedTo moment self.old.moments self.new.moments) }
+        ensures answer { result ≡ ok_or refusal.NoSuchMark (has_mark self.old.marks name.now) }
+        ensures moved { MovesToMark name.now self.old self.new }
         ensures places { map places_of self.new.records ≡ map places_of self.old.records }
         ensures marks { self.new.marks ≡ self.old.marks }
         ensures kind { kind_in self.new.moments ≡ kind_in self.old.moments }
@@ -214,7 +213,7 @@ impl<A: Allocator + Copy> Session<A> {
     /// Goes so many moments back.
     fn undo_steps(&mut self, count: usize)
         requires there { count ≤ length self.old.moments.past }
-        ensures moved { IsMovedTo (length self.old.moments.past - count) self.old.moments self.new.moments }
+        ensures moved { IsMovedTo (past_count self.old - count) self.old.moments self.new.moments }
         ensures places { map places_of self.new.records ≡ map places_of self.old.records }
         ensures marks { self.new.marks ≡ self.old.marks }
         ensures kind { kind_in self.new.moments ≡ kind_in self.old.moments }
@@ -227,7 +226,7 @@ impl<A: Allocator + Copy> Session<A> {
     /// Goes so many moments on.
     fn redo_steps(&mut self, count: usize)
         requires there { count ≤ length self.old.moments.future }
-        ensures moved { IsMovedTo (length self.old.moments.past + count) self.old.moments self.new.moments }
+        ensures moved { IsMovedTo (past_count self.old + count) self.old.moments self.new.moments }
         ensures places { map places_of self.new.records ≡ map places_of self.old.records }
         ensures marks { self.new.marks ≡ self.old.marks }
         ensures kind { kind_in self.new.moments ≡ kind_in self.old.moments }
@@ -290,10 +289,10 @@ impl<A: Allocator + Copy> Session<A> {
     /// The record between moment i and the next, counted from 0 at the opening, with the values of the one farther from the
     /// present; none from the number of steps on.
     pub fn moved(&self, i: usize) -> Option<&Record<A>>
-        ensures there { IsNone result ↔ (length self.now.moments.past + length self.now.moments.future ≤ i) }
+        ensures there { IsNone result ↔ (past_count self.now + length self.now.moments.future ≤ i) }
         ensures record { option_copied result ≡ slice_get self.now.records i }
-        ensures past { i < length self.now.moments.past → IfSome result (λ r. IsRecord r.now (moment_at self.now (i + 1)) (moment_at self.now i)) }
-        ensures future { length self.now.moments.past ≤ i → IfSome result (λ r. IsRecord r.now (moment_at self.now i) (moment_at self.now (i + 1))) }
+        ensures past { i < past_count self.now → IfSome result (λ r. LeadsBack self.now i r.now) }
+        ensures future { past_count self.now ≤ i → IfSome result (λ r. LeadsOn self.now i r.now) }
     {
         self.history.change(i)
     }

@@ -1,11 +1,11 @@
 //! The steps of a session: by a command, and by a group.
 
-ghost use Rattle.std.specs.Prelude.{◌≡◌, MatchResult};
+ghost use Rattle.std.specs.Prelude.{◌≡◌, IfErr, OnOk};
 ghost use Rattle.dimacs_text.specs.declared.command.Command.TheVariants as commands;
 ghost use Rattle.network.specs.Edited.{edited_all};
-ghost use Rattle.session.specs.Reply.{reply_of};
+ghost use Rattle.session.specs.Reply.{IsStep};
 ghost use Rattle.session.specs.Session.{kind_in};
-ghost use Rattle.session.specs.Step.{StepBy, StepOfEdit, StepOfGroup, state_of};
+ghost use Rattle.session.specs.Step.{StepBy, StepOfEdit, StepOfGroup};
 
 use crate::refusal::StepRefusal;
 use crate::reply::Reply;
@@ -20,7 +20,7 @@ impl<A: Allocator + Copy> Session<A> {
     /// # Errors
     /// Why the step was refused; `Group` and `End` are no steps by themselves.
     pub fn step(&mut self, command: &Command) -> Result<Reply, StepRefusal>
-        ensures step { StepBy command.now (state_of self.old) (reply_of result) (state_of self.new) }
+        ensures step { IsStep (StepBy command.now) self.old result self.new }
         ensures kind { kind_in self.new.moments ≡ kind_in self.old.moments }
     {
         match command {
@@ -42,7 +42,7 @@ impl<A: Allocator + Copy> Session<A> {
     /// # Errors
     /// Why the step was refused: by the first of the group's lines that is refused, by itself or by the network.
     pub fn step_group(&mut self, group: &Group) -> Result<Reply, StepRefusal>
-        ensures step { StepOfGroup group.now (state_of self.old) (reply_of result) (state_of self.new) }
+        ensures step { IsStep (StepOfGroup group.now) self.old result self.new }
         ensures kind { kind_in self.new.moments ≡ kind_in self.old.moments }
     {
         if let Some(number) = group.fault() {
@@ -57,7 +57,7 @@ impl<A: Allocator + Copy> Session<A> {
 
     /// Applies an edit.
     fn step_by_edit(&mut self, edit: &Edit) -> Result<Reply, StepRefusal>
-        ensures step { StepOfEdit edit.now (state_of self.old) (reply_of result) (state_of self.new) }
+        ensures step { IsStep (StepOfEdit edit.now) self.old result self.new }
         ensures kind { kind_in self.new.moments ≡ kind_in self.old.moments }
     {
         match self.apply(edit) {
@@ -68,7 +68,7 @@ impl<A: Allocator + Copy> Session<A> {
 
     /// Goes back one moment.
     fn step_back(&mut self) -> Result<Reply, StepRefusal>
-        ensures step { StepBy commands.Undo (state_of self.old) (reply_of result) (state_of self.new) }
+        ensures step { IsStep (StepBy commands.Undo) self.old result self.new }
         ensures kind { kind_in self.new.moments ≡ kind_in self.old.moments }
     {
         if self.undo() {
@@ -80,7 +80,7 @@ impl<A: Allocator + Copy> Session<A> {
 
     /// Goes on one moment.
     fn step_on(&mut self) -> Result<Reply, StepRefusal>
-        ensures step { StepBy commands.Redo (state_of self.old) (reply_of result) (state_of self.new) }
+        ensures step { IsStep (StepBy commands.Redo) self.old result self.new }
         ensures kind { kind_in self.new.moments ≡ kind_in self.old.moments }
     {
         if self.redo() {
@@ -92,7 +92,7 @@ impl<A: Allocator + Copy> Session<A> {
 
     /// Puts the name's mark on the present moment.
     fn step_by_mark(&mut self, name: &Name) -> Result<Reply, StepRefusal>
-        ensures step { StepBy (commands.Mark name.now) (state_of self.old) (reply_of result) (state_of self.new) }
+        ensures step { IsStep (StepBy (commands.Mark name.now)) self.old result self.new }
         ensures kind { kind_in self.new.moments ≡ kind_in self.old.moments }
     {
         match self.mark(name) {
@@ -103,7 +103,7 @@ impl<A: Allocator + Copy> Session<A> {
 
     /// Moves to the moment that bears the name.
     fn step_to_mark(&mut self, name: &Name) -> Result<Reply, StepRefusal>
-        ensures step { StepBy (commands.Back name.now) (state_of self.old) (reply_of result) (state_of self.new) }
+        ensures step { IsStep (StepBy (commands.Back name.now)) self.old result self.new }
         ensures kind { kind_in self.new.moments ≡ kind_in self.old.moments }
     {
         match self.back(name) {
@@ -115,7 +115,8 @@ impl<A: Allocator + Copy> Session<A> {
 
 /// The number of the first refusal of a group, which is that of an edit, or this number of a line after its edits.
 fn first_refusal(network: &Network, edits: &[Edit], number: u8) -> u8
-    ensures { MatchResult (edited_all network.now edits.now) (λ _. result ≡ number) (λ earlier. result ≡ earlier) }
+    ensures allowed { OnOk (edited_all network.now edits.now) (result ≡ number) }
+    ensures refused { IfErr (edited_all network.now edits.now) (λ earlier. result ≡ earlier) }
 {
     match network.edited_all(edits) {
         Ok(()) => number,

@@ -5,9 +5,9 @@ ghost use Rattle.dimacs_text.specs.declared.problem.TheConstants.{ARC_LIMIT};
 ghost use Rattle.network.specs.Flow.{IsPotential};
 ghost use Rattle.network.specs.Instance.{IsLawful};
 ghost use Rattle.flow_solver.specs.TablesView.{IsFlowValue};
-ghost use Rattle.session.specs.Places.{exchanged, taken, PlacesFit};
+ghost use Rattle.session.specs.Places.{taken, PlacesFit};
 ghost use Rattle.session.specs.Parts.{named, listed, flow_of, named_turned, parts_swapped, PartsFit, put_in, left_by, next_after, PartFits, cut_off};
-ghost use Rattle.session.specs.Record.{with_flow, IsInRange, IsMark};
+ghost use Rattle.session.specs.Record.{flows_swapped, marks_swapped, potentials_swapped, HasOneFlowAnArc, IsInRange, IsMark};
 
 use flow_solver::{Part, Tables};
 
@@ -16,7 +16,7 @@ pub(crate) fn swap_flows(places: &mut [(u32, i64)], tables: &mut Tables)
     requires fit { PlacesFit IsFlowValue (length (flow_of tables.old.moment)) places.old }
     requires in_range { IsInRange tables.old.moment }
     ensures places { places.new ≡ taken places.old (flow_of tables.old.moment) }
-    ensures moment { tables.new.moment ≡ with_flow tables.old.moment (exchanged places.old (flow_of tables.old.moment)) }
+    ensures moment { tables.new.moment ≡ flows_swapped places.old tables.old.moment }
 {
     for place in places.iter_mut() {
         tables.swap_flow(place.0, &mut place.1);
@@ -28,7 +28,7 @@ pub(crate) fn swap_potentials(places: &mut [(u32, i64)], tables: &mut Tables)
     requires fit { PlacesFit IsPotential (length tables.old.moment.potentials) places.old }
     requires one_a_node { length tables.old.moment.potentials ≡ tables.old.moment.instance.nodes }
     ensures places { places.new ≡ taken places.old tables.old.moment.potentials }
-    ensures moment { tables.new.moment ≡ record tables.old.moment { potentials = exchanged places.old tables.old.moment.potentials } }
+    ensures moment { tables.new.moment ≡ potentials_swapped places.old tables.old.moment }
 {
     for place in places.iter_mut() {
         tables.swap_potential(place.0, &mut place.1);
@@ -40,7 +40,7 @@ pub(crate) fn swap_marks(places: &mut [(u32, bool)], tables: &mut Tables)
     requires fit { PlacesFit IsMark (length tables.old.moment.cut) places.old }
     requires one_a_node { length tables.old.moment.cut ≡ tables.old.moment.instance.nodes }
     ensures places { places.new ≡ taken places.old tables.old.moment.cut }
-    ensures moment { tables.new.moment ≡ record tables.old.moment { cut = exchanged places.old tables.old.moment.cut } }
+    ensures moment { tables.new.moment ≡ marks_swapped places.old tables.old.moment }
 {
     for place in places.iter_mut() {
         tables.swap_mark(place.0, &mut place.1);
@@ -51,7 +51,7 @@ pub(crate) fn swap_marks(places: &mut [(u32, bool)], tables: &mut Tables)
 pub(crate) fn swap_parts(parts: &mut [Part], tables: &mut Tables)
     requires fit { PartsFit parts.old tables.old.moment.instance }
     requires lawful { IsLawful tables.old.moment.instance }
-    requires one_an_arc { length (flow_of tables.old.moment) ≡ length tables.old.moment.instance.arcs }
+    requires one_an_arc { HasOneFlowAnArc tables.old.moment }
     ensures parts { parts.new ≡ listed (named_turned (named parts.old) tables.old.moment) }
     ensures moment { tables.new.moment ≡ parts_swapped (named parts.old) tables.old.moment }
 {

@@ -2,16 +2,13 @@
 
 ghost use Rattle.std.specs.Prelude.{◌≡◌, ◌≢◌, List, [], None, Some, Option, IfSome};
 ghost use Rattle.std.specs.Bool.{OnTrue};
-ghost use Rattle.std.specs.Option.{option_map};
-ghost use Rattle.dimacs_lines.specs.Cut.{kept};
 ghost use Rattle.dimacs_lines.specs.Fields.{words_of};
 ghost use Rattle.dimacs_lines.specs.Lines.{Line};
 ghost use Rattle.dimacs_text.specs.Group.{gathered};
 ghost use Rattle.dimacs_text.specs.declared.problem.Kind.{Kind};
-ghost use Rattle.session.specs.Reply.{reply_of};
 ghost use Rattle.session.specs.Session.{kind_in};
 ghost use Rattle.session.specs.Step.{state_of};
-ghost use Rattle.session.specs.Turns.{TakesLine, asks, gathered_in};
+ghost use Rattle.session.specs.Turns.{asks, gathered_in, IsPassedAs, LineTaken};
 
 use crate::refusal::StepRefusal;
 use crate::reply::Reply;
@@ -28,9 +25,9 @@ impl<A: Allocator + Copy> Session<A> {
         group: &mut Option<Group>,
         line: Option<&[u8]>,
     ) -> Option<Result<Reply, StepRefusal>>
-        ensures taken { (whole : Line) → option_map (λ l. l.now) line.entry ≡ kept whole
+        ensures taken { (whole : Line) → IsPassedAs line.entry whole
             → (opened : Option (List Line)) → group.old ≡ gathered_in (state_of self.old) opened
-            → TakesLine (state_of self.old) opened whole (option_map reply_of result) (state_of self.new) group.new }
+            → LineTaken self.old opened whole result self.new group.new }
         ensures kind { kind_in self.new.moments ≡ kind_in self.old.moments }
     {
         if !asks(line) {
@@ -57,8 +54,8 @@ impl<A: Allocator + Copy> Session<A> {
     ) -> Option<Result<Reply, StepRefusal>>
         requires asks { IfSome line (λ l. words_of l.now ≢ []) }
         requires alone { group.old ≡ None }
-        ensures taken { (whole : Line) → option_map (λ l. l.now) line.entry ≡ kept whole
-            → TakesLine (state_of self.old) None whole (option_map reply_of result) (state_of self.new) group.new }
+        ensures taken { (whole : Line) → IsPassedAs line.entry whole
+            → LineTaken self.old None whole result self.new group.new }
         ensures kind { kind_in self.new.moments ≡ kind_in self.old.moments }
     {
         groups_are_bracketed();
@@ -81,7 +78,7 @@ impl<A: Allocator + Copy> Session<A> {
 
 /// Whether a line asks for something: it is too long, or not blank.
 fn asks(line: Option<&[u8]>) -> bool
-    ensures asks { (whole : Line) → option_map (λ l. l.now) line.entry ≡ kept whole → result ≡ asks whole }
+    ensures asks { (whole : Line) → IsPassedAs line.entry whole → result ≡ asks whole }
     ensures words { OnTrue result (IfSome line.entry (λ l. words_of l.now ≢ [])) }
 {
     match line {

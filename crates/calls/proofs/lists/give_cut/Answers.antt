@@ -12,7 +12,7 @@ returns-clause-none_legal c same =
     none_legal c.args.session.now.moments.present c.is_feasible.ensures.answered (ap not (sym c.is_feasible.ensures.value) ∙ there)
 
 pub returns-clause-breach : goal.returns-clause-breach
-returns-clause-breach c shortage same is =
+returns-clause-breach c same shortage is =
     let fits : SFits w32 c.give.result = search rules in
     let zero = sym (to_z-of_z fits) ∙ same in
     rw (c.give.ensures.copied zero ∙ c.cut.ensures.value) (breach c.args.session.now.moments.present shortage c.is_feasible.ensures.answered is)

@@ -1,8 +1,8 @@
-use Rattle.std.proofs.Common.{◌∙◌, ◌+◌, ◌-◌, ℕ, ap, refl}
+use Rattle.std.proofs.Common.{◌∙◌, ◌+◌, ◌-◌, ℕ, ap, arith}
 use Rattle.checker.specs.Check.{write_failures}
 use Rattle.session.specs.Step.{state_of}
 use Rattle.engines.proofs.OpeningLemmas.{none_counted, unopened_commands, unopened_last, unopened_writes}
-use Rattle.engines.proofs.SessionLemmas.{FlushesOnDevices-commands, FlushesOnDevices-opening, FlushesOnDevices-unopened, SessionOnDevices-unopened, SessionOnDevices-opening, SessionOnDevices-commands, write_counted, reads_counted, no_problem_counted}
+use Rattle.engines.proofs.SessionLemmas.{FlushesOnDevices-commands, FlushesOnDevices-opening, FlushesOnDevices-unopened, SessionOnDevices-unopened, SessionOnDevices-opening, SessionOnDevices-commands}
 use Rattle.engines.proofs.interaction.run_session_in.Goals as goal
 
 pub returns-in-Err-clause-session : goal.returns-in-Err-clause-session
@@ -29,13 +29,10 @@ returns-in-Ok-tell_opening-clause-session g c =
 
 pub returns-in-Ok-tell_opening-clause-out_failed : goal.returns-in-Ok-tell_opening-clause-out_failed
 returns-in-Ok-tell_opening-clause-out_failed g c =
-    write_counted c.serve_commands-end.result _ _ _ _ c.serve_commands-end.ensures.failed ∙ ap (λ (n : ℕ). n + write_failures c.serve_commands-end.result) c.in-Ok-tell_opening.ensures.failed
-
-pub returns-in-Ok-tell_opening-clause-script_failed : goal.returns-in-Ok-tell_opening-clause-script_failed
-returns-in-Ok-tell_opening-clause-script_failed g c = reads_counted c.serve_commands-end.result _ _ _ _ c.serve_commands-end.ensures.failed
+    c.serve_commands-end.ensures.out_failed ∙ ap (λ (n : ℕ). n + write_failures c.serve_commands-end.result) c.in-Ok-tell_opening.ensures.failed
 
 pub returns-in-Ok-tell_opening-clause-problem_failed : goal.returns-in-Ok-tell_opening-clause-problem_failed
-returns-in-Ok-tell_opening-clause-problem_failed g c = no_problem_counted c.serve_commands-end.result _ _ _ _ c.serve_commands-end.ensures.failed _ _ c.in-Ok.ensures.read
+returns-in-Ok-tell_opening-clause-problem_failed g c = omega (arith, c.serve_commands-end.ensures.no_problem, c.in-Ok.ensures.read)
 
 pub returns-in-Err-clause-script_last : goal.returns-in-Err-clause-script_last
 returns-in-Err-clause-script_last g c = none_counted _ 0 (unopened_commands _ _ c.in-Err.end 0 c.in-Err.ensures.ended)
@@ -48,7 +45,7 @@ returns-in-Ok-tell_opening-clause-out_last g c = c.serve_commands-end.ensures.ou
 
 pub returns-in-Ok-tell_opening-clause-problem_last : goal.returns-in-Ok-tell_opening-clause-problem_last
 returns-in-Ok-tell_opening-clause-problem_last g c =
-    none_counted _ 0 (no_problem_counted c.serve_commands-end.result _ _ _ _ c.serve_commands-end.ensures.failed 0 0 refl)
+    none_counted _ 0 (omega (arith, c.serve_commands-end.ensures.no_problem))
 
 pub returns-in-Err-clause-out_flushed : goal.returns-in-Err-clause-out_flushed
 returns-in-Err-clause-out_flushed g c =

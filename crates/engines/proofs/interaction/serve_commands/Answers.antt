@@ -54,8 +54,5 @@ returns-in-Err-serve_rest-clause-served g c =
 pub returns-in-Err-clause-served : goal.returns-in-Err-clause-served
 returns-in-Err-clause-served g c = search rules
 
-pub returns-in-Err-clause-failed : goal.returns-in-Err-clause-failed
-returns-in-Err-clause-failed g c = search rules
-
 pub returns-then-is_err-clause-out_last : goal.returns-then-is_err-clause-out_last
 returns-then-is_err-clause-out_last g c before = failed_from_err c.serve_piece.result _ _ (search rules) c.serve_piece.ensures.passed_on

@@ -1,7 +1,7 @@
 use Rattle.std.proofs.Common.{◌≡◌, ◌++◌, take, drop}
-use Rattle.session.specs.Places.{exchanged, taken}
+use Rattle.session.specs.Places.{taken}
 use Rattle.session.specs.Parts.{flow_of}
-use Rattle.session.specs.Record.{with_flow}
+use Rattle.session.specs.Record.{flows_swapped}
 use Rattle.session.proofs.swaps.swap_flows.Given as goal
 
 -- the places up to the index are exchanged
@@ -10,5 +10,5 @@ invariant-loop-place l =
     let values = flow_of l.fn.tables.moment in
     record {
       places : l.places ≡ taken (take l.place-index l.fn.places) values ++ drop l.place-index l.fn.places;
-      moment : l.tables.moment ≡ with_flow l.fn.tables.moment (exchanged (take l.place-index l.fn.places) values);
+      moment : l.tables.moment ≡ flows_swapped (take l.place-index l.fn.places) l.fn.tables.moment;
     }
