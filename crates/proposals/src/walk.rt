@@ -14,8 +14,8 @@ struct Hop {
 }
 
 /// Arcs one after the other, and how much was pushed along them. Flow is moved along an arc when it is taken off, so that a
-/// push costs no more than the arcs that it fills. One more than there was room asked for is not taken; the room is touched
-/// only where arcs are.
+/// push costs no more than the arcs that it fills. One more than there was room asked for is not taken, and the room is
+/// touched only where arcs are.
 #[derive(Drop)]
 pub struct Walk {
     hops: Vec<Hop>,

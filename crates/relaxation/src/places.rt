@@ -2,8 +2,8 @@
 
 use std::alloc::{AllocError, Global};
 
-/// Places in the order in which they came, as many as there was room asked for: one more is not listed. The room is touched
-/// only where places are listed.
+/// Places in the order in which they came, as many as there was room asked for: one more is not listed. The room is
+/// touched only where places are listed.
 #[derive(Drop)]
 pub struct Places {
     list: Vec<u32>,

@@ -63,7 +63,7 @@ impl FreeEnds {
         })
     }
 
-    /// Makes a table of the chains of so many entries of nodes in the room that there is, and says whether it is enough.
+    /// Makes a table of so many entries of nodes in the room that there is, and says whether it is enough.
     pub fn open(&mut self, entries: usize) -> bool
         ensures { IsTrue result → self.new ≡ entries }
     {

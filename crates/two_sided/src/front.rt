@@ -164,8 +164,8 @@ impl Front {
         })
     }
 
-    /// Makes tables of so many entries of nodes in the room that there is, and says whether it is enough. No search is begun
-    /// then.
+    /// Makes tables of so many entries of nodes in the room that there is, and says whether it is enough: then no search
+    /// is begun.
     pub fn open(&mut self, entries: usize) -> bool
         requires { entries < 2 ^ 31 }
         ensures { IsTrue result → self.new ≡ entries }
