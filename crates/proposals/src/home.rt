@@ -7,27 +7,19 @@ use crate::search::Search;
 use relaxation::{Proposal, REST_LIMIT, seen};
 
 impl Search {
-    /// Notes what lies at each node.
-    pub fn remember(&mut self, proposal: &Proposal)
-        requires { proposal.now ≡ self.old }
-        ensures { self.new ≡ self.old }
-    {
-        for v in 0..self.entries() {
-            self.set_home(v, proposal.rest(v));
-        }
-    }
-
     /// Keeps apart what lies at home, as a side sees it: a node that has more than it had at the start is in excess by so
     /// much, one that has less is in deficit.
-    pub fn set_apart<const AHEAD: bool>(&mut self, proposal: &mut Proposal)
-        requires { proposal.old ≡ self.old }
+    pub fn set_apart<const AHEAD: bool>(&mut self, proposal: &mut Proposal, home: &[i64])
+        requires proposal { proposal.old ≡ self.old }
+        requires home { length home.now ≡ self.old }
         ensures kept { self.new ≡ self.old }
         ensures proposal { proposal.new ≡ proposal.old }
     {
+        self.keep_none();
         for v in 0..self.entries() {
-            let home = seen_home::<AHEAD>(self.home(v));
+            let home = seen_home::<AHEAD>(home[v]);
             let sent = seen::<AHEAD>(astray(proposal.excess::<AHEAD>(v), home));
-            self.set_apart_at(v, proposal.rest(v).saturating_sub(sent));
+            self.keep(proposal.rest(v).saturating_sub(sent));
             proposal.set_rest(v, sent);
         }
     }
@@ -44,30 +36,28 @@ impl Search {
         }
     }
 
-    fn home(&self, v: usize) -> i64
-        requires { v < self.now }
-    {
-        self.home[v]
+    /// What is kept apart at a node.
+    fn apart(&self, v: usize) -> i64 {
+        match self.apart.get(v) {
+            Some(apart) => *apart,
+            None => 0,
+        }
     }
 
-    fn set_home(&mut self, v: usize, rest: i64)
-        requires { v < self.old }
+    /// Keeps nothing apart.
+    fn keep_none(&mut self)
         ensures { self.new ≡ self.old }
     {
-        self.home[v] = rest;
+        self.apart.clear();
     }
 
-    fn apart(&self, v: usize) -> i64
-        requires { v < self.now }
-    {
-        self.apart[v]
-    }
-
-    fn set_apart_at(&mut self, v: usize, rest: i64)
-        requires { v < self.old }
+    /// Keeps so much apart at the next node.
+    fn keep(&mut self, apart: i64)
         ensures { self.new ≡ self.old }
     {
-        self.apart[v] = rest;
+        if self.apart.len() < self.apart.capacity() {
+            let _kept = self.apart.push(apart);
+        }
     }
 }
 

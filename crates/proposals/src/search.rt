@@ -49,9 +49,7 @@ pub struct Search {
     pub(crate) walk: Walk,
     /// Walks go along any tight arc, and not only along those from the level below.
     pub(crate) free: bool,
-    /// What lay at each node at the start.
-    pub(crate) home: Vec<i64>,
-    /// What is kept apart at each node while leftovers go home.
+    /// What is kept apart at each node while leftovers go home: nothing before there are some.
     pub(crate) apart: Vec<i64>,
     /// The key of the node taken out of the heap last.
     last: i64,
@@ -69,9 +67,7 @@ impl Model for Search {
         × (s.heap ≡ s.records)
         × (s.queue ≡ s.records)
         × (s.settled ≡ s.records)
-        × (s.touched ≡ s.records)
-        × (length s.home.items ≡ s.records)
-        × (length s.apart.items ≡ s.records) };
+        × (s.touched ≡ s.records) };
 }
 
 impl Search {
@@ -84,13 +80,15 @@ impl Search {
         ensures { IfOk result (λ s. s ≡ entries) }
     {
         let records = Records::new(alloc, entries)?;
-        let heap = Heap::new(alloc, entries)?;
+        let mut heap = Heap::new(alloc, entries)?;
+        if !heap.open(entries) {
+            return Err(AllocError);
+        }
         let queue = Nodes::new(alloc, entries)?;
         let settled = Nodes::new(alloc, entries)?;
         let touched = Nodes::new(alloc, entries)?;
         let walk = Walk::new(alloc, entries)?;
-        let home = vec![in alloc; 0; entries]?;
-        let apart = vec![in alloc; 0; entries]?;
+        let apart = Vec::with_capacity(alloc, entries)?;
         Ok(Search {
             records,
             heap,
@@ -99,7 +97,6 @@ impl Search {
             touched,
             walk,
             free: false,
-            home,
             apart,
             last: 0,
             counts: Counts::NONE,
@@ -317,6 +314,15 @@ impl Search {
         let waited = self.records.state(v) == State::Open;
         self.records
             .open(v, key.saturating_add(potential), depth, link.opposite);
+        self.line_up(v, key, waited);
+    }
+
+    /// Lines a node up to be settled, which waited before or did not.
+    #[inline(always)]
+    fn line_up(&mut self, v: usize, key: i64, waited: bool)
+        requires { v < self.old }
+        ensures { self.new ≡ self.old }
+    {
         if !waited {
             self.touch(v);
             if key != self.last {

@@ -6,7 +6,7 @@ use crate::search::Search;
 use crate::solving::{Fuel, solve, solve_greatest};
 use crate::wanted::Wanted;
 use dimacs_text::ArcRow;
-use relaxation::{Limits, Noted, Proposal, Ring, Sets};
+use relaxation::{Noted, Proposal, Ring, Sets};
 use std::alloc::{AllocError, Global};
 use std::marker::Model;
 use two_sided::{Between, Halt, Readings};
@@ -52,8 +52,7 @@ impl Model for Proposals {
     ghost invariant = { λ p. (p.ring ≡ p.proposal)
         × (p.sets.reach ≡ p.proposal)
         × (p.search ≡ p.proposal)
-        × (p.between ≡ p.proposal)
-        × (p.proposal < 2 ^ 32) };
+        × (p.proposal < 2 ^ 31) };
 }
 
 impl Proposals {
@@ -127,7 +126,7 @@ impl Proposals {
                 &mut self.ring,
                 &mut self.sets,
                 &mut self.search,
-                Limits::USUAL,
+                excess,
                 Fuel::USUAL,
             ),
             Aim::GreatestFlow => solve_greatest(&mut self.proposal, &mut self.search),
@@ -152,20 +151,28 @@ impl Proposals {
     {
         self.fresh = false;
         self.take_over(rows, flow, excess, potentials);
-        let halt = self
-            .between
-            .push_between(&mut self.proposal, &mut self.noted, Readings::USUAL);
-        if halt == Halt::Spent {
+        if self.push_near() == Halt::Spent {
             self.rows = None;
             solve(
                 &mut self.proposal,
                 &mut self.ring,
                 &mut self.sets,
                 &mut self.search,
-                Limits::USUAL,
+                excess,
                 Fuel::USUAL,
             );
         }
+    }
+
+    /// Pushes by searches from both sides, where what these know is of the same nodes.
+    fn push_near(&mut self) -> Halt
+        ensures { self.new ≡ self.old }
+    {
+        if self.between.entries() != self.proposal.entries() {
+            return Halt::Spent;
+        }
+        self.between
+            .push_between(&mut self.proposal, &mut self.noted, Readings::USUAL)
     }
 
     /// Notes that an arc may have got another row or another flow.
@@ -195,8 +202,10 @@ impl Proposals {
             self.proposal.load_nodes(excess, potentials);
         } else {
             self.first = 0;
+            self.proposal.tell_arcs();
             self.proposal.load(rows, flow, 0, excess, potentials);
             self.between.load(&self.proposal);
+            self.noted.open();
             self.rows = Some(rows.len());
         }
         self.noted.clear();
@@ -233,11 +242,12 @@ fn renew_all(
     rows: &[ArcRow],
     flow: &[i64],
 ) -> bool
-    requires between { between.old ≡ proposal.old }
-    requires flow { length flow.now ≡ length rows.now }
-    ensures proposal { proposal.new ≡ proposal.old }
-    ensures between { between.new ≡ between.old }
+    requires { length flow.now ≡ length rows.now }
+    ensures { proposal.new ≡ proposal.old }
 {
+    if between.entries() != proposal.entries() {
+        return false;
+    }
     for k in noted.listed() {
         let k = *k as usize;
         if k >= rows.len() || !proposal.renew(k, &rows[k], flow[k]) {

@@ -1,9 +1,6 @@
 //! The walk of a blocking flow.
 
-ghost use Rattle.std.specs.Prelude.{◌≡◌, ◌≤◌, ℕ, IfOk, length};
-
 use std::alloc::{AllocError, Global};
-use std::marker::Model;
 
 /// An arc of a walk.
 #[derive(Clone, Copy)]
@@ -17,22 +14,12 @@ struct Hop {
 }
 
 /// Arcs one after the other, and how much was pushed along them. Flow is moved along an arc when it is taken off, so that a
-/// push costs no more than the arcs that it fills. It is seen as the number of arcs for which there is room.
+/// push costs no more than the arcs that it fills. One more than there was room asked for is not taken, and the room is
+/// touched only where arcs are.
 #[derive(Drop)]
 pub struct Walk {
     hops: Vec<Hop>,
-    len: usize,
     pushed: i64,
-}
-
-impl Model for Walk {
-    ghost use Rattle.std.specs.Prelude.{ℕ, ◌≤◌, length};
-
-    ghost Value = { ℕ };
-
-    ghost view = { λ w. length w.hops.items };
-
-    ghost invariant = { λ w. w.len ≤ length w.hops.items };
 }
 
 impl Walk {
@@ -41,45 +28,36 @@ impl Walk {
     /// # Errors
     /// Memory for the table was refused.
     pub fn new(alloc: Global, most: usize) -> Result<Walk, AllocError> {
-        let none = Hop {
-            place: 0,
-            limit: 0,
-            before: 0,
-        };
-        let hops = vec![in alloc; none; most]?;
-        Ok(Walk {
-            hops,
-            len: 0,
-            pushed: 0,
-        })
+        let hops = Vec::with_capacity(alloc, most)?;
+        Ok(Walk { hops, pushed: 0 })
     }
 
     /// Begins anew.
     pub fn clear(&mut self) {
-        self.len = 0;
+        self.hops.clear();
         self.pushed = 0;
     }
 
     /// Goes on by an arc of this room.
     #[inline(always)]
     pub fn add(&mut self, place: u32, room: i64) {
-        if self.len < self.hops.len() {
-            self.hops[self.len] = Hop {
+        if self.hops.len() < self.hops.capacity() {
+            let hop = Hop {
                 place,
                 limit: self.room(room).saturating_add(self.pushed),
                 before: self.pushed,
             };
-            self.len += 1;
+            let _added = self.hops.push(hop);
         }
     }
 
     /// How much more fits along the walk: at most `most`.
     #[inline(always)]
     pub fn room(&self, most: i64) -> i64 {
-        if self.len == 0 {
-            return most;
+        match self.hops.last() {
+            Some(hop) => most.min(hop.limit.saturating_sub(self.pushed)),
+            None => most,
         }
-        most.min(self.hops[self.len - 1].limit.saturating_sub(self.pushed))
     }
 
     /// Pushes from the beginning to the end.
@@ -90,11 +68,7 @@ impl Walk {
     /// Takes the last arc off: gives its place, and how much was pushed along it.
     #[inline(always)]
     pub fn take(&mut self) -> Option<(u32, i64)> {
-        if self.len == 0 {
-            return None;
-        }
-        self.len -= 1;
-        let hop = self.hops[self.len];
+        let hop = self.hops.pop()?;
         Some((hop.place, self.pushed.saturating_sub(hop.before)))
     }
 }

@@ -4,8 +4,8 @@ use crate::places::Places;
 use std::alloc::{AllocError, Global};
 use std::marker::Model;
 
-/// Arcs in the order in which they were first noted, of so many that have a number: another one is not listed. It is seen
-/// as how many these are.
+/// Arcs in the order in which they were first noted, of so many that have a number: another one is not listed, and none
+/// before the list is opened, so that its room is not touched. It is seen as of how many arcs it can be.
 #[derive(Drop)]
 pub struct Noted {
     marks: Vec<bool>,
@@ -21,14 +21,19 @@ impl Model for Noted {
 }
 
 impl Noted {
-    /// An empty list.
+    /// An empty list that is not open yet.
     ///
     /// # Errors
     /// Memory for a table was refused.
     pub fn new(alloc: Global, arcs: usize) -> Result<Noted, AllocError> {
-        let marks = vec![in alloc; false; arcs]?;
+        let marks = Vec::with_capacity(alloc, arcs)?;
         let arcs = Places::new(alloc, arcs)?;
         Ok(Noted { marks, arcs })
+    }
+
+    /// Opens the list.
+    pub fn open(&mut self) {
+        let _filled = self.marks.resize(self.marks.capacity(), false);
     }
 
     /// Lists an arc, if it is not listed.

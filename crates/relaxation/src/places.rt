@@ -1,75 +1,39 @@
 //! Lists of places of arcs' ends.
 
 use std::alloc::{AllocError, Global};
-use std::marker::Model;
 
-/// Places in the order in which they came, up to a fixed number: one more is not listed. It is seen as that number.
+/// Places in the order in which they came, as many as there was room asked for: one more is not listed. The room is
+/// touched only where places are listed.
 #[derive(Drop)]
 pub struct Places {
-    table: Vec<u32>,
-    len: usize,
-}
-
-impl Model for Places {
-    ghost use Rattle.std.specs.Prelude.{ℕ, ◌≤◌, length};
-
-    ghost Value = { ℕ };
-
-    ghost view = { λ p. length p.table.items };
-
-    ghost invariant = { λ p. p.len ≤ length p.table.items };
+    list: Vec<u32>,
 }
 
 impl Places {
     /// An empty list.
     ///
     /// # Errors
-    /// Memory for the table was refused.
+    /// Memory for the list was refused.
     pub fn new(alloc: Global, most: usize) -> Result<Places, AllocError> {
-        let table = vec![in alloc; 0; most]?;
-        Ok(Places { table, len: 0 })
+        let list = Vec::with_capacity(alloc, most)?;
+        Ok(Places { list })
     }
 
     /// Forgets all.
     pub fn clear(&mut self) {
-        self.len = 0;
+        self.list.clear();
     }
 
     /// Lists a place behind the others.
     #[inline(always)]
     pub fn add(&mut self, place: u32) {
-        if self.len < self.table.len() {
-            self.table[self.len] = place;
-            self.len += 1;
-        }
-    }
-
-    /// Takes the last place off the list.
-    #[inline(always)]
-    pub fn take(&mut self) -> Option<u32> {
-        if self.len == 0 {
-            return None;
-        }
-        self.len -= 1;
-        Some(self.table[self.len])
-    }
-
-    /// The last place.
-    pub fn last(&self) -> Option<u32> {
-        if self.len == 0 {
-            None
-        } else {
-            Some(self.table[self.len - 1])
+        if self.list.len() < self.list.capacity() {
+            let _listed = self.list.push(place);
         }
     }
 
     /// Those that are listed.
     pub fn listed(&self) -> &[u32] {
-        &self.table[..self.len]
-    }
-
-    /// Keeps so many of the first.
-    pub fn keep(&mut self, most: usize) {
-        self.len = self.len.min(most);
+        &self.list
     }
 }

@@ -1,6 +1,6 @@
 //! Pushes along shortest paths that a search from both sides at once finds, for few nodes out of balance.
 
-ghost use Rattle.std.specs.Prelude.{◌≡◌, ◌<◌, ◌^◌, ℕ, IfOk, IfSome, length};
+ghost use Rattle.std.specs.Prelude.{◌≡◌, ◌<◌, ◌^◌, ℕ, IfOk, IfSome, IsTrue, length};
 
 use crate::free::FreeEnds;
 use crate::front::{Front, Meeting};
@@ -41,7 +41,7 @@ pub enum Halt {
 }
 
 /// A search from all nodes in excess and from all in deficit at once, and the path that it finds. It is seen as the number
-/// of entries that a table of nodes has.
+/// of entries that a table of nodes has: 0 before the first load, so that a run without one does not touch its room.
 #[derive(Drop)]
 pub struct Between {
     ahead: Front,
@@ -65,17 +65,16 @@ impl Model for Between {
 }
 
 impl Between {
-    /// A search of which nothing is begun.
+    /// Room for a search among so many entries of nodes, of which nothing is loaded.
     ///
     /// # Errors
     /// Memory for a table was refused.
     pub fn new(alloc: Global, entries: usize) -> Result<Between, AllocError>
         requires { entries < 2 ^ 31 }
-        ensures { IfOk result (λ b. b ≡ entries) }
     {
         let ahead = Front::new(alloc, entries)?;
         let behind = Front::new(alloc, entries)?;
-        let roots = Nodes::new(alloc, entries)?;
+        let roots = Nodes::reserve(alloc, entries)?;
         let path_ahead = Places::new(alloc, entries)?;
         let path_behind = Places::new(alloc, entries)?;
         let free = FreeEnds::new(alloc, entries)?;
@@ -89,12 +88,37 @@ impl Between {
         })
     }
 
-    /// Takes over which arcs of a proposal have room both ways.
-    pub fn load(&mut self, proposal: &Proposal)
-        requires { proposal.now ≡ self.old }
-        ensures { self.new ≡ self.old }
+    /// The number of entries of a table of nodes.
+    pub fn entries(&self) -> usize
+        ensures { result ≡ self.now }
     {
-        self.free.load(proposal);
+        self.ahead.entries()
+    }
+
+    /// Takes over which arcs of a proposal have room both ways, if there is room for as many nodes as it has.
+    pub fn load(&mut self, proposal: &Proposal)
+        requires { proposal.now < 2 ^ 31 }
+    {
+        let entries = proposal.entries();
+        if self.entries() == entries || self.open(entries) {
+            self.free.load(proposal);
+        }
+    }
+
+    /// Makes tables of so many entries of nodes in the room that there is, and says whether it is enough.
+    fn open(&mut self, entries: usize) -> bool
+        requires { entries < 2 ^ 31 }
+        ensures { IsTrue result → self.new ≡ entries }
+    {
+        if self.ahead.open(entries) && self.behind.open(entries) && self.free.open(entries) {
+            self.roots.begin(entries);
+            return true;
+        }
+        self.ahead.close();
+        self.behind.close();
+        self.free.close();
+        self.roots.begin(0);
+        false
     }
 
     /// Takes over whether an arc of a proposal has room both ways.

@@ -1,6 +1,6 @@
 //! The ends of arcs that have room both ways.
 
-ghost use Rattle.std.specs.Prelude.{◌≡◌, ◌<◌, ◌^◌, IfOk};
+ghost use Rattle.std.specs.Prelude.{◌≡◌, ◌<◌, ◌^◌, IfOk, IsTrue};
 
 use relaxation::{Link, Proposal};
 use std::alloc::{AllocError, Global};
@@ -23,14 +23,6 @@ pub struct FreeEnd {
     pub next: u32,
 }
 
-impl FreeEnd {
-    const UNUSED: FreeEnd = FreeEnd {
-        other: 0,
-        opposite: 0,
-        next: NONE,
-    };
-}
-
 /// The ends of arcs with room both ways, a chain a node, close together: searches reach most nodes over these, and they are
 /// few. It is seen as the number of entries that a table of nodes has.
 #[derive(Drop)]
@@ -38,8 +30,6 @@ pub struct FreeEnds {
     /// Where the chain of each node begins.
     heads: Vec<u32>,
     ends: Vec<FreeEnd>,
-    /// How many of them were used.
-    len: usize,
     /// The first one that is in no chain any more; these are a chain too.
     spare: u32,
     /// None was left out for want of room.
@@ -55,23 +45,41 @@ impl Model for FreeEnds {
 }
 
 impl FreeEnds {
-    /// Chains of no end.
+    /// Room for chains of so many nodes: they are opened before they are used, and the room is not touched.
     ///
     /// # Errors
     /// Memory for a table was refused.
     pub fn new(alloc: Global, entries: usize) -> Result<FreeEnds, AllocError>
         requires { entries < 2 ^ 31 }
-        ensures { IfOk result (λ f. f ≡ entries) }
+        ensures { IfOk result (λ f. f ≡ 0) }
     {
-        let heads = vec![in alloc; NONE; entries]?;
-        let ends = vec![in alloc; FreeEnd::UNUSED; ROOM * entries]?;
+        let heads = Vec::with_capacity(alloc, entries)?;
+        let ends = Vec::with_capacity(alloc, ROOM * entries)?;
         Ok(FreeEnds {
             heads,
             ends,
-            len: 0,
             spare: NONE,
             whole: true,
         })
+    }
+
+    /// Makes a table of so many entries of nodes in the room that there is, and says whether it is enough.
+    pub fn open(&mut self, entries: usize) -> bool
+        ensures { IsTrue result → self.new ≡ entries }
+    {
+        if entries > self.heads.capacity() {
+            return false;
+        }
+        self.heads.clear();
+        let _filled = self.heads.resize(entries, NONE);
+        true
+    }
+
+    /// Makes the table empty.
+    pub fn close(&mut self)
+        ensures { self.new ≡ 0 }
+    {
+        self.heads.clear();
     }
 
     /// Takes over those of a proposal.
@@ -80,7 +88,7 @@ impl FreeEnds {
         ensures { self.new ≡ self.old }
     {
         self.heads.fill(NONE);
-        self.len = 0;
+        self.ends.clear();
         self.spare = NONE;
         self.whole = true;
         for v in 0..proposal.entries() {
@@ -107,7 +115,7 @@ impl FreeEnds {
         self.whole
     }
 
-    /// How many there can be.
+    /// How many there are at most.
     #[inline(always)]
     pub fn most(&self) -> usize {
         self.ends.len()
@@ -163,31 +171,34 @@ impl FreeEnds {
         requires { v < self.old }
         ensures { self.new ≡ self.old }
     {
-        let at = self.take_place() as usize;
-        if at >= self.ends.len() {
-            self.whole = false;
-            return;
-        }
-        self.ends[at] = FreeEnd {
+        let end = FreeEnd {
             other: link.other,
             opposite: link.opposite,
             next: self.heads[v],
         };
-        self.heads[v] = at as u32;
+        match self.put(end) {
+            Some(place) => self.heads[v] = place,
+            None => self.whole = false,
+        }
     }
 
-    /// Takes a place that is in no chain: past all ends, where there is none.
-    fn take_place(&mut self) -> u32
+    /// Puts an end at a place that is in no chain, if there is one, and gives that.
+    fn put(&mut self, end: FreeEnd) -> Option<u32>
         ensures { self.new ≡ self.old }
     {
         let spare = self.spare;
-        if let Some(end) = self.at(spare) {
-            self.spare = end.next;
-            return spare;
+        let at = spare as usize;
+        if at < self.ends.len() {
+            self.spare = self.ends[at].next;
+            self.ends[at] = end;
+            return Some(spare);
         }
-        let place = self.len.min(NONE as usize);
-        self.len = place.saturating_add(1);
-        place as u32
+        let place = u32::try_from(self.ends.len()).ok()?;
+        if self.ends.len() >= self.ends.capacity() {
+            return None;
+        }
+        let _listed = self.ends.push(end);
+        Some(place)
     }
 
     /// Takes an end at a node out of its chain.
