@@ -3,7 +3,8 @@ use Rattle.shortest_paths.specs.Limits.{label_floor}
 use Rattle.std.specs.Prelude.{◌≡◌, ℕ, ℤ, pos, ◌*◌, ◌-ℤ◌, ◌<ℤ◌, ◌≤ℤ◌, List, length}
 use Rattle.dimacs_text.specs.declared.problem.ArcRow.{ArcRow}
 use Rattle.shortest_paths.specs.declared.node_label.NodeLabel.{NodeLabel}
-use Rattle.residual_graph.specs.Residual.{ArePotentials, number_at}
+use Rattle.residual_graph.specs.declared.residual_network.Residual.{Residual}
+use Rattle.residual_graph.specs.Residual.{AreGreatest, ArePotentials, IsReducedCostOptimal, number_at}
 use Rattle.shortest_paths.specs.Search.{AllRelaxed, HasSearched, IsFromAll, IsNearestDeficit, IsSearch, NoneOpen}
 
 -- a search over the potentials p found that t is the nearest node in deficit
@@ -28,3 +29,12 @@ pub record AreLabelled (arcs : List ArcRow) (x p : List ℤ) (s : List NodeLabel
   pub relaxed : AllRelaxed arcs x p s
   pub from_all : IsFromAll p s
   pub done : NoneOpen s (length s)
+
+-- these potentials certify the flow, and are the greatest that do: the shortest labels
+pub record AreShortest (arcs : List ArcRow) (x q : List ℤ) : Type 0 where
+  pub certified : IsReducedCostOptimal arcs x q
+  pub within : ArePotentials (length q) label_floor q
+  pub greatest : AreGreatest arcs x q
+
+abbrev pub AreShortestOver : Residual → List ℤ → Type 0
+AreShortestOver net q = AreShortest net.graph.now.rows net.flow.now q

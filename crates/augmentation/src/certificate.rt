@@ -1,15 +1,15 @@
 //! Whether potentials certify a flow.
 
-ghost use Rattle.std.specs.Prelude.{◌≡◌, ◌↔◌, ◌⊎◌, ℕ, ℤ, ◌<◌, ◌+ℤ◌, ◌-ℤ◌, IsTrue, List, length, true, false};
-ghost use Rattle.shortest_paths.specs.Limits.{label_floor};
+ghost use Rattle.std.specs.Prelude.{◌≡◌, ◌↔◌, ◌<◌, ◌-ℤ◌, IsTrue, length};
 ghost use Rattle.residual_graph.specs.Graph.{HasEntries};
-ghost use Rattle.augmentation.specs.Cut.{in_set};
-ghost use Rattle.residual_graph.specs.Residual.{ArePotentials, IsPseudoflow, IsRow, IsWithinRow, NoneBelow, cost_of, end_of, number_at, row_at, start_of};
-ghost use Rattle.augmentation.specs.Certificate.{AreWithin, IsNoneBelowAt, KeepsAt, KeepsRow};
+ghost use Rattle.residual_graph.specs.Limits.{potential_floor};
+ghost use Rattle.residual_graph.specs.Residual.{ArePotentials, IsPseudoflow, IsRow, IsWithinRow, number_at, row_at};
+ghost use Rattle.augmentation.specs.Certificate.{AllFellOrKeep, AreCertifying, AreInRange, AreWithin, IsNoneBelowAt, KeepsAt, KeepsBeside, KeepsNoted, KeepsRow, StaysCertified};
 
 use crate::touched::Touched;
 use dimacs_text::ArcRow;
 use residual_graph::{Graph, Walk, Way};
+use shortest_paths::reduced_cost;
 
 /// Where more nodes than one in so many have a potential apart, all arcs are looked at in turn.
 const MOST_APART: usize = 8;
@@ -19,7 +19,7 @@ const FLOOR: i64 = -50_000_000_000_000_000;
 
 /// Whether each potential is in the range with which a run of pushes begins.
 pub(crate) fn are_in_range(potentials: &[i64]) -> bool
-    ensures { IsTrue result ↔ ArePotentials (length potentials.now) label_floor potentials.now }
+    ensures { IsTrue result ↔ AreInRange potentials.now }
 {
     for p in potentials {
         if *p > 0 || *p < FLOOR {
@@ -29,22 +29,11 @@ pub(crate) fn are_in_range(potentials: &[i64]) -> bool
     true
 }
 
-/// The cost of a residual arc less what the potentials pay for it.
-fn reduced_cost(row: &ArcRow, potentials: &[i64], way: Way) -> i64
-    requires row { IsRow (length potentials.now) row.now }
-    requires potentials { ArePotentials (length potentials.now) label_floor potentials.now }
-    ensures { result ≡ (cost_of row.now way +ℤ number_at potentials.now (start_of row.now way)) -ℤ number_at potentials.now (end_of row.now way) }
-{
-    let start = way.start(row) as usize;
-    let end = way.end(row) as usize;
-    way.unit_cost(row) + potentials[start] - potentials[end]
-}
-
 /// Whether the residual arc in this way along an arc is not there, or costs no less than what the potentials pay for it.
 fn keeps_way(row: &ArcRow, flow: i64, potentials: &[i64], way: Way) -> bool
     requires row { IsRow (length potentials.now) row.now }
     requires within { IsWithinRow row.now flow }
-    requires potentials { ArePotentials (length potentials.now) label_floor potentials.now }
+    requires potentials { AreInRange potentials.now }
     ensures { IsTrue result ↔ IsNoneBelowAt row.now flow potentials.now way }
 {
     if way.room(row, flow) <= 0 {
@@ -58,7 +47,7 @@ fn keeps_way(row: &ArcRow, flow: i64, potentials: &[i64], way: Way) -> bool
 fn keeps_row(row: &ArcRow, flow: i64, potentials: &[i64]) -> bool
     requires row { IsRow (length potentials.now) row.now }
     requires within { IsWithinRow row.now flow }
-    requires potentials { ArePotentials (length potentials.now) label_floor potentials.now }
+    requires potentials { AreInRange potentials.now }
     ensures { IsTrue result ↔ KeepsRow row.now flow potentials.now }
 {
     keeps_way(row, flow, potentials, Way::Forward)
@@ -69,7 +58,7 @@ fn keeps_row(row: &ArcRow, flow: i64, potentials: &[i64]) -> bool
 fn keeps_arc(graph: &Graph, flow: &[i64], potentials: &[i64], k: usize) -> bool
     requires arc { k < length graph.now.rows }
     requires flow { IsPseudoflow (length potentials.now) graph.now.rows flow.now }
-    requires potentials { ArePotentials (length potentials.now) label_floor potentials.now }
+    requires potentials { AreInRange potentials.now }
     ensures { IsTrue result ↔ KeepsRow (row_at graph.now.rows k) (number_at flow.now k) potentials.now }
 {
     let row = graph.row(k);
@@ -80,7 +69,7 @@ fn keeps_arc(graph: &Graph, flow: &[i64], potentials: &[i64], k: usize) -> bool
 /// reduced cost below 0.
 pub fn certifies(graph: &Graph, flow: &[i64], potentials: &[i64]) -> bool
     requires { IsPseudoflow (length potentials.now) graph.now.rows flow.now }
-    ensures { IsTrue result ↔ (ArePotentials (length potentials.now) label_floor potentials.now × NoneBelow graph.now.rows flow.now potentials.now) }
+    ensures { IsTrue result ↔ AreCertifying graph.now.rows flow.now potentials.now }
 {
     if !are_in_range(potentials) {
         return false;
@@ -96,8 +85,8 @@ pub fn certifies(graph: &Graph, flow: &[i64], potentials: &[i64]) -> bool
 /// Whether potentials certify the flow of these arcs.
 fn keep_arcs(graph: &Graph, flow: &[i64], potentials: &[i64], arcs: &Touched) -> bool
     requires flow { IsPseudoflow (length potentials.now) graph.now.rows flow.now }
-    requires potentials { ArePotentials (length potentials.now) label_floor potentials.now }
-    ensures { IsTrue result → (k : ℕ) → k < length graph.now.rows → in_set arcs.now k ≡ true → KeepsRow (row_at graph.now.rows k) (number_at flow.now k) potentials.now }
+    requires potentials { AreInRange potentials.now }
+    ensures { IsTrue result → KeepsNoted graph.now.rows flow.now potentials.now arcs.now }
 {
     for place in arcs.places() {
         let k = *place as usize;
@@ -115,7 +104,7 @@ fn keep_arcs(graph: &Graph, flow: &[i64], potentials: &[i64], arcs: &Touched) ->
 fn keep_node(graph: &Graph, flow: &[i64], potentials: &[i64], node: u32) -> bool
     requires graph { HasEntries (length potentials.now) graph.now }
     requires flow { IsPseudoflow (length potentials.now) graph.now.rows flow.now }
-    requires potentials { ArePotentials (length potentials.now) label_floor potentials.now }
+    requires potentials { AreInRange potentials.now }
     requires node_in { node < length potentials.now }
     ensures { IsTrue result → KeepsAt graph.now.rows flow.now potentials.now node }
 {
@@ -133,8 +122,8 @@ fn keep_node(graph: &Graph, flow: &[i64], potentials: &[i64], node: u32) -> bool
 fn has_fallen(before: &[i64], potentials: &[i64], v: usize, fall: i64) -> bool
     requires node { v < length potentials.now }
     requires same_length { length before.now ≡ length potentials.now }
-    requires before { ArePotentials (length before.now) label_floor before.now }
-    requires potentials { ArePotentials (length potentials.now) label_floor potentials.now }
+    requires before { ArePotentials (length before.now) potential_floor before.now }
+    requires potentials { AreInRange potentials.now }
     ensures { IsTrue result ↔ (number_at before.now v -ℤ number_at potentials.now v ≡ fall) }
 {
     before[v] - potentials[v] == fall
@@ -143,8 +132,8 @@ fn has_fallen(before: &[i64], potentials: &[i64], v: usize, fall: i64) -> bool
 /// How many potentials did not fall by `fall`.
 fn count_apart(before: &[i64], potentials: &[i64], fall: i64) -> usize
     requires same_length { length before.now ≡ length potentials.now }
-    requires before { ArePotentials (length before.now) label_floor before.now }
-    requires potentials { ArePotentials (length potentials.now) label_floor potentials.now }
+    requires before { ArePotentials (length before.now) potential_floor before.now }
+    requires potentials { AreInRange potentials.now }
 {
     let mut count: usize = 0;
     for v in 0..potentials.len() {
@@ -160,9 +149,9 @@ fn keep_nodes(graph: &Graph, flow: &[i64], before: &[i64], potentials: &[i64], f
     requires graph { HasEntries (length potentials.now) graph.now }
     requires flow { IsPseudoflow (length potentials.now) graph.now.rows flow.now }
     requires same_length { length before.now ≡ length potentials.now }
-    requires before { ArePotentials (length before.now) label_floor before.now }
-    requires potentials { ArePotentials (length potentials.now) label_floor potentials.now }
-    ensures { IsTrue result → (v : ℕ) → v < length potentials.now → (number_at before.now v -ℤ number_at potentials.now v ≡ fall) ⊎ KeepsAt graph.now.rows flow.now potentials.now v }
+    requires before { ArePotentials (length before.now) potential_floor before.now }
+    requires potentials { AreInRange potentials.now }
+    ensures { IsTrue result → AllFellOrKeep graph.now.rows flow.now before.now potentials.now fall }
 {
     for v in 0..potentials.len() {
         if has_fallen(before, potentials, v, fall) {
@@ -175,8 +164,32 @@ fn keep_nodes(graph: &Graph, flow: &[i64], before: &[i64], potentials: &[i64], f
     true
 }
 
+/// Whether potentials certify the flow of each arc that others certify. Where most potentials fell by as much as that of
+/// entry 0, which no node has, few arcs are looked at.
+pub(crate) fn certifies_beside(
+    graph: &Graph,
+    flow: &[i64],
+    before: &[i64],
+    potentials: &[i64],
+) -> bool
+    requires graph { HasEntries (length potentials.now) graph.now }
+    requires flow { IsPseudoflow (length potentials.now) graph.now.rows flow.now }
+    requires same_length { length before.now ≡ length potentials.now }
+    requires before { ArePotentials (length before.now) potential_floor before.now }
+    ensures in_range { IsTrue result → AreInRange potentials.now }
+    ensures kept { IsTrue result → KeepsBeside graph.now.rows flow.now before.now potentials.now }
+{
+    if !are_in_range(potentials) {
+        return false;
+    }
+    let fall = before[0] - potentials[0];
+    if count_apart(before, potentials, fall) > potentials.len() / MOST_APART {
+        return certifies(graph, flow, potentials);
+    }
+    keep_nodes(graph, flow, before, potentials, fall)
+}
+
 /// Whether potentials certify a flow that comes of one that other potentials certify, where the flow of these arcs moved.
-/// Where most potentials fell by as much as that of entry 0, which no node has, few arcs are looked at.
 pub(crate) fn still_certifies(
     graph: &Graph,
     flow: &[i64],
@@ -187,18 +200,11 @@ pub(crate) fn still_certifies(
     requires graph { HasEntries (length potentials.now) graph.now }
     requires flow { IsPseudoflow (length potentials.now) graph.now.rows flow.now }
     requires same_length { length before.now ≡ length potentials.now }
-    requires before { ArePotentials (length before.now) label_floor before.now }
-    ensures in_range { IsTrue result → ArePotentials (length potentials.now) label_floor potentials.now }
-    ensures none_below { IsTrue result → (x : List ℤ) → NoneBelow graph.now.rows x before.now → ((k : ℕ) → in_set moved.now k ≡ false → number_at flow.now k ≡ number_at x k) → NoneBelow graph.now.rows flow.now potentials.now }
+    requires before { ArePotentials (length before.now) potential_floor before.now }
+    ensures in_range { IsTrue result → AreInRange potentials.now }
+    ensures none_below { IsTrue result → StaysCertified graph.now.rows flow.now before.now potentials.now moved.now }
 {
-    if !are_in_range(potentials) {
-        return false;
-    }
-    let fall = before[0] - potentials[0];
-    if count_apart(before, potentials, fall) > potentials.len() / MOST_APART {
-        return certifies(graph, flow, potentials);
-    }
-    keep_arcs(graph, flow, potentials, moved) && keep_nodes(graph, flow, before, potentials, fall)
+    certifies_beside(graph, flow, before, potentials) && keep_arcs(graph, flow, potentials, moved)
 }
 
 /// Whether a flow has one entry an arc, each within the bounds.

@@ -1,18 +1,21 @@
 //! Potentials that are lowered after a search, and become the shortest labels at the end.
 
-ghost use Rattle.std.specs.Prelude.{◌≡◌, ℕ, length, ◌+ℤ◌, FitsSigned};
+ghost use Rattle.std.specs.Prelude.{◌≡◌, ℕ, length, ◌+ℤ◌, FitsSigned, IsTrue};
 ghost use Rattle.std.specs.Int.{w64};
 ghost use Rattle.residual_graph.specs.Graph.{HasEntries};
 ghost use Rattle.shortest_paths.specs.Limits.{label_floor};
 ghost use Rattle.residual_graph.specs.Limits.{potential_floor};
 ghost use Rattle.residual_graph.specs.Residual.{AreGreatest, IsReducedCostOptimal, ArePotentials, number_at};
 ghost use Rattle.shortest_paths.specs.Search.{distance_at, AreLabels, IsReach, lowered, IsLowered};
+ghost use Rattle.shortest_paths.specs.Tree.{IsTreeOf};
+ghost use Rattle.augmentation.specs.Settle.{AreShortestOver};
 ghost use Rattle.augmentation.specs.Tracked.{IsWritten};
 
+use crate::certificate::certifies_beside;
 use crate::scratch::Scratch;
 use crate::tracked::Tracked;
 use residual_graph::{Graph, Residual};
-use shortest_paths::{NodeLabel, search_labels};
+use shortest_paths::{NodeLabel, Tree, are_traced, search_labels};
 
 /// Writes each label into a table where another number stands.
 fn write_labels(table: &mut Tracked<i64>, potentials: &[i64], node_labels: &[NodeLabel])
@@ -30,7 +33,41 @@ fn write_labels(table: &mut Tracked<i64>, potentials: &[i64], node_labels: &[Nod
     }
 }
 
-/// Writes the shortest labels into the `Tracked` table: the greatest potentials that certify the flow.
+/// Makes a table the same as these numbers.
+fn write_all(table: &mut Tracked<i64>, numbers: &[i64])
+    requires same_length { length numbers.now ≡ length table.old.entries }
+    ensures written { IsWritten table.old table.new }
+    ensures entries { table.new.entries ≡ numbers.now }
+{
+    for v in 0..numbers.len() {
+        if numbers[v] != table.get(v) {
+            table.set(v, numbers[v]);
+        }
+    }
+}
+
+/// Mends the labels that were taken last, and tests them: whether they certify the flow, and are the greatest that do.
+fn mend(residual: Residual<'_>, tree: &mut Tree, written: &[u32]) -> bool
+    ensures sized { IsTrue result → IsTreeOf residual.entry tree.new }
+    ensures shortest { IsTrue result → AreShortestOver residual.entry tree.new.labels }
+{
+    tree.mend(residual, written)
+        && certifies_beside(
+            residual.graph,
+            residual.flow,
+            residual.potentials,
+            tree.labels(),
+        )
+        && are_traced(
+            residual.graph,
+            residual.flow,
+            tree.labels(),
+            tree.predecessors(),
+        )
+}
+
+/// Writes the shortest labels into the `Tracked` table: the greatest potentials that certify the flow. Those that were
+/// written last are mended, and all are searched where that does not serve.
 pub fn write_potentials(
     graph: &Graph,
     flow: &Tracked<i64>,
@@ -46,17 +83,20 @@ pub fn write_potentials(
     ensures greatest { AreGreatest graph.now.rows flow.now.entries potentials.new.entries }
     ensures scratch { scratch.new.potentials ≡ scratch.old.potentials }
 {
-    search_labels(
-        Residual {
-            graph,
-            flow: flow.entries(),
-            potentials: &scratch.potentials,
-        },
-        &mut scratch.labels.node_labels,
-        &mut scratch.labels.order,
-        &mut scratch.queue,
-    );
-    write_labels(potentials, &scratch.potentials, &scratch.labels.node_labels);
+    let residual = Residual {
+        graph,
+        flow: flow.entries(),
+        potentials: &scratch.potentials,
+    };
+    if mend(residual, &mut scratch.tree, flow.places()) {
+        write_all(potentials, scratch.tree.labels());
+        return;
+    }
+    search_labels(residual, &mut scratch.node_labels, &mut scratch.queue);
+    write_labels(potentials, &scratch.potentials, &scratch.node_labels);
+    scratch
+        .tree
+        .take(potentials.entries(), &scratch.node_labels);
 }
 
 /// Lowers the potential of each settled node by what it is nearer than `reach`.

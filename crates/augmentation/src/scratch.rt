@@ -8,7 +8,7 @@ ghost use Rattle.residual_graph.specs.Residual.{IsPseudoflow};
 use crate::attempt::Attempt;
 use proposals::Wanted;
 use residual_graph::Graph;
-use shortest_paths::{Labels, NodeLabel, Queue};
+use shortest_paths::{NodeLabel, Queue, Tree};
 use std::alloc::{AllocError, Global};
 use std::marker::Model;
 
@@ -19,7 +19,7 @@ pub struct Scratch {
     pub(crate) node_labels: Vec<NodeLabel>,
     /// Potentials while flow is pushed.
     pub(crate) potentials: Vec<i64>,
-    pub(crate) labels: Labels,
+    pub(crate) tree: Tree,
     pub(crate) queue: Queue,
     /// Marks of nodes, while a cut is looked for.
     pub(crate) marks: Vec<bool>,
@@ -51,7 +51,7 @@ impl Scratch {
     {
         let node_labels = vec![in alloc; NodeLabel::unreached(); entries as usize]?;
         let potentials = vec![in alloc; 0; entries as usize]?;
-        let labels = Labels::new(alloc, entries)?;
+        let tree = Tree::new(alloc, entries as usize)?;
         let queue = Queue::new(alloc, entries as usize)?;
         let marks = vec![in alloc; false; entries as usize]?;
         let worklist = vec![in alloc; 0; entries as usize]?;
@@ -59,7 +59,7 @@ impl Scratch {
         Ok(Scratch {
             node_labels,
             potentials,
-            labels,
+            tree,
             queue,
             marks,
             worklist,
@@ -88,6 +88,7 @@ impl Scratch {
         ensures { self.new ≡ self.old }
     {
         self.attempt.note_all(places);
+        self.tree.note_all(places);
     }
 
     /// Has this proposal at hand.

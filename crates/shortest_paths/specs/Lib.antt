@@ -3,4 +3,4 @@ pub mod Search
 pub mod Over
 pub mod Queue
 pub mod NodeLists
-pub mod Labels
+pub mod Tree

@@ -232,6 +232,10 @@ pub record IsFromAll (p : List ℤ) (s : List NodeLabel) : Type 0 where
 abbrev pub root_node_label : ℤ → NodeLabel
 root_node_label potential = record { state = Open; distance = neg_ℤ potential; depth = 0; arc = 0; way = Forward; bound = pos 0 }
 
+-- each node is open with label 0
+abbrev pub AreRoots : List ℤ → List NodeLabel → Type 0
+AreRoots p s = (v : ℕ) → v < length s → node_label_at s v ≡ root_node_label (number_at p v)
+
 -- each potential becomes the label of its node
 abbrev pub AreLabels : List ℤ → List ℤ → List NodeLabel → Type 0
 AreLabels p q s = (v : ℕ) → number_at q v ≡ number_at p v +ℤ distance_at s v

@@ -1,6 +1,6 @@
 use Rattle.std.proofs.Common.{ℕ, arith, inl, inr, refl, subst, sym, w64, to_z, of_z}
 use Rattle.std.proofs.lemmas.Bool.{cases_eq}
-use Rattle.augmentation.proofs.CertificateLemmas.{FellOrKeeps}
+use Rattle.augmentation.specs.Certificate.{FellOrKeeps}
 use Rattle.augmentation.proofs.certificate.keep_nodes.Goals as goal
 
 pub loop-v-preserved-then-has_fallen : goal.loop-v-preserved-then-has_fallen

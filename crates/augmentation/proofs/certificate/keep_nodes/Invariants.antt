@@ -1,5 +1,5 @@
 use Rattle.std.proofs.Common.{ℕ, ◌<◌}
-use Rattle.augmentation.proofs.CertificateLemmas.{FellOrKeeps}
+use Rattle.augmentation.specs.Certificate.{FellOrKeeps}
 use Rattle.augmentation.proofs.certificate.keep_nodes.Given as goal
 
 abbrev pub invariant-loop-v : goal.invariant-loop-v

@@ -5,8 +5,8 @@ use Rattle.shortest_paths.specs.declared.node_label.NodeLabel.{NodeLabel}
 use Rattle.residual_graph.specs.Residual.{IsReducedCostOptimal, number_at}
 use Rattle.shortest_paths.specs.Search.{AreLabels, distance_at}
 use Rattle.augmentation.specs.ScratchView.{ScratchView}
-use Rattle.augmentation.specs.Settle.{AreLabelled}
-use Rattle.augmentation.proofs.LabelLaws.{AreShortest, label_is_number, labels_shortest}
+use Rattle.augmentation.specs.Settle.{AreLabelled, AreShortest}
+use Rattle.augmentation.proofs.LabelLaws.{label_is_number, labels_shortest}
 use Rattle.augmentation.proofs.potentials.write_potentials.Goals as goal
 use Rattle.augmentation.proofs.potentials.write_potentials.Goals.{After-search_labels, After-write_labels}
 
@@ -28,8 +28,8 @@ certified : (c : After-search_labels) → IsReducedCostOptimal c.args.graph.now.
 certified c = subst (λ (v : ScratchView). IsReducedCostOptimal c.args.graph.now.rows c.args.flow.now.entries v.potentials) (sym c.scratch.view_is) c.requires.certified
 
 -- what is read of its labels
-labels_are : (c : After-search_labels) → (with_items c.scratch.inside.labels.node_labels c.search_labels.new.node_labels).items ≡ c.search_labels.new.node_labels
-labels_are c = with_items_is c.scratch.inside.labels.node_labels c.search_labels.new.node_labels (c.search_labels.auto.node_labels ∙ c.deref_mut.ensures.len)
+labels_are : (c : After-search_labels) → (with_items c.scratch.inside.node_labels c.search_labels.new.node_labels).items ≡ c.search_labels.new.node_labels
+labels_are c = with_items_is c.scratch.inside.node_labels c.search_labels.new.node_labels (c.search_labels.auto.node_labels ∙ c.deref_mut.ensures.len)
 
 pub write_labels-requires-clause-fits : goal.write_labels-requires-clause-fits
 write_labels-requires-clause-fits c = λ v.
@@ -40,7 +40,7 @@ write_labels-requires-clause-fits c = λ v.
 
 -- the labels in the `Tracked` table
 shortest : (c : After-write_labels) → AreLabelled c.args.graph.now.rows c.args.flow.now.entries c.scratch.inside.potentials.items c.search_labels.new.node_labels
-    → IsReducedCostOptimal c.args.graph.now.rows c.args.flow.now.entries c.scratch.inside.potentials.items → (with_items c.scratch.inside.labels.node_labels c.search_labels.new.node_labels).items ≡ c.search_labels.new.node_labels
+    → IsReducedCostOptimal c.args.graph.now.rows c.args.flow.now.entries c.scratch.inside.potentials.items → (with_items c.scratch.inside.node_labels c.search_labels.new.node_labels).items ≡ c.search_labels.new.node_labels
     → AreShortest c.args.graph.now.rows c.args.flow.now.entries c.write_labels.new.table.entries
 shortest c found before read =
     let p = c.scratch.inside.potentials.items in

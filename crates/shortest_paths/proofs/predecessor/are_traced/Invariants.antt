@@ -1,0 +1,8 @@
+use Rattle.std.proofs.Common.{ℕ, ◌<◌}
+use Rattle.shortest_paths.specs.Tree.{IsTracedAt}
+use Rattle.shortest_paths.proofs.predecessor.are_traced.Given as goal
+
+abbrev pub invariant-loop-v : goal.invariant-loop-v
+invariant-loop-v l = record {
+  traced : (w : ℕ) → w < l.v → IsTracedAt l.graph.rows l.flow l.labels l.predecessors w;
+}

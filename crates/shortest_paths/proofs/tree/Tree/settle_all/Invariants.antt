@@ -1,0 +1,7 @@
+use Rattle.std.proofs.Common.{◌≡◌, length}
+use Rattle.shortest_paths.proofs.tree.Tree.settle_all.Given as goal
+
+abbrev pub invariant-loop : goal.invariant-loop
+invariant-loop l = record {
+  sized : length l.self.labels ≡ length l.residual.potentials.now;
+}

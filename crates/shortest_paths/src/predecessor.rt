@@ -1,0 +1,97 @@
+//! How nodes got their labels.
+
+ghost use Rattle.std.specs.Prelude.{◌≡◌, ◌<◌, IsTrue, length};
+ghost use Rattle.shortest_paths.specs.Limits.{label_floor};
+ghost use Rattle.residual_graph.specs.Residual.{AreGreatest, ArePotentials, IsPseudoflow, IsRow, IsWithinRow};
+ghost use Rattle.shortest_paths.specs.Search.{reduced_by};
+ghost use Rattle.shortest_paths.specs.Tree.{ComesAlong, IsTracedAt};
+
+use dimacs_text::ArcRow;
+use residual_graph::{Graph, Way};
+
+/// How a node got its label where that is below 0: by a residual arc from a node of lower rank.
+#[derive(Clone, Copy)]
+pub struct Predecessor {
+    /// The end of an arc at which the residual arc leaves.
+    pub end: u32,
+    pub rank: u32,
+    /// Whether the node's label may become lower yet.
+    pub is_queued: bool,
+}
+
+/// Whether each label is 0 or comes of that of a node of lower rank, by the residual arc that is told: then no greater
+/// potentials certify the flow.
+pub fn are_traced(graph: &Graph, flow: &[i64], labels: &[i64], predecessors: &[Predecessor]) -> bool
+    requires flow { IsPseudoflow (length labels.now) graph.now.rows flow.now }
+    requires labels { ArePotentials (length labels.now) label_floor labels.now }
+    ensures { IsTrue result → AreGreatest graph.now.rows flow.now labels.now }
+{
+    if predecessors.len() != labels.len() {
+        return false;
+    }
+    for v in 0..labels.len() {
+        if !is_traced(graph, flow, labels, predecessors, v) {
+            return false;
+        }
+    }
+    true
+}
+
+/// Whether this is so of a node.
+fn is_traced(
+    graph: &Graph,
+    flow: &[i64],
+    labels: &[i64],
+    predecessors: &[Predecessor],
+    v: usize,
+) -> bool
+    requires flow { IsPseudoflow (length labels.now) graph.now.rows flow.now }
+    requires labels { ArePotentials (length labels.now) label_floor labels.now }
+    requires same_length { length predecessors.now ≡ length labels.now }
+    requires node { v < length labels.now }
+    ensures { IsTrue result → IsTracedAt graph.now.rows flow.now labels.now predecessors.now v }
+{
+    if labels[v] == 0 {
+        return true;
+    }
+    let k = predecessors[v].end as usize / 2;
+    if k >= graph.rows().len() {
+        return false;
+    }
+    comes_along(&graph.row(k), flow[k], labels, predecessors, v)
+}
+
+/// Whether a node's label comes of that of a node of lower rank, by the residual arc that is told, along an arc with this row
+/// and this flow.
+fn comes_along(
+    row: &ArcRow,
+    flow: i64,
+    labels: &[i64],
+    predecessors: &[Predecessor],
+    v: usize,
+) -> bool
+    requires row { IsRow (length labels.now) row.now }
+    requires within { IsWithinRow row.now flow }
+    requires labels { ArePotentials (length labels.now) label_floor labels.now }
+    requires same_length { length predecessors.now ≡ length labels.now }
+    requires node { v < length labels.now }
+    ensures { IsTrue result → ComesAlong row.now flow labels.now predecessors.now v }
+{
+    let way = Way::of_end(predecessors[v].end);
+    let start = way.start(row) as usize;
+    way.room(row, flow) > 0
+        && way.end(row) as usize == v
+        && predecessors[start].rank < predecessors[v].rank
+        && reduced_cost(row, labels, way) == 0
+}
+
+/// The cost of a residual arc less what the labels of its ends pay for it.
+pub fn reduced_cost(row: &ArcRow, labels: &[i64], way: Way) -> i64
+    requires row { IsRow (length labels.now) row.now }
+    requires labels { ArePotentials (length labels.now) label_floor labels.now }
+    ensures { result ≡ reduced_by row.now labels.now way }
+{
+    let start = way.start(row) as usize;
+    let end = way.end(row) as usize;
+    way.unit_cost(row) + labels[start] - labels[end]
+}
