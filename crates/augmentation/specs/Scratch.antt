@@ -2,12 +2,10 @@
 use Rattle.std.specs.Prelude.{◌≡◌, length}
 use Rattle.augmentation.specs.declared.scratch.Scratch.TheInside.{Inside}
 use Rattle.augmentation.specs.Attempt.{IsAttemptFor}
-use Rattle.shortest_paths.specs.Queue.{IsQueueFor}
 
 -- each table has as many entries as there are potentials
 pub record IsScratch (s : Inside) : Type 0 where
   pub node_labels_sized : length s.node_labels.items ≡ length s.potentials.items
-  pub queue : IsQueueFor (length s.potentials.items) s.queue
   pub marks_sized : length s.marks.items ≡ length s.potentials.items
   pub worklist_sized : length s.worklist.items ≡ length s.potentials.items
   pub attempt : IsAttemptFor (length s.potentials.items) s.attempt

@@ -4,7 +4,7 @@ ghost use Rattle.std.specs.Prelude.{◌≡◌, ℕ, length, ◌<◌, ◌≤◌, 
 ghost use Rattle.residual_graph.specs.Limits.{entry_limit};
 ghost use Rattle.residual_graph.specs.Residual.{IsPseudoflow, number_at};
 ghost use Rattle.residual_graph.specs.Graph.{HasEntries};
-ghost use Rattle.augmentation.specs.Cut.{in_set, IsSide, IsListOf, IsGrown, AreFarIn};
+ghost use Rattle.augmentation.specs.Cut.{in_set, IsParted, IsSide, IsListOf, IsGrown, AreFarIn};
 ghost use Rattle.augmentation.specs.Push.{left};
 ghost use Rattle.residual_graph.specs.Side.{IsRoot, leading};
 ghost use Rattle.residual_graph.specs.declared.side.Side.TheVariants.{Ahead, Behind};
@@ -54,6 +54,29 @@ pub fn mark_cut(
         &mut scratch.worklist,
     );
     take_marks(cut, &scratch.marks);
+}
+
+/// Whether no node in excess reaches a node in deficit. `marks` and `worklist` are tables for the nodes that they reach.
+pub(crate) fn is_parted(
+    graph: &Graph,
+    flow: &[i64],
+    excess: &Excess,
+    marks: &mut [bool],
+    worklist: &mut [u32],
+) -> bool
+    requires graph { HasEntries (length excess.now) graph.now }
+    requires flow { IsPseudoflow (length excess.now) graph.now.rows flow.now }
+    requires marks_in { length marks.old ≡ length excess.now }
+    requires worklist_in { length worklist.old ≡ length excess.now }
+    ensures { IsTrue result → IsParted graph.now.rows flow.now excess.now }
+{
+    mark_side(Side::Ahead, graph, flow, excess, marks, worklist);
+    for v in 0..marks.len() {
+        if marks[v] && excess.entries[v] < 0 {
+            return false;
+        }
+    }
+    true
 }
 
 /// Marks the nodes of a side. `worklist` is a table to list them in.

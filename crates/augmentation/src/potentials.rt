@@ -46,28 +46,37 @@ fn write_all(table: &mut Tracked<i64>, numbers: &[i64])
     }
 }
 
-/// Mends the labels that were taken last, and tests them: whether they certify the flow, and are the greatest that do.
-fn mend(residual: Residual<'_>, tree: &mut Tree, written: &[u32]) -> bool
+/// Whether the labels of a tree certify the flow, and are the greatest that do.
+fn serve(residual: Residual<'_>, tree: &Tree) -> bool
+    requires { IsTreeOf residual tree.now }
+    ensures { IsTrue result → AreShortestOver residual.entry tree.now.labels }
+{
+    certifies_beside(
+        residual.graph,
+        residual.flow,
+        residual.potentials,
+        tree.labels(),
+    ) && are_traced(
+        residual.graph,
+        residual.flow,
+        tree.labels(),
+        tree.predecessors(),
+    )
+}
+
+/// Has a tree mend its labels, or else find them anew, and says whether they serve.
+fn renew(residual: Residual<'_>, tree: &mut Tree, written: &[u32]) -> bool
     ensures sized { IsTrue result → IsTreeOf residual.entry tree.new }
     ensures shortest { IsTrue result → AreShortestOver residual.entry tree.new.labels }
 {
-    tree.mend(residual, written)
-        && certifies_beside(
-            residual.graph,
-            residual.flow,
-            residual.potentials,
-            tree.labels(),
-        )
-        && are_traced(
-            residual.graph,
-            residual.flow,
-            tree.labels(),
-            tree.predecessors(),
-        )
+    if tree.mend(residual, written) && serve(residual, tree) {
+        return true;
+    }
+    tree.search(residual) && serve(residual, tree)
 }
 
 /// Writes the shortest labels into the `Tracked` table: the greatest potentials that certify the flow. Those that were
-/// written last are mended, and all are searched where that does not serve.
+/// written last are mended; where what comes of that does not serve, a search that is proved finds them.
 pub fn write_potentials(
     graph: &Graph,
     flow: &Tracked<i64>,
@@ -88,15 +97,13 @@ pub fn write_potentials(
         flow: flow.entries(),
         potentials: &scratch.potentials,
     };
-    if mend(residual, &mut scratch.tree, flow.places()) {
+    if renew(residual, &mut scratch.tree, flow.places()) {
         write_all(potentials, scratch.tree.labels());
         return;
     }
-    search_labels(residual, &mut scratch.node_labels, &mut scratch.queue);
+    search_labels(residual, &mut scratch.node_labels);
     write_labels(potentials, &scratch.potentials, &scratch.node_labels);
-    scratch
-        .tree
-        .take(potentials.entries(), &scratch.node_labels);
+    scratch.tree.forget();
 }
 
 /// Lowers the potential of each settled node by what it is nearer than `reach`.

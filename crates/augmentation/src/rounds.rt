@@ -8,6 +8,7 @@ ghost use Rattle.augmentation.specs.Tracked.{IsWritten};
 ghost use Rattle.augmentation.specs.Cut.{IsParted};
 
 use crate::augment::augment;
+use crate::cut::is_parted;
 use crate::excess::Excess;
 use crate::potentials::lower;
 use crate::scratch::Scratch;
@@ -56,17 +57,21 @@ fn search_on(
     if !excess.has_both() {
         return None;
     }
+    if is_parted(
+        graph,
+        flow.entries(),
+        excess,
+        &mut scratch.marks,
+        &mut scratch.worklist,
+    ) {
+        return None;
+    }
     let residual = Residual {
         graph,
         flow: flow.entries(),
         potentials: &scratch.potentials,
     };
-    find_deficit(
-        residual,
-        excess.entries(),
-        &mut scratch.node_labels,
-        &mut scratch.queue,
-    )
+    find_deficit(residual, excess.entries(), &mut scratch.node_labels)
 }
 
 /// Lowers the potentials after a search that found a node in deficit, so that the path to it costs nothing, and pushes

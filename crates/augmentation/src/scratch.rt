@@ -8,7 +8,7 @@ ghost use Rattle.residual_graph.specs.Residual.{IsPseudoflow};
 use crate::attempt::Attempt;
 use proposals::Wanted;
 use residual_graph::Graph;
-use shortest_paths::{NodeLabel, Queue, Tree};
+use shortest_paths::{NodeLabel, Tree};
 use std::alloc::{AllocError, Global};
 use std::marker::Model;
 
@@ -20,7 +20,6 @@ pub struct Scratch {
     /// Potentials while flow is pushed.
     pub(crate) potentials: Vec<i64>,
     pub(crate) tree: Tree,
-    pub(crate) queue: Queue,
     /// Marks of nodes, while a cut is looked for.
     pub(crate) marks: Vec<bool>,
     /// The marked nodes.
@@ -52,7 +51,6 @@ impl Scratch {
         let node_labels = vec![in alloc; NodeLabel::unreached(); entries as usize]?;
         let potentials = vec![in alloc; 0; entries as usize]?;
         let tree = Tree::new(alloc, entries as usize)?;
-        let queue = Queue::new(alloc, entries as usize)?;
         let marks = vec![in alloc; false; entries as usize]?;
         let worklist = vec![in alloc; 0; entries as usize]?;
         let attempt = Attempt::new(alloc, entries as usize, arcs / 2)?;
@@ -60,7 +58,6 @@ impl Scratch {
             node_labels,
             potentials,
             tree,
-            queue,
             marks,
             worklist,
             attempt,

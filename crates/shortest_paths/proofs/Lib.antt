@@ -1,4 +1,3 @@
 pub mod SearchLemmas
 pub mod RunLemmas
-pub mod QueueLemmas
 pub mod LabelLemmas

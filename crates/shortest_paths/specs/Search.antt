@@ -142,6 +142,10 @@ pub record IsLeastOpen (s : List NodeLabel) (i b : ℕ) : Type 0 where
   pub is_open : state_at s b ≡ Open
   pub least : (v : ℕ) → v < i → state_at s v ≡ Open → distance_at s b ≤ℤ distance_at s v
 
+-- the first open node of those below i is found, or none of them is open
+abbrev pub IsFirstOpen : List NodeLabel → ℕ → Option ℕ → Type 0
+IsFirstOpen s i found = MatchOption found (NoneOpen s i) (IsLeastOpen s i)
+
 -- u was open and is settled now with what follows from it, and nothing else changed but for the better
 pub record Settles (s t : List NodeLabel) (u : ℕ) : Type 0 where
   pub same_length : length t ≡ length s

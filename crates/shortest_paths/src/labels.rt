@@ -1,15 +1,13 @@
 //! The labels of all nodes.
 
-ghost use Rattle.std.specs.Prelude.{◌≡◌, pos, ◌<◌, ◌≤◌, length};
-ghost use Rattle.residual_graph.specs.Limits.{entry_limit, potential_floor};
+ghost use Rattle.std.specs.Prelude.{◌≡◌, ◌<◌, length};
+ghost use Rattle.residual_graph.specs.Limits.{potential_floor};
 ghost use Rattle.residual_graph.specs.Residual.{ArePotentials, number_at};
 ghost use Rattle.shortest_paths.specs.Search.{AreRoots, IsFresh, IsFromAll, NoneOpen, root_node_label};
 ghost use Rattle.shortest_paths.specs.Over.{IsSearchOver, AllRelaxedOver};
-ghost use Rattle.shortest_paths.specs.Queue.{IsQueueOf, IsQueueFor};
 
 use crate::node_label::{NodeLabel, State, clear_states};
-use crate::queue::Queue;
-use crate::search::settle_node;
+use crate::search::{first_open, settle_node};
 use residual_graph::{Residual, Way};
 
 /// A root: a node that is open with label 0.
@@ -29,35 +27,29 @@ fn root(potentials: &[i64], v: usize) -> NodeLabel
 }
 
 /// Opens all nodes, each with label 0.
-fn open_roots(potentials: &[i64], node_labels: &mut [NodeLabel], queue: &mut Queue)
-    requires queue { IsQueueOf node_labels.old queue.old }
-    requires present { queue.old.present ≡ pos 0 }
-    requires few { length node_labels.old ≤ entry_limit }
+fn open_roots(potentials: &[i64], node_labels: &mut [NodeLabel])
     requires same_length { length node_labels.old ≡ length potentials.now }
     requires potentials_in { ArePotentials (length potentials.now) potential_floor potentials.now }
     requires fresh { IsFresh node_labels.old }
     ensures roots { AreRoots potentials.now node_labels.new }
-    ensures queue { IsQueueOf node_labels.new queue.new }
 {
     for v in 0..node_labels.len() {
-        queue.improve(node_labels, v, root(potentials, v));
+        node_labels[v] = root(potentials, v);
     }
 }
 
 /// Searches from all nodes, each with label 0, for the labels of all.
-pub fn search_labels(residual: Residual<'_>, node_labels: &mut [NodeLabel], queue: &mut Queue)
+#[inline(never)] // a name of its own in the program: `bench/count` counts its calls
+pub fn search_labels(residual: Residual<'_>, node_labels: &mut [NodeLabel])
     requires node_labels_in { length node_labels.old ≡ length residual.potentials.now }
-    requires sized { IsQueueFor (length residual.potentials.now) queue.old }
     ensures search { IsSearchOver residual.entry node_labels.new }
     ensures relaxed { AllRelaxedOver residual.entry node_labels.new }
     ensures from_all { IsFromAll residual.entry.potentials.now node_labels.new }
     ensures done { NoneOpen node_labels.new (length node_labels.new) }
-    ensures sized { IsQueueFor (length residual.entry.potentials.now) queue.new }
 {
     clear_states(node_labels);
-    queue.clear(node_labels);
-    open_roots(residual.potentials, node_labels, queue);
-    while let Some(u) = queue.take_first(node_labels) {
-        settle_node(residual, node_labels, queue, u);
+    open_roots(residual.potentials, node_labels);
+    while let Some(u) = first_open(node_labels) {
+        settle_node(residual, node_labels, u);
     }
 }

@@ -5,17 +5,14 @@
 //! entry a row of the graph. Flow and excess are in units of flow; costs, potentials and distances in cost a unit of flow.
 #![tactic(auto)]
 
-mod heap_entry;
 mod labels;
 mod node_label;
 mod predecessor;
-mod queue;
 mod search;
 mod tree;
 
 pub use labels::search_labels;
 pub use node_label::{NodeLabel, State};
 pub use predecessor::{Predecessor, are_traced, reduced_cost};
-pub use queue::Queue;
 pub use search::find_deficit;
 pub use tree::Tree;

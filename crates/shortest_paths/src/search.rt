@@ -4,13 +4,11 @@ ghost use Rattle.std.specs.Prelude.{◌≡◌, ℕ, pos, ◌≤ℤ◌, ◌+ℤ�
 ghost use Rattle.residual_graph.specs.Limits.{cost_limit, entry_limit, potential_floor};
 ghost use Rattle.shortest_paths.specs.Limits.{distance_limit};
 ghost use Rattle.residual_graph.specs.Residual.{ArePotentials, number_at};
-ghost use Rattle.shortest_paths.specs.Search.{IsLastSettled, IsLeastOpen, settled_in, Improves, Takes, Settles, node_label_at, priced_distance, source_node_label, IsFresh, AreOpened, IsNearestFound};
+ghost use Rattle.shortest_paths.specs.Search.{IsFirstOpen, IsLastSettled, IsLeastOpen, settled_in, Improves, Takes, Settles, node_label_at, priced_distance, source_node_label, IsFresh, AreOpened, IsNearestFound};
 ghost use Rattle.shortest_paths.specs.Over.{IsResidualArc, distance_along, IsSearchOver, AllRelaxedOver, IsRelaxedAlong, IsRelaxedFromNode, HasSearchedOver};
-ghost use Rattle.shortest_paths.specs.Queue.{IsQueueOf, IsQueueFor};
 ghost use Rattle.residual_graph.specs.Ends.{IsEnd, IsEndAt, leaving};
 
 use crate::node_label::{NodeLabel, State, clear_states};
-use crate::queue::Queue;
 use residual_graph::{End, Residual, Walk, Way};
 
 /// The length of the path that goes on from a settled node at this end, with the potential of the other node there.
@@ -48,54 +46,39 @@ struct Origin {
 fn take_path(
     residual: Residual<'_>,
     node_labels: &mut [NodeLabel],
-    queue: &mut Queue,
     start: usize,
     distance: i64,
     end: End,
 )
     requires search { IsSearchOver residual node_labels.old }
-    requires queue { IsQueueOf node_labels.old queue.old }
     requires last { IsLastSettled node_labels.old start }
     requires end { IsEndAt residual.graph.now.rows start end }
     requires residual { IsResidualArc residual (leaving end) }
     requires distance { distance ≡ distance_along residual node_labels.old (leaving end) }
     requires better { Takes (node_label_at node_labels.old end.other) distance }
     ensures search { IsSearchOver residual.entry node_labels.new }
-    ensures queue { IsQueueOf node_labels.new queue.new }
     ensures improves { Improves node_labels.old node_labels.new }
     ensures relaxed { IsRelaxedAlong residual.entry node_labels.new (leaving end) }
 {
     let arc = end.leaving();
     let depth = node_labels[start].depth + 1;
-    queue.improve(
-        node_labels,
-        end.other,
-        NodeLabel {
-            state: State::Open,
-            distance,
-            depth,
-            arc: arc.arc,
-            way: arc.way,
-            bound: distance + residual.potentials[end.other],
-        },
-    );
+    node_labels[end.other] = NodeLabel {
+        state: State::Open,
+        distance,
+        depth,
+        arc: arc.arc,
+        way: arc.way,
+        bound: distance + residual.potentials[end.other],
+    };
 }
 
 /// Takes the residual arc that leads on from the node settled last at this end into account, where it is there.
-fn relax(
-    residual: Residual<'_>,
-    node_labels: &mut [NodeLabel],
-    queue: &mut Queue,
-    origin: Origin,
-    end: End,
-)
+fn relax(residual: Residual<'_>, node_labels: &mut [NodeLabel], origin: Origin, end: End)
     requires search { IsSearchOver residual node_labels.old }
-    requires queue { IsQueueOf node_labels.old queue.old }
     requires last { IsLastSettled node_labels.old origin.node }
     requires end { IsEndAt residual.graph.now.rows origin.node end }
     requires priced { origin.priced ≡ priced_distance residual.potentials.now node_labels.old origin.node }
     ensures search { IsSearchOver residual.entry node_labels.new }
-    ensures queue { IsQueueOf node_labels.new queue.new }
     ensures improves { Improves node_labels.old node_labels.new }
     ensures relaxed { IsResidualArc residual.entry (leaving end) → IsRelaxedAlong residual.entry node_labels.new (leaving end) }
 {
@@ -106,22 +89,16 @@ fn relax(
         return;
     }
     let distance = distance_beyond(residual, priced, end);
-    // No residual arc has a reduced cost below 0: none leads to where the path would be shorter than to a settled node.
-    if distance < queue.present {
-        return;
-    }
     if residual.graph.has_room(residual.flow, end.leaving()) {
-        take_path(residual, node_labels, queue, origin.node, distance, end);
+        take_path(residual, node_labels, origin.node, distance, end);
     }
 }
 
 /// Takes each residual arc from the node settled last into account.
-fn relax_all(residual: Residual<'_>, node_labels: &mut [NodeLabel], queue: &mut Queue, u: usize)
+fn relax_all(residual: Residual<'_>, node_labels: &mut [NodeLabel], u: usize)
     requires search { IsSearchOver residual node_labels.old }
-    requires queue { IsQueueOf node_labels.old queue.old }
     requires last { IsLastSettled node_labels.old u }
     ensures search { IsSearchOver residual.entry node_labels.new }
-    ensures queue { IsQueueOf node_labels.new queue.new }
     ensures improves { Improves node_labels.old node_labels.new }
     ensures relaxed { IsRelaxedFromNode residual.entry node_labels.new u }
 {
@@ -131,28 +108,48 @@ fn relax_all(residual: Residual<'_>, node_labels: &mut [NodeLabel], queue: &mut 
     };
     let mut walk = Walk::at(residual.graph, u as u32);
     while let Some(end) = walk.next(residual.graph) {
-        relax(residual, node_labels, queue, origin, end);
+        relax(residual, node_labels, origin, end);
     }
 }
 
-/// Settles the open node of the least distance, which the queue gave.
-pub fn settle_node(
-    residual: Residual<'_>,
-    node_labels: &mut [NodeLabel],
-    queue: &mut Queue,
-    first: usize,
-)
+/// Settles an open node of the least distance.
+pub fn settle_node(residual: Residual<'_>, node_labels: &mut [NodeLabel], first: usize)
     requires search { IsSearchOver residual node_labels.old }
     requires least { IsLeastOpen node_labels.old (length node_labels.old) first }
-    requires queue { IsQueueOf (settled_in node_labels.old first) queue.old }
     requires relaxed { AllRelaxedOver residual node_labels.old }
     ensures search { IsSearchOver residual.entry node_labels.new }
-    ensures queue { IsQueueOf node_labels.new queue.new }
     ensures relaxed { AllRelaxedOver residual.entry node_labels.new }
     ensures settles { Settles node_labels.old node_labels.new first }
 {
     node_labels[first].settle();
-    relax_all(residual, node_labels, queue, first);
+    relax_all(residual, node_labels, first);
+}
+
+/// The nearer of two open nodes, where there are two: the one at hand, and node `v` if it is open.
+fn nearer(node_labels: &[NodeLabel], first: Option<usize>, v: usize) -> Option<usize>
+    requires node { v < length node_labels.now }
+    requires first { IsFirstOpen node_labels.now v first }
+    ensures { IsFirstOpen node_labels.now (v + 1) result }
+{
+    if !node_labels[v].is_open() {
+        return first;
+    }
+    match first {
+        Some(u) if node_labels[u].distance <= node_labels[v].distance => first,
+        _ => Some(v),
+    }
+}
+
+/// An open node of the least distance, where there is one. All nodes are looked at: few searches are made, and so none
+/// needs a heap.
+pub(crate) fn first_open(node_labels: &[NodeLabel]) -> Option<usize>
+    ensures { IsFirstOpen node_labels.now (length node_labels.now) result }
+{
+    let mut first = None;
+    for v in 0..node_labels.len() {
+        first = nearer(node_labels, first, v);
+    }
+    first
 }
 
 /// A source: a node that is open at distance 0.
@@ -172,24 +169,15 @@ fn source(potentials: &[i64], v: usize) -> NodeLabel
 }
 
 /// Opens the nodes in excess.
-fn open_sources(
-    excess: &[i64],
-    potentials: &[i64],
-    node_labels: &mut [NodeLabel],
-    queue: &mut Queue,
-)
-    requires queue { IsQueueOf node_labels.old queue.old }
-    requires present { queue.old.present ≡ pos 0 }
-    requires few { length node_labels.old ≤ entry_limit }
+fn open_sources(excess: &[i64], potentials: &[i64], node_labels: &mut [NodeLabel])
     requires same_length { length node_labels.old ≡ length excess.now }
     requires potentials_in { ArePotentials (length node_labels.old) potential_floor potentials.now }
     requires fresh { IsFresh node_labels.old }
     ensures opened { AreOpened excess.now potentials.now node_labels.new }
-    ensures queue { IsQueueOf node_labels.new queue.new }
 {
     for v in 0..node_labels.len() {
         if excess[v] > 0 {
-            queue.improve(node_labels, v, source(potentials, v));
+            node_labels[v] = source(potentials, v);
         }
     }
 }
@@ -201,23 +189,19 @@ pub fn find_deficit(
     residual: Residual<'_>,
     excess: &[i64],
     node_labels: &mut [NodeLabel],
-    queue: &mut Queue,
 ) -> Option<usize>
     requires excess_in { length excess.now ≡ length residual.potentials.now }
     requires node_labels_in { length node_labels.old ≡ length residual.potentials.now }
-    requires sized { IsQueueFor (length residual.potentials.now) queue.old }
     ensures searched { HasSearchedOver residual.entry excess.now node_labels.new }
     ensures found { IsNearestFound excess.now node_labels.new result }
-    ensures sized { IsQueueFor (length residual.entry.potentials.now) queue.new }
 {
     clear_states(node_labels);
-    queue.clear(node_labels);
-    open_sources(excess, residual.potentials, node_labels, queue);
-    while let Some(u) = queue.take_first(node_labels) {
+    open_sources(excess, residual.potentials, node_labels);
+    while let Some(u) = first_open(node_labels) {
         if excess[u] < 0 {
             return Some(u);
         }
-        settle_node(residual, node_labels, queue, u);
+        settle_node(residual, node_labels, u);
     }
     None
 }

@@ -8,7 +8,6 @@ ghost use Rattle.residual_graph.specs.Ends.{IsEnd, IsEndAt};
 ghost use Rattle.residual_graph.specs.Limits.{entry_limit};
 ghost use Rattle.shortest_paths.specs.Tree.{IsTreeOf};
 
-use crate::node_label::NodeLabel;
 use crate::predecessor::Predecessor;
 use residual_graph::{End, Residual, ResidualArc, Walk, Way};
 use std::alloc::{AllocError, Global};
@@ -104,24 +103,40 @@ impl Tree {
         }
     }
 
-    /// Takes the labels that a search found.
-    pub fn take(&mut self, labels: &[i64], node_labels: &[NodeLabel])
-        requires few { length labels.now ≤ entry_limit }
-        requires same_length { length node_labels.now ≡ length labels.now }
+    /// Forgets the labels: they are to be found anew.
+    pub fn forget(&mut self)
+        ensures { self.new ≡ self.old }
     {
-        let filled = fill(
-            &mut self.labels,
-            &mut self.predecessors,
-            labels,
-            node_labels,
-        );
-        self.is_lost = filled.is_err() || !self.heap.open(labels.len());
-        if self.is_lost {
+        self.is_lost = true;
+    }
+
+    /// Finds all labels anew, from all nodes with label 0. Says whether all may be right.
+    pub fn search(&mut self, residual: Residual<'_>) -> bool
+        ensures { IsTrue result → IsTreeOf residual.entry self.new }
+    {
+        self.open(residual.potentials.len());
+        if self.labels.len() != residual.potentials.len() {
+            return false;
+        }
+        self.begin();
+        for v in 0..self.labels.len() {
+            self.queue(v as u32, 0_i64.saturating_sub(residual.potentials[v]));
+        }
+        self.noted.clear();
+        self.is_lost = false;
+        self.settle_all(residual)
+    }
+
+    /// Makes tables of so many entries, each of a queued node with label 0, in the room that there is; and else of none.
+    fn open(&mut self, entries: usize)
+        requires few { entries ≤ entry_limit }
+    {
+        let filled = fill(&mut self.labels, &mut self.predecessors, entries);
+        if filled.is_err() || !self.heap.open(entries) {
             self.labels.clear();
             self.predecessors.clear();
             self.heap.close();
         }
-        self.noted.clear();
     }
 
     /// Mends the tree where arcs were noted or are among these. Says whether all labels may be right now.
@@ -487,30 +502,18 @@ fn after(end: u32, rank: u32) -> Predecessor {
     }
 }
 
-/// Makes tables of the labels that a search found, in the room that there is.
+/// Makes two tables of so many entries of queued nodes with label 0.
 fn fill(
     labels: &mut Vec<i64>,
     predecessors: &mut Vec<Predecessor>,
-    found: &[i64],
-    node_labels: &[NodeLabel],
+    entries: usize,
 ) -> Result<(), AllocError>
-    requires same_length { length node_labels.now ≡ length found.now }
-    ensures labels { IfOk result (λ done. length labels.new.items ≡ length found.now) }
-    ensures predecessors { IfOk result (λ done. length predecessors.new.items ≡ length found.now) }
+    ensures labels { IfOk result (λ done. length labels.new.items ≡ entries) }
+    ensures predecessors { IfOk result (λ done. length predecessors.new.items ≡ entries) }
 {
     labels.clear();
     predecessors.clear();
-    labels.extend_from_slice(found)?;
-    for node_label in node_labels {
-        let arc = ResidualArc {
-            arc: node_label.arc,
-            way: node_label.way,
-        };
-        predecessors.push(Predecessor {
-            end: end_of(arc),
-            rank: node_label.depth,
-            is_queued: false,
-        })?;
-    }
+    labels.resize(entries, 0)?;
+    predecessors.resize(entries, root())?;
     Ok(())
 }

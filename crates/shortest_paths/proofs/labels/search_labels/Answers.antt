@@ -10,7 +10,6 @@ loop-u-init c =
     let net = c.args.residual in
     let sized : length c.open_roots.new.node_labels ≡ length net.potentials.now = c.open_roots.auto.node_labels ∙ c.clear_states.auto.node_labels ∙ c.requires.node_labels_in in
     record {
-      queue = opened.queue;
       known = IsSearch-roots _ _ _ _ net.certified sized opened.roots;
       relaxed = AllRelaxed-roots net.graph.now.rows net.flow.now net.potentials.now _ net.certified sized opened.roots;
       from_all = IsFromAll-roots net.graph.now.rows net.flow.now _ _ net.certified sized opened.roots;
@@ -18,7 +17,6 @@ loop-u-init c =
 
 pub loop-u-preserved : goal.loop-u-preserved
 loop-u-preserved c = record {
-  queue = c.settle_node.ensures.queue;
   known = c.settle_node.ensures.search;
   relaxed = c.settle_node.ensures.relaxed;
   from_all = IsFromAll-settles c.loop-u.invariant.from_all c.settle_node.ensures.settles (λ v r. omega (arith, in_range c.settle_node.new.node_labels v r, c.settle_node.ensures.search.sized));

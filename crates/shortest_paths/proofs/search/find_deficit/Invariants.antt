@@ -1,11 +1,9 @@
-use Rattle.shortest_paths.specs.Queue.{IsQueueOf}
 use Rattle.shortest_paths.specs.Over.{HasSearchedOver}
 use Rattle.shortest_paths.specs.Search.{unsettled}
 use Rattle.shortest_paths.proofs.search.find_deficit.Given as goal
 
 abbrev pub invariant-loop-u : goal.invariant-loop-u
 invariant-loop-u l = record {
-  queue : IsQueueOf l.node_labels l.queue;
   searched : HasSearchedOver l.residual l.excess l.node_labels;
 }
 

@@ -19,17 +19,17 @@ loop-v-preserved c =
     let fits : SFits w64 (number_at c.args.excess.now v) = search rules in
     let same : to_z w64 (of_z w64 (number_at c.args.excess.now v)) ≡ number_at c.args.excess.now v = to_z-of_z w64 (number_at c.args.excess.now v) fits in
     let bounds : HaveBounds p c.if-excess-v-gt0.node_labels = elim c.if-excess-v-gt0.branch [
-      | then-excess-v-gt0 w ↦ subst (HaveBounds p) (sym (w.node_labels-is ∙ w.improve.ensures.node_labels ∙ ap (slice_set s v) w.source.ensures)) (HaveBounds-source p s v c.loop-v.invariant.bounds (omega arith))
+      | then-excess-v-gt0 w ↦ subst (HaveBounds p) (sym (w.node_labels-is ∙ ap (slice_set s v) w.source.ensures)) (HaveBounds-source p s v c.loop-v.invariant.bounds (omega arith))
       | else-excess-v-gt0 w ↦ subst (HaveBounds p) (sym w.node_labels-is) c.loop-v.invariant.bounds
     ] in
     let others : (k : ℕ) → number_at c.args.excess.now k ≤ℤ pos 0 → state_at c.if-excess-v-gt0.node_labels k ≡ Unreached = λ k low. (elim c.if-excess-v-gt0.branch [
       | then-excess-v-gt0 w ↦
           (let other : k ≢ v = λ here. absurd (omega (arith, ints, w.if-excess-v-gt0.true, same, low, ap (number_at c.args.excess.now) here)) in
-          ap (λ s. state_at s k) (w.node_labels-is ∙ w.improve.ensures.node_labels) ∙ ap (λ (e : NodeLabel). e.state) (get_or-set_other s v k w.source.result _ other) ∙ c.loop-v.invariant.others k low)
+          ap (λ s. state_at s k) w.node_labels-is ∙ ap (λ (e : NodeLabel). e.state) (get_or-set_other s v k w.source.result _ other) ∙ c.loop-v.invariant.others k low)
       | else-excess-v-gt0 w ↦ ap (λ s. state_at s k) w.node_labels-is ∙ c.loop-v.invariant.others k low
     ]) in
     let sources : (k : ℕ) → k < v + 1 → pos 0 <ℤ number_at c.args.excess.now k → node_label_at c.if-excess-v-gt0.node_labels k ≡ source_node_label (number_at p k) = λ k below high. (elim c.if-excess-v-gt0.branch [
-      | then-excess-v-gt0 w ↦ ap (λ s. node_label_at s k) (w.node_labels-is ∙ w.improve.ensures.node_labels) ∙ (elim (cases_eq k v) [
+      | then-excess-v-gt0 w ↦ ap (λ s. node_label_at s k) w.node_labels-is ∙ (elim (cases_eq k v) [
         | inl here ↦ subst (λ (n : ℕ). node_label_at (slice_set s v w.source.result) n ≡ source_node_label (number_at p n)) (sym here) (get_or-set_same s v w.source.result _ (omega arith) ∙ w.source.ensures)
         | inr other ↦ get_or-set_other s v k w.source.result _ other ∙ c.loop-v.invariant.sources k (omega (arith, other, below)) high
       ])
@@ -38,8 +38,6 @@ loop-v-preserved c =
           ap (λ s. node_label_at s k) w.node_labels-is ∙ c.loop-v.invariant.sources k (omega (arith, other, below)) high)
     ]) in
     record {
-      queue = search rules;
-      present = search rules;
       sources = sources;
       others = others;
       rest = search rules;

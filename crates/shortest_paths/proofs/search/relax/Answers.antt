@@ -5,7 +5,7 @@ use Rattle.residual_graph.specs.declared.residual.ResidualArc.{ResidualArc}
 use Rattle.residual_graph.specs.Residual.{number_at}
 use Rattle.residual_graph.specs.Ends.{leaving}
 use Rattle.residual_graph.proofs.EndLemmas.{is_end}
-use Rattle.shortest_paths.specs.Search.{Takes, distance_at, node_label_at}
+use Rattle.shortest_paths.specs.Search.{Takes, node_label_at}
 use Rattle.shortest_paths.specs.Over.{IsResidualArc, distance_along}
 use Rattle.shortest_paths.proofs.SearchLemmas.{LastBounds, last_bounds, length_beyond, other_in, relaxed_already}
 use Rattle.shortest_paths.proofs.search.relax.Goals as goal
@@ -81,14 +81,6 @@ handed : (c : After-distance_beyond-distance) → to_z w64 (of_z w64 c.distance_
 handed c =
     let fits : SFits w64 c.distance_beyond-distance.result = search rules in
     to_z-of_z w64 c.distance_beyond-distance.result fits
-
--- a residual arc would make the path no shorter than those to the settled nodes
-pub returns-then-distance-queue-clause-relaxed : goal.returns-then-distance-queue-clause-relaxed
-returns-then-distance-queue-clause-relaxed c = λ residual.
-    (let at = goal.at.returns-then-distance-queue-clause-relaxed c in
-    let here = at.After-distance_beyond-distance in
-    let present = c.requires.queue.passed (distance_at c.args.node_labels.now c.args.origin.node) (bounds at.Start).low c.requires.last.furthest in
-    absurd (omega (arith, ints, present, distance_is here, handed here, ap (distance_at c.args.node_labels.now) c.requires.end.starts, c.args.residual.certified.none_below (leaving c.args.end).arc (leaving c.args.end).way residual)))
 
 pub has_room-requires-clause-arc_in : goal.has_room-requires-clause-arc_in
 has_room-requires-clause-arc_in c = omega (arith, c.requires.end.is_arc, ap (λ (a : ResidualArc). a.arc) c.leaving.ensures)

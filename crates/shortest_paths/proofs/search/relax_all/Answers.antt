@@ -27,7 +27,6 @@ at-walk-requires c =
 pub loop-end-init : goal.loop-end-init
 loop-end-init c = record {
   search = c.requires.search;
-  queue = c.requires.queue;
   improves = Improves-refl c.args.node_labels.now;
   walk = c.at-walk.ensures.walk;
   node = c.at-walk.ensures.node;
@@ -61,7 +60,6 @@ loop-end-preserved c =
     let Q : ℕ → Way → Type 0 = λ k way. start_at rows k way ≡ u → IsResidual rows flow k way → IsRelaxed rows p c.relax.new.node_labels k way in
     record {
       search = c.relax.ensures.search;
-      queue = c.relax.ensures.queue;
       improves = Improves-trans c.loop-end.invariant.improves c.relax.ensures.improves;
       walk = c.next.ensures.walk;
       node = c.next.ensures.node ∙ c.loop-end.invariant.node;

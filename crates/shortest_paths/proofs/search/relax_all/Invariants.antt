@@ -1,6 +1,5 @@
 use Rattle.std.proofs.Common.{◌≡◌}
 use Rattle.residual_graph.specs.Ends.{IsWalk, left_of}
-use Rattle.shortest_paths.specs.Queue.{IsQueueOf}
 use Rattle.residual_graph.specs.Residual.{IsResidual, start_at}
 use Rattle.shortest_paths.specs.Search.{Improves, IsRelaxed}
 use Rattle.shortest_paths.specs.Over.{IsSearchOver}
@@ -10,7 +9,6 @@ use Rattle.shortest_paths.proofs.search.relax_all.Given as goal
 abbrev pub invariant-loop-end : goal.invariant-loop-end
 invariant-loop-end l = record {
   search : IsSearchOver l.residual l.node_labels;
-  queue : IsQueueOf l.node_labels l.queue;
   improves : Improves l.initial.node_labels l.node_labels;
   walk : IsWalk l.residual.graph.now l.walk;
   node : l.walk.node ≡ l.u;

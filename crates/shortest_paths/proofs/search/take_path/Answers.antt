@@ -1,11 +1,9 @@
-use Rattle.std.proofs.Common.{ℤ, ◌+ℤ◌, SFits, List, ap, sym, subst, rules, arith, ◌≡◌, ◌+◌, ◌≤ℤ◌, ◌<◌, length, refl, ◌∙◌, slice_set, w64, to_z, of_z}
+use Rattle.std.proofs.Common.{ℤ, ◌+ℤ◌, SFits, ap, sym, rules, arith, ◌≡◌, ◌+◌, ◌<◌, length, refl, ◌∙◌, slice_set, w64, to_z, of_z}
 use Rattle.std.proofs.lemmas.Int.{ints, to_z-of_z}
-use Rattle.shortest_paths.specs.declared.node_label.NodeLabel.{NodeLabel}
 use Rattle.shortest_paths.specs.declared.node_label.State.TheVariants.{Open}
 use Rattle.residual_graph.specs.declared.residual.ResidualArc.{ResidualArc}
 use Rattle.residual_graph.specs.Residual.{row_at, number_at}
-use Rattle.shortest_paths.specs.Search.{Improves, depth_at, distance_at}
-use Rattle.shortest_paths.specs.Over.{IsSearchOver, IsRelaxedAlong}
+use Rattle.shortest_paths.specs.Search.{depth_at}
 use Rattle.residual_graph.specs.Ends.{leaving}
 use Rattle.shortest_paths.proofs.SearchLemmas.{IsStep, IsStep-put, last_bounds, length_beyond, other_in, word_sum}
 use Rattle.residual_graph.proofs.RowLemmas.{cost_of-bounds}
@@ -19,18 +17,6 @@ pub overflow_add-depth : goal.overflow_add-depth
 overflow_add-depth c =
     let shallow = (last_bounds c.args.residual.certified c.requires.search c.requires.last).shallow in
     search (rules, shallow)
-
-pub improve-requires-clause-v_in : goal.improve-requires-clause-v_in
-improve-requires-clause-v_in c = inside (goal.at.improve-requires-clause-v_in c).Start
-
--- the path to the end is no shorter than that to the node settled last, and so no shorter than those to the other settled nodes
-pub improve-requires-clause-not_nearer : goal.improve-requires-clause-not_nearer
-improve-requires-clause-not_nearer c =
-    let same : to_z w64 (of_z w64 c.args.distance) ≡ c.args.distance = to_z-of_z w64 c.args.distance c.ranges.distance in
-    let no_shorter : distance_at c.args.node_labels.now c.args.start ≤ℤ c.args.distance = omega (arith, ints, c.args.residual.certified.none_below (leaving c.args.end).arc (leaving c.args.end).way c.requires.residual, c.requires.distance, ap (distance_at c.args.node_labels.now) c.requires.end.starts) in
-    rw same (c.requires.queue.passed c.args.distance
-    (omega (arith, ints, no_shorter, (last_bounds c.args.residual.certified c.requires.search c.requires.last).low))
-    (λ v m. omega (arith, ints, no_shorter, c.requires.last.furthest v m)))
 
 -- the distance and the potential of the other node fit together
 record FitBound (distance potential : ℤ) : Type 0 where
@@ -57,9 +43,9 @@ offset_bounds-residual-end c = omega (arith, inside (goal.at.offset_bounds-resid
 pub bounds-residual-end : goal.bounds-residual-end
 bounds-residual-end c = omega (arith, inside (goal.at.bounds-residual-end c).Start, c.requires.search.sized)
 
-pub overflow_add-distance : goal.overflow_add-distance
-overflow_add-distance c =
-    let sum = fit_bound (goal.at.overflow_add-distance c).After-leaving-arc in
+pub overflow_add-node_labels : goal.overflow_add-node_labels
+overflow_add-node_labels c =
+    let sum = fit_bound (goal.at.overflow_add-node_labels c).After-leaving-arc in
     rw (to_z-of_z w64 c.args.distance sum.distance_fits, to_z-of_z w64 (number_at c.args.residual.potentials.now c.args.end.other) sum.potential_fits) sum.fits
 
 step : (c : After-leaving-arc) → IsStep c.args.residual.graph.now.rows c.args.residual.flow.now c.args.residual.potentials.now c.args.node_labels.now (slice_set c.args.node_labels.now c.args.end.other (record { state = Open; distance = to_z w64 (of_z w64 c.args.distance); depth = depth_at c.args.node_labels.now c.args.start + 1; arc = c.leaving-arc.result.arc; way = c.leaving-arc.result.way; bound = to_z w64 (of_z w64 (to_z w64 (of_z w64 c.args.distance) +ℤ to_z w64 (of_z w64 (number_at c.args.residual.potentials.now c.args.end.other)))) })) (leaving c.args.end).arc (leaving c.args.end).way
@@ -73,14 +59,17 @@ step c =
     (word_sum c.args.distance (number_at c.args.residual.potentials.now c.args.end.other) sum.distance_fits sum.potential_fits sum.fits ∙ ap (λ (z : ℤ). z +ℤ number_at c.args.residual.potentials.now c.args.end.other) (sym same))
     (rw same c.requires.better)
 
+pub offset_bounds-node_labels-end : goal.offset_bounds-node_labels-end
+offset_bounds-node_labels-end c = omega (arith, inside (goal.at.offset_bounds-node_labels-end c).Start, c.requires.search.sized, c.args.residual.certified.flow.few_nodes)
+
+pub bounds-node_labels-end : goal.bounds-node_labels-end
+bounds-node_labels-end c = inside (goal.at.bounds-node_labels-end c).Start
+
 pub returns-clause-search : goal.returns-clause-search
-returns-clause-search c =
-    subst (IsSearchOver c.args.residual) (sym c.improve.ensures.node_labels) (step (goal.at.returns-clause-search c).After-leaving-arc).known
+returns-clause-search c = (step (goal.at.returns-clause-search c).After-leaving-arc).known
 
 pub returns-clause-improves : goal.returns-clause-improves
-returns-clause-improves c =
-    subst (Improves c.args.node_labels.now) (sym c.improve.ensures.node_labels) (step (goal.at.returns-clause-improves c).After-leaving-arc).better
+returns-clause-improves c = (step (goal.at.returns-clause-improves c).After-leaving-arc).better
 
 pub returns-clause-relaxed : goal.returns-clause-relaxed
-returns-clause-relaxed c =
-    subst (λ (t : List NodeLabel). IsRelaxedAlong c.args.residual t (leaving c.args.end)) (sym c.improve.ensures.node_labels) (step (goal.at.returns-clause-relaxed c).After-leaving-arc).done
+returns-clause-relaxed c = (step (goal.at.returns-clause-relaxed c).After-leaving-arc).done
