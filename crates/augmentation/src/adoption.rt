@@ -165,8 +165,42 @@ pub fn adopt(
     }
 }
 
-/// Makes a proposal, takes it where it is certified, and pushes until no node in excess reaches a node in deficit; counts
-/// the pushes.
+/// Takes the proposal at hand where it is certified, and counts the pushes that lead there; else there are none.
+fn take_proposed(
+    graph: &Graph,
+    flow: &mut Tracked<i64>,
+    excess: &mut Excess,
+    scratch: &mut Scratch,
+) -> u64
+    requires ready { IsReady graph.now flow.old.entries scratch.old.potentials excess.old }
+    ensures flow_written { IsWritten flow.old flow.new }
+    ensures taken { IsCertifiedBy graph.now result flow.old.entries excess.old flow.new.entries excess.new scratch.new.potentials }
+{
+    adopt(graph, flow, excess, scratch).unwrap_or(0)
+}
+
+/// Makes a proposal and takes it where it is certified; where it left something to push, makes another from afar. Counts the
+/// pushes that lead there.
+fn push_as_proposed(
+    graph: &Graph,
+    flow: &mut Tracked<i64>,
+    excess: &mut Excess,
+    scratch: &mut Scratch,
+) -> u64
+    requires ready { IsReady graph.now flow.old.entries scratch.old.potentials excess.old }
+    ensures flow_written { IsWritten flow.old flow.new }
+    ensures taken { IsCertifiedBy graph.now result flow.old.entries excess.old flow.new.entries excess.new scratch.new.potentials }
+{
+    scratch.propose(graph, flow.entries(), excess.entries());
+    let pushes = take_proposed(graph, flow, excess, scratch);
+    if !scratch.leads_on(graph, flow.entries(), excess) {
+        return pushes;
+    }
+    scratch.propose_from_afar(graph, flow.entries(), excess.entries());
+    pushes + take_proposed(graph, flow, excess, scratch)
+}
+
+/// Pushes as proposals have it, and then until no node in excess reaches a node in deficit; counts the pushes.
 fn push_proposed(
     graph: &Graph,
     flow: &mut Tracked<i64>,
@@ -179,11 +213,8 @@ fn push_proposed(
     ensures pushed { ArePushes graph.now.rows result flow.old.entries excess.old flow.new.entries excess.new }
     ensures parted { IsParted graph.now.rows flow.new.entries excess.new }
 {
-    scratch.propose(graph, flow.entries(), excess.entries());
-    if let Some(adopted) = adopt(graph, flow, excess, scratch) {
-        return adopted + finish(graph, flow, excess, scratch);
-    }
-    finish(graph, flow, excess, scratch)
+    let pushes = push_as_proposed(graph, flow, excess, scratch);
+    pushes + finish(graph, flow, excess, scratch)
 }
 
 /// Pushes flow until no node in excess reaches a node in deficit, and counts the pushes. The first time, and where

@@ -65,18 +65,36 @@ impl Attempt {
         requires excess { length excess.now ≡ length potentials.now }
         ensures { IsAttemptFor (length potentials.now) self.new }
     {
+        if self.proposals.is_fresh() {
+            self.propose_from_afar(graph, flow, excess, potentials);
+        } else {
+            self.proposals
+                .propose_near(graph.rows(), flow, excess, potentials);
+            self.proposals.write(graph.rows(), flow, &mut self.wanted);
+        }
+    }
+
+    /// Proposes where to lead a flow, its excess and potentials, and looks at all nodes for that.
+    pub(crate) fn propose_from_afar(
+        &mut self,
+        graph: &Graph,
+        flow: &[i64],
+        excess: &[i64],
+        potentials: &[i64],
+    )
+        requires tables { IsAttemptFor (length potentials.now) self.old }
+        requires graph { HasEntries (length potentials.now) graph.now }
+        requires flow { IsPseudoflow (length potentials.now) graph.now.rows flow.now }
+        requires excess { length excess.now ≡ length potentials.now }
+        ensures { IsAttemptFor (length potentials.now) self.new }
+    {
         let aim = if graph.first_row() > 0 {
             Aim::GreatestFlow
         } else {
             Aim::LeastCost
         };
-        if self.proposals.is_fresh() {
-            self.proposals
-                .propose(graph.rows(), flow, excess, potentials, aim);
-        } else {
-            self.proposals
-                .propose_near(graph.rows(), flow, excess, potentials);
-        }
+        self.proposals
+            .propose(graph.rows(), flow, excess, potentials, aim);
         self.proposals.write(graph.rows(), flow, &mut self.wanted);
     }
 }

@@ -6,6 +6,8 @@ ghost use Rattle.residual_graph.specs.Limits.{row_limit};
 ghost use Rattle.residual_graph.specs.Residual.{IsPseudoflow};
 
 use crate::attempt::Attempt;
+use crate::cut::is_parted;
+use crate::excess::Excess;
 use proposals::Wanted;
 use residual_graph::Graph;
 use shortest_paths::{NodeLabel, Tree};
@@ -103,5 +105,27 @@ impl Scratch {
         ensures { self.new ≡ self.old }
     {
         self.attempt.propose(graph, flow, excess, &self.potentials);
+    }
+
+    /// Proposes where to lead a flow and its excess, from the potentials at which pushes stand, and looks at all nodes for
+    /// that.
+    pub fn propose_from_afar(&mut self, graph: &Graph, flow: &[i64], excess: &[i64])
+        requires graph { HasEntries (length self.old.potentials) graph.now }
+        requires flow { IsPseudoflow (length self.old.potentials) graph.now.rows flow.now }
+        requires excess { length excess.now ≡ length self.old.potentials }
+        ensures { self.new ≡ self.old }
+    {
+        self.attempt
+            .propose_from_afar(graph, flow, excess, &self.potentials);
+    }
+
+    /// Whether a node in excess reaches a node in deficit.
+    pub(crate) fn leads_on(&mut self, graph: &Graph, flow: &[i64], excess: &Excess) -> bool
+        requires graph { HasEntries (length self.old.potentials) graph.now }
+        requires flow { IsPseudoflow (length self.old.potentials) graph.now.rows flow.now }
+        requires excess { length excess.now ≡ length self.old.potentials }
+        ensures { self.new ≡ self.old }
+    {
+        excess.has_both() && !is_parted(graph, flow, excess, &mut self.marks, &mut self.worklist)
     }
 }

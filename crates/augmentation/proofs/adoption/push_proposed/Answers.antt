@@ -8,10 +8,10 @@ pub overflow_add-result : goal.overflow_add-result
 overflow_add-result c =
     let sized : length c.args.excess.now ≡ length c.args.scratch.now.potentials = c.requires.ready.state.excess_in in
     let small : left c.args.excess.now ≤ left_limit = left-small (length c.args.scratch.now.potentials) c.args.excess.now c.requires.ready.state.small sized c.requires.ready.state.certified.flow.few_nodes in
-    let first = c.in-Some.ensures.adopted.pushes.count in
+    let first = c.push_as_proposed-pushes.ensures.taken.pushes.count in
     let rest = c.finish.ensures.pushed.count in
-    let bound : c.in-Some.adopted + c.finish.result < 2 ^ 64 = omega (arith, small, first, rest) in
+    let bound : c.push_as_proposed-pushes.result + c.finish.result < 2 ^ 64 = omega (arith, small, first, rest) in
     search (rules, bound)
 
-pub returns-in-Some-clause-pushed : goal.returns-in-Some-clause-pushed
-returns-in-Some-clause-pushed c = ArePushes-more c.in-Some.ensures.adopted.pushes c.finish.ensures.pushed
+pub returns-clause-pushed : goal.returns-clause-pushed
+returns-clause-pushed c = ArePushes-more c.push_as_proposed-pushes.ensures.taken.pushes c.finish.ensures.pushed
