@@ -22,11 +22,11 @@ use Rattle.residual_graph.specs.declared.side.Side.{Side}
 use Rattle.residual_graph.specs.declared.side.Side.TheVariants.{Ahead, Behind}
 use Rattle.augmentation.specs.Push.{IsExcess, at_node, positive_part, left}
 use Rattle.augmentation.proofs.PushLemmas.{at_same, at_other}
-use Rattle.shortest_paths.specs.declared.node_label.State.{State}
-use Rattle.shortest_paths.specs.declared.node_label.State.TheVariants.{Unreached, Open, Settled}
-use Rattle.shortest_paths.specs.declared.node_label.NodeLabel.{NodeLabel}
-use Rattle.shortest_paths.specs.Search.{node_label_at, state_at, is_unsettled, is_not_settled, IsReached, HasSearched, NoneOpen}
-use Rattle.shortest_paths.proofs.SearchLemmas.{in_range}
+use Rattle.residual_graph.proofs.RowLemmas.{end_of-in}
+use Rattle.shortest_paths.specs.declared.predecessor.Predecessor.{Predecessor}
+use Rattle.shortest_paths.specs.Predecessor.{predecessor_at}
+use Rattle.shortest_paths.specs.Search.{IsExhausted, IsReached}
+use Rattle.shortest_paths.proofs.SearchLemmas.{open_or_reached}
 use Rattle.augmentation.specs.Cut.{in_set, sum_in, sum_leaving, sum_entering, surplus, shortfall, IsLeastSet, amount, near_at, far_at, IsClosed, HoldsRoots, IsSide, IsParted, IsChosenSet, IsListOf, IsGrown, lack}
 use Rattle.residual_graph.specs.Side.{IsRoot, leading}
 use Rattle.shortest_paths.specs.NodeLists.{node_at, IsListed}
@@ -364,45 +364,45 @@ parted_unless_both arcs x e flow not_both = elim (cases_eq (left e) 0) [
   ]
 ]
 
--- whether a node is settled
-abbrev is_settled : NodeLabel → Bool
-is_settled e = not (is_unsettled e)
+pub marked_in : (set : List Bool) (v : ℕ) → in_set set v ≡ true → v < length set
+marked_in set v h = elim (cases_lt v (length set)) [
+  | inl below ↦ below
+  | inr past ↦ absurd (false≢true (sym (get_or_past set v false past) ∙ h))
+]
 
-in_map : (s : List NodeLabel) (v : ℕ) → in_set (map is_settled s) v ≡ is_settled (node_label_at s v)
-in_map [] v = refl
-in_map (e ∷ s) zero = refl
-in_map (e ∷ s) (suc v) = in_map s v
+-- the nodes that a search from the nodes in excess reached at its end
+abbrev reached_set : List Predecessor → List Bool
+reached_set s = map (λ r. not r.is_open) s
 
--- the settled nodes at the end of a search from the nodes in excess
-module _ (arcs : List ArcRow) (x p e : List ℤ) (s : List NodeLabel)
-    (searched : HasSearched arcs x p e s) (done : NoneOpen s (length s))
-  where
-    in_settled : (v : ℕ) → in_set (map is_settled s) v ≡ not (is_not_settled (state_at s v))
-    in_settled v = in_map s v
+in_reached : (s : List Predecessor) (v : ℕ) → v < length s → in_set (reached_set s) v ≡ not (predecessor_at s v).is_open
+in_reached [] v lt = absurd (omega arith)
+in_reached (r ∷ s) zero lt = refl
+in_reached (r ∷ s) (suc v) lt = in_reached s v (omega arith)
 
-    by_mark : (m : State) → not (is_not_settled m) ≡ true → m ≡ Settled
-    by_mark Unreached h = absurd (false≢true h)
-    by_mark Open h = absurd (false≢true h)
-    by_mark Settled h = refl
+module _ (arcs : List ArcRow) (x e : List ℤ) (s : List Predecessor) (flow : IsPseudoflow (length e) arcs x) (exhausted : IsExhausted arcs x e s) where
+  reached_in : (v : ℕ) → IsReached s v → in_set (reached_set s) v ≡ true
+  reached_in v reached = in_reached s v reached.0 ∙ ap not reached.1
 
-    settled_in : (v : ℕ) → in_set (map is_settled s) v ≡ true → state_at s v ≡ Settled
-    settled_in v h = by_mark (state_at s v) (sym (in_settled v) ∙ h)
+  is_reached : (v : ℕ) → in_set (reached_set s) v ≡ true → IsReached s v
+  is_reached v marked =
+      let length_reached : length (map (λ (r : Predecessor). not r.is_open) s) ≡ length s = length-map s (λ (r : Predecessor). not r.is_open) in
+      let lt : v < length s = omega (arith, marked_in (reached_set s) v marked, length_reached) in
+      (lt, not_from_false' (predecessor_at s v).is_open (sym (in_reached s v lt) ∙ marked))
+    where
+      not_from_false' : (b : Bool) → not b ≡ true → b ≡ false
+      not_from_false' true h = absurd (false≢true h)
+      not_from_false' false h = refl
 
-    reached_mark : (v : ℕ) (m : State) → state_at s v ≡ m → IsReached s v → not (is_not_settled m) ≡ true
-    reached_mark v Unreached h reached = absurd (reached h)
-    reached_mark v Open h reached = absurd (done v (in_range s v reached) h)
-    reached_mark v Settled h reached = refl
-
-    reached_in : (v : ℕ) → IsReached s v → in_set (map is_settled s) v ≡ true
-    reached_in v reached = in_settled v ∙ reached_mark v (state_at s v) refl reached
-
-    pub parted_exhausted : IsParted arcs x e
-    parted_exhausted = record {
-      set = map is_settled s;
-      closed = λ k way residual start. reached_in (end_at arcs k way) (searched.relaxed k way residual (settled_in (start_at arcs k way) start)).reached;
-      holds = λ v high. reached_in v (searched.from_excess.sources v high).0;
-      no_deficit = λ v h. searched.from_excess.no_deficit v (settled_in v h);
-    }
+  pub parted_exhausted : IsParted arcs x e
+  parted_exhausted = record {
+    set = reached_set s;
+    closed = λ k way residual start. elim (open_or_reached s (end_at arcs k way) (rw exhausted.sized (end_of-in (length e) (row_at arcs k) way (flow.rows k residual.is_arc)))) [
+      | inl is_open ↦ absurd (exhausted.none_crosses k way (record { residual = residual; from = is_reached (start_at arcs k way) start; to = is_open }))
+      | inr reached ↦ reached_in (end_at arcs k way) reached
+    ];
+    holds = λ v high. reached_in v (exhausted.from.sources v high);
+    no_deficit = λ v marked. exhausted.from.no_deficit v (is_reached v marked);
+  }
 
 -- ---- the list of marked nodes
 
@@ -457,12 +457,6 @@ IsGrown-trans one two = record {
   no_shorter = omega (arith, one.no_shorter, two.no_shorter);
   same_before = λ j lt. two.same_before j (omega (arith, lt, one.no_shorter)) ∙ one.same_before j lt;
 }
-
-pub marked_in : (set : List Bool) (v : ℕ) → in_set set v ≡ true → v < length set
-marked_in set v h = elim (cases_lt v (length set)) [
-  | inl below ↦ below
-  | inr past ↦ absurd (false≢true (sym (get_or_past set v false past) ∙ h))
-]
 
 -- the residual arc that leads on from node v at an end, and the node to which it leads
 pub record IsLeadingAt (side : Side) (arcs : List ArcRow) (v : ℕ) (end : End) : Type 0 where

@@ -7,7 +7,6 @@ pub mod NodeLemmas
 pub mod TouchedLemmas
 pub mod ApartLemmas
 pub mod TrackedLemmas
-pub mod LabelLaws
 pub mod JournalLemmas
 pub mod ExchangeLemmas
 pub mod WantedPaths

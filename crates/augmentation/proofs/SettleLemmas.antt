@@ -1,7 +1,6 @@
 -- What one search, one change of potentials and one push keep.
-use Rattle.residual_graph.specs.Limits.{cost_limit, entry_limit}
+use Rattle.residual_graph.specs.Limits.{entry_limit}
 use Rattle.augmentation.specs.Limits.{left_limit, excess_limit}
-use Rattle.shortest_paths.specs.Limits.{label_floor}
 use Rattle.std.proofs.Common.{◌≡◌, ◌≢◌, ℕ, zero, suc, ◌+◌, ◌*◌, ◌<◌, ◌≤◌, ℤ, pos, negsuc, neg_ℤ, ◌-ℤ◌, ◌+ℤ◌, ◌≤ℤ◌, List, [], ◌∷◌, length, map, refl, sym, ap, subst, ◌∙◌, inl, inr, arith}
 use Rattle.std.specs.Prelude.{◌<ℤ◌, slice_index_or}
 use Rattle.std.specs.List.{AllPairs}
@@ -10,20 +9,15 @@ use Rattle.std.proofs.lemmas.Bool.{cases_eq, cases_lt}
 use Rattle.std.proofs.lemmas.List.{get_or_default, get_or_past, length-map}
 use Rattle.std.proofs.lemmas.List.Sums.{sum_by-cons, sum_by-le}
 use Rattle.dimacs_text.specs.declared.problem.ArcRow.{ArcRow}
-use Rattle.shortest_paths.specs.declared.node_label.State.{State}
-use Rattle.shortest_paths.specs.declared.node_label.State.TheVariants.{Unreached, Open, Settled}
-use Rattle.shortest_paths.specs.declared.node_label.NodeLabel.{NodeLabel}
-use Rattle.residual_graph.specs.Residual.{IsPseudoflow, IsReducedCostOptimal, ArePotentials, NoneBelow, number_at, row_at, end_at}
-use Rattle.shortest_paths.specs.Search.{state_at, distance_at, depth_at, IsReached, IsSearch, IsReach, IsLowered, lowered_by}
+use Rattle.shortest_paths.specs.declared.predecessor.Predecessor.{Predecessor}
+use Rattle.residual_graph.specs.Residual.{IsPseudoflow, IsReducedCostOptimal, NoneBelow, number_at}
+use Rattle.shortest_paths.specs.Predecessor.{rank_at}
+use Rattle.shortest_paths.specs.Search.{HasFound, IsReached}
 use Rattle.network.specs.Flow.{net}
 use Rattle.augmentation.specs.Push.{IsExcess, IsPath, IsPush, Pushes, nodes_on, before, hop_to, path_to, root_of, root_to, HasRoom, IsTight, IsTightArc, IsTransfer, IsAugmented, ArePushes, push_along, at_node, AreSmall, positive_part, left, lack}
 use Rattle.residual_graph.specs.declared.residual.ResidualArc.{ResidualArc}
-use Rattle.augmentation.specs.Settle.{HasFound, HaveFallen}
-use Rattle.residual_graph.proofs.RowLemmas.{cost_of-bounds}
-use Rattle.shortest_paths.proofs.SearchLemmas.{distance_high, in_range, open_is_reached, settled_is_reached}
-use Rattle.shortest_paths.proofs.RunLemmas.{lowered_none_below}
 use Rattle.augmentation.proofs.TurnedRows.{number_at-neg, left-neg}
-use Rattle.augmentation.proofs.PathLemmas.{IsOnward, hops_tight, path_onward, paths_of_search, root_depth}
+use Rattle.augmentation.proofs.PathLemmas.{IsOnward, hops_tight, path_onward, root_depth}
 use Rattle.augmentation.proofs.PushLemmas.{AreApart, IsShift-along, IsFlow-along, NoneBelow-along, net-along, at_same, at_other}
 
 pub positive_part-mono : (a b : ℤ) → (pos 0 <ℤ a → a ≤ℤ b) → positive_part a ≤ positive_part b
@@ -227,141 +221,43 @@ ArePushes-more {arcs} {m} {n} {x} {e} {y} {f} {z} {g} first rest =
       balanced = λ v h. rest.balanced v (first.balanced v h);
     }
 
--- ---- a search found that t is the nearest node in deficit
+-- ---- a search came to a node in deficit
 
-module _ (arcs : List ArcRow) (x p e : List ℤ) (s : List NodeLabel) (t : ℕ) (certified : IsReducedCostOptimal arcs x p) (is : HasFound arcs x p e s t) where
-  abbrev known : IsSearch arcs x p s
-  known = is.searched.known
-
-  abbrev reach : ℤ
-  reach = distance_at s t
-
-  pub target_reached : IsReached s t
-  target_reached = open_is_reached s t is.found.nearest.is_open
-
-  pub is_reach : IsReach s (distance_at s t)
-  is_reach = record {
-    not_far = distance_high arcs x p s t certified known target_reached;
-    within = λ v m. (known.distance_at_least_0 v (settled_is_reached s v m), known.in_order v t m is.found.nearest.is_open);
-  }
-
-  beyond : (v : ℕ) → state_at s v ≡ Open → reach ≤ℤ distance_at s v
-  beyond v m = is.found.nearest.least v (in_range s v (open_is_reached s v m)) m
-
+module _ (arcs : List ArcRow) (x p e : List ℤ) (s : List Predecessor) (t : ℕ) (certified : IsReducedCostOptimal arcs x p) (found : HasFound arcs x p e s t) where
   onward : IsOnward arcs s t (root_to arcs s t) (path_to arcs s t)
-  onward = path_onward arcs s x (paths_of_search known) t target_reached
+  onward = path_onward arcs s x found.search.paths t found.reached
 
-  pub root_from : (pos 0 <ℤ number_at e (root_to arcs s t)) × (distance_at s (root_to arcs s t) ≡ pos 0)
-  root_from = is.searched.from_excess.roots (root_to arcs s t) onward.reached (root_depth arcs s x (paths_of_search known) (depth_at s t) t target_reached refl)
+  pub root_in_excess : pos 0 <ℤ number_at e (root_to arcs s t)
+  root_in_excess = found.roots (root_to arcs s t) onward.reached (root_depth arcs s x found.search.paths (rank_at s t) t found.reached refl)
 
-  -- no label exceeds that of its root by more than its hops can cost
-  label_path : (d v : ℕ) → IsReached s v → depth_at s v ≡ d → (distance_at s v +ℤ number_at p v) ≤ℤ ((distance_at s (root_of arcs s d v) +ℤ number_at p (root_of arcs s d v)) +ℤ pos (cost_limit * d))
-  label_path zero v reached deep = omega (arith, ints)
-  label_path (suc d) v reached deep =
-      let traced = known.traced v reached (omega (arith, deep)) in
-      let h = hop_to s v in
-      let rest = label_path d (before arcs s v) (settled_is_reached s _ traced.settled) (omega (arith, deep, traced.deeper)) in
-      let cost = cost_of-bounds (length p) (row_at arcs h.arc) h.way (certified.flow.rows h.arc traced.residual.is_arc) in
-      let p_end : number_at p (end_at arcs h.arc h.way) ≡ number_at p v = ap (number_at p) traced.ends in
-      omega (arith, ints, rest, traced.tight, p_end, cost.1)
+  tight_step : (v : ℕ) → IsReached s v → 0 < rank_at s v → IsTightArc arcs p (hop_to s v).arc (hop_to s v).way × IsReached s (before arcs s v) × (rank_at s v ≡ rank_at s (before arcs s v) + 1)
+  tight_step v reached deep =
+      let came = found.search.paths v reached deep in
+      (omega (arith, ints, found.search.tight v reached deep), came.reached, came.deeper)
 
-  -- the potentials lowered
-  module _ (q : List ℤ) (low : IsLowered p q s (distance_at s t)) where
-    falls_at : (v : ℕ) (m : State) → state_at s v ≡ m → number_at q v ≡ lowered_by m (number_at p v) (distance_at s v) reach
-    falls_at v m h = low v ∙ ap (λ (n : State). lowered_by n (number_at p v) (distance_at s v) reach) h
+  tight_to_target : IsTight arcs p (path_to arcs s t)
+  tight_to_target = hops_tight arcs s p (IsReached s) tight_step (rank_at s t) t [] found.reached refl tt
 
-    -- the node has the potential at which the path to it costs nothing
-    abbrev IsLevel : ℕ → Type 0
-    IsLevel v = IsReached s v × (number_at q v ≡ (number_at p v +ℤ distance_at s v) -ℤ reach)
+  -- flow is pushed along the path
+  module _ (y f : List ℤ) (small : AreSmall e) (sized : length e ≡ length p) (step : IsAugmented arcs s t x e y f) where
+    abbrev moving : IsMoving (length p) arcs x e
+    moving = record { flow = certified.flow; excess_sized = sized; small = small }
 
-    tight_step : (v : ℕ) → IsLevel v → 0 < depth_at s v → IsTightArc arcs q (hop_to s v).arc (hop_to s v).way × IsLevel (before arcs s v) × (depth_at s v ≡ depth_at s (before arcs s v) + 1)
-    tight_step v level deep =
-        let traced = known.traced v level.0 deep in
-        let h = hop_to s v in
-        let start : number_at q (before arcs s v) ≡ (number_at p (before arcs s v) +ℤ distance_at s (before arcs s v)) -ℤ reach = omega (arith, ints, falls_at (before arcs s v) Settled traced.settled) in
-        let p_end : number_at p (end_at arcs h.arc h.way) ≡ number_at p v = ap (number_at p) traced.ends in
-        let q_end : number_at q (end_at arcs h.arc h.way) ≡ number_at q v = ap (number_at q) traced.ends in
-        (omega (arith, ints, level.1, start, traced.tight, p_end, q_end), (settled_is_reached s _ traced.settled, start), traced.deeper)
+    abbrev room : IsRoom arcs x step.amount (path_to arcs s t) (root_to arcs s t) t
+    room = record { leads = onward.leads; simple = onward.simple; apart = onward.apart; room = step.room }
 
-    tight_to_target : IsTight arcs q (path_to arcs s t)
-    tight_to_target = hops_tight arcs s q IsLevel tight_step (depth_at s t) t [] (target_reached, omega (arith, ints, falls_at t Open is.found.nearest.is_open)) refl tt
+    root_in : root_to arcs s t < length p
+    root_in = omega (arith, onward.reached.0, found.search.sized)
 
-    not_raised : (v : ℕ) (m : State) → state_at s v ≡ m → (number_at q v ≤ℤ number_at p v) × ((number_at p v -ℤ reach) ≤ℤ number_at q v)
-    not_raised v Unreached m = (omega (arith, ints, falls_at v Unreached m), omega (arith, ints, falls_at v Unreached m, known.distance_at_least_0 t target_reached))
-    not_raised v Open m = (omega (arith, ints, falls_at v Open m), omega (arith, ints, falls_at v Open m, known.distance_at_least_0 t target_reached))
-    not_raised v Settled m =
-        let within = is_reach.within v m in
-        (omega (arith, ints, falls_at v Settled m, within.1), omega (arith, ints, falls_at v Settled m, within.0))
+    pub one_pushed : ArePushes arcs 1 x e y f
+    one_pushed = subst (λ (z : List ℤ). ArePushes arcs 1 x e z f) (sym step.flow) (one_push (length p) arcs x e (path_to arcs s t) (root_to arcs s t) t step.amount f moving room step.at_least_1 root_in step.in_excess step.in_deficit step.transfer)
 
-    deficit_kept : (v : ℕ) (m : State) → state_at s v ≡ m → number_at e v <ℤ pos 0 → number_at q v ≡ number_at p v
-    deficit_kept v Unreached m h = falls_at v Unreached m
-    deficit_kept v Open m h = falls_at v Open m
-    deficit_kept v Settled m h = absurd (omega (arith, ints, h, is.searched.from_excess.no_deficit v m))
+    pub moved_on : IsMoving (length p) arcs y f
+    moved_on = subst (λ (z : List ℤ). IsMoving (length p) arcs z f) (sym step.flow) (moving_after (length p) arcs x e (path_to arcs s t) (root_to arcs s t) t step.amount f moving room step.at_least_1 root_in step.in_excess step.in_deficit step.transfer)
 
-    excess_falls : (v : ℕ) (m : State) → state_at s v ≡ m → pos 0 <ℤ number_at e v → number_at q v ≡ number_at p v -ℤ reach
-    excess_falls v Unreached m h = absurd ((is.searched.from_excess.sources v h).0 m)
-    excess_falls v Open m h = omega (arith, ints, falls_at v Open m, (is.searched.from_excess.sources v h).1, beyond v m, known.distance_at_least_0 t target_reached)
-    excess_falls v Settled m h = omega (arith, ints, falls_at v Settled m, (is.searched.from_excess.sources v h).1)
-
-    -- and pushed along the path
-    module _ (y f : List ℤ) (small : AreSmall e) (sized_e : length e ≡ length p) (sized_q : length q ≡ length p) (step : IsAugmented arcs s t x e y f) (before : HaveFallen p e) where
-      abbrev moving : IsMoving (length p) arcs x e
-      moving = record { flow = certified.flow; excess_sized = sized_e; small = small }
-
-      abbrev room : IsRoom arcs x step.amount (path_to arcs s t) (root_to arcs s t) t
-      room = record { leads = onward.leads; simple = onward.simple; apart = onward.apart; room = step.room }
-
-      root_in : root_to arcs s t < length p
-      root_in = omega (arith, in_range s (root_to arcs s t) onward.reached, known.sized)
-
-      pub one_pushed : ArePushes arcs 1 x e y f
-      one_pushed = subst (λ (z : List ℤ). ArePushes arcs 1 x e z f) (sym step.flow) (one_push (length p) arcs x e (path_to arcs s t) (root_to arcs s t) t step.amount f moving room step.at_least_1 root_in step.in_excess step.in_deficit step.transfer)
-
-      pub moved_on : IsMoving (length p) arcs y f
-      moved_on = subst (λ (z : List ℤ). IsMoving (length p) arcs z f) (sym step.flow) (moving_after (length p) arcs x e (path_to arcs s t) (root_to arcs s t) t step.amount f moving room step.at_least_1 root_in step.in_excess step.in_deficit step.transfer)
-
-      -- the path from a node that fell by all to one that did not fall costs nothing now
-      fallen_enough : (before.fallen +ℤ reach) ≤ℤ pos (3 * label_floor)
-      fallen_enough =
-          let path = label_path (depth_at s t) t target_reached refl in
-          omega (
-            arith,
-            ints,
-            path,
-            root_from.1,
-            before.in_excess (root_to arcs s t) root_from.0,
-            before.in_deficit t is.found.deficit,
-            before.began.at_most_0 (root_to arcs s t),
-            before.began.at_least t,
-            known.reached_depth t target_reached,
-            known.sized,
-            certified.flow.few_nodes,
-          )
-
-      pub fallen_after : HaveFallen q f
-      fallen_after = record {
-        from = before.from;
-        fallen = before.fallen +ℤ reach;
-        began = subst (λ (n : ℕ). ArePotentials n label_floor before.from) (sym sized_q) before.began;
-        not_below_0 = omega (arith, ints, before.not_below_0, known.distance_at_least_0 t target_reached);
-        not_above = fallen_enough;
-        in_excess = λ v h.
-            (let was = excess_before (length p) arcs x e (path_to arcs s t) (root_to arcs s t) t step.amount f moving room step.at_least_1 root_in step.in_excess step.in_deficit step.transfer v h in
-            omega (arith, ints, excess_falls v (state_at s v) refl was, before.in_excess v was));
-        in_deficit = λ v h.
-            (let was = deficit_before (length p) arcs x e (path_to arcs s t) (root_to arcs s t) t step.amount f moving room step.at_least_1 root_in step.in_excess step.in_deficit step.transfer v h in
-            omega (arith, ints, deficit_kept v (state_at s v) refl was, before.in_deficit v was));
-        at_least = λ v. omega (arith, ints, (not_raised v (state_at s v) refl).1, before.at_least v);
-      }
-
-      pub certified_after : IsReducedCostOptimal arcs y q
-      certified_after = record {
-        flow = subst (λ (n : ℕ). IsPseudoflow n arcs y) (sym sized_q) moved_on.flow;
-        potentials = record {
-          sized = refl;
-          at_most_0 = λ v. omega (arith, ints, (not_raised v (state_at s v) refl).0, certified.potentials.at_most_0 v);
-          at_least = λ v. omega (arith, ints, (not_raised v (state_at s v) refl).1, before.at_least v, fallen_enough, before.began.at_least v);
-        };
-        none_below = subst (λ (z : List ℤ). NoneBelow arcs z q) (sym step.flow)
-            (NoneBelow-along arcs q (path_to arcs s t) step.amount x (lowered_none_below arcs x p q s (distance_at s t) certified known is.searched.relaxed is_reach beyond low) tight_to_target);
-      }
+    pub certified_after : IsReducedCostOptimal arcs y p
+    certified_after = record {
+      flow = moved_on.flow;
+      potentials = certified.potentials;
+      none_below = subst (λ (z : List ℤ). NoneBelow arcs z p) (sym step.flow) (NoneBelow-along arcs p (path_to arcs s t) step.amount x certified.none_below tight_to_target);
+    }

@@ -8,9 +8,9 @@ use Rattle.dimacs_text.specs.declared.problem.ArcRow.{ArcRow}
 use Rattle.residual_graph.specs.declared.residual.ResidualArc.{ResidualArc}
 use Rattle.residual_graph.specs.declared.residual.Way.{Way}
 use Rattle.residual_graph.specs.declared.residual.Way.TheVariants.{Forward, Backward}
-use Rattle.shortest_paths.specs.declared.node_label.NodeLabel.{NodeLabel}
+use Rattle.shortest_paths.specs.declared.predecessor.Predecessor.{Predecessor}
 use Rattle.residual_graph.specs.Residual.{number_at, row_at, start_at, end_at, cost_at, room_of, IsResidual}
-use Rattle.shortest_paths.specs.Search.{node_label_at, depth_at, IsReached}
+use Rattle.shortest_paths.specs.Predecessor.{arc_to, rank_at, way_to}
 
 -- e is what each node's supply exceeds the flow out of it by
 abbrev pub IsExcess : List ArcRow → (ℕ → ℤ) → List ℤ → List ℤ → Type 0
@@ -69,38 +69,27 @@ abbrev pub lack : List ℤ → ℕ
 lack e = sum_by (λ z. positive_part (neg_ℤ z)) e
 
 -- the arc by which the search came to v, and the node before v
-abbrev pub hop_to : List NodeLabel → ℕ → ResidualArc
-hop_to s v = record { arc = (node_label_at s v).arc; way = (node_label_at s v).way }
+abbrev pub hop_to : List Predecessor → ℕ → ResidualArc
+hop_to s v = record { arc = arc_to s v; way = way_to s v }
 
-abbrev pub before : List ArcRow → List NodeLabel → ℕ → ℕ
-before arcs s v = start_at arcs (node_label_at s v).arc (node_label_at s v).way
+abbrev pub before : List ArcRow → List Predecessor → ℕ → ℕ
+before arcs s v = start_at arcs (arc_to s v) (way_to s v)
 
 -- d hops by which the search came to v, and then these
-abbrev pub hops_before : List ArcRow → List NodeLabel → ℕ → ℕ → List ResidualArc → List ResidualArc
+abbrev pub hops_before : List ArcRow → List Predecessor → ℕ → ℕ → List ResidualArc → List ResidualArc
 hops_before arcs s zero v hops = hops
 hops_before arcs s (suc d) v hops = hops_before arcs s d (before arcs s v) (hop_to s v ∷ hops)
 
 -- the path by which the search came to v, and where it begins
-abbrev pub path_to : List ArcRow → List NodeLabel → ℕ → List ResidualArc
-path_to arcs s v = hops_before arcs s (depth_at s v) v []
+abbrev pub path_to : List ArcRow → List Predecessor → ℕ → List ResidualArc
+path_to arcs s v = hops_before arcs s (rank_at s v) v []
 
-abbrev pub root_of : List ArcRow → List NodeLabel → ℕ → ℕ → ℕ
+abbrev pub root_of : List ArcRow → List Predecessor → ℕ → ℕ → ℕ
 root_of arcs s zero v = v
 root_of arcs s (suc d) v = root_of arcs s d (before arcs s v)
 
-abbrev pub root_to : List ArcRow → List NodeLabel → ℕ → ℕ
-root_to arcs s v = root_of arcs s (depth_at s v) v
-
--- the search came to v along a residual arc from a node that is one hop nearer to the beginning
-pub record IsCameBy (arcs : List ArcRow) (x : List ℤ) (s : List NodeLabel) (v k : ℕ) (way : Way) : Type 0 where
-  pub residual : IsResidual arcs x k way
-  pub ends : end_at arcs k way ≡ v
-  pub reached : IsReached s (start_at arcs k way)
-  pub deeper : depth_at s v ≡ depth_at s (start_at arcs k way) + 1
-
--- behind each node that the search reached lies a path of residual arcs
-abbrev pub HavePaths : List ArcRow → List ℤ → List NodeLabel → Type 0
-HavePaths arcs x s = (v : ℕ) → IsReached s v → 0 < depth_at s v → IsCameBy arcs x s v (node_label_at s v).arc (node_label_at s v).way
+abbrev pub root_to : List ArcRow → List Predecessor → ℕ → ℕ
+root_to arcs s v = root_of arcs s (rank_at s v) v
 
 -- m more fits on each hop
 abbrev pub HasRoom : List ArcRow → List ℤ → ℤ → List ResidualArc → Type 0
@@ -146,7 +135,7 @@ pub record ArePushes (arcs : List ArcRow) (n : ℕ) (x e y f : List ℤ) : Type 
   pub balanced : (v : ℕ) → number_at e v ≡ pos 0 → number_at f v ≡ pos 0
 
 -- y and f are x and e after so much was pushed along the path to t as lies in excess where it begins, and lacks at t
-pub record IsAugmented (arcs : List ArcRow) (s : List NodeLabel) (t : ℕ) (x e y f : List ℤ) : Type 0 where
+pub record IsAugmented (arcs : List ArcRow) (s : List Predecessor) (t : ℕ) (x e y f : List ℤ) : Type 0 where
   pub amount : ℤ
   pub at_least_1 : pos 1 ≤ℤ amount
   pub in_excess : amount ≤ℤ number_at e (root_to arcs s t)

@@ -5,7 +5,7 @@ use Rattle.augmentation.specs.Attempt.{IsAttemptFor}
 
 -- each table has as many entries as there are potentials
 pub record IsScratch (s : Inside) : Type 0 where
-  pub node_labels_sized : length s.node_labels.items ≡ length s.potentials.items
+  pub predecessors_sized : length s.predecessors.items ≡ length s.potentials.items
   pub marks_sized : length s.marks.items ≡ length s.potentials.items
   pub worklist_sized : length s.worklist.items ≡ length s.potentials.items
   pub attempt : IsAttemptFor (length s.potentials.items) s.attempt

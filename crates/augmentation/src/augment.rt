@@ -3,39 +3,39 @@
 ghost use Rattle.std.specs.Int.{w64};
 ghost use Rattle.std.specs.Prelude.{◌≡◌, ◌≢◌, ℤ, FitsSigned, length, pos, neg_ℤ, ◌≤ℤ◌, ◌<ℤ◌, ◌<◌};
 ghost use Rattle.residual_graph.specs.Residual.{IsPseudoflow, number_at};
-ghost use Rattle.shortest_paths.specs.Search.{IsReached};
-ghost use Rattle.augmentation.specs.Push.{AreSmall, HasRoom, HavePaths, IsAugmented, IsTransfer, moved, path_to, push_along, root_to};
+ghost use Rattle.shortest_paths.specs.Search.{HavePaths, IsReached};
+ghost use Rattle.augmentation.specs.Push.{AreSmall, HasRoom, IsAugmented, IsTransfer, moved, path_to, push_along, root_to};
 ghost use Rattle.augmentation.specs.Tracked.{IsWritten};
 
 use crate::tracked::Tracked;
 use residual_graph::{Graph, Way};
-use shortest_paths::NodeLabel;
+use shortest_paths::Predecessor;
 
 /// Where the path to a node begins, and how much fits along it, at most `limit`.
 fn bottleneck(
     graph: &Graph,
     flow: &[i64],
-    node_labels: &[NodeLabel],
+    predecessors: &[Predecessor],
     target: usize,
     limit: i64,
 ) -> (usize, i64)
-    requires flow { IsPseudoflow (length node_labels.now) graph.now.rows flow.now }
-    requires paths { HavePaths graph.now.rows flow.now node_labels.now }
-    requires reached { IsReached node_labels.now target }
+    requires flow { IsPseudoflow (length predecessors.now) graph.now.rows flow.now }
+    requires paths { HavePaths graph.now.rows flow.now predecessors.now }
+    requires reached { IsReached predecessors.now target }
     requires limit { pos 1 ≤ℤ limit }
-    ensures root { result.0 ≡ root_to graph.now.rows node_labels.now target }
+    ensures root { result.0 ≡ root_to graph.now.rows predecessors.now target }
     ensures at_least_1 { pos 1 ≤ℤ result.1 }
     ensures at_most { result.1 ≤ℤ limit }
-    ensures room { HasRoom graph.now.rows flow.now result.1 (path_to graph.now.rows node_labels.now target) }
+    ensures room { HasRoom graph.now.rows flow.now result.1 (path_to graph.now.rows predecessors.now target) }
 {
     let mut node = target;
     let mut room = limit;
-    while node_labels[node].depth > 0 {
-        let label = node_labels[node];
-        let k = label.arc as usize;
+    while predecessors[node].rank > 0 {
+        let hop = predecessors[node].arc();
+        let k = hop.arc as usize;
         let row = graph.row(k);
-        room = room.min(label.way.room(&row, flow[k]));
-        node = label.way.start(&row) as usize;
+        room = room.min(hop.way.room(&row, flow[k]));
+        node = hop.way.start(&row) as usize;
     }
     (node, room)
 }
@@ -45,23 +45,23 @@ fn amount_along(
     graph: &Graph,
     flow: &[i64],
     excess: &[i64],
-    node_labels: &[NodeLabel],
+    predecessors: &[Predecessor],
     target: usize,
 ) -> (usize, i64)
-    requires flow { IsPseudoflow (length node_labels.now) graph.now.rows flow.now }
-    requires paths { HavePaths graph.now.rows flow.now node_labels.now }
-    requires excess_in { length excess.now ≡ length node_labels.now }
+    requires flow { IsPseudoflow (length predecessors.now) graph.now.rows flow.now }
+    requires paths { HavePaths graph.now.rows flow.now predecessors.now }
+    requires excess_in { length excess.now ≡ length predecessors.now }
     requires small { AreSmall excess.now }
-    requires reached { IsReached node_labels.now target }
-    requires some_excess { pos 0 <ℤ number_at excess.now (root_to graph.now.rows node_labels.now target) }
+    requires reached { IsReached predecessors.now target }
+    requires some_excess { pos 0 <ℤ number_at excess.now (root_to graph.now.rows predecessors.now target) }
     requires some_deficit { number_at excess.now target <ℤ pos 0 }
-    ensures root { result.0 ≡ root_to graph.now.rows node_labels.now target }
+    ensures root { result.0 ≡ root_to graph.now.rows predecessors.now target }
     ensures at_least_1 { pos 1 ≤ℤ result.1 }
     ensures in_excess { result.1 ≤ℤ number_at excess.now result.0 }
     ensures in_deficit { number_at excess.now target ≤ℤ neg_ℤ result.1 }
-    ensures room { HasRoom graph.now.rows flow.now result.1 (path_to graph.now.rows node_labels.now target) }
+    ensures room { HasRoom graph.now.rows flow.now result.1 (path_to graph.now.rows predecessors.now target) }
 {
-    let (root, room) = bottleneck(graph, flow, node_labels, target, -excess[target]);
+    let (root, room) = bottleneck(graph, flow, predecessors, target, -excess[target]);
     (root, room.min(excess[root]))
 }
 
@@ -80,25 +80,25 @@ fn shifted(flow: i64, way: Way, amount: i64) -> i64
 fn shift(
     graph: &Graph,
     flow: &mut Tracked<i64>,
-    node_labels: &[NodeLabel],
+    predecessors: &[Predecessor],
     target: usize,
     amount: i64,
 )
-    requires flow { IsPseudoflow (length node_labels.now) graph.now.rows flow.old.entries }
-    requires paths { HavePaths graph.now.rows flow.old.entries node_labels.now }
-    requires reached { IsReached node_labels.now target }
+    requires flow { IsPseudoflow (length predecessors.now) graph.now.rows flow.old.entries }
+    requires paths { HavePaths graph.now.rows flow.old.entries predecessors.now }
+    requires reached { IsReached predecessors.now target }
     requires amount { pos 1 ≤ℤ amount }
-    requires room { HasRoom graph.now.rows flow.old.entries amount (path_to graph.now.rows node_labels.now target) }
+    requires room { HasRoom graph.now.rows flow.old.entries amount (path_to graph.now.rows predecessors.now target) }
     ensures written { IsWritten flow.old flow.new }
-    ensures flow { flow.new.entries ≡ push_along (path_to graph.now.rows node_labels.now target) amount flow.old.entries }
+    ensures flow { flow.new.entries ≡ push_along (path_to graph.now.rows predecessors.now target) amount flow.old.entries }
 {
     let mut node = target;
-    while node_labels[node].depth > 0 {
-        let label = node_labels[node];
-        let k = label.arc as usize;
-        let moved = shifted(flow.get(k), label.way, amount);
+    while predecessors[node].rank > 0 {
+        let hop = predecessors[node].arc();
+        let k = hop.arc as usize;
+        let moved = shifted(flow.get(k), hop.way, amount);
         flow.set(k, moved);
-        node = graph.start(k, label.way);
+        node = graph.start(k, hop.way);
     }
 }
 
@@ -122,20 +122,20 @@ pub(crate) fn augment(
     graph: &Graph,
     flow: &mut Tracked<i64>,
     excess: &mut [i64],
-    node_labels: &[NodeLabel],
+    predecessors: &[Predecessor],
     target: usize,
 )
-    requires flow { IsPseudoflow (length node_labels.now) graph.now.rows flow.old.entries }
-    requires paths { HavePaths graph.now.rows flow.old.entries node_labels.now }
-    requires excess_in { length excess.old ≡ length node_labels.now }
+    requires flow { IsPseudoflow (length predecessors.now) graph.now.rows flow.old.entries }
+    requires paths { HavePaths graph.now.rows flow.old.entries predecessors.now }
+    requires excess_in { length excess.old ≡ length predecessors.now }
     requires small { AreSmall excess.old }
-    requires reached { IsReached node_labels.now target }
-    requires some_excess { pos 0 <ℤ number_at excess.old (root_to graph.now.rows node_labels.now target) }
+    requires reached { IsReached predecessors.now target }
+    requires some_excess { pos 0 <ℤ number_at excess.old (root_to graph.now.rows predecessors.now target) }
     requires some_deficit { number_at excess.old target <ℤ pos 0 }
     ensures written { IsWritten flow.old flow.new }
-    ensures pushed { IsAugmented graph.now.rows node_labels.now target flow.old.entries excess.old flow.new.entries excess.new }
+    ensures pushed { IsAugmented graph.now.rows predecessors.now target flow.old.entries excess.old flow.new.entries excess.new }
 {
-    let (root, amount) = amount_along(graph, flow.entries(), excess, node_labels, target);
-    shift(graph, flow, node_labels, target, amount);
+    let (root, amount) = amount_along(graph, flow.entries(), excess, predecessors, target);
+    shift(graph, flow, predecessors, target, amount);
     transfer(excess, root, target, amount);
 }

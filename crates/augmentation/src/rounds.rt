@@ -1,24 +1,23 @@
 //! Searches and pushes in turn, until no node in excess reaches a node in deficit.
 
 ghost use Rattle.std.specs.Prelude.{◌≡◌, length, MatchOption};
-ghost use Rattle.augmentation.specs.Settle.{HasFound, HaveFallen};
+ghost use Rattle.augmentation.specs.Cut.{IsParted};
 ghost use Rattle.augmentation.specs.Pseudoflow.{IsCertifiedPseudoflow, IsReady};
 ghost use Rattle.augmentation.specs.Push.{ArePushes};
 ghost use Rattle.augmentation.specs.Tracked.{IsWritten};
-ghost use Rattle.augmentation.specs.Cut.{IsParted};
+ghost use Rattle.shortest_paths.specs.Search.{HasFound};
 
 use crate::augment::augment;
 use crate::cut::is_parted;
 use crate::excess::Excess;
-use crate::potentials::lower;
 use crate::scratch::Scratch;
 use crate::tracked::Tracked;
-use residual_graph::{Graph, Residual};
-use shortest_paths::find_deficit;
+use residual_graph::Graph;
+use shortest_paths::{find_deficit, search_labels};
 
-/// Searches from all nodes in excess for the nearest node in deficit, pushes along the path to it, and again, until no node
-/// in excess reaches a node in deficit; counts the pushes. Where a proposal was right, one search that finds nothing is all
-/// that it does.
+/// Searches from all nodes in excess for a node in deficit, pushes along the path to it, and again, until no node in excess
+/// reaches a node in deficit; counts the pushes. Where a proposal was right, one look at what is reached is all that it
+/// does.
 #[inline(never)] // a name of its own in the program: `bench/count` counts its calls
 pub fn finish(
     graph: &Graph,
@@ -35,14 +34,14 @@ pub fn finish(
     excess.tidy();
     let mut pushes = 0;
     while let Some(target) = search_on(graph, flow, excess, scratch) {
-        push_within(graph, flow, excess, scratch, target);
+        push_to(graph, flow, excess, scratch, target);
         pushes += 1;
     }
     pushes
 }
 
-/// Searches from the nodes in excess for the nearest node in deficit, where there are both; nothing where no node in excess
-/// reaches a node in deficit.
+/// Searches from the nodes in excess for a node in deficit, where there are both; nothing where no node in excess reaches a
+/// node in deficit.
 #[inline(never)] // a name of its own in the program: `bench/count` counts its calls
 fn search_on(
     graph: &Graph,
@@ -50,9 +49,9 @@ fn search_on(
     excess: &Excess,
     scratch: &mut Scratch,
 ) -> Option<usize>
-    requires state { IsCertifiedPseudoflow graph.now flow.now.entries scratch.old.potentials excess.now }
-    ensures found { MatchOption result (IsParted graph.now.rows flow.now.entries excess.now) (HasFound graph.now.rows flow.now.entries scratch.new.potentials excess.now scratch.new.node_labels) }
-    ensures kept { scratch.new.potentials ≡ scratch.old.potentials }
+    requires ready { IsReady graph.now flow.now.entries scratch.old.potentials excess.now }
+    ensures state { IsCertifiedPseudoflow graph.now flow.now.entries scratch.new.potentials excess.now }
+    ensures found { MatchOption result (IsParted graph.now.rows flow.now.entries excess.now) (HasFound graph.now.rows flow.now.entries scratch.new.potentials excess.now scratch.new.predecessors) }
 {
     if !excess.has_both() {
         return None;
@@ -66,18 +65,19 @@ fn search_on(
     ) {
         return None;
     }
-    let residual = Residual {
+    find_deficit(
         graph,
-        flow: flow.entries(),
-        potentials: &scratch.potentials,
-    };
-    find_deficit(residual, excess.entries(), &mut scratch.node_labels)
+        flow.entries(),
+        excess.entries(),
+        &mut scratch.potentials,
+        &mut scratch.predecessors,
+    )
 }
 
-/// Lowers the potentials after a search that found a node in deficit, so that the path to it costs nothing, and pushes
-/// along the path.
+/// Pushes along the path by which a search came to a node in deficit; the potentials become the greatest that certify the
+/// flow.
 #[inline(never)] // a name of its own in the program: `bench/count` counts its calls
-fn push_within(
+fn push_to(
     graph: &Graph,
     flow: &mut Tracked<i64>,
     excess: &mut Excess,
@@ -85,20 +85,22 @@ fn push_within(
     target: usize,
 )
     requires state { IsCertifiedPseudoflow graph.now flow.old.entries scratch.old.potentials excess.old }
-    requires fallen { HaveFallen scratch.old.potentials excess.old }
-    requires found { HasFound graph.now.rows flow.old.entries scratch.old.potentials excess.old scratch.old.node_labels target }
+    requires found { HasFound graph.now.rows flow.old.entries scratch.old.potentials excess.old scratch.old.predecessors target }
     ensures flow_written { IsWritten flow.old flow.new }
-    ensures state { IsCertifiedPseudoflow graph.now flow.new.entries scratch.new.potentials excess.new }
-    ensures fallen { HaveFallen scratch.new.potentials excess.new }
+    ensures ready { IsReady graph.now flow.new.entries scratch.new.potentials excess.new }
     ensures pushed { ArePushes graph.now.rows 1 flow.old.entries excess.old flow.new.entries excess.new }
 {
-    let reach = scratch.node_labels[target].distance;
-    lower(&mut scratch.potentials, &scratch.node_labels, reach);
     augment(
         graph,
         flow,
         &mut excess.entries,
-        &scratch.node_labels,
+        &scratch.predecessors,
         target,
+    );
+    search_labels(
+        graph,
+        flow.entries(),
+        &mut scratch.potentials,
+        &mut scratch.predecessors,
     );
 }

@@ -10,17 +10,18 @@ use crate::cut::is_parted;
 use crate::excess::Excess;
 use proposals::Wanted;
 use residual_graph::Graph;
-use shortest_paths::{NodeLabel, Tree};
+use shortest_paths::{Predecessor, Tree};
 use std::alloc::{AllocError, Global};
 use std::marker::Model;
 
-/// Tables with one entry a node. Between two calls nothing is known of them but their size. What `labels` holds of the
-/// last pass is a hint.
+/// Tables with one entry a node. Between two calls nothing is known of them but their size.
 #[derive(Drop)]
 pub struct Scratch {
-    pub(crate) node_labels: Vec<NodeLabel>,
+    /// How the last search came to each node.
+    pub(crate) predecessors: Vec<Predecessor>,
     /// Potentials while flow is pushed.
     pub(crate) potentials: Vec<i64>,
+    /// The labels that were written last, and what changed since.
     pub(crate) tree: Tree,
     /// Marks of nodes, while a cut is looked for.
     pub(crate) marks: Vec<bool>,
@@ -36,7 +37,7 @@ impl Model for Scratch {
 
     ghost use Rattle.augmentation.specs.Scratch.{IsScratch};
 
-    ghost view = { λ s. record { potentials = s.potentials.items; node_labels = s.node_labels.items } };
+    ghost view = { λ s. record { potentials = s.potentials.items; predecessors = s.predecessors.items } };
 
     ghost invariant = { IsScratch };
 }
@@ -50,14 +51,14 @@ impl Scratch {
         requires { entries ≤ row_limit }
         ensures { IfOk result (λ s. length s.potentials ≡ entries) }
     {
-        let node_labels = vec![in alloc; NodeLabel::unreached(); entries as usize]?;
+        let predecessors = vec![in alloc; Predecessor::open(); entries as usize]?;
         let potentials = vec![in alloc; 0; entries as usize]?;
         let tree = Tree::new(alloc, entries as usize)?;
         let marks = vec![in alloc; false; entries as usize]?;
         let worklist = vec![in alloc; 0; entries as usize]?;
         let attempt = Attempt::new(alloc, entries as usize, arcs / 2)?;
         Ok(Scratch {
-            node_labels,
+            predecessors,
             potentials,
             tree,
             marks,

@@ -1,61 +1,12 @@
--- The search from all nodes begins, and labels that are told with predecessors.
-use Rattle.std.proofs.Common.{◌≡◌, ℕ, zero, suc, ◌<◌, ◌≤◌, ℤ, pos, neg_ℤ, ◌≤ℤ◌, List, length, ap, inl, inr, arith}
+-- Labels that are told with predecessors.
+use Rattle.std.proofs.Common.{◌≡◌, ℕ, zero, suc, ◌<◌, ◌≤◌, ℤ, pos, ◌≤ℤ◌, List, length, ap, inl, inr, arith}
 use Rattle.std.proofs.lemmas.Int.{ints}
 use Rattle.std.proofs.lemmas.Bool.{cases_lt}
 use Rattle.std.proofs.lemmas.List.{get_or_past}
-use Rattle.std.proofs.lemmas.List.Sums.{count_by-le-length}
 use Rattle.dimacs_text.specs.declared.problem.ArcRow.{ArcRow}
-use Rattle.shortest_paths.specs.declared.node_label.State.TheVariants.{Open, Settled}
-use Rattle.shortest_paths.specs.declared.node_label.NodeLabel.{NodeLabel}
 use Rattle.shortest_paths.specs.declared.predecessor.Predecessor.{Predecessor}
-use Rattle.residual_graph.specs.Residual.{AreGreatest, IsReducedCostOptimal, NoneBelowBy, number_at, start_at}
-use Rattle.shortest_paths.specs.Search.{AllRelaxed, AreRoots, HasBound, IsFromAll, IsReached, IsSearch, depth_at, distance_at, is_unsettled, node_label_at, root_node_label, state_at}
-use Rattle.shortest_paths.specs.Tree.{IsTracedAt, arc_to, rank_at, way_to}
-use Rattle.shortest_paths.proofs.SearchLemmas.{in_range, open_is_reached, settled_is_reached}
-
--- each node is open with label 0
-module _ (arcs : List ArcRow) (x p : List ℤ) (s : List NodeLabel) (certified : IsReducedCostOptimal arcs x p) (sized : length s ≡ length p)
-    (roots : AreRoots p s)
-  where
-    begins : (v : ℕ) → IsReached s v → node_label_at s v ≡ root_node_label (number_at p v)
-    begins v reached = roots v (in_range s v reached)
-
-    depth_0 : (v : ℕ) → IsReached s v → depth_at s v ≡ 0
-    depth_0 v reached = ap (λ (e : NodeLabel). e.depth) (begins v reached)
-
-    distance_is : (v : ℕ) → IsReached s v → distance_at s v ≡ neg_ℤ (number_at p v)
-    distance_is v reached = ap (λ (e : NodeLabel). e.distance) (begins v reached)
-
-    none_settled : (v : ℕ) → state_at s v ≡ Settled → ⊥
-    none_settled v m =
-        let o : state_at s v ≡ Open = ap (λ (e : NodeLabel). e.state) (begins v (settled_is_reached s v m)) in
-        cc
-
-    pub IsSearch-roots : IsSearch arcs x p s
-    IsSearch-roots = record {
-      sized = sized;
-      in_order = λ v w m o. absurd (none_settled v m);
-      distance_at_least_0 = λ v r. omega (arith, ints, distance_is v r, certified.potentials.at_most_0 v);
-      settled_depth = λ v m. absurd (none_settled v m);
-      reached_depth = λ v r. omega (arith, depth_0 v r, count_by-le-length is_unsettled s);
-      label_low = λ v r. omega (arith, ints, distance_is v r, depth_0 v r);
-      label_high = λ v r. omega (arith, ints, distance_is v r, depth_0 v r);
-      traced = λ v r deep. absurd (omega (arith, depth_0 v r));
-      bounds = λ v lt. bound v (roots v lt);
-    }
-      where
-        bound : (v : ℕ) → node_label_at s v ≡ root_node_label (number_at p v) → HasBound (number_at p v) (node_label_at s v)
-        bound v is = rw is omega (arith, ints)
-
-    pub AllRelaxed-roots : AllRelaxed arcs x p s
-    AllRelaxed-roots k way residual m = absurd (none_settled _ m)
-
-    pub IsFromAll-roots : IsFromAll p s
-    IsFromAll-roots = record {
-      reached = λ v lt. open_is_reached s v (ap (λ (e : NodeLabel). e.state) (roots v (omega (arith, lt, sized))));
-      roots = λ v r d. distance_is v r;
-      at_most_0 = λ v r. omega (arith, ints, distance_is v r);
-    }
+use Rattle.residual_graph.specs.Residual.{AreGreatest, NoneBelowBy, number_at, start_at}
+use Rattle.shortest_paths.specs.Predecessor.{IsTracedAt, arc_to, rank_at, way_to}
 
 -- labels that are 0 or come along residual arcs are the greatest: what certifies the flow is no greater at the nodes of lower rank
 module _ (arcs : List ArcRow) (x q : List ℤ) (t : List Predecessor) (traced : (v : ℕ) → v < length q → IsTracedAt arcs x q t v) where

@@ -1,3 +1,3 @@
 pub mod SearchLemmas
-pub mod RunLemmas
+pub mod StepLemmas
 pub mod LabelLemmas

@@ -1,5 +1,5 @@
 pub mod Limits
-pub mod Search
-pub mod Over
 pub mod NodeLists
+pub mod Predecessor
+pub mod Search
 pub mod Tree

@@ -1,10 +1,6 @@
--- The ranges of the numbers that searches handle, wide enough for each problem and for the return arc of a maximum flow.
+-- The range of labels, wide enough for each problem and for the return arc of a maximum flow.
 use Rattle.std.specs.Prelude.{ℕ}
 
 -- how far a shortest label lies below 0: 50,000 arcs of the greatest cost
 abbrev pub label_floor : ℕ
 label_floor = 50000000000000000
-
--- the length of a path over reduced costs
-abbrev pub distance_limit : ℕ
-distance_limit = 400000000000000000

@@ -1,55 +1,95 @@
-//! The labels of all nodes.
+//! The greatest potentials that certify a flow: the shortest labels of all nodes.
 
-ghost use Rattle.std.specs.Prelude.{◌≡◌, ◌<◌, length};
-ghost use Rattle.residual_graph.specs.Limits.{potential_floor};
-ghost use Rattle.residual_graph.specs.Residual.{ArePotentials, number_at};
-ghost use Rattle.shortest_paths.specs.Search.{AreRoots, IsFresh, IsFromAll, NoneOpen, root_node_label};
-ghost use Rattle.shortest_paths.specs.Over.{IsSearchOver, AllRelaxedOver};
+ghost use Rattle.std.specs.Prelude.{◌≡◌, ◌+◌, ◌<◌, length};
+ghost use Rattle.residual_graph.specs.Residual.{AreGreatest, ArePotentials, IsReducedCostOptimal};
+ghost use Rattle.shortest_paths.specs.Limits.{label_floor};
+ghost use Rattle.shortest_paths.specs.Search.{IsHighestFound, IsWithinFound};
 
-use crate::node_label::{NodeLabel, State, clear_states};
-use crate::search::{first_open, settle_node};
-use residual_graph::{Residual, Way};
+use crate::predecessor::Predecessor;
+use crate::search::{Crossing, come_along, nearest_crossing, shift_potentials};
+use residual_graph::Graph;
 
-/// A root: a node that is open with label 0.
-fn root(potentials: &[i64], v: usize) -> NodeLabel
-    requires potentials_in { ArePotentials (length potentials.now) potential_floor potentials.now }
-    requires v_in { v < length potentials.now }
-    ensures { result ≡ root_node_label (number_at potentials.now v) }
+/// The one of two open nodes, where there are two, with the greater potential: the one at hand, and node `v` if it is open.
+fn higher(
+    potentials: &[i64],
+    predecessors: &[Predecessor],
+    highest: Option<usize>,
+    v: usize,
+) -> Option<usize>
+    requires sized { length predecessors.now ≡ length potentials.now }
+    requires node { v < length potentials.now }
+    requires highest { IsHighestFound potentials.now predecessors.now v highest }
+    ensures { IsHighestFound potentials.now predecessors.now (v + 1) result }
 {
-    NodeLabel {
-        state: State::Open,
-        distance: -potentials[v],
-        depth: 0,
-        arc: 0,
-        way: Way::Forward,
-        bound: 0,
+    if !predecessors[v].is_open {
+        return highest;
+    }
+    match highest {
+        Some(u) if potentials[u] >= potentials[v] => highest,
+        _ => Some(v),
     }
 }
 
-/// Opens all nodes, each with label 0.
-fn open_roots(potentials: &[i64], node_labels: &mut [NodeLabel])
-    requires same_length { length node_labels.old ≡ length potentials.now }
-    requires potentials_in { ArePotentials (length potentials.now) potential_floor potentials.now }
-    requires fresh { IsFresh node_labels.old }
-    ensures roots { AreRoots potentials.now node_labels.new }
+/// An open node of the greatest potential, where there is one.
+fn highest_open(potentials: &[i64], predecessors: &[Predecessor]) -> Option<usize>
+    requires sized { length predecessors.now ≡ length potentials.now }
+    ensures { IsHighestFound potentials.now predecessors.now (length potentials.now) result }
 {
-    for v in 0..node_labels.len() {
-        node_labels[v] = root(potentials, v);
+    let mut highest = None;
+    for v in 0..potentials.len() {
+        highest = higher(potentials, predecessors, highest, v);
+    }
+    highest
+}
+
+/// Of the residual arcs that lead from nodes that are not open to open ones, one of the least reduced cost, where that is at
+/// most `rise`.
+fn crossing_within(
+    graph: &Graph,
+    flow: &[i64],
+    potentials: &[i64],
+    predecessors: &[Predecessor],
+    rise: i64,
+) -> Option<Crossing>
+    requires certified { IsReducedCostOptimal graph.now.rows flow.now potentials.now }
+    requires sized { length predecessors.now ≡ length potentials.now }
+    ensures { IsWithinFound graph.now.rows flow.now potentials.now predecessors.now rise result }
+{
+    let crossing = nearest_crossing(graph, flow, potentials, predecessors)?;
+    if crossing.cost <= rise {
+        Some(crossing)
+    } else {
+        None
     }
 }
 
-/// Searches from all nodes, each with label 0, for the labels of all.
+/// Raises potentials that certify a flow until they are the greatest that do: those of open nodes rise together until one
+/// is 0, or a residual arc from a node that is not open costs nothing.
 #[inline(never)] // a name of its own in the program: `bench/count` counts its calls
-pub fn search_labels(residual: Residual<'_>, node_labels: &mut [NodeLabel])
-    requires node_labels_in { length node_labels.old ≡ length residual.potentials.now }
-    ensures search { IsSearchOver residual.entry node_labels.new }
-    ensures relaxed { AllRelaxedOver residual.entry node_labels.new }
-    ensures from_all { IsFromAll residual.entry.potentials.now node_labels.new }
-    ensures done { NoneOpen node_labels.new (length node_labels.new) }
+pub fn search_labels(
+    graph: &Graph,
+    flow: &[i64],
+    potentials: &mut [i64],
+    predecessors: &mut [Predecessor],
+)
+    requires certified { IsReducedCostOptimal graph.now.rows flow.now potentials.old }
+    requires sized { length predecessors.old ≡ length potentials.old }
+    ensures certified { IsReducedCostOptimal graph.now.rows flow.now potentials.new }
+    ensures within { ArePotentials (length potentials.new) label_floor potentials.new }
+    ensures greatest { AreGreatest graph.now.rows flow.now potentials.new }
 {
-    clear_states(node_labels);
-    open_roots(residual.potentials, node_labels);
-    while let Some(u) = first_open(node_labels) {
-        settle_node(residual, node_labels, u);
+    predecessors.fill(Predecessor::open());
+    while let Some(root) = highest_open(potentials, predecessors) {
+        let rise = -potentials[root];
+        match crossing_within(graph, flow, potentials, predecessors, rise) {
+            Some(crossing) => {
+                shift_potentials(potentials, predecessors, 0, crossing.cost);
+                come_along(graph, predecessors, crossing.end);
+            }
+            None => {
+                shift_potentials(potentials, predecessors, 0, rise);
+                predecessors[root] = Predecessor::root();
+            }
+        }
     }
 }

@@ -1,18 +1,16 @@
-//! Shortest paths in the residual graph of a flow: searches over reduced costs from the nodes in excess, and labels of all
-//! nodes, with a tree that keeps them from flow to flow.
+//! Searches in the residual graph of a flow: from the nodes in excess to one in deficit, and for the greatest potentials of
+//! all nodes, with a tree that keeps them from flow to flow.
 //!
 //! A table of nodes has one entry a node, by the node's number, and entry 0 stands for no node; a table of arcs has one
-//! entry a row of the graph. Flow and excess are in units of flow; costs, potentials and distances in cost a unit of flow.
+//! entry a row of the graph. Flow and excess are in units of flow; costs, potentials and labels in cost a unit of flow.
 #![tactic(auto)]
 
 mod labels;
-mod node_label;
 mod predecessor;
 mod search;
 mod tree;
 
 pub use labels::search_labels;
-pub use node_label::{NodeLabel, State};
 pub use predecessor::{Predecessor, are_traced, reduced_cost};
 pub use search::find_deficit;
 pub use tree::Tree;

@@ -2,21 +2,62 @@
 
 ghost use Rattle.std.specs.Prelude.{◌≡◌, ◌<◌, IsTrue, length};
 ghost use Rattle.shortest_paths.specs.Limits.{label_floor};
+ghost use Rattle.residual_graph.specs.Limits.{potential_floor};
 ghost use Rattle.residual_graph.specs.Residual.{AreGreatest, ArePotentials, IsPseudoflow, IsRow, IsWithinRow};
-ghost use Rattle.shortest_paths.specs.Search.{reduced_by};
-ghost use Rattle.shortest_paths.specs.Tree.{ComesAlong, IsTracedAt};
+ghost use Rattle.shortest_paths.specs.Predecessor.{ComesAlong, IsTracedAt, arc_from, open_node, reduced_by, root_node};
 
 use dimacs_text::ArcRow;
-use residual_graph::{Graph, Way};
+use residual_graph::{Graph, ResidualArc, Way};
 
-/// How a node got its label where that is below 0: by a residual arc from a node of lower rank.
+/// How a search came to a node, or how a node got a label below 0: by a residual arc from a node of lower rank.
 #[derive(Clone, Copy)]
 pub struct Predecessor {
     /// The end of an arc at which the residual arc leaves.
     pub end: u32,
     pub rank: u32,
-    /// Whether the node's label may become lower yet.
-    pub is_queued: bool,
+    /// Whether no search came to the node yet, or its label may become lower yet.
+    pub is_open: bool,
+}
+
+impl Predecessor {
+    /// A node to which no search came.
+    pub fn open() -> Predecessor
+        ensures { result ≡ open_node }
+    {
+        Predecessor {
+            end: 0,
+            rank: 0,
+            is_open: true,
+        }
+    }
+
+    /// The residual arc that leads to the node.
+    pub fn arc(self) -> ResidualArc
+        ensures { result ≡ arc_from self.end }
+    {
+        leaving(self.end)
+    }
+
+    /// A node at which a search begins.
+    pub(crate) fn root() -> Predecessor
+        ensures { result ≡ root_node }
+    {
+        Predecessor {
+            end: 0,
+            rank: 0,
+            is_open: false,
+        }
+    }
+}
+
+/// The residual arc that leaves at an end of an arc.
+pub(crate) fn leaving(end: u32) -> ResidualArc
+    ensures { result ≡ arc_from end }
+{
+    ResidualArc {
+        arc: end / 2,
+        way: Way::of_end(end),
+    }
 }
 
 /// Whether each label is 0 or comes of that of a node of lower rank, by the residual arc that is told: then no greater
@@ -88,7 +129,7 @@ fn comes_along(
 /// The cost of a residual arc less what the labels of its ends pay for it.
 pub fn reduced_cost(row: &ArcRow, labels: &[i64], way: Way) -> i64
     requires row { IsRow (length labels.now) row.now }
-    requires labels { ArePotentials (length labels.now) label_floor labels.now }
+    requires labels { ArePotentials (length labels.now) potential_floor labels.now }
     ensures { result ≡ reduced_by row.now labels.now way }
 {
     let start = way.start(row) as usize;

@@ -1,207 +1,172 @@
-//! Shortest paths over reduced costs, from the nodes in excess.
+//! Searches along residual arcs that cost nothing, while potentials fall or rise until one leads on: the primal-dual
+//! algorithm (Ahuja, Magnanti, Orlin, "Network Flows") in its plainest form, in which each step looks at all arcs. Quick
+//! methods propose what these searches find, and what they propose is tested; so hardly any is made.
 
-ghost use Rattle.std.specs.Prelude.{◌≡◌, ℕ, pos, ◌≤ℤ◌, ◌+ℤ◌, ◌-ℤ◌, ◌<ℤ◌, ◌<◌, ◌≤◌, int_lt, length, neg_ℤ, MatchOption, ◌+◌};
+ghost use Rattle.std.specs.Prelude.{◌≡◌, ℕ, ◌+◌, ◌*◌, ◌/◌, ◌<◌, pos, neg_ℤ, ◌≤ℤ◌, ℤ, List, IsTrue, ◌↔◌, false, length, slice_set};
 ghost use Rattle.residual_graph.specs.Limits.{cost_limit, entry_limit, potential_floor};
-ghost use Rattle.shortest_paths.specs.Limits.{distance_limit};
-ghost use Rattle.residual_graph.specs.Residual.{ArePotentials, number_at};
-ghost use Rattle.shortest_paths.specs.Search.{IsFirstOpen, IsLastSettled, IsLeastOpen, settled_in, Improves, Takes, Settles, node_label_at, priced_distance, source_node_label, IsFresh, AreOpened, IsNearestFound};
-ghost use Rattle.shortest_paths.specs.Over.{IsResidualArc, distance_along, IsSearchOver, AllRelaxedOver, IsRelaxedAlong, IsRelaxedFromNode, HasSearchedOver};
-ghost use Rattle.residual_graph.specs.Ends.{IsEnd, IsEndAt, leaving};
+ghost use Rattle.residual_graph.specs.Residual.{ArePotentials, IsPseudoflow, IsReducedCostOptimal, end_at, start_at};
+ghost use Rattle.residual_graph.specs.Walk.{end_way};
+ghost use Rattle.shortest_paths.specs.Limits.{label_floor};
+ghost use Rattle.shortest_paths.specs.Predecessor.{rank_at};
+ghost use Rattle.shortest_paths.specs.Search.{AreShifted, Crosses, IsDeficitFound, IsFromExcess, IsNearestFound, IsNearestOf, come_from, shifted_by};
 
-use crate::node_label::{NodeLabel, State, clear_states};
-use residual_graph::{End, Residual, Walk, Way};
+use crate::predecessor::{Predecessor, leaving, reduced_cost};
+use residual_graph::Graph;
 
-/// The length of the path that goes on from a settled node at this end, with the potential of the other node there.
-/// `from` is the length of the path to the settled node, with that node's potential.
-fn priced_beyond(residual: Residual<'_>, from: i64, end: End) -> i64
-    requires end { IsEnd residual.graph.now.rows end }
-    requires low { neg_ℤ (pos potential_floor) ≤ℤ from }
-    requires high { from ≤ℤ pos distance_limit }
-    ensures priced { result ≡ from +ℤ end.cost }
-    ensures low { neg_ℤ (pos (potential_floor + cost_limit)) ≤ℤ result }
-    ensures high { result ≤ℤ pos (distance_limit + cost_limit) }
-{
-    from + end.cost
-}
-
-/// The length of the path to the other node at this end, from its length with that node's potential.
-fn distance_beyond(residual: Residual<'_>, priced: i64, end: End) -> i64
-    requires end { IsEnd residual.graph.now.rows end }
-    requires low { neg_ℤ (pos (potential_floor + cost_limit)) ≤ℤ priced }
-    requires high { priced ≤ℤ pos (distance_limit + cost_limit) }
-    ensures { result ≡ priced -ℤ number_at residual.entry.potentials.now end.other }
-{
-    priced - residual.potentials[end.other]
-}
-
-/// Where a search looks on from: the node settled last, and the length of the path to it with its potential.
+/// A residual arc from a node that the search reached to an open one.
 #[derive(Clone, Copy)]
-struct Origin {
-    node: usize,
-    priced: i64,
+pub(crate) struct Crossing {
+    /// The end of an arc at which it leaves.
+    pub end: u32,
+    /// Its reduced cost.
+    pub cost: i64,
 }
 
-/// Takes a better path to the other node at this end, which goes on from `start`, the node settled last. `distance` is
-/// its length.
-fn take_path(
-    residual: Residual<'_>,
-    node_labels: &mut [NodeLabel],
-    start: usize,
-    distance: i64,
-    end: End,
+/// Whether the residual arc that leaves at an end is there, and leads from a node that the search reached to an open one.
+fn crosses(graph: &Graph, flow: &[i64], predecessors: &[Predecessor], end: u32) -> bool
+    requires flow { IsPseudoflow (length predecessors.now) graph.now.rows flow.now }
+    requires end { end / 2 < length graph.now.rows }
+    ensures { IsTrue result ↔ Crosses graph.now.rows flow.now predecessors.now (end / 2) (end_way end) }
+{
+    let arc = leaving(end);
+    let start = graph.start(arc.arc as usize, arc.way);
+    let far = graph.end(arc.arc as usize, arc.way);
+    !predecessors[start].is_open && predecessors[far].is_open && graph.has_room(flow, arc)
+}
+
+/// The nearer of two residual arcs that cross, where there are two: the one at hand, and the one that leaves at an end.
+fn nearer(
+    graph: &Graph,
+    flow: &[i64],
+    potentials: &[i64],
+    predecessors: &[Predecessor],
+    nearest: Option<Crossing>,
+    end: u32,
+) -> Option<Crossing>
+    requires certified { IsReducedCostOptimal graph.now.rows flow.now potentials.now }
+    requires sized { length predecessors.now ≡ length potentials.now }
+    requires end { end / 2 < length graph.now.rows }
+    requires nearest { IsNearestOf graph.now.rows flow.now potentials.now predecessors.now end nearest }
+    ensures { IsNearestOf graph.now.rows flow.now potentials.now predecessors.now (end + 1) result }
+{
+    if !crosses(graph, flow, predecessors, end) {
+        return nearest;
+    }
+    let arc = leaving(end);
+    let cost = reduced_cost(&graph.row(arc.arc as usize), potentials, arc.way);
+    match nearest {
+        Some(crossing) if crossing.cost <= cost => nearest,
+        _ => Some(Crossing { end, cost }),
+    }
+}
+
+/// Of the residual arcs that lead from nodes that the search reached to open ones, one of the least reduced cost.
+pub(crate) fn nearest_crossing(
+    graph: &Graph,
+    flow: &[i64],
+    potentials: &[i64],
+    predecessors: &[Predecessor],
+) -> Option<Crossing>
+    requires certified { IsReducedCostOptimal graph.now.rows flow.now potentials.now }
+    requires sized { length predecessors.now ≡ length potentials.now }
+    ensures { IsNearestFound graph.now.rows flow.now potentials.now predecessors.now result }
+{
+    let mut nearest = None;
+    for end in 0..2 * graph.rows().len() {
+        nearest = nearer(graph, flow, potentials, predecessors, nearest, end as u32);
+    }
+    nearest
+}
+
+/// A potential less `fall` where the search reached its node, and with `rise` more where it is open.
+fn shifted(potential: i64, predecessor: Predecessor, fall: i64, rise: i64) -> i64
+    requires potential { (neg_ℤ (pos potential_floor) ≤ℤ potential) × (potential ≤ℤ pos 0) }
+    requires fall { (pos 0 ≤ℤ fall) × (fall ≤ℤ pos (potential_floor + cost_limit)) }
+    requires rise { (pos 0 ≤ℤ rise) × (rise ≤ℤ pos (potential_floor + cost_limit)) }
+    ensures { result ≡ shifted_by predecessor.is_open potential fall rise }
+{
+    if predecessor.is_open {
+        potential + rise
+    } else {
+        potential - fall
+    }
+}
+
+/// Lowers the potentials of the nodes that the search reached by `fall`, and raises those of open nodes by `rise`.
+pub(crate) fn shift_potentials(
+    potentials: &mut [i64],
+    predecessors: &[Predecessor],
+    fall: i64,
+    rise: i64,
 )
-    requires search { IsSearchOver residual node_labels.old }
-    requires last { IsLastSettled node_labels.old start }
-    requires end { IsEndAt residual.graph.now.rows start end }
-    requires residual { IsResidualArc residual (leaving end) }
-    requires distance { distance ≡ distance_along residual node_labels.old (leaving end) }
-    requires better { Takes (node_label_at node_labels.old end.other) distance }
-    ensures search { IsSearchOver residual.entry node_labels.new }
-    ensures improves { Improves node_labels.old node_labels.new }
-    ensures relaxed { IsRelaxedAlong residual.entry node_labels.new (leaving end) }
+    requires sized { length predecessors.now ≡ length potentials.old }
+    requires potentials { ArePotentials (length potentials.old) potential_floor potentials.old }
+    requires fall { (pos 0 ≤ℤ fall) × (fall ≤ℤ pos (potential_floor + cost_limit)) }
+    requires rise { (pos 0 ≤ℤ rise) × (rise ≤ℤ pos (potential_floor + cost_limit)) }
+    ensures { AreShifted potentials.old potentials.new predecessors.now fall rise }
 {
-    let arc = end.leaving();
-    let depth = node_labels[start].depth + 1;
-    node_labels[end.other] = NodeLabel {
-        state: State::Open,
-        distance,
-        depth,
-        arc: arc.arc,
-        way: arc.way,
-        bound: distance + residual.potentials[end.other],
+    for v in 0..potentials.len() {
+        potentials[v] = shifted(potentials[v], predecessors[v], fall, rise);
+    }
+}
+
+/// Comes to the open node to which the residual arc leads that leaves at an end, and gives that node.
+pub(crate) fn come_along(graph: &Graph, predecessors: &mut [Predecessor], end: u32) -> usize
+    requires flow { (x : List ℤ) × IsPseudoflow (length predecessors.old) graph.now.rows x }
+    requires end { end / 2 < length graph.now.rows }
+    requires low { rank_at predecessors.old (start_at graph.now.rows (end / 2) (end_way end)) < entry_limit }
+    ensures node { result ≡ end_at graph.now.rows (end / 2) (end_way end) }
+    ensures came { predecessors.new ≡ slice_set predecessors.old result (come_from graph.now.rows predecessors.old end) }
+{
+    let arc = leaving(end);
+    let start = graph.start(arc.arc as usize, arc.way);
+    let node = graph.end(arc.arc as usize, arc.way);
+    predecessors[node] = Predecessor {
+        end,
+        rank: predecessors[start].rank + 1,
+        is_open: false,
     };
+    node
 }
 
-/// Takes the residual arc that leads on from the node settled last at this end into account, where it is there.
-fn relax(residual: Residual<'_>, node_labels: &mut [NodeLabel], origin: Origin, end: End)
-    requires search { IsSearchOver residual node_labels.old }
-    requires last { IsLastSettled node_labels.old origin.node }
-    requires end { IsEndAt residual.graph.now.rows origin.node end }
-    requires priced { origin.priced ≡ priced_distance residual.potentials.now node_labels.old origin.node }
-    ensures search { IsSearchOver residual.entry node_labels.new }
-    ensures improves { Improves node_labels.old node_labels.new }
-    ensures relaxed { IsResidualArc residual.entry (leaving end) → IsRelaxedAlong residual.entry node_labels.new (leaving end) }
+/// Begins a search at the nodes in excess.
+fn begin_in_excess(excess: &[i64], predecessors: &mut [Predecessor])
+    requires sized { length predecessors.old ≡ length excess.now }
+    ensures from { IsFromExcess excess.now predecessors.new }
+    ensures flat { (v : ℕ) → rank_at predecessors.new v ≡ 0 }
 {
-    // Most ends lead to no better path, and then the bound alone is read: neither the potential, nor the arc and its flow,
-    // which are far away in memory.
-    let priced = priced_beyond(residual, origin.priced, end);
-    if !node_labels[end.other].takes(priced) {
-        return;
-    }
-    let distance = distance_beyond(residual, priced, end);
-    if residual.graph.has_room(residual.flow, end.leaving()) {
-        take_path(residual, node_labels, origin.node, distance, end);
-    }
-}
-
-/// Takes each residual arc from the node settled last into account.
-fn relax_all(residual: Residual<'_>, node_labels: &mut [NodeLabel], u: usize)
-    requires search { IsSearchOver residual node_labels.old }
-    requires last { IsLastSettled node_labels.old u }
-    ensures search { IsSearchOver residual.entry node_labels.new }
-    ensures improves { Improves node_labels.old node_labels.new }
-    ensures relaxed { IsRelaxedFromNode residual.entry node_labels.new u }
-{
-    let origin = Origin {
-        node: u,
-        priced: node_labels[u].distance + residual.potentials[u],
-    };
-    let mut walk = Walk::at(residual.graph, u as u32);
-    while let Some(end) = walk.next(residual.graph) {
-        relax(residual, node_labels, origin, end);
-    }
-}
-
-/// Settles an open node of the least distance.
-pub fn settle_node(residual: Residual<'_>, node_labels: &mut [NodeLabel], first: usize)
-    requires search { IsSearchOver residual node_labels.old }
-    requires least { IsLeastOpen node_labels.old (length node_labels.old) first }
-    requires relaxed { AllRelaxedOver residual node_labels.old }
-    ensures search { IsSearchOver residual.entry node_labels.new }
-    ensures relaxed { AllRelaxedOver residual.entry node_labels.new }
-    ensures settles { Settles node_labels.old node_labels.new first }
-{
-    node_labels[first].settle();
-    relax_all(residual, node_labels, first);
-}
-
-/// The nearer of two open nodes, where there are two: the one at hand, and node `v` if it is open.
-fn nearer(node_labels: &[NodeLabel], first: Option<usize>, v: usize) -> Option<usize>
-    requires node { v < length node_labels.now }
-    requires first { IsFirstOpen node_labels.now v first }
-    ensures { IsFirstOpen node_labels.now (v + 1) result }
-{
-    if !node_labels[v].is_open() {
-        return first;
-    }
-    match first {
-        Some(u) if node_labels[u].distance <= node_labels[v].distance => first,
-        _ => Some(v),
-    }
-}
-
-/// An open node of the least distance, where there is one. All nodes are looked at: few searches are made, and so none
-/// needs a heap.
-pub(crate) fn first_open(node_labels: &[NodeLabel]) -> Option<usize>
-    ensures { IsFirstOpen node_labels.now (length node_labels.now) result }
-{
-    let mut first = None;
-    for v in 0..node_labels.len() {
-        first = nearer(node_labels, first, v);
-    }
-    first
-}
-
-/// A source: a node that is open at distance 0.
-fn source(potentials: &[i64], v: usize) -> NodeLabel
-    requires potentials_in { ArePotentials (length potentials.now) potential_floor potentials.now }
-    requires v_in { v < length potentials.now }
-    ensures { result ≡ source_node_label (number_at potentials.now v) }
-{
-    NodeLabel {
-        state: State::Open,
-        distance: 0,
-        depth: 0,
-        arc: 0,
-        way: Way::Forward,
-        bound: potentials[v],
-    }
-}
-
-/// Opens the nodes in excess.
-fn open_sources(excess: &[i64], potentials: &[i64], node_labels: &mut [NodeLabel])
-    requires same_length { length node_labels.old ≡ length excess.now }
-    requires potentials_in { ArePotentials (length node_labels.old) potential_floor potentials.now }
-    requires fresh { IsFresh node_labels.old }
-    ensures opened { AreOpened excess.now potentials.now node_labels.new }
-{
-    for v in 0..node_labels.len() {
+    predecessors.fill(Predecessor::open());
+    for v in 0..predecessors.len() {
         if excess[v] > 0 {
-            node_labels[v] = source(potentials, v);
+            predecessors[v] = Predecessor::root();
         }
     }
 }
 
-/// Searches from the nodes in excess for the nearest node in deficit, and gives that node: it is open still, and the nodes
-/// that are nearer are settled. Nothing where no node in deficit can be reached, and then each node that is reached is
-/// settled.
+/// Searches from the nodes in excess for a node in deficit, and lowers the potentials of the nodes that it reaches until
+/// the residual arcs of the path to it cost nothing. Nothing where no node in deficit can be reached.
+#[inline(never)] // a name of its own in the program: `bench/count` counts its calls
 pub fn find_deficit(
-    residual: Residual<'_>,
+    graph: &Graph,
+    flow: &[i64],
     excess: &[i64],
-    node_labels: &mut [NodeLabel],
+    potentials: &mut [i64],
+    predecessors: &mut [Predecessor],
 ) -> Option<usize>
-    requires excess_in { length excess.now ≡ length residual.potentials.now }
-    requires node_labels_in { length node_labels.old ≡ length residual.potentials.now }
-    ensures searched { HasSearchedOver residual.entry excess.now node_labels.new }
-    ensures found { IsNearestFound excess.now node_labels.new result }
+    requires certified { IsReducedCostOptimal graph.now.rows flow.now potentials.old }
+    requires in_range { ArePotentials (length potentials.old) label_floor potentials.old }
+    requires excess_in { length excess.now ≡ length potentials.old }
+    requires sized { length predecessors.old ≡ length potentials.old }
+    ensures certified { IsReducedCostOptimal graph.now.rows flow.now potentials.new }
+    ensures found { IsDeficitFound graph.now.rows flow.now potentials.new excess.now predecessors.new result }
 {
-    clear_states(node_labels);
-    open_sources(excess, residual.potentials, node_labels);
-    while let Some(u) = first_open(node_labels) {
-        if excess[u] < 0 {
-            return Some(u);
+    begin_in_excess(excess, predecessors);
+    while let Some(crossing) = nearest_crossing(graph, flow, potentials, predecessors) {
+        shift_potentials(potentials, predecessors, crossing.cost, 0);
+        let node = come_along(graph, predecessors, crossing.end);
+        if excess[node] < 0 {
+            return Some(node);
         }
-        settle_node(residual, node_labels, u);
     }
     None
 }

@@ -311,7 +311,7 @@ impl Tree {
         // No label is below the node's potential.
         let least = residual.potentials[v as usize];
         let mut label = 0;
-        let mut predecessor = root();
+        let mut predecessor = Predecessor::open();
         let mut walk = Walk::at(residual.graph, v);
         while let Some(end) = walk.next(residual.graph) {
             if self.leads_below(residual, end, label) {
@@ -334,7 +334,7 @@ impl Tree {
         ensures { end.other < length self.now.labels }
     {
         self.labels[end.other].saturating_sub(end.cost) < label
-            && !self.predecessors[end.other].is_queued
+            && !self.predecessors[end.other].is_open
             && residual.graph.has_room(residual.flow, end.entering())
     }
 
@@ -376,9 +376,9 @@ impl Tree {
         let place = v as usize;
         let key = label.saturating_sub(residual.potentials[place]);
         self.labels[place] = label;
-        let is_queued = self.predecessors[place].is_queued;
+        let is_open = self.predecessors[place].is_open;
         self.predecessors[place] = predecessor;
-        if is_queued {
+        if is_open {
             self.heap.lower(place, key);
         } else {
             self.queue(v, key);
@@ -431,7 +431,7 @@ impl Tree {
         if u as usize >= self.labels.len() {
             return;
         }
-        self.predecessors[u as usize].is_queued = false;
+        self.predecessors[u as usize].is_open = false;
         let mut walk = Walk::at(residual.graph, u);
         while let Some(end) = walk.next(residual.graph) {
             self.improve_beyond(residual, u, end);
@@ -484,21 +484,12 @@ fn end_of(arc: ResidualArc) -> u32 {
     }
 }
 
-/// A node with label 0.
-fn root() -> Predecessor {
-    Predecessor {
-        end: 0,
-        rank: 0,
-        is_queued: true,
-    }
-}
-
 /// A queued node whose predecessor has this rank; the residual arc to it leaves at this end.
 fn after(end: u32, rank: u32) -> Predecessor {
     Predecessor {
         end,
         rank: rank.saturating_add(1),
-        is_queued: true,
+        is_open: true,
     }
 }
 
@@ -514,6 +505,6 @@ fn fill(
     labels.clear();
     predecessors.clear();
     labels.resize(entries, 0)?;
-    predecessors.resize(entries, root())?;
+    predecessors.resize(entries, Predecessor::open())?;
     Ok(())
 }

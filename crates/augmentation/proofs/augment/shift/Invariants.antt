@@ -1,6 +1,6 @@
 use Rattle.std.proofs.Common.{◌≡◌, List}
 use Rattle.residual_graph.specs.declared.residual.ResidualArc.{ResidualArc}
-use Rattle.shortest_paths.specs.Search.{depth_at}
+use Rattle.shortest_paths.specs.Predecessor.{rank_at}
 use Rattle.augmentation.specs.Push.{hops_before, path_to, push_along}
 use Rattle.augmentation.specs.Tracked.{IsWritten}
 use Rattle.augmentation.proofs.PathLemmas.{IsOnward}
@@ -9,9 +9,9 @@ use Rattle.augmentation.proofs.augment.shift.Given as goal
 abbrev pub invariant-loop-node : goal.invariant-loop-node
 invariant-loop-node l = record {
   written : IsWritten l.initial.flow l.flow;
-  hops : (hops : List ResidualArc) × (hops_before l.graph.rows l.node_labels (depth_at l.node_labels l.node) l.node hops ≡ path_to l.graph.rows l.node_labels l.target)
-      × IsOnward l.graph.rows l.node_labels l.target l.node hops × (l.flow.entries ≡ push_along hops l.amount l.initial.flow.entries);
+  hops : (hops : List ResidualArc) × (hops_before l.graph.rows l.predecessors (rank_at l.predecessors l.node) l.node hops ≡ path_to l.graph.rows l.predecessors l.target)
+      × IsOnward l.graph.rows l.predecessors l.target l.node hops × (l.flow.entries ≡ push_along hops l.amount l.initial.flow.entries);
 }
 
 abbrev pub decreases-loop-node : goal.decreases-loop-node
-decreases-loop-node l = depth_at l.node_labels l.node
+decreases-loop-node l = rank_at l.predecessors l.node

@@ -1,14 +1,12 @@
-use Rattle.augmentation.specs.Pseudoflow.{IsCertifiedPseudoflow}
+use Rattle.augmentation.specs.Pseudoflow.{IsReady}
 use Rattle.augmentation.specs.Push.{ArePushes, left}
-use Rattle.augmentation.specs.Settle.{HaveFallen}
 use Rattle.augmentation.specs.Tracked.{IsWritten}
 use Rattle.augmentation.proofs.rounds.finish.Given as goal
 
 abbrev pub invariant-loop-target : goal.invariant-loop-target
 invariant-loop-target l = record {
   flow_written : IsWritten l.initial.flow l.flow;
-  state : IsCertifiedPseudoflow l.graph l.flow.entries l.scratch.potentials l.excess;
-  fallen : HaveFallen l.scratch.potentials l.excess;
+  ready : IsReady l.graph l.flow.entries l.scratch.potentials l.excess;
   pushed : ArePushes l.graph.rows l.pushes l.initial.flow.entries l.initial.excess l.flow.entries l.excess;
 }
 

@@ -1,12 +1,11 @@
-use Rattle.std.proofs.Common.{◌∙◌, ℕ, ℤ, List, length, sym, subst, MatchOption, Some, None}
+use Rattle.std.proofs.Common.{◌∙◌, ℕ, ℤ, List, sym, subst, MatchOption, Some, None}
 use Rattle.std.specs.Prelude.{Option}
 use Rattle.std.specs.Vec.{with_items}
 use Rattle.std.proofs.lemmas.Bool.{false≢true}
 use Rattle.std.proofs.lemmas.List.{with_items_is}
-use Rattle.shortest_paths.specs.declared.node_label.NodeLabel.{NodeLabel}
-use Rattle.shortest_paths.specs.Search.{HasSearched, IsNearestDeficit, NoneOpen}
+use Rattle.shortest_paths.specs.declared.predecessor.Predecessor.{Predecessor}
+use Rattle.shortest_paths.specs.Search.{HasFound, IsExhausted}
 use Rattle.augmentation.specs.Cut.{IsParted}
-use Rattle.augmentation.specs.Settle.{HasFound}
 use Rattle.augmentation.proofs.CutLemmas.{parted_exhausted, parted_unless_both}
 use Rattle.augmentation.proofs.rounds.search_on.Goals as goal
 use Rattle.augmentation.proofs.rounds.search_on.Goals.{After-find_deficit}
@@ -14,26 +13,24 @@ use Rattle.augmentation.proofs.rounds.search_on.Goals.{After-find_deficit}
 pub returns-then-not-has_both-clause-found : goal.returns-then-not-has_both-clause-found
 returns-then-not-has_both-clause-found c =
     parted_unless_both c.args.graph.now.rows c.args.flow.now.entries c.args.excess.now
-    (rw c.requires.state.excess_in c.requires.state.certified.flow) (λ both. false≢true (sym c.if-not-has_both.true ∙ c.has_both.ensures.1 both))
+    (rw c.requires.ready.state.excess_in c.requires.ready.state.certified.flow) (λ both. false≢true (sym c.if-not-has_both.true ∙ c.has_both.ensures.1 both))
 
-pub returns-then-is_parted-clause-found : goal.returns-then-is_parted-clause-found
-returns-then-is_parted-clause-found c =
-    subst (λ (x : List ℤ). IsParted c.args.graph.now.rows x c.args.excess.now) c.entries.ensures (c.is_parted.ensures c.if-is_parted.true)
-
-searched : (c : After-find_deficit) → HasSearched c.args.graph.now.rows c.args.flow.now.entries c.scratch.inside.potentials.items c.args.excess.now c.find_deficit.new.node_labels
-searched c =
+by_result : (c : After-find_deficit) (found : Option ℕ) → MatchOption found (IsExhausted c.args.graph.now.rows c.entries-2.result.now c.entries-3.result.now c.find_deficit.new.predecessors) (HasFound c.args.graph.now.rows c.entries-2.result.now c.find_deficit.new.potentials c.entries-3.result.now c.find_deficit.new.predecessors)
+    → MatchOption found (IsParted c.args.graph.now.rows c.args.flow.now.entries c.args.excess.now) (HasFound c.args.graph.now.rows c.args.flow.now.entries (with_items c.scratch.inside.potentials c.find_deficit.new.potentials).items c.args.excess.now (with_items c.scratch.inside.predecessors c.find_deficit.new.predecessors).items)
+by_result c None done =
     let rows = c.args.graph.now.rows in
-    let s = c.find_deficit.new.node_labels in
-    subst (λ (x : List ℤ). HasSearched rows x c.scratch.inside.potentials.items c.args.excess.now s) c.entries-2.ensures
-    (subst (λ (p : List ℤ). HasSearched rows c.entries-2.result.now p c.args.excess.now s) c.deref.ensures.value
-    (subst (λ (e : List ℤ). HasSearched rows c.entries-2.result.now c.deref.result.now e s) c.entries-3.ensures c.find_deficit.ensures.searched))
-
-by_result : (c : After-find_deficit) (found : Option ℕ) → MatchOption found (NoneOpen c.find_deficit.new.node_labels (length c.find_deficit.new.node_labels)) (IsNearestDeficit c.entries-3.result.now c.find_deficit.new.node_labels)
-    → MatchOption found (IsParted c.args.graph.now.rows c.args.flow.now.entries c.args.excess.now) (HasFound c.args.graph.now.rows c.args.flow.now.entries c.scratch.inside.potentials.items c.args.excess.now (with_items c.scratch.inside.node_labels c.find_deficit.new.node_labels).items)
-by_result c None done = parted_exhausted c.args.graph.now.rows c.args.flow.now.entries c.scratch.inside.potentials.items c.args.excess.now c.find_deficit.new.node_labels (searched c) done
+    let s = c.find_deficit.new.predecessors in
+    parted_exhausted rows c.args.flow.now.entries c.args.excess.now s (rw c.requires.ready.state.excess_in c.requires.ready.state.certified.flow)
+    (subst (λ (x : List ℤ). IsExhausted rows x c.args.excess.now s) c.entries-2.ensures
+    (subst (λ (e : List ℤ). IsExhausted rows c.entries-2.result.now e s) c.entries-3.ensures done))
 by_result c (Some t) found =
-    subst (λ (s : List NodeLabel). HasFound c.args.graph.now.rows c.args.flow.now.entries c.scratch.inside.potentials.items c.args.excess.now s t) (sym (with_items_is c.scratch.inside.node_labels c.find_deficit.new.node_labels (c.find_deficit.auto.node_labels ∙ c.deref_mut-3.ensures.len)))
-    (record { searched = searched c; found = subst (λ (e : List ℤ). IsNearestDeficit e c.find_deficit.new.node_labels t) c.entries-3.ensures found })
+    let rows = c.args.graph.now.rows in
+    let q = c.find_deficit.new.potentials in
+    let s = c.find_deficit.new.predecessors in
+    subst (λ (p : List ℤ). HasFound rows c.args.flow.now.entries p c.args.excess.now (with_items c.scratch.inside.predecessors s).items t) (sym (with_items_is c.scratch.inside.potentials q (c.find_deficit.auto.potentials ∙ c.deref_mut-3.ensures.len)))
+    (subst (λ (r : List Predecessor). HasFound rows c.args.flow.now.entries q c.args.excess.now r t) (sym (with_items_is c.scratch.inside.predecessors s (c.find_deficit.auto.predecessors ∙ c.deref_mut-4.ensures.len)))
+    (subst (λ (x : List ℤ). HasFound rows x q c.args.excess.now s t) c.entries-2.ensures
+    (subst (λ (e : List ℤ). HasFound rows c.entries-2.result.now q e s t) c.entries-3.ensures found)))
 
 pub returns-clause-found : goal.returns-clause-found
 returns-clause-found c = by_result (goal.at.returns-clause-found c).After-find_deficit c.find_deficit.result c.find_deficit.ensures.found

@@ -1,13 +1,13 @@
-use Rattle.shortest_paths.specs.Over.{AllRelaxedOver, IsSearchOver}
-use Rattle.shortest_paths.specs.Search.{IsFromAll, unsettled}
+use Rattle.residual_graph.specs.Residual.{IsReducedCostOptimal}
+use Rattle.shortest_paths.specs.Search.{AreRaised, IsSearch, open_count}
 use Rattle.shortest_paths.proofs.labels.search_labels.Given as goal
 
-abbrev pub invariant-loop-u : goal.invariant-loop-u
-invariant-loop-u l = record {
-  known : IsSearchOver l.residual l.node_labels;
-  relaxed : AllRelaxedOver l.residual l.node_labels;
-  from_all : IsFromAll l.residual.potentials.now l.node_labels;
+abbrev pub invariant-loop-root : goal.invariant-loop-root
+invariant-loop-root l = record {
+  certified : IsReducedCostOptimal l.graph.rows l.flow l.potentials;
+  search : IsSearch l.graph.rows l.flow l.potentials l.predecessors;
+  raised : AreRaised l.potentials l.predecessors;
 }
 
-abbrev pub decreases-loop-u : goal.decreases-loop-u
-decreases-loop-u l = unsettled l.node_labels
+abbrev pub decreases-loop-root : goal.decreases-loop-root
+decreases-loop-root l = open_count l.predecessors

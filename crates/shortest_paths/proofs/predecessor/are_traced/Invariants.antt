@@ -1,5 +1,5 @@
 use Rattle.std.proofs.Common.{ℕ, ◌<◌}
-use Rattle.shortest_paths.specs.Tree.{IsTracedAt}
+use Rattle.shortest_paths.specs.Predecessor.{IsTracedAt}
 use Rattle.shortest_paths.proofs.predecessor.are_traced.Given as goal
 
 abbrev pub invariant-loop-v : goal.invariant-loop-v
