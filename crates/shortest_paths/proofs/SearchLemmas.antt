@@ -1,6 +1,6 @@
 -- How searches between potentials go on: potentials are shifted, and a node is come to.
-use Rattle.std.proofs.Common.{◌≡◌, ◌∙◌, ℕ, ◌+◌, ◌*◌, ◌/◌, ◌%◌, ◌<◌, ◌≤◌, ◌⊎◌, ℤ, pos, neg_ℤ, ◌-ℤ◌, ◌+ℤ◌, ◌≤ℤ◌, List, length, refl, sym, ap, subst, inl, inr, arith, cond, slice_set}
-use Rattle.std.specs.Prelude.{◌<ℤ◌, ◌==◌, if◌then◌else◌, Bool, true, false, Option, Some, None, MatchOption}
+use Rattle.std.proofs.Common.{◌≡◌, ◌∙◌, ℕ, ◌+◌, ◌*◌, ◌/◌, ◌%◌, ◌<◌, ◌≤◌, ◌⊎◌, ℤ, pos, neg_ℤ, ◌+ℤ◌, ◌≤ℤ◌, List, length, refl, sym, ap, subst, inl, inr, arith, cond, slice_set}
+use Rattle.std.specs.Prelude.{Bool, true, false, Option, Some, None, MatchOption}
 use Rattle.std.proofs.lemmas.Int.{ints}
 use Rattle.std.proofs.lemmas.Bool.{cases_eq, cases_lt, false≢true}
 use Rattle.std.proofs.lemmas.List.{get_or-set_same, get_or-set_other, get_or_past, length-set}
@@ -8,15 +8,14 @@ use Rattle.std.proofs.lemmas.List.Sums.{count_by-le-length, sum_by-set}
 use Rattle.dimacs_text.specs.declared.problem.ArcRow.{ArcRow}
 use Rattle.residual_graph.specs.declared.residual.Way.{Way}
 use Rattle.residual_graph.specs.declared.residual.Way.TheVariants.{Forward, Backward}
-use Rattle.residual_graph.specs.Limits.{cost_limit, entry_limit, potential_floor}
-use Rattle.residual_graph.specs.Residual.{ArePotentials, IsReducedCostOptimal, IsResidual, NoneBelow, cost_at, end_at, number_at, row_at, start_at}
+use Rattle.residual_graph.specs.Limits.{potential_floor}
+use Rattle.residual_graph.specs.Residual.{IsReducedCostOptimal, NoneBelow, end_at, number_at, row_at, start_at}
 use Rattle.residual_graph.specs.Walk.{end_way}
-use Rattle.residual_graph.proofs.RowLemmas.{cost_of-bounds, end_of-in, start_of-in}
-use Rattle.shortest_paths.specs.Limits.{label_floor}
+use Rattle.residual_graph.proofs.RowLemmas.{end_of-in, start_of-in}
 use Rattle.shortest_paths.specs.declared.predecessor.Predecessor.{Predecessor}
 use Rattle.shortest_paths.specs.declared.search.Crossing.{Crossing}
-use Rattle.shortest_paths.specs.Predecessor.{IsTracedAt, arc_to, open_node, predecessor_at, rank_at, reduced_at, root_node, way_to}
-use Rattle.shortest_paths.specs.Search.{AreRaised, AreShifted, AreTight, Crosses, HaveFallen, HavePaths, IsCameBy, IsFromExcess, IsNearest, IsNearestBelow, IsNearestOf, IsOpen, IsReached, IsSearch, NoneCrosses, open_count}
+use Rattle.shortest_paths.specs.Predecessor.{arc_to, open_node, predecessor_at, reduced_at, root_node, way_to}
+use Rattle.shortest_paths.specs.Search.{AreShifted, Crosses, IsCameBy, IsNearest, IsNearestBelow, IsNearestOf, IsOpen, IsReached, IsSearch, NoneCrosses, open_count}
 
 pub open_or_reached : (t : List Predecessor) (v : ℕ) → v < length t → IsOpen t v ⊎ IsReached t v
 open_or_reached t v lt = either (predecessor_at t v).is_open refl

@@ -1,5 +1,5 @@
 -- One step of a search between potentials, and what stands at its beginning and at its end.
-use Rattle.std.proofs.Common.{◌≡◌, ◌∙◌, ℕ, ◌+◌, ◌*◌, ◌/◌, ◌<◌, ◌≤◌, ◌⊎◌, ℤ, pos, neg_ℤ, ◌-ℤ◌, ◌+ℤ◌, ◌≤ℤ◌, List, length, refl, sym, ap, subst, inl, inr, arith, slice_set}
+use Rattle.std.proofs.Common.{◌≡◌, ◌∙◌, ℕ, ◌+◌, ◌*◌, ◌/◌, ◌<◌, ◌≤◌, ℤ, pos, neg_ℤ, ◌-ℤ◌, ◌+ℤ◌, ◌≤ℤ◌, List, length, refl, sym, ap, inl, inr, arith, slice_set}
 use Rattle.std.specs.Prelude.{◌<ℤ◌, false}
 use Rattle.std.proofs.lemmas.Int.{ints}
 use Rattle.std.proofs.lemmas.Bool.{cases_lt}
@@ -14,7 +14,7 @@ use Rattle.residual_graph.proofs.RowLemmas.{cost_of-bounds}
 use Rattle.shortest_paths.specs.Limits.{label_floor}
 use Rattle.shortest_paths.specs.declared.predecessor.Predecessor.{Predecessor}
 use Rattle.shortest_paths.specs.declared.search.Crossing.{Crossing}
-use Rattle.shortest_paths.specs.Predecessor.{IsTracedAt, arc_to, predecessor_at, rank_at, reduced_at, root_node, way_to}
+use Rattle.shortest_paths.specs.Predecessor.{IsTracedAt, rank_at, reduced_at, root_node}
 use Rattle.shortest_paths.specs.Search.{AreRaised, AreShifted, Crosses, HasFound, HaveFallen, IsFromExcess, IsNearest, IsOpen, IsReached, IsSearch, open_count}
 use Rattle.shortest_paths.proofs.LabelLemmas.{greatest_of}
 use Rattle.shortest_paths.proofs.SearchLemmas.{all_reached, certified_shifted, changed_by, is_there, none_below_shifted, one_less, one_reached, open_before, open_in, open_or_reached, same_as_before, search_on, search_shifted, still_reached}

@@ -1,8 +1,8 @@
-use Rattle.std.proofs.Common.{◌≡◌, ℕ, ◌<◌, ◌≤◌, pos}
+use Rattle.std.proofs.Common.{◌≡◌, ℕ, ◌<◌, pos}
 use Rattle.std.specs.Prelude.{◌<ℤ◌}
 use Rattle.residual_graph.specs.Residual.{number_at}
 use Rattle.shortest_paths.specs.Predecessor.{rank_at}
-use Rattle.shortest_paths.specs.Search.{IsOpen, IsReached}
+use Rattle.shortest_paths.specs.Search.{IsReached}
 use Rattle.shortest_paths.proofs.search.begin_in_excess.Given as goal
 
 abbrev pub invariant-loop-v : goal.invariant-loop-v

@@ -1,4 +1,4 @@
-use Rattle.std.proofs.Common.{◌≡◌, ◌∙◌, ◌+◌, ◌/◌, ◌<◌, ◌-ℤ◌, ◌+ℤ◌, ◌≤ℤ◌, ℕ, ℤ, List, pos, length, ap, arith, refl, rules, slice_set, subst, sym, w64, to_z, of_z, SFits}
+use Rattle.std.proofs.Common.{◌≡◌, ◌∙◌, ◌+◌, ◌/◌, ◌≤ℤ◌, ℕ, ℤ, List, pos, ap, arith, rules, slice_set, subst, sym, w64, SFits}
 use Rattle.std.specs.Prelude.{◌<ℤ◌, false}
 use Rattle.std.proofs.lemmas.Int.{ints, to_z-of_z}
 use Rattle.residual_graph.specs.Residual.{IsReducedCostOptimal, end_at, number_at, start_at}
@@ -6,7 +6,7 @@ use Rattle.residual_graph.specs.Walk.{end_way}
 use Rattle.shortest_paths.specs.declared.predecessor.Predecessor.{Predecessor}
 use Rattle.shortest_paths.specs.Predecessor.{rank_at}
 use Rattle.shortest_paths.specs.Search.{AreShifted, HaveFallen, HasFound, IsFromExcess, IsSearch}
-use Rattle.shortest_paths.proofs.StepLemmas.{certified_fallen, cost_in, fallen_after, found_after, from_after, rank_fits, search_after, search_first}
+use Rattle.shortest_paths.proofs.StepLemmas.{certified_fallen, cost_in, fallen_after, found_after, from_after, search_after, search_first}
 use Rattle.shortest_paths.proofs.search.find_deficit.Goals as goal
 use Rattle.shortest_paths.proofs.search.find_deficit.Goals.{After-come_along-node}
 

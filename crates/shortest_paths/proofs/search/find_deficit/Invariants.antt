@@ -1,4 +1,3 @@
-use Rattle.std.proofs.Common.{◌≡◌, length}
 use Rattle.residual_graph.specs.Residual.{IsReducedCostOptimal}
 use Rattle.shortest_paths.specs.Search.{HaveFallen, IsFromExcess, IsSearch, open_count}
 use Rattle.shortest_paths.proofs.search.find_deficit.Given as goal

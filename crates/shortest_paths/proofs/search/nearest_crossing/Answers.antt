@@ -1,4 +1,4 @@
-use Rattle.std.proofs.Common.{◌≡◌, ◌*◌, ℕ, length, arith, rules, subst}
+use Rattle.std.proofs.Common.{◌≡◌, ◌*◌, ℕ, length, rules, subst}
 use Rattle.shortest_paths.specs.Search.{IsNearestOf}
 use Rattle.shortest_paths.proofs.SearchLemmas.{nearest_of_all}
 use Rattle.shortest_paths.proofs.search.nearest_crossing.Goals as goal
