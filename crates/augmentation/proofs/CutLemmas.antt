@@ -1,5 +1,5 @@
 -- Sums over sets of nodes, which set has the greatest surplus, and the list of marked nodes by which a set grows.
-use Rattle.std.proofs.Common.{◌≡◌, ℕ, zero, suc, ◌+◌, ◌<◌, ℤ, pos, negsuc, neg_ℤ, ◌-ℤ◌, ◌+ℤ◌, ◌≤ℤ◌, List, [], ◌∷◌, length, map, replicate, refl, sym, ap, subst, ◌∙◌, inl, inr, arith, Bool, true, false, cond, not, ◌&&◌}
+use Rattle.std.proofs.Common.{◌≡◌, ℕ, zero, suc, ◌+◌, ◌<◌, ℤ, pos, negsuc, neg_ℤ, ◌-ℤ◌, ◌+ℤ◌, ◌≤ℤ◌, List, [], ◌∷◌, length, map, replicate, refl, sym, ap, subst, ◌∙◌, inl, inr, arith, Bool, true, false, cond, not, ◌&&◌, None}
 use Rattle.std.specs.Prelude.{◌<ℤ◌, slice_set}
 use Rattle.std.proofs.lemmas.Int.{ints, by_lt_z}
 use Rattle.std.proofs.lemmas.Bool.{cases_eq, cases_lt, false≢true, true≢false, true_from_ne_false, false_from_ne_true}
@@ -11,24 +11,21 @@ use Rattle.std.proofs.Math.Bool.{beq}
 use Rattle.dimacs_text.specs.declared.problem.ArcRow.{ArcRow}
 use Rattle.residual_graph.specs.declared.residual.Way.{Way}
 use Rattle.residual_graph.specs.declared.residual.Way.TheVariants.{Forward, Backward}
-use Rattle.residual_graph.specs.Residual.{IsPseudoflow, IsRow, IsWithinRow, number_at, row_at, start_of, end_of, start_at, end_at, other_way, room_of, IsResidual}
+use Rattle.residual_graph.specs.Residual.{IsPseudoflow, IsRow, IsWithinRow, number_at, row_at, start_of, end_of, start_at, end_at, room_of, IsResidual}
 use Rattle.network.specs.Flow.{net, outflow, inflow}
 use Rattle.residual_graph.specs.declared.graph.Graph.{Graph}
-use Rattle.residual_graph.specs.declared.walk.End.{End}
-use Rattle.residual_graph.specs.declared.walk.Walk.{Walk}
-use Rattle.residual_graph.specs.Ends.{AllToCome, IsEndAt, IsNextToCome, NothingToCome, leaving}
-use Rattle.residual_graph.proofs.EndLemmas.{AllHaveOrCome, all_come, all_ends_met, all_entering, one_end_more, starts_other}
+use Rattle.residual_graph.specs.Walk.{HasCome}
+use Rattle.residual_graph.proofs.RowLemmas.{end_of-in, start_of-in}
 use Rattle.residual_graph.specs.declared.side.Side.{Side}
 use Rattle.residual_graph.specs.declared.side.Side.TheVariants.{Ahead, Behind}
 use Rattle.augmentation.specs.Push.{IsExcess, at_node, positive_part, left}
 use Rattle.augmentation.proofs.PushLemmas.{at_same, at_other}
-use Rattle.residual_graph.proofs.RowLemmas.{end_of-in}
 use Rattle.shortest_paths.specs.declared.predecessor.Predecessor.{Predecessor}
 use Rattle.shortest_paths.specs.Predecessor.{predecessor_at}
 use Rattle.shortest_paths.specs.Search.{IsExhausted, IsReached}
 use Rattle.shortest_paths.proofs.SearchLemmas.{open_or_reached}
-use Rattle.augmentation.specs.Cut.{in_set, sum_in, sum_leaving, sum_entering, surplus, shortfall, IsLeastSet, amount, near_at, far_at, IsClosed, HoldsRoots, IsSide, IsParted, IsChosenSet, IsListOf, IsGrown, lack}
-use Rattle.residual_graph.specs.Side.{IsRoot, leading}
+use Rattle.augmentation.specs.Cut.{in_set, sum_in, sum_leaving, sum_entering, surplus, shortfall, IsLeastSet, amount, near_at, near_of, far_at, far_of, IsFarIn, IsClosed, HoldsRoots, IsSide, IsParted, IsChosenSet, IsListOf, IsGrown, lack}
+use Rattle.residual_graph.specs.Side.{IsRoot}
 use Rattle.shortest_paths.specs.NodeLists.{node_at, IsListed}
 use Rattle.augmentation.proofs.TurnedRows.{turned_row, row_at-turned, start_at-turned, end_at-turned, residual-turned, residual-unturned, outflow-turned, inflow-turned, number_at-neg, left-neg}
 
@@ -458,43 +455,23 @@ IsGrown-trans one two = record {
   same_before = λ j lt. two.same_before j (omega (arith, lt, one.no_shorter)) ∙ one.same_before j lt;
 }
 
--- the residual arc that leads on from node v at an end, and the node to which it leads
-pub record IsLeadingAt (side : Side) (arcs : List ArcRow) (v : ℕ) (end : End) : Type 0 where
-  pub is_arc : (leading side end).arc < length arcs
-  pub near : near_at side arcs (leading side end).arc (leading side end).way ≡ v
-  pub far : far_at side arcs (leading side end).arc (leading side end).way ≡ end.other
+pub near_of-in : (side : Side) (nodes : ℕ) (a : ArcRow) (way : Way) → IsRow nodes a → near_of side a way < nodes
+near_of-in Ahead nodes a way row = start_of-in nodes a way row
+near_of-in Behind nodes a way row = end_of-in nodes a way row
 
-ends_other : (arcs : List ArcRow) (k : ℕ) (way : Way) → end_at arcs k (other_way way) ≡ start_at arcs k way
-ends_other arcs k Forward = refl
-ends_other arcs k Backward = refl
+pub far_of-in : (side : Side) (nodes : ℕ) (a : ArcRow) (way : Way) → IsRow nodes a → far_of side a way < nodes
+far_of-in Ahead nodes a way row = end_of-in nodes a way row
+far_of-in Behind nodes a way row = start_of-in nodes a way row
 
-pub leading_at : (side : Side) (arcs : List ArcRow) (v : ℕ) (end : End) → IsEndAt arcs v end → IsLeadingAt side arcs v end
-leading_at Ahead arcs v end at = record { is_arc = at.is_arc; near = at.starts; far = at.ends }
-leading_at Behind arcs v end at = record {
-  is_arc = at.is_arc;
-  near = ends_other arcs (leaving end).arc (leaving end).way ∙ at.starts;
-  far = starts_other arcs (leaving end).arc (leaving end).way ∙ at.ends;
-}
+-- each residual arc along an arc that leads on from node v has its far node in the set
+abbrev pub AreFarInAt : Side → List ArcRow → List ℤ → List Bool → ℕ → ℕ → Type 0
+AreFarInAt side arcs x set v k = (way : Way) → near_at side arcs k way ≡ v → IsFarIn side arcs x set k way
 
--- each residual arc that leads on from the node has this property, or is to come
-abbrev pub AllLedOrCome : Side → Graph → Walk → ℕ → (ℕ → Way → Type 0) → Type 0
-AllLedOrCome Ahead g w v P = AllHaveOrCome g w v P
-AllLedOrCome Behind g w v P = AllHaveOrCome g w v (λ k way. P k (other_way way))
-
-pub all_led_to_come : (side : Side) (g : Graph) (w : Walk) (v : ℕ) (P : ℕ → Way → Type 0) → AllToCome g w → w.node ≡ v → AllLedOrCome side g w v P
-all_led_to_come Ahead g w v P all node = all_come g w v P all node
-all_led_to_come Behind g w v P all node = all_come g w v (λ k way. P k (other_way way)) all node
-
-pub one_led_more : (side : Side) (g : Graph) (w w' : Walk) (v : ℕ) (end : End) (P Q : ℕ → Way → Type 0) → AllLedOrCome side g w v P → IsNextToCome g w w' end → ((k : ℕ) (way : Way) → P k way → Q k way)
-    → Q (leading side end).arc (leading side end).way → AllLedOrCome side g w' v Q
-one_led_more Ahead g w w' v end P Q done rest kept here = one_end_more g w w' v end P Q done rest kept here
-one_led_more Behind g w w' v end P Q done rest kept here =
-    one_end_more g w w' v end (λ k way. P k (other_way way)) (λ k way. Q k (other_way way)) done rest (λ k way has. kept k (other_way way) has) here
-
-pub all_led_met : (side : Side) (g : Graph) (w : Walk) (v : ℕ) (P : ℕ → Way → Type 0) → AllLedOrCome side g w v P → NothingToCome g w
-    → (k : ℕ) (way : Way) → k < length g.rows → near_at side g.rows k way ≡ v → P k way
-all_led_met Ahead g w v P done nothing k way lt near = all_ends_met g w v P done nothing k way lt near
-all_led_met Behind g w v P done nothing k way lt near = all_entering g w v P done nothing k way lt near
+-- a walk that came to each arc at the node came to each from which a residual arc leads on
+pub far_all : (side : Side) (g : Graph) (x : List ℤ) (set : List Bool) (v : ℕ) → HasCome g v None (AreFarInAt side g.rows x set v) → (k : ℕ) (way : Way) → near_at side g.rows k way ≡ v → IsFarIn side g.rows x set k way
+far_all Ahead g x set v come k way near residual = come.passed k way residual.is_arc near tt way near residual
+far_all Behind g x set v come k Forward near residual = come.passed k Backward residual.is_arc near tt Forward near residual
+far_all Behind g x set v come k Backward near residual = come.passed k Forward residual.is_arc near tt Backward near residual
 
 -- the node to which a residual arc leads on is marked
 pub IsGrown-put : (side : Side) (arcs : List ArcRow) (x : List ℤ) (set : List Bool) (list : List ℕ) (len v k : ℕ) (way : Way) → IsListOf set list len → IsResidual arcs x k way → in_set set (near_at side arcs k way) ≡ true

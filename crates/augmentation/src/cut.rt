@@ -4,16 +4,18 @@ ghost use Rattle.std.specs.Prelude.{◌≡◌, ℕ, length, ◌<◌, ◌≤◌, 
 ghost use Rattle.residual_graph.specs.Limits.{entry_limit};
 ghost use Rattle.residual_graph.specs.Residual.{IsPseudoflow, number_at};
 ghost use Rattle.residual_graph.specs.Graph.{HasEntries};
-ghost use Rattle.augmentation.specs.Cut.{in_set, IsParted, IsSide, IsListOf, IsGrown, AreFarIn};
+ghost use Rattle.augmentation.specs.Cut.{in_set, IsParted, IsSide, IsListOf, IsGrown, IsFarIn, AreFarIn, near_at, near_of, far_of};
 ghost use Rattle.augmentation.specs.Push.{left};
-ghost use Rattle.residual_graph.specs.Side.{IsRoot, leading};
+ghost use Rattle.residual_graph.specs.Side.{IsRoot};
+ghost use Rattle.residual_graph.specs.declared.residual.Way.{Way};
 ghost use Rattle.residual_graph.specs.declared.side.Side.TheVariants.{Ahead, Behind};
 ghost use Rattle.augmentation.specs.Tracked.{IsWritten};
 
 use crate::excess::Excess;
 use crate::scratch::Scratch;
 use crate::tracked::Tracked;
-use residual_graph::{Graph, Side, Walk};
+use dimacs_text::ArcRow;
+use residual_graph::{Graph, ResidualArc, Side, Way};
 
 /// What leads on from the marked nodes of a side.
 #[derive(Clone, Copy)]
@@ -150,18 +152,78 @@ fn mark_from(on: OnSide<'_>, cut: &mut [bool], worklist: &mut [u32], len: usize,
     ensures far { AreFarIn on.entry.side on.entry.graph.now.rows on.entry.flow.now cut.new node }
 {
     let mut longer = len;
-    let mut walk = Walk::at(on.graph, node);
-    while let Some(end) = walk.next(on.graph) {
-        let far = end.other;
-        // Most nodes are marked already: neither the arc nor its flow is read.
-        if cut[far] {
-            continue;
-        }
-        if on.graph.has_room(on.flow, on.side.leading(end)) {
-            longer = mark(cut, worklist, longer, far);
-        }
+    let mut current = on.graph.first_end(node);
+    while let Some(end) = current {
+        longer = mark_over(on, cut, worklist, longer, end / 2);
+        current = on.graph.next_end(end);
     }
     longer
+}
+
+/// Marks the node at an arc to which a residual arc leads on from a marked one, and gives the length of the worklist.
+fn mark_over(on: OnSide<'_>, cut: &mut [bool], worklist: &mut [u32], len: usize, arc: u32) -> usize
+    requires flow { IsPseudoflow (length cut.old) on.graph.now.rows on.flow.now }
+    requires worklist { IsListOf cut.old worklist.old len }
+    requires arc { arc < length on.graph.now.rows }
+    ensures worklist { IsListOf cut.new worklist.new result }
+    ensures grown { IsGrown on.entry.side on.entry.graph.now.rows on.entry.flow.now cut.old worklist.old len cut.new worklist.new result }
+    ensures far { (way : Way) → in_set cut.old (near_at on.entry.side on.entry.graph.now.rows arc way) ≡ true → IsFarIn on.entry.side on.entry.graph.now.rows on.entry.flow.now cut.new arc way }
+{
+    let row = on.graph.row(arc as usize);
+    // Most nodes are marked already: the flow is not read.
+    if cut[row.tail as usize] && cut[row.head as usize] {
+        return len;
+    }
+    let longer = mark_by(on, cut, worklist, len, arc, Way::Forward);
+    mark_by(on, cut, worklist, longer, arc, Way::Backward)
+}
+
+/// Marks the node to which the residual arc in this way along an arc leads on, where that is there and comes from a marked
+/// one, and gives the length of the worklist.
+fn mark_by(
+    on: OnSide<'_>,
+    cut: &mut [bool],
+    worklist: &mut [u32],
+    len: usize,
+    arc: u32,
+    way: Way,
+) -> usize
+    requires flow { IsPseudoflow (length cut.old) on.graph.now.rows on.flow.now }
+    requires worklist { IsListOf cut.old worklist.old len }
+    requires arc { arc < length on.graph.now.rows }
+    ensures worklist { IsListOf cut.new worklist.new result }
+    ensures grown { IsGrown on.entry.side on.entry.graph.now.rows on.entry.flow.now cut.old worklist.old len cut.new worklist.new result }
+    ensures far { in_set cut.old (near_at on.entry.side on.entry.graph.now.rows arc way) ≡ true → IsFarIn on.entry.side on.entry.graph.now.rows on.entry.flow.now cut.new arc way }
+{
+    let row = on.graph.row(arc as usize);
+    let far = far_of(on.side, &row, way) as usize;
+    if cut[far] || !cut[near_of(on.side, &row, way) as usize] {
+        return len;
+    }
+    if !on.graph.has_room(on.flow, ResidualArc { arc, way }) {
+        return len;
+    }
+    mark(cut, worklist, len, far)
+}
+
+/// The end of a residual arc that is nearer to the roots of a side.
+fn near_of(side: Side, row: &ArcRow, way: Way) -> u32
+    ensures { result ≡ near_of side row.now way }
+{
+    match side {
+        Side::Ahead => way.start(row),
+        Side::Behind => way.end(row),
+    }
+}
+
+/// The other end.
+fn far_of(side: Side, row: &ArcRow, way: Way) -> u32
+    ensures { result ≡ far_of side row.now way }
+{
+    match side {
+        Side::Ahead => way.end(row),
+        Side::Behind => way.start(row),
+    }
 }
 
 /// Makes these marks those of a table.

@@ -1,15 +1,12 @@
 -- A graph stays one where its network and its rows are changed together.
-use Rattle.std.proofs.Common.{◌≡◌, ℕ, suc, ◌+◌, ◌-◌, ◌<◌, List, [], ◌∷◌, ◌++◌, length, min, sym, ap, subst, ◌∙◌, arith, slice_set, slice_index_or, take}
+use Rattle.std.proofs.Common.{◌≡◌, ℕ, suc, ◌+◌, ◌-◌, ◌<◌, List, [], ◌∷◌, ◌++◌, length, sym, ap, subst, ◌∙◌, arith, slice_set, take}
 use Rattle.std.proofs.lemmas.List.{length-set, length-append, get_or_append_left}
 use Rattle.std.proofs.lemmas.List.Elements.{All-set, All-push}
 use Rattle.std.proofs.Math.Seq.{take-append_seam}
 use Rattle.dimacs_text.specs.declared.problem.ArcRow.{ArcRow}
 use Rattle.dimacs_text.specs.Lawful.{IsLawfulRow}
 use Rattle.network.specs.Instance.{Demand, Supplies, Terminals, Sides, Instance, IsLawful, ArcFits, reduced, reduced_arcs}
-use Rattle.residual_graph.specs.declared.star.Star.{Star}
 use Rattle.residual_graph.specs.Graph.{GraphView, IsGraph}
-use Rattle.residual_graph.specs.Star.{Covers, with_cost}
-use Rattle.residual_graph.proofs.StarLemmas.{covers_added, covers_dropped, covers_set}
 use Rattle.residual_graph.proofs.WalkLemmas.{rows_push}
 
 -- ---- another row
@@ -33,15 +30,14 @@ rows_set (Supplies s) arcs first i row e = (let none : first + i ≡ i = omega a
 rows_set (Terminals source sink) arcs first i row e = (let one : first + i ≡ suc i = omega arith in ap (λ (n : ℕ). slice_set (reduced_arcs (Terminals source sink) arcs) n row) one)
 rows_set (Sides marks) arcs first i row e = (let none : first + i ≡ i = omega arith in ap (λ (n : ℕ). slice_set arcs n row) none)
 
-pub graph_set : (g : GraphView) (first i : ℕ) (row : ArcRow) (star : Star) → IsGraph g → first + length g.net.arcs ≡ length g.rows → i < length g.net.arcs
-    → row.tail ≡ (slice_index_or g.net.arcs i row).tail → row.head ≡ (slice_index_or g.net.arcs i row).head → IsLawfulRow g.net.nodes row → ArcFits g.net.demand row
-    → Covers (g.net.nodes + 1) (with_cost g.net.arcs i row.cost) star → IsGraph (record { net = with_row g.net i row; rows = slice_set g.rows (first + i) row; star = star })
-graph_set g first i row star is split lt tail head limits fits covers = record {
+pub graph_set : (g : GraphView) (first i : ℕ) (row : ArcRow) → IsGraph g → first + length g.net.arcs ≡ length g.rows → i < length g.net.arcs
+    → IsLawfulRow g.net.nodes row → ArcFits g.net.demand row
+    → IsGraph (record { net = with_row g.net i row; rows = slice_set g.rows (first + i) row })
+graph_set g first i row is split lt limits fits = record {
   rows = record {
     lawful = lawful_row g.net i row is.rows.lawful limits fits;
     rows_are = ap (λ (r : List ArcRow). slice_set r (first + i) row) is.rows.rows_are ∙ rows_set g.net.demand g.net.arcs first i row (split ∙ ap (λ (r : List ArcRow). length r) is.rows.rows_are);
   };
-  star = covers_set (g.net.nodes + 1) g.net.arcs i row star covers lt tail head;
 }
 
 -- ---- one arc more or less at the end
@@ -71,13 +67,12 @@ lawful_less I row lawful =
     }
 
 pub graph_more : (g : GraphView) (row : ArcRow) → IsGraph g → length g.net.arcs < g.net.room → IsLawfulRow g.net.nodes row → ArcFits g.net.demand row
-    → IsGraph (record { net = with_last g.net row; rows = g.rows ++ row ∷ []; star = g.star })
+    → IsGraph (record { net = with_last g.net row; rows = g.rows ++ row ∷ [] })
 graph_more g row is free limits fits = record {
   rows = record {
     lawful = lawful_more g.net row is.rows.lawful free limits fits;
     rows_are = ap (λ (r : List ArcRow). r ++ row ∷ []) is.rows.rows_are ∙ rows_push g.net.demand g.net.arcs row;
   };
-  star = covers_added (g.net.nodes + 1) g.net.arcs row g.star is.star;
 }
 
 -- the last row is that of the last arc
@@ -96,8 +91,7 @@ pub rows_before : (g : GraphView) (J : Instance) (row : ArcRow) (rows : List Arc
 rows_before g J row rows is last less = last_row g J row is last ∙ ap (λ (r : List ArcRow). r ++ row ∷ []) (sym (less ∙ rows_less g J row is last))
 
 pub graph_less : (g : GraphView) (J : Instance) (row : ArcRow) (rows : List ArcRow) → IsGraph g → g.net ≡ with_last J row → rows ≡ take (length g.rows - 1) g.rows
-    → IsGraph (record { net = J; rows = rows; star = record g.star { arcs = min g.star.arcs (length J.arcs) } })
+    → IsGraph (record { net = J; rows = rows })
 graph_less g J row rows is last less = record {
   rows = record { lawful = lawful_less J row (subst IsLawful last is.rows.lawful); rows_are = less ∙ rows_less g J row is last };
-  star = covers_dropped (J.nodes + 1) J.arcs row g.star (subst (λ (I : Instance). Covers (I.nodes + 1) I.arcs g.star) last is.star);
 }

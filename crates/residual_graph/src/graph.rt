@@ -1,28 +1,28 @@
 //! The network in the forms that searches read.
 
-ghost use Rattle.std.specs.Prelude.{◌≡◌, ℕ, ◌+◌, ◌-◌, ◌<◌, ◌≤◌, ◌↔◌, ◌++◌, ◌∷◌, [], IfOk, IsTrue, length, slice_index, slice_index_or, slice_set};
+ghost use Rattle.std.specs.Prelude.{◌≡◌, ℕ, ◌+◌, ◌-◌, ◌*◌, ◌<◌, ◌≤◌, ◌↔◌, ◌++◌, ◌∷◌, [], IfOk, IfSome, IsTrue, length, slice_index, slice_index_or, slice_set};
 ghost use Rattle.dimacs_text.specs.Lawful.{IsLawfulRow, IsNode, IsWithin};
 ghost use Rattle.dimacs_text.specs.declared.problem.Kind.TheVariants.{Min};
 ghost use Rattle.dimacs_text.specs.declared.problem.TheConstants.{SUPPLY_LIMIT};
 ghost use Rattle.network.specs.Instance.{ArcFits, kind_of, with_supply};
 ghost use Rattle.residual_graph.specs.Graph.{IsGraph};
 ghost use Rattle.residual_graph.specs.Residual.{IsPseudoflow, IsResidual, row_at, end_at, start_at};
-ghost use Rattle.residual_graph.specs.Star.{incidence_at};
+ghost use Rattle.residual_graph.specs.Walk.{IsNextEnd, StandsAt, ends_before};
 
 use crate::residual::{ResidualArc, Way};
 use crate::rows::reduced_rows;
-use crate::star::{Incidence, Star};
+use crate::star::{End, Star};
 use dimacs_text::ArcRow;
 use network::Network;
 use std::alloc::{AllocError, Global};
 use std::marker::Model;
 
-/// A network, the ends at its nodes side by side, and the arcs of its reduced instance. What changes one of the three keeps
-/// them together.
+/// A network, the arcs of its reduced instance, and a quick table of the ends at its nodes. What changes one of the three
+/// keeps them together.
 #[derive(Drop)]
 pub struct Graph {
     net: Network,
-    /// The ends of its first arcs at each node.
+    /// The ends at each node of the arcs that it began with.
     star: Star,
     /// One entry an arc of the reduced instance: the return arc, where there is one, then the arcs of the network.
     rows: Vec<ArcRow>,
@@ -34,9 +34,9 @@ impl Model for Graph {
 
     ghost Value = { GraphView };
 
-    ghost view = { λ g. record { net = g.net; rows = g.rows.items; star = g.star } };
+    ghost view = { λ g. record { net = g.net; rows = g.rows.items } };
 
-    ghost invariant = { λ g. HoldsGraph (record { net = g.net; rows = g.rows.items; star = g.star }) (vec_capacity g.rows) };
+    ghost invariant = { λ g. HoldsGraph (record { net = g.net; rows = g.rows.items }) (vec_capacity g.rows) };
 }
 
 impl Graph {
@@ -48,8 +48,8 @@ impl Graph {
         ensures net { IfOk result (λ g. g.net ≡ net) }
         ensures graph { IfOk result IsGraph }
     {
-        let star = Star::new(alloc, &net)?;
         let rows = reduced_rows(alloc, &net)?;
+        let star = Star::new(alloc, net.nodes() as usize + 1, &rows)?;
         Ok(Graph { net, star, rows })
     }
 
@@ -76,31 +76,54 @@ impl Graph {
         self.rows.len() - self.net.arcs() as usize
     }
 
-    /// How many arcs the ends side by side are of: the first ones.
+    /// How many ends the rows have that the star covers.
     #[inline(always)]
     pub(crate) fn covered(&self) -> u32
-        ensures value { result ≡ self.now.star.arcs }
-        ensures graph { IsGraph self.now }
+        ensures { result ≤ 2 * length self.now.rows }
     {
-        self.star.arcs
+        self.star.covered().min(2 * self.rows.len() as u32)
     }
 
-    /// Where the incidences of node `v` begin, which is where those of the node before end.
+    /// The ends in the star at a node.
     #[inline(always)]
-    pub(crate) fn begin(&self, v: usize) -> usize
-        requires { v ≤ self.now.net.nodes + 1 }
-        ensures { result ≡ slice_index self.now.star.begin.items v }
-    {
-        self.star.begin[v]
+    pub(crate) fn ends(&self, node: u32) -> &[End] {
+        self.star.at(node)
     }
 
-    /// The incidence at a place.
+    /// How many ends the return arc has.
     #[inline(always)]
-    pub(crate) fn incidence(&self, place: usize) -> Incidence
-        requires { place < length self.now.star.incidences.items }
-        ensures { result ≡ incidence_at self.now.star.incidences.items place }
+    fn return_ends(&self) -> u32
+        ensures { result ≡ ends_before self.now }
     {
-        self.star.incidences[place]
+        2 * (self.rows.len() as u32 - self.net.arcs())
+    }
+
+    /// The end at which the walk over the ends at a node begins: it goes from the greatest down. End 2k is the tail of the arc
+    /// in row k, and end 2k + 1 its head. The ends of the return arc come last, whichever the node.
+    pub fn first_end(&self, node: u32) -> Option<u32>
+        ensures { IsNextEnd self.now node (2 * length self.now.rows) result }
+    {
+        let before = self.return_ends();
+        match self.net.first_end(node) {
+            Some(end) => Some(end + before),
+            None => before.checked_sub(1),
+        }
+    }
+
+    /// The end to which the walk goes on from this one.
+    pub fn next_end(&self, end: u32) -> Option<u32>
+        requires { end < 2 * length self.now.rows }
+        ensures next { (v : ℕ) → StandsAt self.now v end → IsNextEnd self.now v end result }
+        ensures below { IfSome result (λ next. next < end) }
+    {
+        let before = self.return_ends();
+        if end < before {
+            return end.checked_sub(1);
+        }
+        match self.net.next_end(end - before) {
+            Some(next) => Some(next + before),
+            None => before.checked_sub(1),
+        }
     }
 
     /// Changes the bounds and the cost of the arc of the network with this number, counted from 1.
@@ -115,7 +138,7 @@ impl Graph {
         ensures graph { IsGraph self.new }
     {
         let place = self.first_row() + (k as usize - 1);
-        self.star.set_cost(&self.net, k, row.cost);
+        self.star.set_cost(2 * place as u32, &row);
         self.net.set_row(k, row);
         self.rows[place] = row;
     }
@@ -156,7 +179,7 @@ impl Graph {
     {
         let row = self.net.pop_arc();
         let _ = self.rows.pop();
-        self.star.keep(self.net.arcs());
+        self.star.keep(2 * self.rows.len() as u32);
         row
     }
 

@@ -1,10 +1,7 @@
 //! The two sides of a flow.
 
-ghost use Rattle.std.specs.Prelude.{◌≡◌, IsTrue, ◌↔◌};
-ghost use Rattle.residual_graph.specs.Side.{IsRoot, leading};
-
-use crate::residual::ResidualArc;
-use crate::walk::End;
+ghost use Rattle.std.specs.Prelude.{IsTrue, ◌↔◌};
+ghost use Rattle.residual_graph.specs.Side.{IsRoot};
 
 /// The two sides of a flow: ahead are the nodes that those in excess reach along residual arcs, and behind those that
 /// reach one in deficit. The roots of a side are the nodes in excess, or those in deficit.
@@ -22,17 +19,6 @@ impl Side {
         match self {
             Side::Ahead => excess > 0,
             Side::Behind => excess < 0,
-        }
-    }
-
-    /// The residual arc that leads on from an end of an arc: ahead the one that leaves the node there, behind the one that
-    /// enters it.
-    pub fn leading(self, end: End) -> ResidualArc
-        ensures { result ≡ leading self end }
-    {
-        match self {
-            Side::Ahead => end.leaving(),
-            Side::Behind => end.entering(),
         }
     }
 }

@@ -4,8 +4,8 @@
 //! takes them tests them.
 
 ghost use Rattle.std.specs.Prelude.{◌≡◌, ◌<◌, ◌≤◌, IfOk, IsTrue, length};
-ghost use Rattle.residual_graph.specs.Ends.{IsEnd, IsEndAt};
 ghost use Rattle.residual_graph.specs.Limits.{entry_limit};
+ghost use Rattle.residual_graph.specs.Walk.{IsWithin};
 ghost use Rattle.shortest_paths.specs.Tree.{IsTreeOf};
 
 use crate::predecessor::Predecessor;
@@ -46,6 +46,7 @@ pub struct Tree {
 impl Model for Tree {
     ghost use Rattle.std.specs.Prelude.{◌≡◌, ◌≤◌, length};
     ghost use Rattle.residual_graph.specs.Limits.{entry_limit};
+ghost use Rattle.residual_graph.specs.Walk.{IsWithin};
     ghost use Rattle.shortest_paths.specs.Tree.{TreeView};
 
     ghost Value = { TreeView };
@@ -249,7 +250,7 @@ impl Tree {
         ensures sized { IsTreeOf residual.entry self.new }
     {
         let mut walk = Walk::at(residual.graph, v);
-        while let Some(end) = walk.next(residual.graph) {
+        while let Some(end) = walk.next() {
             if self.can_hang(residual, v, end) {
                 self.predecessors[v as usize].end = end_of(end.entering());
                 return true;
@@ -262,10 +263,10 @@ impl Tree {
     fn can_hang(&self, residual: Residual<'_>, v: u32, end: End) -> bool
         requires sized { IsTreeOf residual self.now }
         requires node { v < length residual.potentials.now }
-        requires end { IsEndAt residual.graph.now.rows v end }
+        requires end { IsWithin residual.graph.now end }
     {
-        self.labels[end.other].saturating_sub(end.cost) == self.labels[v as usize]
-            && self.predecessors[end.other].rank < self.predecessors[v as usize].rank
+        self.labels[end.other as usize].saturating_sub(end.cost) == self.labels[v as usize]
+            && self.predecessors[end.other as usize].rank < self.predecessors[v as usize].rank
             && residual.graph.has_room(residual.flow, end.entering())
     }
 
@@ -293,9 +294,9 @@ impl Tree {
             return;
         }
         let mut walk = Walk::at(residual.graph, u);
-        while let Some(end) = walk.next(residual.graph) {
-            if self.hangs(end.other, end.number) {
-                self.loosen(residual, end.other as u32);
+        while let Some(end) = walk.next() {
+            if self.hangs(end.other as usize, end.number) {
+                self.loosen(residual, end.other);
             }
         }
     }
@@ -313,10 +314,10 @@ impl Tree {
         let mut label = 0;
         let mut predecessor = Predecessor::open();
         let mut walk = Walk::at(residual.graph, v);
-        while let Some(end) = walk.next(residual.graph) {
+        while let Some(end) = walk.next() {
             if self.leads_below(residual, end, label) {
-                label = self.labels[end.other].saturating_sub(end.cost);
-                predecessor = after(end_of(end.entering()), self.predecessors[end.other].rank);
+                label = self.labels[end.other as usize].saturating_sub(end.cost);
+                predecessor = after(end_of(end.entering()), self.predecessors[end.other as usize].rank);
                 if label <= least {
                     break;
                 }
@@ -330,11 +331,11 @@ impl Tree {
     /// Whether a residual arc enters the node at this end, from a node that is not queued, and leads below a label.
     fn leads_below(&self, residual: Residual<'_>, end: End, label: i64) -> bool
         requires sized { IsTreeOf residual self.now }
-        requires end { IsEnd residual.graph.now.rows end }
+        requires end { IsWithin residual.graph.now end }
         ensures { end.other < length self.now.labels }
     {
-        self.labels[end.other].saturating_sub(end.cost) < label
-            && !self.predecessors[end.other].is_open
+        self.labels[end.other as usize].saturating_sub(end.cost) < label
+            && !self.predecessors[end.other as usize].is_open
             && residual.graph.has_room(residual.flow, end.entering())
     }
 
@@ -433,7 +434,7 @@ impl Tree {
         }
         self.predecessors[u as usize].is_open = false;
         let mut walk = Walk::at(residual.graph, u);
-        while let Some(end) = walk.next(residual.graph) {
+        while let Some(end) = walk.next() {
             self.improve_beyond(residual, u, end);
         }
     }
@@ -442,13 +443,13 @@ impl Tree {
     fn improve_beyond(&mut self, residual: Residual<'_>, u: u32, end: End)
         requires sized { IsTreeOf residual self.old }
         requires node { u < length residual.potentials.now }
-        requires end { IsEnd residual.graph.now.rows end }
+        requires end { IsWithin residual.graph.now end }
         ensures sized { IsTreeOf residual.entry self.new }
     {
         let label = self.labels[u as usize].saturating_add(end.cost);
-        if label < self.labels[end.other] && residual.graph.has_room(residual.flow, end.leaving()) {
+        if label < self.labels[end.other as usize] && residual.graph.has_room(residual.flow, end.leaving()) {
             let predecessor = after(end.number, self.predecessors[u as usize].rank);
-            self.improve(residual, end.other as u32, label, predecessor);
+            self.improve(residual, end.other, label, predecessor);
         }
     }
 }

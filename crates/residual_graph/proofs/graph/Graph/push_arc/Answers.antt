@@ -7,16 +7,16 @@ use Rattle.residual_graph.proofs.GraphLemmas.{graph_more}
 use Rattle.residual_graph.proofs.graph.Graph.push_arc.Goals as goal
 use Rattle.residual_graph.proofs.graph.Graph.push_arc.Goals.{In-Ok}
 
-graph : (c : In-Ok) → IsGraph (record { net = c.push_arc.new.self; rows = c.push.new.self.items; star = c.self.inside.star })
+graph : (c : In-Ok) → IsGraph (record { net = c.push_arc.new.self; rows = c.push.new.self.items })
 graph c =
     let g = c.self.inside in
     let row = c.args.row in
     let free = subst (λ (v : GraphView). length v.net.arcs < v.net.room) (sym c.self.view_is) c.requires.room in
     let limits = subst (λ (v : GraphView). IsLawfulRow v.net.nodes row) (sym c.self.view_is) c.requires.limits in
     let fits = subst (λ (v : GraphView). ArcFits v.net.demand row) (sym c.self.view_is) c.requires.fits in
-    subst (λ (rows : List ArcRow). IsGraph (record { net = c.push_arc.new.self; rows = rows; star = g.star })) (sym c.in-Ok.ensures.items)
-    (subst (λ (J : Instance). IsGraph (record { net = J; rows = g.rows.items ++ row ∷ []; star = g.star })) (sym c.push_arc.ensures)
-    (graph_more (record { net = g.net; rows = g.rows.items; star = g.star }) row c.self.invariant.graph free limits fits))
+    subst (λ (rows : List ArcRow). IsGraph (record { net = c.push_arc.new.self; rows = rows })) (sym c.in-Ok.ensures.items)
+    (subst (λ (J : Instance). IsGraph (record { net = J; rows = g.rows.items ++ row ∷ [] })) (sym c.push_arc.ensures)
+    (graph_more (record { net = g.net; rows = g.rows.items }) row c.self.invariant.graph free limits fits))
 
 pub invariant_of-self : goal.invariant_of-self
 invariant_of-self c = record {

@@ -1,29 +1,22 @@
-use Rattle.std.proofs.Common.{◌≡◌, ◌+◌, ◌-◌, ◌≤◌, ap, arith, length, rules, slice_index_or, slice_set, subst, sym, w64, SFits}
-use Rattle.std.proofs.lemmas.Int.{to_z-of_z}
+use Rattle.std.proofs.Common.{◌≡◌, ◌+◌, ◌-◌, ◌≤◌, ap, arith, length, slice_set, subst, sym}
 use Rattle.dimacs_text.specs.Lawful.{IsLawfulRow}
 use Rattle.network.specs.Instance.{ArcFits, Instance}
 use Rattle.residual_graph.specs.Graph.{GraphView, IsGraph}
-use Rattle.residual_graph.specs.Star.{Covers, with_cost}
 use Rattle.residual_graph.proofs.GraphLemmas.{graph_set}
 use Rattle.residual_graph.proofs.graph.Graph.set_row.Goals as goal
 use Rattle.residual_graph.proofs.graph.Graph.set_row.Goals.{After-set_row}
 
-graph : (c : After-set_row) → IsGraph (record { net = c.set_row.new.self; rows = slice_set c.self.inside.rows.items (c.first_row.result + (c.args.k - 1)) c.args.row; star = c.set_cost.new.self })
+graph : (c : After-set_row) → IsGraph (record { net = c.set_row.new.self; rows = slice_set c.self.inside.rows.items (c.first_row.result + (c.args.k - 1)) c.args.row })
 graph c =
     let g = c.self.inside in
     let row = c.args.row in
     let i = c.args.k - 1 in
     let split = subst (λ (v : GraphView). c.first_row.result + length v.net.arcs ≡ length v.rows) (sym c.self.view_is) c.first_row.ensures in
     let arc = subst (λ (v : GraphView). (1 ≤ c.args.k) × (c.args.k ≤ length v.net.arcs)) (sym c.self.view_is) c.requires.arc in
-    let tail = subst (λ (v : GraphView). row.tail ≡ (slice_index_or v.net.arcs i row).tail) (sym c.self.view_is) c.requires.tail in
-    let head = subst (λ (v : GraphView). row.head ≡ (slice_index_or v.net.arcs i row).head) (sym c.self.view_is) c.requires.head in
     let limits = subst (λ (v : GraphView). IsLawfulRow v.net.nodes row) (sym c.self.view_is) c.requires.limits in
     let fits = subst (λ (v : GraphView). ArcFits v.net.demand row) (sym c.self.view_is) c.requires.fits in
-    let cost_fits : SFits w64 c.args.row.cost = search rules in
-    let cost = to_z-of_z w64 row.cost cost_fits in
-    let covers = subst (λ z. Covers (g.net.nodes + 1) (with_cost g.net.arcs i z) c.set_cost.new.self) cost c.set_cost.ensures.covers in
-    subst (λ (J : Instance). IsGraph (record { net = J; rows = slice_set g.rows.items (c.first_row.result + i) row; star = c.set_cost.new.self })) (sym c.set_row.ensures)
-    (graph_set (record { net = g.net; rows = g.rows.items; star = g.star }) c.first_row.result i row c.set_cost.new.self c.self.invariant.graph split (omega (arith, arc.0, arc.1)) tail head limits fits covers)
+    subst (λ (J : Instance). IsGraph (record { net = J; rows = slice_set g.rows.items (c.first_row.result + i) row })) (sym c.set_row.ensures)
+    (graph_set (record { net = g.net; rows = g.rows.items }) c.first_row.result i row c.self.invariant.graph split (omega (arith, arc.0, arc.1)) limits fits)
 
 pub invariant_of-self : goal.invariant_of-self
 invariant_of-self c = record {
@@ -33,6 +26,3 @@ invariant_of-self c = record {
 
 pub returns-clause-graph : goal.returns-clause-graph
 returns-clause-graph c = graph (goal.at.returns-clause-graph c).After-set_row
-
-pub set_cost-requires-clause-limit : goal.set_cost-requires-clause-limit
-set_cost-requires-clause-limit c = search rules
