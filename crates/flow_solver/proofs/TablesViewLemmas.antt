@@ -3,12 +3,12 @@ use Rattle.std.proofs.Common.{◌≡◌, ℕ, ◌+◌, ℤ, Bool, false, List, [
 use Rattle.std.specs.Prelude.{IfSome}
 use Rattle.std.proofs.lemmas.List.{length-drop}
 use Rattle.dimacs_text.specs.declared.problem.ArcRow.{ArcRow}
-use Rattle.network.specs.Instance.{Demand, Supplies, Terminals, Sides, Instance, numbered_flow, reduced, with_supply}
+use Rattle.network.specs.Instance.{Demand, Terminals, Instance, numbered_flow, with_supply}
 use Rattle.flow_solver.specs.declared.balance.Balance.{Balance}
 use Rattle.residual_graph.specs.declared.graph.Graph.{Graph}
 use Rattle.flow_solver.specs.declared.part.Before.{Before}
 use Rattle.flow_solver.specs.declared.part.Part.{Part}
-use Rattle.flow_solver.specs.declared.part.Part.TheVariants.{Arc, Supply, Last, Gone}
+use Rattle.flow_solver.specs.declared.part.Part.TheVariants.{Supply}
 use Rattle.flow_solver.specs.declared.verdict.Verdict.{Verdict}
 use Rattle.flow_solver.specs.Potentials.{AreAsTold}
 use Rattle.flow_solver.specs.declared.potentials.Potentials.{Potentials}
@@ -93,58 +93,35 @@ tables_with_arcs g h flow flow' potentials balance balance' cut scratch before t
 }
 
 -- places that name what is changed of a flow name what is changed of the numbered arcs
-pub named_numbered : (D : Demand) (places : List ℕ) (xs ys : List ℤ) → NameChanges 0 places xs ys → NameChanges (return_count D) places (numbered_flow D xs) (numbered_flow D ys)
-named_numbered (Supplies supplies) places xs ys named = named
+named_numbered : (D : Demand) (places : List ℕ) (xs ys : List ℤ) → NameChanges 0 places xs ys → NameChanges (return_count D) places (numbered_flow D xs) (numbered_flow D ys)
 named_numbered (Terminals source sink) places xs ys named = named_after_first places xs ys named
-named_numbered (Sides marks) places xs ys named = named
+named_numbered _ places xs ys named = named
 
--- the numbered arcs of a flow, and how many come before them, are the same before a change
-pub numbered_before : (log : List Part) (I : Instance) (xs : List ℤ) → numbered_flow (before_all log I).demand xs ≡ numbered_flow I.demand xs
-numbered_before [] I xs = refl
-numbered_before (Arc k row ∷ log) I xs = numbered_before log I xs
-numbered_before (Supply v value ∷ log) I xs = of (before_all log I).demand ∙ numbered_before log I xs
-  where
-    of : (D : Demand) → numbered_flow (with_supply D v value) xs ≡ numbered_flow D xs
-    of (Supplies supplies) = refl
-    of (Terminals source sink) = refl
-    of (Sides marks) = refl
-numbered_before (Last ∷ log) I xs = numbered_before log I xs
-numbered_before (Gone row flow ∷ log) I xs = numbered_before log I xs
+pub numbered_is : (D : Demand) (xs : List ℤ) → drop (return_count D) xs ≡ numbered_flow D xs
+numbered_is D xs = grind arith
 
+same_count : (D : Demand) (v : ℕ) (value : ℤ) → return_count (with_supply D v value) ≡ return_count D
+same_count D v value = grind arith
+
+-- how many rows come before the numbered arcs, and their flows, are the same before a change
 pub return_count_before : (log : List Part) (I : Instance) → return_count (before_all log I).demand ≡ return_count I.demand
 return_count_before [] I = refl
-return_count_before (Arc k row ∷ log) I = return_count_before log I
-return_count_before (Supply v value ∷ log) I = of (before_all log I).demand ∙ return_count_before log I
-  where
-    of : (D : Demand) → return_count (with_supply D v value) ≡ return_count D
-    of (Supplies supplies) = refl
-    of (Terminals source sink) = refl
-    of (Sides marks) = refl
-return_count_before (Last ∷ log) I = return_count_before log I
-return_count_before (Gone row flow ∷ log) I = return_count_before log I
+return_count_before (Supply v value ∷ log) I = same_count (before_all log I).demand v value ∙ return_count_before log I
+return_count_before (_ ∷ log) I = return_count_before log I
 
--- the same where the first flow is of the instance before a change
+pub numbered_before : (log : List Part) (I : Instance) (xs : List ℤ) → numbered_flow (before_all log I).demand xs ≡ drop (return_count I.demand) xs
+numbered_before log I xs = sym (numbered_is (before_all log I).demand xs) ∙ ap (λ (n : ℕ). drop n xs) (return_count_before log I)
+
+-- places that name what is changed since the flow before a change
 pub named_before : (log : List Part) (I : Instance) (places : List ℕ) (xs ys : List ℤ) → NameChanges 0 places xs ys → NameChanges (return_count (before_all log I).demand) places (numbered_flow (before_all log I).demand xs) (numbered_flow I.demand ys)
 named_before log I places xs ys named =
-    subst (λ (n : ℕ). NameChanges n places (numbered_flow (before_all log I).demand xs) (numbered_flow I.demand ys)) (sym (return_count_before log I))
-    (subst (λ (zs : List ℤ). NameChanges (return_count I.demand) places zs (numbered_flow I.demand ys)) (sym (numbered_before log I xs)) (named_numbered I.demand places xs ys named))
+    rw (return_count_before log I, numbered_before log I xs ∙ numbered_is I.demand xs) (named_numbered I.demand places xs ys named)
 
--- the places name what is changed since the moment before, where there is one
-pub named_since : (before : Option Verdict) (I : Instance) (kept : Snapshot) (places : List ℕ) (ys : List ℤ) → NameChanges 0 places kept.flow ys → IfSome (before_of before I kept) (λ old. NameChanges (return_count old.instance.demand) places (numbered_flow old.instance.demand old.flow) (numbered_flow I.demand ys))
-named_since None I kept places ys named = tt
-named_since (Some told) I kept places ys named = named_before kept.log I places kept.flow ys named
+-- what holds of what was kept, with any verdict, holds of the moment before, where there is one
+pub since : (told : Option Verdict) (I : Instance) (kept : Snapshot) (P : Moment → Type 0) → ((verdict : Verdict) → P (record { instance = before_all kept.log I; flow = kept.flow; potentials = kept.potentials; verdict = verdict; cut = kept.cut })) → IfSome (before_of told I kept) P
+since None I kept P is = tt
+since (Some verdict) I kept P is = is verdict
 
 -- what is kept of a moment, with its instance and verdict, is that moment
 pub moment_kept : (I : Instance) (kept : Snapshot) (verdict : Verdict) (m : Moment) → I ≡ m.instance → kept ≡ record (kept_of m) { log = kept.log } → verdict ≡ m.verdict → record { instance = I; flow = kept.flow; potentials = kept.potentials; verdict = verdict; cut = kept.cut } ≡ m
-moment_kept I kept verdict m one two three =
-    ap (λ (J : Instance). record { instance = J; flow = kept.flow; potentials = kept.potentials; verdict = verdict; cut = kept.cut }) one
-    ∙ ap (λ (k : Snapshot). record { instance = m.instance; flow = k.flow; potentials = k.potentials; verdict = verdict; cut = k.cut }) two
-    ∙ ap (λ (v : Verdict). record { instance = m.instance; flow = m.flow; potentials = m.potentials; verdict = v; cut = m.cut }) three
-
-pub potentials_since : (before : Option Verdict) (I : Instance) (kept : Snapshot) (places : List ℕ) (ys : List ℤ) → NameChanges 1 places kept.potentials ys → IfSome (before_of before I kept) (λ old. NameChanges 1 places old.potentials ys)
-potentials_since None I kept places ys named = tt
-potentials_since (Some told) I kept places ys named = named
-
-pub cut_since : (before : Option Verdict) (I : Instance) (kept : Snapshot) (places : List ℕ) (ys : List Bool) → NameChanges 1 places kept.cut ys → IfSome (before_of before I kept) (λ old. NameChanges 1 places old.cut ys)
-cut_since None I kept places ys named = tt
-cut_since (Some told) I kept places ys named = named
+moment_kept I kept verdict m one two three i = record { instance = one i; flow = (two i).flow; potentials = (two i).potentials; verdict = three i; cut = (two i).cut }

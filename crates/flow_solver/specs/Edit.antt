@@ -3,7 +3,7 @@ use Rattle.std.specs.Prelude.{◌≡◌, ℕ, ◌-◌, ◌<◌, ◌≤◌, Ok, S
 use Rattle.dimacs_text.specs.declared.problem.ArcRow.{ArcRow}
 use Rattle.network.specs.Flow.{FollowsSign, IsCertifiedFlow, IsPotential, reduced_cost, total_excess}
 use Rattle.network.specs.Instance.{Instance, ArcFits, arc_at, at_node, kind_of, reduced, with_supply}
-use Rattle.network.specs.Edited.{edited, units, units_all}
+use Rattle.network.specs.Edited.{arc_of, edited, units, units_all}
 use Rattle.dimacs_text.specs.Lawful.{IsLawfulRow, IsNode, IsWithin}
 use Rattle.dimacs_text.specs.declared.problem.TheConstants.{SUPPLY_LIMIT}
 use Rattle.dimacs_text.specs.declared.problem.Kind.TheVariants.{Min}
@@ -45,13 +45,10 @@ pub record BeginsNearest (row : ArcRow) (potential : ℕ → ℤ) (x start : Lis
 
 -- what an edit that gave the instance J alters in a flow x: that of its arc, which goes to the nearest value
 abbrev pub IsAltered : Instance → Edit → (ℕ → ℤ) → List ℤ → List ℤ → Type 0
-IsAltered J (Cap k cap) potential x start = GoesToNearest J k potential x start
-IsAltered J (Low k low) potential x start = GoesToNearest J k potential x start
-IsAltered J (Cost k cost) potential x start = GoesToNearest J k potential x start
 IsAltered J (Supply v value) potential x start = start ≡ x
 IsAltered J (Add tail head low cap cost) potential x start =
     BeginsNearest (record { tail = tail; head = head; low = low; cap = cap; cost = cost }) potential x start
-IsAltered J (Close k) potential x start = GoesToNearest J k potential x start
+IsAltered J edit potential x start = GoesToNearest J (arc_of edit) potential x start
 
 -- an edit of the instance I gave the instance J, and `start` of the flow x: what is left to send out grows by no more than the edit's units
 pub record IsMade (I J : Instance) (edit : Edit) (potential : ℕ → ℤ) (x start : List ℤ) : Type 0 where
@@ -84,12 +81,17 @@ pub record AreChanges (I J : Instance) (edits : List Edit) (potential : ℕ → 
 
 -- an edit that changes an arc
 abbrev pub IsOfArc : Edit → Type 0
-IsOfArc (Cap k cap) = Unit {0}
-IsOfArc (Low k low) = Unit {0}
-IsOfArc (Cost k cost) = Unit {0}
 IsOfArc (Supply v value) = ⊥
 IsOfArc (Add tail head low cap cost) = ⊥
-IsOfArc (Close k) = Unit {0}
+IsOfArc _ = Unit {0}
+
+-- what it makes of the arc
+abbrev pub changed : Edit → ArcRow → ArcRow
+changed (Cap k cap) row = record row { cap = cap }
+changed (Low k low) row = record row { low = low }
+changed (Cost k cost) row = record row { cost = cost }
+changed (Close k) row = record row { low = pos 0; cap = pos 0 }
+changed _ row = row
 
 -- the edit changes arc k of the instance into `row`, by which a flow that keeps the sign rule moves by no more than the edit's units
 pub record IsRowEdit (I : Instance) (edit : Edit) (k : ℕ) (row : ArcRow) : Type 0 where
@@ -119,20 +121,12 @@ pub record IsAddEdit (I : Instance) (edit : Edit) (row : ArcRow) : Type 0 where
   pub after : edited I edit ≡ Ok (record I { arcs = I.arcs ++ row ∷ [] })
 
 abbrev pub IsOfSupply : Edit → Type 0
-IsOfSupply (Cap k cap) = ⊥
-IsOfSupply (Low k low) = ⊥
-IsOfSupply (Cost k cost) = ⊥
 IsOfSupply (Supply v value) = Unit {0}
-IsOfSupply (Add tail head low cap cost) = ⊥
-IsOfSupply (Close k) = ⊥
+IsOfSupply _ = ⊥
 
 abbrev pub IsOfAdd : Edit → Type 0
-IsOfAdd (Cap k cap) = ⊥
-IsOfAdd (Low k low) = ⊥
-IsOfAdd (Cost k cost) = ⊥
-IsOfAdd (Supply v value) = ⊥
 IsOfAdd (Add tail head low cap cost) = Unit {0}
-IsOfAdd (Close k) = ⊥
+IsOfAdd _ = ⊥
 
 -- ---- the same of moments
 

@@ -1,4 +1,4 @@
-use Rattle.std.proofs.Common.{add-one, ◌≡◌, ◌∙◌, ◌+◌, ℕ, suc, ℤ, arith, pos, false, true, List, map, drop, length, replicate, ap, sym, subst}
+use Rattle.std.proofs.Common.{add-one, ◌≡◌, ◌∙◌, ◌+◌, ℕ, suc, ℤ, arith, pos, false, List, map, drop, length, replicate, ap, sym, subst}
 use Rattle.std.proofs.lemmas.Int.{ints}
 use Rattle.std.proofs.lemmas.List.{length-map, length-replicate}
 use Rattle.network.specs.Flow.{IsCertifiedFlow}

@@ -1,4 +1,4 @@
-use Rattle.std.proofs.Common.{◌≡◌, ◌∙◌, ◌+◌, ◌≤◌, ◌≤ℤ◌, ℕ, ℤ, pos, List, drop, length, arith, refl, sym, ap, subst}
+use Rattle.std.proofs.Common.{◌≡◌, ◌∙◌, ◌+◌, ◌≤◌, ◌≤ℤ◌, ℤ, pos, List, drop, length, arith, refl, sym, subst}
 use Rattle.std.proofs.lemmas.Int.{ints}
 use Rattle.dimacs_text.specs.declared.problem.ArcRow.{ArcRow}
 use Rattle.network.specs.Flow.{AllWithinBounds, IsCertifiedFlow, total_excess}

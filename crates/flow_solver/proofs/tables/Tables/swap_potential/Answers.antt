@@ -1,4 +1,4 @@
-use Rattle.std.proofs.Common.{◌≡◌, ℤ, false, pos, refl, subst, sym}
+use Rattle.std.proofs.Common.{◌≡◌, ℤ, pos, refl, subst, sym}
 use Rattle.std.specs.Prelude.{◌≤ℤ◌, neg_ℤ}
 use Rattle.shortest_paths.specs.Limits.{label_floor}
 use Rattle.residual_graph.specs.Residual.{number_at}

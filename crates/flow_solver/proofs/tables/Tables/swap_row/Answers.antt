@@ -1,4 +1,4 @@
-use Rattle.std.proofs.Common.{◌≡◌, ◌∙◌, ◌+◌, ◌-◌, ◌<◌, ◌≤◌, ◌^◌, ◌+ℤ◌, ◌-ℤ◌, ◌*ℤ◌, ℤ, List, pos, ap, arith, false, length, refl, rules, slice_index_or, subst, sym, w64, SFits, to_z, of_z}
+use Rattle.std.proofs.Common.{◌≡◌, ◌∙◌, ◌+◌, ◌-◌, ◌<◌, ◌≤◌, ◌^◌, ◌+ℤ◌, ◌-ℤ◌, ◌*ℤ◌, ℤ, List, ap, arith, length, refl, rules, slice_index_or, subst, sym, w64, SFits, to_z, of_z}
 use Rattle.std.specs.Int.{int_wrap, w128}
 use Rattle.std.proofs.lemmas.Int.{to_z-of_z}
 use Rattle.dimacs_text.specs.declared.problem.ArcRow.{ArcRow}
