@@ -1,7 +1,6 @@
 -- How the balance of the tables follows each change of them.
-use Rattle.std.proofs.Common.{◌≡◌, ℕ, ◌+◌, ◌-◌, ◌<◌, ◌≤◌, ℤ, pos, ◌+ℤ◌, ◌-ℤ◌, ◌*ℤ◌, List, [], ◌∷◌, ◌++◌, length, take, slice_index_or, slice_set, refl, sym, ◌∙◌, inl, inr, arith}
+use Rattle.std.proofs.Common.{◌≡◌, ℕ, ◌+◌, ◌-◌, ◌<◌, ◌≤◌, ℤ, pos, ◌+ℤ◌, ◌-ℤ◌, ◌*ℤ◌, List, [], ◌∷◌, ◌++◌, length, take, slice_index_or, slice_set, refl, sym, ◌∙◌, arith}
 use Rattle.std.specs.Int.{int_wrap, w128}
-use Rattle.std.proofs.lemmas.Int.{ints}
 use Rattle.std.proofs.lemmas.List.{get_or_push, length-append, length-take-le, take_all, take_more}
 use Rattle.dimacs_text.specs.declared.problem.ArcRow.{ArcRow}
 use Rattle.dimacs_text.specs.declared.problem.Kind.TheVariants.{Min}
@@ -9,17 +8,14 @@ use Rattle.network.specs.Instance.{Demand, Instance, IsLawful, kind_of, reduced,
 use Rattle.flow_solver.specs.declared.balance.Balance.{Balance}
 use Rattle.flow_solver.specs.Balance.{AreEndsIn, IsBalanceOf, IsCarried, IsRaised, IsWrappedCost, IsWrappedExcess}
 use Rattle.augmentation.specs.Nodes.{held}
-use Rattle.augmentation.specs.Push.{at_node}
 use Rattle.residual_graph.specs.Residual.{row_at, number_at}
 use Rattle.flow_solver.specs.TablesView.{flow_index}
 use Rattle.augmentation.specs.Tracked.{TrackedView}
 use Rattle.flow_solver.proofs.BalanceLemmas.{cost_first, cost_last, cost_row, excess_first, excess_last, excess_row, excess_set, excess_supplied}
 use Rattle.residual_graph.proofs.GraphLemmas.{with_last, with_row}
-use Rattle.flow_solver.proofs.ChangeLemmas.{place_in, row_is, rows_changed, supplied, supply_at}
+use Rattle.flow_solver.proofs.ChangeLemmas.{place_in, row_is, rows_changed, supplied, supplies_held}
 use Rattle.flow_solver.proofs.InstanceLemmas.{rows_of_instance}
-use Rattle.residual_graph.proofs.NodeNumbers.{IsNodeOf, is_node_or_not}
-use Rattle.augmentation.proofs.NodeLemmas.{held_node, held_other}
-use Rattle.augmentation.proofs.PushLemmas.{at_other}
+use Rattle.residual_graph.proofs.NodeNumbers.{IsNodeOf}
 
 -- what each node of an instance has to send out
 abbrev pub sends : Instance → ℕ → ℤ
@@ -74,17 +70,10 @@ balance_swapped I J rows rows' flow b b' k place row one there before after othe
     }
 
 -- one node has another supply
-sends_supplied : (I : Instance) (v : ℕ) (z : ℤ) → IsLawful I → kind_of I.demand ≡ Min → IsNodeOf I.nodes v → (w : ℕ) → sends (supplied I v z) w ≡ sends I w +ℤ at_node v (z -ℤ (reduced I).supply v) w
-sends_supplied I v z lawful kind node w = elim (is_node_or_not I.nodes w) [
-  | inl at ↦ rw (held_node I.nodes (reduced (supplied I v z)).supply w at, held_node I.nodes (reduced I).supply w at) (supply_at I.nodes I.demand v z kind lawful.demand node w at)
-  | inr none ↦ (let zero = at_other v (z -ℤ (reduced I).supply v) w (λ same. none (rw same node)) in
-      omega (arith, ints, held_other I.nodes (reduced I).supply w none, held_other I.nodes (reduced (supplied I v z)).supply w none))
-]
-
 pub balance_supplied : (I : Instance) (rows : List ArcRow) (flow : TrackedView ℤ) (b b' : Balance) (v : ℕ) (z : ℤ) → IsLawful I → kind_of I.demand ≡ Min → IsNodeOf I.nodes v → IsRaised v ((reduced I).supply v) z b.excess b'.excess → b'.cost ≡ b.cost → IsBalanceOf I rows flow b → IsBalanceOf (supplied I v z) rows flow b'
 balance_supplied I rows flow b b' v z lawful kind node raised same_cost is = record {
   sized = raised.same_length ∙ is.sized;
-  excess = excess_supplied rows (sends I) (sends (supplied I v z)) flow.entries b.excess b'.excess v ((reduced I).supply v) z (sends_supplied I v z lawful kind node) raised is.excess;
+  excess = excess_supplied rows (sends I) (sends (supplied I v z)) flow.entries b.excess b'.excess v ((reduced I).supply v) z (supplies_held I v z lawful kind node) raised is.excess;
   cost = same_cost ∙ is.cost;
 }
 

@@ -1,5 +1,5 @@
 -- The chosen set, in the words of breaches.
-use Rattle.std.proofs.Common.{◌≡◌, ℕ, suc, ◌≤◌, ℤ, pos, List, [], ◌∷◌, length, refl, sym, ap, ◌∙◌, arith, Bool, true, false, cond, not, ◌&&◌}
+use Rattle.std.proofs.Common.{◌≡◌, ℕ, suc, ◌≤◌, ℤ, pos, List, [], ◌∷◌, length, refl, sym, ap, ◌∙◌, arith, Bool, false, cond, not, ◌&&◌}
 use Rattle.std.proofs.lemmas.Int.{ints}
 use Rattle.dimacs_text.specs.declared.problem.ArcRow.{ArcRow}
 use Rattle.network.specs.Flow.{MinCost, IsNode, AllEndsAreNodes, nodes_sum, arcs_sum, supply_of, crosses, outside, surplus_of, shortfall_of, IsLeastGreatestSurplus, IsLeastGreatestShortfall}
@@ -9,17 +9,14 @@ use Rattle.augmentation.specs.Nodes.{table, held}
 use Rattle.residual_graph.proofs.NodeNumbers.{AllEndsIn}
 use Rattle.augmentation.proofs.NodeLemmas.{length-table, table_at, held_node, sum_in-marked}
 
-leaving_is : (set : List Bool) (f : ArcRow → ℤ) (arcs : List ArcRow) → sum_leaving set f arcs ≡ arcs_sum (λ arc. cond (crosses (in_set set) (outside (in_set set)) arc) (f arc) (pos 0)) arcs
+pub leaving_is : (set : List Bool) (f : ArcRow → ℤ) (arcs : List ArcRow) → sum_leaving set f arcs ≡ arcs_sum (λ arc. cond (crosses (in_set set) (outside (in_set set)) arc) (f arc) (pos 0)) arcs
 leaving_is set f [] = refl
 leaving_is set f (a ∷ arcs) = omega (arith, ints, leaving_is set f arcs)
 
 turned : (t h : Bool) (z : ℤ) → cond (h && not t) z (pos 0) ≡ cond (not t && h) z (pos 0)
-turned true true z = refl
-turned true false z = refl
-turned false true z = refl
-turned false false z = refl
+turned t h z = grind arith
 
-entering_is : (set : List Bool) (f : ArcRow → ℤ) (arcs : List ArcRow) → sum_entering set f arcs ≡ arcs_sum (λ arc. cond (crosses (outside (in_set set)) (in_set set) arc) (f arc) (pos 0)) arcs
+pub entering_is : (set : List Bool) (f : ArcRow → ℤ) (arcs : List ArcRow) → sum_entering set f arcs ≡ arcs_sum (λ arc. cond (crosses (outside (in_set set)) (in_set set) arc) (f arc) (pos 0)) arcs
 entering_is set f [] = refl
 entering_is set f (a ∷ arcs) = omega (arith, ints, entering_is set f arcs, turned (in_set set a.tail) (in_set set a.head) (f a))
 

@@ -12,7 +12,7 @@ use Rattle.augmentation.proofs.PushLemmas.{at_same, at_other}
 pub at_node_bounds : (u : ℕ) (m : ℤ) (v : ℕ) → pos 0 ≤ℤ m → (pos 0 ≤ℤ at_node u m v) × (at_node u m v ≤ℤ m)
 at_node_bounds u m v h = grind (arith, ints)
 
-below_part : (z : ℤ) → z ≤ℤ pos (positive_part z)
+pub below_part : (z : ℤ) → z ≤ℤ pos (positive_part z)
 below_part (pos n) = omega (arith, ints)
 below_part (negsuc n) = omega (arith, ints)
 

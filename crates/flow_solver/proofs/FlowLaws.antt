@@ -12,17 +12,15 @@ use Rattle.flow_solver.proofs.SignLemmas.{signs_from_none_below}
 
 pub bounds_from : (arcs : List ArcRow) (x : List ℤ) → length x ≡ length arcs → ((k : ℕ) → k < length arcs → IsWithinRow (row_at arcs k) (number_at x k)) → AllWithinBounds arcs x
 bounds_from [] [] sized within = tt
-bounds_from [] (y ∷ x) sized within = absurd (omega arith)
-bounds_from (a ∷ arcs) [] sized within = absurd (omega arith)
 bounds_from (a ∷ arcs) (y ∷ x) sized within =
     let here : IsWithinRow a y = within 0 (omega arith) in
     ((here.low_kept, here.cap_kept), bounds_from arcs x (omega arith) (λ k lt. within (suc k) (omega arith)))
+bounds_from _ _ sized within = absurd (omega arith)
 
 pub bounds_length : (arcs : List ArcRow) (x : List ℤ) → AllWithinBounds arcs x → length x ≡ length arcs
 bounds_length [] [] h = refl
-bounds_length [] (y ∷ x) h = absurd h
-bounds_length (a ∷ arcs) [] h = absurd h
 bounds_length (a ∷ arcs) (y ∷ x) h = omega (arith, bounds_length arcs x h.1)
+bounds_length _ _ h = absurd h
 
 pub bounds_at : (arcs : List ArcRow) (x : List ℤ) → AllWithinBounds arcs x → (k : ℕ) → k < length arcs → IsWithinRow (row_at arcs k) (number_at x k)
 bounds_at [] x h k lt = absurd (omega arith)
@@ -33,11 +31,10 @@ bounds_at (a ∷ arcs) (y ∷ x) h (suc k) lt = bounds_at arcs x h.1 k (omega ar
 -- the rule of signs, arc by arc and place by place
 signs_all : (arcs : List ArcRow) (x p : List ℤ) → length x ≡ length arcs → KeepsSigns arcs x p → AllZip (FollowsSign (number_at p)) arcs x
 signs_all [] [] p sized signs = tt
-signs_all [] (y ∷ x) p sized signs = absurd (omega arith)
-signs_all (a ∷ arcs) [] p sized signs = absurd (omega arith)
 signs_all (a ∷ arcs) (y ∷ x) p sized signs =
     let here = signs 0 (omega arith) in
     (record { dear = here.0; cheap = here.1 }, signs_all arcs x p (omega arith) (λ k lt. signs (suc k) (omega arith)))
+signs_all _ _ p sized signs = absurd (omega arith)
 
 pub signs_at : (q : ℕ → ℤ) (arcs : List ArcRow) (x : List ℤ) → AllZip (FollowsSign q) arcs x → (k : ℕ) → k < length arcs → FollowsSign q (row_at arcs k) (number_at x k)
 signs_at q [] x h k lt = absurd (omega arith)
@@ -48,12 +45,11 @@ signs_at q (a ∷ arcs) (y ∷ x) h (suc k) lt = signs_at q arcs x h.1 k (omega 
 -- potentials that agree at the nodes keep the same rule
 signs_same : (n : ℕ) (p q : ℕ → ℤ) (arcs : List ArcRow) (x : List ℤ) → AllByRecursion (λ arc. ((1 ≤ arc.tail) × (arc.tail ≤ n)) × ((1 ≤ arc.head) × (arc.head ≤ n))) arcs → ((v : ℕ) → (1 ≤ v) × (v ≤ n) → q v ≡ p v) → AllZip (FollowsSign p) arcs x → AllZip (FollowsSign q) arcs x
 signs_same n p q [] [] ends same h = tt
-signs_same n p q [] (y ∷ x) ends same h = absurd h
-signs_same n p q (a ∷ arcs) [] ends same h = absurd h
 signs_same n p q (a ∷ arcs) (y ∷ x) ends same h =
     let at = same a.tail ends.0.0 in
     let to = same a.head ends.0.1 in
     (record { dear = λ d. h.0.dear (omega (arith, ints, d)); cheap = λ d. h.0.cheap (omega (arith, ints, d)) }, signs_same n p q arcs x ends.1 same h.1)
+signs_same n p q _ _ ends same h = absurd h
 
 pub certified_same : (I : MinCost) (x : List ℤ) (p q : ℕ → ℤ) → AllEndsAreNodes I → ((v : ℕ) → IsNode I v → q v ≡ p v) → IsCertifiedFlow I x p → IsCertifiedFlow I x q
 certified_same I x p q ends same certified = record {

@@ -9,8 +9,7 @@ use Rattle.dimacs_text.specs.declared.problem.TheConstants.{SUPPLY_LIMIT}
 use Rattle.dimacs_text.specs.declared.problem.Kind.TheVariants.{Min}
 use Rattle.dimacs_text.specs.declared.command.Edit.{Edit}
 use Rattle.dimacs_text.specs.declared.command.Edit.TheVariants.{Cap, Low, Cost, Supply, Add, Close}
-use Rattle.residual_graph.specs.Residual.{number_at, room_of, row_at, IsWithinRow}
-use Rattle.residual_graph.specs.declared.residual.Way.{Way}
+use Rattle.residual_graph.specs.Residual.{number_at, row_at, IsWithinRow}
 use Rattle.augmentation.specs.Push.{Pushes}
 use Rattle.flow_solver.specs.Moment.{Moment}
 use Rattle.flow_solver.specs.TablesView.{flow_index}
@@ -24,10 +23,11 @@ pub record IsNearest (a : ArcRow) (reduced x z : ℤ) : Type 0 where
   pub raised : reduced ≡ pos 0 → x <ℤ a.low → z ≡ a.low
   pub cut_off : reduced ≡ pos 0 → a.cap <ℤ x → z ≡ a.cap
 
--- an arc a of flow x keeps its residual arcs as the arc b of flow y: it costs the same, and a way with room has room still
+-- an arc a of flow x keeps its residual arcs as the arc b of flow y: it costs the same, and has room still up to each bound up to which it had
 pub record KeepsResidualArcs (a : ArcRow) (x : ℤ) (b : ArcRow) (y : ℤ) : Type 0 where
   pub same_cost : b.cost ≡ a.cost
-  pub has_room : (way : Way) → pos 0 <ℤ room_of a x way → pos 0 <ℤ room_of b y way
+  pub ahead : x <ℤ a.cap → y <ℤ b.cap
+  pub behind : a.low <ℤ x → b.low <ℤ y
 
 -- in the instance J the flow of arc k goes to the nearest value that its row and the potentials allow, and no other flow is altered
 pub record GoesToNearest (J : Instance) (k : ℕ) (potential : ℕ → ℤ) (x start : List ℤ) : Type 0 where

@@ -277,9 +277,10 @@ impl Tables {
 fn keeps_residual_arcs(old: &ArcRow, before: i64, row: &ArcRow, flow: i64) -> bool
     ensures { IsTrue result ↔ KeepsResidualArcs old.now before row.now flow }
 {
-    row.cost == old.cost
-        && keeps_room(before, old.cap, flow, row.cap)
-        && keeps_room(old.low, before, row.low, flow)
+    if row.cost != old.cost {
+        return false;
+    }
+    keeps_room(before, old.cap, flow, row.cap) && keeps_room(old.low, before, row.low, flow)
 }
 
 /// Whether there is room between two new numbers if there was between the old ones.

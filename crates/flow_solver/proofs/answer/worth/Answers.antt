@@ -1,4 +1,4 @@
-use Rattle.std.proofs.Common.{◌∙◌, List, length, ap, sym, subst, rules, SFits}
+use Rattle.std.proofs.Common.{◌∙◌, List, length, ap, sym, subst, rules}
 use Rattle.std.specs.Int.{w128}
 use Rattle.std.proofs.lemmas.Int.{to_z-of_z}
 use Rattle.dimacs_text.specs.declared.problem.ArcRow.{ArcRow}
@@ -15,7 +15,6 @@ cost_now-requires-clause-as_many c =
 
 pub returns-in-None : goal.returns-in-None
 returns-in-None c =
-    let fits : SFits w128 c.cost_now.result = search rules in
-    to_z-of_z w128 c.cost_now.result fits
+    to_z-of_z w128 c.cost_now.result (search rules)
     ∙ cost_exact c.args.net.now c.args.rows.now c.args.flow.now.entries c.cost_now.result c.requires.lawful c.requires.rows c.requires.bounds c.cost_now.ensures
     ∙ sym (worth_is_cost c.args.net.now.demand c.args.rows.now c.args.flow.now.entries (sym c.return_arc.ensures.arc ∙ c.in-None.is))

@@ -1,4 +1,4 @@
-use Rattle.std.proofs.Common.{◌∙◌, ℤ, List, pos, arith, subst, take, w64, SFits, rules}
+use Rattle.std.proofs.Common.{◌∙◌, ℤ, List, pos, arith, subst, take, w64, rules}
 use Rattle.std.proofs.lemmas.Int.{to_z-of_z}
 use Rattle.std.proofs.lemmas.List.{take_all}
 use Rattle.dimacs_text.specs.declared.problem.ArcRow.{ArcRow}
@@ -12,11 +12,10 @@ loop-k-preserved c =
     let rows = c.args.rows.now in
     let flow = c.args.flow.now in
     let k = c.loop-k.k in
-    let fits : SFits w64 (number_at c.args.flow.now c.loop-k.k) = search rules in
     record {
       same_length = c.carry_over.ensures.same_length ∙ c.loop-k.invariant.same_length;
       sent = λ supply is. wrapped_excess_more rows supply flow c.loop-k.excess c.carry_over.new.excess k c.loop-k-test.true c.requires.same_length
-          (subst (λ (m : ℤ). IsCarried (row_at rows k) (pos 0) m c.loop-k.excess c.carry_over.new.excess) (to_z-of_z w64 (number_at flow k) fits) c.carry_over.ensures)
+          (subst (λ (m : ℤ). IsCarried (row_at rows k) (pos 0) m c.loop-k.excess c.carry_over.new.excess) (to_z-of_z w64 (number_at flow k) (search rules)) c.carry_over.ensures)
           (c.loop-k.invariant.sent supply is);
     }
 

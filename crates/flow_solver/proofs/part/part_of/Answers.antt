@@ -1,4 +1,4 @@
-use Rattle.std.proofs.Common.{◌≡◌, ℕ, Some, ◌∙◌, sym, subst, w64, to_z, of_z, SFits, rules, IsOk}
+use Rattle.std.proofs.Common.{◌≡◌, ℕ, Some, ◌∙◌, sym, subst, w64, to_z, of_z, rules, IsOk}
 use Rattle.std.proofs.lemmas.Int.{to_z-of_z}
 use Rattle.dimacs_text.specs.declared.command.Edit.{Edit}
 use Rattle.dimacs_text.specs.declared.command.Edit.TheVariants.{Add}
@@ -14,8 +14,7 @@ use Rattle.flow_solver.proofs.part.part_of.Goals as goal
 pub returns-in-Supply : goal.returns-in-Supply
 returns-in-Supply c =
     let I = c.args.net.now in
-    let fits : SFits w64 c.supply_at.result = search rules in
-    let old = to_z-of_z w64 c.supply_at.result fits ∙ c.supply_at.ensures ∙ held_node I.nodes (reduced I).supply c.edited_supply-id.result.0 c.edited_supply-id.ensures.node in
+    let old = to_z-of_z w64 c.supply_at.result (search rules) ∙ c.supply_at.ensures ∙ held_node I.nodes (reduced I).supply c.edited_supply-id.result.0 c.edited_supply-id.ensures.node in
     supply_back I c.args.edit.now c.edited_supply-id.result.0 c.edited_supply-id.result.1 (to_z w64 (of_z w64 c.supply_at.result)) c.requires.lawful old c.edited_supply-id.ensures
 
 pub returns-in-Add : goal.returns-in-Add

@@ -1,4 +1,4 @@
-use Rattle.std.proofs.Common.{◌≡◌, ◌∙◌, ◌-◌, ◌≤◌, ◌↔◌, ℕ, ℤ, List, Some, pos, IsTrue, ap, length, rules, slice_index_or, subst, sym, w64, SFits, to_z, of_z}
+use Rattle.std.proofs.Common.{◌≡◌, ◌∙◌, ◌-◌, ◌≤◌, ◌↔◌, ℕ, ℤ, List, Some, pos, IsTrue, ap, length, rules, slice_index_or, subst, sym, w64, to_z, of_z}
 use Rattle.std.proofs.lemmas.Int.{to_z-of_z}
 use Rattle.dimacs_text.specs.declared.problem.ArcRow.{ArcRow}
 use Rattle.network.specs.Instance.{Instance, arc_at, reduced}
@@ -29,9 +29,7 @@ returns c =
     let placed : row_at (reduced m.instance).arcs (flow_index m.instance.demand k) ≡ old =
     subst (λ (b : TablesView). row_at (reduced b.moment.instance).arcs (flow_index b.moment.instance.demand k) ≡ old) c.self.view_is (arc_placed I k old at there) in
     let entry = slice_index_or c.flow.result.now (k - 1) (pos 0) in
-    let entry_fits : SFits w64 entry = search rules in
-    let before : to_z w64 (of_z w64 entry) ≡ number_at m.flow (flow_index m.instance.demand k) = to_z-of_z w64 entry entry_fits ∙ ap (λ (x : List ℤ). slice_index_or x (k - 1) (pos 0)) c.flow.ensures.value ∙ flow_at m.instance.demand m.flow k (pos 0) c.requires.arc.0 in
-    let flow_fits : SFits w64 c.args.flow = search rules in
+    let before : to_z w64 (of_z w64 entry) ≡ number_at m.flow (flow_index m.instance.demand k) = to_z-of_z w64 entry (search rules) ∙ ap (λ (x : List ℤ). slice_index_or x (k - 1) (pos 0)) c.flow.ensures.value ∙ flow_at m.instance.demand m.flow k (pos 0) c.requires.arc.0 in
     subst (λ (a : ArcRow). IsTrue r ↔ KeepsResidualArcs a (number_at m.flow (flow_index m.instance.demand k)) row c.args.flow) (sym placed)
     (subst (λ (x : ℤ). IsTrue r ↔ KeepsResidualArcs old x row c.args.flow) before
-    (subst (λ (y : ℤ). IsTrue r ↔ KeepsResidualArcs old (to_z w64 (of_z w64 entry)) row y) (to_z-of_z w64 c.args.flow flow_fits) c.keeps_residual_arcs.ensures))
+    (subst (λ (y : ℤ). IsTrue r ↔ KeepsResidualArcs old (to_z w64 (of_z w64 entry)) row y) (to_z-of_z w64 c.args.flow (search rules)) c.keeps_residual_arcs.ensures))

@@ -1,4 +1,4 @@
-use Rattle.std.proofs.Common.{◌≡◌, ◌∙◌, ◌++◌, ◌∷◌, [], ℤ, List, pos, ap, subst, sym, rules, w64, SFits, to_z, of_z}
+use Rattle.std.proofs.Common.{◌≡◌, ◌∙◌, ◌++◌, ◌∷◌, [], ℤ, List, pos, ap, subst, sym, rules, w64, to_z, of_z}
 use Rattle.std.proofs.lemmas.Int.{to_z-of_z}
 use Rattle.network.specs.Flow.{IsCertifiedFlow, reduced_cost}
 use Rattle.network.specs.Instance.{Instance, IsLawful, at_node, reduced}
@@ -21,16 +21,14 @@ near : (c : After-put_last) → IsNearest c.added_row-row.result (reduced_cost (
 near c =
     let m = c.args.self.now.moment in
     let row = c.added_row-row.result in
-    let cost_fits : SFits w64 c.reduced_cost.result = search rules in
     let potentials = c.potentials.ensures.value in
-    let cost : to_z w64 (of_z w64 c.reduced_cost.result) ≡ reduced_cost (at_node m.potentials) row = to_z-of_z w64 c.reduced_cost.result cost_fits ∙ c.reduced_cost.ensures ∙ ap (λ (p : List ℤ). reduced_cost (at_node p) row) potentials in
+    let cost : to_z w64 (of_z w64 c.reduced_cost.result) ≡ reduced_cost (at_node m.potentials) row = to_z-of_z w64 c.reduced_cost.result (search rules) ∙ c.reduced_cost.ensures ∙ ap (λ (p : List ℤ). reduced_cost (at_node p) row) potentials in
     subst (λ (r : ℤ). IsNearest row r (pos 0) (after c)) cost c.nearest-flow.ensures
 
 moment_is : (c : After-put_last) → c.put_last.new.self.moment ≡ record c.args.self.now.moment { instance = with_last c.args.self.now.moment.instance c.added_row-row.result; flow = c.args.self.now.moment.flow ++ after c ∷ [] }
 moment_is c =
     let m = c.args.self.now.moment in
-    let fits : SFits w64 (after c) = search rules in
-    let flow = to_z-of_z w64 (after c) fits in
+    let flow = to_z-of_z w64 (after c) (search rules) in
     c.put_last.ensures.moment ∙ ap (λ (z : ℤ). record m { instance = with_last m.instance c.added_row-row.result; flow = m.flow ++ z ∷ [] }) flow
 
 pub invariant_of-self : goal.invariant_of-self

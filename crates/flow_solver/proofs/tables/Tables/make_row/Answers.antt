@@ -1,4 +1,4 @@
-use Rattle.std.proofs.Common.{◌≡◌, ◌∙◌, ◌-◌, ℤ, List, pos, true, false, ap, subst, sym, rules, slice_set, slice_index_or, w64, SFits, to_z, of_z}
+use Rattle.std.proofs.Common.{◌≡◌, ◌∙◌, ◌-◌, ℤ, List, pos, true, false, ap, subst, sym, rules, slice_set, slice_index_or, w64, to_z, of_z}
 use Rattle.std.proofs.lemmas.Int.{to_z-of_z}
 use Rattle.network.specs.Flow.{IsCertifiedFlow, reduced_cost}
 use Rattle.network.specs.Instance.{Instance, IsLawful, at_node, reduced}
@@ -27,13 +27,11 @@ near c =
     let m = c.args.self.now.moment in
     let k = c.edited_row-k.result.0 in
     let row = c.edited_row-k.result.1 in
-    let cost_fits : SFits w64 c.reduced_cost.result = search rules in
     let potentials = c.potentials.ensures.value in
-    let cost : to_z w64 (of_z w64 c.reduced_cost.result) ≡ reduced_cost (at_node m.potentials) row = to_z-of_z w64 c.reduced_cost.result cost_fits ∙ c.reduced_cost.ensures ∙ ap (λ (p : List ℤ). reduced_cost (at_node p) row) potentials in
+    let cost : to_z w64 (of_z w64 c.reduced_cost.result) ≡ reduced_cost (at_node m.potentials) row = to_z-of_z w64 c.reduced_cost.result (search rules) ∙ c.reduced_cost.ensures ∙ ap (λ (p : List ℤ). reduced_cost (at_node p) row) potentials in
     let flows = c.flow.ensures.value in
     let entry = slice_index_or c.flow.result.now (k - 1) (pos 0) in
-    let entry_fits : SFits w64 entry = search rules in
-    let before : to_z w64 (of_z w64 entry) ≡ number_at m.flow (flow_index m.instance.demand k) = to_z-of_z w64 entry entry_fits ∙ ap (λ (x : List ℤ). slice_index_or x (k - 1) (pos 0)) flows ∙ flow_at m.instance.demand m.flow k (pos 0) c.edited_row-k.ensures.arc.0 in
+    let before : to_z w64 (of_z w64 entry) ≡ number_at m.flow (flow_index m.instance.demand k) = to_z-of_z w64 entry (search rules) ∙ ap (λ (x : List ℤ). slice_index_or x (k - 1) (pos 0)) flows ∙ flow_at m.instance.demand m.flow k (pos 0) c.edited_row-k.ensures.arc.0 in
     subst (λ (r : ℤ). IsNearest row r (number_at m.flow (flow_index m.instance.demand k)) (after c)) cost
     (subst (λ (x : ℤ). IsNearest row (to_z w64 (of_z w64 c.reduced_cost.result)) x (after c)) before c.nearest-flow.ensures)
 
@@ -42,8 +40,7 @@ moment_is c =
     let m = c.args.self.now.moment in
     let k = c.edited_row-k.result.0 in
     let J = with_row m.instance (k - 1) c.edited_row-k.result.1 in
-    let fits : SFits w64 (after c) = search rules in
-    let flow = to_z-of_z w64 (after c) fits in
+    let flow = to_z-of_z w64 (after c) (search rules) in
     c.swap_flow.ensures.moment
     ∙ ap (λ (n : Moment). record n { flow = slice_set n.flow (flow_index n.instance.demand k) (to_z w64 (of_z w64 (after c))) }) c.swap_row.ensures.moment
     ∙ ap (λ (z : ℤ). record m { instance = J; flow = slice_set m.flow (flow_index m.instance.demand k) z }) flow
@@ -53,14 +50,13 @@ invariant_of-self c =
     let m = c.args.self.now.moment in
     let t = c.self-2.inside in
     let s = (goal.at.invariant_of-self c).After-swap_flow in
-    let after_fits : SFits w64 (after s) = search rules in
     let now = ap (λ (d : TablesView). d.moment) c.self-2.view_is ∙ moment_is s in
     tables_told t.graph t.flow t.potentials t.balance t.cut t.scratch t.before c.if-self.stands c.self-2.invariant (λ stands.
     elim c.if-self.branch [
       | then-self w ↦ subst (λ (n : Moment). AreGreatestPotentials (reduced n.instance) n.flow (at_node n.potentials)) (sym now)
           (greatest_changed m.instance c.edited_row-k.result.0 c.edited_row-k.result.1 (at_node m.potentials) m.flow (after s) (edit_is s).arc (edit_is s).tail (edit_is s).head
           (λ tight. subst (λ (y : ℤ). KeepsResidualArcs (row_at (reduced m.instance).arcs (flow_index m.instance.demand c.edited_row-k.result.0)) (number_at m.flow (flow_index m.instance.demand c.edited_row-k.result.0)) c.edited_row-k.result.1 y)
-          (to_z-of_z w64 (after s) after_fits) (w.keeps_greatest-stands.ensures (sym w.stands-is ∙ stands) tight)) c.requires.certified
+          (to_z-of_z w64 (after s) (search rules)) (w.keeps_greatest-stands.ensures (sym w.stands-is ∙ stands) tight)) c.requires.certified
           (subst (λ (b : TablesView). AreGreatestPotentials (reduced b.moment.instance) b.moment.flow (at_node b.moment.potentials)) c.self.view_is (c.self.invariant.told w.if-self.true)))
       | else-self w ↦ (let wrong : false ≡ true = sym w.if-self.false ∙ sym w.stands-is ∙ stands in cc)
     ])

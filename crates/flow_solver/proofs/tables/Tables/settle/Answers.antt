@@ -16,7 +16,7 @@ use Rattle.flow_solver.proofs.TablesViewLemmas.{sized_written, tables_written}
 use Rattle.flow_solver.proofs.FlowLaws.{bounds_from}
 use Rattle.flow_solver.proofs.PushLaws.{pushes_of, left_is}
 use Rattle.flow_solver.proofs.InstanceLemmas.{few_entries, potentials_of, certified_of, supplies_of_instance, caps_of_instance}
-use Rattle.flow_solver.proofs.AnswerLemmas.{AreRows, IsEnd, exact_of_certified, wrapped_small, end_of, certified_at, end_certified, end_verdict, end_chosen, left_fits, lack_fits}
+use Rattle.flow_solver.proofs.AnswerLemmas.{AreRows, IsEnd, exact_of_certified, wrapped_small, certified_at, end_certified, end_verdict, end_chosen, left_fits, lack_fits}
 use Rattle.flow_solver.proofs.tables.Tables.settle.Goals as goal
 use Rattle.flow_solver.proofs.tables.Tables.settle.Goals.{After-settle-pushes, After-judge-self-inside}
 
@@ -54,10 +54,16 @@ excess_in c = c.settle-pushes.ensures.ready.state.excess_in ∙ c.settle-pushes.
 end : (c : After-settle-pushes) → IsEnd c.self.inside.graph.net c.settle-pushes.new.flow.entries c.settle-pushes.new.potentials.table.entries c.settle-pushes.new.excess c.settle-pushes.new.cut.entries
 end c =
     let supply = held c.self.inside.graph.net.nodes (reduced c.self.inside.graph.net).supply in
-    end_of c.self.inside.graph.net c.self.inside.graph.rows c.settle-pushes.new.flow.entries c.settle-pushes.new.potentials.table.entries c.settle-pushes.new.excess c.settle-pushes.new.cut.entries c.self.invariant.graph.rows.lawful c.self.invariant.graph.rows.rows_are
-    c.settle-pushes.ensures.ready.in_range (excess_in c) (c.settle-pushes.ensures.cut_written.same_length ∙ c.self.invariant.cut_in.entries_in)
-    c.settle-pushes.ensures.ready.state.certified
-    (c.settle-pushes.ensures.excess supply (excess_before c)) (c.settle-pushes.ensures.cut supply (excess_before c))
+    let same = c.self.invariant.graph.rows.rows_are in
+    record {
+      lawful = c.self.invariant.graph.rows.lawful;
+      potentials_in = c.settle-pushes.ensures.ready.in_range;
+      excess_in = excess_in c;
+      cut_in = c.settle-pushes.ensures.cut_written.same_length ∙ c.self.invariant.cut_in.entries_in;
+      certified = rw same at c.settle-pushes.ensures.ready.state.certified;
+      excess_is = rw same at (c.settle-pushes.ensures.excess supply (excess_before c));
+      chosen = rw same at (c.settle-pushes.ensures.cut supply (excess_before c));
+    }
 
 few : (c : After-settle-pushes) → c.self.inside.graph.net.nodes + 1 ≤ entry_limit
 few c = few_entries c.self.inside.graph.net c.self.invariant.graph.rows.lawful

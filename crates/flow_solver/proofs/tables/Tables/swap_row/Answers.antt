@@ -1,4 +1,4 @@
-use Rattle.std.proofs.Common.{◌≡◌, ◌∙◌, ◌+◌, ◌-◌, ◌<◌, ◌≤◌, ◌^◌, ◌+ℤ◌, ◌-ℤ◌, ◌*ℤ◌, ℤ, List, ap, arith, length, refl, rules, slice_index_or, subst, sym, w64, SFits, to_z, of_z}
+use Rattle.std.proofs.Common.{◌≡◌, ◌∙◌, ◌+◌, ◌-◌, ◌<◌, ◌≤◌, ◌^◌, ◌+ℤ◌, ◌-ℤ◌, ◌*ℤ◌, ℤ, List, ap, arith, length, refl, rules, slice_index_or, subst, sym, w64, to_z, of_z}
 use Rattle.std.specs.Int.{int_wrap, w128}
 use Rattle.std.proofs.lemmas.Int.{to_z-of_z}
 use Rattle.dimacs_text.specs.declared.problem.ArcRow.{ArcRow}
@@ -23,19 +23,15 @@ invariant_of-self c =
     let there = subst (λ (b : TablesView). (1 ≤ c.args.k) × (c.args.k ≤ length b.moment.instance.arcs)) (sym c.self.view_is) (c.requires.ends.0, c.requires.ends.1) in
     let tail = subst (λ (b : TablesView). row.tail ≡ (slice_index_or b.moment.instance.arcs (c.args.k - 1) row).tail) (sym c.self.view_is) c.requires.ends.2 in
     let head = subst (λ (b : TablesView). row.head ≡ (slice_index_or b.moment.instance.arcs (c.args.k - 1) row).head) (sym c.self.view_is) c.requires.ends.3 in
-    let after_fits : SFits w64 c.args.row.now.cost = search rules in
-    let after = to_z-of_z w64 row.cost after_fits in
+    let after = to_z-of_z w64 row.cost (search rules) in
     let place = c.first_row.result + (c.args.k - 1) in
     let at = place_is I t.graph.rows c.args.k place inv.graph.rows.rows_are there
     (omega (arith, c.first_row.ensures)) in
     let before : row_at c.rows.result.now place ≡ row_at t.graph.rows place = ap (λ (r : List ArcRow). row_at r place) c.rows.ensures in
     let kept : number_at c.whole.result.now place ≡ number_at t.flow.whole place = ap (λ (x : List ℤ). number_at x place) c.whole.ensures.value in
-    let old_fits : SFits w128 c.self.inside.balance.cost = search rules in
-    let before_fits : SFits w64 (row_at c.rows.result.now place).cost = search rules in
-    let kept_fits : SFits w64 (number_at c.whole.result.now place) = search rules in
-    let old = to_z-of_z w128 t.balance.cost old_fits in
-    let price : to_z w64 (of_z w64 (row_at c.rows.result.now place).cost) ≡ (row_at t.graph.rows place).cost = to_z-of_z w64 (row_at c.rows.result.now place).cost before_fits ∙ ap (λ a. a.cost) before in
-    let factor : to_z w64 (of_z w64 (number_at c.whole.result.now place)) ≡ number_at t.flow.whole place = to_z-of_z w64 (number_at c.whole.result.now place) kept_fits ∙ kept in
+    let old = to_z-of_z w128 t.balance.cost (search rules) in
+    let price : to_z w64 (of_z w64 (row_at c.rows.result.now place).cost) ≡ (row_at t.graph.rows place).cost = to_z-of_z w64 (row_at c.rows.result.now place).cost (search rules) ∙ ap (λ a. a.cost) before in
+    let factor : to_z w64 (of_z w64 (number_at c.whole.result.now place)) ≡ number_at t.flow.whole place = to_z-of_z w64 (number_at c.whole.result.now place) (search rules) ∙ kept in
     let cost : to_z w128 (of_z w128 c.reprice-self-inside.result) ≡ int_wrap w128 (t.balance.cost +ℤ (row.cost -ℤ (row_at t.graph.rows place).cost) *ℤ number_at t.flow.whole place) =
     to_z-of_z w128 c.reprice-self-inside.result (record { sfits = c.reprice-self-inside.type_inv }) ∙ c.reprice-self-inside.ensures ∙ (λ i. int_wrap w128 (old i +ℤ (after i -ℤ price i) *ℤ factor i)) in
     let now = record t.balance { cost = to_z w128 (of_z w128 c.reprice-self-inside.result) } in
