@@ -10,7 +10,7 @@ use Rattle.network.specs.Instance.{Demand, Instance, at_node, reduced, reduced_a
 use Rattle.flow_solver.specs.declared.part.Part.{Part}
 use Rattle.flow_solver.specs.declared.part.Part.TheVariants.{Arc, Supply, Last, Gone}
 use Rattle.flow_solver.specs.TablesView.{TablesView}
-use Rattle.flow_solver.specs.Edit.{AreChanges, AreMade, IsChange, IsMade}
+use Rattle.flow_solver.specs.Edit.{AreChanges, AreMade, CanMake, IsChange, IsMade, IsMadeIn}
 use Rattle.flow_solver.specs.Moment.{Snapshot}
 use Rattle.flow_solver.specs.Part.{before_all, before_part, CanTakeBack, CanTakeBackAll, IsLogged, LeadsBack, TakesBack, return_count}
 use Rattle.flow_solver.proofs.TablesViewLemmas.{return_count_before}
@@ -106,26 +106,27 @@ making_start edits old fresh certified accepted = record {
   logged = ap (λ (log : List Part). length log) fresh;
 }
 
-pub making_fits : (i : ℕ) (edits : List Edit) (old now : TablesView) (d : Edit) → i < length edits → IsMaking i edits old now → IsOk (edited now.moment.instance (get_or edits i d))
-making_fits i edits old now d below making = accepted_first now.moment.instance (get_or edits i d) (drop (i + 1) edits) (rw (drop_more edits i d below) at making.accepted)
+pub making_fits : (i : ℕ) (edits : List Edit) (old now : TablesView) (d : Edit) → i < length edits → IsMaking i edits old now → CanMake (get_or edits i d) now.moment
+making_fits i edits old now d below making = record {
+  certified = making.certified;
+  accepted = accepted_first now.moment.instance (get_or edits i d) (drop (i + 1) edits) (rw (drop_more edits i d below) at making.accepted);
+}
 
 pub making_more : (i : ℕ) (edits : List Edit) (old now noted next : TablesView) (d : Edit) → i < length edits → IsMaking i edits old now
     → noted.moment ≡ now.moment → IsLogged now.moment.instance (get_or edits i d) now.kept noted.kept
-    → IsMade noted.moment.instance next.moment.instance (get_or edits i d) (at_node noted.moment.potentials) noted.moment.flow next.moment.flow
-    → IsCertifiedFlow (reduced next.moment.instance) next.moment.flow (at_node next.moment.potentials)
-    → next.moment.potentials ≡ noted.moment.potentials → next.kept ≡ noted.kept
+    → IsMadeIn (get_or edits i d) noted next
     → IsMaking (i + 1) edits old next
-making_more i edits old now noted next d below making same logged made_noted certified potentials kept =
+making_more i edits old now noted next d below making same logged in_noted =
     let edit = get_or edits i d in
-    let made = rw (same, making.potentials) at made_noted in
-    let log : next.kept.log ≡ now.kept.log ++ logged.part ∷ [] = ap (λ (k : Snapshot). k.log) (kept ∙ logged.now_is) in
+    let made = rw (same, making.potentials) at in_noted.made in
+    let log : next.kept.log ≡ now.kept.log ++ logged.part ∷ [] = ap (λ (k : Snapshot). k.log) (in_noted.kept ∙ logged.now_is) in
     record {
       accepted = accepted_rest now.moment.instance next.moment.instance edit (drop (i + 1) edits) made.after (rw (drop_more edits i d below) at making.accepted);
       made = rw (take_more edits i d below) (made_push old.moment.instance now.moment.instance next.moment.instance (take i edits) edit (at_node old.moment.potentials) old.moment.flow now.moment.flow next.moment.flow making.made made);
-      certified = certified;
-      potentials = potentials ∙ ap (λ m. m.potentials) same ∙ making.potentials;
+      certified = in_noted.certified;
+      potentials = in_noted.potentials ∙ ap (λ m. m.potentials) same ∙ making.potentials;
       back = rw log (leads_push now.kept.log old.moment.instance now.moment.instance next.moment.instance edit logged.part making.back made.after logged.takes_back);
-      kept = kept ∙ logged.now_is ∙ ap (λ (k : Snapshot). record k { log = now.kept.log ++ logged.part ∷ [] }) making.kept ∙ ap (λ (ps : List Part). record old.kept { log = ps }) (sym log);
+      kept = in_noted.kept ∙ logged.now_is ∙ ap (λ (k : Snapshot). record k { log = now.kept.log ++ logged.part ∷ [] }) making.kept ∙ ap (λ (ps : List Part). record old.kept { log = ps }) (sym log);
       logged = ap (λ (ps : List Part). length ps) log ∙ length-append now.kept.log (logged.part ∷ []) ∙ ap (λ (n : ℕ). n + 1) making.logged;
     }
 

@@ -1,5 +1,5 @@
 -- What an edit leaves: a change of one arc or of one supply, or an arc added.
-use Rattle.std.specs.Prelude.{◌≡◌, ℕ, ◌-◌, ◌<◌, ◌≤◌, Ok, Some, slice_index_or, ℤ, pos, ◌-ℤ◌, ◌+ℤ◌, ◌<ℤ◌, ◌≤ℤ◌, unsigned_abs, List, [], ◌∷◌, ◌++◌, length, slice_set}
+use Rattle.std.specs.Prelude.{◌≡◌, ℕ, ◌-◌, ◌<◌, ◌≤◌, Ok, IsOk, Some, slice_index_or, ℤ, pos, ◌-ℤ◌, ◌+ℤ◌, ◌<ℤ◌, ◌≤ℤ◌, unsigned_abs, List, [], ◌∷◌, ◌++◌, length, slice_set}
 use Rattle.dimacs_text.specs.declared.problem.ArcRow.{ArcRow}
 use Rattle.network.specs.Flow.{FollowsSign, IsCertifiedFlow, IsPotential, reduced_cost, total_excess}
 use Rattle.network.specs.Instance.{Instance, ArcFits, arc_at, at_node, kind_of, reduced, with_supply}
@@ -12,7 +12,7 @@ use Rattle.dimacs_text.specs.declared.command.Edit.TheVariants.{Cap, Low, Cost, 
 use Rattle.residual_graph.specs.Residual.{number_at, row_at, IsWithinRow}
 use Rattle.augmentation.specs.Push.{Pushes}
 use Rattle.flow_solver.specs.Moment.{Moment}
-use Rattle.flow_solver.specs.TablesView.{flow_index}
+use Rattle.flow_solver.specs.TablesView.{TablesView, flow_index}
 
 -- z is the flow nearest to x that the bounds of the arc and the sign of its reduced cost allow
 pub record IsNearest (a : ArcRow) (reduced x z : ℤ) : Type 0 where
@@ -142,6 +142,18 @@ HasPotentials m = (v : ℕ) → IsNode m.instance.nodes v → IsPotential (at_no
 abbrev pub Makes : Edit → Moment → Moment → Type 0
 Makes edit m n = IsMade m.instance n.instance edit (at_node m.potentials) m.flow n.flow
 
+-- an edit can be made where the instance accepts it and the potentials certify the flow
+pub record CanMake (edit : Edit) (m : Moment) : Type 0 where
+  pub certified : IsCertifiedMoment m
+  pub accepted : IsOk (edited m.instance edit)
+
+-- it was made in the tables: the same potentials certify what it made of the flow, and what is kept stays
+pub record IsMadeIn (edit : Edit) (old now : TablesView) : Type 0 where
+  pub made : Makes edit old.moment now.moment
+  pub certified : IsCertifiedMoment now.moment
+  pub potentials : now.moment.potentials ≡ old.moment.potentials
+  pub kept : now.kept ≡ old.kept
+
 abbrev pub MakeAll : List Edit → Moment → Moment → Type 0
 MakeAll edits m n = AreMade m.instance edits (at_node m.potentials) m.flow n.instance n.flow
 
@@ -154,3 +166,10 @@ arc_reduced m k = reduced_cost (at_node m.potentials) (arc_row m k)
 
 abbrev pub arc_flow : Moment → ℕ → ℤ
 arc_flow m k = number_at m.flow (flow_index m.instance.demand k)
+
+-- one edit, or several together, led from the first moment to the second by so many pushes
+abbrev pub Changes : Edit → Moment → Moment → ℕ → Type 0
+Changes edit m n pushes = IsChange m.instance n.instance edit (at_node m.potentials) m.flow n.flow pushes
+
+abbrev pub ChangeAll : List Edit → Moment → Moment → ℕ → Type 0
+ChangeAll edits m n pushes = AreChanges m.instance n.instance edits (at_node m.potentials) m.flow n.flow pushes

@@ -3,11 +3,11 @@
 ghost use Rattle.std.specs.Prelude.{◌≡◌, ℕ, pos, ◌<◌, ◌≤◌, ◌<ℤ◌, ◌≤ℤ◌, ◌++◌, ◌∷◌, [], ◌↔◌, IsTrue, IsOk, IsSome, None, Ok, Some, length};
 ghost use Rattle.network.specs.Edited.{edited, edited_all};
 ghost use Rattle.flow_solver.specs.declared.part.Part.{Part};
-ghost use Rattle.network.specs.Flow.{IsCertifiedFlow, total_excess};
-ghost use Rattle.network.specs.Instance.{at_node, reduced};
+ghost use Rattle.network.specs.Flow.{total_excess};
+ghost use Rattle.network.specs.Instance.{reduced};
 ghost use Rattle.augmentation.specs.Push.{Pushes};
 ghost use Rattle.flow_solver.specs.Answer.{IsAnswered};
-ghost use Rattle.flow_solver.specs.Edit.{AreChanges, HasPotentials, IsCertifiedMoment, IsChange, IsOfAdd, IsOfArc, IsOfSupply, KeepsResidualArcs, MakeAll, Makes, arc_flow, arc_reduced, arc_row};
+ghost use Rattle.flow_solver.specs.Edit.{CanMake, ChangeAll, Changes, HasPotentials, IsCertifiedMoment, IsMadeIn, IsOfAdd, IsOfArc, IsOfSupply, KeepsResidualArcs, MakeAll, arc_flow, arc_reduced, arc_row};
 ghost use Rattle.flow_solver.specs.Moment.{IsSized, kept_of};
 ghost use Rattle.flow_solver.specs.Part.{before_all, before_part, CanTakeBack, CanTakeBackAll, IsLogged, LeadsBack};
 
@@ -23,7 +23,7 @@ use dimacs_text::{ArcRow, Edit, GROUP_LIMIT};
 impl Tables {
     /// Makes the flow a best one, or marks the cut that shows why no flow is legal, and gives the number of pushes.
     pub fn settle(&mut self) -> u64
-        requires { IsCertifiedFlow (reduced self.old.moment.instance) self.old.moment.flow (at_node self.old.moment.potentials) }
+        requires { IsCertifiedMoment self.old.moment }
         ensures instance { self.new.moment.instance ≡ self.old.moment.instance }
         ensures answered { IsAnswered self.new.moment }
         ensures pushes { Pushes (reduced self.old.moment.instance).arcs (reduced self.old.moment.instance).supply result self.old.moment.flow self.new.moment.flow }
@@ -53,11 +53,11 @@ impl Tables {
     /// an edited arc goes to the nearest value that its bounds and the sign rule allow. What stood before is kept. Gives
     /// the number of pushes after that, which is at most what was left to send out before and the edit's units.
     pub fn change(&mut self, edit: &Edit) -> u64
-        requires certified { IsCertifiedFlow (reduced self.old.moment.instance) self.old.moment.flow (at_node self.old.moment.potentials) }
+        requires certified { IsCertifiedMoment self.old.moment }
         requires accepted { IsOk (edited self.old.moment.instance edit.now) }
         ensures instance { edited self.old.moment.instance edit.now ≡ Ok self.new.moment.instance }
         ensures answered { IsAnswered self.new.moment }
-        ensures changed { IsChange self.old.moment.instance self.new.moment.instance edit.now (at_node self.old.moment.potentials) self.old.moment.flow self.new.moment.flow result }
+        ensures changed { Changes edit.now self.old.moment self.new.moment result }
         ensures before { self.new.before ≡ Some self.old.moment }
     {
         self.change_all(&[*edit])
@@ -68,11 +68,11 @@ impl Tables {
     /// potentials that stood before them all. What stood before is kept, also where there is no edit.
     pub fn change_all(&mut self, edits: &[Edit]) -> u64
         requires few { length edits.now ≤ GROUP_LIMIT }
-        requires certified { IsCertifiedFlow (reduced self.old.moment.instance) self.old.moment.flow (at_node self.old.moment.potentials) }
+        requires certified { IsCertifiedMoment self.old.moment }
         requires accepted { IsOk (edited_all self.old.moment.instance edits.now) }
         ensures instance { edited_all self.old.moment.instance edits.now ≡ Ok self.new.moment.instance }
         ensures answered { IsAnswered self.new.moment }
-        ensures changed { AreChanges self.old.moment.instance self.new.moment.instance edits.now (at_node self.old.moment.potentials) self.old.moment.flow self.new.moment.flow result }
+        ensures changed { ChangeAll edits.now self.old.moment self.new.moment result }
         ensures before { self.new.before ≡ Some self.old.moment }
     {
         let verdict = self.verdict;
@@ -99,12 +99,8 @@ impl Tables {
     /// its bounds and the sign rule allow under the potentials that stand. So the flow is certified still, and can be
     /// settled.
     fn make(&mut self, edit: &Edit)
-        requires certified { IsCertifiedMoment self.old.moment }
-        requires accepted { IsOk (edited self.old.moment.instance edit.now) }
-        ensures made { Makes edit.now self.old.moment self.new.moment }
-        ensures certified { IsCertifiedMoment self.new.moment }
-        ensures potentials { self.new.moment.potentials ≡ self.old.moment.potentials }
-        ensures kept { self.new.kept ≡ self.old.kept }
+        requires { CanMake edit.now self.old.moment }
+        ensures { IsMadeIn edit.now self.old self.new }
     {
         match edit {
             Edit::Supply { .. } => self.make_supply(edit),
@@ -115,13 +111,9 @@ impl Tables {
 
     /// Makes an accepted edit of an arc.
     fn make_row(&mut self, edit: &Edit)
-        requires certified { IsCertifiedMoment self.old.moment }
-        requires accepted { IsOk (edited self.old.moment.instance edit.now) }
+        requires can { CanMake edit.now self.old.moment }
         requires of_arc { IsOfArc edit.now }
-        ensures made { Makes edit.now self.old.moment self.new.moment }
-        ensures certified { IsCertifiedMoment self.new.moment }
-        ensures potentials { self.new.moment.potentials ≡ self.old.moment.potentials }
-        ensures kept { self.new.kept ≡ self.old.kept }
+        ensures { IsMadeIn edit.now self.old self.new }
     {
         let (k, mut row) = edited_row(self.graph.network(), edit);
         let before = self.flow()[k as usize - 1];
@@ -164,13 +156,9 @@ impl Tables {
 
     /// Makes an accepted edit of a supply.
     fn make_supply(&mut self, edit: &Edit)
-        requires certified { IsCertifiedMoment self.old.moment }
-        requires accepted { IsOk (edited self.old.moment.instance edit.now) }
+        requires can { CanMake edit.now self.old.moment }
         requires of_supply { IsOfSupply edit.now }
-        ensures made { Makes edit.now self.old.moment self.new.moment }
-        ensures certified { IsCertifiedMoment self.new.moment }
-        ensures potentials { self.new.moment.potentials ≡ self.old.moment.potentials }
-        ensures kept { self.new.kept ≡ self.old.kept }
+        ensures { IsMadeIn edit.now self.old self.new }
     {
         let (id, mut value) = edited_supply(self.graph.network(), edit);
         self.swap_supply(id, &mut value);
@@ -178,13 +166,9 @@ impl Tables {
 
     /// Makes an accepted edit that adds an arc.
     fn make_arc(&mut self, edit: &Edit)
-        requires certified { IsCertifiedMoment self.old.moment }
-        requires accepted { IsOk (edited self.old.moment.instance edit.now) }
+        requires can { CanMake edit.now self.old.moment }
         requires of_add { IsOfAdd edit.now }
-        ensures made { Makes edit.now self.old.moment self.new.moment }
-        ensures certified { IsCertifiedMoment self.new.moment }
-        ensures potentials { self.new.moment.potentials ≡ self.old.moment.potentials }
-        ensures kept { self.new.kept ≡ self.old.kept }
+        ensures { IsMadeIn edit.now self.old self.new }
     {
         let row = added_row(self.graph.network(), edit);
         let flow = nearest(&row, reduced_cost(&row, self.potentials()), 0);

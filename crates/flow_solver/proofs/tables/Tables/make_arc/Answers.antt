@@ -1,9 +1,9 @@
 use Rattle.std.proofs.Common.{◌≡◌, ◌∙◌, ◌++◌, ◌∷◌, [], ℤ, List, pos, ap, subst, sym, rules, w64, to_z, of_z}
 use Rattle.std.proofs.lemmas.Int.{to_z-of_z}
-use Rattle.network.specs.Flow.{IsCertifiedFlow, reduced_cost}
-use Rattle.network.specs.Instance.{Instance, IsLawful, at_node, reduced}
+use Rattle.network.specs.Flow.{reduced_cost}
+use Rattle.network.specs.Instance.{IsLawful, at_node, reduced}
 use Rattle.flow_solver.specs.Answer.{AreGreatestPotentials}
-use Rattle.flow_solver.specs.Edit.{IsAddEdit, IsMade, IsNearest}
+use Rattle.flow_solver.specs.Edit.{IsAddEdit, IsCertifiedMoment, IsNearest, Makes}
 use Rattle.flow_solver.specs.Moment.{Moment}
 use Rattle.flow_solver.specs.TablesView.{TablesView}
 use Rattle.residual_graph.proofs.GraphLemmas.{with_last}
@@ -39,23 +39,19 @@ invariant_of-self c =
     let now = ap (λ (d : TablesView). d.moment) c.self-2.view_is ∙ moment_is s in
     tables_told t.graph t.flow t.potentials t.balance t.cut t.scratch t.before _ c.self-2.invariant (λ stood.
     subst (λ (n : Moment). AreGreatestPotentials (reduced n.instance) n.flow (at_node n.potentials)) (sym now)
-    (greatest_more m.instance c.added_row-row.result (at_node m.potentials) m.flow (after s) c.requires.certified
+    (greatest_more m.instance c.added_row-row.result (at_node m.potentials) m.flow (after s) c.requires.can.certified
     (subst (λ (b : TablesView). AreGreatestPotentials (reduced b.moment.instance) b.moment.flow (at_node b.moment.potentials)) c.self.view_is (c.self.invariant.told stood))))
 
-pub returns-clause-made : goal.returns-clause-made
-returns-clause-made c =
+pub returns : goal.returns
+returns c =
     let m = c.args.self.now.moment in
-    let s = (goal.at.returns-clause-made c).After-put_last in
+    let row = c.added_row-row.result in
+    let s = (goal.at.returns c).After-put_last in
     let now = ap (λ (d : TablesView). d.moment) c.self-2.view_is ∙ moment_is s in
-    let lawful = subst (λ (b : TablesView). IsLawful b.moment.instance) c.self.view_is c.self.invariant.graph.rows.lawful in
-    let edit = subst (λ (b : TablesView). IsAddEdit b.moment.instance c.args.edit.now c.added_row-row.result) c.self.view_is (subst (λ (I : Instance). IsAddEdit I c.args.edit.now c.added_row-row.result) c.network.ensures c.added_row-row.ensures) in
-    subst (λ (n : Moment). IsMade m.instance n.instance c.args.edit.now (at_node m.potentials) m.flow n.flow) (sym now)
-    (add_made m.instance c.args.edit.now c.added_row-row.result (at_node m.potentials) m.flow (after s) lawful c.requires.certified edit (near s))
-
-pub returns-clause-certified : goal.returns-clause-certified
-returns-clause-certified c =
-    let m = c.args.self.now.moment in
-    let s = (goal.at.returns-clause-certified c).After-put_last in
-    let now = ap (λ (d : TablesView). d.moment) c.self-2.view_is ∙ moment_is s in
-    subst (λ (n : Moment). IsCertifiedFlow (reduced n.instance) n.flow (at_node n.potentials)) (sym now)
-    (certified_more m.instance c.added_row-row.result (at_node m.potentials) m.flow (after s) c.requires.certified (near s))
+    let lawful : IsLawful m.instance = rw (← c.self.view_is) c.self.invariant.graph.rows.lawful in
+    let edit : IsAddEdit m.instance c.args.edit.now row = rw (← c.self.view_is) (rw c.network.ensures at c.added_row-row.ensures) in
+    let both = subst (λ (n : Moment). Makes c.args.edit.now m n × IsCertifiedMoment n) (sym now) (
+      add_made m.instance c.args.edit.now row (at_node m.potentials) m.flow (after s) lawful c.requires.can.certified edit (near s),
+      certified_more m.instance row (at_node m.potentials) m.flow (after s) c.requires.can.certified (near s),
+    ) in
+    record { made = both.0; certified = both.1; potentials = search rules; kept = search rules }

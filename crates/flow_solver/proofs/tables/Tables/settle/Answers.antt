@@ -61,7 +61,7 @@ end c =
       excess_in = excess_in c;
       cut_in = c.settle-pushes.ensures.cut_written.same_length ∙ c.self.invariant.cut_in.entries_in;
       certified = rw same at c.settle-pushes.ensures.ready.state.certified;
-      excess_is = rw same at (c.settle-pushes.ensures.excess supply (excess_before c));
+      excess_is = rw same at (c.settle-pushes.ensures.pushed.excess supply (excess_before c));
       chosen = rw same at (c.settle-pushes.ensures.cut supply (excess_before c));
     }
 
@@ -107,7 +107,7 @@ invariant_of-self c =
     let now = record t.balance { excess = call.new.excess } in
     let balance : IsBalanceOf t.graph.net t.graph.rows call.new.flow now = record {
       sized = excess_in s;
-      excess = (wrapped_small t.graph.rows supply call.new.flow.entries call.new.excess (call.ensures.excess supply (excess_before s)) call.ensures.ready.state.small);
+      excess = (wrapped_small t.graph.rows supply call.new.flow.entries call.new.excess (call.ensures.pushed.excess supply (excess_before s)) call.ensures.ready.state.small);
       cost = subst (λ (k : List ℤ). IsWrappedCost t.graph.rows k t.balance.cost) (sym call.ensures.flow_written.whole) inv.balance_is.cost;
     } in
     tables_written t.graph t.graph t.flow call.new.flow t.potentials call.new.potentials t.balance now t.cut call.new.cut t.scratch call.new.scratch t.before
@@ -141,7 +141,7 @@ returns-clause-pushes c =
     let I = t.graph.net in
     let supply = held I.nodes (reduced I).supply in
     let y = c.settle-pushes.new.flow.entries in
-    let made = subst (λ (r : List ArcRow). Pushes r supply c.settle-pushes.result t.flow.entries y) c.self.invariant.graph.rows.rows_are (c.settle-pushes.ensures.pushes supply (excess_before s)) in
+    let made = subst (λ (r : List ArcRow). Pushes r supply c.settle-pushes.result t.flow.entries y) c.self.invariant.graph.rows.rows_are (c.settle-pushes.ensures.pushed.pushes supply (excess_before s)) in
     subst (λ (b : TablesView). Pushes (reduced b.moment.instance).arcs (reduced b.moment.instance).supply c.settle-pushes.result b.moment.flow y) c.self.view_is
     (pushes_of I.nodes (reduced I).arcs (reduced I).supply (reduced_ends I c.self.invariant.graph.rows.lawful) c.settle-pushes.result t.flow.entries y made)
 
@@ -154,5 +154,5 @@ returns-clause-count c =
     let e = t.balance.excess in
     let before = subst (λ (r : List ArcRow). IsExcess r supply t.flow.entries e) c.self.invariant.graph.rows.rows_are (excess_before s) in
     let all = left_is (reduced I) t.flow.entries e (reduced_ends I c.self.invariant.graph.rows.lawful) before (omega (arith, c.self.invariant.balance_is.sized)) in
-    let most : pos c.settle-pushes.result ≤ℤ total_excess (reduced I) t.flow.entries = omega (arith, ints, all, c.settle-pushes.ensures.count) in
+    let most : pos c.settle-pushes.result ≤ℤ total_excess (reduced I) t.flow.entries = omega (arith, ints, all, c.settle-pushes.ensures.pushed.count) in
     subst (λ (b : TablesView). pos c.settle-pushes.result ≤ℤ total_excess (reduced b.moment.instance) b.moment.flow) c.self.view_is most
