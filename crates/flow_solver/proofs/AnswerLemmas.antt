@@ -16,9 +16,8 @@ use Rattle.network.proofs.Reduction.{made, rows_of, reduced_ends, certified_is_b
 use Rattle.network.proofs.Surplus.{surplus_at_most}
 use Rattle.flow_solver.specs.declared.verdict.Verdict.{Verdict}
 use Rattle.flow_solver.specs.declared.verdict.Verdict.TheVariants.{Best, Infeasible}
-use Rattle.augmentation.specs.Limits.{supply_limit, cap_sum_limit}
+use Rattle.augmentation.specs.Limits.{supply_limit}
 use Rattle.shortest_paths.specs.Limits.{label_floor}
-use Rattle.residual_graph.specs.Limits.{entry_limit}
 use Rattle.residual_graph.specs.Residual.{IsReducedCostOptimal, ArePotentials, number_at, row_at}
 use Rattle.augmentation.specs.Push.{AreSmall, IsExcess, AreSupplies, positive_part, left, cap_total}
 use Rattle.augmentation.specs.Cut.{in_set, sum_in, sum_leaving, sum_entering, lack, IsChosenSet}
@@ -32,7 +31,7 @@ use Rattle.flow_solver.proofs.ExcessLemmas.{below_part}
 use Rattle.flow_solver.proofs.FlowLaws.{AgreesAt, bounds_from, certified_same, certified_flow}
 use Rattle.flow_solver.proofs.CutLaws.{IsMarkedBy, entering_is, leaving_is, least_surplus, least_shortfall}
 use Rattle.flow_solver.proofs.PushLaws.{legal_flow, left_is}
-use Rattle.flow_solver.proofs.InstanceLemmas.{range_of_labels}
+use Rattle.flow_solver.proofs.InstanceLemmas.{caps_of_instance, few_entries, range_of_labels, supplies_of_instance}
 
 -- ---- entries 1 to n of a table
 
@@ -175,7 +174,7 @@ sum_in-within [] f small = (omega (arith, ints), omega (arith, ints))
 sum_in-within (true ∷ set) f small = (let rest = sum_in-within set (λ v. f (suc v)) (supplies_later f small) in (omega (arith, ints, small.low 0), omega (arith, ints, small.high 0)))
 sum_in-within (false ∷ set) f small = (let rest = sum_in-within set (λ v. f (suc v)) (supplies_later f small) in (omega (arith, ints), omega (arith, ints)))
 
-abbrev pub AreRows : List ArcRow → Type 0
+abbrev AreRows : List ArcRow → Type 0
 AreRows arcs = (k : ℕ) → k < length arcs → (pos 0 ≤ℤ (row_at arcs k).low) × ((row_at arcs k).low ≤ℤ (row_at arcs k).cap)
 
 part_between : (b : Bool) (z c : ℤ) → pos 0 ≤ℤ z → z ≤ℤ c → (pos 0 ≤ℤ cond b c (pos 0)) × (cond b z (pos 0) ≤ℤ pos (positive_part c))
@@ -195,20 +194,21 @@ leaving_between set arcs rows = rw (leaving_is set (λ a. a.cap) arcs, leaving_i
 entering_between : (set : List Bool) (arcs : List ArcRow) → AreRows arcs → (pos 0 ≤ℤ sum_entering set (λ a. a.cap) arcs) × (sum_entering set (λ a. a.low) arcs ≤ℤ pos (cap_total arcs))
 entering_between set arcs rows = rw (entering_is set (λ a. a.cap) arcs, entering_is set (λ a. a.low) arcs) (picked_between _ arcs rows)
 
-module _ (arcs : List ArcRow) (supply : ℕ → ℤ) (e : List ℤ) (set : List Bool) (supplies : AreSupplies supply)
-    (rows : AreRows arcs) (caps : cap_total arcs ≤ cap_sum_limit) (few : length set ≤ entry_limit) (chosen : IsChosenSet arcs supply e set)
-  where
-    pub left_fits : left e < 9223372036854775808
-    left_fits = elim (cases_lt 0 (left e)) [
-      | inl some ↦ omega (arith, ints, (chosen.in_excess some).value_is, (sum_in-within set supply supplies).1, (leaving_between set arcs rows).0, (entering_between set arcs rows).1, caps, few)
-      | inr le ↦ omega arith
-    ]
+module _ (I : Instance) (y p e : List ℤ) (set : List Bool) (end : IsEnd I y p e set) where
+  rows_end : AreRows (reduced I).arcs
+  rows_end k lt = (let row = end.certified.flow.rows k lt in (row.low_at_least_0, row.low_at_most_cap))
 
-    pub lack_fits : left e ≡ 0 → lack e < 9223372036854775808
-    lack_fits none = elim (cases_lt 0 (lack e)) [
-      | inl some ↦ omega (arith, ints, (chosen.in_deficit none some).value_is, (sum_in-within set supply supplies).0, (leaving_between set arcs rows).1, (entering_between set arcs rows).0, caps, few)
-      | inr le ↦ omega arith
-    ]
+  pub left_fits : left e < 9223372036854775808
+  left_fits = elim (cases_lt 0 (left e)) [
+    | inl some ↦ omega (arith, ints, (end.chosen.in_excess some).value_is, (sum_in-within set _ (supplies_of_instance I end.lawful)).1, (leaving_between set _ rows_end).0, (entering_between set _ rows_end).1, caps_of_instance I end.lawful, few_entries I end.lawful, end.cut_in)
+    | inr le ↦ omega arith
+  ]
+
+  pub lack_fits : left e ≡ 0 → lack e < 9223372036854775808
+  lack_fits none = elim (cases_lt 0 (lack e)) [
+    | inl some ↦ omega (arith, ints, (end.chosen.in_deficit none some).value_is, (sum_in-within set _ (supplies_of_instance I end.lawful)).0, (leaving_between set _ rows_end).1, (entering_between set _ rows_end).0, caps_of_instance I end.lawful, few_entries I end.lawful, end.cut_in)
+    | inr le ↦ omega arith
+  ]
 
 -- ---- what an answered moment tells of its flows
 

@@ -21,7 +21,7 @@ use Rattle.augmentation.specs.Nodes.{held}
 use Rattle.augmentation.specs.Touched.{NameChanges}
 use Rattle.augmentation.specs.Push.{AreSmall, AreSupplies, IsExcess, at_node, cap_total}
 use Rattle.flow_solver.specs.Balance.{IsCarried, IsRaised, IsWrappedCost, IsWrappedExcess, gain}
-use Rattle.flow_solver.proofs.ExcessLemmas.{AreWithinCaps, at_zero, caps_of_flow, flow_in-bounds, flow_out-bounds, small_within}
+use Rattle.flow_solver.proofs.ExcessLemmas.{AreWithinCaps, at_zero, caps_of_flow, flow_bounds, small_within}
 use Rattle.flow_solver.proofs.InstanceLemmas.{caps_of_instance, flow_of_instance, supplies_of_instance}
 use Rattle.augmentation.proofs.PushLemmas.{at_same, at_other}
 
@@ -141,8 +141,8 @@ excess_supplied arcs supply supply' x e f u before after other raised is v =
 -- of a flow within its bounds the excess fits, and so it is exact
 wrapped_within : (arcs : List ArcRow) (supply : ℕ → ℤ) (x e : List ℤ) → length x ≡ length arcs → AreWithinCaps arcs x → AreSupplies supply → cap_total arcs ≤ cap_sum_limit → IsWrappedExcess arcs supply x e → IsExcess arcs supply x e
 wrapped_within arcs supply x e sized within supplies caps is v =
-    let out = flow_out-bounds arcs x v sized within in
-    let in_ = flow_in-bounds arcs x v sized within in
+    let out = flow_bounds (λ a. a.tail) arcs x v sized within in
+    let in_ = flow_bounds (λ a. a.head) arcs x v sized within in
     let z = supply v -ℤ net arcs x v in
     let low : neg_ℤ (pos 301000000000000) ≤ℤ (supply v -ℤ net arcs x v) = omega (arith, ints, supplies.low v, out.1, in_.0, caps) in
     let high : (supply v -ℤ net arcs x v) ≤ℤ pos 301000000000000 = omega (arith, ints, supplies.high v, out.0, in_.1, caps) in

@@ -5,7 +5,7 @@ use Rattle.std.proofs.lemmas.Int.{ints}
 use Rattle.std.proofs.lemmas.List.Sums.{sum_by-cons}
 use Rattle.dimacs_text.specs.declared.problem.ArcRow.{ArcRow}
 use Rattle.residual_graph.specs.Residual.{IsPseudoflow, number_at, row_at}
-use Rattle.network.specs.Flow.{outflow, inflow}
+use Rattle.network.specs.Flow.{flow_sum}
 use Rattle.augmentation.specs.Push.{IsExcess, at_node, AreSmall, positive_part, left, cap_total, AreSupplies}
 use Rattle.augmentation.proofs.PushLemmas.{at_same, at_other}
 
@@ -20,23 +20,15 @@ below_part (negsuc n) = omega (arith, ints)
 abbrev pub AreWithinCaps : List ArcRow → List ℤ → Type 0
 AreWithinCaps arcs x = (k : ℕ) → k < length arcs → (pos 0 ≤ℤ number_at x k) × (number_at x k ≤ℤ (row_at arcs k).cap)
 
-pub flow_out-bounds : (arcs : List ArcRow) (x : List ℤ) (v : ℕ) → length x ≡ length arcs → AreWithinCaps arcs x → (pos 0 ≤ℤ outflow arcs x v) × (outflow arcs x v ≤ℤ pos (cap_total arcs))
-flow_out-bounds [] x v sized within = (omega (arith, ints), omega (arith, ints))
-flow_out-bounds (a ∷ arcs) (y ∷ x) v sized within =
+-- what an end of the arcs gives a node
+pub flow_bounds : (end : ArcRow → ℕ) (arcs : List ArcRow) (x : List ℤ) (v : ℕ) → length x ≡ length arcs → AreWithinCaps arcs x → (pos 0 ≤ℤ flow_sum (λ a m. at_node (end a) m v) arcs x) × (flow_sum (λ a m. at_node (end a) m v) arcs x ≤ℤ pos (cap_total arcs))
+flow_bounds end [] x v sized within = (omega (arith, ints), omega (arith, ints))
+flow_bounds end (a ∷ arcs) (y ∷ x) v sized within =
     let here = within 0 (omega arith) in
-    let rest = flow_out-bounds arcs x v (omega arith) (λ k lt. within (suc k) (omega arith)) in
-    let term = at_node_bounds a.tail y v here.0 in
+    let rest = flow_bounds end arcs x v (omega arith) (λ k lt. within (suc k) (omega arith)) in
+    let term = at_node_bounds (end a) y v here.0 in
     (omega (arith, ints, rest.0, term.0), omega (arith, ints, rest.1, term.1, here.1, below_part a.cap, sum_by-cons (λ (b : ArcRow). positive_part b.cap) a arcs))
-flow_out-bounds _ _ v sized within = absurd (omega arith)
-
-pub flow_in-bounds : (arcs : List ArcRow) (x : List ℤ) (v : ℕ) → length x ≡ length arcs → AreWithinCaps arcs x → (pos 0 ≤ℤ inflow arcs x v) × (inflow arcs x v ≤ℤ pos (cap_total arcs))
-flow_in-bounds [] x v sized within = (omega (arith, ints), omega (arith, ints))
-flow_in-bounds (a ∷ arcs) (y ∷ x) v sized within =
-    let here = within 0 (omega arith) in
-    let rest = flow_in-bounds arcs x v (omega arith) (λ k lt. within (suc k) (omega arith)) in
-    let term = at_node_bounds a.head y v here.0 in
-    (omega (arith, ints, rest.0, term.0), omega (arith, ints, rest.1, term.1, here.1, below_part a.cap, sum_by-cons (λ (b : ArcRow). positive_part b.cap) a arcs))
-flow_in-bounds _ _ v sized within = absurd (omega arith)
+flow_bounds end _ _ v sized within = absurd (omega arith)
 
 pub caps_of_flow : {nodes : ℕ} {arcs : List ArcRow} {x : List ℤ} → IsPseudoflow nodes arcs x → AreWithinCaps arcs x
 caps_of_flow flow k lt =
@@ -45,8 +37,8 @@ caps_of_flow flow k lt =
 -- no excess is above what the supplies and all capacities make it
 pub small_within : (nodes : ℕ) (arcs : List ArcRow) (supply : ℕ → ℤ) (x e : List ℤ) → length x ≡ length arcs → AreWithinCaps arcs x → AreSupplies supply → cap_total arcs ≤ cap_sum_limit → IsExcess arcs supply x e → AreSmall e
 small_within nodes arcs supply x e sized within supplies caps is = record {
-  low = λ v. omega (arith, ints, is v, supplies.low v, (flow_out-bounds arcs x v sized within).1, (flow_in-bounds arcs x v sized within).0, caps);
-  high = λ v. omega (arith, ints, is v, supplies.high v, (flow_out-bounds arcs x v sized within).0, (flow_in-bounds arcs x v sized within).1, caps);
+  low = λ v. omega (arith, ints, is v, supplies.low v, (flow_bounds (λ a. a.tail) arcs x v sized within).1, (flow_bounds (λ a. a.head) arcs x v sized within).0, caps);
+  high = λ v. omega (arith, ints, is v, supplies.high v, (flow_bounds (λ a. a.tail) arcs x v sized within).0, (flow_bounds (λ a. a.head) arcs x v sized within).1, caps);
 }
 
 pub at_zero : (u v : ℕ) → at_node u (pos 0) v ≡ pos 0

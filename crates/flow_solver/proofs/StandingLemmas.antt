@@ -180,18 +180,4 @@ module _ (I : Instance) (k : ℕ) (row : ArcRow) (at : (1 ≤ k) × (k ≤ lengt
 pub tables_told : (g : Graph) (flow : TrackedView ℤ) (potentials : Potentials) (balance : Balance) (cut : TrackedView Bool) (scratch : ScratchView) (before : Before) (greatest : Bool) →
     AreTables g flow potentials balance cut scratch before → AreAsTold g.net flow.entries (record potentials { greatest = greatest }) →
     AreTables g flow (record potentials { greatest = greatest }) balance cut scratch before
-tables_told g flow potentials balance cut scratch before greatest t told = record {
-  graph = t.graph;
-  flow_in = t.flow_in;
-  flow_whole = t.flow_whole;
-  flow_fits = t.flow_fits;
-  potentials_in = t.potentials_in;
-  idle = t.idle;
-  kept_idle = t.kept_idle;
-  balance_is = t.balance_is;
-  cut_in = t.cut_in;
-  scratch_in = t.scratch_in;
-  told = told;
-  log_fits = t.log_fits;
-  before_is = t.before_is;
-}
+tables_told g flow potentials balance cut scratch before greatest t told = record { fit = t.fit; balance_is = t.balance_is; told = told; log_fits = t.log_fits; before_is = t.before_is }

@@ -1,21 +1,16 @@
 -- What the tables of a solver keep where entries are written, and what was kept of them.
-use Rattle.std.proofs.Common.{◌≡◌, ℕ, ◌+◌, ℤ, Bool, false, List, [], ◌∷◌, length, drop, refl, sym, ap, subst, ◌∙◌, arith, Option, None, Some}
+use Rattle.std.proofs.Common.{◌≡◌, ℕ, ◌+◌, ℤ, Bool, List, [], ◌∷◌, length, drop, refl, sym, ap, ◌∙◌, arith, Option, None, Some}
 use Rattle.std.specs.Prelude.{IfSome}
 use Rattle.std.proofs.lemmas.List.{length-drop}
 use Rattle.dimacs_text.specs.declared.problem.ArcRow.{ArcRow}
 use Rattle.network.specs.Instance.{Demand, Terminals, Instance, numbered_flow, with_supply}
-use Rattle.flow_solver.specs.declared.balance.Balance.{Balance}
 use Rattle.residual_graph.specs.declared.graph.Graph.{Graph}
-use Rattle.flow_solver.specs.declared.part.Before.{Before}
 use Rattle.flow_solver.specs.declared.part.Part.{Part}
 use Rattle.flow_solver.specs.declared.part.Part.TheVariants.{Supply}
 use Rattle.flow_solver.specs.declared.verdict.Verdict.{Verdict}
-use Rattle.flow_solver.specs.Potentials.{AreAsTold}
-use Rattle.flow_solver.specs.declared.potentials.Potentials.{Potentials}
-use Rattle.flow_solver.specs.Balance.{IsBalanceOf}
 use Rattle.augmentation.specs.Touched.{NameChanges}
 use Rattle.flow_solver.specs.Moment.{IsSized, Snapshot, Moment, kept_of}
-use Rattle.flow_solver.specs.Tables.{AreTables, IsOfNodes}
+use Rattle.flow_solver.specs.Tables.{FitGraph, IsOfNodes}
 use Rattle.residual_graph.specs.Graph.{IsGraph}
 use Rattle.augmentation.specs.Nodes.{IsIdleEntry}
 use Rattle.flow_solver.specs.Part.{before_all, before_of, return_count}
@@ -38,58 +33,39 @@ module _ {T : Type 0} where
     kept_in = ap (λ (xs : List T). length xs) kept_is ∙ as_many;
   }
 
--- the tables of an instance stay tables where they are written, and fit an instance of as many arcs and nodes
-pub tables_written : (g h : Graph) (flow flow' : TrackedView ℤ) (potentials potentials' : Potentials) (balance balance' : Balance) (cut cut' : TrackedView Bool) (scratch scratch' : ScratchView) (before : Before) →
-    AreTables g flow potentials balance cut scratch before → h.net.nodes ≡ g.net.nodes → h.net.room ≡ g.net.room → IsGraph h → length h.rows ≡ length g.rows →
-    IsWritten flow flow' → IsWritten potentials.table potentials'.table → IsIdleEntry potentials'.table.entries → IsBalanceOf h.net h.rows flow' balance' → IsWritten cut cut' → length scratch'.potentials ≡ h.net.nodes + 1 → AreAsTold h.net flow'.entries potentials' →
-    AreTables h flow' potentials' balance' cut' scratch' (record before { verdict = None })
-tables_written g h flow flow' potentials potentials' balance balance' cut cut' scratch scratch' before t nodes room_is graph many flow_written potentials_written idle balance_is cut_written scratch_in told = record {
-  graph = graph;
-  flow_in = flow_written.same_length ∙ t.flow_in ∙ sym many;
-  flow_whole = ap (λ (xs : List ℤ). length xs) flow_written.whole ∙ t.flow_whole ∙ sym many;
-  flow_fits = omega (arith, t.flow_fits, room_is, flow_written.same_room);
-  potentials_in = subst (λ (n : ℕ). IsOfNodes n potentials'.table) (sym nodes) (nodes_written g.net.nodes potentials.table potentials'.table t.potentials_in potentials_written);
-  idle = idle;
-  kept_idle = subst IsIdleEntry (sym potentials_written.kept) t.kept_idle;
-  balance_is = balance_is;
-  cut_in = subst (λ (n : ℕ). IsOfNodes n cut') (sym nodes) (nodes_written g.net.nodes cut cut' t.cut_in cut_written);
-  scratch_in = scratch_in;
-  told = told;
-  log_fits = t.log_fits;
-  before_is = tt;
-}
-
--- so their moment has its sizes
-pub sized_written : (g h : Graph) (flow flow' : TrackedView ℤ) (potentials potentials' : Potentials) (balance : Balance) (cut cut' : TrackedView Bool) (scratch : ScratchView) (before : Before) (verdict : Verdict) →
-    AreTables g flow potentials balance cut scratch before → h.net.nodes ≡ g.net.nodes → AreRowsOf h.net h.rows → length h.rows ≡ length g.rows →
-    IsWritten flow flow' → IsWritten potentials.table potentials'.table → IsWritten cut cut' →
-    IsSized (record { instance = h.net; flow = flow'.entries; potentials = drop 1 potentials'.table.entries; verdict = verdict; cut = drop 1 cut'.entries })
-sized_written g h flow flow' potentials potentials' balance cut cut' scratch before verdict t nodes of many flow_written potentials_written cut_written = record {
-  lawful = of.lawful;
-  one_flow = flow_written.same_length ∙ t.flow_in ∙ sym many ∙ ap (λ (xs : List ArcRow). length xs) of.rows_are;
-  one_potential = omega (arith, length-drop 1 potentials'.table.entries, potentials_written.same_length, t.potentials_in.entries_in, nodes);
-  one_mark = omega (arith, length-drop 1 cut'.entries, cut_written.same_length, t.cut_in.entries_in, nodes);
-}
-
--- the tables stay tables where the arcs become others, with as many flows, and nothing is told of the potentials
-pub tables_with_arcs : (g h : Graph) (flow flow' : TrackedView ℤ) (potentials : Potentials) (balance balance' : Balance) (cut : TrackedView Bool) (scratch : ScratchView) (before : Before) →
-    AreTables g flow potentials balance cut scratch before → h.net.nodes ≡ g.net.nodes → h.net.room ≡ g.net.room → IsGraph h →
-    length flow'.entries ≡ length h.rows → length flow'.whole ≡ length h.rows → flow'.room ≡ flow.room → IsBalanceOf h.net h.rows flow' balance' →
-    AreTables h flow' (record potentials { greatest = false }) balance' cut scratch (record before { verdict = None })
-tables_with_arcs g h flow flow' potentials balance balance' cut scratch before t nodes room_is graph flow_in flow_whole same_room balance_is = record {
+-- the tables fit a graph of as many nodes still, where there are as many flows as its rows and the others are written
+pub fit_again : (g h : Graph) (flow flow' : TrackedView ℤ) (p p' : TrackedView ℤ) (cut cut' : TrackedView Bool) (scratch scratch' : ScratchView) →
+    FitGraph g flow p cut scratch → h.net.nodes ≡ g.net.nodes → h.net.room ≡ g.net.room → IsGraph h → length flow'.entries ≡ length h.rows → length flow'.whole ≡ length h.rows → flow'.room ≡ flow.room →
+    IsWritten p p' → IsIdleEntry p'.entries → IsWritten cut cut' → length scratch'.potentials ≡ g.net.nodes + 1 → FitGraph h flow' p' cut' scratch'
+fit_again g h flow flow' p p' cut cut' scratch scratch' t nodes room_is graph flow_in flow_whole same_room p_written idle cut_written scratch_in = record {
   graph = graph;
   flow_in = flow_in;
   flow_whole = flow_whole;
   flow_fits = omega (arith, t.flow_fits, room_is, same_room);
-  potentials_in = subst (λ (n : ℕ). IsOfNodes n potentials.table) (sym nodes) t.potentials_in;
-  idle = t.idle;
-  kept_idle = t.kept_idle;
-  balance_is = balance_is;
-  cut_in = subst (λ (n : ℕ). IsOfNodes n cut) (sym nodes) t.cut_in;
-  scratch_in = t.scratch_in ∙ ap (λ (n : ℕ). n + 1) (sym nodes);
-  told = λ none. cc;
-  log_fits = t.log_fits;
-  before_is = tt;
+  potentials_in = rw nodes (nodes_written g.net.nodes p p' t.potentials_in p_written);
+  idle = idle;
+  kept_idle = rw p_written.kept t.kept_idle;
+  cut_in = rw nodes (nodes_written g.net.nodes cut cut' t.cut_in cut_written);
+  scratch_in = rw nodes scratch_in;
+}
+
+-- the same where the flow is written, and the graph has as many rows
+pub fit_written : (g h : Graph) (flow flow' : TrackedView ℤ) (p p' : TrackedView ℤ) (cut cut' : TrackedView Bool) (scratch scratch' : ScratchView) →
+    FitGraph g flow p cut scratch → h.net.nodes ≡ g.net.nodes → h.net.room ≡ g.net.room → IsGraph h → length h.rows ≡ length g.rows → IsWritten flow flow' →
+    IsWritten p p' → IsIdleEntry p'.entries → IsWritten cut cut' → length scratch'.potentials ≡ g.net.nodes + 1 → FitGraph h flow' p' cut' scratch'
+fit_written g h flow flow' p p' cut cut' scratch scratch' t nodes room_is graph many written =
+    fit_again g h flow flow' p p' cut cut' scratch scratch' t nodes room_is graph (written.same_length ∙ t.flow_in ∙ sym many) (rw written.whole (t.flow_whole ∙ sym many)) written.same_room
+
+-- so their moment has its sizes
+pub sized_written : (g h : Graph) (flow flow' : TrackedView ℤ) (p p' : TrackedView ℤ) (cut cut' : TrackedView Bool) (scratch : ScratchView) (verdict : Verdict) →
+    FitGraph g flow p cut scratch → h.net.nodes ≡ g.net.nodes → AreRowsOf h.net h.rows → length h.rows ≡ length g.rows →
+    IsWritten flow flow' → IsWritten p p' → IsWritten cut cut' →
+    IsSized (record { instance = h.net; flow = flow'.entries; potentials = drop 1 p'.entries; verdict = verdict; cut = drop 1 cut'.entries })
+sized_written g h flow flow' p p' cut cut' scratch verdict t nodes of many flow_written p_written cut_written = record {
+  lawful = of.lawful;
+  one_flow = flow_written.same_length ∙ t.flow_in ∙ sym many ∙ ap (λ (xs : List ArcRow). length xs) of.rows_are;
+  one_potential = omega (arith, length-drop 1 p'.entries, p_written.same_length, t.potentials_in.entries_in, nodes);
+  one_mark = omega (arith, length-drop 1 cut'.entries, cut_written.same_length, t.cut_in.entries_in, nodes);
 }
 
 -- places that name what is changed of a flow name what is changed of the numbered arcs

@@ -42,16 +42,8 @@ invariant_of-self c =
     let sized = subst IsSized c.snapshot.ensures.moment c.snapshot.ensures.sized in
     let leads = back c in
     record {
-      graph = inv.graph;
-      flow_in = inv.flow_in;
-      flow_whole = inv.flow_whole;
-      flow_fits = inv.flow_fits;
-      potentials_in = inv.potentials_in;
-      idle = inv.idle;
-      kept_idle = inv.kept_idle;
+      fit = inv.fit;
       balance_is = inv.balance_is;
-      cut_in = inv.cut_in;
-      scratch_in = inv.scratch_in;
       told = inv.told;
       log_fits = inv.log_fits;
       before_is = (

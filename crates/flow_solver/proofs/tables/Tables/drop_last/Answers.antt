@@ -7,7 +7,8 @@ use Rattle.network.specs.Instance.{Instance}
 use Rattle.flow_solver.specs.TablesView.{TablesView}
 use Rattle.residual_graph.specs.Residual.{row_at, number_at}
 use Rattle.flow_solver.proofs.CarryLemmas.{arcs_in, balance_dropped, ends_in}
-use Rattle.flow_solver.proofs.TablesViewLemmas.{tables_with_arcs}
+use Rattle.augmentation.proofs.TrackedLemmas.{IsWritten-same}
+use Rattle.flow_solver.proofs.TablesViewLemmas.{fit_again}
 use Rattle.flow_solver.proofs.tables.Tables.drop_last.Goals as goal
 use Rattle.flow_solver.proofs.tables.Tables.drop_last.Goals.{After-rows}
 
@@ -46,11 +47,17 @@ invariant_of-self c =
     (ap (λ (n : ℕ). n - 1) many) (rw (row, entry) at c.carry_over.ensures) cost inv.balance_is in
     let one_less = ap (λ (r : List ArcRow). length r) c.pop_arc-row.ensures.rows ∙ length-append c.pop_arc-row.new.self.rows (c.pop_arc-row.result ∷ []) in
     let entries_less = ap (λ (xs : List ℤ). length xs) c.pop-flow.ensures.entries ∙ length-append c.pop-flow.new.self.entries (c.pop-flow.result ∷ []) in
-    tables_with_arcs t.graph c.pop_arc-row.new.self t.flow c.pop-flow.new.self t.potentials t.balance now t.cut t.scratch t.before
-    inv (sym (ap (λ (K : Instance). K.nodes) c.pop_arc-row.ensures.net)) (sym (ap (λ (K : Instance). K.room) c.pop_arc-row.ensures.net)) c.pop_arc-row.ensures.graph
-    (omega (arith, entries_less, inv.flow_in, one_less))
-    (omega (arith, ap (λ (xs : List ℤ). length xs) c.pop-flow.ensures.whole, length-take-le (length c.pop-flow.new.self.entries) t.flow.whole (omega (arith, entries_less, inv.flow_in, inv.flow_whole)), entries_less, inv.flow_in, one_less))
-    c.pop-flow.ensures.room balance
+    record {
+      fit = fit_again t.graph c.pop_arc-row.new.self t.flow c.pop-flow.new.self t.potentials.table t.potentials.table t.cut t.cut t.scratch t.scratch inv.fit
+          (sym (ap (λ (K : Instance). K.nodes) c.pop_arc-row.ensures.net)) (sym (ap (λ (K : Instance). K.room) c.pop_arc-row.ensures.net)) c.pop_arc-row.ensures.graph
+          (omega (arith, entries_less, inv.flow_in, one_less))
+          (omega (arith, ap (λ (xs : List ℤ). length xs) c.pop-flow.ensures.whole, length-take-le (length c.pop-flow.new.self.entries) t.flow.whole (omega (arith, entries_less, inv.flow_in, inv.flow_whole)), entries_less, inv.flow_in, one_less))
+          c.pop-flow.ensures.room (IsWritten-same t.potentials.table) inv.idle (IsWritten-same t.cut) inv.scratch_in;
+      balance_is = balance;
+      told = λ none. cc;
+      log_fits = inv.log_fits;
+      before_is = tt;
+    }
 
 pub returns-clause-kept : goal.returns-clause-kept
 returns-clause-kept c asked =

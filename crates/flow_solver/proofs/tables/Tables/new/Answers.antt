@@ -29,16 +29,18 @@ invariant_of-result c =
     let unmarked = replicate (c.nodes.result + 1) false in
     let entries : c.nodes.result + 1 ≡ graph.net.nodes + 1 = ap (λ (n : ℕ). n + 1) (c.nodes.ensures.value ∙ ap (λ (I : Instance). I.nodes) c.network-2.ensures) in
     record {
-      graph = c.in_ok-graph.ensures.graph;
-      flow_in = ap (λ (xs : List ℤ). length xs) c.in_ok-flow.ensures.flow ∙ length-map graph.rows start;
-      flow_whole = ap (λ (xs : List ℤ). length xs) c.in_ok-flow.ensures.whole ∙ length-map graph.rows start;
-      flow_fits = omega (arith, c.in_ok-flow.ensures.room);
-      potentials_in = nodes_alike graph.net.nodes c.in_ok-potentials.potentials zeros zeros nodes.potentials nodes.potentials_kept (length-replicate (c.nodes.result + 1) (pos 0) ∙ entries) (length-replicate (c.nodes.result + 1) (pos 0) ∙ entries);
-      idle = subst IsIdleEntry (sym nodes.potentials) (idle_zeros c.nodes.result);
-      kept_idle = subst IsIdleEntry (sym nodes.potentials_kept) (idle_zeros c.nodes.result);
+      fit = record {
+        graph = c.in_ok-graph.ensures.graph;
+        flow_in = ap (λ (xs : List ℤ). length xs) c.in_ok-flow.ensures.flow ∙ length-map graph.rows start;
+        flow_whole = ap (λ (xs : List ℤ). length xs) c.in_ok-flow.ensures.whole ∙ length-map graph.rows start;
+        flow_fits = omega (arith, c.in_ok-flow.ensures.room);
+        potentials_in = nodes_alike graph.net.nodes c.in_ok-potentials.potentials zeros zeros nodes.potentials nodes.potentials_kept (length-replicate (c.nodes.result + 1) (pos 0) ∙ entries) (length-replicate (c.nodes.result + 1) (pos 0) ∙ entries);
+        idle = subst IsIdleEntry (sym nodes.potentials) (idle_zeros c.nodes.result);
+        kept_idle = subst IsIdleEntry (sym nodes.potentials_kept) (idle_zeros c.nodes.result);
+        cut_in = nodes_alike graph.net.nodes c.in_ok-potentials.cut unmarked unmarked nodes.cut nodes.cut_kept (length-replicate (c.nodes.result + 1) false ∙ entries) (length-replicate (c.nodes.result + 1) false ∙ entries);
+        scratch_in = nodes.scratch ∙ entries;
+      };
       balance_is = c.in_ok-flow.ensures.balance;
-      cut_in = nodes_alike graph.net.nodes c.in_ok-potentials.cut unmarked unmarked nodes.cut nodes.cut_kept (length-replicate (c.nodes.result + 1) false ∙ entries) (length-replicate (c.nodes.result + 1) false ∙ entries);
-      scratch_in = nodes.scratch ∙ entries;
       told = λ none. cc;
       log_fits = omega (arith, c.in_ok-log.ensures.capacity);
       before_is = tt;

@@ -1,4 +1,4 @@
-use Rattle.std.proofs.Common.{◌∙◌, ◌<◌, ◌∷◌, [], ℤ, List, ap, arith, length, rules, subst, sym, w64, to_z, of_z}
+use Rattle.std.proofs.Common.{◌∙◌, ◌<◌, ℤ, List, ap, arith, length, rules, subst, sym, w64, to_z, of_z}
 use Rattle.std.specs.Int.{w128}
 use Rattle.std.proofs.lemmas.Int.{to_z-of_z}
 use Rattle.std.proofs.lemmas.List.{length-append}
@@ -7,7 +7,8 @@ use Rattle.network.specs.Instance.{Instance}
 use Rattle.flow_solver.specs.TablesView.{TablesView}
 use Rattle.flow_solver.proofs.InstanceLemmas.{rows_counted}
 use Rattle.flow_solver.proofs.CarryLemmas.{balance_put}
-use Rattle.flow_solver.proofs.TablesViewLemmas.{tables_with_arcs}
+use Rattle.augmentation.proofs.TrackedLemmas.{IsWritten-same}
+use Rattle.flow_solver.proofs.TablesViewLemmas.{fit_again}
 use Rattle.flow_solver.proofs.tables.Tables.put_last.Goals as goal
 
 pub invariant_of-self : goal.invariant_of-self
@@ -17,6 +18,8 @@ invariant_of-self c =
     let J = c.push_arc.new.self.net in
     let inv = c.self.invariant in
     let many = ap (λ (xs : List ℤ). length xs) c.push.ensures.entries ∙ length-append t.flow.entries _ in
+    let many_whole = ap (λ (xs : List ℤ). length xs) c.push.ensures.whole ∙ length-append t.flow.whole _ in
+    let one_more = ap (λ (r : List ArcRow). length r) c.push_arc.ensures.rows ∙ length-append t.graph.rows _ in
     let now = record t.balance { excess = c.carry_over.new.excess; cost = to_z w128 (of_z w128 c.reprice-self-inside.result) } in
     let flow = to_z-of_z w64 c.args.flow (search rules) in
     let cost = to_z-of_z w128 c.reprice-self-inside.result (record { sfits = c.reprice-self-inside.type_inv })
@@ -24,11 +27,16 @@ invariant_of-self c =
     let carried = rw flow at c.carry_over.ensures in
     let balance = balance_put I J t.graph.rows c.push_arc.new.self.rows t.flow c.push.new.self t.balance now c.args.row c.args.flow c.push_arc.ensures.net c.push_arc.ensures.rows
     inv.flow_in inv.flow_whole (rw flow at c.push.ensures.entries) (rw flow at c.push.ensures.whole) carried cost inv.balance_is in
-    tables_with_arcs t.graph c.push_arc.new.self t.flow c.push.new.self t.potentials t.balance now t.cut t.scratch t.before
-    inv (ap (λ (K : Instance). K.nodes) c.push_arc.ensures.net) (ap (λ (K : Instance). K.room) c.push_arc.ensures.net) c.push_arc.ensures.graph
-    (omega (arith, many, inv.flow_in, ap (λ (r : List ArcRow). length r) c.push_arc.ensures.rows, length-append t.graph.rows (c.args.row ∷ [])))
-    (omega (arith, ap (λ (xs : List ℤ). length xs) c.push.ensures.whole, length-append t.flow.whole (to_z w64 (of_z w64 c.args.flow) ∷ []), inv.flow_whole, ap (λ (r : List ArcRow). length r) c.push_arc.ensures.rows, length-append t.graph.rows (c.args.row ∷ [])))
-    c.push.ensures.room balance
+    record {
+      fit = fit_again t.graph c.push_arc.new.self t.flow c.push.new.self t.potentials.table t.potentials.table t.cut t.cut t.scratch t.scratch inv.fit
+          (ap (λ (K : Instance). K.nodes) c.push_arc.ensures.net) (ap (λ (K : Instance). K.room) c.push_arc.ensures.net) c.push_arc.ensures.graph
+          (omega (arith, many, inv.flow_in, one_more)) (omega (arith, many_whole, inv.flow_whole, one_more))
+          c.push.ensures.room (IsWritten-same t.potentials.table) inv.idle (IsWritten-same t.cut) inv.scratch_in;
+      balance_is = balance;
+      told = λ none. cc;
+      log_fits = inv.log_fits;
+      before_is = tt;
+    }
 
 pub push-requires : goal.push-requires
 push-requires c =

@@ -5,7 +5,7 @@ use Rattle.std.proofs.lemmas.List.{get_or_default}
 use Rattle.flow_solver.specs.TablesView.{TablesView, flow_index}
 use Rattle.residual_graph.specs.Residual.{row_at}
 use Rattle.flow_solver.proofs.CarryLemmas.{IsPlace, balance_set, ends_in, place_is}
-use Rattle.flow_solver.proofs.TablesViewLemmas.{tables_written}
+use Rattle.flow_solver.proofs.TablesViewLemmas.{fit_written}
 use Rattle.augmentation.proofs.TrackedLemmas.{IsWritten-same}
 use Rattle.flow_solver.proofs.tables.Tables.swap_flow.Goals as goal
 use Rattle.flow_solver.proofs.tables.Tables.swap_flow.Goals.{After-first_row}
@@ -40,10 +40,13 @@ invariant_of-self c =
     let entry = to_z-of_z w64 c.get.result (search rules) ∙ c.get.ensures ∙ get_or_default t.flow.entries place c.get.result (pos 0) (omega (arith, there, inv.flow_in)) in
     let carried = rw (c.rows.ensures, entry, to_z-of_z w64 c.args.value.now (search rules)) at c.carry_over.ensures in
     let balance = balance_set t.graph.net t.graph.rows t.flow c.exchange.new.self t.balance _ place c.args.value.now there inv.flow_in carried refl c.exchange.ensures.entries c.exchange.ensures.written.whole inv.balance_is in
-    tables_written t.graph t.graph t.flow c.exchange.new.self t.potentials _ t.balance _ t.cut t.cut t.scratch t.scratch t.before
-    inv refl refl inv.graph refl c.exchange.ensures.written (IsWritten-same t.potentials.table)
-    inv.idle balance (IsWritten-same t.cut)
-    inv.scratch_in (λ none. cc)
+    record {
+      fit = fit_written t.graph t.graph t.flow c.exchange.new.self t.potentials.table t.potentials.table t.cut t.cut t.scratch t.scratch inv.fit refl refl inv.graph refl c.exchange.ensures.written (IsWritten-same t.potentials.table) inv.idle (IsWritten-same t.cut) inv.scratch_in;
+      balance_is = balance;
+      told = λ none. cc;
+      log_fits = inv.log_fits;
+      before_is = tt;
+    }
 
 pub returns-clause-moment : goal.returns-clause-moment
 returns-clause-moment c =

@@ -1,4 +1,4 @@
-use Rattle.std.proofs.Common.{◌∙◌, ◌≡◌, ◌+◌, ◌-◌, ℤ, ap, drop, length, refl, rules, slice_index_or, subst, sym, w64}
+use Rattle.std.proofs.Common.{◌∙◌, ◌≡◌, ◌-◌, ℤ, ap, drop, length, refl, rules, slice_index_or, subst, sym, w64}
 use Rattle.std.proofs.lemmas.Int.{to_z-of_z}
 use Rattle.dimacs_text.specs.Lawful.{IsNode}
 use Rattle.dimacs_text.specs.declared.problem.Kind.TheVariants.{Min}
@@ -8,7 +8,7 @@ use Rattle.flow_solver.specs.TablesView.{TablesView, supplies_in}
 use Rattle.augmentation.specs.Nodes.{held}
 use Rattle.flow_solver.proofs.CarryLemmas.{balance_supplied}
 use Rattle.flow_solver.proofs.ChangeLemmas.{supplied, supply_entry}
-use Rattle.flow_solver.proofs.TablesViewLemmas.{tables_written}
+use Rattle.flow_solver.proofs.TablesViewLemmas.{fit_written}
 use Rattle.augmentation.proofs.NodeLemmas.{held_node}
 use Rattle.augmentation.proofs.TrackedLemmas.{IsWritten-same}
 use Rattle.flow_solver.proofs.StandingLemmas.{greatest_supplied}
@@ -28,10 +28,14 @@ invariant_of-self c =
     let raised = rw (before, after) at c.add_difference.ensures in
     let now = record t.balance { excess = c.add_difference.new.excess } in
     let balance : IsBalanceOf J c.set_supply.new.self.rows t.flow now = rw (c.set_supply.ensures.rows, net) (balance_supplied I t.graph.rows t.flow t.balance now c.args.id c.args.value.now inv.graph.rows.lawful kind node raised refl inv.balance_is) in
-    tables_written t.graph c.set_supply.new.self t.flow t.flow t.potentials t.potentials t.balance now t.cut t.cut t.scratch t.scratch t.before
-    inv (ap (λ (K : Instance). K.nodes) net) (ap (λ (K : Instance). K.room) net) c.set_supply.ensures.graph (ap length c.set_supply.ensures.rows) (IsWritten-same t.flow) (IsWritten-same t.potentials.table)
-    inv.idle balance (IsWritten-same t.cut) (inv.scratch_in ∙ ap (λ (K : Instance). K.nodes + 1) (sym net))
-    (λ stood. rw net (greatest_supplied I c.args.id c.args.value.now (at_node (drop 1 t.potentials.table.entries)) t.flow.entries (inv.told stood)))
+    record {
+      fit = fit_written t.graph c.set_supply.new.self t.flow t.flow t.potentials.table t.potentials.table t.cut t.cut t.scratch t.scratch inv.fit (ap (λ (K : Instance). K.nodes) net) (ap (λ (K : Instance). K.room) net) c.set_supply.ensures.graph
+          (ap length c.set_supply.ensures.rows) (IsWritten-same t.flow) (IsWritten-same t.potentials.table) inv.idle (IsWritten-same t.cut) inv.scratch_in;
+      balance_is = balance;
+      told = λ stood. rw net (greatest_supplied I c.args.id c.args.value.now (at_node (drop 1 t.potentials.table.entries)) t.flow.entries (inv.told stood));
+      log_fits = inv.log_fits;
+      before_is = tt;
+    }
 
 pub returns-clause-value : goal.returns-clause-value
 returns-clause-value c =
