@@ -3,11 +3,12 @@
 ghost use Rattle.std.specs.Prelude.{◌≡◌, ℕ, pos, ◌<◌, ◌≤◌, ◌<ℤ◌, ◌≤ℤ◌, ◌++◌, ◌∷◌, [], ◌↔◌, IsTrue, IsOk, IsSome, None, Ok, Some, length};
 ghost use Rattle.network.specs.Edited.{edited, edited_all};
 ghost use Rattle.flow_solver.specs.declared.part.Part.{Part};
-ghost use Rattle.network.specs.Flow.{total_excess};
-ghost use Rattle.network.specs.Instance.{reduced};
+ghost use Rattle.dimacs_text.specs.Lawful.{IsLawfulRow};
+ghost use Rattle.network.specs.Flow.{reduced_cost, total_excess};
+ghost use Rattle.network.specs.Instance.{at_node, reduced};
 ghost use Rattle.augmentation.specs.Push.{Pushes};
 ghost use Rattle.flow_solver.specs.Answer.{IsAnswered};
-ghost use Rattle.flow_solver.specs.Edit.{CanMake, ChangeAll, Changes, HasPotentials, IsCertifiedMoment, IsMadeIn, IsOfAdd, IsOfArc, IsOfSupply, KeepsResidualArcs, MakeAll, arc_flow, arc_reduced, arc_row};
+ghost use Rattle.flow_solver.specs.Edit.{CanMake, ChangeAll, Changes, HasPotentials, IsCertifiedMoment, IsMadeIn, IsNearest, IsOfAdd, IsOfArc, IsOfSupply, KeepsResidualArcs, MakeAll, arc_flow, arc_reduced, arc_row};
 ghost use Rattle.flow_solver.specs.Moment.{IsSized, kept_of};
 ghost use Rattle.flow_solver.specs.Part.{before_all, before_part, CanTakeBack, CanTakeBackAll, IsLogged, LeadsBack};
 
@@ -116,8 +117,8 @@ impl Tables {
         ensures { IsMadeIn edit.now self.old self.new }
     {
         let (k, mut row) = edited_row(self.graph.network(), edit);
-        let before = self.flow()[k as usize - 1];
-        let mut flow = nearest(&row, reduced_cost(&row, self.potentials()), before);
+        let before = self.flow_of(k);
+        let mut flow = self.nearest_flow(&row, before);
         // Tight arcs alone keep potentials from being greater, by the residual arcs along them.
         let stands = self.potentials.greatest && self.keeps_greatest(k, &row, flow);
         self.swap_row(k, &mut row);
@@ -140,8 +141,7 @@ impl Tables {
         requires arc { (1 ≤ k) × (k ≤ length self.now.moment.instance.arcs) }
         ensures { IsTrue result ↔ KeepsResidualArcs (arc_row self.now.moment k) (arc_flow self.now.moment k) row.now flow }
     {
-        let old = arc_of(self.graph.network(), u64::from(k));
-        keeps_residual_arcs(&old, self.flow()[k as usize - 1], row, flow)
+        keeps_residual_arcs(&self.row_of(k), self.flow_of(k), row, flow)
     }
 
     /// Whether the reduced cost of an arc is 0 under the potentials that stand.
@@ -150,8 +150,33 @@ impl Tables {
         requires range { HasPotentials self.now.moment }
         ensures { IsTrue result ↔ (arc_reduced self.now.moment k ≡ pos 0) }
     {
-        let row = arc_of(self.graph.network(), u64::from(k));
-        reduced_cost(&row, self.potentials()) == 0
+        reduced_cost(&self.row_of(k), self.potentials()) == 0
+    }
+
+    /// The arc with this number.
+    fn row_of(&self, k: u32) -> ArcRow
+        requires { (1 ≤ k) × (k ≤ length self.now.moment.instance.arcs) }
+        ensures row { result ≡ arc_row self.now.moment k }
+        ensures lawful { IsLawfulRow self.now.moment.instance.nodes result }
+    {
+        arc_of(self.graph.network(), u64::from(k))
+    }
+
+    /// Its flow.
+    fn flow_of(&self, k: u32) -> i64
+        requires { (1 ≤ k) × (k ≤ length self.now.moment.instance.arcs) }
+        ensures { result ≡ arc_flow self.now.moment k }
+    {
+        self.flow()[k as usize - 1]
+    }
+
+    /// The flow nearest to this one that the arc and the potentials that stand allow.
+    fn nearest_flow(&self, row: &ArcRow, flow: i64) -> i64
+        requires row { IsLawfulRow self.now.moment.instance.nodes row.now }
+        requires range { HasPotentials self.now.moment }
+        ensures { IsNearest row.now (reduced_cost (at_node self.now.moment.potentials) row.now) flow result }
+    {
+        nearest(row, reduced_cost(row, self.potentials()), flow)
     }
 
     /// Makes an accepted edit of a supply.
@@ -171,7 +196,7 @@ impl Tables {
         ensures { IsMadeIn edit.now self.old self.new }
     {
         let row = added_row(self.graph.network(), edit);
-        let flow = nearest(&row, reduced_cost(&row, self.potentials()), 0);
+        let flow = self.nearest_flow(&row, 0);
         // One arc more only takes certifying potentials away.
         let stands = self.potentials.greatest;
         self.put_last(row, flow);

@@ -1,9 +1,8 @@
-use Rattle.std.proofs.Common.{◌≡◌, ◌∙◌, ◌++◌, ◌∷◌, [], ℤ, List, pos, ap, subst, sym, rules, w64, to_z, of_z}
+use Rattle.std.proofs.Common.{◌≡◌, ◌∙◌, ◌++◌, ◌∷◌, [], ℤ, ap, subst, sym, rules, w64}
 use Rattle.std.proofs.lemmas.Int.{to_z-of_z}
-use Rattle.network.specs.Flow.{reduced_cost}
 use Rattle.network.specs.Instance.{IsLawful, at_node, reduced}
 use Rattle.flow_solver.specs.Answer.{AreGreatestPotentials}
-use Rattle.flow_solver.specs.Edit.{IsAddEdit, IsCertifiedMoment, IsNearest, Makes}
+use Rattle.flow_solver.specs.Edit.{IsAddEdit, IsCertifiedMoment, Makes}
 use Rattle.flow_solver.specs.Moment.{Moment}
 use Rattle.flow_solver.specs.TablesView.{TablesView}
 use Rattle.residual_graph.proofs.GraphLemmas.{with_last}
@@ -15,15 +14,7 @@ use Rattle.flow_solver.proofs.tables.Tables.make_arc.Goals.{After-put_last}
 
 -- the flow that the new arc gets
 abbrev after : After-put_last → ℤ
-after c = c.nearest-flow.result
-
-near : (c : After-put_last) → IsNearest c.added_row-row.result (reduced_cost (at_node c.args.self.now.moment.potentials) c.added_row-row.result) (pos 0) (after c)
-near c =
-    let m = c.args.self.now.moment in
-    let row = c.added_row-row.result in
-    let potentials = c.potentials.ensures.value in
-    let cost : to_z w64 (of_z w64 c.reduced_cost.result) ≡ reduced_cost (at_node m.potentials) row = to_z-of_z w64 c.reduced_cost.result (search rules) ∙ c.reduced_cost.ensures ∙ ap (λ (p : List ℤ). reduced_cost (at_node p) row) potentials in
-    subst (λ (r : ℤ). IsNearest row r (pos 0) (after c)) cost c.nearest-flow.ensures
+after c = c.nearest_flow-flow.result
 
 moment_is : (c : After-put_last) → c.put_last.new.self.moment ≡ record c.args.self.now.moment { instance = with_last c.args.self.now.moment.instance c.added_row-row.result; flow = c.args.self.now.moment.flow ++ after c ∷ [] }
 moment_is c =
@@ -51,7 +42,7 @@ returns c =
     let lawful : IsLawful m.instance = rw (← c.self.view_is) c.self.invariant.graph.rows.lawful in
     let edit : IsAddEdit m.instance c.args.edit.now row = rw (← c.self.view_is) (rw c.network.ensures at c.added_row-row.ensures) in
     let both = subst (λ (n : Moment). Makes c.args.edit.now m n × IsCertifiedMoment n) (sym now) (
-      add_made m.instance c.args.edit.now row (at_node m.potentials) m.flow (after s) lawful c.requires.can.certified edit (near s),
-      certified_more m.instance row (at_node m.potentials) m.flow (after s) c.requires.can.certified (near s),
+      add_made m.instance c.args.edit.now row (at_node m.potentials) m.flow (after s) lawful c.requires.can.certified edit c.nearest_flow-flow.ensures,
+      certified_more m.instance row (at_node m.potentials) m.flow (after s) c.requires.can.certified c.nearest_flow-flow.ensures,
     ) in
     record { made = both.0; certified = both.1; potentials = search rules; kept = search rules }

@@ -1,14 +1,14 @@
-use Rattle.std.proofs.Common.{◌≡◌, ◌∙◌, ◌-◌, ℤ, List, pos, true, false, ap, subst, sym, rules, slice_set, slice_index_or, w64, to_z, of_z}
+use Rattle.std.proofs.Common.{◌≡◌, ◌∙◌, ◌-◌, ℤ, true, false, ap, subst, sym, rules, slice_set, w64, to_z, of_z}
 use Rattle.std.proofs.lemmas.Int.{to_z-of_z}
 use Rattle.network.specs.Flow.{reduced_cost}
 use Rattle.network.specs.Instance.{Instance, IsLawful, at_node, reduced}
 use Rattle.residual_graph.specs.Residual.{row_at, number_at}
 use Rattle.flow_solver.specs.TablesView.{TablesView, flow_index}
 use Rattle.flow_solver.specs.Answer.{AreGreatestPotentials}
-use Rattle.flow_solver.specs.Edit.{IsCertifiedMoment, IsNearest, Makes, IsRowEdit, KeepsResidualArcs}
+use Rattle.flow_solver.specs.Edit.{IsCertifiedMoment, arc_flow, IsNearest, Makes, IsRowEdit, KeepsResidualArcs}
 use Rattle.flow_solver.specs.Moment.{Moment}
 use Rattle.residual_graph.proofs.GraphLemmas.{with_row}
-use Rattle.flow_solver.proofs.ChangeLemmas.{certified_changed, flow_at}
+use Rattle.flow_solver.proofs.ChangeLemmas.{certified_changed}
 use Rattle.flow_solver.proofs.EditRows.{row_made}
 use Rattle.flow_solver.proofs.StandingLemmas.{greatest_changed, tables_told}
 use Rattle.flow_solver.proofs.tables.Tables.make_row.Goals as goal
@@ -20,20 +20,10 @@ edit_is c = subst (λ (b : TablesView). IsRowEdit b.moment.instance c.args.edit.
 
 -- the flow that the arc gets
 abbrev after : After-swap_flow → ℤ
-after c = c.nearest-flow.result
+after c = c.nearest_flow-flow.result
 
-near : (c : After-swap_flow) → IsNearest c.edited_row-k.result.1 (reduced_cost (at_node c.args.self.now.moment.potentials) c.edited_row-k.result.1) (number_at c.args.self.now.moment.flow (flow_index c.args.self.now.moment.instance.demand c.edited_row-k.result.0)) (after c)
-near c =
-    let m = c.args.self.now.moment in
-    let k = c.edited_row-k.result.0 in
-    let row = c.edited_row-k.result.1 in
-    let potentials = c.potentials.ensures.value in
-    let cost : to_z w64 (of_z w64 c.reduced_cost.result) ≡ reduced_cost (at_node m.potentials) row = to_z-of_z w64 c.reduced_cost.result (search rules) ∙ c.reduced_cost.ensures ∙ ap (λ (p : List ℤ). reduced_cost (at_node p) row) potentials in
-    let flows = c.flow.ensures.value in
-    let entry = slice_index_or c.flow.result.now (k - 1) (pos 0) in
-    let before : to_z w64 (of_z w64 entry) ≡ number_at m.flow (flow_index m.instance.demand k) = to_z-of_z w64 entry (search rules) ∙ ap (λ (x : List ℤ). slice_index_or x (k - 1) (pos 0)) flows ∙ flow_at m.instance.demand m.flow k (pos 0) c.edited_row-k.ensures.arc.0 in
-    subst (λ (r : ℤ). IsNearest row r (number_at m.flow (flow_index m.instance.demand k)) (after c)) cost
-    (subst (λ (x : ℤ). IsNearest row (to_z w64 (of_z w64 c.reduced_cost.result)) x (after c)) before c.nearest-flow.ensures)
+near : (c : After-swap_flow) → IsNearest c.edited_row-k.result.1 (reduced_cost (at_node c.args.self.now.moment.potentials) c.edited_row-k.result.1) (arc_flow c.args.self.now.moment c.edited_row-k.result.0) (after c)
+near c = rw (to_z-of_z w64 c.flow_of-before.result (search rules), c.flow_of-before.ensures) at c.nearest_flow-flow.ensures
 
 moment_is : (c : After-swap_flow) → c.swap_flow.new.self.moment ≡ record c.args.self.now.moment { instance = with_row c.args.self.now.moment.instance (c.edited_row-k.result.0 - 1) c.edited_row-k.result.1; flow = slice_set c.args.self.now.moment.flow (flow_index c.args.self.now.moment.instance.demand c.edited_row-k.result.0) (after c) }
 moment_is c =
