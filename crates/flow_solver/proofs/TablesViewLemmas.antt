@@ -26,13 +26,6 @@ module _ {T : Type 0} where
     kept_in = ap (λ (xs : List T). length xs) written.kept ∙ of.kept_in;
   }
 
-  -- a `Tracked` table of nodes is one still where its entries and its snapshot are as many
-  pub nodes_alike : (nodes : ℕ) (m : TrackedView T) (entries kept : List T) → m.entries ≡ entries → m.kept ≡ kept → length entries ≡ nodes + 1 → length kept ≡ nodes + 1 → IsOfNodes nodes m
-  nodes_alike nodes m entries kept entries_are kept_is many as_many = record {
-    entries_in = ap (λ (xs : List T). length xs) entries_are ∙ many;
-    kept_in = ap (λ (xs : List T). length xs) kept_is ∙ as_many;
-  }
-
 -- the tables fit a graph of as many nodes still, where there are as many flows as its rows and the others are written
 pub fit_again : (g h : Graph) (flow flow' : TrackedView ℤ) (p p' : TrackedView ℤ) (cut cut' : TrackedView Bool) (scratch scratch' : ScratchView) →
     FitGraph g flow p cut scratch → h.net.nodes ≡ g.net.nodes → h.net.room ≡ g.net.room → IsGraph h → length flow'.entries ≡ length h.rows → length flow'.whole ≡ length h.rows → flow'.room ≡ flow.room →

@@ -6,7 +6,6 @@ use Rattle.flow_solver.specs.TablesView.{TablesView}
 use Rattle.augmentation.specs.Nodes.{IsIdleEntry}
 use Rattle.augmentation.specs.ScratchView.{ScratchView}
 use Rattle.flow_solver.proofs.CarryLemmas.{balance_back, sends}
-use Rattle.flow_solver.proofs.TablesViewLemmas.{nodes_alike}
 use Rattle.flow_solver.proofs.tables.Tables.bring_back.Goals as goal
 
 pub invariant_of-self : goal.invariant_of-self
@@ -24,10 +23,10 @@ invariant_of-self c =
         flow_in = ap length c.bring_back.ensures.entries ∙ many;
         flow_whole = ap length c.bring_back.ensures.whole ∙ inv.flow_whole;
         flow_fits = omega (arith, inv.flow_fits, c.bring_back.ensures.room);
-        potentials_in = nodes_alike I.nodes c.bring_back-2.new.self t.potentials.table.kept t.potentials.table.kept c.bring_back-2.ensures.entries c.bring_back-2.ensures.kept inv.potentials_in.kept_in inv.potentials_in.kept_in;
+        potentials_in = record { entries_in = rw c.bring_back-2.ensures.entries inv.potentials_in.kept_in; kept_in = rw c.bring_back-2.ensures.kept inv.potentials_in.kept_in };
         idle = subst IsIdleEntry (sym c.bring_back-2.ensures.entries) inv.kept_idle;
         kept_idle = subst IsIdleEntry (sym c.bring_back-2.ensures.kept) inv.kept_idle;
-        cut_in = nodes_alike I.nodes c.bring_back-3.new.self t.cut.kept t.cut.kept c.bring_back-3.ensures.entries c.bring_back-3.ensures.kept inv.cut_in.kept_in inv.cut_in.kept_in;
+        cut_in = record { entries_in = rw c.bring_back-3.ensures.entries inv.cut_in.kept_in; kept_in = rw c.bring_back-3.ensures.kept inv.cut_in.kept_in };
         scratch_in = ap (λ (v : ScratchView). length v.potentials) c.note_all.ensures ∙ inv.scratch_in;
       };
       balance_is = balance_back I t.graph.rows t.flow c.bring_back.new.self t.balance _ c.bring_back.ensures.none_added c.bring_back.ensures.entries c.bring_back.ensures.whole

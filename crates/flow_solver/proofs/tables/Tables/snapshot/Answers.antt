@@ -8,7 +8,6 @@ use Rattle.flow_solver.specs.Balance.{IsWrappedCost}
 use Rattle.augmentation.specs.Nodes.{IsIdleEntry}
 use Rattle.augmentation.specs.ScratchView.{ScratchView}
 use Rattle.flow_solver.proofs.CarryLemmas.{balance_kept}
-use Rattle.flow_solver.proofs.TablesViewLemmas.{nodes_alike}
 use Rattle.flow_solver.proofs.tables.Tables.snapshot.Goals as goal
 
 pub invariant_of-self : goal.invariant_of-self
@@ -24,10 +23,10 @@ invariant_of-self c =
         flow_in = ap length c.snapshot.ensures.entries ∙ inv.flow_in;
         flow_whole = ap length c.snapshot.ensures.whole ∙ inv.flow_in;
         flow_fits = omega (arith, inv.flow_fits, c.snapshot.ensures.room);
-        potentials_in = nodes_alike t.graph.net.nodes c.snapshot-2.new.self t.potentials.table.entries t.potentials.table.entries c.snapshot-2.ensures.entries c.snapshot-2.ensures.kept inv.potentials_in.entries_in inv.potentials_in.entries_in;
+        potentials_in = record { entries_in = rw c.snapshot-2.ensures.entries inv.potentials_in.entries_in; kept_in = rw c.snapshot-2.ensures.kept inv.potentials_in.entries_in };
         idle = subst IsIdleEntry (sym c.snapshot-2.ensures.entries) inv.idle;
         kept_idle = subst IsIdleEntry (sym c.snapshot-2.ensures.kept) inv.idle;
-        cut_in = nodes_alike t.graph.net.nodes c.snapshot-3.new.self t.cut.entries t.cut.entries c.snapshot-3.ensures.entries c.snapshot-3.ensures.kept inv.cut_in.entries_in inv.cut_in.entries_in;
+        cut_in = record { entries_in = rw c.snapshot-3.ensures.entries inv.cut_in.entries_in; kept_in = rw c.snapshot-3.ensures.kept inv.cut_in.entries_in };
         scratch_in = ap (λ (v : ScratchView). length v.potentials) c.note_all.ensures ∙ inv.scratch_in;
       };
       balance_is = balance_kept t.graph.net t.graph.rows t.flow c.snapshot.new.self t.balance _ c.snapshot.ensures.entries c.snapshot.ensures.whole refl cost inv.balance_is;
