@@ -1,9 +1,7 @@
-use Rattle.std.proofs.Common.{◌∙◌, ℤ, List, ap, arith, drop, length, refl, subst, sym}
+use Rattle.std.proofs.Common.{◌∙◌, List, ap, arith, length, refl, subst, sym}
 use Rattle.std.specs.Int.{w128}
 use Rattle.std.proofs.lemmas.Int.{to_z-of_z}
 use Rattle.dimacs_text.specs.declared.problem.ArcRow.{ArcRow}
-use Rattle.network.specs.Instance.{at_node, reduced}
-use Rattle.flow_solver.specs.Answer.{AreGreatestPotentials}
 use Rattle.flow_solver.specs.Balance.{IsWrappedCost}
 use Rattle.augmentation.specs.Nodes.{IsIdleEntry}
 use Rattle.augmentation.specs.ScratchView.{ScratchView}
@@ -30,9 +28,7 @@ invariant_of-self c =
         scratch_in = ap (λ (v : ScratchView). length v.potentials) c.note_all.ensures ∙ inv.scratch_in;
       };
       balance_is = balance_kept t.graph.net t.graph.rows t.flow c.snapshot.new.self t.balance _ c.snapshot.ensures.entries c.snapshot.ensures.whole refl cost inv.balance_is;
-      told = λ stood.
-          subst (λ (p : List ℤ). AreGreatestPotentials (reduced t.graph.net) c.snapshot.new.self.entries (at_node (drop 1 p))) (sym c.snapshot-2.ensures.entries)
-          (subst (λ (x : List ℤ). AreGreatestPotentials (reduced t.graph.net) x (at_node (drop 1 t.potentials.table.entries))) (sym c.snapshot.ensures.entries) (inv.told stood));
+      told = λ stood. rw (c.snapshot-2.ensures.entries, c.snapshot.ensures.entries) (inv.told stood);
       log_fits = omega (arith, inv.log_fits);
       before_is = tt;
     }
