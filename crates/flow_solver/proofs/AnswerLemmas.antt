@@ -1,9 +1,10 @@
 -- What the end of all searches tells of the instance.
-use Rattle.std.proofs.Common.{◌≡◌, ℕ, All, ◌++◌, replicate, zero, suc, ◌+◌, ◌-◌, ◌*◌, ◌<◌, ◌≤◌, ℤ, pos, neg_ℤ, ◌≤ℤ◌, ◌-ℤ◌, List, [], ◌∷◌, length, drop, None, refl, sym, ap, subst, ◌∙◌, inl, inr, arith, Bool, true, false, cond}
+use Rattle.std.proofs.Common.{◌≡◌, ℕ, All, ◌++◌, replicate, suc, ◌+◌, ◌-◌, ◌*◌, ◌<◌, ◌≤◌, ℤ, pos, neg_ℤ, ◌≤ℤ◌, ◌-ℤ◌, List, [], ◌∷◌, length, drop, None, refl, sym, ap, subst, ◌∙◌, inl, inr, arith, Bool, true, false, cond}
 use Rattle.std.specs.Prelude.{slice_index_or}
 use Rattle.std.specs.Int.{w64}
 use Rattle.std.proofs.lemmas.Int.{ints, int_wrap_fits, fits_signed_from_abs}
 use Rattle.std.proofs.lemmas.Bool.{cases_lt}
+use Rattle.std.proofs.lemmas.Grind.{get_or_after_one}
 use Rattle.std.proofs.lemmas.List.Sums.{sum_by-cons}
 use Rattle.dimacs_text.specs.declared.problem.ArcRow.{ArcRow}
 use Rattle.network.specs.Flow.{AllWithinBounds, IsCertifiedFlow, arcs_sum, net, surplus_of, total_cost, IsLeastGreatestSurplus, IsLeastGreatestShortfall}
@@ -35,13 +36,8 @@ use Rattle.flow_solver.proofs.InstanceLemmas.{caps_of_instance, few_entries, ran
 
 -- ---- entries 1 to n of a table
 
-entry_after : {A : Type 0} (xs : List A) (v : ℕ) (d : A) → slice_index_or (drop 1 xs) v d ≡ slice_index_or xs (suc v) d
-entry_after [] v d = refl
-entry_after (x ∷ xs) v d = refl
-
 pub node_entry : {A : Type 0} (xs : List A) (n v : ℕ) (d : A) → (1 ≤ v) × (v ≤ n) → slice_index_or (drop 1 xs) (v - 1) d ≡ slice_index_or xs v d
-node_entry xs n zero d node = absurd (omega (arith, node.0))
-node_entry xs n (suc v) d node = (let e : suc v - 1 ≡ v = omega arith in ap (λ (w : ℕ). slice_index_or (drop 1 xs) w d) e ∙ entry_after xs v d)
+node_entry xs n v d node = (let e : 1 + (v - 1) ≡ v = omega (arith, node.0) in get_or_after_one xs (v - 1) d ∙ ap (λ (w : ℕ). slice_index_or xs w d) e)
 
 pub agrees_at : (n : ℕ) (p : List ℤ) → AgreesAt n (at_node (drop 1 p)) p
 agrees_at n p v node = node_entry p n v (pos 0) node
@@ -50,7 +46,7 @@ pub marked_by : (n : ℕ) (set : List Bool) → IsMarkedBy n (is_marked (drop 1 
 marked_by n set v node = node_entry set n v false node
 
 none_marked : (set : List Bool) → ((v : ℕ) → in_set set v ≡ false) → (v : ℕ) → is_marked (drop 1 set) v ≡ false
-none_marked set none v = entry_after set (v - 1) false ∙ none (suc (v - 1))
+none_marked set none v = get_or_after_one set (v - 1) false ∙ none (1 + (v - 1))
 
 -- a flow that the potentials of the nodes certify is certified by the table
 pub certified_at : (I : Instance) (x p : List ℤ) → IsLawful I → IsCertifiedFlow (reduced I) x (at_node (drop 1 p)) → IsCertifiedFlow (reduced I) x (number_at p)

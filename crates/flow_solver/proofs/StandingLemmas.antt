@@ -1,5 +1,5 @@
 -- Where potentials that are the greatest stay the greatest, though arcs and flows change.
-use Rattle.std.proofs.Common.{◌≡◌, ℕ, zero, suc, ◌-◌, ◌<◌, ◌≤◌, ℤ, pos, ◌-ℤ◌, ◌+ℤ◌, ◌<ℤ◌, ◌≤ℤ◌, List, [], ◌∷◌, ◌++◌, length, drop, Some, refl, ◌∙◌, ◌⊎◌, inl, inr, arith, Bool, cond, slice_index_or, slice_set}
+use Rattle.std.proofs.Common.{◌≡◌, ℕ, zero, suc, ◌-◌, ◌<◌, ◌≤◌, ℤ, pos, ◌-ℤ◌, ◌+ℤ◌, ◌<ℤ◌, ◌≤ℤ◌, List, [], ◌∷◌, ◌++◌, length, drop, Some, refl, sym, ◌∙◌, ◌⊎◌, inl, inr, arith, Bool, cond, slice_index_or, slice_set}
 use Rattle.std.specs.Prelude.{int_lt}
 use Rattle.std.specs.List.{AllZip}
 use Rattle.std.proofs.lemmas.Int.{ints, by_lt_z}
@@ -29,7 +29,8 @@ use Rattle.flow_solver.proofs.AnswerLemmas.{agrees_at}
 use Rattle.residual_graph.proofs.GraphLemmas.{with_row, with_last}
 use Rattle.flow_solver.proofs.ChangeLemmas.{supplied, row_is, rows_changed, rows_more, rows_kept}
 use Rattle.flow_solver.proofs.EditRows.{row_there}
-use Rattle.flow_solver.proofs.FlowLaws.{bounds_at, bounds_length, greatest_flow, signs_at}
+use Rattle.flow_solver.proofs.FlowLaws.{bounds_at, bounds_length, greatest_flow, signs_at, zip_from}
+use Rattle.network.proofs.Places.{all_zip-length}
 
 -- ---- a step up, where other potentials lie higher
 
@@ -64,10 +65,7 @@ module _ (p q : ℕ → ℤ) where
   }
 
   raised_signs : (arcs : List ArcRow) (x : List ℤ) → AllZip (FollowsSign p) arcs x → ((k : ℕ) → k < length arcs → reduced_cost p (row_at arcs k) ≡ pos 0 → FollowsSign q (row_at arcs k) (number_at x k)) → AllZip (FollowsSign raised) arcs x
-  raised_signs [] [] signs tight = tt
-  raised_signs (a ∷ arcs) (y ∷ x) signs tight =
-      (raised_sign a y signs.0 (tight 0 (omega arith)), raised_signs arcs x signs.1 (λ k lt. tight (suc k) (omega arith)))
-  raised_signs _ _ signs tight = absurd signs
+  raised_signs arcs x signs tight = zip_from (FollowsSign raised) _ (pos 0) arcs x (sym (all_zip-length (FollowsSign p) arcs x signs)) (λ k lt. raised_sign (row_at arcs k) (number_at x k) (signs_at p arcs x signs k lt) (tight k lt))
 
   raised_range : (v : ℕ) → IsPotential (p v) → IsPotential (q v) → IsPotential (raised v)
   raised_range v here there = (let at = raised_at v in (omega (arith, ints), omega (arith, ints)))
