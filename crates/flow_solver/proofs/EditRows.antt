@@ -18,7 +18,7 @@ use Rattle.network.proofs.EditedShape.{done_is}
 use Rattle.residual_graph.specs.Residual.{IsWithinRow, number_at}
 use Rattle.residual_graph.proofs.GraphLemmas.{with_last, with_row, lawful_more}
 use Rattle.flow_solver.specs.TablesView.{flow_index}
-use Rattle.flow_solver.specs.Edit.{IsNearest, IsRowEdit, IsSupplyEdit, IsAltered, IsOfArc, GoesToNearest, IsAddEdit, IsMade, changed}
+use Rattle.flow_solver.specs.Edit.{IsNearest, IsRowEdit, IsSupplyEdit, IsAltered, IsOfArc, GoesToNearest, IsAddEdit, IsMade, row_after_edit}
 use Rattle.flow_solver.proofs.FlowLaws.{bounds_at, bounds_length, signs_at}
 use Rattle.flow_solver.proofs.ChangeLemmas.{place_in, row_is, supplied, excess_changed, excess_more, excess_supplied}
 
@@ -34,7 +34,7 @@ edited_is I after edit is ok = (let J = accepted (edited I edit) ok in J.1 ∙ a
 row_ok : (o : Option ArcRow) (row : ArcRow) (change : ArcRow → Result Instance EditRefusal) (J : Instance) → o ≡ Some row → row_or o change ≡ Ok J → change row ≡ Ok J
 row_ok o row change J is e = rw is at e
 
-arc_changed : (I : Instance) (edit : Edit) (old : ArcRow) → IsOfArc edit → arc_at I.arcs (arc_of edit) ≡ Some old → (J : Instance) → edited_by I edit ≡ Ok J → J ≡ with_arc I (arc_of edit) (changed edit old)
+arc_changed : (I : Instance) (edit : Edit) (old : ArcRow) → IsOfArc edit → arc_at I.arcs (arc_of edit) ≡ Some old → (J : Instance) → edited_by I edit ≡ Ok J → J ≡ with_arc I (arc_of edit) (row_after_edit edit old)
 arc_changed I (Cap k x) old of is J e = done_is _ J (demand_ok _ LowAboveCap _ J (row_ok _ old _ J is (demand_ok _ OutOfRange _ J e).1)).1
 arc_changed I (Low k x) old of is J e = done_is _ J (demand_ok _ LowAboveCap _ J (row_ok _ old _ J is (demand_ok _ OutOfRange _ J e).1)).1
 arc_changed I (Cost k x) old of is J e = done_is _ J (row_ok _ old _ J is (demand_ok _ OutOfRange _ J e).1)
@@ -63,14 +63,14 @@ bound_moved a b r x z bounds low cap near =
     omega (arith, ints, near.kept even (record { low_kept = above; cap_kept = within })))))))
 
 moved_by : (I : Instance) (edit : Edit) (old : ArcRow) (q : ℕ → ℤ) (x z : ℤ) → IsOfArc edit → arc_at I.arcs (arc_of edit) ≡ Some old → pos 0 ≤ℤ old.low → IsWithinRow old x → FollowsSign q old x
-    → IsNearest (changed edit old) (reduced_cost q (changed edit old)) x z → unsigned_abs (z -ℤ x) ≤ units I edit
+    → IsNearest (row_after_edit edit old) (reduced_cost q (row_after_edit edit old)) x z → unsigned_abs (z -ℤ x) ≤ units I edit
 moved_by I (Cap k c) old q x z of is low bounds sign near = rw is (omega (arith, ints, bound_moved old _ _ x z bounds sign.dear sign.cheap near))
 moved_by I (Low k c) old q x z of is low bounds sign near = rw is (omega (arith, ints, bound_moved old _ _ x z bounds sign.dear sign.cheap near))
 moved_by I (Cost k c) old q x z of is low bounds sign near = rw is (omega (arith, ints, near.within.low_kept, near.within.cap_kept))
 moved_by I (Close k) old q x z of is low bounds sign near = rw is (omega (arith, ints, near.within.low_kept, near.within.cap_kept))
 moved_by I _ old q x z of is low bounds sign near = absurd of
 
-same_ends : (edit : Edit) (old : ArcRow) → ((changed edit old).tail ≡ old.tail) × ((changed edit old).head ≡ old.head)
+same_ends : (edit : Edit) (old : ArcRow) → ((row_after_edit edit old).tail ≡ old.tail) × ((row_after_edit edit old).head ≡ old.head)
 same_ends (Cap k c) old = (refl, refl)
 same_ends _ old = (refl, refl)
 
@@ -97,10 +97,10 @@ altered_by J (Supply v value) q x start of goes = absurd of
 altered_by J (Add t h l c k) q x start of goes = absurd of
 altered_by J _ q x start of goes = goes
 
-pub row_edit : (I : Instance) (edit : Edit) (old : ArcRow) → KeepsLawful I edit → IsLawful I → IsOk (edited I edit) → IsOfArc edit → arc_at I.arcs (arc_of edit) ≡ Some old → IsRowEdit I edit (arc_of edit) (changed edit old)
+pub row_edit : (I : Instance) (edit : Edit) (old : ArcRow) → KeepsLawful I edit → IsLawful I → IsOk (edited I edit) → IsOfArc edit → arc_at I.arcs (arc_of edit) ≡ Some old → IsRowEdit I edit (arc_of edit) (row_after_edit edit old)
 row_edit I edit old keeps lawful ok of is =
     let k = arc_of edit in
-    let row = changed edit old in
+    let row = row_after_edit edit old in
     let there = row_there I.arcs k old row is in
     let at = number_in I.arcs k old is in
     let after = edited_is I (with_arc I k row) edit (arc_changed I edit old of is) ok in

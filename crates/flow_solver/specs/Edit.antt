@@ -86,12 +86,12 @@ IsOfArc (Add tail head low cap cost) = ⊥
 IsOfArc _ = Unit {0}
 
 -- what it makes of the arc
-abbrev pub changed : Edit → ArcRow → ArcRow
-changed (Cap k cap) row = record row { cap = cap }
-changed (Low k low) row = record row { low = low }
-changed (Cost k cost) row = record row { cost = cost }
-changed (Close k) row = record row { low = pos 0; cap = pos 0 }
-changed _ row = row
+abbrev pub row_after_edit : Edit → ArcRow → ArcRow
+row_after_edit (Cap k cap) row = record row { cap = cap }
+row_after_edit (Low k low) row = record row { low = low }
+row_after_edit (Cost k cost) row = record row { cost = cost }
+row_after_edit (Close k) row = record row { low = pos 0; cap = pos 0 }
+row_after_edit _ row = row
 
 -- the edit changes arc k of the instance into `row`, by which a flow that keeps the sign rule moves by no more than the edit's units
 pub record IsRowEdit (I : Instance) (edit : Edit) (k : ℕ) (row : ArcRow) : Type 0 where
@@ -168,8 +168,8 @@ abbrev pub arc_flow : Moment → ℕ → ℤ
 arc_flow m k = number_at m.flow (flow_index m.instance.demand k)
 
 -- one edit, or several together, led from the first moment to the second by so many pushes
-abbrev pub Changes : Edit → Moment → Moment → ℕ → Type 0
-Changes edit m n pushes = IsChange m.instance n.instance edit (at_node m.potentials) m.flow n.flow pushes
+abbrev pub ChangesTo : Edit → Moment → Moment → ℕ → Type 0
+ChangesTo edit m n pushes = IsChange m.instance n.instance edit (at_node m.potentials) m.flow n.flow pushes
 
-abbrev pub ChangeAll : List Edit → Moment → Moment → ℕ → Type 0
-ChangeAll edits m n pushes = AreChanges m.instance n.instance edits (at_node m.potentials) m.flow n.flow pushes
+abbrev pub ChangeAllTo : List Edit → Moment → Moment → ℕ → Type 0
+ChangeAllTo edits m n pushes = AreChanges m.instance n.instance edits (at_node m.potentials) m.flow n.flow pushes

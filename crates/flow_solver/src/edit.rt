@@ -6,7 +6,7 @@ ghost use Rattle.dimacs_text.specs.declared.problem.ArcRow.{ArcRow};
 ghost use Rattle.network.specs.Edited.{arc_of, edited};
 ghost use Rattle.network.specs.Flow.{IsPotential, reduced_cost};
 ghost use Rattle.network.specs.Instance.{IsLawful, arc_at, at_node};
-ghost use Rattle.flow_solver.specs.Edit.{changed, IsNearest, IsAddEdit, IsOfAdd, IsOfArc, IsOfSupply, IsSupplyEdit, IsRowEdit};
+ghost use Rattle.flow_solver.specs.Edit.{row_after_edit, IsNearest, IsAddEdit, IsOfAdd, IsOfArc, IsOfSupply, IsSupplyEdit, IsRowEdit};
 
 use dimacs_text::{ArcRow, Edit};
 use network::{Network, edits_keep_lawful};
@@ -60,8 +60,8 @@ fn arc_number(edit: &Edit) -> u64
 }
 
 /// What an edit makes of the arc that it names.
-fn changed(row: ArcRow, edit: &Edit) -> ArcRow
-    ensures { result ≡ changed edit.now row }
+fn row_after_edit(row: ArcRow, edit: &Edit) -> ArcRow
+    ensures { result ≡ row_after_edit edit.now row }
 {
     match *edit {
         Edit::Cap { cap, .. } => ArcRow { cap, ..row },
@@ -85,7 +85,7 @@ pub fn edited_row(net: &Network, edit: &Edit) -> (u32, ArcRow)
 {
     edits_keep_lawful();
     let k = arc_number(edit);
-    (k as u32, changed(arc_of(net, k), edit))
+    (k as u32, row_after_edit(arc_of(net, k), edit))
 }
 
 /// The node whose supply an accepted edit changes, and its new supply.

@@ -8,7 +8,7 @@ ghost use Rattle.network.specs.Flow.{reduced_cost, total_excess};
 ghost use Rattle.network.specs.Instance.{at_node, reduced};
 ghost use Rattle.augmentation.specs.Push.{Pushes};
 ghost use Rattle.flow_solver.specs.Answer.{IsAnswered};
-ghost use Rattle.flow_solver.specs.Edit.{CanMake, ChangeAll, Changes, HasPotentials, IsCertifiedMoment, IsMadeIn, IsNearest, IsOfAdd, IsOfArc, IsOfSupply, KeepsResidualArcs, MakeAll, arc_flow, arc_reduced, arc_row};
+ghost use Rattle.flow_solver.specs.Edit.{CanMake, ChangeAllTo, ChangesTo, HasPotentials, IsCertifiedMoment, IsMadeIn, IsNearest, IsOfAdd, IsOfArc, IsOfSupply, KeepsResidualArcs, MakeAll, arc_flow, arc_reduced, arc_row};
 ghost use Rattle.flow_solver.specs.Moment.{IsSized, kept_of};
 ghost use Rattle.flow_solver.specs.Part.{before_all, before_part, CanTakeBack, CanTakeBackAll, IsLogged, LeadsBack};
 
@@ -58,7 +58,7 @@ impl Tables {
         requires accepted { IsOk (edited self.old.moment.instance edit.now) }
         ensures instance { edited self.old.moment.instance edit.now ≡ Ok self.new.moment.instance }
         ensures answered { IsAnswered self.new.moment }
-        ensures changed { Changes edit.now self.old.moment self.new.moment result }
+        ensures changed { ChangesTo edit.now self.old.moment self.new.moment result }
         ensures before { self.new.before ≡ Some self.old.moment }
     {
         self.change_all(&[*edit])
@@ -73,7 +73,7 @@ impl Tables {
         requires accepted { IsOk (edited_all self.old.moment.instance edits.now) }
         ensures instance { edited_all self.old.moment.instance edits.now ≡ Ok self.new.moment.instance }
         ensures answered { IsAnswered self.new.moment }
-        ensures changed { ChangeAll edits.now self.old.moment self.new.moment result }
+        ensures changed { ChangeAllTo edits.now self.old.moment self.new.moment result }
         ensures before { self.new.before ≡ Some self.old.moment }
     {
         let verdict = self.verdict;
