@@ -1,13 +1,14 @@
 -- What the end of all searches tells of the instance.
-use Rattle.std.proofs.Common.{◌≡◌, ℕ, All, ◌++◌, replicate, zero, suc, ◌+◌, ◌-◌, ◌*◌, ◌<◌, ◌≤◌, ℤ, pos, negsuc, neg_ℤ, ◌≤ℤ◌, ◌-ℤ◌, List, [], ◌∷◌, length, drop, None, refl, sym, ap, subst, ◌∙◌, inl, inr, arith, Bool, true, false, cond, not, ◌&&◌}
+use Rattle.std.proofs.Common.{◌≡◌, ℕ, All, ◌++◌, replicate, suc, ◌+◌, ◌-◌, ◌*◌, ◌<◌, ◌≤◌, ℤ, pos, neg_ℤ, ◌≤ℤ◌, ◌-ℤ◌, List, [], ◌∷◌, length, drop, None, refl, sym, ap, subst, ◌∙◌, inl, inr, arith, Bool, true, false, cond}
 use Rattle.std.specs.Prelude.{slice_index_or}
 use Rattle.std.specs.Int.{w64}
 use Rattle.std.proofs.lemmas.Int.{ints, int_wrap_fits, fits_signed_from_abs}
 use Rattle.std.proofs.lemmas.Bool.{cases_lt}
+use Rattle.std.proofs.lemmas.Grind.{get_or_after_one}
 use Rattle.std.proofs.lemmas.List.Sums.{sum_by-cons}
 use Rattle.dimacs_text.specs.declared.problem.ArcRow.{ArcRow}
-use Rattle.network.specs.Flow.{AllWithinBounds, IsCertifiedFlow, net, surplus_of, total_cost, IsLeastGreatestSurplus, IsLeastGreatestShortfall}
-use Rattle.network.specs.Instance.{Demand, Supplies, Terminals, Sides, Instance, IsLawful, IsLegal, ArcFits, IsCertified, IsBreach, at_node, is_marked, reduced, return_arc_of, reduced_arcs, reduced_flow, numbered_flow, worth}
+use Rattle.network.specs.Flow.{AllWithinBounds, IsCertifiedFlow, arcs_sum, net, surplus_of, total_cost, IsLeastGreatestSurplus, IsLeastGreatestShortfall}
+use Rattle.network.specs.Instance.{Demand, Terminals, Instance, IsLawful, IsLegal, ArcFits, IsCertified, IsBreach, at_node, is_marked, reduced, return_arc_of, reduced_arcs, reduced_flow, numbered_flow, worth}
 use Rattle.std.proofs.lemmas.List.Elements.{All-from_recursion}
 use Rattle.std.specs.List.{AllByRecursion}
 use Rattle.dimacs_text.specs.Lawful.{IsLawfulRow}
@@ -16,9 +17,8 @@ use Rattle.network.proofs.Reduction.{made, rows_of, reduced_ends, certified_is_b
 use Rattle.network.proofs.Surplus.{surplus_at_most}
 use Rattle.flow_solver.specs.declared.verdict.Verdict.{Verdict}
 use Rattle.flow_solver.specs.declared.verdict.Verdict.TheVariants.{Best, Infeasible}
-use Rattle.augmentation.specs.Limits.{supply_limit, cap_sum_limit}
+use Rattle.augmentation.specs.Limits.{supply_limit}
 use Rattle.shortest_paths.specs.Limits.{label_floor}
-use Rattle.residual_graph.specs.Limits.{entry_limit}
 use Rattle.residual_graph.specs.Residual.{IsReducedCostOptimal, ArePotentials, number_at, row_at}
 use Rattle.augmentation.specs.Push.{AreSmall, IsExcess, AreSupplies, positive_part, left, cap_total}
 use Rattle.augmentation.specs.Cut.{in_set, sum_in, sum_leaving, sum_entering, lack, IsChosenSet}
@@ -28,20 +28,16 @@ use Rattle.flow_solver.specs.Balance.{IsWrappedExcess}
 use Rattle.flow_solver.specs.TablesView.{IsFlowValue}
 use Rattle.flow_solver.specs.Moment.{Moment, IsReturnVerdict, ReturnMatches, ReturnMatchesBy, VerdictFits, returned, with_return}
 use Rattle.flow_solver.proofs.BalanceLemmas.{IsExactExcess, excess_exact}
+use Rattle.flow_solver.proofs.ExcessLemmas.{below_part}
 use Rattle.flow_solver.proofs.FlowLaws.{AgreesAt, bounds_from, certified_same, certified_flow}
-use Rattle.flow_solver.proofs.CutLaws.{IsMarkedBy, least_surplus, least_shortfall}
+use Rattle.flow_solver.proofs.CutLaws.{IsMarkedBy, entering_is, leaving_is, least_surplus, least_shortfall}
 use Rattle.flow_solver.proofs.PushLaws.{legal_flow, left_is}
-use Rattle.flow_solver.proofs.InstanceLemmas.{range_of_labels}
+use Rattle.flow_solver.proofs.InstanceLemmas.{caps_of_instance, few_entries, range_of_labels, supplies_of_instance}
 
 -- ---- entries 1 to n of a table
 
-entry_after : {A : Type 0} (xs : List A) (v : ℕ) (d : A) → slice_index_or (drop 1 xs) v d ≡ slice_index_or xs (suc v) d
-entry_after [] v d = refl
-entry_after (x ∷ xs) v d = refl
-
 pub node_entry : {A : Type 0} (xs : List A) (n v : ℕ) (d : A) → (1 ≤ v) × (v ≤ n) → slice_index_or (drop 1 xs) (v - 1) d ≡ slice_index_or xs v d
-node_entry xs n zero d node = absurd (omega (arith, node.0))
-node_entry xs n (suc v) d node = (let e : suc v - 1 ≡ v = omega arith in ap (λ (w : ℕ). slice_index_or (drop 1 xs) w d) e ∙ entry_after xs v d)
+node_entry xs n v d node = (let e : 1 + (v - 1) ≡ v = omega (arith, node.0) in get_or_after_one xs (v - 1) d ∙ ap (λ (w : ℕ). slice_index_or xs w d) e)
 
 pub agrees_at : (n : ℕ) (p : List ℤ) → AgreesAt n (at_node (drop 1 p)) p
 agrees_at n p v node = node_entry p n v (pos 0) node
@@ -50,7 +46,7 @@ pub marked_by : (n : ℕ) (set : List Bool) → IsMarkedBy n (is_marked (drop 1 
 marked_by n set v node = node_entry set n v false node
 
 none_marked : (set : List Bool) → ((v : ℕ) → in_set set v ≡ false) → (v : ℕ) → is_marked (drop 1 set) v ≡ false
-none_marked set none v = entry_after set (v - 1) false ∙ none (suc (v - 1))
+none_marked set none v = get_or_after_one set (v - 1) false ∙ none (1 + (v - 1))
 
 -- a flow that the potentials of the nodes certify is certified by the table
 pub certified_at : (I : Instance) (x p : List ℤ) → IsLawful I → IsCertifiedFlow (reduced I) x (at_node (drop 1 p)) → IsCertifiedFlow (reduced I) x (number_at p)
@@ -59,15 +55,13 @@ certified_at I x p lawful certified = certified_same (reduced I) x (at_node (dro
 -- ---- the worth
 
 worth_is : (n : ℕ) (D : Demand) (arcs : List ArcRow) (room : ℕ) (y : List ℤ) → y ≡ reduced_flow (made n D arcs room) (numbered_flow D y) → worth_by D (reduced_arcs D arcs) y ≡ worth (made n D arcs room) (numbered_flow D y)
-worth_is n (Supplies s) arcs room y same = refl
 worth_is n (Terminals source sink) arcs room y same = ap (λ (z : List ℤ). number_at z 0) same
-worth_is n (Sides marks) arcs room y same = refl
+worth_is n _ arcs room y same = refl
 
 -- without a return arc it is the cost
 pub worth_is_cost : (D : Demand) (arcs : List ArcRow) (y : List ℤ) → return_arc_of D ≡ None → worth_by D arcs y ≡ total_cost arcs y
-worth_is_cost (Supplies s) arcs y none = refl
 worth_is_cost (Terminals source sink) arcs y none = cc
-worth_is_cost (Sides marks) arcs y none = refl
+worth_is_cost _ arcs y none = refl
 
 -- ---- the excess
 
@@ -79,7 +73,7 @@ wrapped_small arcs supply x e is small v =
 
 -- the wrapped excess of a certified flow is exact
 pub exact_of_certified : (I : Instance) (rows : List ArcRow) (x e : List ℤ) (q : ℕ → ℤ) → IsLawful I → rows ≡ (reduced I).arcs → IsCertifiedFlow (reduced I) x q → IsWrappedExcess rows (held I.nodes (reduced I).supply) x e → IsExactExcess rows (held I.nodes (reduced I).supply) x e
-exact_of_certified I rows x e q lawful same certified is = excess_exact I rows x e lawful same (subst (λ (r : List ArcRow). AllWithinBounds r x) (sym same) certified.bounds) is
+exact_of_certified I rows x e q lawful same certified is = excess_exact I rows x e lawful same (rw same certified.bounds) is
 
 -- ---- the end of all searches
 
@@ -92,18 +86,6 @@ pub record IsEnd (I : Instance) (y p e : List ℤ) (set : List Bool) : Type 0 wh
   pub certified : IsReducedCostOptimal (reduced I).arcs y p
   pub excess_is : IsExcess (reduced I).arcs (held I.nodes (reduced I).supply) y e
   pub chosen : IsChosenSet (reduced I).arcs (held I.nodes (reduced I).supply) e set
-
-pub end_of : (I : Instance) (rows : List ArcRow) (y p e : List ℤ) (set : List Bool) → IsLawful I → rows ≡ (reduced I).arcs → ArePotentials (length p) label_floor p → length e ≡ I.nodes + 1 → length set ≡ I.nodes + 1
-    → IsReducedCostOptimal rows y p → IsExcess rows (held I.nodes (reduced I).supply) y e → IsChosenSet rows (held I.nodes (reduced I).supply) e set → IsEnd I y p e set
-end_of I rows y p e set lawful same potentials_in excess_in cut_in certified excess_is chosen = record {
-  lawful = lawful;
-  potentials_in = potentials_in;
-  excess_in = excess_in;
-  cut_in = cut_in;
-  certified = subst (λ (r : List ArcRow). IsReducedCostOptimal r y p) same certified;
-  excess_is = subst (λ (r : List ArcRow). IsExcess r (held I.nodes (reduced I).supply) y e) same excess_is;
-  chosen = subst (λ (r : List ArcRow). IsChosenSet r (held I.nodes (reduced I).supply) e set) same chosen;
-}
 
 module _ (I : Instance) (y p e : List ℤ) (set : List Bool) (end : IsEnd I y p e set) where
   bounds : AllWithinBounds (reduced I).arcs y
@@ -180,57 +162,49 @@ module _ (I : Instance) (y p e : List ℤ) (set : List Bool) (end : IsEnd I y p 
 
 -- ---- the shortage fits its type
 
-sum_in-small : (set : List Bool) (f : ℕ → ℤ) → ((v : ℕ) → f v ≤ℤ pos supply_limit) → sum_in set f ≤ℤ pos (supply_limit * length set)
-sum_in-small [] f small = omega (arith, ints)
-sum_in-small (true ∷ set) f small = omega (arith, ints, small 0, sum_in-small set (λ v. f (suc v)) (λ v. small (suc v)))
-sum_in-small (false ∷ set) f small = omega (arith, ints, sum_in-small set (λ v. f (suc v)) (λ v. small (suc v)))
+supplies_later : (f : ℕ → ℤ) → AreSupplies f → AreSupplies (λ v. f (suc v))
+supplies_later f small = record { low = λ v. small.low (suc v); high = λ v. small.high (suc v) }
 
-sum_in-low : (set : List Bool) (f : ℕ → ℤ) → ((v : ℕ) → neg_ℤ (pos supply_limit) ≤ℤ f v) → neg_ℤ (pos (supply_limit * length set)) ≤ℤ sum_in set f
-sum_in-low [] f small = omega (arith, ints)
-sum_in-low (true ∷ set) f small = omega (arith, ints, small 0, sum_in-low set (λ v. f (suc v)) (λ v. small (suc v)))
-sum_in-low (false ∷ set) f small = omega (arith, ints, sum_in-low set (λ v. f (suc v)) (λ v. small (suc v)))
+sum_in-within : (set : List Bool) (f : ℕ → ℤ) → AreSupplies f → (neg_ℤ (pos (supply_limit * length set)) ≤ℤ sum_in set f) × (sum_in set f ≤ℤ pos (supply_limit * length set))
+sum_in-within [] f small = (omega (arith, ints), omega (arith, ints))
+sum_in-within (true ∷ set) f small = (let rest = sum_in-within set (λ v. f (suc v)) (supplies_later f small) in (omega (arith, ints, small.low 0), omega (arith, ints, small.high 0)))
+sum_in-within (false ∷ set) f small = (let rest = sum_in-within set (λ v. f (suc v)) (supplies_later f small) in (omega (arith, ints), omega (arith, ints)))
 
-part_between : (b : Bool) (z c : ℤ) → pos 0 ≤ℤ z → z ≤ℤ c → (pos 0 ≤ℤ cond b z (pos 0)) × (cond b z (pos 0) ≤ℤ pos (positive_part c))
-part_between true (pos n) (pos m) low high = (low, high)
-part_between true (pos n) (negsuc m) low high = absurd (omega (arith, ints, high))
-part_between true (negsuc n) c low high = absurd (omega (arith, ints, low))
-part_between false z c low high = (omega (arith, ints), omega (arith, ints))
-
-abbrev pub AreRows : List ArcRow → Type 0
+abbrev AreRows : List ArcRow → Type 0
 AreRows arcs = (k : ℕ) → k < length arcs → (pos 0 ≤ℤ (row_at arcs k).low) × ((row_at arcs k).low ≤ℤ (row_at arcs k).cap)
 
+part_between : (b : Bool) (z c : ℤ) → pos 0 ≤ℤ z → z ≤ℤ c → (pos 0 ≤ℤ cond b c (pos 0)) × (cond b z (pos 0) ≤ℤ pos (positive_part c))
+part_between b z c low high = (let most = below_part c in (grind (arith, ints), grind (arith, ints)))
+
+-- of the arcs that a test picks, the capacities come to at least 0, and the lower bounds to no more than all capacities
+picked_between : (picks : ArcRow → Bool) (arcs : List ArcRow) → AreRows arcs → (pos 0 ≤ℤ arcs_sum (λ a. cond (picks a) a.cap (pos 0)) arcs) × (arcs_sum (λ a. cond (picks a) a.low (pos 0)) arcs ≤ℤ pos (cap_total arcs))
+picked_between picks [] rows = (omega (arith, ints), omega (arith, ints))
+picked_between picks (a ∷ arcs) rows =
+    let rest = picked_between picks arcs (λ k lt. rows (suc k) (omega arith)) in
+    let here = part_between (picks a) a.low a.cap (rows 0 (omega arith)).0 (rows 0 (omega arith)).1 in
+    (omega (arith, ints, rest.0, here.0), omega (arith, ints, rest.1, here.1, sum_by-cons (λ (b : ArcRow). positive_part b.cap) a arcs))
+
 leaving_between : (set : List Bool) (arcs : List ArcRow) → AreRows arcs → (pos 0 ≤ℤ sum_leaving set (λ a. a.cap) arcs) × (sum_leaving set (λ a. a.low) arcs ≤ℤ pos (cap_total arcs))
-leaving_between set [] rows = (omega (arith, ints), omega (arith, ints))
-leaving_between set (a ∷ arcs) rows =
-    let here = rows 0 (omega arith) in
-    let rest = leaving_between set arcs (λ k lt. rows (suc k) (omega arith)) in
-    let cap = part_between (in_set set a.tail && not (in_set set a.head)) a.cap a.cap (omega (arith, ints, here.0, here.1)) (omega (arith, ints)) in
-    let low = part_between (in_set set a.tail && not (in_set set a.head)) a.low a.cap here.0 here.1 in
-    (omega (arith, ints, rest.0, cap.0), omega (arith, ints, rest.1, low.1, sum_by-cons (λ (b : ArcRow). positive_part b.cap) a arcs))
+leaving_between set arcs rows = rw (leaving_is set (λ a. a.cap) arcs, leaving_is set (λ a. a.low) arcs) (picked_between _ arcs rows)
 
 entering_between : (set : List Bool) (arcs : List ArcRow) → AreRows arcs → (pos 0 ≤ℤ sum_entering set (λ a. a.cap) arcs) × (sum_entering set (λ a. a.low) arcs ≤ℤ pos (cap_total arcs))
-entering_between set [] rows = (omega (arith, ints), omega (arith, ints))
-entering_between set (a ∷ arcs) rows =
-    let here = rows 0 (omega arith) in
-    let rest = entering_between set arcs (λ k lt. rows (suc k) (omega arith)) in
-    let cap = part_between (in_set set a.head && not (in_set set a.tail)) a.cap a.cap (omega (arith, ints, here.0, here.1)) (omega (arith, ints)) in
-    let low = part_between (in_set set a.head && not (in_set set a.tail)) a.low a.cap here.0 here.1 in
-    (omega (arith, ints, rest.0, cap.0), omega (arith, ints, rest.1, low.1, sum_by-cons (λ (b : ArcRow). positive_part b.cap) a arcs))
+entering_between set arcs rows = rw (entering_is set (λ a. a.cap) arcs, entering_is set (λ a. a.low) arcs) (picked_between _ arcs rows)
 
-module _ (arcs : List ArcRow) (supply : ℕ → ℤ) (e : List ℤ) (set : List Bool) (supplies : AreSupplies supply)
-    (rows : AreRows arcs) (caps : cap_total arcs ≤ cap_sum_limit) (few : length set ≤ entry_limit) (chosen : IsChosenSet arcs supply e set)
-  where
-    pub left_fits : left e < 9223372036854775808
-    left_fits = elim (cases_lt 0 (left e)) [
-      | inl some ↦ omega (arith, ints, (chosen.in_excess some).value_is, sum_in-small set supply supplies.high, (leaving_between set arcs rows).0, (entering_between set arcs rows).1, caps, few)
-      | inr le ↦ omega arith
-    ]
+module _ (I : Instance) (y p e : List ℤ) (set : List Bool) (end : IsEnd I y p e set) where
+  rows_end : AreRows (reduced I).arcs
+  rows_end k lt = (let row = end.certified.flow.rows k lt in (row.low_at_least_0, row.low_at_most_cap))
 
-    pub lack_fits : left e ≡ 0 → lack e < 9223372036854775808
-    lack_fits none = elim (cases_lt 0 (lack e)) [
-      | inl some ↦ omega (arith, ints, (chosen.in_deficit none some).value_is, sum_in-low set supply supplies.low, (leaving_between set arcs rows).1, (entering_between set arcs rows).0, caps, few)
-      | inr le ↦ omega arith
-    ]
+  pub left_fits : left e < 9223372036854775808
+  left_fits = elim (cases_lt 0 (left e)) [
+    | inl some ↦ omega (arith, ints, (end.chosen.in_excess some).value_is, (sum_in-within set _ (supplies_of_instance I end.lawful)).1, (leaving_between set _ rows_end).0, (entering_between set _ rows_end).1, caps_of_instance I end.lawful, few_entries I end.lawful, end.cut_in)
+    | inr le ↦ omega arith
+  ]
+
+  pub lack_fits : left e ≡ 0 → lack e < 9223372036854775808
+  lack_fits none = elim (cases_lt 0 (lack e)) [
+    | inl some ↦ omega (arith, ints, (end.chosen.in_deficit none some).value_is, (sum_in-within set _ (supplies_of_instance I end.lawful)).0, (leaving_between set _ rows_end).1, (entering_between set _ rows_end).0, caps_of_instance I end.lawful, few_entries I end.lawful, end.cut_in)
+    | inr le ↦ omega arith
+  ]
 
 -- ---- what an answered moment tells of its flows
 
@@ -238,38 +212,33 @@ zero_flow : (n source sink : ℕ) (arcs : List ArcRow) (room : ℕ) → IsLawful
 zero_flow n source sink arcs room lawful = (zero_bounds n source sink arcs (rows_of lawful), λ v b s t. zero_net arcs v)
 
 tells_by : (n : ℕ) (D : Demand) (arcs : List ArcRow) (room : ℕ) (verdict : Verdict) (flow : List ℤ) (set : ℕ → Bool) → IsLawful (made n D arcs room) → IsVerdict verdict (made n D arcs room) flow set → ReturnMatchesBy D verdict flow
-tells_by n (Supplies s) arcs room verdict flow set lawful told = tt
 tells_by n (Terminals source sink) arcs room (Best w) flow set lawful told = ap Best (told.worth_is ∙ sym (ap (λ (x : List ℤ). number_at x 0) told.reduced_is))
 tells_by n (Terminals source sink) arcs room (Infeasible d) flow set lawful told = absurd (told.none_legal (replicate (length arcs) (pos 0)) (zero_flow n source sink arcs room lawful))
-tells_by n (Sides marks) arcs room verdict flow set lawful told = tt
+tells_by n _ arcs room verdict flow set lawful told = tt
 
 fits_by : (D : Demand) (arcs : List ArcRow) (verdict : Verdict) (flow : List ℤ) → AllWithinBounds (reduced_arcs D arcs) flow → ReturnMatchesBy D verdict flow → VerdictFits D verdict
-fits_by (Supplies s) arcs verdict flow within told = tt
 fits_by (Terminals source sink) arcs verdict [] within told = absurd within
 fits_by (Terminals source sink) arcs verdict (x ∷ flow) within told = subst IsReturnVerdict (sym told) within.0
-fits_by (Sides marks) arcs verdict flow within told = tt
+fits_by _ arcs verdict flow within told = tt
 
 same_by : (D : Demand) (arcs : List ArcRow) (verdict : Verdict) (flow : List ℤ) → AllWithinBounds (reduced_arcs D arcs) flow → ReturnMatchesBy D verdict flow → with_return D verdict flow ≡ flow
-same_by (Supplies s) arcs verdict flow within told = refl
 same_by (Terminals source sink) arcs verdict [] within told = absurd within
 same_by (Terminals source sink) arcs verdict (x ∷ flow) within told = ap (λ (v : Verdict). returned (Terminals source sink) v ++ flow) told
-same_by (Sides marks) arcs verdict flow within told = refl
+same_by _ arcs verdict flow within told = refl
 
 numbered_bounds : (D : Demand) (arcs : List ArcRow) (flow : List ℤ) → AllWithinBounds (reduced_arcs D arcs) flow → AllWithinBounds arcs (numbered_flow D flow)
-numbered_bounds (Supplies s) arcs flow within = within
 numbered_bounds (Terminals source sink) arcs [] within = absurd within
 numbered_bounds (Terminals source sink) arcs (x ∷ flow) within = within.1
-numbered_bounds (Sides marks) arcs flow within = within
+numbered_bounds _ arcs flow within = within
 
 flows_by : (n : ℕ) (D : Demand) (arcs : List ArcRow) (flow : List ℤ) → AllByRecursion (λ arc. IsLawfulRow n arc × ArcFits D arc) arcs → AllWithinBounds arcs flow → AllByRecursion IsFlowValue flow
 flows_by n D [] [] rows within = tt
-flows_by n D [] (x ∷ flow) rows within = absurd within
-flows_by n D (arc ∷ arcs) [] rows within = absurd within
 flows_by n D (arc ∷ arcs) (x ∷ flow) rows within =
     let low = rows.0.0.low in
     let limit = rows.0.0.limit in
     let here = within.0 in
     ((omega (arith, ints, low, here.0), omega (arith, ints, limit, here.1)), flows_by n D arcs flow rows.1 within.1)
+flows_by n D _ _ rows within = absurd within
 
 module _ (m : Moment) (answered : IsAnswered m) where
   -- the flow of the return arc, where there is one, is told as the worth

@@ -1,5 +1,5 @@
 -- How the excess and the cost of a flow follow it from one change to the next.
-use Rattle.std.proofs.Common.{◌≡◌, ◌≢◌, ℕ, zero, suc, ◌+◌, ◌<◌, ◌≤◌, ◌^◌, ◌*◌, ◌%◌, ℤ, pos, ◌+ℤ◌, ◌-ℤ◌, ◌*ℤ◌, ◌≤ℤ◌, neg_ℤ, List, [], ◌∷◌, ◌++◌, length, refl, sym, ap, subst, ◌∙◌, inl, inr, arith, FitsSigned, Bool, true, false, cond, eqb, unsigned_abs, take, add-one, mul-le-mul, true≢false}
+use Rattle.std.proofs.Common.{◌≡◌, ◌≢◌, ℕ, zero, suc, ◌+◌, ◌<◌, ◌≤◌, ◌^◌, ◌*◌, ◌%◌, ℤ, pos, ◌+ℤ◌, ◌-ℤ◌, ◌*ℤ◌, ◌≤ℤ◌, neg_ℤ, List, [], ◌∷◌, ◌++◌, length, sym, ap, subst, ◌∙◌, inl, inr, arith, FitsSigned, unsigned_abs, take, mul-le-mul}
 use Rattle.std.specs.Prelude.{◌⊎◌, slice_index_or, slice_set}
 use Rattle.std.specs.List.{AllPairs}
 use Rattle.std.specs.Int.{int_wrap, w64, w128, cast_signed, cast_unsigned}
@@ -9,7 +9,7 @@ use mir.Val.{bits}
 use mir.ValLaws.{of_z_fits}
 use Rattle.std.proofs.lemmas.Int.{ints, int_wrap_fits, int_wrap-add_left, int_wrap-add_right, fits_signed_from_abs, to_z-of_z, unsigned_abs-mul, wrapping_add-bits}
 use Rattle.std.proofs.lemmas.Bool.{cases_eq}
-use Rattle.std.proofs.lemmas.List.{get_or-set_same, get_or-set_other, get_or_past, get_or_default, length-set, ext_get_or}
+use Rattle.std.proofs.lemmas.List.{get_or-set_same, get_or-set_other, get_or_past, get_or_default, length-set, length-take-le, take_more, ext_get_or}
 use Rattle.dimacs_text.specs.declared.problem.ArcRow.{ArcRow}
 use Rattle.network.specs.Flow.{flow_sum, net, total_cost, AllWithinBounds}
 use Rattle.network.specs.Instance.{Instance, IsLawful, reduced}
@@ -21,7 +21,7 @@ use Rattle.augmentation.specs.Nodes.{held}
 use Rattle.augmentation.specs.Touched.{NameChanges}
 use Rattle.augmentation.specs.Push.{AreSmall, AreSupplies, IsExcess, at_node, cap_total}
 use Rattle.flow_solver.specs.Balance.{IsCarried, IsRaised, IsWrappedCost, IsWrappedExcess, gain}
-use Rattle.flow_solver.proofs.ExcessLemmas.{AreWithinCaps, caps_of_flow, flow_in-bounds, flow_in-more, flow_out-bounds, flow_out-more, small_within}
+use Rattle.flow_solver.proofs.ExcessLemmas.{AreWithinCaps, at_zero, caps_of_flow, flow_bounds, small_within}
 use Rattle.flow_solver.proofs.InstanceLemmas.{caps_of_instance, flow_of_instance, supplies_of_instance}
 use Rattle.augmentation.proofs.PushLemmas.{at_same, at_other}
 
@@ -46,19 +46,8 @@ IsRaised-put u before after z e u_in is = record {
   ]);
 }
 
-at_zero : (u v : ℕ) → at_node u (pos 0) v ≡ pos 0
-at_zero u v = by_test (eqb u v)
-  where
-    by_test : (t : Bool) → cond t (pos 0) (pos 0) ≡ pos 0
-    by_test true = refl
-    by_test false = refl
-
 at_node-sub : (u : ℕ) (m n : ℤ) (v : ℕ) → at_node u (m -ℤ n) v ≡ at_node u m v -ℤ at_node u n v
-at_node-sub u m n v = by_test (eqb u v)
-  where
-    by_test : (t : Bool) → cond t (m -ℤ n) (pos 0) ≡ cond t m (pos 0) -ℤ cond t n (pos 0)
-    by_test true = refl
-    by_test false = refl
+at_node-sub u m n v = grind (arith, ints)
 
 -- what is carried over is taken from the tail and added to the head
 pub IsCarried-both : (row : ArcRow) (before after : ℤ) (e g f : List ℤ) → IsRaised row.tail after before e g → IsRaised row.head before after g f → IsCarried row before after e f
@@ -71,22 +60,19 @@ IsCarried-both row before after e g f first second = record {
 -- ---- sums at one place
 
 flow_sum-set : (g : ArcRow → ℤ → ℤ) (arcs : List ArcRow) (x : List ℤ) (k : ℕ) (y : ℤ) → k < length arcs → length x ≡ length arcs → flow_sum g arcs (slice_set x k y) ≡ flow_sum g arcs x +ℤ (g (row_at arcs k) y -ℤ g (row_at arcs k) (number_at x k))
-flow_sum-set g [] x k y lt sized = absurd (omega arith)
-flow_sum-set g (a ∷ arcs) [] k y lt sized = absurd (omega arith)
 flow_sum-set g (a ∷ arcs) (z ∷ x) zero y lt sized = omega (arith, linear)
 flow_sum-set g (a ∷ arcs) (z ∷ x) (suc k) y lt sized = (let rest = flow_sum-set g arcs x k y (omega arith) (omega arith) in omega (arith, linear))
+flow_sum-set g _ _ k y lt sized = absurd (omega arith)
 
 flow_sum-set_row : (g : ArcRow → ℤ → ℤ) (arcs : List ArcRow) (x : List ℤ) (k : ℕ) (row : ArcRow) → k < length arcs → length x ≡ length arcs → flow_sum g (slice_set arcs k row) x ≡ flow_sum g arcs x +ℤ (g row (number_at x k) -ℤ g (row_at arcs k) (number_at x k))
-flow_sum-set_row g [] x k row lt sized = absurd (omega arith)
-flow_sum-set_row g (a ∷ arcs) [] k row lt sized = absurd (omega arith)
 flow_sum-set_row g (a ∷ arcs) (z ∷ x) zero row lt sized = omega (arith, linear)
 flow_sum-set_row g (a ∷ arcs) (z ∷ x) (suc k) row lt sized = (let rest = flow_sum-set_row g arcs x k row (omega arith) (omega arith) in omega (arith, linear))
+flow_sum-set_row g _ _ k row lt sized = absurd (omega arith)
 
 flow_sum-push : (g : ArcRow → ℤ → ℤ) (arcs : List ArcRow) (x : List ℤ) (row : ArcRow) (y : ℤ) → length x ≡ length arcs → flow_sum g (arcs ++ row ∷ []) (x ++ y ∷ []) ≡ flow_sum g arcs x +ℤ g row y
 flow_sum-push g [] [] row y sized = omega (arith, linear)
-flow_sum-push g [] (z ∷ x) row y sized = absurd (omega arith)
-flow_sum-push g (a ∷ arcs) [] row y sized = absurd (omega arith)
 flow_sum-push g (a ∷ arcs) (z ∷ x) row y sized = (let rest = flow_sum-push g arcs x row y (omega arith) in omega (arith, linear))
+flow_sum-push g _ _ row y sized = absurd (omega arith)
 
 -- ---- the excess
 
@@ -155,8 +141,8 @@ excess_supplied arcs supply supply' x e f u before after other raised is v =
 -- of a flow within its bounds the excess fits, and so it is exact
 wrapped_within : (arcs : List ArcRow) (supply : ℕ → ℤ) (x e : List ℤ) → length x ≡ length arcs → AreWithinCaps arcs x → AreSupplies supply → cap_total arcs ≤ cap_sum_limit → IsWrappedExcess arcs supply x e → IsExcess arcs supply x e
 wrapped_within arcs supply x e sized within supplies caps is v =
-    let out = flow_out-bounds arcs x v sized within in
-    let in_ = flow_in-bounds arcs x v sized within in
+    let out = flow_bounds (λ a. a.tail) arcs x v sized within in
+    let in_ = flow_bounds (λ a. a.head) arcs x v sized within in
     let z = supply v -ℤ net arcs x v in
     let low : neg_ℤ (pos 301000000000000) ≤ℤ (supply v -ℤ net arcs x v) = omega (arith, ints, supplies.low v, out.1, in_.0, caps) in
     let high : (supply v -ℤ net arcs x v) ≤ℤ pos 301000000000000 = omega (arith, ints, supplies.high v, out.0, in_.1, caps) in
@@ -168,8 +154,8 @@ pub record IsExactExcess (arcs : List ArcRow) (supply : ℕ → ℤ) (x e : List
 
 pub excess_exact : (I : Instance) (rows : List ArcRow) (x e : List ℤ) → IsLawful I → rows ≡ (reduced I).arcs → AllWithinBounds rows x → IsWrappedExcess rows (held I.nodes (reduced I).supply) x e → IsExactExcess rows (held I.nodes (reduced I).supply) x e
 excess_exact I rows x e lawful same bounds is =
-    let flow = subst (λ (r : List ArcRow). IsPseudoflow (I.nodes + 1) r x) (sym same) (flow_of_instance I x lawful (subst (λ (r : List ArcRow). AllWithinBounds r x) same bounds)) in
-    let caps = subst (λ (r : List ArcRow). cap_total r ≤ cap_sum_limit) (sym same) (caps_of_instance I lawful) in
+    let flow : IsPseudoflow (I.nodes + 1) rows x = rw same (flow_of_instance I x lawful (rw same at bounds)) in
+    let caps : cap_total rows ≤ cap_sum_limit = rw same (caps_of_instance I lawful) in
     let supplies = supplies_of_instance I lawful in
     let exact = wrapped_within rows (held I.nodes (reduced I).supply) x e flow.same_length (caps_of_flow flow) supplies caps is in
     record {
@@ -177,16 +163,21 @@ excess_exact I rows x e lawful same bounds is =
       small = small_within (I.nodes + 1) rows (held I.nodes (reduced I).supply) x e flow.same_length (caps_of_flow flow) supplies caps exact;
     }
 
--- ---- the excess of the first arcs
+-- ---- the first arcs
+
+more_rows : (arcs : List ArcRow) (k : ℕ) → k < length arcs → take (k + 1) arcs ≡ take k arcs ++ row_at arcs k ∷ []
+more_rows arcs k lt = take_more arcs k _ lt
+
+more_flows : (x : List ℤ) (k : ℕ) → k < length x → take (k + 1) x ≡ take k x ++ number_at x k ∷ []
+more_flows x k lt = take_more x k _ lt
+
+as_many_first : (arcs : List ArcRow) (x : List ℤ) (k : ℕ) → k < length arcs → length x ≡ length arcs → length (take k x) ≡ length (take k arcs)
+as_many_first arcs x k lt sized = omega (arith, length-take-le k arcs (omega arith), length-take-le k x (omega arith))
 
 pub wrapped_excess_more : (arcs : List ArcRow) (supply : ℕ → ℤ) (x e f : List ℤ) (k : ℕ) → k < length arcs → length x ≡ length arcs → IsCarried (row_at arcs k) (pos 0) (number_at x k) e f → IsWrappedExcess (take k arcs) supply (take k x) e → IsWrappedExcess (take (k + 1) arcs) supply (take (k + 1) x) f
-wrapped_excess_more arcs supply x e f k lt sized carried is v =
-    carried.by_node (λ w. supply w -ℤ net (take k arcs) (take k x) w) is v
-    ∙ ap (int_wrap w64) (let out = flow_out-more arcs x k v lt sized in
-    let in_ = flow_in-more arcs x k v lt sized in
-    let all = gain-sub (row_at arcs k) (number_at x k) (pos 0) v in
-    let none = gain-zero (row_at arcs k) v in
-    omega (arith, ints))
+wrapped_excess_more arcs supply x e f k lt sized carried is =
+    rw (more_rows arcs k lt, more_flows x k (omega arith))
+    (excess_last (take k arcs) supply (take k x) e f (row_at arcs k) (number_at x k) (as_many_first arcs x k lt sized) carried is)
 
 -- ---- the cost
 
@@ -228,23 +219,14 @@ cost_first arcs x cost result row y sized result_is is =
     result_is ∙ wrapped_more w128 cost (total_cost (arcs ++ row ∷ []) (x ++ y ∷ [])) ((pos 0 -ℤ y) *ℤ row.cost) (total_cost arcs x) is
     (let more = flow_sum-push price arcs x row y sized in let less = to_zero y row.cost in omega (arith, linear))
 
--- one more of the first arcs
-flow_sum-more : (g : ArcRow → ℤ → ℤ) (arcs : List ArcRow) (x : List ℤ) (k : ℕ) → k < length arcs → length x ≡ length arcs → flow_sum g (take (k + 1) arcs) (take (k + 1) x) ≡ flow_sum g (take k arcs) (take k x) +ℤ g (row_at arcs k) (number_at x k)
-flow_sum-more g [] x k lt sized = absurd (omega arith)
-flow_sum-more g (a ∷ arcs) [] k lt sized = absurd (omega arith)
-flow_sum-more g (a ∷ arcs) (y ∷ x) zero lt sized = omega (arith, linear)
-flow_sum-more g (a ∷ arcs) (y ∷ x) (suc k) lt sized = rw add-one (omega (arith, linear, (rw add-one at (flow_sum-more g arcs x k (omega arith) (omega arith)))))
-
 pub cost_more : (arcs : List ArcRow) (x : List ℤ) (cost result : ℤ) (k : ℕ) → k < length arcs → length x ≡ length arcs → result ≡ int_wrap w128 (cost +ℤ (number_at x k -ℤ pos 0) *ℤ (row_at arcs k).cost) → IsWrappedCost (take k arcs) (take k x) cost → IsWrappedCost (take (k + 1) arcs) (take (k + 1) x) result
 cost_more arcs x cost result k lt sized result_is is =
-    result_is ∙ wrapped_more w128 cost (total_cost (take k arcs) (take k x)) ((number_at x k -ℤ pos 0) *ℤ (row_at arcs k).cost) (total_cost (take (k + 1) arcs) (take (k + 1) x)) is
-    (flow_sum-more price arcs x k lt sized ∙ ap (λ (m : ℤ). total_cost (take k arcs) (take k x) +ℤ m) (sym (from_zero (number_at x k) (row_at arcs k).cost)))
+    rw (more_rows arcs k lt, more_flows x k (omega arith))
+    (cost_last (take k arcs) (take k x) cost result (row_at arcs k) (number_at x k) (as_many_first arcs x k lt sized) result_is is)
 
 -- no arc costs more than 10^26
 total_bound : (nodes : ℕ) (arcs : List ArcRow) (x : List ℤ) → length x ≡ length arcs → ((k : ℕ) → k < length arcs → IsRow nodes (row_at arcs k)) → ((k : ℕ) → k < length arcs → IsWithinRow (row_at arcs k) (number_at x k)) → unsigned_abs (total_cost arcs x) ≤ 10 ^ 12 * 10 ^ 14 * length arcs
 total_bound nodes [] [] sized rows within = omega arith
-total_bound nodes [] (y ∷ x) sized rows within = absurd (omega arith)
-total_bound nodes (a ∷ arcs) [] sized rows within = absurd (omega arith)
 total_bound nodes (a ∷ arcs) (y ∷ x) sized rows within =
     let row : IsRow nodes a = rows 0 (omega arith) in
     let bounds : IsWithinRow a y = within 0 (omega arith) in
@@ -255,10 +237,11 @@ total_bound nodes (a ∷ arcs) (y ∷ x) sized rows within =
     let both = abs-add (a.cost *ℤ y) (total_cost arcs x) in
     let product = unsigned_abs-mul a.cost y in
     omega arith
+total_bound nodes _ _ sized rows within = absurd (omega arith)
 
 pub cost_exact : (I : Instance) (rows : List ArcRow) (x : List ℤ) (cost : ℤ) → IsLawful I → rows ≡ (reduced I).arcs → AllWithinBounds rows x → IsWrappedCost rows x cost → cost ≡ total_cost rows x
 cost_exact I rows x cost lawful same bounds is =
-    let flow = subst (λ (r : List ArcRow). IsPseudoflow (I.nodes + 1) r x) (sym same) (flow_of_instance I x lawful (subst (λ (r : List ArcRow). AllWithinBounds r x) same bounds)) in
+    let flow : IsPseudoflow (I.nodes + 1) rows x = rw same (flow_of_instance I x lawful (rw same at bounds)) in
     let most = total_bound (I.nodes + 1) rows x flow.same_length flow.rows flow.within in
     is ∙ int_wrap_fits w128 (total_cost rows x) (fits_signed_from_abs w128 (total_cost rows x) (omega (arith, most, flow.few_arcs)))
 

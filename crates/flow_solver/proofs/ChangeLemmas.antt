@@ -1,7 +1,8 @@
 -- What a change of the instance leaves of its tables, its flow and its excesses.
-use Rattle.std.proofs.Common.{◌≡◌, ℕ, zero, suc, ◌+◌, ◌-◌, ◌<◌, ◌≤◌, ℤ, pos, negsuc, neg_ℤ, ◌-ℤ◌, ◌+ℤ◌, ◌≤ℤ◌, List, [], ◌∷◌, length, drop, refl, sym, ap, subst, ◌∙◌, inl, inr, arith, Bool, true, false, cond, eqb, slice_set, slice_index_or, unsigned_abs, All, ◌++◌}
+use Rattle.std.proofs.Common.{◌≡◌, ℕ, zero, suc, ◌+◌, ◌-◌, ◌<◌, ◌≤◌, ℤ, pos, negsuc, neg_ℤ, ◌-ℤ◌, ◌+ℤ◌, ◌≤ℤ◌, List, [], ◌∷◌, length, refl, sym, ap, ◌∙◌, inl, inr, arith, slice_set, slice_index_or, unsigned_abs, All, ◌++◌}
 use Rattle.std.specs.List.{AllZip}
 use Rattle.std.proofs.lemmas.Int.{ints}
+use native.Mathlib.Numerals.{unary_clauses}
 use Rattle.std.proofs.lemmas.Bool.{cases_lt, cases_eq}
 use Rattle.std.proofs.lemmas.List.{length-set, get_or_default, get_or_past, get_or-set_same, get_or-set_other}
 use Rattle.std.proofs.lemmas.List.Elements.{All-set}
@@ -9,8 +10,8 @@ use Rattle.dimacs_text.specs.declared.problem.ArcRow.{ArcRow}
 use Rattle.dimacs_text.specs.Lawful.{IsLawfulRow, IsWithin}
 use Rattle.dimacs_text.specs.declared.problem.TheConstants.{SUPPLY_LIMIT}
 use Rattle.dimacs_text.specs.declared.problem.Kind.TheVariants.{Min}
-use Rattle.network.specs.Flow.{MinCost, AllEndsAreNodes, AllWithinBounds, FollowsSign, IsCertifiedFlow, IsWithinBounds, net, reduced_cost, total_excess}
-use Rattle.network.specs.Instance.{Demand, Supplies, Terminals, Sides, Instance, IsLawful, ArcFits, DemandFits, at_node, kind_of, numbered_flow, reduced, reduced_arcs, reduced_supply, with_supply}
+use Rattle.network.specs.Flow.{MinCost, AllEndsAreNodes, FollowsSign, IsCertifiedFlow, IsWithinBounds, net, reduced_cost, total_excess}
+use Rattle.network.specs.Instance.{Demand, Supplies, Terminals, Instance, IsLawful, ArcFits, DemandFits, at_node, kind_of, numbered_flow, reduced, reduced_arcs, reduced_supply, with_supply}
 use Rattle.network.proofs.Reduction.{reduced_ends}
 use Rattle.residual_graph.specs.Residual.{number_at, row_at}
 use Rattle.augmentation.specs.Push.{IsExcess, IsTransfer, at_node as at_one, left}
@@ -29,20 +30,18 @@ use Rattle.residual_graph.proofs.WalkLemmas.{rows_push}
 -- ---- the instance and its rows
 
 rows_set : (D : Demand) (arcs : List ArcRow) (k : ℕ) (row : ArcRow) → 1 ≤ k → slice_set (reduced_arcs D arcs) (flow_index D k) row ≡ reduced_arcs D (slice_set arcs (k - 1) row)
-rows_set (Supplies s) arcs k row one = refl
 rows_set (Terminals source sink) arcs zero row one = absurd (omega (arith, one))
-rows_set (Terminals source sink) arcs (suc i) row one = (let e : i ≡ suc i - 1 = omega arith in ap (λ (j : ℕ). reduced_arcs (Terminals source sink) (slice_set arcs j row)) e)
-rows_set (Sides marks) arcs k row one = refl
+rows_set (Terminals source sink) arcs (suc i) row one = simp unary_clauses refl
+rows_set _ arcs k row one = refl
 
 -- the rows of the reduced instance once arc k has changed
 pub rows_changed : (I : Instance) (k : ℕ) (row : ArcRow) → 1 ≤ k → slice_set (reduced I).arcs (flow_index I.demand k) row ≡ (reduced (with_row I (k - 1) row)).arcs
 rows_changed I k row one = rows_set I.demand I.arcs k row one
 
 row_of_arc : (D : Demand) (arcs : List ArcRow) (k : ℕ) → (1 ≤ k) × (k ≤ length arcs) → (flow_index D k < length (reduced_arcs D arcs)) × (row_at (reduced_arcs D arcs) (flow_index D k) ≡ row_at arcs (k - 1))
-row_of_arc (Supplies s) arcs k at = (omega (arith, at.0, at.1), refl)
 row_of_arc (Terminals source sink) arcs zero at = absurd (omega (arith, at.0))
-row_of_arc (Terminals source sink) arcs (suc i) at = (let e : i ≡ suc i - 1 = omega arith in (omega (arith, at.1), ap (row_at arcs) e))
-row_of_arc (Sides marks) arcs k at = (omega (arith, at.0, at.1), refl)
+row_of_arc (Terminals source sink) arcs (suc i) at = (omega (arith, at.1), simp unary_clauses refl)
+row_of_arc _ arcs k at = (omega (arith, at.0, at.1), refl)
 
 pub place_in : (I : Instance) (k : ℕ) → (1 ≤ k) × (k ≤ length I.arcs) → flow_index I.demand k < length (reduced I).arcs
 place_in I k at = (row_of_arc I.demand I.arcs k at).0
@@ -55,14 +54,10 @@ row_is I k d at =
 
 -- the flow of arc k, among those of the numbered arcs
 pub flow_at : (D : Demand) (x : List ℤ) (k : ℕ) (d : ℤ) → 1 ≤ k → slice_index_or (numbered_flow D x) (k - 1) d ≡ slice_index_or x (flow_index D k) d
-flow_at (Supplies s) x k d one = refl
 flow_at (Terminals source sink) x zero d one = absurd (omega (arith, one))
-flow_at (Terminals source sink) x (suc i) d one = (let e : suc i - 1 ≡ i = omega arith in ap (λ (j : ℕ). slice_index_or (drop 1 x) j d) e ∙ after_first x i)
-  where
-    after_first : (xs : List ℤ) (j : ℕ) → slice_index_or (drop 1 xs) j d ≡ slice_index_or xs (suc j) d
-    after_first [] j = refl
-    after_first (y ∷ xs) j = refl
-flow_at (Sides marks) x k d one = refl
+flow_at (Terminals source sink) [] (suc i) d one = refl
+flow_at (Terminals source sink) (y ∷ x) (suc i) d one = simp unary_clauses refl
+flow_at _ x k d one = refl
 
 -- ---- one arc more or less at the end
 
@@ -76,13 +71,11 @@ supplied I v x = record { nodes = I.nodes; demand = with_supply I.demand v x; ar
 
 demand_supplied : (n : ℕ) (D : Demand) (v : ℕ) (x : ℤ) → DemandFits n D → IsWithin SUPPLY_LIMIT x → DemandFits n (with_supply D v x)
 demand_supplied n (Supplies s) v x fits limit = (length-set s (v - 1) x ∙ fits.0, All-set (IsWithin SUPPLY_LIMIT) s (v - 1) x limit fits.1)
-demand_supplied n (Terminals source sink) v x fits limit = fits
-demand_supplied n (Sides marks) v x fits limit = fits
+demand_supplied n _ v x fits limit = fits
 
 rows_supplied : (n : ℕ) (D : Demand) (v : ℕ) (x : ℤ) (arcs : List ArcRow) → All (λ arc. IsLawfulRow n arc × ArcFits D arc) arcs → All (λ arc. IsLawfulRow n arc × ArcFits (with_supply D v x) arc) arcs
 rows_supplied n (Supplies s) v x arcs rows = rows
-rows_supplied n (Terminals source sink) v x arcs rows = rows
-rows_supplied n (Sides marks) v x arcs rows = rows
+rows_supplied n _ v x arcs rows = rows
 
 pub lawful_supplied : (I : Instance) (v : ℕ) (x : ℤ) → IsLawful I → IsWithin SUPPLY_LIMIT x → IsLawful (supplied I v x)
 lawful_supplied I v x lawful limit = record {
@@ -94,9 +87,7 @@ lawful_supplied I v x lawful limit = record {
 }
 
 arcs_supplied : (D : Demand) (arcs : List ArcRow) (v : ℕ) (x : ℤ) → reduced_arcs (with_supply D v x) arcs ≡ reduced_arcs D arcs
-arcs_supplied (Supplies s) arcs v x = refl
-arcs_supplied (Terminals source sink) arcs v x = refl
-arcs_supplied (Sides marks) arcs v x = refl
+arcs_supplied D arcs v x = grind arith
 
 pub rows_kept : (I : Instance) (v : ℕ) (x : ℤ) → (reduced (supplied I v x)).arcs ≡ (reduced I).arcs
 rows_kept I v x = arcs_supplied I.demand I.arcs v x
@@ -105,33 +96,29 @@ rows_kept I v x = arcs_supplied I.demand I.arcs v x
 
 zip_set : {A B : Type 0} (R : A → B → Type 0) (xs : List A) (ys : List B) (k : ℕ) (a : A) (b : B) → AllZip R xs ys → R a b → AllZip R (slice_set xs k a) (slice_set ys k b)
 zip_set R [] [] k a b h r = tt
-zip_set R [] (y ∷ ys) k a b h r = absurd h
-zip_set R (x ∷ xs) [] k a b h r = absurd h
 zip_set R (x ∷ xs) (y ∷ ys) zero a b h r = (r, h.1)
 zip_set R (x ∷ xs) (y ∷ ys) (suc k) a b h r = (h.0, zip_set R xs ys k a b h.1 r)
+zip_set R _ _ k a b h r = absurd h
 
 zip_push : {A B : Type 0} (R : A → B → Type 0) (xs : List A) (ys : List B) (a : A) (b : B) → AllZip R xs ys → R a b → AllZip R (xs ++ a ∷ []) (ys ++ b ∷ [])
 zip_push R [] [] a b h r = (r, tt)
-zip_push R [] (y ∷ ys) a b h r = absurd h
-zip_push R (x ∷ xs) [] a b h r = absurd h
 zip_push R (x ∷ xs) (y ∷ ys) a b h r = (h.0, zip_push R xs ys a b h.1 r)
+zip_push R _ _ a b h r = absurd h
 
 -- a flow is certified still where that of a changed arc went to the nearest value
 pub certified_changed : (I : Instance) (k : ℕ) (row : ArcRow) (q : ℕ → ℤ) (x : List ℤ) (z : ℤ) → 1 ≤ k → IsCertifiedFlow (reduced I) x q → IsNearest row (reduced_cost q row) (number_at x (flow_index I.demand k)) z
     → IsCertifiedFlow (reduced (with_row I (k - 1) row)) (slice_set x (flow_index I.demand k) z) q
-certified_changed I k row q x z one certified near =
-    let place = flow_index I.demand k in
-    record {
-      bounds = subst (λ (arcs : List ArcRow). AllWithinBounds arcs (slice_set x place z)) (rows_changed I k row one) (zip_set IsWithinBounds (reduced I).arcs x place row z certified.bounds (near.within.low_kept, near.within.cap_kept));
-      signs = subst (λ (arcs : List ArcRow). AllZip (FollowsSign q) arcs (slice_set x place z)) (rows_changed I k row one) (zip_set (FollowsSign q) (reduced I).arcs x place row z certified.signs (record { dear = near.dear; cheap = near.cheap }));
-      range = certified.range;
-    }
+certified_changed I k row q x z one certified near = record {
+  bounds = rw (← rows_changed I k row one) (zip_set IsWithinBounds (reduced I).arcs x (flow_index I.demand k) row z certified.bounds (near.within.low_kept, near.within.cap_kept));
+  signs = rw (← rows_changed I k row one) (zip_set (FollowsSign q) (reduced I).arcs x (flow_index I.demand k) row z certified.signs (record { dear = near.dear; cheap = near.cheap }));
+  range = certified.range;
+}
 
 -- so it is where an arc was added with the nearest flow
 pub certified_more : (I : Instance) (row : ArcRow) (q : ℕ → ℤ) (x : List ℤ) (z : ℤ) → IsCertifiedFlow (reduced I) x q → IsNearest row (reduced_cost q row) (pos 0) z → IsCertifiedFlow (reduced (with_last I row)) (x ++ z ∷ []) q
 certified_more I row q x z certified near = record {
-  bounds = subst (λ (arcs : List ArcRow). AllWithinBounds arcs (x ++ z ∷ [])) (rows_more I row) (zip_push IsWithinBounds (reduced I).arcs x row z certified.bounds (near.within.low_kept, near.within.cap_kept));
-  signs = subst (λ (arcs : List ArcRow). AllZip (FollowsSign q) arcs (x ++ z ∷ [])) (rows_more I row) (zip_push (FollowsSign q) (reduced I).arcs x row z certified.signs (record { dear = near.dear; cheap = near.cheap }));
+  bounds = rw (← rows_more I row) (zip_push IsWithinBounds (reduced I).arcs x row z certified.bounds (near.within.low_kept, near.within.cap_kept));
+  signs = rw (← rows_more I row) (zip_push (FollowsSign q) (reduced I).arcs x row z certified.signs (record { dear = near.dear; cheap = near.cheap }));
   range = certified.range;
 }
 
@@ -153,11 +140,7 @@ excess_table_is I x ends v = elim (cases_lt v (suc I.nodes)) [
 ]
 
 at_one-neg : (u v : ℕ) (a : ℤ) → at_one u (neg_ℤ a) v ≡ neg_ℤ (at_one u a v)
-at_one-neg u v a = by_test (eqb u v)
-  where
-    by_test : (t : Bool) → cond t (neg_ℤ a) (pos 0) ≡ neg_ℤ (cond t a (pos 0))
-    by_test true = refl
-    by_test false = refl
+at_one-neg u v a = grind (arith, ints)
 
 -- what is carried from one node to another is all that can come to lie in excess
 pub left-carried : (u w : ℕ) (d : ℤ) (e f : List ℤ) → IsTransfer u w d e f → left f ≤ left e + unsigned_abs d
@@ -185,83 +168,64 @@ pub excess_changed : (I : Instance) (x : List ℤ) (k : ℕ) (row : ArcRow) (z :
     → row.tail ≡ (slice_index_or I.arcs (k - 1) row).tail → row.head ≡ (slice_index_or I.arcs (k - 1) row).head → length x ≡ length (reduced I).arcs
     → total_excess (reduced (with_row I (k - 1) row)) (slice_set x (flow_index I.demand k) z) ≤ℤ (total_excess (reduced I) x +ℤ pos (unsigned_abs (z -ℤ number_at x (flow_index I.demand k))))
 excess_changed I x k row z lawful limits fits at tail head sized =
-    let J = with_row I (k - 1) row in
     let arcs = (reduced I).arcs in
     let place = flow_index I.demand k in
-    let more = z -ℤ number_at x place in
-    let lt = place_in I k at in
-    let arc = row_is I k row at in
-    let same_tail : row.tail ≡ (row_at arcs place).tail = tail ∙ ap (λ (a : ArcRow). a.tail) (sym arc) in
-    let same_head : row.head ≡ (row_at arcs place).head = head ∙ ap (λ (a : ArcRow). a.head) (sym arc) in
-    excess_carried (reduced I) (reduced J) x (slice_set x place z) row.tail row.head more (reduced_ends I lawful) (reduced_ends J (lawful_row I (k - 1) row lawful limits fits)) refl (λ v. refl)
-    (λ v. (let kept = net-set_row arcs (slice_set x place z) place v row lt (length-set x place z ∙ sized) same_tail same_head in
-    let moved = net-set arcs x place v z lt sized in
-    let out = ap (λ (u : ℕ). at_one u more v) same_tail in
-    let into = ap (λ (u : ℕ). at_one u more v) same_head in
-    let nets : net (slice_set arcs place row) (slice_set x place z) v ≡ (net arcs x v +ℤ at_one row.tail more v) -ℤ at_one row.head more v = omega (arith, ints, kept, moved, out, into) in
-    subst (λ (r : List ArcRow). net r (slice_set x place z) v ≡ (net arcs x v +ℤ at_one row.tail more v) -ℤ at_one row.head more v) (rows_changed I k row at.0) nets))
+    let same_tail : row.tail ≡ (row_at arcs place).tail = rw (row_is I k row at) tail in
+    let same_head : row.head ≡ (row_at arcs place).head = rw (row_is I k row at) head in
+    excess_carried (reduced I) (reduced (with_row I (k - 1) row)) x (slice_set x place z) row.tail row.head (z -ℤ number_at x place) (reduced_ends I lawful) (reduced_ends _ (lawful_row I (k - 1) row lawful limits fits)) refl (λ v. refl)
+    (λ v. (let kept = net-set_row arcs (slice_set x place z) place v row (place_in I k at) (length-set x place z ∙ sized) same_tail same_head in
+    let moved = net-set arcs x place v z (place_in I k at) sized in
+    let out = ap (λ (u : ℕ). at_one u (z -ℤ number_at x place) v) same_tail in
+    let into = ap (λ (u : ℕ). at_one u (z -ℤ number_at x place) v) same_head in
+    rw (← rows_changed I k row at.0) (omega (arith, ints, kept, moved, out, into))))
 
 -- an arc was added with some flow
 pub excess_more : (I : Instance) (x : List ℤ) (row : ArcRow) (z : ℤ) → IsLawful I → IsLawful (with_last I row) → length x ≡ length (reduced I).arcs
     → total_excess (reduced (with_last I row)) (x ++ z ∷ []) ≤ℤ (total_excess (reduced I) x +ℤ pos (unsigned_abs z))
 excess_more I x row z lawful lawful_after sized =
     excess_carried (reduced I) (reduced (with_last I row)) x (x ++ z ∷ []) row.tail row.head z (reduced_ends I lawful) (reduced_ends (with_last I row) lawful_after) refl (λ v. refl)
-    (λ v. (let nets = net-push (reduced I).arcs x row v z sized in
-    subst (λ (r : List ArcRow). net r (x ++ z ∷ []) v ≡ (net (reduced I).arcs x v +ℤ at_one row.tail z v) -ℤ at_one row.head z v) (rows_more I row) (omega (arith, ints, nets))))
+    (λ v. (let nets = net-push (reduced I).arcs x row v z sized in rw (← rows_more I row) (omega (arith, ints, nets))))
 
 -- ---- what is left once a supply has changed
 
 -- the supply of the node alone changes
 pub supply_at : (n : ℕ) (D : Demand) (v : ℕ) (x : ℤ) → kind_of D ≡ Min → DemandFits n D → IsNodeOf n v → (w : ℕ) → IsNodeOf n w → reduced_supply (with_supply D v x) w ≡ reduced_supply D w +ℤ at_one v (x -ℤ reduced_supply D v) w
 supply_at n (Supplies s) v x kind fits node w at = elim (cases_eq w v) [
-  | inl same ↦ (let here : at_node (slice_set s (v - 1) x) w ≡ x = ap (at_node (slice_set s (v - 1) x)) same ∙ get_or-set_same s (v - 1) x (pos 0) (omega (arith, fits.0, node.0, node.1)) in
-      let one : at_one v (x -ℤ at_node s v) w ≡ x -ℤ at_node s v = ap (at_one v (x -ℤ at_node s v)) same ∙ at_same v (x -ℤ at_node s v) in
-      let old : at_node s w ≡ at_node s v = ap (at_node s) same in
-      omega (arith, ints, here, one, old))
-  | inr other ↦ (let kept : at_node (slice_set s (v - 1) x) w ≡ at_node s w = get_or-set_other s (v - 1) (w - 1) x (pos 0) (λ e. other (omega (arith, node.0, at.0))) in
-      let none : at_one v (x -ℤ at_node s v) w ≡ pos 0 = at_other v (x -ℤ at_node s v) w other in
-      omega (arith, ints, kept, none))
+  | inl same ↦ rw same (let here = get_or-set_same s (v - 1) x (pos 0) (omega (arith, fits.0, node.0, node.1)) in
+      omega (arith, ints, here, at_same v (x -ℤ at_node s v)))
+  | inr other ↦ (let kept = get_or-set_other s (v - 1) (w - 1) x (pos 0) (λ e. other (omega (arith, node.0, at.0))) in
+      omega (arith, ints, kept, at_other v (x -ℤ at_node s v) w other))
 ]
-supply_at n (Terminals source sink) v x kind fits node w at = cc
-supply_at n (Sides marks) v x kind fits node w at = cc
+supply_at n _ v x kind fits node w at = cc
+
+-- the same with nothing at what is no node
+pub supplies_held : (I : Instance) (v : ℕ) (z : ℤ) → IsLawful I → kind_of I.demand ≡ Min → IsNodeOf I.nodes v → (w : ℕ) → held I.nodes (reduced (supplied I v z)).supply w ≡ held I.nodes (reduced I).supply w +ℤ at_one v (z -ℤ (reduced I).supply v) w
+supplies_held I v z lawful kind node w = elim (is_node_or_not I.nodes w) [
+  | inl at ↦ rw (held_node I.nodes (reduced (supplied I v z)).supply w at, held_node I.nodes (reduced I).supply w at) (supply_at I.nodes I.demand v z kind lawful.demand node w at)
+  | inr none ↦ (let zero = at_other v (z -ℤ (reduced I).supply v) w (λ same. none (rw same node)) in
+      omega (arith, ints, held_other I.nodes (reduced I).supply w none, held_other I.nodes (reduced (supplied I v z)).supply w none))
+]
 
 pub excess_supplied : (I : Instance) (v : ℕ) (z : ℤ) (x : List ℤ) → IsLawful I → kind_of I.demand ≡ Min → IsNodeOf I.nodes v → IsWithin SUPPLY_LIMIT z
     → total_excess (reduced (supplied I v z)) x ≤ℤ (total_excess (reduced I) x +ℤ pos (unsigned_abs (z -ℤ (reduced I).supply v)))
 excess_supplied I v z x lawful kind node limit =
-    let J = supplied I v z in
     let d = z -ℤ (reduced I).supply v in
     let ends = reduced_ends I lawful in
-    let ends_after = reduced_ends J (lawful_supplied I v z lawful limit) in
+    let ends_after = reduced_ends (supplied I v z) (lawful_supplied I v z lawful limit) in
     let e = excess_table (reduced I) x in
-    let f = excess_table (reduced J) x in
+    let f = excess_table (reduced (supplied I v z)) x in
     let e_is = excess_table_is (reduced I) x ends in
-    let f_is = excess_table_is (reduced J) x ends_after in
+    let f_is = rw (rows_kept I v z) at (excess_table_is (reduced (supplied I v z)) x ends_after) in
     let e_in = length-excess (reduced I) x in
-    let f_in = length-excess (reduced J) x in
-    let gain = left-gain e f v (unsigned_abs d) (f_in ∙ sym e_in) (λ w.
-    let nets : net (reduced J).arcs x w ≡ net (reduced I).arcs x w = ap (λ (arcs : List ArcRow). net arcs x w) (rows_kept I v z) in
-    elim (is_node_or_not I.nodes w) [
-      | inl at ↦ (let moved = supply_at I.nodes I.demand v z kind lawful.demand node w at in
-          let old = held_node I.nodes (reduced I).supply w at in
-          let new = held_node I.nodes (reduced J).supply w at in
-          omega (arith, ints, e_is w, f_is w, moved, old, new, nets, at_most v d w))
-      | inr none ↦ (let old = held_other I.nodes (reduced I).supply w none in
-          let new = held_other I.nodes (reduced J).supply w none in
-          omega (arith, ints, e_is w, f_is w, old, new, nets, (at_node_bounds v (pos (unsigned_abs d)) w (omega (arith, ints))).0))
-    ]) in
-    omega (arith, ints, left_is (reduced I) x e ends e_is e_in, left_is (reduced J) x f ends_after f_is f_in, gain)
+    let f_in = length-excess (reduced (supplied I v z)) x in
+    let gain = left-gain e f v (unsigned_abs d) (f_in ∙ sym e_in) (λ w. omega (arith, ints, e_is w, f_is w, supplies_held I v z lawful kind node w, at_most v d w)) in
+    omega (arith, ints, left_is (reduced I) x e ends e_is e_in, left_is (reduced (supplied I v z)) x f ends_after (excess_table_is (reduced (supplied I v z)) x ends_after) f_in, gain)
   where
     at_most : (u : ℕ) (d : ℤ) (w : ℕ) → at_one u d w ≤ℤ at_one u (pos (unsigned_abs d)) w
-    at_most u d w = elim (cases_eq w u) [
-      | inl same ↦ (let a : at_one u d w ≡ d = ap (at_one u d) same ∙ at_same u d in
-          let b : at_one u (pos (unsigned_abs d)) w ≡ pos (unsigned_abs d) = ap (at_one u (pos (unsigned_abs d))) same ∙ at_same u (pos (unsigned_abs d)) in
-          omega (arith, ints, a, b))
-      | inr other ↦ omega (arith, ints, at_other u d w other, at_other u (pos (unsigned_abs d)) w other)
-    ]
+    at_most u d w = grind (arith, ints)
 
 -- ---- exchanges
 
 pub supply_entry : (n : ℕ) (D : Demand) (v : ℕ) (d : ℤ) → kind_of D ≡ Min → DemandFits n D → IsNodeOf n v → reduced_supply D v ≡ slice_index_or (supplies_in D) (v - 1) d
 supply_entry n (Supplies s) v d kind fits node = get_or_default s (v - 1) (pos 0) d (omega (arith, fits.0, node.0, node.1))
-supply_entry n (Terminals source sink) v d kind fits node = cc
-supply_entry n (Sides marks) v d kind fits node = cc
+supply_entry n _ v d kind fits node = cc

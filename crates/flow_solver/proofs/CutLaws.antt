@@ -1,5 +1,5 @@
 -- The chosen set, in the words of breaches.
-use Rattle.std.proofs.Common.{◌≡◌, ℕ, suc, ◌≤◌, ℤ, pos, List, [], ◌∷◌, length, refl, sym, ap, ◌∙◌, arith, Bool, true, false, cond, not, ◌&&◌}
+use Rattle.std.proofs.Common.{◌≡◌, ℕ, suc, ◌≤◌, ◌≤ℤ◌, ℤ, pos, List, [], ◌∷◌, length, refl, sym, ap, ◌∙◌, arith, Bool, true, false, cond, not, ◌&&◌}
 use Rattle.std.proofs.lemmas.Int.{ints}
 use Rattle.dimacs_text.specs.declared.problem.ArcRow.{ArcRow}
 use Rattle.network.specs.Flow.{MinCost, IsNode, AllEndsAreNodes, nodes_sum, arcs_sum, supply_of, crosses, outside, surplus_of, shortfall_of, IsLeastGreatestSurplus, IsLeastGreatestShortfall}
@@ -9,17 +9,14 @@ use Rattle.augmentation.specs.Nodes.{table, held}
 use Rattle.residual_graph.proofs.NodeNumbers.{AllEndsIn}
 use Rattle.augmentation.proofs.NodeLemmas.{length-table, table_at, held_node, sum_in-marked}
 
-leaving_is : (set : List Bool) (f : ArcRow → ℤ) (arcs : List ArcRow) → sum_leaving set f arcs ≡ arcs_sum (λ arc. cond (crosses (in_set set) (outside (in_set set)) arc) (f arc) (pos 0)) arcs
+pub leaving_is : (set : List Bool) (f : ArcRow → ℤ) (arcs : List ArcRow) → sum_leaving set f arcs ≡ arcs_sum (λ arc. cond (crosses (in_set set) (outside (in_set set)) arc) (f arc) (pos 0)) arcs
 leaving_is set f [] = refl
 leaving_is set f (a ∷ arcs) = omega (arith, ints, leaving_is set f arcs)
 
 turned : (t h : Bool) (z : ℤ) → cond (h && not t) z (pos 0) ≡ cond (not t && h) z (pos 0)
-turned true true z = refl
-turned true false z = refl
-turned false true z = refl
-turned false false z = refl
+turned t h z = grind arith
 
-entering_is : (set : List Bool) (f : ArcRow → ℤ) (arcs : List ArcRow) → sum_entering set f arcs ≡ arcs_sum (λ arc. cond (crosses (outside (in_set set)) (in_set set) arc) (f arc) (pos 0)) arcs
+pub entering_is : (set : List Bool) (f : ArcRow → ℤ) (arcs : List ArcRow) → sum_entering set f arcs ≡ arcs_sum (λ arc. cond (crosses (outside (in_set set)) (in_set set) arc) (f arc) (pos 0)) arcs
 entering_is set f [] = refl
 entering_is set f (a ∷ arcs) = omega (arith, ints, entering_is set f arcs, turned (in_set set a.tail) (in_set set a.head) (f a))
 
@@ -37,20 +34,16 @@ shortfall_is I set sized = omega (arith, ints, supply_is I set sized, leaving_is
 
 -- ---- sets of the same nodes
 
+crossing_same : (n : ℕ) (f g f' g' : ℕ → Bool) (h : ArcRow → ℤ) (arcs : List ArcRow) → AllEndsIn n arcs → ((v : ℕ) → (1 ≤ v) × (v ≤ n) → f v ≡ f' v) → ((v : ℕ) → (1 ≤ v) × (v ≤ n) → g v ≡ g' v) → arcs_sum (λ arc. cond (crosses f g arc) (h arc) (pos 0)) arcs ≡ arcs_sum (λ arc. cond (crosses f' g' arc) (h arc) (pos 0)) arcs
+crossing_same n f g f' g' h [] ends tails heads = refl
+crossing_same n f g f' g' h (a ∷ arcs) ends tails heads = rw (tails a.tail ends.0.0, heads a.head ends.0.1) (omega (arith, ints, crossing_same n f g f' g' h arcs ends.1 tails heads))
+
 module _ (n : ℕ) (f g : ℕ → Bool) (same : (v : ℕ) → (1 ≤ v) × (v ≤ n) → f v ≡ g v) where
   out_same : (h : ArcRow → ℤ) (arcs : List ArcRow) → AllEndsIn n arcs → arcs_sum (λ arc. cond (crosses f (outside f) arc) (h arc) (pos 0)) arcs ≡ arcs_sum (λ arc. cond (crosses g (outside g) arc) (h arc) (pos 0)) arcs
-  out_same h [] ends = refl
-  out_same h (a ∷ arcs) ends =
-      let here : cond (f a.tail && not (f a.head)) (h a) (pos 0) ≡ cond (g a.tail && not (g a.head)) (h a) (pos 0) =
-      ap (λ (b : Bool). cond (b && not (f a.head)) (h a) (pos 0)) (same a.tail ends.0.0) ∙ ap (λ (b : Bool). cond (g a.tail && not b) (h a) (pos 0)) (same a.head ends.0.1) in
-      omega (arith, ints, here, out_same h arcs ends.1)
+  out_same h arcs ends = crossing_same n f (outside f) g (outside g) h arcs ends same (λ v node. ap not (same v node))
 
   into_same : (h : ArcRow → ℤ) (arcs : List ArcRow) → AllEndsIn n arcs → arcs_sum (λ arc. cond (crosses (outside f) f arc) (h arc) (pos 0)) arcs ≡ arcs_sum (λ arc. cond (crosses (outside g) g arc) (h arc) (pos 0)) arcs
-  into_same h [] ends = refl
-  into_same h (a ∷ arcs) ends =
-      let here : cond (not (f a.tail) && f a.head) (h a) (pos 0) ≡ cond (not (g a.tail) && g a.head) (h a) (pos 0) =
-      ap (λ (b : Bool). cond (not b && f a.head) (h a) (pos 0)) (same a.tail ends.0.0) ∙ ap (λ (b : Bool). cond (not (g a.tail) && b) (h a) (pos 0)) (same a.head ends.0.1) in
-      omega (arith, ints, here, into_same h arcs ends.1)
+  into_same h arcs ends = crossing_same n (outside f) f (outside g) g h arcs ends (λ v node. ap not (same v node)) same
 
   supply_same : (supply : ℕ → ℤ) → nodes_sum n (λ v. cond (f v) (supply v) (pos 0)) ≡ nodes_sum n (λ v. cond (g v) (supply v) (pos 0))
   supply_same supply = nodes_sum-same n (λ v. cond (f v) (supply v) (pos 0)) (λ v. cond (g v) (supply v) (pos 0)) (λ v node. ap (λ (b : Bool). cond b (supply v) (pos 0)) (same v node))
@@ -77,26 +70,28 @@ length-marks n set = length-table (suc n) set
 abbrev pub IsMarkedBy : ℕ → (ℕ → Bool) → List Bool → Type 0
 IsMarkedBy n cut set = (v : ℕ) → (1 ≤ v) × (v ≤ n) → cut v ≡ in_set set v
 
-pub least_surplus : (I : MinCost) (set : List Bool) (cut : ℕ → Bool) (d : ℤ) → AllEndsAreNodes I → length set ≡ suc I.nodes → IsMarkedBy I.nodes cut set → IsLeastSet (surplus I.arcs (held I.nodes I.supply)) set d → IsLeastGreatestSurplus I cut d
-least_surplus I set cut d ends sized marks least = record {
-  value = surplus_same I cut (in_set set) ends marks ∙ sym (surplus_is I set sized) ∙ least.value_is;
-  greatest = λ other. (let le = least.greatest (marks_of I.nodes other) (length-marks I.nodes other ∙ sym sized) in omega (arith, ints, le, value_of other));
-  least = λ other full v node inside.
-      (let there = least.smallest (marks_of I.nodes other) (length-marks I.nodes other ∙ sym sized) (sym (value_of other) ∙ full) v (sym (marks v node) ∙ inside) in
-      sym (marked_at I.nodes other v node) ∙ there);
-}
+-- a value of sets, of tables of marks and of functions alike, that sees nodes alone
+module _ (I : MinCost) (value : List Bool → ℤ) (value_of : (ℕ → Bool) → ℤ)
+    (is : (set : List Bool) → length set ≡ suc I.nodes → value set ≡ value_of (in_set set))
+    (same : (f g : ℕ → Bool) → ((v : ℕ) → IsNode I v → f v ≡ g v) → value_of f ≡ value_of g)
   where
-    value_of : (other : ℕ → Bool) → surplus_of I other ≡ surplus I.arcs (held I.nodes I.supply) (marks_of I.nodes other)
-    value_of other = surplus_same I other (in_set (marks_of I.nodes other)) ends (λ v node. sym (marked_at I.nodes other v node)) ∙ sym (surplus_is I (marks_of I.nodes other) (length-marks I.nodes other))
+    value_as : (other : ℕ → Bool) → value_of other ≡ value (marks_of I.nodes other)
+    value_as other = same other (in_set (marks_of I.nodes other)) (λ v node. sym (marked_at I.nodes other v node)) ∙ sym (is (marks_of I.nodes other) (length-marks I.nodes other))
+
+    least_value : (set : List Bool) (cut : ℕ → Bool) (d : ℤ) → length set ≡ suc I.nodes → IsMarkedBy I.nodes cut set → IsLeastSet value set d
+        → (value_of cut ≡ d) × ((other : ℕ → Bool) → value_of other ≤ℤ d) × ((other : ℕ → Bool) → value_of other ≡ d → (v : ℕ) → IsNode I v → cut v ≡ true → other v ≡ true)
+    least_value set cut d sized marks least = (
+      same cut (in_set set) marks ∙ sym (is set sized) ∙ least.value_is,
+      λ other. (let le = least.greatest (marks_of I.nodes other) (length-marks I.nodes other ∙ sym sized) in omega (arith, ints, le, value_as other)),
+      λ other full v node inside. sym (marked_at I.nodes other v node) ∙ least.smallest (marks_of I.nodes other) (length-marks I.nodes other ∙ sym sized) (sym (value_as other) ∙ full) v (sym (marks v node) ∙ inside),
+    )
+
+pub least_surplus : (I : MinCost) (set : List Bool) (cut : ℕ → Bool) (d : ℤ) → AllEndsAreNodes I → length set ≡ suc I.nodes → IsMarkedBy I.nodes cut set → IsLeastSet (surplus I.arcs (held I.nodes I.supply)) set d → IsLeastGreatestSurplus I cut d
+least_surplus I set cut d ends sized marks least =
+    let is = least_value I (surplus I.arcs (held I.nodes I.supply)) (surplus_of I) (surplus_is I) (λ f g. surplus_same I f g ends) set cut d sized marks least in
+    record { value = is.0; greatest = is.1; least = is.2 }
 
 pub least_shortfall : (I : MinCost) (set : List Bool) (cut : ℕ → Bool) (d : ℤ) → AllEndsAreNodes I → length set ≡ suc I.nodes → IsMarkedBy I.nodes cut set → IsLeastSet (shortfall I.arcs (held I.nodes I.supply)) set d → IsLeastGreatestShortfall I cut d
-least_shortfall I set cut d ends sized marks least = record {
-  value = shortfall_same I cut (in_set set) ends marks ∙ sym (shortfall_is I set sized) ∙ least.value_is;
-  greatest = λ other. (let le = least.greatest (marks_of I.nodes other) (length-marks I.nodes other ∙ sym sized) in omega (arith, ints, le, value_of other));
-  least = λ other full v node inside.
-      (let there = least.smallest (marks_of I.nodes other) (length-marks I.nodes other ∙ sym sized) (sym (value_of other) ∙ full) v (sym (marks v node) ∙ inside) in
-      sym (marked_at I.nodes other v node) ∙ there);
-}
-  where
-    value_of : (other : ℕ → Bool) → shortfall_of I other ≡ shortfall I.arcs (held I.nodes I.supply) (marks_of I.nodes other)
-    value_of other = shortfall_same I other (in_set (marks_of I.nodes other)) ends (λ v node. sym (marked_at I.nodes other v node)) ∙ sym (shortfall_is I (marks_of I.nodes other) (length-marks I.nodes other))
+least_shortfall I set cut d ends sized marks least =
+    let is = least_value I (shortfall I.arcs (held I.nodes I.supply)) (shortfall_of I) (shortfall_is I) (λ f g. shortfall_same I f g ends) set cut d sized marks least in
+    record { value = is.0; greatest = is.1; least = is.2 }

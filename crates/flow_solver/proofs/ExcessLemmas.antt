@@ -1,23 +1,18 @@
 -- How large an excess can be, and how it follows from the flow arc by arc.
 use Rattle.augmentation.specs.Limits.{cap_sum_limit}
-use Rattle.std.proofs.Common.{◌≡◌, ℕ, zero, suc, ◌+◌, ◌<◌, ◌≤◌, ℤ, pos, negsuc, ◌+ℤ◌, ◌≤ℤ◌, List, [], ◌∷◌, length, take, add-one, refl, sym, subst, ◌∙◌, inl, inr, arith, Bool, true, false, cond, eqb}
+use Rattle.std.proofs.Common.{◌≡◌, ℕ, zero, suc, ◌+◌, ◌<◌, ◌≤◌, ℤ, pos, negsuc, ◌+ℤ◌, ◌≤ℤ◌, List, [], ◌∷◌, length, arith}
 use Rattle.std.proofs.lemmas.Int.{ints}
-use Rattle.std.proofs.lemmas.Bool.{cases_eq}
 use Rattle.std.proofs.lemmas.List.Sums.{sum_by-cons}
 use Rattle.dimacs_text.specs.declared.problem.ArcRow.{ArcRow}
 use Rattle.residual_graph.specs.Residual.{IsPseudoflow, number_at, row_at}
-use Rattle.network.specs.Flow.{outflow, inflow}
+use Rattle.network.specs.Flow.{flow_sum}
 use Rattle.augmentation.specs.Push.{IsExcess, at_node, AreSmall, positive_part, left, cap_total, AreSupplies}
 use Rattle.augmentation.proofs.PushLemmas.{at_same, at_other}
 
 pub at_node_bounds : (u : ℕ) (m : ℤ) (v : ℕ) → pos 0 ≤ℤ m → (pos 0 ≤ℤ at_node u m v) × (at_node u m v ≤ℤ m)
-at_node_bounds u m v h = by_test (eqb u v)
-  where
-    by_test : (t : Bool) → (pos 0 ≤ℤ cond t m (pos 0)) × (cond t m (pos 0) ≤ℤ m)
-    by_test true = (h, omega (arith, ints))
-    by_test false = (omega (arith, ints), h)
+at_node_bounds u m v h = grind (arith, ints)
 
-below_part : (z : ℤ) → z ≤ℤ pos (positive_part z)
+pub below_part : (z : ℤ) → z ≤ℤ pos (positive_part z)
 below_part (pos n) = omega (arith, ints)
 below_part (negsuc n) = omega (arith, ints)
 
@@ -25,23 +20,15 @@ below_part (negsuc n) = omega (arith, ints)
 abbrev pub AreWithinCaps : List ArcRow → List ℤ → Type 0
 AreWithinCaps arcs x = (k : ℕ) → k < length arcs → (pos 0 ≤ℤ number_at x k) × (number_at x k ≤ℤ (row_at arcs k).cap)
 
-pub flow_out-bounds : (arcs : List ArcRow) (x : List ℤ) (v : ℕ) → length x ≡ length arcs → AreWithinCaps arcs x → (pos 0 ≤ℤ outflow arcs x v) × (outflow arcs x v ≤ℤ pos (cap_total arcs))
-flow_out-bounds [] x v sized within = (omega (arith, ints), omega (arith, ints))
-flow_out-bounds (a ∷ arcs) [] v sized within = absurd (omega arith)
-flow_out-bounds (a ∷ arcs) (y ∷ x) v sized within =
+-- what an end of the arcs gives a node
+pub flow_bounds : (end : ArcRow → ℕ) (arcs : List ArcRow) (x : List ℤ) (v : ℕ) → length x ≡ length arcs → AreWithinCaps arcs x → (pos 0 ≤ℤ flow_sum (λ a m. at_node (end a) m v) arcs x) × (flow_sum (λ a m. at_node (end a) m v) arcs x ≤ℤ pos (cap_total arcs))
+flow_bounds end [] x v sized within = (omega (arith, ints), omega (arith, ints))
+flow_bounds end (a ∷ arcs) (y ∷ x) v sized within =
     let here = within 0 (omega arith) in
-    let rest = flow_out-bounds arcs x v (omega arith) (λ k lt. within (suc k) (omega arith)) in
-    let term = at_node_bounds a.tail y v here.0 in
+    let rest = flow_bounds end arcs x v (omega arith) (λ k lt. within (suc k) (omega arith)) in
+    let term = at_node_bounds (end a) y v here.0 in
     (omega (arith, ints, rest.0, term.0), omega (arith, ints, rest.1, term.1, here.1, below_part a.cap, sum_by-cons (λ (b : ArcRow). positive_part b.cap) a arcs))
-
-pub flow_in-bounds : (arcs : List ArcRow) (x : List ℤ) (v : ℕ) → length x ≡ length arcs → AreWithinCaps arcs x → (pos 0 ≤ℤ inflow arcs x v) × (inflow arcs x v ≤ℤ pos (cap_total arcs))
-flow_in-bounds [] x v sized within = (omega (arith, ints), omega (arith, ints))
-flow_in-bounds (a ∷ arcs) [] v sized within = absurd (omega arith)
-flow_in-bounds (a ∷ arcs) (y ∷ x) v sized within =
-    let here = within 0 (omega arith) in
-    let rest = flow_in-bounds arcs x v (omega arith) (λ k lt. within (suc k) (omega arith)) in
-    let term = at_node_bounds a.head y v here.0 in
-    (omega (arith, ints, rest.0, term.0), omega (arith, ints, rest.1, term.1, here.1, below_part a.cap, sum_by-cons (λ (b : ArcRow). positive_part b.cap) a arcs))
+flow_bounds end _ _ v sized within = absurd (omega arith)
 
 pub caps_of_flow : {nodes : ℕ} {arcs : List ArcRow} {x : List ℤ} → IsPseudoflow nodes arcs x → AreWithinCaps arcs x
 caps_of_flow flow k lt =
@@ -50,64 +37,28 @@ caps_of_flow flow k lt =
 -- no excess is above what the supplies and all capacities make it
 pub small_within : (nodes : ℕ) (arcs : List ArcRow) (supply : ℕ → ℤ) (x e : List ℤ) → length x ≡ length arcs → AreWithinCaps arcs x → AreSupplies supply → cap_total arcs ≤ cap_sum_limit → IsExcess arcs supply x e → AreSmall e
 small_within nodes arcs supply x e sized within supplies caps is = record {
-  low = λ v. omega (arith, ints, is v, supplies.low v, (flow_out-bounds arcs x v sized within).1, (flow_in-bounds arcs x v sized within).0, caps);
-  high = λ v. omega (arith, ints, is v, supplies.high v, (flow_out-bounds arcs x v sized within).0, (flow_in-bounds arcs x v sized within).1, caps);
+  low = λ v. omega (arith, ints, is v, supplies.low v, (flow_bounds (λ a. a.tail) arcs x v sized within).1, (flow_bounds (λ a. a.head) arcs x v sized within).0, caps);
+  high = λ v. omega (arith, ints, is v, supplies.high v, (flow_bounds (λ a. a.tail) arcs x v sized within).0, (flow_bounds (λ a. a.head) arcs x v sized within).1, caps);
 }
 
--- one more arc
-pub flow_out-more : (arcs : List ArcRow) (x : List ℤ) (k v : ℕ) → k < length arcs → length x ≡ length arcs → outflow (take (k + 1) arcs) (take (k + 1) x) v ≡ outflow (take k arcs) (take k x) v +ℤ at_node (row_at arcs k).tail (number_at x k) v
-flow_out-more [] x k v lt sized = absurd (omega arith)
-flow_out-more (a ∷ arcs) [] k v lt sized = absurd (omega arith)
-flow_out-more (a ∷ arcs) (y ∷ x) zero v lt sized = omega (arith, ints)
-flow_out-more (a ∷ arcs) (y ∷ x) (suc k) v lt sized = rw add-one (omega (arith, ints, (rw add-one at (flow_out-more arcs x k v (omega arith) (omega arith)))))
+pub at_zero : (u v : ℕ) → at_node u (pos 0) v ≡ pos 0
+at_zero u v = grind arith
 
-pub flow_in-more : (arcs : List ArcRow) (x : List ℤ) (k v : ℕ) → k < length arcs → length x ≡ length arcs → inflow (take (k + 1) arcs) (take (k + 1) x) v ≡ inflow (take k arcs) (take k x) v +ℤ at_node (row_at arcs k).head (number_at x k) v
-flow_in-more [] x k v lt sized = absurd (omega arith)
-flow_in-more (a ∷ arcs) [] k v lt sized = absurd (omega arith)
-flow_in-more (a ∷ arcs) (y ∷ x) zero v lt sized = omega (arith, ints)
-flow_in-more (a ∷ arcs) (y ∷ x) (suc k) v lt sized = rw add-one (omega (arith, ints, (rw add-one at (flow_in-more arcs x k v (omega arith) (omega arith)))))
+at_suc : (u : ℕ) (m : ℤ) (v : ℕ) → at_node (suc u) m (suc v) ≡ at_node u m v
+at_suc u m v = grind arith
+
+gained : (z y : ℤ) (m : ℕ) → y ≤ℤ (z +ℤ pos m) → positive_part y ≤ positive_part z + m
+gained (pos a) (pos b) m h = omega (arith, ints)
+gained (negsuc a) (pos b) m h = omega (arith, ints)
+gained z (negsuc b) m h = omega arith
 
 -- where one node gains at most m, what lies in excess grows by at most m
 pub left-gain : (e f : List ℤ) (u : ℕ) (m : ℕ) → length f ≡ length e → ((v : ℕ) → number_at f v ≤ℤ (number_at e v +ℤ at_node u (pos m) v)) → left f ≤ left e + m
 left-gain [] [] u m sized le = omega arith
-left-gain [] (y ∷ f) u m sized le = absurd (omega arith)
-left-gain (z ∷ e) [] u m sized le = absurd (omega arith)
 left-gain (z ∷ e) (y ∷ f) zero m sized le =
-    omega (
-      arith,
-      sum_by-cons positive_part z e,
-      sum_by-cons positive_part y f,
-      gained z y m (omega (arith, ints, le 0, at_same 0 (pos m))),
-      left-gain e f (length e) 0 (omega arith) (λ v. omega (arith, ints, le (suc v), at_other 0 (pos m) (suc v) (λ h. omega arith), at_zero (length e) v)),
-    )
-  where
-    at_zero : (u v : ℕ) → at_node u (pos 0) v ≡ pos 0
-    at_zero u v = by_test (eqb u v)
-      where
-        by_test : (t : Bool) → cond t (pos 0) (pos 0) ≡ pos 0
-        by_test true = refl
-        by_test false = refl
-
-    gained : (z y : ℤ) (m : ℕ) → y ≤ℤ (z +ℤ pos m) → positive_part y ≤ positive_part z + m
-    gained (pos a) (pos b) m h = omega (arith, ints)
-    gained (negsuc a) (pos b) m h = omega (arith, ints)
-    gained z (negsuc b) m h = omega arith
+    let rest = left-gain e f (length e) 0 (omega arith) (λ v. omega (arith, ints, le (suc v), at_other 0 (pos m) (suc v) (λ h. omega arith), at_zero (length e) v)) in
+    omega (arith, sum_by-cons positive_part z e, sum_by-cons positive_part y f, gained z y m (omega (arith, ints, le 0, at_same 0 (pos m))), rest)
 left-gain (z ∷ e) (y ∷ f) (suc u) m sized le =
-    omega (
-      arith,
-      sum_by-cons positive_part z e,
-      sum_by-cons positive_part y f,
-      mono z y (omega (arith, ints, le 0, at_other (suc u) (pos m) 0 (λ h. omega arith))),
-      left-gain e f u m (omega arith) (λ v. omega (arith, ints, le (suc v), at_suc u (pos m) v)),
-    )
-  where
-    at_suc : (u : ℕ) (m : ℤ) (v : ℕ) → at_node (suc u) m (suc v) ≡ at_node u m v
-    at_suc u m v = elim (cases_eq v u) [
-      | inl same ↦ subst (λ (q : ℕ). at_node (suc u) m (suc q) ≡ at_node u m q) (sym same) (at_same (suc u) m ∙ sym (at_same u m))
-      | inr ne ↦ at_other (suc u) m (suc v) (λ h. ne (omega arith)) ∙ sym (at_other u m v ne)
-    ]
-
-    mono : (z y : ℤ) → y ≤ℤ z → positive_part y ≤ positive_part z
-    mono (pos a) (pos b) h = omega (arith, ints)
-    mono (negsuc a) (pos b) h = absurd (omega (arith, ints))
-    mono z (negsuc b) h = omega arith
+    let rest = left-gain e f u m (omega arith) (λ v. omega (arith, ints, le (suc v), at_suc u (pos m) v)) in
+    omega (arith, sum_by-cons positive_part z e, sum_by-cons positive_part y f, gained z y 0 (omega (arith, ints, le 0, at_other (suc u) (pos m) 0 (λ h. omega arith))), rest)
+left-gain _ _ u m sized le = absurd (omega arith)

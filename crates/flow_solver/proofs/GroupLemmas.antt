@@ -6,12 +6,12 @@ use Rattle.dimacs_text.specs.declared.command.Edit.{Edit}
 use Rattle.network.specs.Edited.{edited, edited_all, and_then, units, units_all, and_units}
 use Rattle.network.specs.Flow.{IsCertifiedFlow, total_excess}
 use Rattle.dimacs_text.specs.declared.problem.ArcRow.{ArcRow}
-use Rattle.network.specs.Instance.{Demand, Supplies, Terminals, Sides, Instance, at_node, reduced, reduced_arcs}
+use Rattle.network.specs.Instance.{Demand, Instance, at_node, reduced, reduced_arcs}
 use Rattle.flow_solver.specs.declared.part.Part.{Part}
 use Rattle.flow_solver.specs.declared.part.Part.TheVariants.{Arc, Supply, Last, Gone}
 use Rattle.flow_solver.specs.TablesView.{TablesView}
-use Rattle.flow_solver.specs.Edit.{AreChanges, AreMade, IsChange, IsMade}
-use Rattle.flow_solver.specs.Moment.{Snapshot, Moment}
+use Rattle.flow_solver.specs.Edit.{AreChanges, AreMade, CanMake, IsChange, IsMade, IsMadeIn}
+use Rattle.flow_solver.specs.Moment.{Snapshot}
 use Rattle.flow_solver.specs.Part.{before_all, before_part, CanTakeBack, CanTakeBackAll, IsLogged, LeadsBack, TakesBack, return_count}
 use Rattle.flow_solver.proofs.TablesViewLemmas.{return_count_before}
 
@@ -19,27 +19,19 @@ use Rattle.flow_solver.proofs.TablesViewLemmas.{return_count_before}
 
 -- one edit more
 pub made_push : (I K J : Instance) (edits : List Edit) (edit : Edit) (potential : ℕ → ℤ) (x mid start : List ℤ) → AreMade I edits potential x K mid → IsMade K J edit potential mid start → AreMade I (edits ++ edit ∷ []) potential x J start
-made_push I K J [] edit potential x mid start made last =
-    (J, start, subst (λ (L : Instance). IsMade L J edit potential x start) made.0 (subst (λ (y : List ℤ). IsMade K J edit potential y start) made.1 last), (refl, refl))
-made_push I K J (first ∷ edits) edit potential x mid start made last =
-    (made.0, made.1, made.2, made_push made.0 K J edits edit potential made.1 mid start made.3 last)
+made_push I K J [] edit potential x mid start made last = (J, start, rw (← made.0, ← made.1) last, (refl, refl))
+made_push I K J (first ∷ edits) edit potential x mid start made last = (made.0, made.1, made.2, made_push made.0 K J edits edit potential made.1 mid start made.3 last)
 
 pub made_leads : (I J : Instance) (edits : List Edit) (potential : ℕ → ℤ) (x start : List ℤ) → AreMade I edits potential x J start → edited_all I edits ≡ Ok J
 unfolding edited_all
 made_leads I J [] potential x start made = ap Ok (sym made.0)
-made_leads I J (edit ∷ edits) potential x start made =
-    ap (λ (r : Result Instance ℕ). and_then r (λ after. edited_all after edits)) made.2.after ∙ made_leads made.0 J edits potential made.1 start made.3
+made_leads I J (edit ∷ edits) potential x start made = rw made.2.after (made_leads made.0 J edits potential made.1 start made.3)
 
 -- what is left to send out grows by no more than the units of the edits
 pub grown_all : (I J : Instance) (edits : List Edit) (potential : ℕ → ℤ) (x start : List ℤ) → AreMade I edits potential x J start → total_excess (reduced J) start ≤ℤ (total_excess (reduced I) x +ℤ pos (units_all I edits))
 unfolding units_all
-grown_all I J [] potential x start made =
-    let same : total_excess (reduced J) start ≡ total_excess (reduced I) x = ap (λ (K : Instance). total_excess (reduced K) start) made.0 ∙ ap (λ (y : List ℤ). total_excess (reduced I) y) made.1 in
-    omega (arith, ints, same)
-grown_all I J (edit ∷ edits) potential x start made =
-    let rest = grown_all made.0 J edits potential made.1 start made.3 in
-    let and : and_units (edited I edit) (λ after. units_all after edits) ≡ units_all made.0 edits = ap (λ (r : Result Instance ℕ). and_units r (λ after. units_all after edits)) made.2.after in
-    omega (arith, ints, rest, made.2.grown, and)
+grown_all I J [] potential x start made = rw (made.0, made.1) (omega (arith, ints))
+grown_all I J (edit ∷ edits) potential x start made = rw made.2.after (omega (arith, ints, grown_all made.0 J edits potential made.1 start made.3, made.2.grown))
 
 units_one_by : (r : Result Instance ℕ) → and_units r (λ after. 0) ≡ 0
 units_one_by (Ok I) = refl
@@ -51,14 +43,12 @@ units_one I edit = (let none = units_one_by (edited I edit) in omega (arith, non
 
 -- a group of one edit is that edit
 pub one_change : (I J : Instance) (edit : Edit) (potential : ℕ → ℤ) (x y : List ℤ) (n : ℕ) → AreChanges I J (edit ∷ []) potential x y n → IsChange I J edit potential x y n
-one_change I J edit potential x y n changes =
-    let made = changes.made in
-    record {
-      start = changes.start;
-      made = subst (λ (K : Instance). IsMade I K edit potential x changes.start) (sym made.3.0) (subst (λ (z : List ℤ). IsMade I made.0 edit potential x z) (sym made.3.1) made.2);
-      pushes = changes.pushes;
-      count = omega (arith, ints, changes.count, units_one I edit);
-    }
+one_change I J edit potential x y n changes = record {
+  start = changes.start;
+  made = rw (changes.made.3.0, changes.made.3.1) changes.made.2;
+  pushes = changes.pushes;
+  count = omega (arith, ints, changes.count, units_one I edit);
+}
 
 -- the first edit is accepted, and so are those after it on what it gives
 pub accepted_first : (I : Instance) (edit : Edit) (edits : List Edit) → IsOk (edited_all I (edit ∷ edits)) → IsOk (edited I edit)
@@ -81,20 +71,18 @@ before_push (first ∷ log) part I = ap (before_part first) (before_push log par
 
 pub can_push : (log : List Part) (part : Part) (I : Instance) → CanTakeBackAll log (before_part part I) → CanTakeBack part I → CanTakeBackAll (log ++ part ∷ []) I
 can_push [] part I can last = (tt, last)
-can_push (first ∷ log) part I can last = (can_push log part I can.0 last, subst (CanTakeBack first) (sym (before_push log part I)) can.1)
+can_push (first ∷ log) part I can last = (can_push log part I can.0 last, rw (before_push log part I) can.1)
 
 pub can_pop : (log : List Part) (part : Part) (I : Instance) → CanTakeBackAll (log ++ part ∷ []) I → CanTakeBackAll log (before_part part I) × CanTakeBack part I
 can_pop [] part I can = (tt, can.1)
-can_pop (first ∷ log) part I can = (let rest = can_pop log part I can.0 in ((rest.0, subst (CanTakeBack first) (before_push log part I) can.1), rest.1))
+can_pop (first ∷ log) part I can = (let rest = can_pop log part I can.0 in ((rest.0, rw (before_push log part I) at can.1), rest.1))
 
 -- one edit more is made and logged
 pub leads_push : (log : List Part) (I K J : Instance) (edit : Edit) (part : Part) → LeadsBack log I K → edited K edit ≡ Ok J → TakesBack K edit part → LeadsBack (log ++ part ∷ []) I J
-leads_push log I K J edit part leads made takes =
-    let back = takes.back J made in
-    record {
-      can = can_push log part J (subst (CanTakeBackAll log) (sym back) leads.can) (takes.can J made);
-      back = before_push log part J ∙ ap (before_all log) back ∙ leads.back;
-    }
+leads_push log I K J edit part leads made takes = record {
+  can = can_push log part J (rw (takes.back J made) leads.can) (takes.can J made);
+  back = before_push log part J ∙ ap (before_all log) (takes.back J made) ∙ leads.back;
+}
 
 -- ---- the loop that makes the edits
 
@@ -113,36 +101,32 @@ making_start edits old fresh certified accepted = record {
   made = (refl, refl);
   certified = certified;
   potentials = refl;
-  back = subst (λ (log : List Part). LeadsBack log old.moment.instance old.moment.instance) (sym fresh) (record { can = tt; back = refl });
+  back = rw fresh (record { can = tt; back = refl });
   kept = refl;
   logged = ap (λ (log : List Part). length log) fresh;
 }
 
-pub making_fits : (i : ℕ) (edits : List Edit) (old now : TablesView) (d : Edit) → i < length edits → IsMaking i edits old now → IsOk (edited now.moment.instance (get_or edits i d))
-making_fits i edits old now d below making =
-    accepted_first now.moment.instance (get_or edits i d) (drop (i + 1) edits) (subst (λ (es : List Edit). IsOk (edited_all now.moment.instance es)) (drop_more edits i d below) making.accepted)
+pub making_fits : (i : ℕ) (edits : List Edit) (old now : TablesView) (d : Edit) → i < length edits → IsMaking i edits old now → CanMake (get_or edits i d) now.moment
+making_fits i edits old now d below making = record {
+  certified = making.certified;
+  accepted = accepted_first now.moment.instance (get_or edits i d) (drop (i + 1) edits) (rw (drop_more edits i d below) at making.accepted);
+}
 
 pub making_more : (i : ℕ) (edits : List Edit) (old now noted next : TablesView) (d : Edit) → i < length edits → IsMaking i edits old now
     → noted.moment ≡ now.moment → IsLogged now.moment.instance (get_or edits i d) now.kept noted.kept
-    → IsMade noted.moment.instance next.moment.instance (get_or edits i d) (at_node noted.moment.potentials) noted.moment.flow next.moment.flow
-    → IsCertifiedFlow (reduced next.moment.instance) next.moment.flow (at_node next.moment.potentials)
-    → next.moment.potentials ≡ noted.moment.potentials → next.kept ≡ noted.kept
+    → IsMadeIn (get_or edits i d) noted next
     → IsMaking (i + 1) edits old next
-making_more i edits old now noted next d below making same logged made_noted certified potentials kept =
+making_more i edits old now noted next d below making same logged in_noted =
     let edit = get_or edits i d in
-    let made : IsMade now.moment.instance next.moment.instance edit (at_node old.moment.potentials) now.moment.flow next.moment.flow =
-    subst (λ (p : List ℤ). IsMade now.moment.instance next.moment.instance edit (at_node p) now.moment.flow next.moment.flow) making.potentials
-    (subst (λ m. IsMade m.instance next.moment.instance edit (at_node m.potentials) m.flow next.moment.flow) same made_noted) in
-    let log : next.kept.log ≡ now.kept.log ++ logged.part ∷ [] = ap (λ (k : Snapshot). k.log) (kept ∙ logged.now_is) in
+    let made = rw (same, making.potentials) at in_noted.made in
+    let log : next.kept.log ≡ now.kept.log ++ logged.part ∷ [] = ap (λ (k : Snapshot). k.log) (in_noted.kept ∙ logged.now_is) in
     record {
-      accepted = accepted_rest now.moment.instance next.moment.instance edit (drop (i + 1) edits) made.after (subst (λ (es : List Edit). IsOk (edited_all now.moment.instance es)) (drop_more edits i d below) making.accepted);
-      made = subst (λ (es : List Edit). AreMade old.moment.instance es (at_node old.moment.potentials) old.moment.flow next.moment.instance next.moment.flow) (sym (take_more edits i d below))
-          (made_push old.moment.instance now.moment.instance next.moment.instance (take i edits) edit (at_node old.moment.potentials) old.moment.flow now.moment.flow next.moment.flow making.made made);
-      certified = certified;
-      potentials = potentials ∙ ap (λ m. m.potentials) same ∙ making.potentials;
-      back = subst (λ (ps : List Part). LeadsBack ps old.moment.instance next.moment.instance) (sym log)
-          (leads_push now.kept.log old.moment.instance now.moment.instance next.moment.instance edit logged.part making.back made.after logged.takes_back);
-      kept = kept ∙ logged.now_is ∙ ap (λ (k : Snapshot). record k { log = now.kept.log ++ logged.part ∷ [] }) making.kept ∙ ap (λ (ps : List Part). record old.kept { log = ps }) (sym log);
+      accepted = accepted_rest now.moment.instance next.moment.instance edit (drop (i + 1) edits) made.after (rw (drop_more edits i d below) at making.accepted);
+      made = rw (take_more edits i d below) (made_push old.moment.instance now.moment.instance next.moment.instance (take i edits) edit (at_node old.moment.potentials) old.moment.flow now.moment.flow next.moment.flow making.made made);
+      certified = in_noted.certified;
+      potentials = in_noted.potentials ∙ ap (λ m. m.potentials) same ∙ making.potentials;
+      back = rw log (leads_push now.kept.log old.moment.instance now.moment.instance next.moment.instance edit logged.part making.back made.after logged.takes_back);
+      kept = in_noted.kept ∙ logged.now_is ∙ ap (λ (k : Snapshot). record k { log = now.kept.log ++ logged.part ∷ [] }) making.kept ∙ ap (λ (ps : List Part). record old.kept { log = ps }) (sym log);
       logged = ap (λ (ps : List Part). length ps) log ∙ length-append now.kept.log (logged.part ∷ []) ∙ ap (λ (n : ℕ). n + 1) making.logged;
     }
 
@@ -156,62 +140,29 @@ arcs_before Last I can = (let less = length-take-le (length I.arcs - 1) I.arcs (
 arcs_before (Gone row flow) I can = absurd can
 
 pub length-rows : (D : Demand) (arcs : List ArcRow) → length (reduced_arcs D arcs) ≡ return_count D + length arcs
-length-rows (Supplies supplies) arcs = omega arith
-length-rows (Terminals source sink) arcs = omega arith
-length-rows (Sides marks) arcs = omega arith
+length-rows D arcs = grind arith
 
 rows_before : (part : Part) (I : Instance) → CanTakeBack part I → length (reduced (before_part part I)).arcs ≤ length (reduced I).arcs
-rows_before part I can =
-    let J = before_part part I in
-    omega (arith, length-rows J.demand J.arcs, length-rows I.demand I.arcs, return_count_before (part ∷ []) I, arcs_before part I can)
+rows_before part I can = omega (arith, length-rows (before_part part I).demand (before_part part I).arcs, length-rows I.demand I.arcs, return_count_before (part ∷ []) I, arcs_before part I can)
 
 rows_before_all : (log : List Part) (I : Instance) → CanTakeBackAll log I → length (reduced (before_all log I)).arcs ≤ length (reduced I).arcs
 rows_before_all [] I can = omega arith
-rows_before_all (part ∷ log) I can = (let rest = rows_before_all log I can.0 in let one = rows_before part (before_all log I) can.1 in omega (arith, rest, one))
+rows_before_all (part ∷ log) I can = omega (arith, rows_before_all log I can.0, rows_before part (before_all log I) can.1)
 
--- what is logged can be taken back, and what was kept is of the instance before it
-pub record IsTakingBack (old now : TablesView) : Type 0 where
-  pub can : CanTakeBackAll now.kept.log now.moment.instance
-  pub instance : before_all now.kept.log now.moment.instance ≡ before_all old.kept.log old.moment.instance
-  pub kept : now.kept ≡ record old.kept { log = now.kept.log }
-  pub fits : length now.kept.flow ≡ length (reduced (before_all now.kept.log now.moment.instance)).arcs
+-- what is logged can be taken back from an instance, and what is kept beside it is of the one before
+pub record IsTakingBack (old : TablesView) (log : List Part) (I : Instance) (beside : Snapshot) : Type 0 where
+  pub can : CanTakeBackAll log I
+  pub instance : before_all log I ≡ before_all old.kept.log old.moment.instance
+  pub kept : beside ≡ record old.kept { log = [] }
+  pub fits : length beside.flow ≡ length (reduced (before_all log I)).arcs
 
--- the same once a part is off the log, but not yet taken back
-pub record IsPopped (old now : TablesView) (part : Part) : Type 0 where
-  pub can : CanTakeBackAll now.kept.log (before_part part now.moment.instance)
-  pub can_part : CanTakeBack part now.moment.instance
-  pub instance : before_all now.kept.log (before_part part now.moment.instance) ≡ before_all old.kept.log old.moment.instance
-  pub kept : now.kept ≡ record old.kept { log = now.kept.log }
-  pub fits : length now.kept.flow ≡ length (reduced (before_all now.kept.log (before_part part now.moment.instance))).arcs
+module _ (old : TablesView) (log : List Part) (part : Part) (I : Instance) (beside : Snapshot) (is : IsTakingBack old (log ++ part ∷ []) I beside) where
+  -- the last part can be taken back, and does not take off more arcs than come off in all
+  pub last_can : CanTakeBack part I
+  last_can = (can_pop log part I is.can).1
 
-pub popped : (old now next : TablesView) (part : Part) → next.moment ≡ now.moment → now.kept ≡ record next.kept { log = next.kept.log ++ part ∷ [] } → IsTakingBack old now → IsPopped old next part
-popped old now next part same was taking =
-    let log : now.kept.log ≡ next.kept.log ++ part ∷ [] = ap (λ (k : Snapshot). k.log) was in
-    let I = now.moment.instance in
-    let here = ap (λ (m : Moment). m.instance) same in
-    let can = can_pop next.kept.log part next.moment.instance (subst (λ (J : Instance). CanTakeBackAll (next.kept.log ++ part ∷ []) J) (sym here) (subst (λ (ps : List Part). CanTakeBackAll ps I) log taking.can)) in
-    let back : before_all now.kept.log I ≡ before_all next.kept.log (before_part part next.moment.instance) =
-    ap (λ (ps : List Part). before_all ps I) log ∙ ap (before_all (next.kept.log ++ part ∷ [])) (sym here) ∙ before_push next.kept.log part next.moment.instance in
-    record {
-      can = can.0;
-      can_part = can.1;
-      instance = sym back ∙ taking.instance;
-      kept = ap (λ (k : Snapshot). record k { log = next.kept.log }) (sym was) ∙ ap (λ (k : Snapshot). record k { log = next.kept.log }) taking.kept;
-      fits = ap (λ (k : Snapshot). length k.flow) (sym was) ∙ taking.fits ∙ ap (λ (J : Instance). length (reduced J).arcs) back;
-    }
+  pub last_fits : length beside.flow ≤ length (reduced (before_part part I)).arcs
+  last_fits = (let fits = rw (before_push log part I) at is.fits in omega (arith, fits, rows_before_all log (before_part part I) (can_pop log part I is.can).0))
 
--- a part that is popped does not take off more arcs than come off in all
-pub popped_fits : (old now : TablesView) (part : Part) → IsPopped old now part → length now.kept.flow ≤ length (reduced (before_part part now.moment.instance)).arcs
-popped_fits old now part is = (let rest = rows_before_all now.kept.log (before_part part now.moment.instance) is.can in omega (arith, is.fits, rest))
-
-pub taken_back : (old now next : TablesView) (part : Part) → next.moment.instance ≡ before_part part now.moment.instance → next.kept ≡ now.kept → IsPopped old now part → IsTakingBack old next
-taken_back old now next part instance kept is =
-    let log : next.kept.log ≡ now.kept.log = ap (λ (k : Snapshot). k.log) kept in
-    let back : before_all next.kept.log next.moment.instance ≡ before_all now.kept.log (before_part part now.moment.instance) =
-    ap (λ (ps : List Part). before_all ps next.moment.instance) log ∙ ap (before_all now.kept.log) instance in
-    record {
-      can = subst (λ (ps : List Part). CanTakeBackAll ps next.moment.instance) (sym log) (subst (CanTakeBackAll now.kept.log) (sym instance) is.can);
-      instance = back ∙ is.instance;
-      kept = kept ∙ is.kept ∙ ap (λ (ps : List Part). record old.kept { log = ps }) (sym log);
-      fits = ap (λ (k : Snapshot). length k.flow) kept ∙ is.fits ∙ ap (λ (J : Instance). length (reduced J).arcs) (sym back);
-    }
+  pub taken_back : IsTakingBack old log (before_part part I) beside
+  taken_back = record { can = (can_pop log part I is.can).0; instance = rw (before_push log part I) at is.instance; kept = is.kept; fits = rw (before_push log part I) at is.fits }

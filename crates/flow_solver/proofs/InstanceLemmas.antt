@@ -1,6 +1,5 @@
 -- What the limits of an instance give the tables of a solver.
-use Rattle.std.proofs.Common.{◌≡◌, ℕ, zero, suc, ◌+◌, ◌-◌, ◌*◌, ◌<◌, ◌≤◌, ℤ, pos, negsuc, neg_ℤ, ◌≤ℤ◌, List, [], ◌∷◌, length, refl, sym, subst, inl, inr, arith, Bool, true, false, cond, drop, map, replicate}
-use Rattle.std.specs.Prelude.{int_lt}
+use Rattle.std.proofs.Common.{◌≡◌, ℕ, zero, suc, ◌+◌, ◌-◌, ◌*◌, ◌<◌, ◌≤◌, ℤ, pos, negsuc, neg_ℤ, ◌≤ℤ◌, List, [], ◌∷◌, length, refl, inl, inr, arith, drop, map, replicate, All}
 use Rattle.std.specs.List.{AllByRecursion, AllZip}
 use Rattle.std.proofs.lemmas.Int.{ints}
 use Rattle.std.proofs.lemmas.Bool.{cases_lt}
@@ -11,7 +10,7 @@ use Rattle.dimacs_text.specs.declared.problem.ArcRow.{ArcRow}
 use Rattle.dimacs_text.specs.Lawful.{IsLawfulRow, IsWithin}
 use Rattle.network.specs.Flow.{AllWithinBounds, FollowsSign, IsCertifiedFlow, IsPotential}
 use Rattle.flow_solver.specs.Moment.{start}
-use Rattle.network.specs.Instance.{Demand, Supplies, Terminals, Sides, Instance, IsLawful, ArcFits, DemandFits, at_node, is_marked, return_arc, reduced, reduced_arcs, reduced_supply}
+use Rattle.network.specs.Instance.{Demand, Supplies, Terminals, Sides, Instance, IsLawful, ArcFits, DemandFits, at_node, return_arc, reduced, reduced_arcs, reduced_supply}
 use Rattle.network.proofs.Reduction.{rows_of, reduced_ends}
 use Rattle.residual_graph.specs.Limits.{entry_limit, row_limit}
 use Rattle.augmentation.specs.Limits.{cap_sum_limit, supply_limit}
@@ -46,24 +45,16 @@ return_row n source sink fits = record {
   cost_high = omega (arith, ints);
 }
 
-rows_at : (n : ℕ) (D : Demand) (arcs : List ArcRow) → AllByRecursion (λ arc. IsLawfulRow n arc × ArcFits D arc) arcs → (k : ℕ) → k < length arcs → IsRow (n + 1) (row_at arcs k)
-rows_at n D [] keeps k lt = absurd (omega arith)
-rows_at n D (a ∷ arcs) keeps zero lt = lawful_row n a keeps.0.0
-rows_at n D (a ∷ arcs) keeps (suc k) lt = rows_at n D arcs keeps.1 k (omega arith)
-
-reduced_rows : (n : ℕ) (D : Demand) (arcs : List ArcRow) → DemandFits n D → AllByRecursion (λ arc. IsLawfulRow n arc × ArcFits D arc) arcs → (k : ℕ) → k < length (reduced_arcs D arcs) → IsRow (n + 1) (row_at (reduced_arcs D arcs) k)
-reduced_rows n (Supplies s) arcs fits keeps k lt = rows_at n (Supplies s) arcs keeps k lt
+reduced_rows : (n : ℕ) (D : Demand) (arcs : List ArcRow) → DemandFits n D → All (λ arc. IsLawfulRow n arc × ArcFits D arc) arcs → (k : ℕ) → k < length (reduced_arcs D arcs) → IsRow (n + 1) (row_at (reduced_arcs D arcs) k)
 reduced_rows n (Terminals source sink) arcs fits keeps zero lt = return_row n source sink fits
-reduced_rows n (Terminals source sink) arcs fits keeps (suc k) lt = rows_at n (Terminals source sink) arcs keeps k (omega arith)
-reduced_rows n (Sides marks) arcs fits keeps k lt = rows_at n (Sides marks) arcs keeps k lt
+reduced_rows n (Terminals source sink) arcs fits keeps (suc k) lt = lawful_row n _ (keeps k _ (omega arith)).0
+reduced_rows n _ arcs fits keeps k lt = lawful_row n _ (keeps k _ lt).0
 
 pub rows_of_instance : (I : Instance) → IsLawful I → (k : ℕ) → k < length (reduced I).arcs → IsRow (I.nodes + 1) (row_at (reduced I).arcs k)
-rows_of_instance I lawful k lt = reduced_rows I.nodes I.demand I.arcs lawful.demand (rows_of lawful) k lt
+rows_of_instance I lawful k lt = reduced_rows I.nodes I.demand I.arcs lawful.demand lawful.arcs k lt
 
 pub rows_counted : (D : Demand) (arcs : List ArcRow) → length (reduced_arcs D arcs) ≤ length arcs + 1
-rows_counted (Supplies s) arcs = omega arith
-rows_counted (Terminals source sink) arcs = omega arith
-rows_counted (Sides marks) arcs = omega arith
+rows_counted D arcs = grind arith
 
 pub few_rows : (I : Instance) → IsLawful I → length (reduced I).arcs ≤ row_limit
 few_rows I lawful = omega (arith, rows_counted I.demand I.arcs, lawful.count, lawful.room)
@@ -84,9 +75,8 @@ caps_small n D (a ∷ arcs) keeps =
     omega (arith, part_small a.cap cap, caps_small n D arcs keeps.1, sum_by-cons (λ (b : ArcRow). positive_part b.cap) a arcs)
 
 caps_reduced : (n : ℕ) (D : Demand) (arcs : List ArcRow) → AllByRecursion (λ arc. IsLawfulRow n arc × ArcFits D arc) arcs → cap_total (reduced_arcs D arcs) ≤ 100000000000000 + 1000000000 * length arcs
-caps_reduced n (Supplies s) arcs keeps = omega (arith, caps_small n (Supplies s) arcs keeps)
 caps_reduced n (Terminals source sink) arcs keeps = omega (arith, caps_small n (Terminals source sink) arcs keeps, sum_by-cons (λ (b : ArcRow). positive_part b.cap) (return_arc source sink) arcs)
-caps_reduced n (Sides marks) arcs keeps = omega (arith, caps_small n (Sides marks) arcs keeps)
+caps_reduced n D arcs keeps = omega (arith, caps_small n D arcs keeps)
 
 pub caps_of_instance : (I : Instance) → IsLawful I → cap_total (reduced I).arcs ≤ cap_sum_limit
 caps_of_instance I lawful = omega (arith, caps_reduced I.nodes I.demand I.arcs (rows_of lawful), lawful.count, lawful.room)
@@ -94,21 +84,15 @@ caps_of_instance I lawful = omega (arith, caps_reduced I.nodes I.demand I.arcs (
 supply_small : (n : ℕ) (D : Demand) → DemandFits n D → (v : ℕ) → IsNodeOf n v → IsWithin (pos 1000000000) (reduced_supply D v)
 supply_small n (Supplies s) fits v node = All-get_or (IsWithin (pos 1000000000)) s (v - 1) (pos 0) (omega (arith, fits.0, node.0, node.1)) fits.1
 supply_small n (Terminals source sink) fits v node = (omega (arith, ints), omega (arith, ints))
-supply_small n (Sides marks) fits v node = by_mark (is_marked marks v)
-  where
-    by_mark : (b : Bool) → IsWithin (pos 1000000000) (cond b (pos 1) (neg_ℤ (pos 1)))
-    by_mark true = (omega (arith, ints), omega (arith, ints))
-    by_mark false = (omega (arith, ints), omega (arith, ints))
+supply_small n (Sides marks) fits v node = grind (arith, ints)
 
 pub supplies_of_instance : (I : Instance) → IsLawful I → AreSupplies (held I.nodes (reduced I).supply)
 supplies_of_instance I lawful = record { low = λ v. (both v).0; high = λ v. (both v).1 }
   where
     both : (v : ℕ) → (neg_ℤ (pos supply_limit) ≤ℤ held I.nodes (reduced I).supply v) × (held I.nodes (reduced I).supply v ≤ℤ pos supply_limit)
     both v = elim (is_node_or_not I.nodes v) [
-      | inl node ↦ (let small = supply_small I.nodes I.demand lawful.demand v node in
-          let at = held_node I.nodes (reduced I).supply v node in
-          (omega (arith, ints, small.0, at), omega (arith, ints, small.1, at)))
-      | inr none ↦ (let at = held_other I.nodes (reduced I).supply v none in (omega (arith, ints, at), omega (arith, ints, at)))
+      | inl node ↦ rw (held_node I.nodes (reduced I).supply v node) (let small = supply_small I.nodes I.demand lawful.demand v node in (omega (arith, ints, small.0), omega (arith, ints, small.1)))
+      | inr none ↦ rw (held_other I.nodes (reduced I).supply v none) (omega (arith, ints), omega (arith, ints))
     ]
 
 -- ---- flows and potentials
@@ -128,15 +112,15 @@ potentials_of n p sized idle range = record { sized = refl; at_most_0 = λ v. (b
     both : (v : ℕ) → (neg_ℤ (pos label_floor) ≤ℤ number_at p v) × (number_at p v ≤ℤ pos 0)
     both zero = idle
     both (suc v) = elim (cases_lt v n) [
-      | inl lt ↦ (let h = range (suc v) (omega arith, omega arith) in (omega (arith, ints, h.0), omega (arith, ints, h.1)))
-      | inr past ↦ (let none : number_at p (suc v) ≡ pos 0 = get_or_past p (suc v) (pos 0) (omega (arith, sized)) in (omega (arith, ints, none), omega (arith, ints, none)))
+      | inl lt ↦ range (suc v) (omega arith, omega arith)
+      | inr past ↦ rw (get_or_past p (suc v) (pos 0) (omega (arith, sized))) (omega (arith, ints), omega (arith, ints))
     ]
 
 pub certified_of : (I : Instance) (x p : List ℤ) → IsLawful I → length p ≡ I.nodes + 1 → IsIdleEntry p → IsCertifiedFlow (reduced I) x (number_at p) → IsReducedCostOptimal (reduced I).arcs x p
 certified_of I x p lawful sized idle certified =
     let potentials = potentials_of I.nodes p sized idle certified.range in
     record {
-      flow = subst (λ (n : ℕ). IsPseudoflow n (reduced I).arcs x) (sym sized) (flow_of_instance I x lawful certified.bounds);
+      flow = rw sized (flow_of_instance I x lawful certified.bounds);
       potentials = record { sized = refl; at_most_0 = potentials.at_most_0; at_least = λ v. omega (arith, ints, potentials.at_least v) };
       none_below = none_below_of (reduced I) x (number_at p) (number_at p) (reduced_ends I lawful) certified (λ v node. refl);
     }
@@ -147,28 +131,17 @@ range_of_labels n p potentials v = (omega (arith, ints, potentials.at_least v), 
 
 -- ---- the rows of the tables, and the start flow
 
-start_within : (n : ℕ) (a : ArcRow) → IsRow (n + 1) a → (b : Bool) → (a.low ≤ℤ cond b a.cap a.low) × (cond b a.cap a.low ≤ℤ a.cap)
-start_within n a row true = (row.low_at_most_cap, omega (arith, ints))
-start_within n a row false = (omega (arith, ints), row.low_at_most_cap)
+start_within : (n : ℕ) (a : ArcRow) → IsRow (n + 1) a → (a.low ≤ℤ start a) × (start a ≤ℤ a.cap)
+start_within n a row = (let order = row.low_at_most_cap in (grind (arith, ints), grind (arith, ints)))
 
 -- with potentials 0 the reduced cost is the cost
 start_sign : (q : ℕ → ℤ) (a : ArcRow) → ((v : ℕ) → q v ≡ pos 0) → FollowsSign q a (start a)
-start_sign q a zero_at = by_test (int_lt a.cost (pos 0)) refl
-  where
-    by_test : (b : Bool) → int_lt a.cost (pos 0) ≡ b → FollowsSign q a (cond b a.cap a.low)
-    by_test true e = record {
-      dear = λ dear. absurd (omega (arith, ints, dear, e, zero_at a.tail, zero_at a.head));
-      cheap = λ cheap. refl;
-    }
-    by_test false e = record {
-      dear = λ dear. refl;
-      cheap = λ cheap. absurd (omega (arith, ints, cheap, e, zero_at a.tail, zero_at a.head));
-    }
+start_sign q a zero_at = (let tail = zero_at a.tail in let head = zero_at a.head in record { dear = λ dear. grind (arith, ints); cheap = λ cheap. grind (arith, ints) })
 
 start_bounds : (n : ℕ) (arcs : List ArcRow) → ((k : ℕ) → k < length arcs → IsRow (n + 1) (row_at arcs k)) → AllWithinBounds arcs (map start arcs)
 start_bounds n [] rows = tt
 start_bounds n (a ∷ arcs) rows =
-    (start_within n a (rows 0 (omega arith)) (int_lt a.cost (pos 0)), start_bounds n arcs (λ k lt. rows (suc k) (omega arith)))
+    (start_within n a (rows 0 (omega arith)), start_bounds n arcs (λ k lt. rows (suc k) (omega arith)))
 
 start_signs : (q : ℕ → ℤ) (arcs : List ArcRow) → ((v : ℕ) → q v ≡ pos 0) → AllZip (FollowsSign q) arcs (map start arcs)
 start_signs q [] zero_at = tt
@@ -176,7 +149,7 @@ start_signs q (a ∷ arcs) zero_at = (start_sign q a zero_at, start_signs q arcs
 
 pub start_certified : (I : Instance) (q : ℕ → ℤ) → IsLawful I → ((v : ℕ) → q v ≡ pos 0) → IsCertifiedFlow (reduced I) (map start (reduced I).arcs) q
 start_certified I q lawful zero_at = record {
-  bounds = start_bounds I.nodes (reduced I).arcs (reduced_rows I.nodes I.demand I.arcs lawful.demand (rows_of lawful));
+  bounds = start_bounds I.nodes (reduced I).arcs (rows_of_instance I lawful);
   signs = start_signs q (reduced I).arcs zero_at;
   range = λ v node. (omega (arith, ints, zero_at v), omega (arith, ints, zero_at v));
 }

@@ -1,19 +1,20 @@
 -- What a log tells of the instance before it: its arcs, its supplies and its flow, place by place.
 use Rattle.std.proofs.Common.{◌≡◌, ◌≢◌, ℕ, zero, suc, ◌+◌, ◌-◌, ◌<◌, ◌≤◌, ℤ, pos, List, [], ◌∷◌, length, take, drop, get_or, slice_set, slice_get, refl, sym, ap, subst, ◌∙◌, inl, inr, arith, Option, None, Some, IsSome}
-use Rattle.std.specs.Prelude.{IfSome}
 use Rattle.std.proofs.lemmas.Bool.{cases_lt}
 use Rattle.std.proofs.lemmas.List.{drop_more, get_or-set_same, get_or-set_other, length-set, length-take-le}
 use Rattle.std.proofs.lemmas.Option.{slice_get-get_or, slice_get_past}
+use native.Mathlib.Numerals.{unary_clauses}
+use Rattle.network.proofs.EndLinks.{slice_get-set_other}
 use Rattle.dimacs_text.specs.declared.problem.ArcRow.{ArcRow}
 use Rattle.dimacs_text.specs.declared.problem.Kind.TheVariants.{Min}
 use Rattle.dimacs_text.specs.Lawful.{IsNode}
-use Rattle.network.specs.Instance.{Demand, Supplies, Terminals, Sides, Instance, IsLawful, DemandFits, arc_at, kind_of, numbered_flow, reduced_supply, with_supply}
+use Rattle.network.specs.Instance.{Demand, Supplies, Instance, IsLawful, DemandFits, arc_at, kind_of, reduced_supply, with_supply}
 use Rattle.flow_solver.specs.declared.part.Part.{Part}
-use Rattle.flow_solver.specs.declared.part.Part.TheVariants.{Arc, Supply, Last, Gone}
+use Rattle.flow_solver.specs.declared.part.Part.TheVariants.{Arc, Supply, Last}
 use Rattle.flow_solver.specs.declared.verdict.Verdict.{Verdict}
 use Rattle.flow_solver.specs.Moment.{Snapshot}
 use Rattle.flow_solver.specs.Part.{before_all, before_of, before_part, CanTakeBack, CanTakeBackAll, IsKept, return_count}
-use Rattle.flow_solver.proofs.TablesViewLemmas.{numbered_before, return_count_before}
+use Rattle.flow_solver.proofs.TablesViewLemmas.{return_count_before}
 use Rattle.flow_solver.proofs.GroupLemmas.{length-rows}
 
 -- ---- the end of a log
@@ -46,30 +47,19 @@ pub record IsArcAt (k : ℕ) (I : Instance) (row : Option ArcRow) (arcs : ℕ) :
   pub row_is : row ≡ arc_at I.arcs k
   pub many : arcs ≡ length I.arcs
 
-set-other : {X : Type 0} (xs : List X) (i j : ℕ) (x : X) → j ≢ i → slice_get (slice_set xs i x) j ≡ slice_get xs j
-set-other [] i j x other = refl
-set-other (y ∷ xs) zero zero x other = absurd (other refl)
-set-other (y ∷ xs) zero (suc j) x other = refl
-set-other (y ∷ xs) (suc i) zero x other = refl
-set-other (y ∷ xs) (suc i) (suc j) x other = set-other xs i j x (λ same. other (ap suc same))
-
 pub row_found : (k : ℕ) (other : ArcRow) (I : Instance) (row : Option ArcRow) (arcs : ℕ) → CanTakeBack (Arc k other) I → IsArcAt k I row arcs → IsArcAt k (before_part (Arc k other) I) (Some other) arcs
 row_found zero other I row arcs can at = absurd (omega (arith, can.0.0))
 row_found (suc k) other I row arcs can at =
-    let place : suc k - 1 ≡ k = omega arith in
-    let lt : k < length I.arcs = omega (arith, can.0.1) in
-    let long = length-set I.arcs k other in
-    let here : slice_get (slice_set I.arcs k other) k ≡ Some other =
-    slice_get-get_or (slice_set I.arcs k other) k other (omega (arith, lt, long)) ∙ ap Some (get_or-set_same I.arcs k other other lt) in
+    let there = get_or-set_same I.arcs k other other (omega (arith, can.0.1)) in
     record {
-      row_is = sym (ap (λ (i : ℕ). slice_get (slice_set I.arcs i other) k) place ∙ here);
+      row_is = sym (simp unary_clauses (slice_get-get_or (slice_set I.arcs k other) k other (omega (arith, can.0.1, length-set I.arcs k other)) ∙ ap Some there));
       many = at.many ∙ sym (length-set I.arcs (suc k - 1) other);
     }
 
 pub row_passed : (k a : ℕ) (other : ArcRow) (I : Instance) (row : Option ArcRow) (arcs : ℕ) → a ≢ k → CanTakeBack (Arc a other) I → IsArcAt k I row arcs → IsArcAt k (before_part (Arc a other) I) row arcs
 row_passed zero a other I row arcs differ can at = record { row_is = at.row_is; many = at.many ∙ sym (length-set I.arcs (a - 1) other) }
 row_passed (suc k) a other I row arcs differ can at = record {
-  row_is = at.row_is ∙ sym (set-other I.arcs (a - 1) k other (λ same. differ (omega (arith, same, can.0.0))));
+  row_is = at.row_is ∙ sym (slice_get-set_other I.arcs (a - 1) k other (λ same. differ (omega (arith, same, can.0.0))));
   many = at.many ∙ sym (length-set I.arcs (a - 1) other);
 }
 
@@ -105,43 +95,34 @@ row_left (suc k) I row arcs fewer inner less can at =
 
 pub nodes_before : (log : List Part) (I : Instance) → (before_all log I).nodes ≡ I.nodes
 nodes_before [] I = refl
-nodes_before (Arc k row ∷ log) I = nodes_before log I
-nodes_before (Supply v value ∷ log) I = nodes_before log I
 nodes_before (Last ∷ log) I = nodes_before log I
-nodes_before (Gone row flow ∷ log) I = nodes_before log I
+nodes_before (_ ∷ log) I = nodes_before log I
 
 -- as many supplies as nodes, where the kind has supplies
 abbrev pub AreAllSupplied : ℕ → Demand → Type 0
 AreAllSupplied nodes (Supplies supplies) = length supplies ≡ nodes
-AreAllSupplied nodes (Terminals source sink) = Unit {0}
-AreAllSupplied nodes (Sides marks) = Unit {0}
+AreAllSupplied nodes _ = Unit {0}
 
 supplied_now : (nodes : ℕ) (D : Demand) → DemandFits nodes D → AreAllSupplied nodes D
 supplied_now nodes (Supplies supplies) fits = fits.0
-supplied_now nodes (Terminals source sink) fits = tt
-supplied_now nodes (Sides marks) fits = tt
+supplied_now nodes _ fits = tt
 
 supplied_set : (nodes : ℕ) (D : Demand) (v : ℕ) (value : ℤ) → AreAllSupplied nodes D → AreAllSupplied nodes (with_supply D v value)
 supplied_set nodes (Supplies supplies) v value all = length-set supplies (v - 1) value ∙ all
-supplied_set nodes (Terminals source sink) v value all = tt
-supplied_set nodes (Sides marks) v value all = tt
+supplied_set nodes _ v value all = tt
 
 supplied_before : (log : List Part) (I : Instance) → AreAllSupplied I.nodes I.demand → AreAllSupplied I.nodes (before_all log I).demand
 supplied_before [] I all = all
-supplied_before (Arc k row ∷ log) I all = supplied_before log I all
 supplied_before (Supply v value ∷ log) I all = supplied_set I.nodes (before_all log I).demand v value (supplied_before log I all)
-supplied_before (Last ∷ log) I all = supplied_before log I all
-supplied_before (Gone row flow ∷ log) I all = supplied_before log I all
+supplied_before (_ ∷ log) I all = supplied_before log I all
 
 supply_here : (nodes : ℕ) (D : Demand) (v : ℕ) (value : ℤ) → kind_of D ≡ Min → AreAllSupplied nodes D → (1 ≤ v) × (v ≤ nodes) → reduced_supply (with_supply D v value) v ≡ value
 supply_here nodes (Supplies supplies) v value kind all node = get_or-set_same supplies (v - 1) value (pos 0) (omega (arith, all, node.0, node.1))
-supply_here nodes (Terminals source sink) v value kind all node = cc
-supply_here nodes (Sides marks) v value kind all node = cc
+supply_here nodes _ v value kind all node = cc
 
 supply_there : (D : Demand) (v u : ℕ) (value : ℤ) → v ≢ u → 1 ≤ v → 1 ≤ u → reduced_supply (with_supply D v value) u ≡ reduced_supply D u
 supply_there (Supplies supplies) v u value differ one first = get_or-set_other supplies (v - 1) (u - 1) value (pos 0) (λ same. differ (omega (arith, same, one, first)))
-supply_there (Terminals source sink) v u value differ one first = refl
-supply_there (Sides marks) v u value differ one first = refl
+supply_there _ v u value differ one first = refl
 
 -- what a node has to send out before all that is logged from the i-th part on, if it is a node
 pub record IsSupplyAt (v : ℕ) (I : Instance) (log : List Part) (i : ℕ) (supply : Option ℤ) : Type 0 where
@@ -174,15 +155,6 @@ supply_passed v u i value log d I supply differ can some is at =
       no_node = at.no_node;
     }
 
--- the same of the moment before, where there is one
-pub supply_since : (told : Option Verdict) (I : Instance) (kept : Snapshot) (v : ℕ) (supply : Option ℤ) → (IsNode I.nodes v → supply ≡ Some (reduced_supply (before_all kept.log I).demand v)) → IfSome (before_of told I kept) (λ old. IsNode old.instance.nodes v → supply ≡ Some (reduced_supply old.instance.demand v))
-supply_since None I kept v supply is = tt
-supply_since (Some verdict) I kept v supply is = λ node. is (subst (λ (n : ℕ). IsNode n v) (nodes_before kept.log I) node)
-
-pub no_supply_since : (told : Option Verdict) (I : Instance) (kept : Snapshot) (v : ℕ) (supply : Option ℤ) → ((IsNode I.nodes v → ⊥) → supply ≡ None) → IfSome (before_of told I kept) (λ old. (IsNode old.instance.nodes v → ⊥) → supply ≡ None)
-no_supply_since None I kept v supply is = tt
-no_supply_since (Some verdict) I kept v supply is = λ none. is (λ node. none (subst (λ (n : ℕ). IsNode n v) (sym (nodes_before kept.log I)) node))
-
 -- ---- flows
 
 -- the flow that was kept has the return arc, where there is one
@@ -191,13 +163,3 @@ return_kept None I kept some is = cc
 return_kept (Some verdict) I kept some is =
     let J = before_all kept.log I in
     omega (arith, is.1, length-rows J.demand J.arcs, return_count_before kept.log I)
-
-numbered_is : (D : Demand) (xs : List ℤ) → drop (return_count D) xs ≡ numbered_flow D xs
-numbered_is (Supplies supplies) xs = refl
-numbered_is (Terminals source sink) xs = refl
-numbered_is (Sides marks) xs = refl
-
--- what comes after it is the flow of the numbered arcs then
-pub numbered_kept : (told : Option Verdict) (I : Instance) (kept : Snapshot) → IfSome (before_of told I kept) (λ old. drop (return_count I.demand) kept.flow ≡ numbered_flow old.instance.demand old.flow)
-numbered_kept None I kept = tt
-numbered_kept (Some verdict) I kept = numbered_is I.demand kept.flow ∙ sym (numbered_before kept.log I kept.flow)

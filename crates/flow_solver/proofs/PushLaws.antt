@@ -62,10 +62,9 @@ part_is (negsuc n) = refl
 
 left_nodes : (n : ℕ) (e : List ℤ) (g : ℕ → ℤ) → length e ≡ n → ((v : ℕ) → v < n → g (suc v) ≡ flow.positive_part (number_at e v)) → pos (left e) ≡ nodes_sum n g
 left_nodes zero [] g sized same = refl
-left_nodes zero (z ∷ e) g sized same = absurd (omega arith)
-left_nodes (suc n) [] g sized same = absurd (omega arith)
 left_nodes (suc n) (z ∷ e) g sized same =
     omega (arith, ints, nodes_sum-first n g, same 0 (omega arith), part_is z, sum_by-cons positive_part z e, left_nodes n e (λ v. g (suc v)) (omega arith) (λ v lt. same (suc v) (omega arith)))
+left_nodes _ _ g sized same = absurd (omega arith)
 
 pub left_is : (I : MinCost) (x e : List ℤ) → AllEndsAreNodes I → IsExcess I.arcs (held I.nodes I.supply) x e → length e ≡ suc I.nodes → pos (left e) ≡ total_excess I x
 left_is I x [] ends is sized = absurd (omega arith)

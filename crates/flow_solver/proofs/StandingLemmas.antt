@@ -1,20 +1,19 @@
 -- Where potentials that are the greatest stay the greatest, though arcs and flows change.
-use Rattle.std.proofs.Common.{◌≡◌, ℕ, zero, suc, ◌+◌, ◌-◌, ◌<◌, ◌≤◌, ℤ, pos, ◌-ℤ◌, ◌+ℤ◌, ◌<ℤ◌, ◌≤ℤ◌, List, [], ◌∷◌, ◌++◌, length, drop, Some, refl, sym, subst, ◌∙◌, ◌⊎◌, inl, inr, arith, Bool, true, false, cond, ap, slice_index_or, slice_set}
+use Rattle.std.proofs.Common.{◌≡◌, ℕ, zero, suc, ◌-◌, ◌<◌, ◌≤◌, ℤ, pos, ◌-ℤ◌, ◌+ℤ◌, ◌<ℤ◌, ◌≤ℤ◌, List, [], ◌∷◌, ◌++◌, length, drop, Some, refl, sym, ◌∙◌, ◌⊎◌, inl, inr, arith, Bool, cond, slice_index_or, slice_set}
 use Rattle.std.specs.Prelude.{int_lt}
 use Rattle.std.specs.List.{AllZip}
 use Rattle.std.proofs.lemmas.Int.{ints, by_lt_z}
 use Rattle.std.proofs.lemmas.Bool.{cases_eq}
+use Rattle.std.proofs.lemmas.Grind.{common_steps}
 use Rattle.std.proofs.lemmas.Option.{slice_get-get_or}
 use Rattle.std.proofs.lemmas.List.{get_or_append_left, get_or-set_other, get_or-set_same, length-append, length-set}
 use Rattle.dimacs_text.specs.declared.problem.ArcRow.{ArcRow}
 use Rattle.dimacs_text.specs.Lawful.{IsLawfulRow}
-use Rattle.network.specs.Flow.{MinCost, AllWithinBounds, FollowsSign, IsCertifiedFlow, IsGreatestPotential, IsPotential, reduced_cost}
-use Rattle.network.specs.Instance.{ArcFits, Instance, IsLawful, arc_at, at_node, reduced}
+use Rattle.network.specs.Flow.{MinCost, FollowsSign, IsCertifiedFlow, IsGreatestPotential, IsPotential, reduced_cost}
+use Rattle.network.specs.Instance.{Instance, IsLawful, arc_at, at_node, reduced}
 use Rattle.network.proofs.Reduction.{reduced_ends}
 use Rattle.residual_graph.specs.declared.graph.Graph.{Graph}
-use Rattle.residual_graph.specs.Residual.{AreGreatest, IsWithinRow, number_at, row_at, room_of}
-use Rattle.residual_graph.specs.declared.residual.Way.{Way}
-use Rattle.residual_graph.specs.declared.residual.Way.TheVariants.{Backward, Forward}
+use Rattle.residual_graph.specs.Residual.{AreGreatest, IsWithinRow, number_at, row_at}
 use Rattle.augmentation.specs.ScratchView.{ScratchView}
 use Rattle.residual_graph.specs.Walk.{AreRowsOf}
 use Rattle.flow_solver.specs.Answer.{AreGreatestPotentials}
@@ -30,7 +29,8 @@ use Rattle.flow_solver.proofs.AnswerLemmas.{agrees_at}
 use Rattle.residual_graph.proofs.GraphLemmas.{with_row, with_last}
 use Rattle.flow_solver.proofs.ChangeLemmas.{supplied, row_is, rows_changed, rows_more, rows_kept}
 use Rattle.flow_solver.proofs.EditRows.{row_there}
-use Rattle.flow_solver.proofs.FlowLaws.{bounds_at, bounds_length, greatest_flow, signs_at}
+use Rattle.flow_solver.proofs.FlowLaws.{bounds_at, bounds_length, greatest_flow, signs_at, zip_from}
+use Rattle.network.proofs.Places.{all_zip-length}
 
 -- ---- a step up, where other potentials lie higher
 
@@ -40,27 +40,14 @@ module _ (p q : ℕ → ℤ) where
   raised v = cond (int_lt (p v) (q v)) (p v +ℤ pos 1) (p v)
 
   raised_at : (v : ℕ) → ((p v <ℤ q v) × (raised v ≡ p v +ℤ pos 1)) ⊎ ((q v ≤ℤ p v) × (raised v ≡ p v))
-  raised_at v = by_test (int_lt (p v) (q v)) refl
-    where
-      by_test : (b : Bool) → int_lt (p v) (q v) ≡ b → ((p v <ℤ q v) × (cond b (p v +ℤ pos 1) (p v) ≡ p v +ℤ pos 1)) ⊎ ((q v ≤ℤ p v) × (cond b (p v +ℤ pos 1) (p v) ≡ p v))
-      by_test true e = inl (omega (arith, ints, e), refl)
-      by_test false e = inr (omega (arith, ints, e), refl)
+  raised_at v = grind (arith, ints, common_steps)
 
   rises : (v : ℕ) → (p v ≤ℤ raised v) × (raised v ≤ℤ (p v +ℤ pos 1))
-  rises v = elim (raised_at v) [
-    | inl up ↦ (omega (arith, ints, up.1), omega (arith, ints, up.1))
-    | inr low ↦ (omega (arith, ints, low.1), omega (arith, ints, low.1))
-  ]
+  rises v = (let at = raised_at v in (omega (arith, ints), omega (arith, ints)))
 
   -- where the one rises more than the other, q lies further above it
   further : (u v : ℕ) → (raised v -ℤ p v) <ℤ (raised u -ℤ p u) → (q v -ℤ p v) <ℤ (q u -ℤ p u)
-  further u v more = elim (raised_at u) [
-    | inl up ↦ elim (raised_at v) [
-      | inl both ↦ absurd (omega (arith, ints, more, up.1, both.1))
-      | inr low ↦ omega (arith, ints, up.0, low.0)
-    ]
-    | inr low ↦ absurd (omega (arith, ints, more, low.1, (rises v).0))
-  ]
+  further u v more = omega (arith, ints, raised_at u, raised_at v)
 
   -- the rule of signs stays: over an arc that is not tight p leaves 1, and over a tight one q keeps the rule too
   raised_sign : (a : ArcRow) (x : ℤ) → FollowsSign p a x → (reduced_cost p a ≡ pos 0 → FollowsSign q a x) → FollowsSign raised a x
@@ -78,17 +65,10 @@ module _ (p q : ℕ → ℤ) where
   }
 
   raised_signs : (arcs : List ArcRow) (x : List ℤ) → AllZip (FollowsSign p) arcs x → ((k : ℕ) → k < length arcs → reduced_cost p (row_at arcs k) ≡ pos 0 → FollowsSign q (row_at arcs k) (number_at x k)) → AllZip (FollowsSign raised) arcs x
-  raised_signs [] [] signs tight = tt
-  raised_signs [] (y ∷ x) signs tight = absurd signs
-  raised_signs (a ∷ arcs) [] signs tight = absurd signs
-  raised_signs (a ∷ arcs) (y ∷ x) signs tight =
-      (raised_sign a y signs.0 (tight 0 (omega arith)), raised_signs arcs x signs.1 (λ k lt. tight (suc k) (omega arith)))
+  raised_signs arcs x signs tight = zip_from (FollowsSign raised) _ (pos 0) arcs x (sym (all_zip-length (FollowsSign p) arcs x signs)) (λ k lt. raised_sign (row_at arcs k) (number_at x k) (signs_at p arcs x signs k lt) (tight k lt))
 
   raised_range : (v : ℕ) → IsPotential (p v) → IsPotential (q v) → IsPotential (raised v)
-  raised_range v here there = elim (raised_at v) [
-    | inl up ↦ (omega (arith, ints, up.1, here.0), omega (arith, ints, up.0, up.1, there.1))
-    | inr low ↦ (omega (arith, ints, low.1, here.0), omega (arith, ints, low.1, here.1))
-  ]
+  raised_range v here there = (let at = raised_at v in (omega (arith, ints), omega (arith, ints)))
 
 -- ---- the greatest potentials
 
@@ -102,45 +82,24 @@ greatest_still I J x y p nodes certified greatest keeps q other v node =
       signs = raised_signs p q I.arcs x certified.signs (keeps q other);
       range = λ w at. raised_range p q w (certified.range w at) (other.range w (at.0, omega (arith, at.1, nodes)));
     }) v (node.0, omega (arith, node.1, nodes)) in
-    elim (raised_at p q v) [
-      | inl up ↦ absurd (omega (arith, ints, below, up.1))
-      | inr low ↦ low.0
-    ]
+    omega (arith, ints, below, raised_at p q v)
 
 -- the shortest labels of the tables are the greatest
 pub greatest_labels : (I : Instance) (rows : List ArcRow) (x p : List ℤ) → AreRowsOf I rows → AreGreatest rows x p → AreGreatestPotentials (reduced I) x (at_node (drop 1 p))
 greatest_labels I rows x p of greatest = record {
-  none_above = greatest_flow (reduced I) x p (at_node (drop 1 p)) (reduced_ends I of.lawful) (agrees_at I.nodes p) (subst (λ (r : List ArcRow). AreGreatest r x p) of.rows_are greatest);
+  none_above = greatest_flow (reduced I) x p (at_node (drop 1 p)) (reduced_ends I of.lawful) (agrees_at I.nodes p) (rw of.rows_are at greatest);
 }
 
 -- ---- an arc that changes and keeps its residual arcs
-
-module _ (a b : ArcRow) (x y : ℤ) where
-  -- it does so if it costs the same, and has room up to its bounds where it had
-  pub kept_by_room : b.cost ≡ a.cost → (x <ℤ a.cap → y <ℤ b.cap) → (a.low <ℤ x → b.low <ℤ y) → KeepsResidualArcs a x b y
-  kept_by_room cost ahead behind = record { same_cost = cost; has_room = room }
-    where
-      room : (way : Way) → pos 0 <ℤ room_of a x way → pos 0 <ℤ room_of b y way
-      room Forward there_was = (let is = ahead (omega (arith, ints, there_was)) in omega (arith, ints, is))
-      room Backward there_was = (let is = behind (omega (arith, ints, there_was)) in omega (arith, ints, is))
-
-  -- and only so
-  pub room_ahead : KeepsResidualArcs a x b y → x <ℤ a.cap → y <ℤ b.cap
-  room_ahead kept there_was = (let is = kept.has_room Forward (omega (arith, ints, there_was)) in omega (arith, ints, is))
-
-  pub room_behind : KeepsResidualArcs a x b y → a.low <ℤ x → b.low <ℤ y
-  room_behind kept there_was = (let is = kept.has_room Backward (omega (arith, ints, there_was)) in omega (arith, ints, is))
 
 -- a flow that is certified after an arc kept its residual arcs follows the rule of signs of the arc before
 sign_kept : (q : ℕ → ℤ) (a b : ArcRow) (x y : ℤ) → b.tail ≡ a.tail → b.head ≡ a.head → KeepsResidualArcs a x b y → IsWithinRow a x → FollowsSign q b y → FollowsSign q a x
 sign_kept q a b x y tail head kept within sign = record {
   dear = λ dear. by_lt_z (a.low) x
-      (λ there_was. (let room = kept.has_room Backward (omega (arith, ints, there_was)) in
-      absurd (omega (arith, ints, room, sign.dear (subst (λ (r : ℤ). pos 0 <ℤ r) (sym same) dear)))))
+      (λ there_was. absurd (omega (arith, ints, kept.behind there_was, sign.dear (rw same dear))))
       (λ closed. omega (arith, ints, closed, within.low_kept));
   cheap = λ cheap. by_lt_z x (a.cap)
-      (λ there_was. (let room = kept.has_room Forward (omega (arith, ints, there_was)) in
-      absurd (omega (arith, ints, room, sign.cheap (subst (λ (r : ℤ). r <ℤ pos 0) (sym same) cheap)))))
+      (λ there_was. absurd (omega (arith, ints, kept.ahead there_was, sign.cheap (rw same cheap))))
       (λ closed. omega (arith, ints, closed, within.cap_kept));
 }
   where
@@ -164,25 +123,19 @@ greatest_changed I k row p x z at tail head kept certified greatest = record {
 
     -- the rule of signs at each arc after the change
     after : (q : ℕ → ℤ) → IsCertifiedFlow (reduced (with_row I (k - 1) row)) (slice_set x place z) q → (j : ℕ) → j < length (reduced I).arcs → FollowsSign q (row_at (slice_set (reduced I).arcs place row) j) (number_at (slice_set x place z) j)
-    after q other j lt =
-        let signs = subst (λ (arcs : List ArcRow). AllZip (FollowsSign q) arcs (slice_set x place z)) (sym (rows_changed I k row at.0)) other.signs in
-        signs_at q (slice_set (reduced I).arcs place row) (slice_set x place z) signs j (omega (arith, lt, length-set (reduced I).arcs place row))
+    after q other j lt = signs_at q (slice_set (reduced I).arcs place row) (slice_set x place z) (rw (rows_changed I k row at.0) other.signs) j (omega (arith, lt, length-set (reduced I).arcs place row))
 
     -- at the changed arc
     keeps_here : (q : ℕ → ℤ) → IsCertifiedFlow (reduced (with_row I (k - 1) row)) (slice_set x place z) q → place < length (reduced I).arcs → reduced_cost p (row_at (reduced I).arcs place) ≡ pos 0 → FollowsSign q (row_at (reduced I).arcs place) (number_at x place)
     keeps_here q other lt tight =
         let many = bounds_length (reduced I).arcs x certified.bounds in
-        let there = subst (λ (a : ArcRow). FollowsSign q a (number_at (slice_set x place z) place)) (get_or-set_same (reduced I).arcs place row _ lt) (after q other place lt) in
-        sign_kept q (row_at (reduced I).arcs place) row (number_at x place) z (tail ∙ ap (λ (a : ArcRow). a.tail) (sym before)) (head ∙ ap (λ (a : ArcRow). a.head) (sym before))
-        (kept tight) (bounds_at (reduced I).arcs x certified.bounds place lt)
-        (subst (λ (y : ℤ). FollowsSign q row y) (get_or-set_same x place z (pos 0) (omega (arith, lt, many))) there)
+        let there = rw (get_or-set_same (reduced I).arcs place row _ lt, get_or-set_same x place z (pos 0) (omega (arith, lt, many))) at (after q other place lt) in
+        sign_kept q (row_at (reduced I).arcs place) row (number_at x place) z (rw before tail) (rw before head) (kept tight) (bounds_at (reduced I).arcs x certified.bounds place lt) there
 
     keeps : (q : ℕ → ℤ) → IsCertifiedFlow (reduced (with_row I (k - 1) row)) (slice_set x place z) q → (j : ℕ) → j < length (reduced I).arcs → reduced_cost p (row_at (reduced I).arcs j) ≡ pos 0 → FollowsSign q (row_at (reduced I).arcs j) (number_at x j)
     keeps q other j lt tight = elim (cases_eq j place) [
-      | inl here ↦ subst (λ (i : ℕ). FollowsSign q (row_at (reduced I).arcs i) (number_at x i)) (sym here)
-          (keeps_here q other (subst (λ (i : ℕ). i < length (reduced I).arcs) here lt) (subst (λ (i : ℕ). reduced_cost p (row_at (reduced I).arcs i) ≡ pos 0) here tight))
-      | inr elsewhere ↦ subst (λ (a : ArcRow). FollowsSign q a (number_at x j)) (get_or-set_other (reduced I).arcs place j row _ elsewhere)
-          (subst (λ (y : ℤ). FollowsSign q (row_at (slice_set (reduced I).arcs place row) j) y) (get_or-set_other x place j z (pos 0) elsewhere) (after q other j lt))
+      | inl here ↦ rw here (keeps_here q other (rw here at lt) (rw here at tight))
+      | inr elsewhere ↦ rw (get_or-set_other (reduced I).arcs place j row _ elsewhere, get_or-set_other x place j z (pos 0) elsewhere) at (after q other j lt)
     ]
 
 -- where an arc is more, whatever its flow
@@ -193,20 +146,14 @@ greatest_more I row p x z certified greatest = record {
   where
     keeps : (q : ℕ → ℤ) → IsCertifiedFlow (reduced (with_last I row)) (x ++ z ∷ []) q → (j : ℕ) → j < length (reduced I).arcs → reduced_cost p (row_at (reduced I).arcs j) ≡ pos 0 → FollowsSign q (row_at (reduced I).arcs j) (number_at x j)
     keeps q other j lt tight =
-        let signs = subst (λ (arcs : List ArcRow). AllZip (FollowsSign q) arcs (x ++ z ∷ [])) (sym (rows_more I row)) other.signs in
-        let many = length-append (reduced I).arcs (row ∷ []) in
-        let there = signs_at q ((reduced I).arcs ++ row ∷ []) (x ++ z ∷ []) signs j (omega (arith, lt, many)) in
-        subst (λ (a : ArcRow). FollowsSign q a (number_at x j)) (get_or_append_left (reduced I).arcs (row ∷ []) _ j lt)
-        (subst (λ (y : ℤ). FollowsSign q (row_at ((reduced I).arcs ++ row ∷ []) j) y) (get_or_append_left x (z ∷ []) (pos 0) j (omega (arith, lt, bounds_length (reduced I).arcs x certified.bounds))) there)
+        let many = bounds_length (reduced I).arcs x certified.bounds in
+        let there = signs_at q ((reduced I).arcs ++ row ∷ []) (x ++ z ∷ []) (rw (rows_more I row) other.signs) j (omega (arith, lt, length-append (reduced I).arcs (row ∷ []))) in
+        rw (get_or_append_left (reduced I).arcs (row ∷ []) _ j lt, get_or_append_left x (z ∷ []) (pos 0) j (omega (arith, lt, many))) at there
 
 -- and where a supply changed, which certifying potentials do not see
 pub greatest_supplied : (I : Instance) (v : ℕ) (value : ℤ) (p : ℕ → ℤ) (x : List ℤ) → AreGreatestPotentials (reduced I) x p → AreGreatestPotentials (reduced (supplied I v value)) x p
 greatest_supplied I v value p x greatest = record {
-  none_above = λ q other. greatest.none_above q (record {
-    bounds = subst (λ (arcs : List ArcRow). AllWithinBounds arcs x) (rows_kept I v value) other.bounds;
-    signs = subst (λ (arcs : List ArcRow). AllZip (FollowsSign q) arcs x) (rows_kept I v value) other.signs;
-    range = other.range;
-  });
+  none_above = λ q other. greatest.none_above q (record { bounds = rw (rows_kept I v value) at other.bounds; signs = rw (rows_kept I v value) at other.signs; range = other.range });
 }
 
 -- ---- an arc of the instance
@@ -219,7 +166,7 @@ arc_there arcs (suc i) at = (row_at arcs i, slice_get-get_or arcs i _ (omega (ar
 module _ (I : Instance) (k : ℕ) (row : ArcRow) (at : (1 ≤ k) × (k ≤ length I.arcs)) (there : arc_at I.arcs k ≡ Some row) where
   -- it is lawful
   pub arc_lawful : IsLawful I → IsLawfulRow I.nodes row
-  arc_lawful lawful = (subst (λ (a : ArcRow). IsLawfulRow I.nodes a × ArcFits I.demand a) (row_there I.arcs k row row there) (lawful.arcs (k - 1) row (omega (arith, at.0, at.1)))).0
+  arc_lawful lawful = (rw (row_there I.arcs k row row there) at (lawful.arcs (k - 1) row (omega (arith, at.0, at.1)))).0
 
   -- and is the one at its place
   pub arc_placed : row_at (reduced I).arcs (flow_index I.demand k) ≡ row
@@ -231,18 +178,4 @@ module _ (I : Instance) (k : ℕ) (row : ArcRow) (at : (1 ≤ k) × (k ≤ lengt
 pub tables_told : (g : Graph) (flow : TrackedView ℤ) (potentials : Potentials) (balance : Balance) (cut : TrackedView Bool) (scratch : ScratchView) (before : Before) (greatest : Bool) →
     AreTables g flow potentials balance cut scratch before → AreAsTold g.net flow.entries (record potentials { greatest = greatest }) →
     AreTables g flow (record potentials { greatest = greatest }) balance cut scratch before
-tables_told g flow potentials balance cut scratch before greatest t told = record {
-  graph = t.graph;
-  flow_in = t.flow_in;
-  flow_whole = t.flow_whole;
-  flow_fits = t.flow_fits;
-  potentials_in = t.potentials_in;
-  idle = t.idle;
-  kept_idle = t.kept_idle;
-  balance_is = t.balance_is;
-  cut_in = t.cut_in;
-  scratch_in = t.scratch_in;
-  told = told;
-  log_fits = t.log_fits;
-  before_is = t.before_is;
-}
+tables_told g flow potentials balance cut scratch before greatest t told = record { fit = t.fit; balance_is = t.balance_is; told = told; log_fits = t.log_fits; before_is = t.before_is }

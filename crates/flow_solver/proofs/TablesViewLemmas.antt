@@ -1,21 +1,16 @@
 -- What the tables of a solver keep where entries are written, and what was kept of them.
-use Rattle.std.proofs.Common.{◌≡◌, ℕ, ◌+◌, ℤ, Bool, false, List, [], ◌∷◌, length, drop, refl, sym, ap, subst, ◌∙◌, arith, Option, None, Some}
+use Rattle.std.proofs.Common.{◌≡◌, ℕ, ◌+◌, ℤ, Bool, List, [], ◌∷◌, length, drop, refl, sym, ap, ◌∙◌, arith, Option, None, Some}
 use Rattle.std.specs.Prelude.{IfSome}
 use Rattle.std.proofs.lemmas.List.{length-drop}
 use Rattle.dimacs_text.specs.declared.problem.ArcRow.{ArcRow}
-use Rattle.network.specs.Instance.{Demand, Supplies, Terminals, Sides, Instance, numbered_flow, reduced, with_supply}
-use Rattle.flow_solver.specs.declared.balance.Balance.{Balance}
+use Rattle.network.specs.Instance.{Demand, Terminals, Instance, numbered_flow, with_supply}
 use Rattle.residual_graph.specs.declared.graph.Graph.{Graph}
-use Rattle.flow_solver.specs.declared.part.Before.{Before}
 use Rattle.flow_solver.specs.declared.part.Part.{Part}
-use Rattle.flow_solver.specs.declared.part.Part.TheVariants.{Arc, Supply, Last, Gone}
+use Rattle.flow_solver.specs.declared.part.Part.TheVariants.{Supply}
 use Rattle.flow_solver.specs.declared.verdict.Verdict.{Verdict}
-use Rattle.flow_solver.specs.Potentials.{AreAsTold}
-use Rattle.flow_solver.specs.declared.potentials.Potentials.{Potentials}
-use Rattle.flow_solver.specs.Balance.{IsBalanceOf}
 use Rattle.augmentation.specs.Touched.{NameChanges}
 use Rattle.flow_solver.specs.Moment.{IsSized, Snapshot, Moment, kept_of}
-use Rattle.flow_solver.specs.Tables.{AreTables, IsOfNodes}
+use Rattle.flow_solver.specs.Tables.{FitGraph, IsOfNodes}
 use Rattle.residual_graph.specs.Graph.{IsGraph}
 use Rattle.augmentation.specs.Nodes.{IsIdleEntry}
 use Rattle.flow_solver.specs.Part.{before_all, before_of, return_count}
@@ -31,120 +26,71 @@ module _ {T : Type 0} where
     kept_in = ap (λ (xs : List T). length xs) written.kept ∙ of.kept_in;
   }
 
-  -- a `Tracked` table of nodes is one still where its entries and its snapshot are as many
-  pub nodes_alike : (nodes : ℕ) (m : TrackedView T) (entries kept : List T) → m.entries ≡ entries → m.kept ≡ kept → length entries ≡ nodes + 1 → length kept ≡ nodes + 1 → IsOfNodes nodes m
-  nodes_alike nodes m entries kept entries_are kept_is many as_many = record {
-    entries_in = ap (λ (xs : List T). length xs) entries_are ∙ many;
-    kept_in = ap (λ (xs : List T). length xs) kept_is ∙ as_many;
-  }
-
--- the tables of an instance stay tables where they are written, and fit an instance of as many arcs and nodes
-pub tables_written : (g h : Graph) (flow flow' : TrackedView ℤ) (potentials potentials' : Potentials) (balance balance' : Balance) (cut cut' : TrackedView Bool) (scratch scratch' : ScratchView) (before : Before) →
-    AreTables g flow potentials balance cut scratch before → h.net.nodes ≡ g.net.nodes → h.net.room ≡ g.net.room → IsGraph h → length h.rows ≡ length g.rows →
-    IsWritten flow flow' → IsWritten potentials.table potentials'.table → IsIdleEntry potentials'.table.entries → IsBalanceOf h.net h.rows flow' balance' → IsWritten cut cut' → length scratch'.potentials ≡ h.net.nodes + 1 → AreAsTold h.net flow'.entries potentials' →
-    AreTables h flow' potentials' balance' cut' scratch' (record before { verdict = None })
-tables_written g h flow flow' potentials potentials' balance balance' cut cut' scratch scratch' before t nodes room_is graph many flow_written potentials_written idle balance_is cut_written scratch_in told = record {
-  graph = graph;
-  flow_in = flow_written.same_length ∙ t.flow_in ∙ sym many;
-  flow_whole = ap (λ (xs : List ℤ). length xs) flow_written.whole ∙ t.flow_whole ∙ sym many;
-  flow_fits = omega (arith, t.flow_fits, room_is, flow_written.same_room);
-  potentials_in = subst (λ (n : ℕ). IsOfNodes n potentials'.table) (sym nodes) (nodes_written g.net.nodes potentials.table potentials'.table t.potentials_in potentials_written);
-  idle = idle;
-  kept_idle = subst IsIdleEntry (sym potentials_written.kept) t.kept_idle;
-  balance_is = balance_is;
-  cut_in = subst (λ (n : ℕ). IsOfNodes n cut') (sym nodes) (nodes_written g.net.nodes cut cut' t.cut_in cut_written);
-  scratch_in = scratch_in;
-  told = told;
-  log_fits = t.log_fits;
-  before_is = tt;
-}
-
--- so their moment has its sizes
-pub sized_written : (g h : Graph) (flow flow' : TrackedView ℤ) (potentials potentials' : Potentials) (balance : Balance) (cut cut' : TrackedView Bool) (scratch : ScratchView) (before : Before) (verdict : Verdict) →
-    AreTables g flow potentials balance cut scratch before → h.net.nodes ≡ g.net.nodes → AreRowsOf h.net h.rows → length h.rows ≡ length g.rows →
-    IsWritten flow flow' → IsWritten potentials.table potentials'.table → IsWritten cut cut' →
-    IsSized (record { instance = h.net; flow = flow'.entries; potentials = drop 1 potentials'.table.entries; verdict = verdict; cut = drop 1 cut'.entries })
-sized_written g h flow flow' potentials potentials' balance cut cut' scratch before verdict t nodes of many flow_written potentials_written cut_written = record {
-  lawful = of.lawful;
-  one_flow = flow_written.same_length ∙ t.flow_in ∙ sym many ∙ ap (λ (xs : List ArcRow). length xs) of.rows_are;
-  one_potential = omega (arith, length-drop 1 potentials'.table.entries, potentials_written.same_length, t.potentials_in.entries_in, nodes);
-  one_mark = omega (arith, length-drop 1 cut'.entries, cut_written.same_length, t.cut_in.entries_in, nodes);
-}
-
--- the tables stay tables where the arcs become others, with as many flows, and nothing is told of the potentials
-pub tables_with_arcs : (g h : Graph) (flow flow' : TrackedView ℤ) (potentials : Potentials) (balance balance' : Balance) (cut : TrackedView Bool) (scratch : ScratchView) (before : Before) →
-    AreTables g flow potentials balance cut scratch before → h.net.nodes ≡ g.net.nodes → h.net.room ≡ g.net.room → IsGraph h →
-    length flow'.entries ≡ length h.rows → length flow'.whole ≡ length h.rows → flow'.room ≡ flow.room → IsBalanceOf h.net h.rows flow' balance' →
-    AreTables h flow' (record potentials { greatest = false }) balance' cut scratch (record before { verdict = None })
-tables_with_arcs g h flow flow' potentials balance balance' cut scratch before t nodes room_is graph flow_in flow_whole same_room balance_is = record {
+-- the tables fit a graph of as many nodes still, where there are as many flows as its rows and the others are written
+pub fit_again : (g h : Graph) (flow flow' : TrackedView ℤ) (p p' : TrackedView ℤ) (cut cut' : TrackedView Bool) (scratch scratch' : ScratchView) →
+    FitGraph g flow p cut scratch → h.net.nodes ≡ g.net.nodes → h.net.room ≡ g.net.room → IsGraph h → length flow'.entries ≡ length h.rows → length flow'.whole ≡ length h.rows → flow'.room ≡ flow.room →
+    IsWritten p p' → IsIdleEntry p'.entries → IsWritten cut cut' → length scratch'.potentials ≡ g.net.nodes + 1 → FitGraph h flow' p' cut' scratch'
+fit_again g h flow flow' p p' cut cut' scratch scratch' t nodes room_is graph flow_in flow_whole same_room p_written idle cut_written scratch_in = record {
   graph = graph;
   flow_in = flow_in;
   flow_whole = flow_whole;
   flow_fits = omega (arith, t.flow_fits, room_is, same_room);
-  potentials_in = subst (λ (n : ℕ). IsOfNodes n potentials.table) (sym nodes) t.potentials_in;
-  idle = t.idle;
-  kept_idle = t.kept_idle;
-  balance_is = balance_is;
-  cut_in = subst (λ (n : ℕ). IsOfNodes n cut) (sym nodes) t.cut_in;
-  scratch_in = t.scratch_in ∙ ap (λ (n : ℕ). n + 1) (sym nodes);
-  told = λ none. cc;
-  log_fits = t.log_fits;
-  before_is = tt;
+  potentials_in = rw nodes (nodes_written g.net.nodes p p' t.potentials_in p_written);
+  idle = idle;
+  kept_idle = rw p_written.kept t.kept_idle;
+  cut_in = rw nodes (nodes_written g.net.nodes cut cut' t.cut_in cut_written);
+  scratch_in = rw nodes scratch_in;
+}
+
+-- the same where the flow is written, and the graph has as many rows
+pub fit_written : (g h : Graph) (flow flow' : TrackedView ℤ) (p p' : TrackedView ℤ) (cut cut' : TrackedView Bool) (scratch scratch' : ScratchView) →
+    FitGraph g flow p cut scratch → h.net.nodes ≡ g.net.nodes → h.net.room ≡ g.net.room → IsGraph h → length h.rows ≡ length g.rows → IsWritten flow flow' →
+    IsWritten p p' → IsIdleEntry p'.entries → IsWritten cut cut' → length scratch'.potentials ≡ g.net.nodes + 1 → FitGraph h flow' p' cut' scratch'
+fit_written g h flow flow' p p' cut cut' scratch scratch' t nodes room_is graph many written =
+    fit_again g h flow flow' p p' cut cut' scratch scratch' t nodes room_is graph (written.same_length ∙ t.flow_in ∙ sym many) (rw written.whole (t.flow_whole ∙ sym many)) written.same_room
+
+-- so their moment has its sizes
+pub sized_written : (g h : Graph) (flow flow' : TrackedView ℤ) (p p' : TrackedView ℤ) (cut cut' : TrackedView Bool) (scratch : ScratchView) (verdict : Verdict) →
+    FitGraph g flow p cut scratch → h.net.nodes ≡ g.net.nodes → AreRowsOf h.net h.rows → length h.rows ≡ length g.rows →
+    IsWritten flow flow' → IsWritten p p' → IsWritten cut cut' →
+    IsSized (record { instance = h.net; flow = flow'.entries; potentials = drop 1 p'.entries; verdict = verdict; cut = drop 1 cut'.entries })
+sized_written g h flow flow' p p' cut cut' scratch verdict t nodes of many flow_written p_written cut_written = record {
+  lawful = of.lawful;
+  one_flow = flow_written.same_length ∙ t.flow_in ∙ sym many ∙ ap (λ (xs : List ArcRow). length xs) of.rows_are;
+  one_potential = omega (arith, length-drop 1 p'.entries, p_written.same_length, t.potentials_in.entries_in, nodes);
+  one_mark = omega (arith, length-drop 1 cut'.entries, cut_written.same_length, t.cut_in.entries_in, nodes);
 }
 
 -- places that name what is changed of a flow name what is changed of the numbered arcs
-pub named_numbered : (D : Demand) (places : List ℕ) (xs ys : List ℤ) → NameChanges 0 places xs ys → NameChanges (return_count D) places (numbered_flow D xs) (numbered_flow D ys)
-named_numbered (Supplies supplies) places xs ys named = named
+named_numbered : (D : Demand) (places : List ℕ) (xs ys : List ℤ) → NameChanges 0 places xs ys → NameChanges (return_count D) places (numbered_flow D xs) (numbered_flow D ys)
 named_numbered (Terminals source sink) places xs ys named = named_after_first places xs ys named
-named_numbered (Sides marks) places xs ys named = named
+named_numbered _ places xs ys named = named
 
--- the numbered arcs of a flow, and how many come before them, are the same before a change
-pub numbered_before : (log : List Part) (I : Instance) (xs : List ℤ) → numbered_flow (before_all log I).demand xs ≡ numbered_flow I.demand xs
-numbered_before [] I xs = refl
-numbered_before (Arc k row ∷ log) I xs = numbered_before log I xs
-numbered_before (Supply v value ∷ log) I xs = of (before_all log I).demand ∙ numbered_before log I xs
-  where
-    of : (D : Demand) → numbered_flow (with_supply D v value) xs ≡ numbered_flow D xs
-    of (Supplies supplies) = refl
-    of (Terminals source sink) = refl
-    of (Sides marks) = refl
-numbered_before (Last ∷ log) I xs = numbered_before log I xs
-numbered_before (Gone row flow ∷ log) I xs = numbered_before log I xs
+pub numbered_is : (D : Demand) (xs : List ℤ) → drop (return_count D) xs ≡ numbered_flow D xs
+numbered_is D xs = grind arith
 
+same_count : (D : Demand) (v : ℕ) (value : ℤ) → return_count (with_supply D v value) ≡ return_count D
+same_count D v value = grind arith
+
+-- how many rows come before the numbered arcs, and their flows, are the same before a change
 pub return_count_before : (log : List Part) (I : Instance) → return_count (before_all log I).demand ≡ return_count I.demand
 return_count_before [] I = refl
-return_count_before (Arc k row ∷ log) I = return_count_before log I
-return_count_before (Supply v value ∷ log) I = of (before_all log I).demand ∙ return_count_before log I
-  where
-    of : (D : Demand) → return_count (with_supply D v value) ≡ return_count D
-    of (Supplies supplies) = refl
-    of (Terminals source sink) = refl
-    of (Sides marks) = refl
-return_count_before (Last ∷ log) I = return_count_before log I
-return_count_before (Gone row flow ∷ log) I = return_count_before log I
+return_count_before (Supply v value ∷ log) I = same_count (before_all log I).demand v value ∙ return_count_before log I
+return_count_before (_ ∷ log) I = return_count_before log I
 
--- the same where the first flow is of the instance before a change
+pub numbered_before : (log : List Part) (I : Instance) (xs : List ℤ) → numbered_flow (before_all log I).demand xs ≡ drop (return_count I.demand) xs
+numbered_before log I xs = sym (numbered_is (before_all log I).demand xs) ∙ ap (λ (n : ℕ). drop n xs) (return_count_before log I)
+
+-- places that name what is changed since the flow before a change
 pub named_before : (log : List Part) (I : Instance) (places : List ℕ) (xs ys : List ℤ) → NameChanges 0 places xs ys → NameChanges (return_count (before_all log I).demand) places (numbered_flow (before_all log I).demand xs) (numbered_flow I.demand ys)
 named_before log I places xs ys named =
-    subst (λ (n : ℕ). NameChanges n places (numbered_flow (before_all log I).demand xs) (numbered_flow I.demand ys)) (sym (return_count_before log I))
-    (subst (λ (zs : List ℤ). NameChanges (return_count I.demand) places zs (numbered_flow I.demand ys)) (sym (numbered_before log I xs)) (named_numbered I.demand places xs ys named))
+    rw (return_count_before log I, numbered_before log I xs ∙ numbered_is I.demand xs) (named_numbered I.demand places xs ys named)
 
--- the places name what is changed since the moment before, where there is one
-pub named_since : (before : Option Verdict) (I : Instance) (kept : Snapshot) (places : List ℕ) (ys : List ℤ) → NameChanges 0 places kept.flow ys → IfSome (before_of before I kept) (λ old. NameChanges (return_count old.instance.demand) places (numbered_flow old.instance.demand old.flow) (numbered_flow I.demand ys))
-named_since None I kept places ys named = tt
-named_since (Some told) I kept places ys named = named_before kept.log I places kept.flow ys named
+-- what holds of what was kept, with any verdict, holds of the moment before, where there is one
+pub since : (told : Option Verdict) (I : Instance) (kept : Snapshot) (P : Moment → Type 0) → ((verdict : Verdict) → P (record { instance = before_all kept.log I; flow = kept.flow; potentials = kept.potentials; verdict = verdict; cut = kept.cut })) → IfSome (before_of told I kept) P
+since None I kept P is = tt
+since (Some verdict) I kept P is = is verdict
 
 -- what is kept of a moment, with its instance and verdict, is that moment
 pub moment_kept : (I : Instance) (kept : Snapshot) (verdict : Verdict) (m : Moment) → I ≡ m.instance → kept ≡ record (kept_of m) { log = kept.log } → verdict ≡ m.verdict → record { instance = I; flow = kept.flow; potentials = kept.potentials; verdict = verdict; cut = kept.cut } ≡ m
-moment_kept I kept verdict m one two three =
-    ap (λ (J : Instance). record { instance = J; flow = kept.flow; potentials = kept.potentials; verdict = verdict; cut = kept.cut }) one
-    ∙ ap (λ (k : Snapshot). record { instance = m.instance; flow = k.flow; potentials = k.potentials; verdict = verdict; cut = k.cut }) two
-    ∙ ap (λ (v : Verdict). record { instance = m.instance; flow = m.flow; potentials = m.potentials; verdict = v; cut = m.cut }) three
-
-pub potentials_since : (before : Option Verdict) (I : Instance) (kept : Snapshot) (places : List ℕ) (ys : List ℤ) → NameChanges 1 places kept.potentials ys → IfSome (before_of before I kept) (λ old. NameChanges 1 places old.potentials ys)
-potentials_since None I kept places ys named = tt
-potentials_since (Some told) I kept places ys named = named
-
-pub cut_since : (before : Option Verdict) (I : Instance) (kept : Snapshot) (places : List ℕ) (ys : List Bool) → NameChanges 1 places kept.cut ys → IfSome (before_of before I kept) (λ old. NameChanges 1 places old.cut ys)
-cut_since None I kept places ys named = tt
-cut_since (Some told) I kept places ys named = named
+moment_kept I kept verdict m one two three i = record { instance = one i; flow = (two i).flow; potentials = (two i).potentials; verdict = three i; cut = (two i).cut }

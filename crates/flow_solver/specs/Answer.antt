@@ -2,7 +2,7 @@
 use Rattle.std.specs.Prelude.{◌≡◌, ℕ, ◌<◌, ℤ, pos, ◌<ℤ◌, ◌≤ℤ◌, Bool, false, List}
 use Rattle.dimacs_text.specs.declared.problem.ArcRow.{ArcRow}
 use Rattle.network.specs.Flow.{MinCost, total_cost, surplus_of, IsCertifiedFlow, IsGreatestPotential, IsLeastGreatestSurplus, IsLeastGreatestShortfall}
-use Rattle.network.specs.Instance.{Demand, Supplies, Terminals, Sides, Instance, at_node, is_marked, numbered_flow, reduced, reduced_flow, worth, IsLegal, IsBest, IsBreach}
+use Rattle.network.specs.Instance.{Demand, Terminals, Instance, at_node, is_marked, numbered_flow, reduced, reduced_flow, worth, IsLegal, IsBest, IsBreach}
 use Rattle.flow_solver.specs.declared.verdict.Verdict.{Verdict}
 use Rattle.flow_solver.specs.declared.verdict.Verdict.TheVariants.{Best, Infeasible}
 use Rattle.flow_solver.specs.Moment.{IsSized, Moment}
@@ -49,9 +49,8 @@ pub record IsAnswered (m : Moment) : Type 0 where
 
 -- the worth of a flow of the reduced instance: its cost, or what the return arc carries
 abbrev pub worth_by : Demand → List ArcRow → List ℤ → ℤ
-worth_by (Supplies supplies) arcs flow = total_cost arcs flow
 worth_by (Terminals source sink) arcs flow = number_at flow 0
-worth_by (Sides marks) arcs flow = total_cost arcs flow
+worth_by _ arcs flow = total_cost arcs flow
 
 -- the verdict by what lies in excess and in deficit
 pub record IsJudged (worth : ℤ) (e : List ℤ) (verdict : Verdict) : Type 0 where

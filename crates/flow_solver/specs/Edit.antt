@@ -1,19 +1,18 @@
 -- What an edit leaves: a change of one arc or of one supply, or an arc added.
-use Rattle.std.specs.Prelude.{◌≡◌, ℕ, ◌-◌, ◌<◌, ◌≤◌, Ok, Some, slice_index_or, ℤ, pos, ◌-ℤ◌, ◌+ℤ◌, ◌<ℤ◌, ◌≤ℤ◌, unsigned_abs, List, [], ◌∷◌, ◌++◌, length, slice_set}
+use Rattle.std.specs.Prelude.{◌≡◌, ℕ, ◌-◌, ◌<◌, ◌≤◌, Ok, IsOk, Some, slice_index_or, ℤ, pos, ◌-ℤ◌, ◌+ℤ◌, ◌<ℤ◌, ◌≤ℤ◌, unsigned_abs, List, [], ◌∷◌, ◌++◌, length, slice_set}
 use Rattle.dimacs_text.specs.declared.problem.ArcRow.{ArcRow}
 use Rattle.network.specs.Flow.{FollowsSign, IsCertifiedFlow, IsPotential, reduced_cost, total_excess}
 use Rattle.network.specs.Instance.{Instance, ArcFits, arc_at, at_node, kind_of, reduced, with_supply}
-use Rattle.network.specs.Edited.{edited, units, units_all}
+use Rattle.network.specs.Edited.{arc_of, edited, units, units_all}
 use Rattle.dimacs_text.specs.Lawful.{IsLawfulRow, IsNode, IsWithin}
 use Rattle.dimacs_text.specs.declared.problem.TheConstants.{SUPPLY_LIMIT}
 use Rattle.dimacs_text.specs.declared.problem.Kind.TheVariants.{Min}
 use Rattle.dimacs_text.specs.declared.command.Edit.{Edit}
 use Rattle.dimacs_text.specs.declared.command.Edit.TheVariants.{Cap, Low, Cost, Supply, Add, Close}
-use Rattle.residual_graph.specs.Residual.{number_at, room_of, row_at, IsWithinRow}
-use Rattle.residual_graph.specs.declared.residual.Way.{Way}
+use Rattle.residual_graph.specs.Residual.{number_at, row_at, IsWithinRow}
 use Rattle.augmentation.specs.Push.{Pushes}
 use Rattle.flow_solver.specs.Moment.{Moment}
-use Rattle.flow_solver.specs.TablesView.{flow_index}
+use Rattle.flow_solver.specs.TablesView.{TablesView, flow_index}
 
 -- z is the flow nearest to x that the bounds of the arc and the sign of its reduced cost allow
 pub record IsNearest (a : ArcRow) (reduced x z : ℤ) : Type 0 where
@@ -24,10 +23,11 @@ pub record IsNearest (a : ArcRow) (reduced x z : ℤ) : Type 0 where
   pub raised : reduced ≡ pos 0 → x <ℤ a.low → z ≡ a.low
   pub cut_off : reduced ≡ pos 0 → a.cap <ℤ x → z ≡ a.cap
 
--- an arc a of flow x keeps its residual arcs as the arc b of flow y: it costs the same, and a way with room has room still
+-- an arc a of flow x keeps its residual arcs as the arc b of flow y: it costs the same, and has room still up to each bound up to which it had
 pub record KeepsResidualArcs (a : ArcRow) (x : ℤ) (b : ArcRow) (y : ℤ) : Type 0 where
   pub same_cost : b.cost ≡ a.cost
-  pub has_room : (way : Way) → pos 0 <ℤ room_of a x way → pos 0 <ℤ room_of b y way
+  pub ahead : x <ℤ a.cap → y <ℤ b.cap
+  pub behind : a.low <ℤ x → b.low <ℤ y
 
 -- in the instance J the flow of arc k goes to the nearest value that its row and the potentials allow, and no other flow is altered
 pub record GoesToNearest (J : Instance) (k : ℕ) (potential : ℕ → ℤ) (x start : List ℤ) : Type 0 where
@@ -45,13 +45,10 @@ pub record BeginsNearest (row : ArcRow) (potential : ℕ → ℤ) (x start : Lis
 
 -- what an edit that gave the instance J alters in a flow x: that of its arc, which goes to the nearest value
 abbrev pub IsAltered : Instance → Edit → (ℕ → ℤ) → List ℤ → List ℤ → Type 0
-IsAltered J (Cap k cap) potential x start = GoesToNearest J k potential x start
-IsAltered J (Low k low) potential x start = GoesToNearest J k potential x start
-IsAltered J (Cost k cost) potential x start = GoesToNearest J k potential x start
 IsAltered J (Supply v value) potential x start = start ≡ x
 IsAltered J (Add tail head low cap cost) potential x start =
     BeginsNearest (record { tail = tail; head = head; low = low; cap = cap; cost = cost }) potential x start
-IsAltered J (Close k) potential x start = GoesToNearest J k potential x start
+IsAltered J edit potential x start = GoesToNearest J (arc_of edit) potential x start
 
 -- an edit of the instance I gave the instance J, and `start` of the flow x: what is left to send out grows by no more than the edit's units
 pub record IsMade (I J : Instance) (edit : Edit) (potential : ℕ → ℤ) (x start : List ℤ) : Type 0 where
@@ -84,12 +81,17 @@ pub record AreChanges (I J : Instance) (edits : List Edit) (potential : ℕ → 
 
 -- an edit that changes an arc
 abbrev pub IsOfArc : Edit → Type 0
-IsOfArc (Cap k cap) = Unit {0}
-IsOfArc (Low k low) = Unit {0}
-IsOfArc (Cost k cost) = Unit {0}
 IsOfArc (Supply v value) = ⊥
 IsOfArc (Add tail head low cap cost) = ⊥
-IsOfArc (Close k) = Unit {0}
+IsOfArc _ = Unit {0}
+
+-- what it makes of the arc
+abbrev pub row_after_edit : Edit → ArcRow → ArcRow
+row_after_edit (Cap k cap) row = record row { cap = cap }
+row_after_edit (Low k low) row = record row { low = low }
+row_after_edit (Cost k cost) row = record row { cost = cost }
+row_after_edit (Close k) row = record row { low = pos 0; cap = pos 0 }
+row_after_edit _ row = row
 
 -- the edit changes arc k of the instance into `row`, by which a flow that keeps the sign rule moves by no more than the edit's units
 pub record IsRowEdit (I : Instance) (edit : Edit) (k : ℕ) (row : ArcRow) : Type 0 where
@@ -119,20 +121,12 @@ pub record IsAddEdit (I : Instance) (edit : Edit) (row : ArcRow) : Type 0 where
   pub after : edited I edit ≡ Ok (record I { arcs = I.arcs ++ row ∷ [] })
 
 abbrev pub IsOfSupply : Edit → Type 0
-IsOfSupply (Cap k cap) = ⊥
-IsOfSupply (Low k low) = ⊥
-IsOfSupply (Cost k cost) = ⊥
 IsOfSupply (Supply v value) = Unit {0}
-IsOfSupply (Add tail head low cap cost) = ⊥
-IsOfSupply (Close k) = ⊥
+IsOfSupply _ = ⊥
 
 abbrev pub IsOfAdd : Edit → Type 0
-IsOfAdd (Cap k cap) = ⊥
-IsOfAdd (Low k low) = ⊥
-IsOfAdd (Cost k cost) = ⊥
-IsOfAdd (Supply v value) = ⊥
 IsOfAdd (Add tail head low cap cost) = Unit {0}
-IsOfAdd (Close k) = ⊥
+IsOfAdd _ = ⊥
 
 -- ---- the same of moments
 
@@ -148,6 +142,18 @@ HasPotentials m = (v : ℕ) → IsNode m.instance.nodes v → IsPotential (at_no
 abbrev pub Makes : Edit → Moment → Moment → Type 0
 Makes edit m n = IsMade m.instance n.instance edit (at_node m.potentials) m.flow n.flow
 
+-- an edit can be made where the instance accepts it and the potentials certify the flow
+pub record CanMake (edit : Edit) (m : Moment) : Type 0 where
+  pub certified : IsCertifiedMoment m
+  pub accepted : IsOk (edited m.instance edit)
+
+-- it was made in the tables: the same potentials certify what it made of the flow, and what is kept stays
+pub record IsMadeIn (edit : Edit) (old now : TablesView) : Type 0 where
+  pub made : Makes edit old.moment now.moment
+  pub certified : IsCertifiedMoment now.moment
+  pub potentials : now.moment.potentials ≡ old.moment.potentials
+  pub kept : now.kept ≡ old.kept
+
 abbrev pub MakeAll : List Edit → Moment → Moment → Type 0
 MakeAll edits m n = AreMade m.instance edits (at_node m.potentials) m.flow n.instance n.flow
 
@@ -160,3 +166,10 @@ arc_reduced m k = reduced_cost (at_node m.potentials) (arc_row m k)
 
 abbrev pub arc_flow : Moment → ℕ → ℤ
 arc_flow m k = number_at m.flow (flow_index m.instance.demand k)
+
+-- one edit, or several together, led from the first moment to the second by so many pushes
+abbrev pub ChangesTo : Edit → Moment → Moment → ℕ → Type 0
+ChangesTo edit m n pushes = IsChange m.instance n.instance edit (at_node m.potentials) m.flow n.flow pushes
+
+abbrev pub ChangeAllTo : List Edit → Moment → Moment → ℕ → Type 0
+ChangeAllTo edits m n pushes = AreChanges m.instance n.instance edits (at_node m.potentials) m.flow n.flow pushes

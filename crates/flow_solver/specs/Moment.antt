@@ -1,7 +1,7 @@
 -- What the tables of a solver hold of an instance.
 use Rattle.std.specs.Prelude.{◌≡◌, ℤ, pos, ◌≤ℤ◌, int_lt, ⊤, Bool, List, [], ◌∷◌, ◌++◌, length, map, replicate, if◌then◌else◌}
 use Rattle.dimacs_text.specs.declared.problem.ArcRow.{ArcRow}
-use Rattle.network.specs.Instance.{Demand, Supplies, Terminals, Sides, Instance, IsLawful, numbered_flow, reduced}
+use Rattle.network.specs.Instance.{Demand, Terminals, Instance, IsLawful, numbered_flow, reduced}
 use Rattle.network.specs.declared.TheConstants.{RETURN_CAP}
 use Rattle.flow_solver.specs.declared.part.Part.{Part}
 use Rattle.flow_solver.specs.declared.verdict.Verdict.{Verdict}
@@ -52,14 +52,12 @@ IsReturnVerdict (Infeasible d) = ⊥
 
 -- what may be told of an instance of this kind
 abbrev pub VerdictFits : Demand → Verdict → Type 0
-VerdictFits (Supplies supplies) verdict = ⊤
 VerdictFits (Terminals source sink) verdict = IsReturnVerdict verdict
-VerdictFits (Sides marks) verdict = ⊤
+VerdictFits _ verdict = ⊤
 
 abbrev pub ReturnMatchesBy : Demand → Verdict → List ℤ → Type 0
-ReturnMatchesBy (Supplies supplies) verdict flow = ⊤
 ReturnMatchesBy (Terminals source sink) verdict flow = verdict ≡ Best (number_at flow 0)
-ReturnMatchesBy (Sides marks) verdict flow = ⊤
+ReturnMatchesBy _ verdict flow = ⊤
 
 -- where there is a return arc, its flow is told as the worth
 abbrev pub ReturnMatches : Moment → Type 0
@@ -67,10 +65,8 @@ ReturnMatches m = ReturnMatchesBy m.instance.demand m.verdict m.flow
 
 -- what is told as the flow of the return arc, where there is one
 abbrev pub returned : Demand → Verdict → List ℤ
-returned (Supplies supplies) verdict = []
 returned (Terminals source sink) (Best w) = w ∷ []
-returned (Terminals source sink) (Infeasible d) = []
-returned (Sides marks) verdict = []
+returned _ verdict = []
 
 -- the flow once the return arc carries what is told
 abbrev pub with_return : Demand → Verdict → List ℤ → List ℤ

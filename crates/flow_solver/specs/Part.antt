@@ -5,7 +5,7 @@ use Rattle.dimacs_text.specs.declared.command.Edit.{Edit}
 use Rattle.dimacs_text.specs.declared.problem.TheConstants.{SUPPLY_LIMIT}
 use Rattle.dimacs_text.specs.declared.problem.Kind.TheVariants.{Min}
 use Rattle.network.specs.Edited.{edited}
-use Rattle.network.specs.Instance.{Demand, Supplies, Terminals, Sides, Instance, kind_of, reduced, with_supply}
+use Rattle.network.specs.Instance.{Demand, Terminals, Instance, kind_of, reduced, with_supply}
 use Rattle.flow_solver.specs.declared.part.Part.{Part}
 use Rattle.flow_solver.specs.declared.part.Part.TheVariants.{Arc, Supply, Last, Gone}
 use Rattle.flow_solver.specs.declared.verdict.Verdict.{Verdict}
@@ -64,6 +64,5 @@ IsKept (Some told) I kept = CanTakeBackAll kept.log I × (length kept.flow ≡ l
 
 -- how many rows stand before those of the numbered arcs
 abbrev pub return_count : Demand → ℕ
-return_count (Supplies supplies) = 0
 return_count (Terminals source sink) = 1
-return_count (Sides marks) = 0
+return_count _ = 0

@@ -4,6 +4,10 @@ use Rattle.network.specs.Instance.{Instance, at_node, reduced}
 use Rattle.flow_solver.specs.Answer.{AreGreatestPotentials}
 use Rattle.flow_solver.specs.declared.potentials.Potentials.{Potentials}
 
+-- the entries of a table behind the first are the greatest potentials of a flow
+abbrev pub AreGreatestIn : Instance → List ℤ → List ℤ → Type 0
+AreGreatestIn I x entries = AreGreatestPotentials (reduced I) x (at_node (drop 1 entries))
+
 -- potentials that are told to be the greatest of a flow are so
 abbrev pub AreAsTold : Instance → List ℤ → Potentials → Type 0
-AreAsTold I x p = p.greatest ≡ true → AreGreatestPotentials (reduced I) x (at_node (drop 1 p.table.entries))
+AreAsTold I x p = p.greatest ≡ true → AreGreatestIn I x p.table.entries

@@ -24,19 +24,23 @@ pub record IsOfNodes {T : Type 0} (nodes : ℕ) (l : TrackedView T) : Type 0 whe
 abbrev pub kept_by : TrackedView ℤ → TrackedView ℤ → TrackedView Bool → List Part → Snapshot
 kept_by flow potentials cut log = record { flow = flow.kept; potentials = drop 1 potentials.kept; cut = drop 1 cut.kept; log = log }
 
--- one entry for each row of the graph, one for each node and one for no node, room for all arcs that may be added, and room to log a group.
--- What is told of the potentials is true
-pub record AreTables (g : Graph) (flow : TrackedView ℤ) (potentials : Potentials) (balance : Balance) (cut : TrackedView Bool) (scratch : ScratchView) (before : Before) : Type 0 where
+-- one entry for each row of the graph, one for each node and one for no node, and room for all arcs that may be added
+pub record FitGraph (g : Graph) (flow : TrackedView ℤ) (potentials : TrackedView ℤ) (cut : TrackedView Bool) (scratch : ScratchView) : Type 0 where
   pub graph : IsGraph g
   pub flow_in : length flow.entries ≡ length g.rows
   pub flow_whole : length flow.whole ≡ length g.rows
   pub flow_fits : g.net.room + 1 ≤ flow.room
-  pub potentials_in : IsOfNodes g.net.nodes potentials.table
-  pub idle : IsIdleEntry potentials.table.entries
-  pub kept_idle : IsIdleEntry potentials.table.kept
-  pub balance_is : IsBalanceOf g.net g.rows flow balance
+  pub potentials_in : IsOfNodes g.net.nodes potentials
+  pub idle : IsIdleEntry potentials.entries
+  pub kept_idle : IsIdleEntry potentials.kept
   pub cut_in : IsOfNodes g.net.nodes cut
   pub scratch_in : length scratch.potentials ≡ g.net.nodes + 1
+
+-- the tables fit the graph, and there is room to log a group. What is told of the potentials is true
+pub record AreTables (g : Graph) (flow : TrackedView ℤ) (potentials : Potentials) (balance : Balance) (cut : TrackedView Bool) (scratch : ScratchView) (before : Before) : Type 0 where
+  pub fit : FitGraph g flow potentials.table cut scratch
+  pub open fit use *
+  pub balance_is : IsBalanceOf g.net g.rows flow balance
   pub told : AreAsTold g.net flow.entries potentials
   pub log_fits : GROUP_LIMIT ≤ vec_capacity before.log
   pub before_is : IsKept before.verdict g.net (kept_by flow potentials.table cut before.log.items)

@@ -3,7 +3,7 @@ use Rattle.std.specs.Prelude.{◌≡◌, ℕ, ◌-◌, ◌≤◌, ℤ, pos, ◌�
 use Rattle.dimacs_text.specs.declared.problem.ArcRow.{ArcRow}
 use Rattle.dimacs_text.specs.declared.problem.TheConstants.{CAP_LIMIT}
 use Rattle.dimacs_text.specs.Lawful.{IsLawfulRow}
-use Rattle.network.specs.Instance.{Demand, Supplies, Terminals, Sides, Instance, ArcFits}
+use Rattle.network.specs.Instance.{Demand, Supplies, Terminals, Instance, ArcFits}
 use Rattle.flow_solver.specs.Moment.{Snapshot, Moment}
 
 pub record TablesView : Type 0 where
@@ -27,11 +27,9 @@ HasEnds arcs k row =
 
 -- where the flow of arc k stands in a flow of the reduced instance, in which the return arc comes first
 abbrev pub flow_index : Demand → ℕ → ℕ
-flow_index (Supplies supplies) k = k - 1
 flow_index (Terminals source sink) k = k
-flow_index (Sides marks) k = k - 1
+flow_index _ k = k - 1
 
 abbrev pub supplies_in : Demand → List ℤ
 supplies_in (Supplies supplies) = supplies
-supplies_in (Terminals source sink) = []
-supplies_in (Sides marks) = []
+supplies_in _ = []

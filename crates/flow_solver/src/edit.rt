@@ -1,12 +1,12 @@
 //! What an accepted edit asks for, and the flow nearest to one.
 
-ghost use Rattle.std.specs.Prelude.{◌≡◌, ℕ, pos, ◌≤ℤ◌, length, IsOk, Some};
+ghost use Rattle.std.specs.Prelude.{◌≡◌, ℕ, ◌≤ℤ◌, length, IsOk, Some};
 ghost use Rattle.dimacs_text.specs.Lawful.{IsLawfulRow, IsNode};
 ghost use Rattle.dimacs_text.specs.declared.problem.ArcRow.{ArcRow};
-ghost use Rattle.network.specs.Edited.{edited};
+ghost use Rattle.network.specs.Edited.{arc_of, edited};
 ghost use Rattle.network.specs.Flow.{IsPotential, reduced_cost};
 ghost use Rattle.network.specs.Instance.{IsLawful, arc_at, at_node};
-ghost use Rattle.flow_solver.specs.Edit.{IsNearest, IsAddEdit, IsOfAdd, IsOfArc, IsOfSupply, IsSupplyEdit, IsRowEdit};
+ghost use Rattle.flow_solver.specs.Edit.{row_after_edit, IsNearest, IsAddEdit, IsOfAdd, IsOfArc, IsOfSupply, IsSupplyEdit, IsRowEdit};
 
 use dimacs_text::{ArcRow, Edit};
 use network::{Network, edits_keep_lawful};
@@ -46,35 +46,33 @@ pub fn arc_of(net: &Network, k: u64) -> ArcRow
     row
 }
 
-/// An arc with another capacity.
-fn with_cap(row: ArcRow, cap: i64) -> ArcRow
-    ensures { result ≡ record row { cap = cap } }
+/// The number of the arc that an edit names, or 0 where it names none.
+fn arc_number(edit: &Edit) -> u64
+    ensures { result ≡ arc_of edit.now }
 {
-    ArcRow { cap, ..row }
+    match *edit {
+        Edit::Cap { arc, .. } => arc,
+        Edit::Low { arc, .. } => arc,
+        Edit::Cost { arc, .. } => arc,
+        Edit::Close { arc } => arc,
+        _ => 0,
+    }
 }
 
-/// An arc with another lower bound.
-fn with_low(row: ArcRow, low: i64) -> ArcRow
-    ensures { result ≡ record row { low = low } }
+/// What an edit makes of the arc that it names.
+fn row_after_edit(row: ArcRow, edit: &Edit) -> ArcRow
+    ensures { result ≡ row_after_edit edit.now row }
 {
-    ArcRow { low, ..row }
-}
-
-/// An arc with another cost.
-fn with_cost(row: ArcRow, cost: i64) -> ArcRow
-    ensures { result ≡ record row { cost = cost } }
-{
-    ArcRow { cost, ..row }
-}
-
-/// An arc that carries no flow.
-fn closed(row: ArcRow) -> ArcRow
-    ensures { result ≡ record row { low = pos 0; cap = pos 0 } }
-{
-    ArcRow {
-        low: 0,
-        cap: 0,
-        ..row
+    match *edit {
+        Edit::Cap { cap, .. } => ArcRow { cap, ..row },
+        Edit::Low { low, .. } => ArcRow { low, ..row },
+        Edit::Cost { cost, .. } => ArcRow { cost, ..row },
+        Edit::Close { .. } => ArcRow {
+            low: 0,
+            cap: 0,
+            ..row
+        },
+        _ => row,
     }
 }
 
@@ -86,25 +84,8 @@ pub fn edited_row(net: &Network, edit: &Edit) -> (u32, ArcRow)
     ensures { IsRowEdit net.now edit.now result.0 result.1 }
 {
     edits_keep_lawful();
-    match *edit {
-        Edit::Cap { arc, cap } => {
-            let old = arc_of(net, arc);
-            (arc as u32, with_cap(old, cap))
-        }
-        Edit::Low { arc, low } => {
-            let old = arc_of(net, arc);
-            (arc as u32, with_low(old, low))
-        }
-        Edit::Cost { arc, cost } => {
-            let old = arc_of(net, arc);
-            (arc as u32, with_cost(old, cost))
-        }
-        Edit::Close { arc } => {
-            let old = arc_of(net, arc);
-            (arc as u32, closed(old))
-        }
-        _ => unreachable!(),
-    }
+    let k = arc_number(edit);
+    (k as u32, row_after_edit(arc_of(net, k), edit))
 }
 
 /// The node whose supply an accepted edit changes, and its new supply.

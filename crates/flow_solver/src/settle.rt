@@ -1,12 +1,10 @@
 //! A best flow, or the cut that tells why there is none, with the greatest potentials that certify it.
 
-ghost use Rattle.std.specs.Prelude.{◌≡◌, ℕ, ℤ, length, drop, ◌≤◌, ◌+◌};
+ghost use Rattle.std.specs.Prelude.{◌≡◌, ℕ, ℤ, length};
 ghost use Rattle.augmentation.specs.Pseudoflow.{IsReady};
-ghost use Rattle.augmentation.specs.Push.{ArePushes, IsExcess, Pushes, left};
+ghost use Rattle.augmentation.specs.Push.{ArePushes, IsExcess};
 ghost use Rattle.augmentation.specs.Tracked.{IsWritten};
-ghost use Rattle.network.specs.Instance.{at_node, reduced};
-ghost use Rattle.flow_solver.specs.Answer.{AreGreatestPotentials};
-ghost use Rattle.flow_solver.specs.Potentials.{AreAsTold};
+ghost use Rattle.flow_solver.specs.Potentials.{AreAsTold, AreGreatestIn};
 ghost use Rattle.augmentation.specs.Cut.{IsChosenSet, IsParted};
 ghost use Rattle.residual_graph.specs.Walk.{AreRowsOf};
 
@@ -29,7 +27,7 @@ fn push_and_raise(
     ensures flow_written { IsWritten flow.old flow.new }
     ensures potentials_written { IsWritten potentials.old.table potentials.new.table }
     ensures ready { IsReady graph.now flow.new.entries potentials.new.table.entries excess.new }
-    ensures greatest { AreGreatestPotentials (reduced graph.now.net) flow.new.entries (at_node (drop 1 potentials.new.table.entries)) }
+    ensures greatest { AreGreatestIn graph.now.net flow.new.entries potentials.new.table.entries }
     ensures pushed { ArePushes graph.now.rows result flow.old.entries excess.old flow.new.entries excess.new }
     ensures parted { IsParted graph.now.rows flow.new.entries excess.new }
     ensures scratch_in { length scratch.new.potentials ≡ length excess.new }
@@ -66,10 +64,8 @@ pub fn settle(
     ensures potentials_written { IsWritten potentials.old.table potentials.new.table }
     ensures cut_written { IsWritten cut.old cut.new }
     ensures ready { IsReady graph.now flow.new.entries potentials.new.table.entries excess.new }
-    ensures greatest { AreGreatestPotentials (reduced graph.now.net) flow.new.entries (at_node (drop 1 potentials.new.table.entries)) }
-    ensures excess { (supply : ℕ → ℤ) → IsExcess graph.now.rows supply flow.old.entries excess.old → IsExcess graph.now.rows supply flow.new.entries excess.new }
-    ensures pushes { (supply : ℕ → ℤ) → IsExcess graph.now.rows supply flow.old.entries excess.old → Pushes graph.now.rows supply result flow.old.entries flow.new.entries }
-    ensures count { result + left excess.new ≤ left excess.old }
+    ensures greatest { AreGreatestIn graph.now.net flow.new.entries potentials.new.table.entries }
+    ensures pushed { ArePushes graph.now.rows result flow.old.entries excess.old flow.new.entries excess.new }
     ensures scratch_in { length scratch.new.potentials ≡ length excess.new }
     ensures cut { (supply : ℕ → ℤ) → IsExcess graph.now.rows supply flow.old.entries excess.old → IsChosenSet graph.now.rows supply excess.new cut.new.entries }
 {

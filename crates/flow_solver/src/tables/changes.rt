@@ -3,11 +3,12 @@
 ghost use Rattle.std.specs.Prelude.{◌≡◌, ℕ, pos, ◌<◌, ◌≤◌, ◌<ℤ◌, ◌≤ℤ◌, ◌++◌, ◌∷◌, [], ◌↔◌, IsTrue, IsOk, IsSome, None, Ok, Some, length};
 ghost use Rattle.network.specs.Edited.{edited, edited_all};
 ghost use Rattle.flow_solver.specs.declared.part.Part.{Part};
-ghost use Rattle.network.specs.Flow.{IsCertifiedFlow, total_excess};
+ghost use Rattle.dimacs_text.specs.Lawful.{IsLawfulRow};
+ghost use Rattle.network.specs.Flow.{reduced_cost, total_excess};
 ghost use Rattle.network.specs.Instance.{at_node, reduced};
 ghost use Rattle.augmentation.specs.Push.{Pushes};
 ghost use Rattle.flow_solver.specs.Answer.{IsAnswered};
-ghost use Rattle.flow_solver.specs.Edit.{AreChanges, HasPotentials, IsCertifiedMoment, IsChange, IsOfAdd, IsOfArc, IsOfSupply, KeepsResidualArcs, MakeAll, Makes, arc_flow, arc_reduced, arc_row};
+ghost use Rattle.flow_solver.specs.Edit.{CanMake, ChangeAllTo, ChangesTo, HasPotentials, IsCertifiedMoment, IsMadeIn, IsNearest, IsOfAdd, IsOfArc, IsOfSupply, KeepsResidualArcs, MakeAll, arc_flow, arc_reduced, arc_row};
 ghost use Rattle.flow_solver.specs.Moment.{IsSized, kept_of};
 ghost use Rattle.flow_solver.specs.Part.{before_all, before_part, CanTakeBack, CanTakeBackAll, IsLogged, LeadsBack};
 
@@ -23,7 +24,7 @@ use dimacs_text::{ArcRow, Edit, GROUP_LIMIT};
 impl Tables {
     /// Makes the flow a best one, or marks the cut that shows why no flow is legal, and gives the number of pushes.
     pub fn settle(&mut self) -> u64
-        requires { IsCertifiedFlow (reduced self.old.moment.instance) self.old.moment.flow (at_node self.old.moment.potentials) }
+        requires { IsCertifiedMoment self.old.moment }
         ensures instance { self.new.moment.instance ≡ self.old.moment.instance }
         ensures answered { IsAnswered self.new.moment }
         ensures pushes { Pushes (reduced self.old.moment.instance).arcs (reduced self.old.moment.instance).supply result self.old.moment.flow self.new.moment.flow }
@@ -53,11 +54,11 @@ impl Tables {
     /// an edited arc goes to the nearest value that its bounds and the sign rule allow. What stood before is kept. Gives
     /// the number of pushes after that, which is at most what was left to send out before and the edit's units.
     pub fn change(&mut self, edit: &Edit) -> u64
-        requires certified { IsCertifiedFlow (reduced self.old.moment.instance) self.old.moment.flow (at_node self.old.moment.potentials) }
+        requires certified { IsCertifiedMoment self.old.moment }
         requires accepted { IsOk (edited self.old.moment.instance edit.now) }
         ensures instance { edited self.old.moment.instance edit.now ≡ Ok self.new.moment.instance }
         ensures answered { IsAnswered self.new.moment }
-        ensures changed { IsChange self.old.moment.instance self.new.moment.instance edit.now (at_node self.old.moment.potentials) self.old.moment.flow self.new.moment.flow result }
+        ensures changed { ChangesTo edit.now self.old.moment self.new.moment result }
         ensures before { self.new.before ≡ Some self.old.moment }
     {
         self.change_all(&[*edit])
@@ -68,11 +69,11 @@ impl Tables {
     /// potentials that stood before them all. What stood before is kept, also where there is no edit.
     pub fn change_all(&mut self, edits: &[Edit]) -> u64
         requires few { length edits.now ≤ GROUP_LIMIT }
-        requires certified { IsCertifiedFlow (reduced self.old.moment.instance) self.old.moment.flow (at_node self.old.moment.potentials) }
+        requires certified { IsCertifiedMoment self.old.moment }
         requires accepted { IsOk (edited_all self.old.moment.instance edits.now) }
         ensures instance { edited_all self.old.moment.instance edits.now ≡ Ok self.new.moment.instance }
         ensures answered { IsAnswered self.new.moment }
-        ensures changed { AreChanges self.old.moment.instance self.new.moment.instance edits.now (at_node self.old.moment.potentials) self.old.moment.flow self.new.moment.flow result }
+        ensures changed { ChangeAllTo edits.now self.old.moment self.new.moment result }
         ensures before { self.new.before ≡ Some self.old.moment }
     {
         let verdict = self.verdict;
@@ -99,12 +100,8 @@ impl Tables {
     /// its bounds and the sign rule allow under the potentials that stand. So the flow is certified still, and can be
     /// settled.
     fn make(&mut self, edit: &Edit)
-        requires certified { IsCertifiedMoment self.old.moment }
-        requires accepted { IsOk (edited self.old.moment.instance edit.now) }
-        ensures made { Makes edit.now self.old.moment self.new.moment }
-        ensures certified { IsCertifiedMoment self.new.moment }
-        ensures potentials { self.new.moment.potentials ≡ self.old.moment.potentials }
-        ensures kept { self.new.kept ≡ self.old.kept }
+        requires { CanMake edit.now self.old.moment }
+        ensures { IsMadeIn edit.now self.old self.new }
     {
         match edit {
             Edit::Supply { .. } => self.make_supply(edit),
@@ -115,17 +112,13 @@ impl Tables {
 
     /// Makes an accepted edit of an arc.
     fn make_row(&mut self, edit: &Edit)
-        requires certified { IsCertifiedMoment self.old.moment }
-        requires accepted { IsOk (edited self.old.moment.instance edit.now) }
+        requires can { CanMake edit.now self.old.moment }
         requires of_arc { IsOfArc edit.now }
-        ensures made { Makes edit.now self.old.moment self.new.moment }
-        ensures certified { IsCertifiedMoment self.new.moment }
-        ensures potentials { self.new.moment.potentials ≡ self.old.moment.potentials }
-        ensures kept { self.new.kept ≡ self.old.kept }
+        ensures { IsMadeIn edit.now self.old self.new }
     {
         let (k, mut row) = edited_row(self.graph.network(), edit);
-        let before = self.flow()[k as usize - 1];
-        let mut flow = nearest(&row, reduced_cost(&row, self.potentials()), before);
+        let before = self.flow_of(k);
+        let mut flow = self.nearest_flow(&row, before);
         // Tight arcs alone keep potentials from being greater, by the residual arcs along them.
         let stands = self.potentials.greatest && self.keeps_greatest(k, &row, flow);
         self.swap_row(k, &mut row);
@@ -148,8 +141,7 @@ impl Tables {
         requires arc { (1 ≤ k) × (k ≤ length self.now.moment.instance.arcs) }
         ensures { IsTrue result ↔ KeepsResidualArcs (arc_row self.now.moment k) (arc_flow self.now.moment k) row.now flow }
     {
-        let old = arc_of(self.graph.network(), u64::from(k));
-        keeps_residual_arcs(&old, self.flow()[k as usize - 1], row, flow)
+        keeps_residual_arcs(&self.row_of(k), self.flow_of(k), row, flow)
     }
 
     /// Whether the reduced cost of an arc is 0 under the potentials that stand.
@@ -158,19 +150,40 @@ impl Tables {
         requires range { HasPotentials self.now.moment }
         ensures { IsTrue result ↔ (arc_reduced self.now.moment k ≡ pos 0) }
     {
-        let row = arc_of(self.graph.network(), u64::from(k));
-        reduced_cost(&row, self.potentials()) == 0
+        reduced_cost(&self.row_of(k), self.potentials()) == 0
+    }
+
+    /// The arc with this number.
+    fn row_of(&self, k: u32) -> ArcRow
+        requires { (1 ≤ k) × (k ≤ length self.now.moment.instance.arcs) }
+        ensures row { result ≡ arc_row self.now.moment k }
+        ensures lawful { IsLawfulRow self.now.moment.instance.nodes result }
+    {
+        arc_of(self.graph.network(), u64::from(k))
+    }
+
+    /// Its flow.
+    fn flow_of(&self, k: u32) -> i64
+        requires { (1 ≤ k) × (k ≤ length self.now.moment.instance.arcs) }
+        ensures { result ≡ arc_flow self.now.moment k }
+    {
+        self.flow()[k as usize - 1]
+    }
+
+    /// The flow nearest to this one that the arc and the potentials that stand allow.
+    fn nearest_flow(&self, row: &ArcRow, flow: i64) -> i64
+        requires row { IsLawfulRow self.now.moment.instance.nodes row.now }
+        requires range { HasPotentials self.now.moment }
+        ensures { IsNearest row.now (reduced_cost (at_node self.now.moment.potentials) row.now) flow result }
+    {
+        nearest(row, reduced_cost(row, self.potentials()), flow)
     }
 
     /// Makes an accepted edit of a supply.
     fn make_supply(&mut self, edit: &Edit)
-        requires certified { IsCertifiedMoment self.old.moment }
-        requires accepted { IsOk (edited self.old.moment.instance edit.now) }
+        requires can { CanMake edit.now self.old.moment }
         requires of_supply { IsOfSupply edit.now }
-        ensures made { Makes edit.now self.old.moment self.new.moment }
-        ensures certified { IsCertifiedMoment self.new.moment }
-        ensures potentials { self.new.moment.potentials ≡ self.old.moment.potentials }
-        ensures kept { self.new.kept ≡ self.old.kept }
+        ensures { IsMadeIn edit.now self.old self.new }
     {
         let (id, mut value) = edited_supply(self.graph.network(), edit);
         self.swap_supply(id, &mut value);
@@ -178,16 +191,12 @@ impl Tables {
 
     /// Makes an accepted edit that adds an arc.
     fn make_arc(&mut self, edit: &Edit)
-        requires certified { IsCertifiedMoment self.old.moment }
-        requires accepted { IsOk (edited self.old.moment.instance edit.now) }
+        requires can { CanMake edit.now self.old.moment }
         requires of_add { IsOfAdd edit.now }
-        ensures made { Makes edit.now self.old.moment self.new.moment }
-        ensures certified { IsCertifiedMoment self.new.moment }
-        ensures potentials { self.new.moment.potentials ≡ self.old.moment.potentials }
-        ensures kept { self.new.kept ≡ self.old.kept }
+        ensures { IsMadeIn edit.now self.old self.new }
     {
         let row = added_row(self.graph.network(), edit);
-        let flow = nearest(&row, reduced_cost(&row, self.potentials()), 0);
+        let flow = self.nearest_flow(&row, 0);
         // One arc more only takes certifying potentials away.
         let stands = self.potentials.greatest;
         self.put_last(row, flow);
@@ -277,9 +286,10 @@ impl Tables {
 fn keeps_residual_arcs(old: &ArcRow, before: i64, row: &ArcRow, flow: i64) -> bool
     ensures { IsTrue result ↔ KeepsResidualArcs old.now before row.now flow }
 {
-    row.cost == old.cost
-        && keeps_room(before, old.cap, flow, row.cap)
-        && keeps_room(old.low, before, row.low, flow)
+    if row.cost != old.cost {
+        return false;
+    }
+    keeps_room(before, old.cap, flow, row.cap) && keeps_room(old.low, before, row.low, flow)
 }
 
 /// Whether there is room between two new numbers if there was between the old ones.

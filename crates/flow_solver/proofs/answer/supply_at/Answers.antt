@@ -1,4 +1,4 @@
-use Rattle.std.proofs.Common.{◌∙◌, inl, inr, sym, rules, w64, SFits}
+use Rattle.std.proofs.Common.{◌∙◌, inl, inr, sym, rules, w64}
 use Rattle.std.proofs.lemmas.Int.{to_z-of_z}
 use Rattle.network.specs.Instance.{reduced}
 use Rattle.residual_graph.proofs.NodeNumbers.{is_node_or_not}
@@ -7,8 +7,7 @@ use Rattle.flow_solver.proofs.answer.supply_at.Goals as goal
 
 pub returns-in-Some : goal.returns-in-Some
 returns-in-Some c =
-    let fits : SFits w64 c.in-Some.supply = search rules in
-    to_z-of_z w64 c.in-Some.supply fits ∙ elim (is_node_or_not c.args.net.now.nodes c.args.id) [
+    to_z-of_z w64 c.in-Some.supply (search rules) ∙ elim (is_node_or_not c.args.net.now.nodes c.args.id) [
       | inl node ↦ (let says = c.reduced_supply.ensures.node node in
           let at = held_node c.args.net.now.nodes (reduced c.args.net.now).supply c.args.id node in
           let is = c.in-Some.is in

@@ -1,8 +1,7 @@
-use Rattle.std.proofs.Common.{◌∙◌, ◌+ℤ◌, ◌-ℤ◌, ℤ, List, SFits, ap, arith, mod-lt, rules, subst, sym, w64}
+use Rattle.std.proofs.Common.{◌∙◌, ◌+ℤ◌, ◌-ℤ◌, ℤ, List, SFits, ap, arith, mod-lt, rules, w64}
 use Rattle.std.specs.Int.{int_wrap}
 use Rattle.std.proofs.lemmas.Int.{wrapping_sub_is}
 use Rattle.residual_graph.specs.Residual.{number_at}
-use Rattle.flow_solver.specs.Balance.{IsRaised}
 use Rattle.flow_solver.proofs.BalanceLemmas.{IsRaised-put, wrapped_onto}
 use Rattle.flow_solver.proofs.balance.add_difference.Goals as goal
 
@@ -13,7 +12,6 @@ returns c =
     let after = c.args.after in
     let read = c.entries.result.now in
     let fits : SFits w64 (number_at c.entries.result.now c.args.v) = search rules in
-    subst (IsRaised v before after c.args.excess.now) (sym c.set.ensures)
-    (IsRaised-put v before after _ c.args.excess.now c.requires
+    rw c.set.ensures (IsRaised-put v before after _ c.args.excess.now c.requires
     (wrapped_onto w64 (number_at read v) (after -ℤ before) _ fits (mod-lt _ (omega arith)) (wrapping_sub_is w64 after before c.ranges.after c.ranges.before)
     ∙ ap (λ (e : List ℤ). int_wrap w64 (number_at e v +ℤ (after -ℤ before))) c.entries.ensures))

@@ -1,8 +1,8 @@
-use Rattle.std.proofs.Common.{◌≡◌, ◌∙◌, ℤ, List, pos, ◌<◌, length, ap, arith, subst, sym, slice_index_or, slice_set, w64, SFits, rules, to_z, of_z}
+use Rattle.std.proofs.Common.{◌≡◌, ◌∙◌, ℤ, List, pos, ◌<◌, length, ap, arith, subst, sym, slice_index_or, slice_set, w64, rules, to_z, of_z}
 use Rattle.std.proofs.lemmas.Int.{to_z-of_z}
 use Rattle.std.proofs.lemmas.List.{get_or_default}
-use Rattle.residual_graph.specs.Residual.{row_at, number_at}
-use Rattle.flow_solver.specs.Balance.{IsCarried, IsWrappedExcess}
+use Rattle.residual_graph.specs.Residual.{number_at}
+use Rattle.flow_solver.specs.Balance.{IsWrappedExcess}
 use Rattle.flow_solver.proofs.BalanceLemmas.{IsPartWay, excess_step, named_back, part_step, part_past, part_ends}
 use Rattle.flow_solver.proofs.balance.carry_back.Goals as goal
 use Rattle.flow_solver.proofs.balance.carry_back.Goals.{then-k-rows, else-k-rows}
@@ -21,24 +21,19 @@ loop-j-preserved c =
       | then-k-rows w ↦ (let place_in : slice_index_or places c.loop-j.j 0 < length c.args.rows.now = w.if-k-rows.true in
           let f = w.carry_over.new.excess in
           let next = slice_set z place (number_at kept place) in
-          let entry_fits : SFits w64 w.get.result = search rules in
-          let kept_fits : SFits w64 (number_at kept place) = search rules in
-          let entry : to_z w64 (of_z w64 w.get.result) ≡ number_at entries place = to_z-of_z w64 w.get.result entry_fits ∙ w.get.ensures ∙ get_or_default entries place w.get.result (pos 0) (omega (arith, c.requires.as_many)) in
-          let was = to_z-of_z w64 (number_at kept place) kept_fits in
-          let carried : IsCarried (row_at rows place) (number_at entries place) (number_at kept place) c.loop-j.excess w.carry_over.new.excess =
-          subst (λ (m : ℤ). IsCarried (row_at rows place) (number_at entries place) m c.loop-j.excess w.carry_over.new.excess) was
-          (subst (λ (m : ℤ). IsCarried (row_at rows place) m (to_z w64 (of_z w64 (number_at kept place))) c.loop-j.excess w.carry_over.new.excess) entry w.carry_over.ensures) in (
+          let entry : to_z w64 (of_z w64 w.get.result) ≡ number_at entries place = to_z-of_z w64 w.get.result (search rules) ∙ w.get.ensures ∙ get_or_default entries place w.get.result (pos 0) (omega (arith, c.requires.as_many)) in
+          let was = to_z-of_z w64 (number_at kept place) (search rules) in
+          let carried = rw (entry, was) at w.carry_over.ensures in (
             ap (λ (e : List ℤ). length e) w.excess-is ∙ w.carry_over.ensures.same_length ∙ c.loop-j.invariant.0,
             next,
             part_step places entries kept c.loop-j.j z (omega arith) apart part (omega (arith, c.requires.as_many)),
-            λ supply is. subst (λ (e : List ℤ). IsWrappedExcess rows supply next e) (sym w.excess-is)
-                (excess_step places entries kept c.loop-j.j z (omega arith) apart part rows supply c.loop-j.excess f (sym c.requires.as_many) place_in carried (c.loop-j.invariant.3 supply is)),
+            λ supply is. rw w.excess-is (excess_step places entries kept c.loop-j.j z (omega arith) apart part rows supply c.loop-j.excess f (sym c.requires.as_many) place_in carried (c.loop-j.invariant.3 supply is)),
           ))
       | else-k-rows w ↦ (
         ap (λ (e : List ℤ). length e) w.excess-is ∙ c.loop-j.invariant.0,
         z,
         part_past places entries kept c.loop-j.j z (omega arith) apart part (omega (arith, c.requires.as_many)) c.whole-kept.ensures.as_many,
-        λ supply is. subst (λ (e : List ℤ). IsWrappedExcess rows supply z e) (sym w.excess-is) (c.loop-j.invariant.3 supply is),
+        λ supply is. rw w.excess-is (c.loop-j.invariant.3 supply is),
       )
     ]
 

@@ -1,5 +1,5 @@
-use Rattle.std.proofs.Common.{◌≡◌, ◌∙◌, ◌-ℤ◌, ◌*ℤ◌, ◌+ℤ◌, ℤ, List, pos, arith, subst, sym, ◌<◌, length, slice_index_or, slice_set, w64, SFits, rules, to_z, of_z}
-use Rattle.std.specs.Int.{int_wrap, w128}
+use Rattle.std.proofs.Common.{◌≡◌, ◌∙◌, ℤ, List, pos, arith, subst, sym, ◌<◌, length, slice_index_or, slice_set, w64, rules, to_z, of_z}
+use Rattle.std.specs.Int.{w128}
 use Rattle.std.proofs.lemmas.Int.{to_z-of_z}
 use Rattle.std.proofs.lemmas.List.{get_or_default}
 use Rattle.residual_graph.specs.Residual.{row_at, number_at}
@@ -20,15 +20,10 @@ loop-j-preserved c =
     elim c.if-k-rows.branch [
       | then-k-rows w ↦ (let place = slice_index_or c.places-places.result.now c.loop-j.j 0 in
           let place_in : slice_index_or places c.loop-j.j 0 < length c.args.rows.now = w.if-k-rows.true in
-          let entry_fits : SFits w64 w.get.result = search rules in
-          let kept_fits : SFits w64 (number_at kept place) = search rules in
-          let cost_fits : SFits w64 (row_at c.args.rows.now place).cost = search rules in
-          let entry : to_z w64 (of_z w64 w.get.result) ≡ number_at entries place = to_z-of_z w64 w.get.result entry_fits ∙ w.get.ensures ∙ get_or_default entries place w.get.result (pos 0) (omega (arith, c.requires.as_many)) in
-          let was = to_z-of_z w64 (number_at kept place) kept_fits in
-          let price : to_z w64 (of_z w64 (row_at c.args.rows.now place).cost) ≡ (row_at c.args.rows.now place).cost = to_z-of_z w64 (row_at c.args.rows.now place).cost cost_fits in
-          let result_is : to_z w128 c.if-k-rows.now-bits ≡ int_wrap w128 (to_z w128 c.loop-j.now-bits +ℤ (number_at entries place -ℤ number_at kept place) *ℤ (row_at c.args.rows.now place).cost) =
-          w.now-is ∙ to_z-of_z w128 w.reprice-now.result (record { sfits = w.reprice-now.type_inv }) ∙ w.reprice-now.ensures
-          ∙ (λ i. int_wrap w128 (to_z w128 c.loop-j.now-bits +ℤ (entry i -ℤ was i) *ℤ price i)) in (
+          let entry : to_z w64 (of_z w64 w.get.result) ≡ number_at entries place = to_z-of_z w64 w.get.result (search rules) ∙ w.get.ensures ∙ get_or_default entries place w.get.result (pos 0) (omega (arith, c.requires.as_many)) in
+          let was = to_z-of_z w64 (number_at kept place) (search rules) in
+          let price = to_z-of_z w64 (row_at c.args.rows.now place).cost (search rules) in
+          let result_is = w.now-is ∙ to_z-of_z w128 w.reprice-now.result (record { sfits = w.reprice-now.type_inv }) ∙ (rw (entry, was, price) at w.reprice-now.ensures) in (
             slice_set z (slice_index_or places c.loop-j.j 0) (number_at entries (slice_index_or places c.loop-j.j 0)),
             part_step places kept entries c.loop-j.j z (omega arith) apart part (omega (arith, c.requires.as_many, c.whole-kept.ensures.as_many)),
             cost_step places kept entries c.loop-j.j z (omega arith) apart part c.args.rows.now (to_z w128 c.loop-j.now-bits) (to_z w128 c.if-k-rows.now-bits) (omega (arith, c.requires.as_many, c.whole-kept.ensures.as_many)) place_in result_is c.loop-j.invariant.2,

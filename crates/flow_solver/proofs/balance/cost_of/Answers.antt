@@ -1,4 +1,4 @@
-use Rattle.std.proofs.Common.{◌≡◌, ◌∙◌, ◌+ℤ◌, ◌-ℤ◌, ◌*ℤ◌, pos, w64, SFits, rules, to_z, of_z}
+use Rattle.std.proofs.Common.{◌≡◌, ◌∙◌, ◌+ℤ◌, ◌-ℤ◌, ◌*ℤ◌, pos, w64, rules, to_z, of_z}
 use Rattle.std.specs.Int.{int_wrap, w128}
 use Rattle.std.proofs.lemmas.Int.{to_z-of_z}
 use Rattle.residual_graph.specs.Residual.{row_at, number_at}
@@ -11,10 +11,8 @@ loop-k-preserved c =
     let flow = c.args.flow.now in
     let k = c.loop-k.k in
     let result = c.reprice-cost.result in
-    let flow_fits : SFits w64 (number_at c.args.flow.now c.loop-k.k) = search rules in
-    let cost_fits : SFits w64 (row_at c.args.rows.now c.loop-k.k).cost = search rules in
-    let carried : to_z w64 (of_z w64 (number_at flow k)) ≡ number_at flow k = to_z-of_z w64 (number_at flow k) flow_fits in
-    let price : to_z w64 (of_z w64 (row_at rows k).cost) ≡ (row_at rows k).cost = to_z-of_z w64 (row_at rows k).cost cost_fits in
+    let carried : to_z w64 (of_z w64 (number_at flow k)) ≡ number_at flow k = to_z-of_z w64 (number_at flow k) (search rules) in
+    let price : to_z w64 (of_z w64 (row_at rows k).cost) ≡ (row_at rows k).cost = to_z-of_z w64 (row_at rows k).cost (search rules) in
     to_z-of_z w128 result (record { sfits = c.reprice-cost.type_inv })
     ∙ cost_more rows flow (to_z w128 c.loop-k.cost-bits) result k c.loop-k-test.true c.requires
     (c.reprice-cost.ensures ∙ (λ i. int_wrap w128 (to_z w128 c.loop-k.cost-bits +ℤ (carried i -ℤ pos 0) *ℤ price i))) c.loop-k.invariant

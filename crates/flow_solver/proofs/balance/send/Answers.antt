@@ -1,9 +1,7 @@
-use Rattle.std.proofs.Common.{◌∙◌, ℤ, List, pos, arith, subst, take, w64, SFits, rules}
+use Rattle.std.proofs.Common.{◌∙◌, arith, w64, rules}
 use Rattle.std.proofs.lemmas.Int.{to_z-of_z}
 use Rattle.std.proofs.lemmas.List.{take_all}
-use Rattle.dimacs_text.specs.declared.problem.ArcRow.{ArcRow}
-use Rattle.residual_graph.specs.Residual.{row_at, number_at}
-use Rattle.flow_solver.specs.Balance.{IsCarried, IsWrappedExcess}
+use Rattle.residual_graph.specs.Residual.{number_at}
 use Rattle.flow_solver.proofs.BalanceLemmas.{wrapped_excess_more}
 use Rattle.flow_solver.proofs.balance.send.Goals as goal
 
@@ -12,11 +10,10 @@ loop-k-preserved c =
     let rows = c.args.rows.now in
     let flow = c.args.flow.now in
     let k = c.loop-k.k in
-    let fits : SFits w64 (number_at c.args.flow.now c.loop-k.k) = search rules in
     record {
       same_length = c.carry_over.ensures.same_length ∙ c.loop-k.invariant.same_length;
       sent = λ supply is. wrapped_excess_more rows supply flow c.loop-k.excess c.carry_over.new.excess k c.loop-k-test.true c.requires.same_length
-          (subst (λ (m : ℤ). IsCarried (row_at rows k) (pos 0) m c.loop-k.excess c.carry_over.new.excess) (to_z-of_z w64 (number_at flow k) fits) c.carry_over.ensures)
+          (rw (to_z-of_z w64 (number_at flow k) (search rules)) at c.carry_over.ensures)
           (c.loop-k.invariant.sent supply is);
     }
 
@@ -28,7 +25,4 @@ carry_over-requires-clause-head_in c = omega (arith, (c.requires.ends c.loop-k.k
 
 pub returns-clause-excess : goal.returns-clause-excess
 returns-clause-excess c = λ supply is.
-    (let rows = take_all c.loop-k.k c.args.rows.now (omega arith) in
-    let flow = take_all c.loop-k.k c.args.flow.now (omega (arith, c.requires.same_length)) in
-    subst (λ (r : List ArcRow). IsWrappedExcess r supply c.args.flow.now c.loop-k.excess) rows
-    (subst (λ (x : List ℤ). IsWrappedExcess (take c.loop-k.k c.args.rows.now) supply x c.loop-k.excess) flow (c.loop-k.invariant.sent supply is)))
+    rw (take_all c.loop-k.k c.args.rows.now (omega arith), take_all c.loop-k.k c.args.flow.now (omega (arith, c.requires.same_length))) at (c.loop-k.invariant.sent supply is)

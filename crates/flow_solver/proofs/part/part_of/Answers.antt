@@ -1,11 +1,7 @@
-use Rattle.std.proofs.Common.{◌≡◌, ℕ, Some, ◌∙◌, sym, subst, w64, to_z, of_z, SFits, rules, IsOk}
+use Rattle.std.proofs.Common.{◌∙◌, w64, to_z, of_z, rules}
 use Rattle.std.proofs.lemmas.Int.{to_z-of_z}
-use Rattle.dimacs_text.specs.declared.command.Edit.{Edit}
 use Rattle.dimacs_text.specs.declared.command.Edit.TheVariants.{Add}
-use Rattle.network.specs.Edited.{edited}
-use Rattle.network.specs.Instance.{arc_at, reduced}
-use Rattle.flow_solver.specs.declared.part.Part.TheVariants.{Last}
-use Rattle.flow_solver.specs.Part.{TakesBack}
+use Rattle.network.specs.Instance.{reduced}
 use Rattle.augmentation.proofs.NodeLemmas.{held_node}
 use Rattle.flow_solver.proofs.EditRows.{add_edit}
 use Rattle.flow_solver.proofs.PartLemmas.{row_back, supply_back, add_back}
@@ -14,18 +10,16 @@ use Rattle.flow_solver.proofs.part.part_of.Goals as goal
 pub returns-in-Supply : goal.returns-in-Supply
 returns-in-Supply c =
     let I = c.args.net.now in
-    let fits : SFits w64 c.supply_at.result = search rules in
-    let old = to_z-of_z w64 c.supply_at.result fits ∙ c.supply_at.ensures ∙ held_node I.nodes (reduced I).supply c.edited_supply-id.result.0 c.edited_supply-id.ensures.node in
+    let old = to_z-of_z w64 c.supply_at.result (search rules) ∙ c.supply_at.ensures ∙ held_node I.nodes (reduced I).supply c.edited_supply-id.result.0 c.edited_supply-id.ensures.node in
     supply_back I c.args.edit.now c.edited_supply-id.result.0 c.edited_supply-id.result.1 (to_z w64 (of_z w64 c.supply_at.result)) c.requires.lawful old c.edited_supply-id.ensures
 
 pub returns-in-Add : goal.returns-in-Add
 returns-in-Add c =
     let I = c.args.net.now in
-    let ok = subst (λ (d : Edit). IsOk (edited I d)) c.in-Add.is c.requires.accepted in
-    subst (λ (d : Edit). TakesBack I d Last) (sym c.in-Add.is)
-    (add_back I (Add c.in-Add.tail c.in-Add.head c.in-Add.low c.in-Add.cap c.in-Add.cost) _ (add_edit I c.in-Add.tail c.in-Add.head c.in-Add.low c.in-Add.cap c.in-Add.cost (c.edits_keep_lawful.ensures I (Add c.in-Add.tail c.in-Add.head c.in-Add.low c.in-Add.cap c.in-Add.cost)) c.requires.lawful ok))
+    let ok = rw c.in-Add.is at c.requires.accepted in
+    rw c.in-Add.is (add_back I (Add c.in-Add.tail c.in-Add.head c.in-Add.low c.in-Add.cap c.in-Add.cost) _ (add_edit I c.in-Add.tail c.in-Add.head c.in-Add.low c.in-Add.cap c.in-Add.cost (c.edits_keep_lawful.ensures I (Add c.in-Add.tail c.in-Add.head c.in-Add.low c.in-Add.cap c.in-Add.cost)) c.requires.lawful ok))
 
 pub returns-in_default : goal.returns-in_default
 returns-in_default c =
     row_back c.args.net.now c.args.edit.now c.edited_row-k.result.0 c.arc_of.result c.edited_row-k.result.1 c.requires.lawful
-    (subst (λ (k : ℕ). arc_at c.args.net.now.arcs k ≡ Some c.arc_of.result) c.from.ensures c.arc_of.ensures) c.edited_row-k.ensures
+    (rw c.from.ensures at c.arc_of.ensures) c.edited_row-k.ensures

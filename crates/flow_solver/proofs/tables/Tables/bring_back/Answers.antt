@@ -1,4 +1,4 @@
-use Rattle.std.proofs.Common.{◌≡◌, ◌∙◌, List, ap, arith, false, length, refl, subst, sym}
+use Rattle.std.proofs.Common.{◌≡◌, ◌∙◌, List, ap, arith, length, refl, subst, sym}
 use Rattle.dimacs_text.specs.declared.problem.ArcRow.{ArcRow}
 use Rattle.network.specs.Instance.{reduced}
 use Rattle.flow_solver.specs.Balance.{IsWrappedExcess}
@@ -6,7 +6,6 @@ use Rattle.flow_solver.specs.TablesView.{TablesView}
 use Rattle.augmentation.specs.Nodes.{IsIdleEntry}
 use Rattle.augmentation.specs.ScratchView.{ScratchView}
 use Rattle.flow_solver.proofs.CarryLemmas.{balance_back, sends}
-use Rattle.flow_solver.proofs.TablesViewLemmas.{nodes_alike}
 use Rattle.flow_solver.proofs.tables.Tables.bring_back.Goals as goal
 
 pub invariant_of-self : goal.invariant_of-self
@@ -19,17 +18,19 @@ invariant_of-self c =
     let before = subst (λ (r : List ArcRow). IsWrappedExcess r (sends I) t.flow.entries t.balance.excess) (sym c.rows.ensures) inv.balance_is.excess in
     let excess = subst (λ (r : List ArcRow). IsWrappedExcess r (sends I) t.flow.whole c.carry_back.new.excess) c.rows.ensures (c.carry_back.ensures.excess (sends I) before) in
     record {
-      graph = inv.graph;
-      flow_in = ap length c.bring_back.ensures.entries ∙ many;
-      flow_whole = ap length c.bring_back.ensures.whole ∙ inv.flow_whole;
-      flow_fits = omega (arith, inv.flow_fits, c.bring_back.ensures.room);
-      potentials_in = nodes_alike I.nodes c.bring_back-2.new.self t.potentials.table.kept t.potentials.table.kept c.bring_back-2.ensures.entries c.bring_back-2.ensures.kept inv.potentials_in.kept_in inv.potentials_in.kept_in;
-      idle = subst IsIdleEntry (sym c.bring_back-2.ensures.entries) inv.kept_idle;
-      kept_idle = subst IsIdleEntry (sym c.bring_back-2.ensures.kept) inv.kept_idle;
+      fit = record {
+        graph = inv.graph;
+        flow_in = ap length c.bring_back.ensures.entries ∙ many;
+        flow_whole = ap length c.bring_back.ensures.whole ∙ inv.flow_whole;
+        flow_fits = omega (arith, inv.flow_fits, c.bring_back.ensures.room);
+        potentials_in = record { entries_in = rw c.bring_back-2.ensures.entries inv.potentials_in.kept_in; kept_in = rw c.bring_back-2.ensures.kept inv.potentials_in.kept_in };
+        idle = subst IsIdleEntry (sym c.bring_back-2.ensures.entries) inv.kept_idle;
+        kept_idle = subst IsIdleEntry (sym c.bring_back-2.ensures.kept) inv.kept_idle;
+        cut_in = record { entries_in = rw c.bring_back-3.ensures.entries inv.cut_in.kept_in; kept_in = rw c.bring_back-3.ensures.kept inv.cut_in.kept_in };
+        scratch_in = ap (λ (v : ScratchView). length v.potentials) c.note_all.ensures ∙ inv.scratch_in;
+      };
       balance_is = balance_back I t.graph.rows t.flow c.bring_back.new.self t.balance _ c.bring_back.ensures.none_added c.bring_back.ensures.entries c.bring_back.ensures.whole
           c.carry_back.ensures.same_length excess refl inv.balance_is;
-      cut_in = nodes_alike I.nodes c.bring_back-3.new.self t.cut.kept t.cut.kept c.bring_back-3.ensures.entries c.bring_back-3.ensures.kept inv.cut_in.kept_in inv.cut_in.kept_in;
-      scratch_in = ap (λ (v : ScratchView). length v.potentials) c.note_all.ensures ∙ inv.scratch_in;
       told = λ none. cc;
       log_fits = omega (arith, inv.log_fits);
       before_is = tt;

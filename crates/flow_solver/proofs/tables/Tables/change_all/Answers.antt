@@ -1,12 +1,9 @@
-use Rattle.std.proofs.Common.{◌≡◌, ◌∙◌, length, sym, ap, arith, subst, Some, Ok, List, pos, ◌≤ℤ◌}
+use Rattle.std.proofs.Common.{◌≡◌, ◌∙◌, length, sym, ap, arith, subst, Some, Ok}
 use Rattle.std.proofs.lemmas.Int.{ints}
-use Rattle.network.specs.Flow.{total_excess}
 use Rattle.network.specs.Instance.{Instance, at_node, reduced}
-use Rattle.augmentation.specs.Push.{Pushes}
-use Rattle.flow_solver.specs.declared.part.Part.{Part}
 use Rattle.flow_solver.specs.TablesView.{TablesView}
 use Rattle.flow_solver.specs.Edit.{AreChanges, AreMade}
-use Rattle.flow_solver.specs.Moment.{IsSized, Snapshot, Moment, kept_of}
+use Rattle.flow_solver.specs.Moment.{IsSized, Snapshot, kept_of}
 use Rattle.flow_solver.specs.Part.{LeadsBack, before_all}
 use Rattle.flow_solver.specs.Tables.{kept_by}
 use Rattle.flow_solver.proofs.TablesViewLemmas.{moment_kept}
@@ -16,19 +13,14 @@ use Rattle.flow_solver.proofs.tables.Tables.change_all.Goals.{After-self-1}
 
 -- the edits are made of the moment before
 made : (c : After-self-1) → AreMade c.args.self.now.moment.instance c.args.edits.now (at_node c.args.self.now.moment.potentials) c.args.self.now.moment.flow c.settle-pushes.new.self.moment.instance c.make_all.new.tables.moment.flow
-made c =
-    let start = c.make_all.new.tables.moment in
-    subst (λ (n : Moment). AreMade n.instance c.args.edits.now (at_node n.potentials) n.flow c.settle-pushes.new.self.moment.instance start.flow) c.snapshot.ensures.moment
-    (subst (λ (J : Instance). AreMade c.snapshot.new.self.moment.instance c.args.edits.now (at_node c.snapshot.new.self.moment.potentials) c.snapshot.new.self.moment.flow J start.flow) (sym c.settle-pushes.ensures.instance) c.make_all.ensures.made)
+made c = rw c.settle-pushes.ensures.instance (rw c.snapshot.ensures.moment at c.make_all.ensures.made)
 
 -- what is logged leads back
 back : (c : After-self-1) → LeadsBack c.self-2.inside.before.log.items c.args.self.now.moment.instance c.self-2.inside.graph.net
 back c =
     let log = ap (λ (d : TablesView). d.kept.log) c.self-2.view_is ∙ ap (λ (k : Snapshot). k.log) c.settle-pushes.ensures.kept in
     let here = ap (λ (d : TablesView). d.moment.instance) c.self-2.view_is ∙ c.settle-pushes.ensures.instance in
-    subst (λ (m : Moment). LeadsBack c.self-2.inside.before.log.items m.instance c.self-2.inside.graph.net) c.snapshot.ensures.moment
-    (subst (λ (J : Instance). LeadsBack c.self-2.inside.before.log.items c.snapshot.new.self.moment.instance J) (sym here)
-    (subst (λ (ps : List Part). LeadsBack ps c.snapshot.new.self.moment.instance c.make_all.new.tables.moment.instance) (sym log) c.make_all.ensures.back))
+    rw (log, here) (rw c.snapshot.ensures.moment at c.make_all.ensures.back)
 
 -- what was kept is kept still
 kept_is : (c : After-self-1) → kept_by c.self-2.inside.flow c.self-2.inside.potentials.table c.self-2.inside.cut c.self-2.inside.before.log.items ≡ record (kept_of c.args.self.now.moment) { log = c.self-2.inside.before.log.items }
@@ -42,16 +34,8 @@ invariant_of-self c =
     let sized = subst IsSized c.snapshot.ensures.moment c.snapshot.ensures.sized in
     let leads = back c in
     record {
-      graph = inv.graph;
-      flow_in = inv.flow_in;
-      flow_whole = inv.flow_whole;
-      flow_fits = inv.flow_fits;
-      potentials_in = inv.potentials_in;
-      idle = inv.idle;
-      kept_idle = inv.kept_idle;
+      fit = inv.fit;
       balance_is = inv.balance_is;
-      cut_in = inv.cut_in;
-      scratch_in = inv.scratch_in;
       told = inv.told;
       log_fits = inv.log_fits;
       before_is = (
@@ -78,13 +62,9 @@ returns-clause-changed c =
     let edits = c.args.edits.now in
     let start = c.make_all.new.tables.moment.flow in
     let end = c.settle-pushes.new.self.moment in
-    let start_is = c.settle-pushes.ensures.instance in
-    let left = subst (λ (J : Instance). pos c.settle-pushes.result ≤ℤ total_excess (reduced J) start) (sym start_is) c.settle-pushes.ensures.count in
+    let same = c.settle-pushes.ensures.instance in
+    let left = rw (← same) at c.settle-pushes.ensures.count in
     let grown = grown_all m.instance end.instance edits (at_node m.potentials) m.flow start (made c) in
-    let changes : AreChanges m.instance end.instance edits (at_node m.potentials) m.flow end.flow c.settle-pushes.result = record {
-      start = start;
-      made = made c;
-      pushes = subst (λ (J : Instance). Pushes (reduced J).arcs (reduced J).supply c.settle-pushes.result start end.flow) (sym c.settle-pushes.ensures.instance) c.settle-pushes.ensures.pushes;
-      count = omega (arith, ints, left, grown);
-    } in
+    let changes : AreChanges m.instance end.instance edits (at_node m.potentials) m.flow end.flow c.settle-pushes.result =
+    record { start = start; made = made c; pushes = rw same c.settle-pushes.ensures.pushes; count = omega (arith, ints, left, grown) } in
     subst (λ (d : TablesView). AreChanges m.instance d.moment.instance edits (at_node m.potentials) m.flow d.moment.flow c.settle-pushes.result) (sym c.self-2.view_is) changes

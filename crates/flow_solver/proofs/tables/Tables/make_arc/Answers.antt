@@ -1,9 +1,8 @@
-use Rattle.std.proofs.Common.{◌≡◌, ◌∙◌, ◌++◌, ◌∷◌, [], ℤ, List, pos, ap, subst, sym, rules, w64, SFits, to_z, of_z}
+use Rattle.std.proofs.Common.{◌≡◌, ◌∙◌, ◌++◌, ◌∷◌, [], ℤ, ap, subst, sym, rules, w64}
 use Rattle.std.proofs.lemmas.Int.{to_z-of_z}
-use Rattle.network.specs.Flow.{IsCertifiedFlow, reduced_cost}
-use Rattle.network.specs.Instance.{Instance, IsLawful, at_node, reduced}
+use Rattle.network.specs.Instance.{IsLawful, at_node, reduced}
 use Rattle.flow_solver.specs.Answer.{AreGreatestPotentials}
-use Rattle.flow_solver.specs.Edit.{IsAddEdit, IsMade, IsNearest}
+use Rattle.flow_solver.specs.Edit.{IsAddEdit, IsCertifiedMoment, Makes}
 use Rattle.flow_solver.specs.Moment.{Moment}
 use Rattle.flow_solver.specs.TablesView.{TablesView}
 use Rattle.residual_graph.proofs.GraphLemmas.{with_last}
@@ -15,22 +14,12 @@ use Rattle.flow_solver.proofs.tables.Tables.make_arc.Goals.{After-put_last}
 
 -- the flow that the new arc gets
 abbrev after : After-put_last → ℤ
-after c = c.nearest-flow.result
-
-near : (c : After-put_last) → IsNearest c.added_row-row.result (reduced_cost (at_node c.args.self.now.moment.potentials) c.added_row-row.result) (pos 0) (after c)
-near c =
-    let m = c.args.self.now.moment in
-    let row = c.added_row-row.result in
-    let cost_fits : SFits w64 c.reduced_cost.result = search rules in
-    let potentials = c.potentials.ensures.value in
-    let cost : to_z w64 (of_z w64 c.reduced_cost.result) ≡ reduced_cost (at_node m.potentials) row = to_z-of_z w64 c.reduced_cost.result cost_fits ∙ c.reduced_cost.ensures ∙ ap (λ (p : List ℤ). reduced_cost (at_node p) row) potentials in
-    subst (λ (r : ℤ). IsNearest row r (pos 0) (after c)) cost c.nearest-flow.ensures
+after c = c.nearest_flow-flow.result
 
 moment_is : (c : After-put_last) → c.put_last.new.self.moment ≡ record c.args.self.now.moment { instance = with_last c.args.self.now.moment.instance c.added_row-row.result; flow = c.args.self.now.moment.flow ++ after c ∷ [] }
 moment_is c =
     let m = c.args.self.now.moment in
-    let fits : SFits w64 (after c) = search rules in
-    let flow = to_z-of_z w64 (after c) fits in
+    let flow = to_z-of_z w64 (after c) (search rules) in
     c.put_last.ensures.moment ∙ ap (λ (z : ℤ). record m { instance = with_last m.instance c.added_row-row.result; flow = m.flow ++ z ∷ [] }) flow
 
 pub invariant_of-self : goal.invariant_of-self
@@ -41,23 +30,19 @@ invariant_of-self c =
     let now = ap (λ (d : TablesView). d.moment) c.self-2.view_is ∙ moment_is s in
     tables_told t.graph t.flow t.potentials t.balance t.cut t.scratch t.before _ c.self-2.invariant (λ stood.
     subst (λ (n : Moment). AreGreatestPotentials (reduced n.instance) n.flow (at_node n.potentials)) (sym now)
-    (greatest_more m.instance c.added_row-row.result (at_node m.potentials) m.flow (after s) c.requires.certified
+    (greatest_more m.instance c.added_row-row.result (at_node m.potentials) m.flow (after s) c.requires.can.certified
     (subst (λ (b : TablesView). AreGreatestPotentials (reduced b.moment.instance) b.moment.flow (at_node b.moment.potentials)) c.self.view_is (c.self.invariant.told stood))))
 
-pub returns-clause-made : goal.returns-clause-made
-returns-clause-made c =
+pub returns : goal.returns
+returns c =
     let m = c.args.self.now.moment in
-    let s = (goal.at.returns-clause-made c).After-put_last in
+    let row = c.added_row-row.result in
+    let s = (goal.at.returns c).After-put_last in
     let now = ap (λ (d : TablesView). d.moment) c.self-2.view_is ∙ moment_is s in
-    let lawful = subst (λ (b : TablesView). IsLawful b.moment.instance) c.self.view_is c.self.invariant.graph.rows.lawful in
-    let edit = subst (λ (b : TablesView). IsAddEdit b.moment.instance c.args.edit.now c.added_row-row.result) c.self.view_is (subst (λ (I : Instance). IsAddEdit I c.args.edit.now c.added_row-row.result) c.network.ensures c.added_row-row.ensures) in
-    subst (λ (n : Moment). IsMade m.instance n.instance c.args.edit.now (at_node m.potentials) m.flow n.flow) (sym now)
-    (add_made m.instance c.args.edit.now c.added_row-row.result (at_node m.potentials) m.flow (after s) lawful c.requires.certified edit (near s))
-
-pub returns-clause-certified : goal.returns-clause-certified
-returns-clause-certified c =
-    let m = c.args.self.now.moment in
-    let s = (goal.at.returns-clause-certified c).After-put_last in
-    let now = ap (λ (d : TablesView). d.moment) c.self-2.view_is ∙ moment_is s in
-    subst (λ (n : Moment). IsCertifiedFlow (reduced n.instance) n.flow (at_node n.potentials)) (sym now)
-    (certified_more m.instance c.added_row-row.result (at_node m.potentials) m.flow (after s) c.requires.certified (near s))
+    let lawful : IsLawful m.instance = rw (← c.self.view_is) c.self.invariant.graph.rows.lawful in
+    let edit : IsAddEdit m.instance c.args.edit.now row = rw (← c.self.view_is) (rw c.network.ensures at c.added_row-row.ensures) in
+    let both = subst (λ (n : Moment). Makes c.args.edit.now m n × IsCertifiedMoment n) (sym now) (
+      add_made m.instance c.args.edit.now row (at_node m.potentials) m.flow (after s) lawful c.requires.can.certified edit c.nearest_flow-flow.ensures,
+      certified_more m.instance row (at_node m.potentials) m.flow (after s) c.requires.can.certified c.nearest_flow-flow.ensures,
+    ) in
+    record { made = both.0; certified = both.1; potentials = search rules; kept = search rules }

@@ -1,14 +1,14 @@
-use Rattle.std.proofs.Common.{◌≡◌, ◌∙◌, ◌-◌, ℤ, List, pos, true, false, ap, subst, sym, rules, slice_set, slice_index_or, w64, SFits, to_z, of_z}
+use Rattle.std.proofs.Common.{◌≡◌, ◌∙◌, ◌-◌, ℤ, true, false, ap, subst, sym, rules, slice_set, w64, to_z, of_z}
 use Rattle.std.proofs.lemmas.Int.{to_z-of_z}
-use Rattle.network.specs.Flow.{IsCertifiedFlow, reduced_cost}
+use Rattle.network.specs.Flow.{reduced_cost}
 use Rattle.network.specs.Instance.{Instance, IsLawful, at_node, reduced}
 use Rattle.residual_graph.specs.Residual.{row_at, number_at}
 use Rattle.flow_solver.specs.TablesView.{TablesView, flow_index}
 use Rattle.flow_solver.specs.Answer.{AreGreatestPotentials}
-use Rattle.flow_solver.specs.Edit.{IsMade, IsNearest, IsRowEdit, KeepsResidualArcs}
+use Rattle.flow_solver.specs.Edit.{IsCertifiedMoment, arc_flow, IsNearest, Makes, IsRowEdit, KeepsResidualArcs}
 use Rattle.flow_solver.specs.Moment.{Moment}
 use Rattle.residual_graph.proofs.GraphLemmas.{with_row}
-use Rattle.flow_solver.proofs.ChangeLemmas.{certified_changed, flow_at}
+use Rattle.flow_solver.proofs.ChangeLemmas.{certified_changed}
 use Rattle.flow_solver.proofs.EditRows.{row_made}
 use Rattle.flow_solver.proofs.StandingLemmas.{greatest_changed, tables_told}
 use Rattle.flow_solver.proofs.tables.Tables.make_row.Goals as goal
@@ -20,30 +20,17 @@ edit_is c = subst (λ (b : TablesView). IsRowEdit b.moment.instance c.args.edit.
 
 -- the flow that the arc gets
 abbrev after : After-swap_flow → ℤ
-after c = c.nearest-flow.result
+after c = c.nearest_flow-flow.result
 
-near : (c : After-swap_flow) → IsNearest c.edited_row-k.result.1 (reduced_cost (at_node c.args.self.now.moment.potentials) c.edited_row-k.result.1) (number_at c.args.self.now.moment.flow (flow_index c.args.self.now.moment.instance.demand c.edited_row-k.result.0)) (after c)
-near c =
-    let m = c.args.self.now.moment in
-    let k = c.edited_row-k.result.0 in
-    let row = c.edited_row-k.result.1 in
-    let cost_fits : SFits w64 c.reduced_cost.result = search rules in
-    let potentials = c.potentials.ensures.value in
-    let cost : to_z w64 (of_z w64 c.reduced_cost.result) ≡ reduced_cost (at_node m.potentials) row = to_z-of_z w64 c.reduced_cost.result cost_fits ∙ c.reduced_cost.ensures ∙ ap (λ (p : List ℤ). reduced_cost (at_node p) row) potentials in
-    let flows = c.flow.ensures.value in
-    let entry = slice_index_or c.flow.result.now (k - 1) (pos 0) in
-    let entry_fits : SFits w64 entry = search rules in
-    let before : to_z w64 (of_z w64 entry) ≡ number_at m.flow (flow_index m.instance.demand k) = to_z-of_z w64 entry entry_fits ∙ ap (λ (x : List ℤ). slice_index_or x (k - 1) (pos 0)) flows ∙ flow_at m.instance.demand m.flow k (pos 0) c.edited_row-k.ensures.arc.0 in
-    subst (λ (r : ℤ). IsNearest row r (number_at m.flow (flow_index m.instance.demand k)) (after c)) cost
-    (subst (λ (x : ℤ). IsNearest row (to_z w64 (of_z w64 c.reduced_cost.result)) x (after c)) before c.nearest-flow.ensures)
+near : (c : After-swap_flow) → IsNearest c.edited_row-k.result.1 (reduced_cost (at_node c.args.self.now.moment.potentials) c.edited_row-k.result.1) (arc_flow c.args.self.now.moment c.edited_row-k.result.0) (after c)
+near c = rw (to_z-of_z w64 c.flow_of-before.result (search rules), c.flow_of-before.ensures) at c.nearest_flow-flow.ensures
 
 moment_is : (c : After-swap_flow) → c.swap_flow.new.self.moment ≡ record c.args.self.now.moment { instance = with_row c.args.self.now.moment.instance (c.edited_row-k.result.0 - 1) c.edited_row-k.result.1; flow = slice_set c.args.self.now.moment.flow (flow_index c.args.self.now.moment.instance.demand c.edited_row-k.result.0) (after c) }
 moment_is c =
     let m = c.args.self.now.moment in
     let k = c.edited_row-k.result.0 in
     let J = with_row m.instance (k - 1) c.edited_row-k.result.1 in
-    let fits : SFits w64 (after c) = search rules in
-    let flow = to_z-of_z w64 (after c) fits in
+    let flow = to_z-of_z w64 (after c) (search rules) in
     c.swap_flow.ensures.moment
     ∙ ap (λ (n : Moment). record n { flow = slice_set n.flow (flow_index n.instance.demand k) (to_z w64 (of_z w64 (after c))) }) c.swap_row.ensures.moment
     ∙ ap (λ (z : ℤ). record m { instance = J; flow = slice_set m.flow (flow_index m.instance.demand k) z }) flow
@@ -53,31 +40,25 @@ invariant_of-self c =
     let m = c.args.self.now.moment in
     let t = c.self-2.inside in
     let s = (goal.at.invariant_of-self c).After-swap_flow in
-    let after_fits : SFits w64 (after s) = search rules in
     let now = ap (λ (d : TablesView). d.moment) c.self-2.view_is ∙ moment_is s in
     tables_told t.graph t.flow t.potentials t.balance t.cut t.scratch t.before c.if-self.stands c.self-2.invariant (λ stands.
     elim c.if-self.branch [
       | then-self w ↦ subst (λ (n : Moment). AreGreatestPotentials (reduced n.instance) n.flow (at_node n.potentials)) (sym now)
           (greatest_changed m.instance c.edited_row-k.result.0 c.edited_row-k.result.1 (at_node m.potentials) m.flow (after s) (edit_is s).arc (edit_is s).tail (edit_is s).head
           (λ tight. subst (λ (y : ℤ). KeepsResidualArcs (row_at (reduced m.instance).arcs (flow_index m.instance.demand c.edited_row-k.result.0)) (number_at m.flow (flow_index m.instance.demand c.edited_row-k.result.0)) c.edited_row-k.result.1 y)
-          (to_z-of_z w64 (after s) after_fits) (w.keeps_greatest-stands.ensures (sym w.stands-is ∙ stands) tight)) c.requires.certified
+          (to_z-of_z w64 (after s) (search rules)) (w.keeps_greatest-stands.ensures (sym w.stands-is ∙ stands) tight)) c.requires.can.certified
           (subst (λ (b : TablesView). AreGreatestPotentials (reduced b.moment.instance) b.moment.flow (at_node b.moment.potentials)) c.self.view_is (c.self.invariant.told w.if-self.true)))
       | else-self w ↦ (let wrong : false ≡ true = sym w.if-self.false ∙ sym w.stands-is ∙ stands in cc)
     ])
 
-pub returns-clause-made : goal.returns-clause-made
-returns-clause-made c =
+pub returns : goal.returns
+returns c =
     let m = c.args.self.now.moment in
-    let s = (goal.at.returns-clause-made c).After-swap_flow in
+    let s = (goal.at.returns c).After-swap_flow in
     let now = ap (λ (d : TablesView). d.moment) c.self-2.view_is ∙ moment_is s in
-    let lawful = subst (λ (b : TablesView). IsLawful b.moment.instance) c.self.view_is c.self.invariant.graph.rows.lawful in
-    subst (λ (n : Moment). IsMade m.instance n.instance c.args.edit.now (at_node m.potentials) m.flow n.flow) (sym now)
-    (row_made m.instance c.args.edit.now c.edited_row-k.result.0 c.edited_row-k.result.1 (at_node m.potentials) m.flow (after s) lawful c.requires.certified (edit_is s) (near s))
-
-pub returns-clause-certified : goal.returns-clause-certified
-returns-clause-certified c =
-    let m = c.args.self.now.moment in
-    let s = (goal.at.returns-clause-certified c).After-swap_flow in
-    let now = ap (λ (d : TablesView). d.moment) c.self-2.view_is ∙ moment_is s in
-    subst (λ (n : Moment). IsCertifiedFlow (reduced n.instance) n.flow (at_node n.potentials)) (sym now)
-    (certified_changed m.instance c.edited_row-k.result.0 c.edited_row-k.result.1 (at_node m.potentials) m.flow (after s) (edit_is s).arc.0 c.requires.certified (near s))
+    let lawful : IsLawful m.instance = rw (← c.self.view_is) c.self.invariant.graph.rows.lawful in
+    let both = subst (λ (n : Moment). Makes c.args.edit.now m n × IsCertifiedMoment n) (sym now) (
+      row_made m.instance c.args.edit.now c.edited_row-k.result.0 c.edited_row-k.result.1 (at_node m.potentials) m.flow (after s) lawful c.requires.can.certified (edit_is s) (near s),
+      certified_changed m.instance c.edited_row-k.result.0 c.edited_row-k.result.1 (at_node m.potentials) m.flow (after s) (edit_is s).arc.0 c.requires.can.certified (near s),
+    ) in
+    record { made = both.0; certified = both.1; potentials = search rules; kept = search rules }

@@ -1,4 +1,4 @@
-use Rattle.std.proofs.Common.{add-one, ◌≡◌, ◌∙◌, ◌+◌, ℕ, suc, ℤ, arith, pos, false, true, List, map, drop, length, replicate, ap, sym, subst}
+use Rattle.std.proofs.Common.{add-one, ◌≡◌, ◌∙◌, ◌+◌, ℕ, suc, ℤ, arith, pos, false, List, map, drop, length, replicate, ap, sym, subst}
 use Rattle.std.proofs.lemmas.Int.{ints}
 use Rattle.std.proofs.lemmas.List.{length-map, length-replicate}
 use Rattle.network.specs.Flow.{IsCertifiedFlow}
@@ -6,7 +6,6 @@ use Rattle.network.specs.Instance.{Instance, at_node, reduced}
 use Rattle.flow_solver.specs.Moment.{start}
 use Rattle.augmentation.specs.Nodes.{IsIdleEntry}
 use Rattle.residual_graph.specs.Residual.{number_at}
-use Rattle.flow_solver.proofs.TablesViewLemmas.{nodes_alike}
 use Rattle.flow_solver.proofs.InstanceLemmas.{start_certified, zero_entries}
 use Rattle.flow_solver.proofs.tables.Tables.new.Goals as goal
 use Rattle.flow_solver.proofs.tables.Tables.new.Goals.{In_ok-potentials}
@@ -25,20 +24,20 @@ pub invariant_of-result : goal.invariant_of-result
 invariant_of-result c =
     let graph = c.in_ok-graph.graph in
     let nodes = c.in_ok-potentials.ensures in
-    let zeros = replicate (c.nodes.result + 1) (pos 0) in
-    let unmarked = replicate (c.nodes.result + 1) false in
     let entries : c.nodes.result + 1 ≡ graph.net.nodes + 1 = ap (λ (n : ℕ). n + 1) (c.nodes.ensures.value ∙ ap (λ (I : Instance). I.nodes) c.network-2.ensures) in
     record {
-      graph = c.in_ok-graph.ensures.graph;
-      flow_in = ap (λ (xs : List ℤ). length xs) c.in_ok-flow.ensures.flow ∙ length-map graph.rows start;
-      flow_whole = ap (λ (xs : List ℤ). length xs) c.in_ok-flow.ensures.whole ∙ length-map graph.rows start;
-      flow_fits = omega (arith, c.in_ok-flow.ensures.room);
-      potentials_in = nodes_alike graph.net.nodes c.in_ok-potentials.potentials zeros zeros nodes.potentials nodes.potentials_kept (length-replicate (c.nodes.result + 1) (pos 0) ∙ entries) (length-replicate (c.nodes.result + 1) (pos 0) ∙ entries);
-      idle = subst IsIdleEntry (sym nodes.potentials) (idle_zeros c.nodes.result);
-      kept_idle = subst IsIdleEntry (sym nodes.potentials_kept) (idle_zeros c.nodes.result);
+      fit = record {
+        graph = c.in_ok-graph.ensures.graph;
+        flow_in = ap (λ (xs : List ℤ). length xs) c.in_ok-flow.ensures.flow ∙ length-map graph.rows start;
+        flow_whole = ap (λ (xs : List ℤ). length xs) c.in_ok-flow.ensures.whole ∙ length-map graph.rows start;
+        flow_fits = omega (arith, c.in_ok-flow.ensures.room);
+        potentials_in = record { entries_in = rw nodes.potentials (length-replicate (c.nodes.result + 1) (pos 0) ∙ entries); kept_in = rw nodes.potentials_kept (length-replicate (c.nodes.result + 1) (pos 0) ∙ entries) };
+        idle = subst IsIdleEntry (sym nodes.potentials) (idle_zeros c.nodes.result);
+        kept_idle = subst IsIdleEntry (sym nodes.potentials_kept) (idle_zeros c.nodes.result);
+        cut_in = record { entries_in = rw nodes.cut (length-replicate (c.nodes.result + 1) false ∙ entries); kept_in = rw nodes.cut_kept (length-replicate (c.nodes.result + 1) false ∙ entries) };
+        scratch_in = nodes.scratch ∙ entries;
+      };
       balance_is = c.in_ok-flow.ensures.balance;
-      cut_in = nodes_alike graph.net.nodes c.in_ok-potentials.cut unmarked unmarked nodes.cut nodes.cut_kept (length-replicate (c.nodes.result + 1) false ∙ entries) (length-replicate (c.nodes.result + 1) false ∙ entries);
-      scratch_in = nodes.scratch ∙ entries;
       told = λ none. cc;
       log_fits = omega (arith, c.in_ok-log.ensures.capacity);
       before_is = tt;

@@ -1,29 +1,22 @@
-use Rattle.std.proofs.Common.{◌≡◌, ◌∙◌, List, None, Some, ap, subst}
+use Rattle.std.proofs.Common.{◌≡◌, None, Some, subst}
 use Rattle.std.specs.Prelude.{IfSome}
 use Rattle.dimacs_text.specs.Lawful.{IsNode}
-use Rattle.network.specs.Instance.{Instance, reduced_supply}
-use Rattle.flow_solver.specs.declared.part.Part.{Part}
+use Rattle.network.specs.Instance.{reduced_supply}
 use Rattle.flow_solver.specs.TablesView.{TablesView}
-use Rattle.flow_solver.specs.Part.{before_all}
-use Rattle.flow_solver.specs.Tables.{kept_by}
-use Rattle.flow_solver.proofs.LogLemmas.{no_supply_since, supply_since}
+use Rattle.flow_solver.proofs.LogLemmas.{nodes_before}
+use Rattle.flow_solver.proofs.TablesViewLemmas.{since}
 use Rattle.flow_solver.proofs.tables.Tables.old_supply.Goals as goal
 
 pub returns-clause-node : goal.returns-clause-node
 returns-clause-node c =
     let t = c.self.inside in
-    let kept = kept_by t.flow t.potentials.table t.cut t.before.log.items in
-    let id = c.args.id in
-    let result = c.supply_before.result in
-    let told = subst (λ (I : Instance). IsNode I.nodes id → result ≡ Some (reduced_supply (before_all c.deref.result.now I).demand id)) c.network.ensures c.supply_before.ensures.node in
-    subst (λ (d : TablesView). IfSome d.before (λ old. IsNode old.instance.nodes id → result ≡ Some (reduced_supply old.instance.demand id))) c.self.view_is
-    (supply_since t.before.verdict t.graph.net kept id result (λ node. told node ∙ ap (λ (ps : List Part). Some (reduced_supply (before_all ps t.graph.net).demand id)) c.deref.ensures.value))
+    subst (λ (d : TablesView). IfSome d.before (λ old. IsNode old.instance.nodes c.args.id → c.supply_before.result ≡ Some (reduced_supply old.instance.demand c.args.id))) c.self.view_is
+    (since _ _ _ (λ old. IsNode old.instance.nodes c.args.id → c.supply_before.result ≡ Some (reduced_supply old.instance.demand c.args.id))
+    (λ told node. rw (c.network.ensures, c.deref.ensures.value) at (c.supply_before.ensures.node (rw c.network.ensures (rw (nodes_before t.before.log.items t.graph.net) at node)))))
 
 pub returns-clause-no_node : goal.returns-clause-no_node
 returns-clause-no_node c =
     let t = c.self.inside in
-    let kept = kept_by t.flow t.potentials.table t.cut t.before.log.items in
-    let id = c.args.id in
-    let result = c.supply_before.result in
-    subst (λ (d : TablesView). IfSome d.before (λ old. (IsNode old.instance.nodes id → ⊥) → result ≡ None)) c.self.view_is
-    (no_supply_since t.before.verdict t.graph.net kept id result (subst (λ (I : Instance). (IsNode I.nodes id → ⊥) → result ≡ None) c.network.ensures c.supply_before.ensures.no_node))
+    subst (λ (d : TablesView). IfSome d.before (λ old. (IsNode old.instance.nodes c.args.id → ⊥) → c.supply_before.result ≡ None)) c.self.view_is
+    (since _ _ _ (λ old. (IsNode old.instance.nodes c.args.id → ⊥) → c.supply_before.result ≡ None)
+    (λ told none. c.supply_before.ensures.no_node (λ node. none (rw (nodes_before t.before.log.items t.graph.net) (rw c.network.ensures at node)))))

@@ -1,13 +1,14 @@
-use Rattle.std.proofs.Common.{◌≡◌, ◌∙◌, ◌+ℤ◌, ◌-ℤ◌, ◌*ℤ◌, ◌<◌, ◌++◌, ◌∷◌, [], ℤ, List, pos, ap, arith, false, length, refl, rules, subst, sym, w64, SFits, to_z, of_z}
-use Rattle.std.specs.Int.{int_wrap, w128}
+use Rattle.std.proofs.Common.{◌∙◌, ◌<◌, ℤ, List, ap, arith, length, rules, subst, sym, w64, to_z, of_z}
+use Rattle.std.specs.Int.{w128}
 use Rattle.std.proofs.lemmas.Int.{to_z-of_z}
 use Rattle.std.proofs.lemmas.List.{length-append}
 use Rattle.dimacs_text.specs.declared.problem.ArcRow.{ArcRow}
 use Rattle.network.specs.Instance.{Instance}
 use Rattle.flow_solver.specs.TablesView.{TablesView}
 use Rattle.flow_solver.proofs.InstanceLemmas.{rows_counted}
-use Rattle.flow_solver.proofs.CarryLemmas.{balance_put, carried_as}
-use Rattle.flow_solver.proofs.TablesViewLemmas.{tables_with_arcs}
+use Rattle.flow_solver.proofs.CarryLemmas.{balance_put}
+use Rattle.augmentation.proofs.TrackedLemmas.{IsWritten-same}
+use Rattle.flow_solver.proofs.TablesViewLemmas.{fit_again}
 use Rattle.flow_solver.proofs.tables.Tables.put_last.Goals as goal
 
 pub invariant_of-self : goal.invariant_of-self
@@ -17,23 +18,25 @@ invariant_of-self c =
     let J = c.push_arc.new.self.net in
     let inv = c.self.invariant in
     let many = ap (λ (xs : List ℤ). length xs) c.push.ensures.entries ∙ length-append t.flow.entries _ in
+    let many_whole = ap (λ (xs : List ℤ). length xs) c.push.ensures.whole ∙ length-append t.flow.whole _ in
+    let one_more = ap (λ (r : List ArcRow). length r) c.push_arc.ensures.rows ∙ length-append t.graph.rows _ in
     let now = record t.balance { excess = c.carry_over.new.excess; cost = to_z w128 (of_z w128 c.reprice-self-inside.result) } in
-    let flow_fits : SFits w64 c.args.flow = search rules in
-    let price_fits : SFits w64 c.args.row.cost = search rules in
-    let old_fits : SFits w128 t.balance.cost = search rules in
-    let flow = to_z-of_z w64 c.args.flow flow_fits in
-    let price = to_z-of_z w64 c.args.row.cost price_fits in
-    let old = to_z-of_z w128 t.balance.cost old_fits in
-    let cost : to_z w128 (of_z w128 c.reprice-self-inside.result) ≡ int_wrap w128 (t.balance.cost +ℤ (c.args.flow -ℤ pos 0) *ℤ c.args.row.cost) =
-    to_z-of_z w128 c.reprice-self-inside.result (record { sfits = c.reprice-self-inside.type_inv }) ∙ c.reprice-self-inside.ensures ∙ (λ i. int_wrap w128 (old i +ℤ (flow i -ℤ pos 0) *ℤ price i)) in
-    let carried = carried_as c.args.row _ (pos 0) _ c.args.flow _ t.balance.excess now.excess refl refl flow c.carry_over.ensures in
-    let balance = balance_put I J t.graph.rows c.push_arc.new.self.rows t.flow c.push.new.self t.balance now c.args.row c.args.flow inv.graph.rows.rows_are c.push_arc.ensures.graph.rows.rows_are c.push_arc.ensures.net
-    inv.flow_in inv.flow_whole (c.push.ensures.entries ∙ ap (λ (y : ℤ). t.flow.entries ++ y ∷ []) flow) (c.push.ensures.whole ∙ ap (λ (y : ℤ). t.flow.whole ++ y ∷ []) flow) carried cost inv.balance_is in
-    tables_with_arcs t.graph c.push_arc.new.self t.flow c.push.new.self t.potentials t.balance now t.cut t.scratch t.before
-    inv (ap (λ (K : Instance). K.nodes) c.push_arc.ensures.net) (ap (λ (K : Instance). K.room) c.push_arc.ensures.net) c.push_arc.ensures.graph
-    (omega (arith, many, inv.flow_in, ap (λ (r : List ArcRow). length r) c.push_arc.ensures.rows, length-append t.graph.rows (c.args.row ∷ [])))
-    (omega (arith, ap (λ (xs : List ℤ). length xs) c.push.ensures.whole, length-append t.flow.whole (to_z w64 (of_z w64 c.args.flow) ∷ []), inv.flow_whole, ap (λ (r : List ArcRow). length r) c.push_arc.ensures.rows, length-append t.graph.rows (c.args.row ∷ [])))
-    c.push.ensures.room balance
+    let flow = to_z-of_z w64 c.args.flow (search rules) in
+    let cost = to_z-of_z w128 c.reprice-self-inside.result (record { sfits = c.reprice-self-inside.type_inv })
+    ∙ (rw (to_z-of_z w128 t.balance.cost (search rules), flow, to_z-of_z w64 c.args.row.cost (search rules)) at c.reprice-self-inside.ensures) in
+    let carried = rw flow at c.carry_over.ensures in
+    let balance = balance_put I J t.graph.rows c.push_arc.new.self.rows t.flow c.push.new.self t.balance now c.args.row c.args.flow c.push_arc.ensures.net c.push_arc.ensures.rows
+    inv.flow_in inv.flow_whole (rw flow at c.push.ensures.entries) (rw flow at c.push.ensures.whole) carried cost inv.balance_is in
+    record {
+      fit = fit_again t.graph c.push_arc.new.self t.flow c.push.new.self t.potentials.table t.potentials.table t.cut t.cut t.scratch t.scratch inv.fit
+          (ap (λ (K : Instance). K.nodes) c.push_arc.ensures.net) (ap (λ (K : Instance). K.room) c.push_arc.ensures.net) c.push_arc.ensures.graph
+          (omega (arith, many, inv.flow_in, one_more)) (omega (arith, many_whole, inv.flow_whole, one_more))
+          c.push.ensures.room (IsWritten-same t.potentials.table) inv.idle (IsWritten-same t.cut) inv.scratch_in;
+      balance_is = balance;
+      told = λ none. cc;
+      log_fits = inv.log_fits;
+      before_is = tt;
+    }
 
 pub push-requires : goal.push-requires
 push-requires c =

@@ -1,14 +1,11 @@
-use Rattle.std.proofs.Common.{◌∙◌, ℤ, List, ap, arith, drop, length, refl, subst, sym}
+use Rattle.std.proofs.Common.{◌∙◌, List, ap, arith, length, refl, subst, sym}
 use Rattle.std.specs.Int.{w128}
 use Rattle.std.proofs.lemmas.Int.{to_z-of_z}
 use Rattle.dimacs_text.specs.declared.problem.ArcRow.{ArcRow}
-use Rattle.network.specs.Instance.{at_node, reduced}
-use Rattle.flow_solver.specs.Answer.{AreGreatestPotentials}
 use Rattle.flow_solver.specs.Balance.{IsWrappedCost}
 use Rattle.augmentation.specs.Nodes.{IsIdleEntry}
 use Rattle.augmentation.specs.ScratchView.{ScratchView}
 use Rattle.flow_solver.proofs.CarryLemmas.{balance_kept}
-use Rattle.flow_solver.proofs.TablesViewLemmas.{nodes_alike}
 use Rattle.flow_solver.proofs.tables.Tables.snapshot.Goals as goal
 
 pub invariant_of-self : goal.invariant_of-self
@@ -19,19 +16,19 @@ invariant_of-self c =
     let cost = to_z-of_z w128 result (record { sfits = c.cost_now-self-inside.type_inv })
     ∙ subst (λ (r : List ArcRow). IsWrappedCost r t.flow.entries result) c.rows.ensures c.cost_now-self-inside.ensures in
     record {
-      graph = inv.graph;
-      flow_in = ap length c.snapshot.ensures.entries ∙ inv.flow_in;
-      flow_whole = ap length c.snapshot.ensures.whole ∙ inv.flow_in;
-      flow_fits = omega (arith, inv.flow_fits, c.snapshot.ensures.room);
-      potentials_in = nodes_alike t.graph.net.nodes c.snapshot-2.new.self t.potentials.table.entries t.potentials.table.entries c.snapshot-2.ensures.entries c.snapshot-2.ensures.kept inv.potentials_in.entries_in inv.potentials_in.entries_in;
-      idle = subst IsIdleEntry (sym c.snapshot-2.ensures.entries) inv.idle;
-      kept_idle = subst IsIdleEntry (sym c.snapshot-2.ensures.kept) inv.idle;
+      fit = record {
+        graph = inv.graph;
+        flow_in = ap length c.snapshot.ensures.entries ∙ inv.flow_in;
+        flow_whole = ap length c.snapshot.ensures.whole ∙ inv.flow_in;
+        flow_fits = omega (arith, inv.flow_fits, c.snapshot.ensures.room);
+        potentials_in = record { entries_in = rw c.snapshot-2.ensures.entries inv.potentials_in.entries_in; kept_in = rw c.snapshot-2.ensures.kept inv.potentials_in.entries_in };
+        idle = subst IsIdleEntry (sym c.snapshot-2.ensures.entries) inv.idle;
+        kept_idle = subst IsIdleEntry (sym c.snapshot-2.ensures.kept) inv.idle;
+        cut_in = record { entries_in = rw c.snapshot-3.ensures.entries inv.cut_in.entries_in; kept_in = rw c.snapshot-3.ensures.kept inv.cut_in.entries_in };
+        scratch_in = ap (λ (v : ScratchView). length v.potentials) c.note_all.ensures ∙ inv.scratch_in;
+      };
       balance_is = balance_kept t.graph.net t.graph.rows t.flow c.snapshot.new.self t.balance _ c.snapshot.ensures.entries c.snapshot.ensures.whole refl cost inv.balance_is;
-      cut_in = nodes_alike t.graph.net.nodes c.snapshot-3.new.self t.cut.entries t.cut.entries c.snapshot-3.ensures.entries c.snapshot-3.ensures.kept inv.cut_in.entries_in inv.cut_in.entries_in;
-      scratch_in = ap (λ (v : ScratchView). length v.potentials) c.note_all.ensures ∙ inv.scratch_in;
-      told = λ stood.
-          subst (λ (p : List ℤ). AreGreatestPotentials (reduced t.graph.net) c.snapshot.new.self.entries (at_node (drop 1 p))) (sym c.snapshot-2.ensures.entries)
-          (subst (λ (x : List ℤ). AreGreatestPotentials (reduced t.graph.net) x (at_node (drop 1 t.potentials.table.entries))) (sym c.snapshot.ensures.entries) (inv.told stood));
+      told = λ stood. rw (c.snapshot-2.ensures.entries, c.snapshot.ensures.entries) (inv.told stood);
       log_fits = omega (arith, inv.log_fits);
       before_is = tt;
     }

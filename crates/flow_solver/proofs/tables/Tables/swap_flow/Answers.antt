@@ -1,12 +1,11 @@
-use Rattle.std.proofs.Common.{◌≡◌, ◌∙◌, ◌≤◌, ◌-◌, ◌+◌, ℕ, ℤ, List, pos, length, slice_set, drop, ap, arith, false, refl, rules, subst, sym, w64, SFits}
+use Rattle.std.proofs.Common.{◌∙◌, ◌<◌, ◌≤◌, ◌-◌, ◌+◌, ℕ, ℤ, List, pos, length, slice_set, drop, ap, arith, refl, rules, subst, sym, w64}
 use Rattle.std.specs.Prelude.{slice_index_or}
 use Rattle.std.proofs.lemmas.Int.{to_z-of_z}
 use Rattle.std.proofs.lemmas.List.{get_or_default}
-use Rattle.dimacs_text.specs.declared.problem.ArcRow.{ArcRow}
 use Rattle.flow_solver.specs.TablesView.{TablesView, flow_index}
-use Rattle.residual_graph.specs.Residual.{row_at, number_at}
-use Rattle.flow_solver.proofs.CarryLemmas.{IsPlace, balance_set, carried_as, ends_in, place_is}
-use Rattle.flow_solver.proofs.TablesViewLemmas.{tables_written}
+use Rattle.residual_graph.specs.Residual.{row_at}
+use Rattle.flow_solver.proofs.CarryLemmas.{IsPlace, balance_set, ends_in, place_is}
+use Rattle.flow_solver.proofs.TablesViewLemmas.{fit_written}
 use Rattle.augmentation.proofs.TrackedLemmas.{IsWritten-same}
 use Rattle.flow_solver.proofs.tables.Tables.swap_flow.Goals as goal
 use Rattle.flow_solver.proofs.tables.Tables.swap_flow.Goals.{After-first_row}
@@ -21,25 +20,15 @@ place_there c =
     place_is I c.self.inside.graph.rows c.args.k (place_in_rows c) c.self.invariant.graph.rows.rows_are at
     (omega (arith, c.first_row.ensures))
 
+-- its ends are entries of the excess
+ends_there : (c : After-first_row) → ((row_at c.self.inside.graph.rows (place_in_rows c)).tail < length c.self.inside.balance.excess) × ((row_at c.self.inside.graph.rows (place_in_rows c)).head < length c.self.inside.balance.excess)
+ends_there c = ends_in c.self.inside.graph.net c.self.inside.graph.rows c.self.inside.balance c.self.invariant.graph.rows.lawful c.self.invariant.graph.rows.rows_are c.self.invariant.balance_is.sized (place_in_rows c) (place_there c).in_rows
+
 pub carry_over-requires-clause-tail_in : goal.carry_over-requires-clause-tail_in
-carry_over-requires-clause-tail_in c =
-    let t = c.self.inside in
-    let before = (goal.at.carry_over-requires-clause-tail_in c).After-first_row in
-    let place = place_in_rows before in
-    let there = (place_there before).in_rows in
-    let ends = ends_in t.graph.net t.graph.rows t.balance c.self.invariant.graph.rows.lawful c.self.invariant.graph.rows.rows_are c.self.invariant.balance_is.sized place there in
-    let row : row_at c.rows.result.now place ≡ row_at t.graph.rows place = ap (λ (r : List ArcRow). row_at r place) c.rows.ensures in
-    omega (arith, ends.0, ap (λ a. a.tail) row)
+carry_over-requires-clause-tail_in c = rw c.rows.ensures (ends_there (goal.at.carry_over-requires-clause-tail_in c).After-first_row).0
 
 pub carry_over-requires-clause-head_in : goal.carry_over-requires-clause-head_in
-carry_over-requires-clause-head_in c =
-    let t = c.self.inside in
-    let before = (goal.at.carry_over-requires-clause-head_in c).After-first_row in
-    let place = place_in_rows before in
-    let there = (place_there before).in_rows in
-    let ends = ends_in t.graph.net t.graph.rows t.balance c.self.invariant.graph.rows.lawful c.self.invariant.graph.rows.rows_are c.self.invariant.balance_is.sized place there in
-    let row : row_at c.rows.result.now place ≡ row_at t.graph.rows place = ap (λ (r : List ArcRow). row_at r place) c.rows.ensures in
-    omega (arith, ends.1, ap (λ a. a.head) row)
+carry_over-requires-clause-head_in c = rw c.rows.ensures (ends_there (goal.at.carry_over-requires-clause-head_in c).After-first_row).1
 
 pub invariant_of-self : goal.invariant_of-self
 invariant_of-self c =
@@ -48,17 +37,16 @@ invariant_of-self c =
     let before = (goal.at.invariant_of-self c).After-first_row in
     let place = place_in_rows before in
     let there = (place_there before).in_rows in
-    let row : row_at c.rows.result.now place ≡ row_at t.graph.rows place = ap (λ (r : List ArcRow). row_at r place) c.rows.ensures in
-    let entry_fits : SFits w64 c.get.result = search rules in
-    let entry = to_z-of_z w64 c.get.result entry_fits ∙ c.get.ensures ∙ get_or_default t.flow.entries place c.get.result (pos 0) (omega (arith, there, inv.flow_in)) in
-    let value_fits : SFits w64 c.args.value.now = search rules in
-    let value = to_z-of_z w64 c.args.value.now value_fits in
-    let carried = carried_as (row_at t.graph.rows place) _ (number_at t.flow.entries place) _ c.args.value.now _ t.balance.excess _ row entry value c.carry_over.ensures in
+    let entry = to_z-of_z w64 c.get.result (search rules) ∙ c.get.ensures ∙ get_or_default t.flow.entries place c.get.result (pos 0) (omega (arith, there, inv.flow_in)) in
+    let carried = rw (c.rows.ensures, entry, to_z-of_z w64 c.args.value.now (search rules)) at c.carry_over.ensures in
     let balance = balance_set t.graph.net t.graph.rows t.flow c.exchange.new.self t.balance _ place c.args.value.now there inv.flow_in carried refl c.exchange.ensures.entries c.exchange.ensures.written.whole inv.balance_is in
-    tables_written t.graph t.graph t.flow c.exchange.new.self t.potentials _ t.balance _ t.cut t.cut t.scratch t.scratch t.before
-    inv refl refl inv.graph refl c.exchange.ensures.written (IsWritten-same t.potentials.table)
-    inv.idle balance (IsWritten-same t.cut)
-    inv.scratch_in (λ none. cc)
+    record {
+      fit = fit_written t.graph t.graph t.flow c.exchange.new.self t.potentials.table t.potentials.table t.cut t.cut t.scratch t.scratch inv.fit refl refl inv.graph refl c.exchange.ensures.written (IsWritten-same t.potentials.table) inv.idle (IsWritten-same t.cut) inv.scratch_in;
+      balance_is = balance;
+      told = λ none. cc;
+      log_fits = inv.log_fits;
+      before_is = tt;
+    }
 
 pub returns-clause-moment : goal.returns-clause-moment
 returns-clause-moment c =

@@ -1,5 +1,5 @@
-use Rattle.std.proofs.Common.{◌≡◌, ◌∙◌, ◌+◌, ◌-◌, ◌<◌, ◌≤◌, ◌^◌, ◌+ℤ◌, ◌-ℤ◌, ◌*ℤ◌, ℤ, List, pos, ap, arith, false, length, refl, rules, slice_index_or, subst, sym, w64, SFits, to_z, of_z}
-use Rattle.std.specs.Int.{int_wrap, w128}
+use Rattle.std.proofs.Common.{◌≡◌, ◌∙◌, ◌+◌, ◌-◌, ◌<◌, ◌≤◌, ◌^◌, ℤ, List, ap, arith, length, refl, rules, slice_index_or, subst, sym, w64, to_z, of_z}
+use Rattle.std.specs.Int.{w128}
 use Rattle.std.proofs.lemmas.Int.{to_z-of_z}
 use Rattle.dimacs_text.specs.declared.problem.ArcRow.{ArcRow}
 use Rattle.network.specs.Instance.{Instance}
@@ -8,7 +8,7 @@ use Rattle.residual_graph.specs.Residual.{row_at, number_at}
 use Rattle.augmentation.specs.ScratchView.{ScratchView}
 use Rattle.flow_solver.proofs.CarryLemmas.{balance_swapped, place_is}
 use Rattle.flow_solver.proofs.InstanceLemmas.{few_rows}
-use Rattle.flow_solver.proofs.TablesViewLemmas.{tables_written}
+use Rattle.flow_solver.proofs.TablesViewLemmas.{fit_written}
 use Rattle.augmentation.proofs.TrackedLemmas.{IsWritten-same}
 use Rattle.flow_solver.proofs.tables.Tables.swap_row.Goals as goal
 
@@ -23,28 +23,25 @@ invariant_of-self c =
     let there = subst (λ (b : TablesView). (1 ≤ c.args.k) × (c.args.k ≤ length b.moment.instance.arcs)) (sym c.self.view_is) (c.requires.ends.0, c.requires.ends.1) in
     let tail = subst (λ (b : TablesView). row.tail ≡ (slice_index_or b.moment.instance.arcs (c.args.k - 1) row).tail) (sym c.self.view_is) c.requires.ends.2 in
     let head = subst (λ (b : TablesView). row.head ≡ (slice_index_or b.moment.instance.arcs (c.args.k - 1) row).head) (sym c.self.view_is) c.requires.ends.3 in
-    let after_fits : SFits w64 c.args.row.now.cost = search rules in
-    let after = to_z-of_z w64 row.cost after_fits in
     let place = c.first_row.result + (c.args.k - 1) in
     let at = place_is I t.graph.rows c.args.k place inv.graph.rows.rows_are there
     (omega (arith, c.first_row.ensures)) in
     let before : row_at c.rows.result.now place ≡ row_at t.graph.rows place = ap (λ (r : List ArcRow). row_at r place) c.rows.ensures in
-    let kept : number_at c.whole.result.now place ≡ number_at t.flow.whole place = ap (λ (x : List ℤ). number_at x place) c.whole.ensures.value in
-    let old_fits : SFits w128 c.self.inside.balance.cost = search rules in
-    let before_fits : SFits w64 (row_at c.rows.result.now place).cost = search rules in
-    let kept_fits : SFits w64 (number_at c.whole.result.now place) = search rules in
-    let old = to_z-of_z w128 t.balance.cost old_fits in
-    let price : to_z w64 (of_z w64 (row_at c.rows.result.now place).cost) ≡ (row_at t.graph.rows place).cost = to_z-of_z w64 (row_at c.rows.result.now place).cost before_fits ∙ ap (λ a. a.cost) before in
-    let factor : to_z w64 (of_z w64 (number_at c.whole.result.now place)) ≡ number_at t.flow.whole place = to_z-of_z w64 (number_at c.whole.result.now place) kept_fits ∙ kept in
-    let cost : to_z w128 (of_z w128 c.reprice-self-inside.result) ≡ int_wrap w128 (t.balance.cost +ℤ (row.cost -ℤ (row_at t.graph.rows place).cost) *ℤ number_at t.flow.whole place) =
-    to_z-of_z w128 c.reprice-self-inside.result (record { sfits = c.reprice-self-inside.type_inv }) ∙ c.reprice-self-inside.ensures ∙ (λ i. int_wrap w128 (old i +ℤ (after i -ℤ price i) *ℤ factor i)) in
+    let price = to_z-of_z w64 (row_at c.rows.result.now place).cost (search rules) ∙ ap (λ a. a.cost) before in
+    let factor = to_z-of_z w64 (number_at c.whole.result.now place) (search rules) ∙ ap (λ (x : List ℤ). number_at x place) c.whole.ensures.value in
+    let cost = to_z-of_z w128 c.reprice-self-inside.result (record { sfits = c.reprice-self-inside.type_inv })
+    ∙ (rw (to_z-of_z w128 t.balance.cost (search rules), to_z-of_z w64 row.cost (search rules), price, factor) at c.reprice-self-inside.ensures) in
     let now = record t.balance { cost = to_z w128 (of_z w128 c.reprice-self-inside.result) } in
     let balance = balance_swapped I J t.graph.rows c.set_row.new.self.rows t.flow t.balance now c.args.k place row there.0 at inv.graph.rows.rows_are c.set_row.ensures.graph.rows.rows_are net tail head
     inv.flow_in inv.flow_whole refl cost inv.balance_is in
-    tables_written t.graph c.set_row.new.self t.flow t.flow t.potentials _ t.balance now t.cut t.cut t.scratch _ t.before
-    inv (ap (λ (K : Instance). K.nodes) net) (ap (λ (K : Instance). K.room) net) c.set_row.ensures.graph c.set_row.ensures.one_a_row
-    (IsWritten-same t.flow) (IsWritten-same t.potentials.table) inv.idle balance (IsWritten-same t.cut)
-    (ap (λ (v : ScratchView). length v.potentials) c.note_all.ensures ∙ inv.scratch_in ∙ ap (λ (K : Instance). K.nodes + 1) (sym net)) (λ none. cc)
+    record {
+      fit = fit_written t.graph c.set_row.new.self t.flow t.flow t.potentials.table t.potentials.table t.cut t.cut t.scratch _ inv.fit (ap (λ (K : Instance). K.nodes) net) (ap (λ (K : Instance). K.room) net) c.set_row.ensures.graph c.set_row.ensures.one_a_row
+          (IsWritten-same t.flow) (IsWritten-same t.potentials.table) inv.idle (IsWritten-same t.cut) (ap (λ (v : ScratchView). length v.potentials) c.note_all.ensures ∙ inv.scratch_in);
+      balance_is = balance;
+      told = λ none. cc;
+      log_fits = inv.log_fits;
+      before_is = tt;
+    }
 
 pub returns-clause-row : goal.returns-clause-row
 returns-clause-row c =

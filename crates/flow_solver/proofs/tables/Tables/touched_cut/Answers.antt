@@ -2,15 +2,13 @@ use Rattle.std.proofs.Common.{drop, subst}
 use Rattle.std.specs.Prelude.{IfSome}
 use Rattle.augmentation.specs.Touched.{NameChanges}
 use Rattle.flow_solver.specs.TablesView.{TablesView}
-use Rattle.flow_solver.specs.Tables.{kept_by}
 use Rattle.augmentation.proofs.TrackedLemmas.{named_after_first}
-use Rattle.flow_solver.proofs.TablesViewLemmas.{cut_since}
+use Rattle.flow_solver.proofs.TablesViewLemmas.{since}
 use Rattle.flow_solver.proofs.tables.Tables.touched_cut.Goals as goal
 
 pub returns-clause-named : goal.returns-clause-named
 returns-clause-named c =
-    let t = c.self.inside in
+    let cut = c.self.inside.cut in
     let places = c.places.result.now in
     subst (λ (d : TablesView). IfSome d.before (λ old. NameChanges 1 places old.cut d.moment.cut)) c.self.view_is
-    (cut_since t.before.verdict t.graph.net (kept_by t.flow t.potentials.table t.cut t.before.log.items) places (drop 1 t.cut.entries)
-    (named_after_first places t.cut.kept t.cut.entries c.places.ensures.named))
+    (since _ _ _ (λ old. NameChanges 1 places old.cut (drop 1 cut.entries)) (λ told. named_after_first places cut.kept cut.entries c.places.ensures.named))

@@ -9,13 +9,12 @@ pub log_edit-requires-clause-room : goal.log_edit-requires-clause-room
 log_edit-requires-clause-room c = omega (arith, c.requires.few, c.loop-edit.invariant.logged)
 
 pub log_edit-requires-clause-accepted : goal.log_edit-requires-clause-accepted
-log_edit-requires-clause-accepted c = making_fits c.loop-edit.edit-index c.args.edits.now c.args.tables.now c.loop-edit.tables _ (omega arith) c.loop-edit.invariant
+log_edit-requires-clause-accepted c = (making_fits c.loop-edit.edit-index c.args.edits.now c.args.tables.now c.loop-edit.tables _ (omega arith) c.loop-edit.invariant).accepted
 
 pub loop-edit-preserved : goal.loop-edit-preserved
 loop-edit-preserved c =
     making_more c.loop-edit.edit-index c.args.edits.now c.args.tables.now c.loop-edit.tables c.log_edit.new.self c.make.new.self _ (omega arith) c.loop-edit.invariant
-    c.log_edit.ensures.moment c.log_edit.ensures.logged c.make.ensures.made c.make.ensures.certified c.make.ensures.potentials c.make.ensures.kept
+    c.log_edit.ensures.moment c.log_edit.ensures.logged c.make.ensures
 
-pub make-requires-clause-accepted : goal.make-requires-clause-accepted
-make-requires-clause-accepted c =
-    rw c.log_edit.ensures.moment (making_fits c.loop-edit.edit-index c.args.edits.now c.args.tables.now c.loop-edit.tables _ (omega arith) c.loop-edit.invariant)
+pub make-requires : goal.make-requires
+make-requires c = rw c.log_edit.ensures.moment (making_fits c.loop-edit.edit-index c.args.edits.now c.args.tables.now c.loop-edit.tables _ (omega arith) c.loop-edit.invariant)

@@ -1,17 +1,17 @@
 use Rattle.std.proofs.Common.{ap, arith, ◌∷◌, [], length, length-append}
 use Rattle.flow_solver.specs.Moment.{Snapshot}
-use Rattle.flow_solver.proofs.GroupLemmas.{popped, popped_fits, taken_back}
+use Rattle.flow_solver.proofs.GroupLemmas.{last_can, last_fits, taken_back}
 use Rattle.flow_solver.proofs.tables.changes.take_back_all.Goals as goal
 
 pub take_back-requires : goal.take_back-requires
 take_back-requires c =
-    let is = popped c.args.tables.now c.loop-part.tables c.pop_part.new.self c.in-Some.part c.pop_part.ensures.moment (c.pop_part.ensures.some c.in-Some.part c.in-Some.is) c.loop-part.invariant in
-    record { can = is.can_part; kept = popped_fits c.args.tables.now c.pop_part.new.self c.in-Some.part is }
+    let popped = rw (← c.pop_part.ensures.moment) at (rw (c.pop_part.ensures.some c.in-Some.part c.in-Some.is) at c.loop-part.invariant) in
+    record { can = last_can _ _ _ _ _ popped; kept = last_fits _ _ _ _ _ popped }
 
 pub loop-part-preserved : goal.loop-part-preserved
 loop-part-preserved c =
-    let is = popped c.args.tables.now c.loop-part.tables c.pop_part.new.self c.in-Some.part c.pop_part.ensures.moment (c.pop_part.ensures.some c.in-Some.part c.in-Some.is) c.loop-part.invariant in
-    taken_back c.args.tables.now c.pop_part.new.self c.take_back.new.self c.in-Some.part c.take_back.ensures.instance c.take_back.ensures.kept is
+    let popped = rw (← c.pop_part.ensures.moment) at (rw (c.pop_part.ensures.some c.in-Some.part c.in-Some.is) at c.loop-part.invariant) in
+    rw (c.take_back.ensures.kept, c.take_back.ensures.instance) (taken_back _ _ _ _ _ popped)
 
 pub loop-part-smaller : goal.loop-part-smaller
 loop-part-smaller c =
