@@ -1,7 +1,7 @@
 -- What one search, one change of potentials and one push keep.
 use Rattle.residual_graph.specs.Limits.{entry_limit}
 use Rattle.augmentation.specs.Limits.{left_limit, excess_limit}
-use Rattle.std.proofs.Common.{◌≡◌, ◌≢◌, ℕ, zero, suc, ◌+◌, ◌*◌, ◌<◌, ◌≤◌, ℤ, pos, negsuc, neg_ℤ, ◌-ℤ◌, ◌+ℤ◌, ◌≤ℤ◌, List, [], ◌∷◌, length, map, refl, sym, ap, subst, ◌∙◌, inl, inr, arith}
+use Rattle.std.proofs.Common.{◌≡◌, ◌≢◌, ℕ, zero, suc, ◌+◌, ◌<◌, ◌≤◌, ℤ, pos, negsuc, neg_ℤ, ◌-ℤ◌, ◌+ℤ◌, ◌≤ℤ◌, List, [], ◌∷◌, length, map, refl, sym, ap, subst, ◌∙◌, inl, inr, arith}
 use Rattle.std.specs.Prelude.{◌<ℤ◌, slice_index_or}
 use Rattle.std.specs.List.{AllPairs}
 use Rattle.std.proofs.lemmas.Int.{ints}
@@ -14,7 +14,7 @@ use Rattle.residual_graph.specs.Residual.{IsPseudoflow, IsReducedCostOptimal, No
 use Rattle.shortest_paths.specs.Predecessor.{rank_at}
 use Rattle.shortest_paths.specs.Search.{HasFound, IsReached}
 use Rattle.network.specs.Flow.{net}
-use Rattle.augmentation.specs.Push.{IsExcess, IsPath, IsPush, Pushes, nodes_on, before, hop_to, path_to, root_of, root_to, HasRoom, IsTight, IsTightArc, IsTransfer, IsAugmented, ArePushes, push_along, at_node, AreSmall, positive_part, left, lack}
+use Rattle.augmentation.specs.Push.{IsExcess, IsPath, IsPush, Pushes, nodes_on, before, hop_to, path_to, root_to, HasRoom, IsTight, IsTightArc, IsTransfer, IsAugmented, ArePushes, push_along, at_node, AreSmall, positive_part, left, lack}
 use Rattle.residual_graph.specs.declared.residual.ResidualArc.{ResidualArc}
 use Rattle.augmentation.proofs.TurnedRows.{number_at-neg, left-neg}
 use Rattle.augmentation.proofs.PathLemmas.{IsOnward, hops_tight, path_onward, root_depth}

@@ -2,14 +2,14 @@
 -- (Ahuja, Magnanti, Orlin, "Network Flows": augmenting paths; excess, deficit and pseudoflow).
 use Rattle.network.specs.Flow.{net}
 use Rattle.augmentation.specs.Limits.{excess_limit, supply_limit}
-use Rattle.std.specs.Prelude.{◌≡◌, ◌≢◌, ℕ, zero, suc, ◌+◌, ◌<◌, ◌≤◌, ℤ, pos, negsuc, neg_ℤ, ◌-ℤ◌, ◌+ℤ◌, ◌≤ℤ◌, List, [], ◌∷◌, length, slice_set, if◌then◌else◌, ◌==◌}
+use Rattle.std.specs.Prelude.{◌≡◌, ◌≢◌, ℕ, zero, suc, ◌+◌, ◌≤◌, ℤ, pos, negsuc, neg_ℤ, ◌-ℤ◌, ◌+ℤ◌, ◌≤ℤ◌, List, [], ◌∷◌, length, slice_set, if◌then◌else◌, ◌==◌}
 use Rattle.std.specs.List.{All, AllPairs, sum_by}
 use Rattle.dimacs_text.specs.declared.problem.ArcRow.{ArcRow}
 use Rattle.residual_graph.specs.declared.residual.ResidualArc.{ResidualArc}
 use Rattle.residual_graph.specs.declared.residual.Way.{Way}
 use Rattle.residual_graph.specs.declared.residual.Way.TheVariants.{Forward, Backward}
 use Rattle.shortest_paths.specs.declared.predecessor.Predecessor.{Predecessor}
-use Rattle.residual_graph.specs.Residual.{number_at, row_at, start_at, end_at, cost_at, room_of, IsResidual}
+use Rattle.residual_graph.specs.Residual.{number_at, row_at, start_at, end_at, cost_at, room_of}
 use Rattle.shortest_paths.specs.Predecessor.{arc_to, rank_at, way_to}
 
 -- e is what each node's supply exceeds the flow out of it by

@@ -1,4 +1,4 @@
-use Rattle.std.proofs.Common.{◌≡◌, ℕ, List, ℤ, true}
+use Rattle.std.proofs.Common.{◌≡◌, true}
 use Rattle.residual_graph.specs.Residual.{number_at, row_at}
 use Rattle.residual_graph.specs.Walk.{HasCome, ends_left}
 use Rattle.augmentation.specs.Certificate.{KeepsRow}

@@ -1,9 +1,9 @@
 use Rattle.std.proofs.Common.{◌≡◌, ◌∙◌, ◌+◌, ◌<◌, List, Bool, ap, length, slice_set, subst, sym, true, ℕ}
 use Rattle.std.proofs.lemmas.List.{get_or-set_same}
 use Rattle.dimacs_text.specs.declared.problem.ArcRow.{ArcRow}
-use Rattle.residual_graph.specs.Residual.{IsResidual, row_at}
+use Rattle.residual_graph.specs.Residual.{row_at}
 use Rattle.augmentation.specs.Cut.{IsGrown, far_at, far_of, in_set, near_at, near_of}
-use Rattle.augmentation.proofs.CutLemmas.{IsGrown-put, IsGrown-refl, far_of-in, near_of-in}
+use Rattle.augmentation.proofs.CutLemmas.{IsGrown-put, far_of-in}
 use Rattle.augmentation.proofs.cut.mark_by.Goals as goal
 use Rattle.augmentation.proofs.cut.mark_by.Goals.{After-mark}
 

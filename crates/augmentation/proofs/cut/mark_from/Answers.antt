@@ -1,4 +1,4 @@
-use Rattle.std.proofs.Common.{◌∙◌, Some, ap, arith, subst}
+use Rattle.std.proofs.Common.{◌∙◌, Some, ap, subst}
 use Rattle.residual_graph.specs.Walk.{HasCome}
 use Rattle.residual_graph.proofs.WalkLemmas.{come_first, come_next}
 use Rattle.augmentation.specs.Cut.{in_set}

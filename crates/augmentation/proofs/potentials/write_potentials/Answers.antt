@@ -1,5 +1,4 @@
-use Rattle.std.proofs.Common.{◌≡◌, ◌∙◌, ℤ, List, sym, subst}
-use Rattle.std.specs.Vec.{with_items}
+use Rattle.std.proofs.Common.{◌∙◌, ℤ, List, sym, subst}
 use Rattle.std.proofs.lemmas.List.{with_items_is}
 use Rattle.residual_graph.specs.Residual.{AreGreatest}
 use Rattle.augmentation.proofs.potentials.write_potentials.Goals as goal

@@ -1,12 +1,11 @@
-use Rattle.std.proofs.Common.{◌≡◌, ◌∙◌, ℕ, ℤ, pos, List, length, sym, ap, subst, rules}
+use Rattle.std.proofs.Common.{◌≡◌, ◌∙◌, ℕ, ℤ, pos, List, length, sym, ap, subst}
 use Rattle.std.specs.Prelude.{◌<ℤ◌}
 use Rattle.std.specs.Vec.{with_items}
 use Rattle.std.proofs.lemmas.List.{with_items_is}
-use Rattle.residual_graph.specs.Graph.{GraphView, HasEntries}
+use Rattle.residual_graph.specs.Graph.{HasEntries}
 use Rattle.residual_graph.specs.Residual.{IsReducedCostOptimal, number_at}
 use Rattle.shortest_paths.specs.declared.predecessor.Predecessor.{Predecessor}
-use Rattle.shortest_paths.specs.Search.{HasFound}
-use Rattle.augmentation.specs.Pseudoflow.{IsCertifiedPseudoflow, IsReady}
+use Rattle.augmentation.specs.Pseudoflow.{IsReady}
 use Rattle.augmentation.specs.Push.{AreSmall, ArePushes, IsAugmented, root_to}
 use Rattle.augmentation.specs.ScratchView.{ScratchView}
 use Rattle.augmentation.proofs.SettleLemmas.{certified_after, moved_on, one_pushed, root_in_excess}
