@@ -1,5 +1,5 @@
-//! Solves flow problems: successive shortest paths over residual arcs, with reduced costs that stay at least 0, and edits
-//! from where the flow stands.
+//! Solves flow problems: a flow that potentials certify is led to balance, by proposals and by searches, and after an edit
+//! from where it stands.
 #![tactic(auto)]
 
 mod answer;

@@ -12,13 +12,13 @@ use Rattle.residual_graph.specs.declared.residual.Way.TheVariants.{Backward, For
 use Rattle.residual_graph.specs.Graph.{AreRowsOf, GraphView}
 use Rattle.residual_graph.specs.Limits.{row_limit}
 use Rattle.residual_graph.specs.Residual.{row_at, start_at, start_of}
-use Rattle.residual_graph.specs.Walk.{HasCome, IsNextEnd, IsPassed, StandsAt, end_at, ends_before}
+use Rattle.residual_graph.specs.Walk.{HasCome, IsNextEnd, IsPassed, StandsAt, end_number, ends_before}
 use Rattle.residual_graph.proofs.NodeNumbers.{IsNodeOf, is_node_or_not}
 
 -- ---- the network's lists
 
 -- a residual arc along an arc of the network leaves the node of its end
-end_there : (arcs : List ArcRow) (j : ℕ) (way : Way) → j < length arcs → end_node arcs (end_at j way) ≡ start_at arcs j way
+end_there : (arcs : List ArcRow) (j : ℕ) (way : Way) → j < length arcs → end_node arcs (end_number j way) ≡ start_at arcs j way
 end_there arcs j Forward lt = end_node-tail arcs j lt
 end_there arcs j Backward lt = (let next : 2 * j + 1 ≡ suc (2 * j) = omega arith in ap (end_node arcs) next ∙ end_node-head arcs j lt)
 
@@ -29,7 +29,7 @@ node_there I j Backward lawful lt = (lawful.arcs j _ lt).0.head
 -- the greatest end below n at node v, in the network's numbers
 pub record IsNextBelow (arcs : List ArcRow) (v n : ℕ) (next : Option ℕ) : Type 0 where
   pub found : IfSome next (λ end. (end < n) × (end_node arcs end ≡ v))
-  pub all : (j : ℕ) (way : Way) → j < length arcs → start_at arcs j way ≡ v → end_at j way < n → IsPassed next (end_at j way) → ⊥
+  pub all : (j : ℕ) (way : Way) → j < length arcs → start_at arcs j way ≡ v → end_number j way < n → IsPassed next (end_number j way) → ⊥
 
 pub next_below : (arcs : List ArcRow) (v n : ℕ) → IsNextBelow arcs v n (last_end_below arcs v n)
 next_below arcs v zero = record { found = tt; all = λ j way lt here in_n passed. omega arith }
@@ -40,9 +40,9 @@ next_below arcs v (suc n) = elim (cases_eq (end_node arcs n) v) [
       let before = next_below arcs v n in
       subst (IsNextBelow arcs v (suc n)) (sym test) (record {
         found = less (last_end_below arcs v n) before.found;
-        all = λ j way lt here in_n passed. elim (cases_lt (end_at j way) n) [
+        all = λ j way lt here in_n passed. elim (cases_lt (end_number j way) n) [
           | inl below ↦ before.all j way lt here below passed
-          | inr past ↦ (let same : end_at j way ≡ n = omega arith in other (ap (end_node arcs) (sym same) ∙ end_there arcs j way lt ∙ here))
+          | inr past ↦ (let same : end_number j way ≡ n = omega arith in other (ap (end_node arcs) (sym same) ∙ end_there arcs j way lt ∙ here))
         ];
       }))
 ]
@@ -78,7 +78,7 @@ arcs_fit (Sides marks) arcs = omega arith
 
 -- ---- the walk
 
-pub end_in : (k n : ℕ) (way : Way) → k < n → end_at k way < 2 * n
+pub end_in : (k n : ℕ) (way : Way) → k < n → end_number k way < 2 * n
 end_in k n Forward lt = omega arith
 end_in k n Backward lt = omega arith
 
@@ -101,17 +101,17 @@ module _ (g : GraphView) (is : AreRowsOf g.net g.rows) where
       (let same : k ≡ (k - row) + row = omega (arith, le) in
       ap (λ (i : ℕ). start_at g.rows i way) same ∙ ap (λ (r : List ArcRow). start_at r ((k - row) + row) way) is.rows_are ∙ ap (λ (a : ArcRow). start_of a way) (split_is.1 (k - row)))
 
-  same_end : (k : ℕ) (way : Way) → row ≤ k → end_at k way ≡ end_at (k - row) way + ends_before g
+  same_end : (k : ℕ) (way : Way) → row ≤ k → end_number k way ≡ end_number (k - row) way + ends_before g
   same_end k Forward le = omega (arith, le)
   same_end k Backward le = omega (arith, le)
 
   -- no end is left out: none of the network's list, and none of the return arc
   none_out : (v n : ℕ) (listed next : Option ℕ) → IsNextBelow g.net.arcs v n listed → ((end : ℕ) → IsPassed next (end + ends_before g) → IsPassed listed end)
-      → ((k : ℕ) (way : Way) → k < row → IsPassed next (end_at k way) → ⊥) → (k : ℕ) (way : Way) → k < length g.rows → start_at g.rows k way ≡ v → end_at k way < n + ends_before g → IsPassed next (end_at k way) → ⊥
+      → ((k : ℕ) (way : Way) → k < row → IsPassed next (end_number k way) → ⊥) → (k : ℕ) (way : Way) → k < length g.rows → start_at g.rows k way ≡ v → end_number k way < n + ends_before g → IsPassed next (end_number k way) → ⊥
   none_out v n listed next below later return k way lt here in_n passed = elim (cases_lt k row) [
     | inl first ↦ return k way first passed
     | inr le ↦ below.all (k - row) way (omega (arith, le, lt, split)) (sym (same_start k way le) ∙ here) (omega (arith, same_end k way le, in_n))
-        (later (end_at (k - row) way) (subst (IsPassed next) (same_end k way le) passed))
+        (later (end_number (k - row) way) (subst (IsPassed next) (same_end k way le) passed))
   ]
 
   -- the walk goes on by an end of the network's list
@@ -145,9 +145,9 @@ come_first g v first P is = record { stands = is.stands; passed = λ k way lt he
 pub come_next : (g : GraphView) (v end : ℕ) (next : Option ℕ) (P Q : ℕ → Type 0) → HasCome g v (Some end) P → IsNextEnd g v end next → ((k : ℕ) → P k → Q k) → Q (end / 2) → HasCome g v next Q
 come_next g v end next P Q come is kept here = record {
   stands = within next is.stands;
-  passed = λ k way lt at passed. elim (cases_lt end (end_at k way)) [
+  passed = λ k way lt at passed. elim (cases_lt end (end_number k way)) [
     | inl past ↦ kept k (come.passed k way lt at past)
-    | inr up_to ↦ elim (cases_lt (end_at k way) end) [
+    | inr up_to ↦ elim (cases_lt (end_number k way) end) [
       | inl below ↦ absurd (is.all k way lt at below passed)
       | inr from ↦ subst Q (arc_of k way (omega (arith, up_to, from))) here
     ]
@@ -158,6 +158,6 @@ come_next g v end next P Q come is kept here = record {
     within None stands = tt
     within (Some e) stands = (omega (arith, stands.0, come.stands.0), stands.1)
 
-    arc_of : (k : ℕ) (way : Way) → end ≡ end_at k way → end / 2 ≡ k
+    arc_of : (k : ℕ) (way : Way) → end ≡ end_number k way → end / 2 ≡ k
     arc_of k Forward same = omega (arith, same)
     arc_of k Backward same = omega (arith, same)

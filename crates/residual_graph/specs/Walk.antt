@@ -14,10 +14,10 @@ end_way end = if (end % 2) == 0 then Forward else Backward
 
 -- ---- the walk over the network's lists, from the greatest end down
 
--- the end at which the residual arc in this way along arc k leaves
-abbrev pub end_at : ℕ → Way → ℕ
-end_at k Forward = 2 * k
-end_at k Backward = 2 * k + 1
+-- the number of the end at which the residual arc in this way along arc k leaves
+abbrev pub end_number : ℕ → Way → ℕ
+end_number k Forward = 2 * k
+end_number k Backward = 2 * k + 1
 
 -- how many ends the return arc has, where there is one: they stand before those of the network's arcs
 abbrev pub ends_before : GraphView → ℕ
@@ -35,12 +35,12 @@ StandsAt g v end = ends_before g ≤ end → end_node g.net.arcs (end - ends_bef
 -- from below n the walk over the ends at node v goes on to `next`, and leaves none out
 pub record IsNextEnd (g : GraphView) (v n : ℕ) (next : Option ℕ) : Type 0 where
   pub stands : IfSome next (λ end. (end < n) × StandsAt g v end)
-  pub all : (k : ℕ) (way : Way) → k < length g.rows → start_at g.rows k way ≡ v → end_at k way < n → IsPassed next (end_at k way) → ⊥
+  pub all : (k : ℕ) (way : Way) → k < length g.rows → start_at g.rows k way ≡ v → end_number k way < n → IsPassed next (end_number k way) → ⊥
 
 -- the walk over the ends at node v has come to `current`, or is over, and each arc that it passed has this property
 pub record HasCome (g : GraphView) (v : ℕ) (current : Option ℕ) (P : ℕ → Type 0) : Type 0 where
   pub stands : IfSome current (λ end. (end < 2 * length g.rows) × StandsAt g v end)
-  pub passed : (k : ℕ) (way : Way) → k < length g.rows → start_at g.rows k way ≡ v → IsPassed current (end_at k way) → P k
+  pub passed : (k : ℕ) (way : Way) → k < length g.rows → start_at g.rows k way ≡ v → IsPassed current (end_number k way) → P k
 
 -- what is left of a walk over a list
 abbrev pub ends_left : Option ℕ → ℕ

@@ -6,7 +6,7 @@ ghost use Rattle.shortest_paths.specs.Limits.{label_floor};
 ghost use Rattle.shortest_paths.specs.Search.{IsHighestFound, IsWithinFound};
 
 use crate::predecessor::Predecessor;
-use crate::search::{Crossing, come_along, nearest_crossing, shift_potentials};
+use crate::search::{Crossing, come_along, nearest_crossing, shift_apart};
 use residual_graph::Graph;
 
 /// The one of two open nodes, where there are two, with the greater potential: the one at hand, and node `v` if it is open.
@@ -83,11 +83,11 @@ pub fn search_labels(
         let rise = -potentials[root];
         match crossing_within(graph, flow, potentials, predecessors, rise) {
             Some(crossing) => {
-                shift_potentials(potentials, predecessors, 0, crossing.cost);
+                shift_apart(potentials, predecessors, 0, crossing.cost);
                 come_along(graph, predecessors, crossing.end);
             }
             None => {
-                shift_potentials(potentials, predecessors, 0, rise);
+                shift_apart(potentials, predecessors, 0, rise);
                 predecessors[root] = Predecessor::root();
             }
         }

@@ -93,7 +93,7 @@ fn shifted(potential: i64, predecessor: Predecessor, fall: i64, rise: i64) -> i6
 }
 
 /// Lowers the potentials of the nodes that the search reached by `fall`, and raises those of open nodes by `rise`.
-pub(crate) fn shift_potentials(
+pub(crate) fn shift_apart(
     potentials: &mut [i64],
     predecessors: &[Predecessor],
     fall: i64,
@@ -162,7 +162,7 @@ pub fn find_deficit(
 {
     begin_in_excess(excess, predecessors);
     while let Some(crossing) = nearest_crossing(graph, flow, potentials, predecessors) {
-        shift_potentials(potentials, predecessors, crossing.cost, 0);
+        shift_apart(potentials, predecessors, crossing.cost, 0);
         let node = come_along(graph, predecessors, crossing.end);
         if excess[node] < 0 {
             return Some(node);

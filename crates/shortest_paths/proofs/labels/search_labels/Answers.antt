@@ -12,8 +12,8 @@ use Rattle.shortest_paths.proofs.SearchLemmas.{open_in}
 use Rattle.shortest_paths.proofs.labels.search_labels.Goals as goal
 use Rattle.shortest_paths.proofs.labels.search_labels.Goals.{After-come_along}
 
-pub shift_potentials-requires-clause-rise : goal.shift_potentials-requires-clause-rise
-shift_potentials-requires-clause-rise c =
+pub shift_apart-requires-clause-rise : goal.shift_apart-requires-clause-rise
+shift_apart-requires-clause-rise c =
     let inv = c.loop-root.invariant in
     let at = c.in-Some-crossing_within.crossing in
     let cost = cost_in _ _ _ _ inv.certified inv.search at c.in-Some-crossing_within.ensures.0 in
@@ -51,13 +51,13 @@ loop-root-preserved-in-Some-crossing_within c =
     let rows = c.args.graph.now.rows in
     let x = c.args.flow.now in
     let p = c.loop-root.potentials in
-    let q = c.shift_potentials.new.potentials in
+    let q = c.shift_apart.new.potentials in
     let t = c.loop-root.predecessors in
     let at = c.in-Some-crossing_within.crossing in
     let nearest = c.in-Some-crossing_within.ensures.0 in
     let cost = cost_in rows x p t inv.certified inv.search at nearest in
     let fits : SFits w64 at.cost = omega (arith, ints, cost) in
-    let shifted : AreShifted p q t (pos 0) at.cost = subst (AreShifted p q t (pos 0)) (to_z-of_z w64 at.cost fits) c.shift_potentials.ensures in
+    let shifted : AreShifted p q t (pos 0) at.cost = subst (AreShifted p q t (pos 0)) (to_z-of_z w64 at.cost fits) c.shift_apart.ensures in
     let after = after_is (goal.at.loop-root-preserved-in-Some-crossing_within c).After-come_along in
     let top = number_at p c.in-Some.root in
     let rise_is = turned top (inv.certified.potentials.at_least c.in-Some.root) (inv.certified.potentials.at_most_0 c.in-Some.root) in
@@ -74,12 +74,12 @@ loop-root-preserved c =
     let rows = c.args.graph.now.rows in
     let x = c.args.flow.now in
     let p = c.loop-root.potentials in
-    let q = c.shift_potentials-in-None.new.potentials in
+    let q = c.shift_apart-in-None.new.potentials in
     let t = c.loop-root.predecessors in
     let root = c.in-Some.root in
     let top = number_at p root in
     let rise_is = turned top (inv.certified.potentials.at_least root) (inv.certified.potentials.at_most_0 root) in
-    let shifted : AreShifted p q t (pos 0) (pos 0 -ℤ top) = subst (AreShifted p q t (pos 0)) rise_is c.shift_potentials-in-None.ensures in
+    let shifted : AreShifted p q t (pos 0) (pos 0 -ℤ top) = subst (AreShifted p q t (pos 0)) rise_is c.shift_apart-in-None.ensures in
     let near : AllCostAtLeast rows x p t (pos 0 -ℤ top) = subst (AllCostAtLeast rows x p t) rise_is c.in-None.ensures in
     let at_0 : number_at q root ≡ pos 0 = omega (arith, ints, shifted.at_open root c.in-Some.ensures.is_open) in
     record {

@@ -25,8 +25,8 @@ loop-crossing-init c = record {
   };
 }
 
-pub shift_potentials-requires-clause-fall : goal.shift_potentials-requires-clause-fall
-shift_potentials-requires-clause-fall c =
+pub shift_apart-requires-clause-fall : goal.shift_apart-requires-clause-fall
+shift_apart-requires-clause-fall c =
     let inv = c.loop-crossing.invariant in
     let cost = cost_in _ _ _ _ inv.certified inv.search c.in-Some.crossing c.in-Some.ensures in
     let fits : SFits w64 c.in-Some.crossing.cost = omega (arith, ints, cost) in
@@ -34,11 +34,11 @@ shift_potentials-requires-clause-fall c =
 
 -- what stands after a step
 record IsStepped (c : After-come_along-node) : Type 0 where
-  certified : IsReducedCostOptimal c.args.graph.now.rows c.args.flow.now c.shift_potentials.new.potentials
-  search : IsSearch c.args.graph.now.rows c.args.flow.now c.shift_potentials.new.potentials c.come_along-node.new.predecessors
-  fallen : HaveFallen c.shift_potentials.new.potentials c.come_along-node.new.predecessors
+  certified : IsReducedCostOptimal c.args.graph.now.rows c.args.flow.now c.shift_apart.new.potentials
+  search : IsSearch c.args.graph.now.rows c.args.flow.now c.shift_apart.new.potentials c.come_along-node.new.predecessors
+  fallen : HaveFallen c.shift_apart.new.potentials c.come_along-node.new.predecessors
   from : pos 0 ≤ℤ number_at c.args.excess.now c.come_along-node.result → IsFromExcess c.args.excess.now c.come_along-node.new.predecessors
-  found : number_at c.args.excess.now c.come_along-node.result <ℤ pos 0 → HasFound c.args.graph.now.rows c.args.flow.now c.shift_potentials.new.potentials c.args.excess.now c.come_along-node.new.predecessors c.come_along-node.result
+  found : number_at c.args.excess.now c.come_along-node.result <ℤ pos 0 → HasFound c.args.graph.now.rows c.args.flow.now c.shift_apart.new.potentials c.args.excess.now c.come_along-node.new.predecessors c.come_along-node.result
 
 is_stepped : (c : After-come_along-node) → IsStepped c
 is_stepped c =
@@ -46,7 +46,7 @@ is_stepped c =
     let rows = c.args.graph.now.rows in
     let x = c.args.flow.now in
     let p = c.loop-crossing.potentials in
-    let q = c.shift_potentials.new.potentials in
+    let q = c.shift_apart.new.potentials in
     let t = c.loop-crossing.predecessors in
     let e = c.args.excess.now in
     let at = c.in-Some.crossing in
@@ -55,7 +55,7 @@ is_stepped c =
     let came : Predecessor = record { end = at.end; rank = rank_at t start + 1; is_open = false } in
     let cost = cost_in rows x p t inv.certified inv.search at c.in-Some.ensures in
     let fits : SFits w64 at.cost = omega (arith, ints, cost) in
-    let shifted : AreShifted p q t at.cost (pos 0) = subst (λ (n : ℤ). AreShifted p q t n (pos 0)) (to_z-of_z w64 at.cost fits) c.shift_potentials.ensures in
+    let shifted : AreShifted p q t at.cost (pos 0) = subst (λ (n : ℤ). AreShifted p q t n (pos 0)) (to_z-of_z w64 at.cost fits) c.shift_apart.ensures in
     let node_is : c.come_along-node.result ≡ node = c.come_along-node.ensures.node in
     let after_is : c.come_along-node.new.predecessors ≡ slice_set t node came = c.come_along-node.ensures.came ∙ ap (λ (n : ℕ). slice_set t n came) node_is in
     let searched = search_after rows x p t inv.certified inv.search at c.in-Some.ensures q at.cost (pos 0) shifted (omega (arith, ints)) in

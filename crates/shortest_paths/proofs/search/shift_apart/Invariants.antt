@@ -2,7 +2,7 @@ use Rattle.std.proofs.Common.{◌≡◌, ℕ, ◌<◌, ◌≤◌}
 use Rattle.residual_graph.specs.Residual.{number_at}
 use Rattle.shortest_paths.specs.Predecessor.{predecessor_at}
 use Rattle.shortest_paths.specs.Search.{shifted_by}
-use Rattle.shortest_paths.proofs.search.shift_potentials.Given as goal
+use Rattle.shortest_paths.proofs.search.shift_apart.Given as goal
 
 abbrev pub invariant-loop-v : goal.invariant-loop-v
 invariant-loop-v l = record {

@@ -4,7 +4,7 @@ use Rattle.std.proofs.lemmas.List.{get_or-set_other, get_or-set_same}
 use Rattle.residual_graph.specs.Residual.{number_at}
 use Rattle.shortest_paths.specs.Predecessor.{predecessor_at}
 use Rattle.shortest_paths.specs.Search.{shifted_by}
-use Rattle.shortest_paths.proofs.search.shift_potentials.Goals as goal
+use Rattle.shortest_paths.proofs.search.shift_apart.Goals as goal
 
 pub loop-v-preserved : goal.loop-v-preserved
 loop-v-preserved c =
