@@ -69,12 +69,15 @@ module _ (arcs : List ArcRow) (x p : List ℤ) (t : List Predecessor) (certified
       pub search_after : IsSearch arcs x q after
       search_after = search_on arcs x q t node came node_in nearest.crosses.to refl (search_shifted arcs x p q t fall rise certified search.sized shifted search)
           (omega (arith, search.ranked start nearest.crosses.from, fewer))
-          (λ some. (record {
-            residual = nearest.crosses.residual;
-            ends = refl;
-            reached = still_reached t node came node_in nearest.crosses.to refl start nearest.crosses.from;
-            deeper = came_deeper;
-          }, tight))
+          (λ some. (
+            record {
+              residual = nearest.crosses.residual;
+              ends = refl;
+              reached = still_reached t node came node_in nearest.crosses.to refl start nearest.crosses.from;
+              deeper = came_deeper;
+            },
+            tight,
+          ))
         where
           came_deeper : rank_at after node ≡ rank_at after start + 1
           came_deeper = ap (λ (r : Predecessor). r.rank) (is_there t node came node_in nearest.crosses.to refl) ∙ ap (λ (r : Predecessor). r.rank + 1) (sym (same_as_before t node came node_in nearest.crosses.to refl start nearest.crosses.from))
@@ -196,12 +199,15 @@ module _ (arcs : List ArcRow) (x p : List ℤ) (t : List Predecessor) (certified
     traced v lt = elim (cases_lt 0 (rank_at t v)) [
       | inl deep ↦
           (let by = search.paths v (all_come v lt) deep in
-          inr (by.residual.is_arc, record {
-            has_room = by.residual.has_room;
-            ends = by.ends;
-            lower = omega (arith, by.deeper);
-            tight = search.tight v (all_come v lt) deep;
-          }))
+          inr (
+            by.residual.is_arc,
+            record {
+              has_room = by.residual.has_room;
+              ends = by.ends;
+              lower = omega (arith, by.deeper);
+              tight = search.tight v (all_come v lt) deep;
+            },
+          ))
       | inr flat ↦ inl (raised.roots v (all_come v lt) (omega (arith, flat)))
     ]
 

@@ -46,7 +46,7 @@ pub struct Tree {
 impl Model for Tree {
     ghost use Rattle.std.specs.Prelude.{◌≡◌, ◌≤◌, length};
     ghost use Rattle.residual_graph.specs.Limits.{entry_limit};
-ghost use Rattle.residual_graph.specs.Walk.{IsWithin};
+    ghost use Rattle.residual_graph.specs.Walk.{IsWithin};
     ghost use Rattle.shortest_paths.specs.Tree.{TreeView};
 
     ghost Value = { TreeView };
@@ -317,7 +317,10 @@ impl Tree {
         while let Some(end) = walk.next() {
             if self.leads_below(residual, end, label) {
                 label = self.labels[end.other as usize].saturating_sub(end.cost);
-                predecessor = after(end_of(end.entering()), self.predecessors[end.other as usize].rank);
+                predecessor = after(
+                    end_of(end.entering()),
+                    self.predecessors[end.other as usize].rank,
+                );
                 if label <= least {
                     break;
                 }
@@ -447,7 +450,9 @@ impl Tree {
         ensures sized { IsTreeOf residual.entry self.new }
     {
         let label = self.labels[u as usize].saturating_add(end.cost);
-        if label < self.labels[end.other as usize] && residual.graph.has_room(residual.flow, end.leaving()) {
+        if label < self.labels[end.other as usize]
+            && residual.graph.has_room(residual.flow, end.leaving())
+        {
             let predecessor = after(end.number, self.predecessors[u as usize].rank);
             self.improve(residual, end.other, label, predecessor);
         }
