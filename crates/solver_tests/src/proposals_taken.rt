@@ -90,25 +90,25 @@ static PROPOSALS: [(Proposed, Outcome); 19] = [
             &[(0, 1), (1, 1), (2, 1), (3, 5), (4, 4)],
             &[0, -2, -1, 0, 0],
         ),
-        (None, 1, &[0, 0, 2, 0, 0], &[0; 5], Some(4)),
+        (None, 1, &[2, 2, 0, 0, 0], &[0; 5], Some(4)),
     ),
     // A potential off by one.
     (
         (&[(0, 1), (1, 1), (2, 1)], &[0, -2, -2, 0, 0]),
-        (None, 1, &[0, 0, 2, 0, 0], &[0; 5], Some(4)),
+        (None, 1, &[2, 2, 0, 0, 0], &[0; 5], Some(4)),
     ),
     // A node to which more comes than goes on, one from which more goes than comes, one that gives more than it has.
     (
         (&[(0, 2), (1, 1)], &[0, -2, -1, 0, 0]),
-        (None, 1, &[0, 0, 2, 0, 0], &[0; 5], Some(4)),
+        (None, 1, &[2, 2, 0, 0, 0], &[0; 5], Some(4)),
     ),
     (
         (&[(1, 1), (2, 1)], &[0, -2, -1, 0, 0]),
-        (None, 1, &[0, 0, 2, 0, 0], &[0; 5], Some(4)),
+        (None, 1, &[2, 2, 0, 0, 0], &[0; 5], Some(4)),
     ),
     (
         (&[(0, 2), (1, 2), (2, 1)], &[0, -2, -1, 0, 0]),
-        (None, 1, &[0, 0, 2, 0, 0], &[0; 5], Some(4)),
+        (None, 1, &[2, 2, 0, 0, 0], &[0; 5], Some(4)),
     ),
     // Flows out of their bounds: each arc gets what fits.
     (
@@ -138,15 +138,15 @@ static PROPOSALS: [(Proposed, Outcome); 19] = [
     // A node that is not there.
     (
         (&[(2, 2)], &[0, -2, -1, 0, 0, 0]),
-        (None, 1, &[0, 0, 2, 0, 0], &[0; 5], Some(4)),
+        (None, 1, &[2, 2, 0, 0, 0], &[0; 5], Some(4)),
     ),
     // Nothing.
     (
         (&[], &[0; 5]),
-        (Some(0), 1, &[0, 0, 2, 0, 0], &[0; 5], Some(4)),
+        (Some(0), 1, &[2, 2, 0, 0, 0], &[0; 5], Some(4)),
     ),
     // Too short.
-    ((&[], &[]), (None, 1, &[0, 0, 2, 0, 0], &[0; 5], Some(4))),
+    ((&[], &[]), (None, 1, &[2, 2, 0, 0, 0], &[0; 5], Some(4))),
 ];
 
 /// What is proposed where something stays: a problem, its excesses, and what comes of it.
