@@ -101,6 +101,7 @@ fn keep_arcs(graph: &Graph, flow: &[i64], potentials: &[i64], arcs: &Touched) ->
 }
 
 /// Whether potentials certify the flow of each arc at a node.
+#[inline(never)] // within the scan of `keep_nodes` it would keep the scan's counter in memory
 fn keep_node(graph: &Graph, flow: &[i64], potentials: &[i64], node: u32) -> bool
     requires graph { HasEntries (length potentials.now) graph.now }
     requires flow { IsPseudoflow (length potentials.now) graph.now.rows flow.now }
