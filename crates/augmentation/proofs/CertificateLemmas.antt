@@ -9,8 +9,8 @@ use Rattle.shortest_paths.specs.Limits.{label_floor}
 use Rattle.residual_graph.specs.Residual.{ArePotentials, IsPseudoflow, NoneBelow, end_at, number_at, room_of, row_at, start_at}
 use Rattle.residual_graph.proofs.RowLemmas.{end_of-in, start_of-in}
 use Rattle.augmentation.specs.Certificate.{FellOrKeeps, IsNoneBelowAt, KeepsAt, KeepsRow}
-use Rattle.augmentation.specs.Cut.{in_set}
-use Rattle.augmentation.proofs.TouchedLemmas.{noted_or_not}
+use Rattle.tracked.specs.Marks.{in_set}
+use Rattle.tracked.proofs.TouchedLemmas.{noted_or_not}
 
 pub rows_of : (arcs : List ArcRow) (x p : List ℤ) → NoneBelow arcs x p → (k : ℕ) → k < length arcs → KeepsRow (row_at arcs k) (number_at x k) p
 rows_of arcs x p none k lt = (

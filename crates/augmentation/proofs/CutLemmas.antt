@@ -24,9 +24,11 @@ use Rattle.shortest_paths.specs.declared.predecessor.Predecessor.{Predecessor}
 use Rattle.shortest_paths.specs.Predecessor.{predecessor_at}
 use Rattle.shortest_paths.specs.Search.{IsExhausted, IsReached}
 use Rattle.shortest_paths.proofs.SearchLemmas.{open_or_reached}
-use Rattle.augmentation.specs.Cut.{in_set, sum_in, sum_leaving, sum_entering, surplus, shortfall, IsLeastSet, amount, near_at, near_of, far_at, far_of, IsFarIn, IsClosed, HoldsRoots, IsSide, IsParted, IsChosenSet, IsListOf, IsGrown, lack}
+use Rattle.augmentation.specs.Cut.{sum_in, sum_leaving, sum_entering, surplus, shortfall, IsLeastSet, amount, near_at, near_of, far_at, far_of, IsFarIn, IsClosed, HoldsRoots, IsSide, IsParted, IsChosenSet, IsGrown, lack}
+use Rattle.tracked.specs.Marks.{in_set, IsListOf}
 use Rattle.residual_graph.specs.Side.{IsRoot}
-use Rattle.shortest_paths.specs.NodeLists.{node_at, IsListed}
+use Rattle.tracked.specs.NodeLists.{node_at}
+use Rattle.tracked.proofs.MarkLemmas.{line_kept, set_kept}
 use Rattle.augmentation.proofs.TurnedRows.{turned_row, row_at-turned, start_at-turned, end_at-turned, residual-turned, residual-unturned, outflow-turned, inflow-turned, number_at-neg, left-neg}
 
 pub sum_in-same : (set : List Bool) (f g : ℕ → ℤ) → ((v : ℕ) → f v ≡ g v) → sum_in set f ≡ sum_in set g
@@ -401,48 +403,7 @@ module _ (arcs : List ArcRow) (x e : List ℤ) (s : List Predecessor) (flow : Is
     no_deficit = λ v marked. exhausted.from.no_deficit v (is_reached v marked);
   }
 
--- ---- the list of marked nodes
-
--- one node more in a set is one less outside
-count_by-marked : (set : List Bool) (v : ℕ) → v < length set → in_set set v ≡ false → count_by not (slice_set set v true) + 1 ≡ count_by not set
-count_by-marked set v lt out =
-    let marks : Bool → ℕ = λ b. cond (not b) 1 0 in
-    omega (arith, ap marks out, sum_by-set marks set v true false lt)
-
-module _ (set : List Bool) (list : List ℕ) (len v : ℕ) (is : IsListOf set list len) (node : v < length set) (out : in_set set v ≡ false) where
-  room_for_one : len < length list
-  room_for_one = omega (arith, is.room, is.one_a_node, count_by-marked set v node out)
-
-  line_kept : (j : ℕ) → j < len → node_at (slice_set list len v) j ≡ node_at list j
-  line_kept j lt = get_or-set_other list len j v 0 (λ e. omega (arith, lt))
-
-  set_kept : (w : ℕ) → in_set set w ≡ true → in_set (slice_set set v true) w ≡ true
-  set_kept w h = elim (cases_eq w v) [
-    | inl same ↦ subst (λ (q : ℕ). in_set (slice_set set v true) q ≡ true) (sym same) (get_or-set_same set v true false node)
-    | inr other ↦ get_or-set_other set v w true false other ∙ h
-  ]
-
-  put_inside : (j : ℕ) → j < len + 1 → in_set (slice_set set v true) (node_at (slice_set list len v) j) ≡ true
-  put_inside j lt = elim (cases_eq j len) [
-    | inl last ↦ subst (λ (q : ℕ). in_set (slice_set set v true) q ≡ true) (sym (ap (node_at (slice_set list len v)) last ∙ get_or-set_same list len v 0 room_for_one)) (get_or-set_same set v true false node)
-    | inr other ↦ (let lt' : j < len = omega (arith, other) in subst (λ (q : ℕ). in_set (slice_set set v true) q ≡ true) (sym (line_kept j lt')) (set_kept (node_at list j) (is.inside j lt')))
-  ]
-
-  put_listed : (w : ℕ) → in_set (slice_set set v true) w ≡ true → IsListed (slice_set list len v) (len + 1) w
-  put_listed w h = elim (cases_eq w v) [
-    | inl same ↦ record { place = len; in_list = omega arith; is_there = get_or-set_same list len v 0 room_for_one ∙ sym same }
-    | inr other ↦ (let before = is.listed w (sym (get_or-set_other set v w true false other) ∙ h) in
-        record { place = before.place; in_list = omega (arith, before.in_list); is_there = line_kept before.place before.in_list ∙ before.is_there })
-  ]
-
-  -- a node outside is marked and put at the end
-  pub IsListOf-put : IsListOf (slice_set set v true) (slice_set list len v) (len + 1)
-  IsListOf-put = record {
-    one_a_node = length-set list len v ∙ is.one_a_node ∙ sym (length-set set v true);
-    inside = put_inside;
-    listed = put_listed;
-    room = omega (arith, is.room, count_by-marked set v node out, length-set set v true);
-  }
+-- ---- sets that grow
 
 pub IsGrown-refl : (side : Side) (arcs : List ArcRow) (x : List ℤ) (set : List Bool) (list : List ℕ) (len : ℕ) → IsGrown side arcs x set list len set list len
 IsGrown-refl side arcs x set list len = record { kept = λ v h. h; least = λ other closed holds. holds; no_shorter = omega arith; same_before = λ j lt. refl }

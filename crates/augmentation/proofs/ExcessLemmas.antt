@@ -9,8 +9,8 @@ use Rattle.residual_graph.specs.declared.side.Side.{Side}
 use Rattle.residual_graph.specs.declared.side.Side.TheVariants.{Ahead, Behind}
 use Rattle.residual_graph.specs.Residual.{number_at}
 use Rattle.residual_graph.specs.Side.{IsRoot}
-use Rattle.shortest_paths.specs.NodeLists.{IsListed, node_at}
-use Rattle.augmentation.specs.Cut.{in_set}
+use Rattle.tracked.specs.NodeLists.{IsListed, node_at}
+use Rattle.tracked.specs.Marks.{in_set}
 use Rattle.augmentation.specs.Excess.{AreUnbalancedListed}
 
 -- a root is out of balance

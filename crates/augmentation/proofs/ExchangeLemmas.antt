@@ -7,13 +7,13 @@ use Rattle.std.proofs.lemmas.List.{get_or-set_same, get_or-set_other, length-set
 use Rattle.dimacs_text.specs.declared.problem.ArcRow.{ArcRow}
 use Rattle.residual_graph.specs.Residual.{number_at, row_at}
 use Rattle.augmentation.specs.Changes.{AreNearer, IsExcessAfter, Rises}
-use Rattle.augmentation.specs.Cut.{in_set}
+use Rattle.tracked.specs.Marks.{in_set}
 use Rattle.augmentation.specs.Exchange.{RisesBetween}
-use Rattle.augmentation.specs.Journal.{IsSince}
+use Rattle.tracked.specs.Journal.{IsSince}
 use Rattle.augmentation.specs.Push.{AreSmall, IsTransfer, at_node}
-use Rattle.augmentation.specs.declared.journal.Journal.{Journal}
+use Rattle.tracked.specs.declared.journal.Journal.{Journal}
 use Rattle.augmentation.proofs.PushLemmas.{at_node-sub, at_other, at_same, flow_in-set, flow_out-set}
-use Rattle.augmentation.proofs.TouchedLemmas.{noted_or_not}
+use Rattle.tracked.proofs.TouchedLemmas.{noted_or_not}
 
 -- a table in which d more stands at node u
 put_more : (e : List ℤ) (u : ℕ) (a d : ℤ) → u < length e → a ≡ number_at e u +ℤ d → (v : ℕ) → number_at (slice_set e u a) v ≡ number_at e v +ℤ at_node u d v

@@ -4,10 +4,6 @@ pub mod SettleLemmas
 pub mod CutLemmas
 pub mod ExcessLemmas
 pub mod NodeLemmas
-pub mod TouchedLemmas
-pub mod ApartLemmas
-pub mod TrackedLemmas
-pub mod JournalLemmas
 pub mod ExchangeLemmas
 pub mod WantedPaths
 pub mod ChangeLemmas

@@ -7,7 +7,8 @@ use Rattle.std.proofs.lemmas.List.{get_or_past}
 use Rattle.dimacs_text.specs.declared.problem.ArcRow.{ArcRow}
 use Rattle.network.specs.Flow.{nodes_sum, net, outflow, inflow}
 use Rattle.augmentation.specs.Push.{at_node}
-use Rattle.augmentation.specs.Cut.{in_set, sum_in}
+use Rattle.augmentation.specs.Cut.{sum_in}
+use Rattle.tracked.specs.Marks.{in_set}
 use Rattle.augmentation.specs.Nodes.{table, held}
 use Rattle.augmentation.proofs.PushLemmas.{at_other}
 use Rattle.residual_graph.proofs.NodeNumbers.{AllEndsIn, IsNodeOf, is_node_or_not}

@@ -1,7 +1,7 @@
 -- The tables in which proposals are made and tried.
 use Rattle.std.specs.Prelude.{◌≡◌, ℕ}
 use Rattle.augmentation.specs.declared.attempt.Attempt.{Attempt}
-use Rattle.augmentation.specs.Journal.{IsJournal}
+use Rattle.tracked.specs.Journal.{IsJournal}
 
 -- the tables have one entry a node
 pub record IsAttemptFor (entries : ℕ) (a : Attempt) : Type 0 where

@@ -2,7 +2,6 @@
 -- (Ahuja, Magnanti, Orlin, "Network Flows": feasibility of flows, cuts).
 use Rattle.std.specs.Prelude.{◌≡◌, ℕ, suc, ◌+◌, ◌<◌, ◌≤◌, ℤ, pos, ◌-ℤ◌, ◌+ℤ◌, ◌≤ℤ◌, List, [], ◌∷◌, length, slice_index_or, Bool, true, false, if◌then◌else◌, ◌&&◌, not, IsTrue}
 use Rattle.dimacs_text.specs.declared.problem.ArcRow.{ArcRow}
-use Rattle.std.specs.List.{count_by}
 use Rattle.residual_graph.specs.declared.residual.Way.{Way}
 use Rattle.residual_graph.specs.declared.side.Side.{Side}
 use Rattle.residual_graph.specs.declared.side.Side.TheVariants.{Ahead, Behind}
@@ -10,11 +9,8 @@ use Rattle.augmentation.specs.Push.{left}
 pub use Rattle.augmentation.specs.Push.{lack}
 use Rattle.residual_graph.specs.Residual.{number_at, row_at, start_of, end_of, IsResidual}
 use Rattle.residual_graph.specs.Side.{IsRoot}
-use Rattle.shortest_paths.specs.NodeLists.{IsListed, node_at}
-
--- whether node v is in the set
-abbrev pub in_set : List Bool → ℕ → Bool
-in_set set v = slice_index_or set v false
+use Rattle.tracked.specs.Marks.{in_set}
+use Rattle.tracked.specs.NodeLists.{node_at}
 
 -- the sum of f over the nodes of a set
 abbrev pub sum_in : List Bool → (ℕ → ℤ) → ℤ
@@ -96,13 +92,6 @@ IsFarIn side arcs x set k way = IsResidual arcs x k way → in_set set (far_at s
 -- so has each residual arc that leads on from node v
 abbrev pub AreFarIn : Side → List ArcRow → List ℤ → List Bool → ℕ → Type 0
 AreFarIn side arcs x set v = (k : ℕ) (way : Way) → near_at side arcs k way ≡ v → IsFarIn side arcs x set k way
-
--- the first `len` in the list are the nodes of the set, each once; so a node outside finds room
-pub record IsListOf (set : List Bool) (list : List ℕ) (len : ℕ) : Type 0 where
-  pub one_a_node : length list ≡ length set
-  pub inside : (j : ℕ) → j < len → in_set set (node_at list j) ≡ true
-  pub listed : (v : ℕ) → in_set set v ≡ true → IsListed list len v
-  pub room : len + count_by not set ≡ length set
 
 -- set and list have grown, or are the same: whatever holds the set, and has no residual arc that leads on out of it, holds the new one too
 pub record IsGrown (side : Side) (arcs : List ArcRow) (x : List ℤ) (set : List Bool) (list : List ℕ) (len : ℕ) (set' : List Bool) (list' : List ℕ) (len' : ℕ) : Type 0 where

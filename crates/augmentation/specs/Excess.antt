@@ -1,7 +1,7 @@
 -- Excesses with a list of the nodes out of balance.
 use Rattle.std.specs.Prelude.{◌≡◌, ℕ, ℤ, pos, List, length, Bool, false}
 use Rattle.residual_graph.specs.Residual.{number_at}
-use Rattle.augmentation.specs.Cut.{in_set}
+use Rattle.tracked.specs.Marks.{in_set}
 
 -- every node out of balance is listed: an unlisted one has neither excess nor deficit
 pub record AreUnbalancedListed (listed : List Bool) (e : List ℤ) : Type 0 where

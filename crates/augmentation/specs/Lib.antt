@@ -5,9 +5,6 @@ pub mod Pseudoflow
 pub mod Settle
 pub mod Cut
 pub mod Excess
-pub mod Touched
-pub mod Tracked
-pub mod Journal
 pub mod Scratch
 pub mod ScratchView
 pub mod Changes

@@ -4,25 +4,24 @@ ghost use Rattle.std.specs.Prelude.{◌≡◌, ℕ, ◌<◌, ◌≤◌, length, 
 ghost use Rattle.shortest_paths.specs.Limits.{label_floor};
 ghost use Rattle.residual_graph.specs.Graph.{HasEntries};
 ghost use Rattle.residual_graph.specs.Residual.{ArePotentials, IsPseudoflow, NoneBelow};
-ghost use Rattle.augmentation.specs.Cut.{IsParted, in_set};
-ghost use Rattle.augmentation.specs.Journal.{IsJournal, IsSince};
+ghost use Rattle.augmentation.specs.Cut.{IsParted};
+ghost use Rattle.tracked.specs.Marks.{in_set};
+ghost use Rattle.tracked.specs.Journal.{IsJournal, IsSince};
 ghost use Rattle.augmentation.specs.Pseudoflow.{IsCertifiedPseudoflow, IsReady};
 ghost use Rattle.augmentation.specs.Push.{ArePushes, AreSmall};
-ghost use Rattle.augmentation.specs.Tracked.{IsWritten};
+ghost use Rattle.tracked.specs.Tracked.{IsWritten};
 ghost use Rattle.augmentation.specs.Adoption.{IsAsBefore, IsCertifiedBy};
 
 use crate::certificate::still_certifies;
 use crate::draft::Draft;
 use crate::excess::Excess;
 use crate::exchange::exchange;
-use crate::journal::Journal;
 use crate::rounds::finish;
 use crate::scratch::Scratch;
-use crate::touched::Touched;
-use crate::tracked::Tracked;
 use crate::wanted::shift_potentials;
 use proposals::Wanted;
 use residual_graph::Graph;
+use tracked::{Journal, Touched, Tracked};
 
 /// Whether a proposal has an entry for each node, and there is room for what stood in the flow.
 fn fits(flow: &[i64], excess: &[i64], wanted: &Wanted, draft: &Draft) -> bool

@@ -5,11 +5,11 @@ ghost use Rattle.std.specs.Prelude.{◌≡◌, ◌≢◌, ℤ, FitsSigned, lengt
 ghost use Rattle.residual_graph.specs.Residual.{IsPseudoflow, number_at};
 ghost use Rattle.shortest_paths.specs.Search.{HavePaths, IsReached};
 ghost use Rattle.augmentation.specs.Push.{AreSmall, HasRoom, IsAugmented, IsTransfer, moved, path_to, push_along, root_to};
-ghost use Rattle.augmentation.specs.Tracked.{IsWritten};
+ghost use Rattle.tracked.specs.Tracked.{IsWritten};
 
-use crate::tracked::Tracked;
 use residual_graph::{Graph, Way};
 use shortest_paths::Predecessor;
+use tracked::Tracked;
 
 /// Where the path to a node begins, and how much fits along it, at most `limit`.
 fn bottleneck(

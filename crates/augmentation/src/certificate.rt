@@ -6,10 +6,10 @@ ghost use Rattle.residual_graph.specs.Limits.{potential_floor};
 ghost use Rattle.residual_graph.specs.Residual.{ArePotentials, IsPseudoflow, IsRow, IsWithinRow, number_at, row_at};
 ghost use Rattle.augmentation.specs.Certificate.{AllFellOrKeep, AreCertifying, AreInRange, AreWithin, IsNoneBelowAt, KeepsAt, KeepsBeside, KeepsNoted, KeepsRow, StaysCertified};
 
-use crate::touched::Touched;
 use dimacs_text::ArcRow;
 use residual_graph::{Graph, Walk, Way};
 use shortest_paths::reduced_cost;
+use tracked::Touched;
 
 /// Where more nodes than one in so many have a potential apart, all arcs are looked at in turn.
 const MOST_APART: usize = 16;

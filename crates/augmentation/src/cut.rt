@@ -4,18 +4,19 @@ ghost use Rattle.std.specs.Prelude.{◌≡◌, ℕ, length, ◌<◌, ◌≤◌, 
 ghost use Rattle.residual_graph.specs.Limits.{entry_limit};
 ghost use Rattle.residual_graph.specs.Residual.{IsPseudoflow, number_at};
 ghost use Rattle.residual_graph.specs.Graph.{HasEntries};
-ghost use Rattle.augmentation.specs.Cut.{in_set, IsParted, IsSide, IsListOf, IsGrown, IsFarIn, AreFarIn, near_at, near_of, far_of};
+ghost use Rattle.augmentation.specs.Cut.{IsParted, IsSide, IsGrown, IsFarIn, AreFarIn, near_at, near_of, far_of};
+ghost use Rattle.tracked.specs.Marks.{in_set, IsListOf};
 ghost use Rattle.augmentation.specs.Push.{left};
 ghost use Rattle.residual_graph.specs.Side.{IsRoot};
 ghost use Rattle.residual_graph.specs.declared.residual.Way.{Way};
 ghost use Rattle.residual_graph.specs.declared.side.Side.TheVariants.{Ahead, Behind};
-ghost use Rattle.augmentation.specs.Tracked.{IsWritten};
+ghost use Rattle.tracked.specs.Tracked.{IsWritten};
 
 use crate::excess::Excess;
 use crate::scratch::Scratch;
-use crate::tracked::Tracked;
 use dimacs_text::ArcRow;
 use residual_graph::{Graph, ResidualArc, Side, Way};
+use tracked::Tracked;
 
 /// What leads on from the marked nodes of a side.
 #[derive(Clone, Copy)]

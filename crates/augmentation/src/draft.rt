@@ -1,11 +1,11 @@
 //! The tables in which a proposal is tried.
 
 ghost use Rattle.std.specs.Prelude.{◌≡◌, IfOk};
-ghost use Rattle.augmentation.specs.Journal.{IsJournal};
+ghost use Rattle.tracked.specs.Journal.{IsJournal};
 
-use crate::journal::Journal;
 use crate::order::Order;
 use std::alloc::{AllocError, Global};
+use tracked::Journal;
 
 /// The most arcs of which a journal has room for the flow.
 const MOST_ROWS: usize = 200_001;

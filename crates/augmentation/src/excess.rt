@@ -6,10 +6,10 @@ ghost use Rattle.augmentation.specs.Cut.{amount, lack};
 ghost use Rattle.augmentation.specs.Excess.{AreUnbalancedListed};
 ghost use Rattle.augmentation.specs.Push.{left};
 
-use crate::touched::Touched;
 use residual_graph::Side;
 use std::alloc::{AllocError, Global};
 use std::marker::Model;
+use tracked::Touched;
 
 /// The most places on the list for which it is not searched for balanced nodes.
 const FEW_PLACES: usize = 64;

@@ -5,14 +5,14 @@ ghost use Rattle.std.specs.Prelude.{◌≡◌, ◌+◌, ◌<◌, ◌≤◌, ℤ,
 ghost use Rattle.residual_graph.specs.Residual.{IsPseudoflow, IsRow};
 ghost use Rattle.augmentation.specs.Changes.{AreNearer, IsExcessAfter, IsNearer, Rises};
 ghost use Rattle.augmentation.specs.Exchange.{IsExchange, RisesBetween};
-ghost use Rattle.augmentation.specs.Journal.{IsJournal, IsSince};
+ghost use Rattle.tracked.specs.Journal.{IsJournal, IsSince};
 ghost use Rattle.augmentation.specs.Push.{AreSmall, IsTransfer, left, positive_part};
 
 use crate::draft::Draft;
-use crate::journal::Journal;
 use dimacs_text::ArcRow;
 use proposals::Change;
 use residual_graph::Graph;
+use tracked::Journal;
 
 /// Moves `amount` from the excess of an arc's tail to that of its head, and says whether the sums are in range.
 fn move_excess(excess: &mut [i64], row: &ArcRow, amount: i64) -> bool

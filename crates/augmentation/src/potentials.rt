@@ -6,13 +6,13 @@ ghost use Rattle.shortest_paths.specs.Limits.{label_floor};
 ghost use Rattle.residual_graph.specs.Residual.{AreGreatest, IsReducedCostOptimal, ArePotentials};
 ghost use Rattle.shortest_paths.specs.Tree.{IsTreeOf};
 ghost use Rattle.augmentation.specs.Settle.{AreShortestOver};
-ghost use Rattle.augmentation.specs.Tracked.{IsWritten};
+ghost use Rattle.tracked.specs.Tracked.{IsWritten};
 
 use crate::certificate::certifies_beside;
 use crate::scratch::Scratch;
-use crate::tracked::Tracked;
 use residual_graph::{Graph, Residual};
 use shortest_paths::{Tree, are_traced, search_labels};
+use tracked::Tracked;
 
 /// Makes a table the same as these numbers.
 fn write_all(table: &mut Tracked<i64>, numbers: &[i64])

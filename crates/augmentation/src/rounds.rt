@@ -4,16 +4,16 @@ ghost use Rattle.std.specs.Prelude.{◌≡◌, length, MatchOption};
 ghost use Rattle.augmentation.specs.Cut.{IsParted};
 ghost use Rattle.augmentation.specs.Pseudoflow.{IsCertifiedPseudoflow, IsReady};
 ghost use Rattle.augmentation.specs.Push.{ArePushes};
-ghost use Rattle.augmentation.specs.Tracked.{IsWritten};
+ghost use Rattle.tracked.specs.Tracked.{IsWritten};
 ghost use Rattle.shortest_paths.specs.Search.{HasFound};
 
 use crate::augment::augment;
 use crate::cut::is_parted;
 use crate::excess::Excess;
 use crate::scratch::Scratch;
-use crate::tracked::Tracked;
 use residual_graph::Graph;
 use shortest_paths::{find_deficit, search_labels};
+use tracked::Tracked;
 
 /// Searches from all nodes in excess for a node in deficit, pushes along the path to it, and again, until no node in excess
 /// reaches a node in deficit; counts the pushes. Where a proposal was right, one look at what is reached is all that it

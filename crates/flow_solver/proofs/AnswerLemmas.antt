@@ -21,7 +21,8 @@ use Rattle.augmentation.specs.Limits.{supply_limit}
 use Rattle.shortest_paths.specs.Limits.{label_floor}
 use Rattle.residual_graph.specs.Residual.{IsReducedCostOptimal, ArePotentials, number_at, row_at}
 use Rattle.augmentation.specs.Push.{AreSmall, IsExcess, AreSupplies, positive_part, left, cap_total}
-use Rattle.augmentation.specs.Cut.{in_set, sum_in, sum_leaving, sum_entering, lack, IsChosenSet}
+use Rattle.augmentation.specs.Cut.{sum_in, sum_leaving, sum_entering, lack, IsChosenSet}
+use Rattle.tracked.specs.Marks.{in_set}
 use Rattle.augmentation.specs.Nodes.{held}
 use Rattle.flow_solver.specs.Answer.{IsBestMoment, IsInfeasibleMoment, IsVerdict, IsChosenBreach, IsChosenCut, IsJudged, worth_by, IsAnswered}
 use Rattle.flow_solver.specs.Balance.{IsWrappedExcess}

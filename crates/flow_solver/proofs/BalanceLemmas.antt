@@ -18,7 +18,7 @@ use Rattle.network.proofs.RunningSums.{abs-add}
 use Rattle.augmentation.specs.Limits.{cap_sum_limit}
 use Rattle.residual_graph.specs.Residual.{IsPseudoflow, IsRow, IsWithinRow, row_at, number_at}
 use Rattle.augmentation.specs.Nodes.{held}
-use Rattle.augmentation.specs.Touched.{NameChanges}
+use Rattle.tracked.specs.Touched.{NameChanges}
 use Rattle.augmentation.specs.Push.{AreSmall, AreSupplies, IsExcess, at_node, cap_total}
 use Rattle.flow_solver.specs.Balance.{IsCarried, IsRaised, IsWrappedCost, IsWrappedExcess, gain}
 use Rattle.flow_solver.proofs.ExcessLemmas.{AreWithinCaps, at_zero, caps_of_flow, flow_bounds, small_within}

@@ -10,7 +10,7 @@ use Rattle.flow_solver.specs.Balance.{AreEndsIn, IsBalanceOf, IsCarried, IsRaise
 use Rattle.augmentation.specs.Nodes.{held}
 use Rattle.residual_graph.specs.Residual.{row_at, number_at}
 use Rattle.flow_solver.specs.TablesView.{flow_index}
-use Rattle.augmentation.specs.Tracked.{TrackedView}
+use Rattle.tracked.specs.Tracked.{TrackedView}
 use Rattle.flow_solver.proofs.BalanceLemmas.{cost_first, cost_last, cost_row, excess_first, excess_last, excess_row, excess_set, excess_supplied}
 use Rattle.residual_graph.proofs.GraphLemmas.{with_last, with_row}
 use Rattle.flow_solver.proofs.ChangeLemmas.{place_in, row_is, rows_changed, supplied, supplies_held}

@@ -4,7 +4,8 @@ use Rattle.std.proofs.lemmas.Int.{ints}
 use Rattle.dimacs_text.specs.declared.problem.ArcRow.{ArcRow}
 use Rattle.network.specs.Flow.{MinCost, IsNode, AllEndsAreNodes, nodes_sum, arcs_sum, supply_of, crosses, outside, surplus_of, shortfall_of, IsLeastGreatestSurplus, IsLeastGreatestShortfall}
 use Rattle.network.proofs.Sums.{nodes_sum-same}
-use Rattle.augmentation.specs.Cut.{in_set, sum_in, sum_leaving, sum_entering, surplus, shortfall, IsLeastSet}
+use Rattle.augmentation.specs.Cut.{sum_in, sum_leaving, sum_entering, surplus, shortfall, IsLeastSet}
+use Rattle.tracked.specs.Marks.{in_set}
 use Rattle.augmentation.specs.Nodes.{table, held}
 use Rattle.residual_graph.proofs.NodeNumbers.{AllEndsIn}
 use Rattle.augmentation.proofs.NodeLemmas.{length-table, table_at, held_node, sum_in-marked}

@@ -18,7 +18,7 @@ use Rattle.augmentation.specs.ScratchView.{ScratchView}
 use Rattle.residual_graph.specs.Walk.{AreRowsOf}
 use Rattle.flow_solver.specs.Answer.{AreGreatestPotentials}
 use Rattle.flow_solver.specs.declared.balance.Balance.{Balance}
-use Rattle.augmentation.specs.Tracked.{TrackedView}
+use Rattle.tracked.specs.Tracked.{TrackedView}
 use Rattle.flow_solver.specs.declared.part.Before.{Before}
 use Rattle.flow_solver.specs.Edit.{KeepsResidualArcs}
 use Rattle.flow_solver.specs.TablesView.{flow_index}

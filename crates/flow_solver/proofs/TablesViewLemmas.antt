@@ -8,16 +8,16 @@ use Rattle.residual_graph.specs.declared.graph.Graph.{Graph}
 use Rattle.flow_solver.specs.declared.part.Part.{Part}
 use Rattle.flow_solver.specs.declared.part.Part.TheVariants.{Supply}
 use Rattle.flow_solver.specs.declared.verdict.Verdict.{Verdict}
-use Rattle.augmentation.specs.Touched.{NameChanges}
+use Rattle.tracked.specs.Touched.{NameChanges}
 use Rattle.flow_solver.specs.Moment.{IsSized, Snapshot, Moment, kept_of}
 use Rattle.flow_solver.specs.Tables.{FitGraph, IsOfNodes}
 use Rattle.residual_graph.specs.Graph.{IsGraph}
 use Rattle.augmentation.specs.Nodes.{IsIdleEntry}
 use Rattle.flow_solver.specs.Part.{before_all, before_of, return_count}
 use Rattle.augmentation.specs.ScratchView.{ScratchView}
-use Rattle.augmentation.specs.Tracked.{IsWritten, TrackedView}
+use Rattle.tracked.specs.Tracked.{IsWritten, TrackedView}
 use Rattle.residual_graph.specs.Walk.{AreRowsOf}
-use Rattle.augmentation.proofs.TrackedLemmas.{named_after_first}
+use Rattle.tracked.proofs.TrackedLemmas.{named_after_first}
 
 module _ {T : Type 0} where
   pub nodes_written : (nodes : ℕ) (l m : TrackedView T) → IsOfNodes nodes l → IsWritten l m → IsOfNodes nodes m

@@ -6,7 +6,7 @@ use Rattle.network.specs.Flow.{net, total_cost}
 use Rattle.residual_graph.specs.Residual.{row_at, number_at}
 use Rattle.network.specs.Instance.{Instance, reduced}
 use Rattle.flow_solver.specs.declared.balance.Balance.{Balance}
-use Rattle.augmentation.specs.Tracked.{TrackedView}
+use Rattle.tracked.specs.Tracked.{TrackedView}
 use Rattle.augmentation.specs.Nodes.{held}
 use Rattle.augmentation.specs.Push.{at_node}
 

@@ -7,4 +7,4 @@ pub mod Part
 pub mod Tables
 pub mod Balance
 pub use Rattle.augmentation.specs.Push
-pub use Rattle.augmentation.specs.Touched
+pub use Rattle.tracked.specs.Touched

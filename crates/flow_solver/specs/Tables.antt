@@ -11,7 +11,7 @@ use Rattle.flow_solver.specs.declared.part.Part.{Part}
 use Rattle.flow_solver.specs.Potentials.{AreAsTold}
 use Rattle.flow_solver.specs.declared.potentials.Potentials.{Potentials}
 use Rattle.flow_solver.specs.Balance.{IsBalanceOf}
-use Rattle.augmentation.specs.Tracked.{TrackedView}
+use Rattle.tracked.specs.Tracked.{TrackedView}
 use Rattle.flow_solver.specs.Moment.{Snapshot}
 use Rattle.flow_solver.specs.Part.{IsKept}
 

@@ -12,10 +12,10 @@ ghost use Rattle.flow_solver.specs.Answer.{IsJudged, worth_by};
 
 use crate::balance::{Balance, cost_now};
 use crate::verdict::Verdict;
-use augmentation::Tracked;
 use dimacs_text::ArcRow;
 use network::Network;
 use residual_graph::Side;
+use tracked::Tracked;
 
 /// What a node has to send out in the reduced instance; 0 where there is no such node.
 pub fn supply_at(net: &Network, id: u32) -> i64

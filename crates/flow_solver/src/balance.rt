@@ -9,10 +9,11 @@ ghost use Rattle.augmentation.specs.Nodes.{held};
 ghost use Rattle.flow_solver.specs.Balance.{AreEndsIn, AreWrapped, IsCarried, IsRaised, IsWrappedCost, IsWrappedExcess};
 
 use crate::answer::supply_at;
-use augmentation::{Excess, Tracked};
+use augmentation::Excess;
 use dimacs_text::ArcRow;
 use network::Network;
 use std::alloc::{AllocError, Global};
+use tracked::Tracked;
 
 /// The excess of each node under the present flow of a `Tracked` table, and the cost of the flow in its last snapshot.
 /// Both are sums that wrap: each is carried over as one arc or supply changes, whatever the flows are in between, and

@@ -1,6 +1,6 @@
 //! Potentials beside what is known of them.
 
-use augmentation::Tracked;
+use tracked::Tracked;
 
 /// The potential of each node, with an entry for no node in front.
 #[derive(Drop)]

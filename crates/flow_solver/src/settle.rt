@@ -3,14 +3,15 @@
 ghost use Rattle.std.specs.Prelude.{◌≡◌, ℕ, ℤ, length};
 ghost use Rattle.augmentation.specs.Pseudoflow.{IsReady};
 ghost use Rattle.augmentation.specs.Push.{ArePushes, IsExcess};
-ghost use Rattle.augmentation.specs.Tracked.{IsWritten};
+ghost use Rattle.tracked.specs.Tracked.{IsWritten};
 ghost use Rattle.flow_solver.specs.Potentials.{AreAsTold, AreGreatestIn};
 ghost use Rattle.augmentation.specs.Cut.{IsChosenSet, IsParted};
 ghost use Rattle.residual_graph.specs.Walk.{AreRowsOf};
 
 use crate::potentials::Potentials;
-use augmentation::{Excess, Scratch, Tracked, mark_cut, push_all, write_potentials};
+use augmentation::{Excess, Scratch, mark_cut, push_all, write_potentials};
 use residual_graph::Graph;
+use tracked::Tracked;
 
 /// Pushes what can be pushed, and counts the pushes; the potentials become the greatest that certify the flow.
 fn push_and_raise(

@@ -7,10 +7,11 @@ ghost use Rattle.residual_graph.specs.Graph.{IsGraph};
 ghost use Rattle.residual_graph.specs.Limits.{row_limit};
 
 use crate::balance::Balance;
-use augmentation::{Scratch, Tracked};
+use augmentation::Scratch;
 use dimacs_text::ArcRow;
 use residual_graph::Graph;
 use std::alloc::{AllocError, Global};
+use tracked::Tracked;
 
 /// The flow of an arc at the start, which keeps the sign rule under potentials 0.
 fn start(row: &ArcRow) -> i64

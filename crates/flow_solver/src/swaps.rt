@@ -4,13 +4,13 @@ ghost use Rattle.std.specs.Prelude.{◌≡◌, ◌-◌, ◌<◌, ◌≤◌, drop
 ghost use Rattle.network.specs.Instance.{IsLawful, reduced};
 ghost use Rattle.flow_solver.specs.Balance.{IsBalanceOf};
 ghost use Rattle.flow_solver.specs.Moment.{VerdictFits, with_return};
-ghost use Rattle.augmentation.specs.Tracked.{IsWritten};
+ghost use Rattle.tracked.specs.Tracked.{IsWritten};
 
 use crate::balance::{Balance, carry_over};
 use crate::verdict::Verdict;
-use augmentation::Tracked;
 use dimacs_text::ArcRow;
 use network::Network;
+use tracked::Tracked;
 
 /// Exchanges the entry of a node, in a table with an entry for no node in front.
 pub fn exchange_node<T: Copy>(table: &mut Tracked<T>, id: u32, value: &mut T)

@@ -7,7 +7,7 @@ ghost use Rattle.std.specs.Prelude.{◌≡◌, ◌≢◌, AllPairs, ◌≤◌, I
 ghost use Rattle.dimacs_text.specs.Lawful.{IsNode};
 ghost use Rattle.network.specs.Flow.{IsCertifiedFlow};
 ghost use Rattle.network.specs.Instance.{arc_at, at_node, numbered_flow, reduced, reduced_supply};
-ghost use Rattle.augmentation.specs.Touched.{NameChanges};
+ghost use Rattle.tracked.specs.Touched.{NameChanges};
 ghost use Rattle.flow_solver.specs.Moment.{IsStart};
 ghost use Rattle.flow_solver.specs.Part.{return_count};
 
@@ -16,12 +16,13 @@ use crate::part::{Before, return_count, row_before, supply_before};
 use crate::potentials::Potentials;
 use crate::start::{start_balance, start_nodes};
 use crate::verdict::Verdict;
-use augmentation::{Scratch, Tracked};
+use augmentation::Scratch;
 use dimacs_text::{ArcRow, GROUP_LIMIT, NODE_LIMIT};
 use network::Network;
 use residual_graph::Graph;
 use std::alloc::{AllocError, Global};
 use std::marker::Model;
+use tracked::Tracked;
 
 /// A network with a flow, the potentials and the cut that prove what is told of it, the room of the searches, and, after
 /// a change, what stood before it.

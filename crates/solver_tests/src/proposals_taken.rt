@@ -4,7 +4,7 @@ ghost use Rattle.std.specs.Prelude.{◌≡◌, IfOk, length};
 
 use crate::start::{MOST_ROWS, are_ready, start_flow};
 use crate::steps::{prepare, take_up};
-use augmentation::{Excess, Scratch, Tracked};
+use augmentation::{Excess, Scratch};
 use dimacs_text::{ProblemReader, TextFault};
 use network::{build, check_best};
 use proposals::{Change, Wanted};
@@ -12,6 +12,7 @@ use residual_graph::Graph;
 use std::alloc::{AllocError, Global};
 use std::process::Abort;
 use std::test::Fail;
+use tracked::Tracked;
 
 /// Two ways from node 1 to node 3 cost the same: by the first two arcs, and by the third. The last two go round.
 const TIES: &[u8] =

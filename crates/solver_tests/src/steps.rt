@@ -3,9 +3,10 @@
 ghost use Rattle.std.specs.Prelude.{◌≡◌, length};
 ghost use Rattle.augmentation.specs.Pseudoflow.{IsCertifiedPseudoflow, IsReady};
 
-use augmentation::{Excess, Scratch, Tracked, adopt, finish};
+use augmentation::{Excess, Scratch, adopt, finish};
 use proposals::Wanted;
 use residual_graph::Graph;
+use tracked::Tracked;
 
 /// Has this proposal at hand, or where there is none the solver's own.
 pub fn prepare(

@@ -1,10 +1,10 @@
 use Rattle.std.proofs.Common.{◌∙◌, ℤ, List, ap, arith, length, refl, subst, sym, take}
 use Rattle.std.proofs.lemmas.List.{with_items_is}
-use Rattle.augmentation.specs.Journal.{IsSince}
+use Rattle.tracked.specs.Journal.{IsSince}
 use Rattle.augmentation.specs.ScratchView.{ScratchView}
-use Rattle.augmentation.specs.Touched.{AreNoted}
-use Rattle.augmentation.proofs.JournalLemmas.{since_noted}
-use Rattle.augmentation.proofs.TrackedLemmas.{IsTracked-noted}
+use Rattle.tracked.specs.Touched.{AreNoted}
+use Rattle.tracked.proofs.JournalLemmas.{since_noted}
+use Rattle.tracked.proofs.TrackedLemmas.{IsTracked-noted}
 use Rattle.augmentation.proofs.adoption.adopt.Goals as goal
 
 pub returns-in-None-clause-adopted : goal.returns-in-None-clause-adopted

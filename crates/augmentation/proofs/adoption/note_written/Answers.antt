@@ -1,6 +1,6 @@
 use Rattle.std.proofs.Common.{◌≡◌, ℕ, arith, subst, true}
-use Rattle.augmentation.specs.Cut.{in_set}
-use Rattle.augmentation.proofs.JournalLemmas.{named_at}
+use Rattle.tracked.specs.Marks.{in_set}
+use Rattle.tracked.proofs.JournalLemmas.{named_at}
 use Rattle.augmentation.proofs.adoption.note_written.Goals as goal
 
 pub returns-clause-noted : goal.returns-clause-noted

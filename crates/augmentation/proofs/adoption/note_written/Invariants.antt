@@ -1,6 +1,6 @@
 use Rattle.std.proofs.Common.{◌≡◌, ℕ, ◌<◌, length, true}
-use Rattle.augmentation.specs.Cut.{in_set}
-use Rattle.shortest_paths.specs.NodeLists.{node_at}
+use Rattle.tracked.specs.Marks.{in_set}
+use Rattle.tracked.specs.NodeLists.{node_at}
 use Rattle.augmentation.proofs.adoption.note_written.Given as goal
 
 abbrev pub invariant-loop-place : goal.invariant-loop-place

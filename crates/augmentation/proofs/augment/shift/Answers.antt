@@ -8,7 +8,7 @@ use Rattle.shortest_paths.specs.Predecessor.{rank_at}
 use Rattle.augmentation.specs.Push.{HasRoom, before, hop_to, hops_before, moved}
 use Rattle.augmentation.proofs.PathLemmas.{IsOnward, onward_more, push_before, room_after, step_back}
 use Rattle.augmentation.proofs.PushLemmas.{IsWithin-moved, push_elsewhere}
-use Rattle.augmentation.proofs.TrackedLemmas.{IsWritten-trans}
+use Rattle.tracked.proofs.TrackedLemmas.{IsWritten-trans}
 use Rattle.augmentation.proofs.augment.shift.Goals as goal
 use Rattle.augmentation.proofs.augment.shift.Goals.{After-get}
 

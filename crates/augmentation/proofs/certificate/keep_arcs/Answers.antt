@@ -1,9 +1,9 @@
 use Rattle.std.proofs.Common.{ℕ, ◌<◌, length, arith, inl, inr, refl, subst, sym}
 use Rattle.std.proofs.lemmas.Bool.{cases_eq}
-use Rattle.shortest_paths.specs.NodeLists.{node_at}
+use Rattle.tracked.specs.NodeLists.{node_at}
 use Rattle.residual_graph.specs.Residual.{number_at, row_at}
 use Rattle.augmentation.specs.Certificate.{KeepsRow}
-use Rattle.augmentation.proofs.JournalLemmas.{named_at}
+use Rattle.tracked.proofs.JournalLemmas.{named_at}
 use Rattle.augmentation.proofs.certificate.keep_arcs.Goals as goal
 
 pub returns : goal.returns

@@ -1,6 +1,6 @@
 use Rattle.std.proofs.Common.{ℕ, ◌<◌, length}
 use Rattle.residual_graph.specs.Residual.{number_at, row_at}
-use Rattle.shortest_paths.specs.NodeLists.{node_at}
+use Rattle.tracked.specs.NodeLists.{node_at}
 use Rattle.augmentation.specs.Certificate.{KeepsRow}
 use Rattle.augmentation.proofs.certificate.keep_arcs.Given as goal
 

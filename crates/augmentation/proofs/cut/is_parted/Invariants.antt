@@ -1,6 +1,6 @@
 use Rattle.std.proofs.Common.{◌≡◌, ℕ, ◌<◌, pos, ◌≤ℤ◌, true}
 use Rattle.residual_graph.specs.Residual.{number_at}
-use Rattle.augmentation.specs.Cut.{in_set}
+use Rattle.tracked.specs.Marks.{in_set}
 use Rattle.augmentation.proofs.cut.is_parted.Given as goal
 
 abbrev pub invariant-loop-v : goal.invariant-loop-v

@@ -1,4 +1,4 @@
-use Rattle.augmentation.proofs.CutLemmas.{IsListOf-put}
+use Rattle.tracked.proofs.MarkLemmas.{IsListOf-put}
 use Rattle.augmentation.proofs.cut.mark.Goals as goal
 
 pub returns-clause-worklist : goal.returns-clause-worklist

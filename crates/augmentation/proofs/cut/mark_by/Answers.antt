@@ -2,7 +2,8 @@ use Rattle.std.proofs.Common.{◌≡◌, ◌∙◌, ◌+◌, ◌<◌, List, Bool
 use Rattle.std.proofs.lemmas.List.{get_or-set_same}
 use Rattle.dimacs_text.specs.declared.problem.ArcRow.{ArcRow}
 use Rattle.residual_graph.specs.Residual.{row_at}
-use Rattle.augmentation.specs.Cut.{IsGrown, far_at, far_of, in_set, near_at, near_of}
+use Rattle.augmentation.specs.Cut.{IsGrown, far_at, far_of, near_at, near_of}
+use Rattle.tracked.specs.Marks.{in_set}
 use Rattle.augmentation.proofs.CutLemmas.{IsGrown-put, far_of-in}
 use Rattle.augmentation.proofs.cut.mark_by.Goals as goal
 use Rattle.augmentation.proofs.cut.mark_by.Goals.{After-mark}

@@ -1,7 +1,7 @@
 use Rattle.std.proofs.Common.{◌∙◌, Some, ap, subst}
 use Rattle.residual_graph.specs.Walk.{HasCome}
 use Rattle.residual_graph.proofs.WalkLemmas.{come_first, come_next}
-use Rattle.augmentation.specs.Cut.{in_set}
+use Rattle.tracked.specs.Marks.{in_set}
 use Rattle.augmentation.proofs.CutLemmas.{AreFarInAt, IsGrown-refl, IsGrown-trans, far_all}
 use Rattle.augmentation.proofs.cut.mark_from.Goals as goal
 use Rattle.augmentation.proofs.cut.mark_from.Goals.{In-Some}

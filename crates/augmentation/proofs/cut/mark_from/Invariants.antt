@@ -1,5 +1,6 @@
 use Rattle.residual_graph.specs.Walk.{HasCome, ends_left}
-use Rattle.augmentation.specs.Cut.{IsGrown, IsListOf}
+use Rattle.augmentation.specs.Cut.{IsGrown}
+use Rattle.tracked.specs.Marks.{IsListOf}
 use Rattle.augmentation.proofs.CutLemmas.{AreFarInAt}
 use Rattle.augmentation.proofs.cut.mark_from.Given as goal
 

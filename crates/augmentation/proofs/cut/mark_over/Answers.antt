@@ -1,7 +1,8 @@
 use Rattle.std.proofs.Common.{◌≡◌, true}
 use Rattle.residual_graph.specs.declared.residual.Way.{Way}
 use Rattle.residual_graph.specs.declared.residual.Way.TheVariants.{Backward, Forward}
-use Rattle.augmentation.specs.Cut.{IsFarIn, in_set, near_at}
+use Rattle.augmentation.specs.Cut.{IsFarIn, near_at}
+use Rattle.tracked.specs.Marks.{in_set}
 use Rattle.augmentation.proofs.CutLemmas.{IsGrown-trans}
 use Rattle.augmentation.proofs.cut.mark_over.Goals as goal
 use Rattle.augmentation.proofs.cut.mark_over.Goals.{After-mark_by}

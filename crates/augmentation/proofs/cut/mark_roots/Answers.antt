@@ -4,10 +4,10 @@ use Rattle.std.proofs.lemmas.Int.{to_z-of_z}
 use Rattle.std.proofs.lemmas.List.{get_or_default}
 use Rattle.residual_graph.specs.Residual.{number_at}
 use Rattle.residual_graph.specs.Side.{IsRoot}
-use Rattle.augmentation.specs.Cut.{in_set}
+use Rattle.tracked.specs.Marks.{in_set}
 use Rattle.augmentation.specs.Excess.{AreUnbalancedListed}
-use Rattle.shortest_paths.specs.NodeLists.{node_at}
-use Rattle.augmentation.proofs.TouchedLemmas.{noted_in}
+use Rattle.tracked.specs.NodeLists.{node_at}
+use Rattle.tracked.proofs.TouchedLemmas.{noted_in}
 use Rattle.augmentation.proofs.ExcessLemmas.{AreRootsMarked, no_root_passed, root_listed, root_marked}
 use Rattle.augmentation.proofs.cut.mark_roots.Goals as goal
 use Rattle.augmentation.proofs.cut.mark_roots.Goals.{then-is_root, else-is_root}

@@ -1,4 +1,4 @@
-use Rattle.augmentation.specs.Cut.{IsListOf}
+use Rattle.tracked.specs.Marks.{IsListOf}
 use Rattle.augmentation.proofs.ExcessLemmas.{AreRootsMarked}
 use Rattle.augmentation.proofs.cut.mark_roots.Given as goal
 

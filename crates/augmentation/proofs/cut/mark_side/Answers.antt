@@ -1,6 +1,6 @@
 use Rattle.std.proofs.Common.{ℕ, ◌+◌, ◌<◌, inl, inr, arith, ap, ◌∙◌}
 use Rattle.std.proofs.lemmas.Bool.{cases_eq}
-use Rattle.shortest_paths.specs.NodeLists.{node_at}
+use Rattle.tracked.specs.NodeLists.{node_at}
 use Rattle.augmentation.specs.Cut.{AreFarIn}
 use Rattle.augmentation.proofs.cut.mark_side.Goals as goal
 

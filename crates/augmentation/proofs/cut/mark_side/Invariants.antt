@@ -1,6 +1,7 @@
 use Rattle.std.proofs.Common.{◌≡◌, ℕ, ◌-◌, ◌<◌, List, Bool, true, length}
-use Rattle.augmentation.specs.Cut.{in_set, HoldsRoots, IsClosed, IsListOf, AreFarIn}
-use Rattle.shortest_paths.specs.NodeLists.{node_at}
+use Rattle.augmentation.specs.Cut.{HoldsRoots, IsClosed, AreFarIn}
+use Rattle.tracked.specs.Marks.{in_set, IsListOf}
+use Rattle.tracked.specs.NodeLists.{node_at}
 use Rattle.augmentation.proofs.cut.mark_side.Given as goal
 
 abbrev pub invariant-loop-next : goal.invariant-loop-next

@@ -1,6 +1,6 @@
 use Rattle.std.proofs.Common.{◌≡◌, ℕ, ◌<◌, Bool}
 use Rattle.std.specs.Prelude.{slice_index_or}
-use Rattle.augmentation.specs.Tracked.{IsWritten}
+use Rattle.tracked.specs.Tracked.{IsWritten}
 use Rattle.augmentation.proofs.cut.take_marks.Given as goal
 
 abbrev pub invariant-loop-v : goal.invariant-loop-v

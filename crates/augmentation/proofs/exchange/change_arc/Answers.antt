@@ -5,7 +5,7 @@ use Rattle.dimacs_text.specs.declared.problem.ArcRow.{ArcRow}
 use Rattle.residual_graph.specs.Residual.{IsPseudoflow, IsRow, IsWithinRow, number_at, row_at}
 use Rattle.augmentation.specs.Push.{IsTransfer}
 use Rattle.augmentation.proofs.ExchangeLemmas.{after-set}
-use Rattle.augmentation.proofs.JournalLemmas.{since_written}
+use Rattle.tracked.proofs.JournalLemmas.{since_written}
 use Rattle.augmentation.proofs.PushLemmas.{IsFlow-set}
 use Rattle.augmentation.proofs.exchange.change_arc.Goals as goal
 use Rattle.augmentation.proofs.exchange.change_arc.Goals.{After-min-goal}

@@ -1,7 +1,7 @@
 use Rattle.std.proofs.Common.{◌≡◌, ℤ, List, length}
 use Rattle.residual_graph.specs.Residual.{IsPseudoflow}
 use Rattle.augmentation.specs.Changes.{IsExcessAfter}
-use Rattle.augmentation.specs.Journal.{IsJournal, IsSince}
+use Rattle.tracked.specs.Journal.{IsJournal, IsSince}
 use Rattle.augmentation.proofs.exchange.change_arcs.Given as goal
 
 abbrev pub invariant-loop-change : goal.invariant-loop-change

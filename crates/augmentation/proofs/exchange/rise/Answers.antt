@@ -2,11 +2,11 @@ use Rattle.std.proofs.Common.{◌≡◌, ◌∙◌, ℕ, ◌<◌, length, arith,
 use Rattle.std.proofs.lemmas.Bool.{cases_eq}
 use Rattle.std.proofs.lemmas.Int.{to_z-of_z}
 use Rattle.std.proofs.lemmas.List.{get_or_read}
-use Rattle.shortest_paths.specs.NodeLists.{node_at}
+use Rattle.tracked.specs.NodeLists.{node_at}
 use Rattle.residual_graph.specs.Residual.{number_at, row_at}
 use Rattle.augmentation.specs.Exchange.{RisesBetween}
 use Rattle.augmentation.proofs.ExchangeLemmas.{rises_noted}
-use Rattle.augmentation.proofs.JournalLemmas.{named_at}
+use Rattle.tracked.proofs.JournalLemmas.{named_at}
 use Rattle.augmentation.proofs.exchange.rise.Goals as goal
 
 pub returns : goal.returns

@@ -1,6 +1,6 @@
 use Rattle.std.proofs.Common.{◌≡◌, ℕ, ◌<◌}
 use Rattle.residual_graph.specs.Residual.{number_at}
-use Rattle.augmentation.specs.Tracked.{IsWritten}
+use Rattle.tracked.specs.Tracked.{IsWritten}
 use Rattle.augmentation.proofs.potentials.write_all.Given as goal
 
 abbrev pub invariant-loop-v : goal.invariant-loop-v

@@ -2,7 +2,7 @@ use Rattle.std.proofs.Common.{◌≡◌, ◌<◌, ◌+◌, ◌^◌, length, ap, 
 use Rattle.augmentation.specs.Pseudoflow.{IsReady}
 use Rattle.augmentation.specs.Push.{left}
 use Rattle.augmentation.proofs.SettleLemmas.{ArePushes-more, ArePushes-none, left-small}
-use Rattle.augmentation.proofs.TrackedLemmas.{IsWritten-same, IsWritten-trans}
+use Rattle.tracked.proofs.TrackedLemmas.{IsWritten-same, IsWritten-trans}
 use Rattle.augmentation.proofs.rounds.finish.Goals as goal
 
 pub loop-target-init : goal.loop-target-init

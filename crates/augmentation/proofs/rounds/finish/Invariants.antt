@@ -1,6 +1,6 @@
 use Rattle.augmentation.specs.Pseudoflow.{IsReady}
 use Rattle.augmentation.specs.Push.{ArePushes, left}
-use Rattle.augmentation.specs.Tracked.{IsWritten}
+use Rattle.tracked.specs.Tracked.{IsWritten}
 use Rattle.augmentation.proofs.rounds.finish.Given as goal
 
 abbrev pub invariant-loop-target : goal.invariant-loop-target

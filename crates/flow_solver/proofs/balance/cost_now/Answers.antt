@@ -3,7 +3,7 @@ use Rattle.std.specs.Int.{w128}
 use Rattle.std.proofs.lemmas.Int.{to_z-of_z}
 use Rattle.std.proofs.lemmas.List.{get_or_default}
 use Rattle.residual_graph.specs.Residual.{row_at, number_at}
-use Rattle.augmentation.specs.Touched.{NameChanges}
+use Rattle.tracked.specs.Touched.{NameChanges}
 use Rattle.flow_solver.specs.Balance.{IsWrappedCost}
 use Rattle.flow_solver.proofs.BalanceLemmas.{cost_step, part_step, part_past, part_ends}
 use Rattle.flow_solver.proofs.balance.cost_now.Goals as goal

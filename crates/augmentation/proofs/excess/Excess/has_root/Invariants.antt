@@ -1,7 +1,7 @@
 use Rattle.std.proofs.Common.{ℕ, ◌<◌}
 use Rattle.residual_graph.specs.Residual.{number_at}
 use Rattle.residual_graph.specs.Side.{IsRoot}
-use Rattle.shortest_paths.specs.NodeLists.{node_at}
+use Rattle.tracked.specs.NodeLists.{node_at}
 use Rattle.augmentation.proofs.excess.Excess.has_root.Given as goal
 
 abbrev pub invariant-loop-j : goal.invariant-loop-j

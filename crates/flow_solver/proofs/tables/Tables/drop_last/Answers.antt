@@ -7,7 +7,7 @@ use Rattle.network.specs.Instance.{Instance}
 use Rattle.flow_solver.specs.TablesView.{TablesView}
 use Rattle.residual_graph.specs.Residual.{row_at, number_at}
 use Rattle.flow_solver.proofs.CarryLemmas.{arcs_in, balance_dropped, ends_in}
-use Rattle.augmentation.proofs.TrackedLemmas.{IsWritten-same}
+use Rattle.tracked.proofs.TrackedLemmas.{IsWritten-same}
 use Rattle.flow_solver.proofs.TablesViewLemmas.{fit_again}
 use Rattle.flow_solver.proofs.tables.Tables.drop_last.Goals as goal
 use Rattle.flow_solver.proofs.tables.Tables.drop_last.Goals.{After-rows}

@@ -6,7 +6,7 @@ use Rattle.flow_solver.specs.TablesView.{TablesView, flow_index}
 use Rattle.residual_graph.specs.Residual.{row_at}
 use Rattle.flow_solver.proofs.CarryLemmas.{IsPlace, balance_set, ends_in, place_is}
 use Rattle.flow_solver.proofs.TablesViewLemmas.{fit_written}
-use Rattle.augmentation.proofs.TrackedLemmas.{IsWritten-same}
+use Rattle.tracked.proofs.TrackedLemmas.{IsWritten-same}
 use Rattle.flow_solver.proofs.tables.Tables.swap_flow.Goals as goal
 use Rattle.flow_solver.proofs.tables.Tables.swap_flow.Goals.{After-first_row}
 

@@ -1,7 +1,7 @@
 use Rattle.std.proofs.Common.{◌≡◌, pos, refl}
 use Rattle.residual_graph.specs.Residual.{number_at}
 use Rattle.flow_solver.proofs.TablesViewLemmas.{fit_written}
-use Rattle.augmentation.proofs.TrackedLemmas.{IsWritten-same}
+use Rattle.tracked.proofs.TrackedLemmas.{IsWritten-same}
 use Rattle.flow_solver.proofs.tables.Tables.swap_potential.Goals as goal
 
 pub invariant_of-self : goal.invariant_of-self

@@ -9,7 +9,7 @@ use Rattle.augmentation.specs.ScratchView.{ScratchView}
 use Rattle.flow_solver.proofs.CarryLemmas.{balance_swapped, place_is}
 use Rattle.flow_solver.proofs.InstanceLemmas.{few_rows}
 use Rattle.flow_solver.proofs.TablesViewLemmas.{fit_written}
-use Rattle.augmentation.proofs.TrackedLemmas.{IsWritten-same}
+use Rattle.tracked.proofs.TrackedLemmas.{IsWritten-same}
 use Rattle.flow_solver.proofs.tables.Tables.swap_row.Goals as goal
 
 pub invariant_of-self : goal.invariant_of-self

@@ -10,7 +10,7 @@ use Rattle.flow_solver.proofs.CarryLemmas.{balance_supplied}
 use Rattle.flow_solver.proofs.ChangeLemmas.{supplied, supply_entry}
 use Rattle.flow_solver.proofs.TablesViewLemmas.{fit_written}
 use Rattle.augmentation.proofs.NodeLemmas.{held_node}
-use Rattle.augmentation.proofs.TrackedLemmas.{IsWritten-same}
+use Rattle.tracked.proofs.TrackedLemmas.{IsWritten-same}
 use Rattle.flow_solver.proofs.StandingLemmas.{greatest_supplied}
 use Rattle.flow_solver.proofs.tables.Tables.swap_supply.Goals as goal
 

@@ -1,7 +1,7 @@
 use Rattle.std.proofs.Common.{subst}
 use Rattle.std.specs.Prelude.{IfSome}
 use Rattle.network.specs.Instance.{numbered_flow}
-use Rattle.augmentation.specs.Touched.{NameChanges}
+use Rattle.tracked.specs.Touched.{NameChanges}
 use Rattle.flow_solver.specs.TablesView.{TablesView}
 use Rattle.flow_solver.specs.Part.{return_count}
 use Rattle.flow_solver.proofs.TablesViewLemmas.{named_before, since}

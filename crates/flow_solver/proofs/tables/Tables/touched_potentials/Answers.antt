@@ -1,8 +1,8 @@
 use Rattle.std.proofs.Common.{drop, subst}
 use Rattle.std.specs.Prelude.{IfSome}
-use Rattle.augmentation.specs.Touched.{NameChanges}
+use Rattle.tracked.specs.Touched.{NameChanges}
 use Rattle.flow_solver.specs.TablesView.{TablesView}
-use Rattle.augmentation.proofs.TrackedLemmas.{named_after_first}
+use Rattle.tracked.proofs.TrackedLemmas.{named_after_first}
 use Rattle.flow_solver.proofs.TablesViewLemmas.{since}
 use Rattle.flow_solver.proofs.tables.Tables.touched_potentials.Goals as goal
 

@@ -1,0 +1,5 @@
+pub mod MarkLemmas
+pub mod ApartLemmas
+pub mod TouchedLemmas
+pub mod TrackedLemmas
+pub mod JournalLemmas

@@ -1,0 +1,102 @@
+-- Tables that note where they are written: notes that are forgotten, and what was written in turn.
+use Rattle.std.proofs.Common.{◌≡◌, ℕ, suc, ◌+◌, ◌<◌, List, [], ◌∷◌, length, refl, sym, ap, subst, ◌∙◌, inl, inr, arith, Bool, true, false, cond, not}
+use Rattle.std.specs.Prelude.{◌⊎◌, slice_set}
+use Rattle.std.proofs.lemmas.Bool.{cases_eq, cases_lt, false≢true, true≢false, false_from_ne_true}
+use Rattle.std.proofs.lemmas.List.{length-set, get_or-set_same, get_or-set_other, get_or_past}
+use Rattle.std.proofs.lemmas.List.Sums.{sum_by-cons}
+use Rattle.std.specs.List.{count_by}
+use Rattle.tracked.specs.Marks.{in_set, IsListOf}
+use Rattle.tracked.specs.NodeLists.{node_at}
+use Rattle.tracked.specs.Touched.{AreNoted}
+
+-- a place is noted, or it is not
+pub noted_or_not : (noted : List Bool) (k : ℕ) → (in_set noted k ≡ true) ⊎ (in_set noted k ≡ false)
+noted_or_not noted k = either (in_set noted k)
+  where
+    either : (b : Bool) → (b ≡ true) ⊎ (b ≡ false)
+    either true = inl refl
+    either false = inr refl
+
+-- a place that is noted stays so when another is, or this one again
+pub still_noted : (noted : List Bool) (place k : ℕ) → place < length noted → in_set noted k ≡ true → in_set (slice_set noted place true) k ≡ true
+still_noted noted place k lt h = elim (cases_eq k place) [
+  | inl same ↦ subst (λ (q : ℕ). in_set (slice_set noted place true) q ≡ true) (sym same) (get_or-set_same noted place true false lt)
+  | inr other ↦ get_or-set_other noted place k true false other ∙ h
+]
+
+-- a noted place has a mark
+pub noted_in : (noted : List Bool) (k : ℕ) → in_set noted k ≡ true → k < length noted
+noted_in noted k h = elim (cases_lt k (length noted)) [
+  | inl lt ↦ lt
+  | inr past ↦ absurd (true≢false (sym h ∙ get_or_past noted k false past))
+]
+
+-- ---- notes that are forgotten
+
+-- the first j of the places are not noted now, and nothing is noted that was not
+pub record AreForgotten (noted : List Bool) (places : List ℕ) (j : ℕ) (noted' : List Bool) : Type 0 where
+  pub same_size : length noted' ≡ length noted
+  pub forgotten : (i : ℕ) → i < j → in_set noted' (node_at places i) ≡ false
+  pub before : (k : ℕ) → in_set noted' k ≡ true → in_set noted k ≡ true
+
+not_noted : (noted : List Bool) (place k : ℕ) → (k ≡ place) ⊎ (in_set noted k ≡ false) → in_set (slice_set noted place false) k ≡ false
+not_noted noted place k out = elim (cases_eq k place) [
+  | inr other ↦ get_or-set_other noted place k false false other ∙ elim out [ inl same ↦ absurd (other same) | inr h ↦ h ]
+  | inl same ↦ elim (cases_lt place (length noted)) [
+    | inl lt ↦ subst (λ (q : ℕ). in_set (slice_set noted place false) q ≡ false) (sym same) (get_or-set_same noted place false false lt)
+    | inr past ↦ get_or_past (slice_set noted place false) k false (omega (arith, same, past, length-set noted place false))
+  ]
+]
+
+pub AreForgotten-more : (noted : List Bool) (places : List ℕ) (j place : ℕ) (noted' : List Bool) → AreForgotten noted places j noted' → place ≡ node_at places j → AreForgotten noted places (j + 1) (slice_set noted' place false)
+AreForgotten-more noted places j place noted' are is = record {
+  same_size = length-set noted' place false ∙ are.same_size;
+  forgotten = λ i lt. not_noted noted' place (node_at places i) (elim (cases_eq i j) [
+    | inl same ↦ inl (ap (node_at places) same ∙ sym is)
+    | inr other ↦ inr (are.forgotten i (omega (arith, lt, other)))
+  ]);
+  before = λ k h. elim (cases_eq k place) [
+    | inl same ↦ absurd (true≢false (sym h ∙ not_noted noted' place k (inl same)))
+    | inr other ↦ are.before k (sym (get_or-set_other noted' place k false false other) ∙ h)
+  ];
+}
+
+pub AreForgotten-all : (noted : List Bool) (places : List ℕ) (len : ℕ) (noted' : List Bool) → IsListOf noted places len → AreForgotten noted places len noted' → (k : ℕ) → in_set noted' k ≡ false
+AreForgotten-all noted places len noted' line are k = false_from_ne_true (in_set noted' k) (λ h. (let listed = line.listed k (are.before k h) in true≢false (sym h ∙ subst (λ (q : ℕ). in_set noted' q ≡ false) listed.is_there (are.forgotten listed.place listed.in_list))))
+
+all_out : (set : List Bool) → ((k : ℕ) → in_set set k ≡ false) → count_by not set ≡ length set
+all_out [] none = refl
+all_out (true ∷ set) none = absurd (true≢false (none 0))
+all_out (false ∷ set) none = omega (arith, sum_by-cons (λ (b : Bool). cond (not b) 1 0) false set, all_out set (λ k. none (suc k)))
+
+-- the line of no place
+pub IsListOf-none : (noted : List Bool) (places : List ℕ) → length places ≡ length noted → ((k : ℕ) → in_set noted k ≡ false) → IsListOf noted places 0
+IsListOf-none noted places sized none = record {
+  one_a_node = sized;
+  inside = λ j lt. absurd (omega arith);
+  listed = λ k h. absurd (true≢false (sym h ∙ none k));
+  room = omega (arith, all_out noted none);
+}
+
+-- ---- what was written in turn, and what is kept
+
+module _ {T : Type 0} where
+  pub AreNoted-none : (noted : List Bool) (xs : List T) → AreNoted noted xs noted xs
+  AreNoted-none noted xs = record { same_size = refl; same_length = refl; still = λ k h. h; elsewhere = λ k out d. refl }
+
+  pub AreNoted-trans : {noted noted' noted'' : List Bool} → {xs ys zs : List T} → AreNoted noted xs noted' ys → AreNoted noted' ys noted'' zs → AreNoted noted xs noted'' zs
+  AreNoted-trans {noted' = noted'} one two = record {
+    same_size = two.same_size ∙ one.same_size;
+    same_length = two.same_length ∙ one.same_length;
+    still = λ k h. two.still k (one.still k h);
+    elsewhere = λ k out d. two.elsewhere k out d ∙ one.elsewhere k (false_from_ne_true (in_set noted' k) (λ h. false≢true (sym out ∙ two.still k h))) d;
+  }
+
+  -- a place is written, and noted
+  pub AreNoted-set : (noted : List Bool) (xs : List T) (place : ℕ) (value : T) → place < length noted → AreNoted noted xs (slice_set noted place true) (slice_set xs place value)
+  AreNoted-set noted xs place value lt = record {
+    same_size = length-set noted place true;
+    same_length = length-set xs place value;
+    still = λ k h. still_noted noted place k lt h;
+    elsewhere = λ k out d. get_or-set_other xs place k value d (λ same. true≢false (sym (get_or-set_same noted place true false lt) ∙ (subst (λ (q : ℕ). in_set (slice_set noted place true) q ≡ false) same out)));
+  }

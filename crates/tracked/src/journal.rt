@@ -1,0 +1,74 @@
+//! What stood in a table before it was written.
+
+ghost use Rattle.std.specs.Prelude.{◌≡◌, ℤ, ◌<◌, ◌≤◌, List, length, true, IfOk};
+ghost use Rattle.residual_graph.specs.Limits.{row_limit};
+ghost use Rattle.tracked.specs.Marks.{in_set};
+
+use crate::touched::Touched;
+use std::alloc::{AllocError, Global};
+
+/// The places at which a table was written since the journal was cleared, and what stood there before: so it can be
+/// brought back at no more cost than these places.
+#[derive(Drop)]
+pub struct Journal {
+    /// What stood at the places written. Nothing is known of other entries.
+    pub before: Vec<i64>,
+    pub written: Touched,
+}
+
+ghost use Rattle.tracked.specs.Journal.{IsJournal, IsSince};
+
+impl Journal {
+    /// A journal of a table that has at most so many entries.
+    ///
+    /// # Errors
+    /// Memory for a table was refused.
+    pub fn new(alloc: Global, size: usize) -> Result<Journal, AllocError>
+        requires { size ≤ row_limit }
+        ensures { IfOk result IsJournal }
+    {
+        let before = vec![in alloc; 0; size]?;
+        let written = Touched::new(alloc, size)?;
+        Ok(Journal { before, written })
+    }
+
+    /// Begins with a table of so many entries, for which there is room.
+    pub fn clear(&mut self)
+        requires journal { IsJournal self.old }
+        ensures journal { IsJournal self.new }
+        ensures since { (xs : List ℤ) → length xs ≤ length self.old.before.items → IsSince self.new xs xs }
+    {
+        self.written.clear();
+    }
+
+    /// Notes what stands at a place of the table, which is to be written.
+    pub fn note(&mut self, table: &[i64], place: usize)
+        requires journal { IsJournal self.old }
+        requires place { place < length table.now }
+        requires room { length table.now ≤ length self.old.before.items }
+        ensures journal { IsJournal self.new }
+        ensures room { length self.new.before.items ≡ length self.old.before.items }
+        ensures noted { in_set self.new.written place ≡ true }
+        ensures since { (xs : List ℤ) → IsSince self.old xs table.now → IsSince self.new xs table.now }
+    {
+        if !self.written.is_noted(place) {
+            self.before[place] = table[place];
+            self.written.note(place);
+        }
+    }
+
+    /// Brings back what stood in the table.
+    pub fn bring_back(&self, table: &mut [i64])
+        requires journal { IsJournal self.now }
+        requires room { length table.old ≤ length self.now.before.items }
+        ensures { (xs : List ℤ) → IsSince self.now xs table.old → table.new ≡ xs }
+    {
+        for place in self.written.places() {
+            let k = *place as usize;
+            if k >= table.len() {
+                continue;
+            }
+            table[k] = self.before[k];
+        }
+    }
+}
