@@ -29,7 +29,8 @@ fn write_all(table: &mut Tracked<i64>, numbers: &[i64])
 
 /// Whether the labels of a tree certify the flow, and are the greatest that do.
 fn serve(residual: Residual<'_>, tree: &Tree) -> bool
-    requires { IsTreeOf residual tree.now }
+    requires certified { IsReducedCostOptimal residual.graph.now.rows residual.flow.now residual.potentials.now }
+    requires sized { IsTreeOf residual tree.now }
     ensures { IsTrue result → AreShortestOver residual.entry tree.now.labels }
 {
     certifies_beside(
@@ -47,6 +48,7 @@ fn serve(residual: Residual<'_>, tree: &Tree) -> bool
 
 /// Has a tree mend its labels, or else find them anew, and says whether they serve.
 fn renew(residual: Residual<'_>, tree: &mut Tree, written: &[u32]) -> bool
+    requires { IsReducedCostOptimal residual.graph.now.rows residual.flow.now residual.potentials.now }
     ensures sized { IsTrue result → IsTreeOf residual.entry tree.new }
     ensures shortest { IsTrue result → AreShortestOver residual.entry tree.new.labels }
 {
@@ -80,6 +82,7 @@ pub fn write_potentials(
     };
     if renew(residual, &mut scratch.tree, flow.places()) {
         write_all(potentials, scratch.tree.labels());
+        scratch.tree.accept(graph, flow.places());
         return;
     }
     search_labels(

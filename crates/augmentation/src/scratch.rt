@@ -21,7 +21,7 @@ pub struct Scratch {
     pub(crate) predecessors: Vec<Predecessor>,
     /// Potentials while flow is pushed.
     pub(crate) potentials: Vec<i64>,
-    /// The labels that were written last, and what changed since.
+    /// The labels that were tested last, and what changed since.
     pub(crate) tree: Tree,
     /// Marks of nodes, while a cut is looked for.
     pub(crate) marks: Vec<bool>,
@@ -53,7 +53,7 @@ impl Scratch {
     {
         let predecessors = vec![in alloc; Predecessor::open(); entries as usize]?;
         let potentials = vec![in alloc; 0; entries as usize]?;
-        let tree = Tree::new(alloc, entries as usize)?;
+        let tree = Tree::new(alloc, entries as usize, arcs / 2)?;
         let marks = vec![in alloc; false; entries as usize]?;
         let worklist = vec![in alloc; 0; entries as usize]?;
         let attempt = Attempt::new(alloc, entries as usize, arcs / 2)?;
@@ -84,11 +84,11 @@ impl Scratch {
     }
 
     /// Notes that the arcs in these rows may have got another row or another flow: the next proposal looks at them.
-    pub fn note_all(&mut self, places: &[u32])
+    pub fn note_all(&mut self, graph: &Graph, places: &[u32])
         ensures { self.new ≡ self.old }
     {
         self.attempt.note_all(places);
-        self.tree.note_all(places);
+        self.tree.note_all(graph, places);
     }
 
     /// Has this proposal at hand.

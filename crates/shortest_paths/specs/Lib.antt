@@ -2,3 +2,4 @@ pub mod Limits
 pub mod Predecessor
 pub mod Search
 pub mod Tree
+pub mod TreeTables

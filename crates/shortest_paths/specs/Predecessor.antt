@@ -52,3 +52,7 @@ pub record ComesAlong (a : ArcRow) (x : ℤ) (q : List ℤ) (t : List Predecesso
 abbrev pub IsTracedAt : List ArcRow → List ℤ → List ℤ → List Predecessor → ℕ → Type 0
 IsTracedAt arcs x q t v =
     (number_at q v ≡ pos 0) ⊎ ((arc_to t v < length arcs) × ComesAlong (row_at arcs (arc_to t v)) (number_at x (arc_to t v)) q t v)
+
+-- so it is of each node
+abbrev pub AllTraced : List ArcRow → List ℤ → List ℤ → List Predecessor → Type 0
+AllTraced arcs x q t = (v : ℕ) → v < length q → IsTracedAt arcs x q t v

@@ -11,6 +11,6 @@ mod search;
 mod tree;
 
 pub use labels::search_labels;
-pub use predecessor::{Predecessor, are_traced, reduced_cost};
+pub use predecessor::{Predecessor, are_traced, is_traced, reduced_cost};
 pub use search::find_deficit;
 pub use tree::Tree;

@@ -4,7 +4,7 @@ ghost use Rattle.std.specs.Prelude.{◌≡◌, ◌<◌, IsTrue, length};
 ghost use Rattle.shortest_paths.specs.Limits.{label_floor};
 ghost use Rattle.residual_graph.specs.Limits.{potential_floor};
 ghost use Rattle.residual_graph.specs.Residual.{AreGreatest, ArePotentials, IsPseudoflow, IsRow, IsWithinRow};
-ghost use Rattle.shortest_paths.specs.Predecessor.{ComesAlong, IsTracedAt, arc_from, open_node, reduced_by, root_node};
+ghost use Rattle.shortest_paths.specs.Predecessor.{AllTraced, ComesAlong, IsTracedAt, arc_from, open_node, reduced_by, root_node};
 
 use dimacs_text::ArcRow;
 use residual_graph::{Graph, ResidualArc, Way};
@@ -65,7 +65,8 @@ pub(crate) fn leaving(end: u32) -> ResidualArc
 pub fn are_traced(graph: &Graph, flow: &[i64], labels: &[i64], predecessors: &[Predecessor]) -> bool
     requires flow { IsPseudoflow (length labels.now) graph.now.rows flow.now }
     requires labels { ArePotentials (length labels.now) label_floor labels.now }
-    ensures { IsTrue result → AreGreatest graph.now.rows flow.now labels.now }
+    ensures traced { IsTrue result → AllTraced graph.now.rows flow.now labels.now predecessors.now }
+    ensures greatest { IsTrue result → AreGreatest graph.now.rows flow.now labels.now }
 {
     if predecessors.len() != labels.len() {
         return false;
@@ -79,7 +80,7 @@ pub fn are_traced(graph: &Graph, flow: &[i64], labels: &[i64], predecessors: &[P
 }
 
 /// Whether this is so of a node.
-fn is_traced(
+pub fn is_traced(
     graph: &Graph,
     flow: &[i64],
     labels: &[i64],

@@ -1,17 +1,20 @@
 //! The tree of labels, kept from flow to flow: where edits and pushes broke it, it is mended.
 //!
-//! Proved is that each call returns, and that no index, sum or cast leaves its range. Nothing is proved of the labels: who
-//! takes them tests them.
+//! Proved is that each call returns, that no index, sum or cast leaves its range, and that what is held stays as it is while
+//! labels are looked for. Nothing is proved of these labels: who takes them tests them, and has them accepted.
 
-ghost use Rattle.std.specs.Prelude.{◌≡◌, ◌<◌, ◌≤◌, IfOk, IsTrue, length};
-ghost use Rattle.residual_graph.specs.Limits.{entry_limit};
+ghost use Rattle.std.specs.Prelude.{◌≡◌, ◌≢◌, ℕ, ◌<◌, ◌≤◌, All, AllPairs, Any, IfOk, IsTrue, false, length, true};
+ghost use Rattle.residual_graph.specs.Limits.{row_limit};
 ghost use Rattle.residual_graph.specs.Walk.{IsWithin};
-ghost use Rattle.shortest_paths.specs.Tree.{IsTreeOf};
+ghost use Rattle.tracked.specs.Marks.{in_set};
+ghost use Rattle.tracked.specs.Touched.{NameChanges};
+ghost use Rattle.shortest_paths.specs.Tree.{AreArcsNoted, IsArcNoted, IsTreeOf, StaysHeld};
 
 use crate::predecessor::Predecessor;
-use residual_graph::{End, Residual, ResidualArc, Walk, Way};
+use residual_graph::{End, Graph, Residual, ResidualArc, Walk, Way};
 use std::alloc::{AllocError, Global};
 use std::marker::Model;
+use tracked::{Touched, Tracked};
 use two_sided::Heap;
 
 /// The label of a node that is loose: any other is lower.
@@ -26,15 +29,20 @@ const MOST_LOOSE: usize = 2;
 /// How often, counted over all nodes, a node is settled at most.
 const MOST_SETTLED: usize = 4;
 
-/// The labels of all nodes under the last flow for which they were taken, and how each node got its own. A node whose
-/// predecessor no longer leads to it is loose.
+/// The most arcs that can be noted.
+const MOST_ROWS: usize = 200_001;
+
+/// The labels of all nodes, and how each node got its own. A node whose predecessor no longer leads to it is loose.
 #[derive(Drop)]
 pub struct Tree {
-    labels: Vec<i64>,
-    predecessors: Vec<Predecessor>,
-    /// The rows of arcs that may have changed since, or whose flow may have.
-    noted: Vec<u32>,
-    /// Whether more changed than is noted.
+    /// The labels, beside those that were tested last.
+    labels: Tracked<i64>,
+    predecessors: Tracked<Predecessor>,
+    /// The rows of arcs that may have changed since labels were tested, or whose flow may have.
+    noted: Touched,
+    /// The nodes at the ends of these arcs.
+    beside: Touched,
+    /// Whether more changed than is noted, or no labels were tested.
     is_lost: bool,
     loose: Vec<u32>,
     /// Queued nodes whose label is above their potential by `present`, and in the heap those of which it is more.
@@ -44,35 +52,53 @@ pub struct Tree {
 }
 
 impl Model for Tree {
-    ghost use Rattle.std.specs.Prelude.{◌≡◌, ◌≤◌, length};
-    ghost use Rattle.residual_graph.specs.Limits.{entry_limit};
-    ghost use Rattle.residual_graph.specs.Walk.{IsWithin};
-    ghost use Rattle.shortest_paths.specs.Tree.{TreeView};
+    ghost use Rattle.shortest_paths.specs.Tree.{HeldView, TreeView};
 
     ghost Value = { TreeView };
 
-    ghost view = { λ t. record { labels = t.labels.items; predecessors = t.predecessors.items } };
+    ghost view = { λ t. record {
+      labels = t.labels.entries;
+      predecessors = t.predecessors.entries;
+      held = record {
+        labels = t.labels.kept;
+        predecessors = t.predecessors.kept;
+        noted = t.noted;
+        beside = t.beside;
+        is_lost = t.is_lost;
+      };
+    } };
 
-    ghost invariant = { λ t. (length t.predecessors.items ≡ length t.labels.items) × (t.heap ≡ length t.labels.items)
-        × (length t.labels.items ≤ entry_limit) };
+    ghost use Rattle.shortest_paths.specs.TreeTables.{AreTables};
+
+    ghost invariant = { AreTables };
 }
 
 impl Tree {
-    /// A tree of no node, with room for so many. Its room is not touched before a search has found labels.
+    /// A tree of so many nodes, of which no label is known yet, with room for notes of so many arcs.
     ///
     /// # Errors
     /// Memory for a table was refused.
-    pub fn new(alloc: Global, entries: usize) -> Result<Tree, AllocError> {
-        let labels = Vec::with_capacity(alloc, entries)?;
-        let predecessors = Vec::with_capacity(alloc, entries)?;
-        let noted = Vec::with_capacity(alloc, entries)?;
+    pub fn new(alloc: Global, entries: usize, arcs: usize) -> Result<Tree, AllocError>
+        requires { entries ≤ row_limit }
+        ensures sized { IfOk result (λ t. length t.labels ≡ entries) }
+        ensures lost { IfOk result (λ t. t.held.is_lost ≡ true) }
+    {
+        let labels = Tracked::new(alloc, vec![in alloc; 0; entries]?, entries)?;
+        let open = vec![in alloc; Predecessor::open(); entries]?;
+        let predecessors = Tracked::new(alloc, open, entries)?;
+        let noted = Touched::new(alloc, arcs.min(MOST_ROWS))?;
+        let beside = Touched::new(alloc, entries)?;
         let loose = Vec::with_capacity(alloc, entries)?;
         let ready = Vec::with_capacity(alloc, entries)?;
-        let heap = Heap::new(alloc, entries)?;
+        let mut heap = Heap::new(alloc, entries)?;
+        if !heap.open(entries) {
+            return Err(AllocError);
+        }
         Ok(Tree {
             labels,
             predecessors,
             noted,
+            beside,
             is_lost: true,
             loose,
             ready,
@@ -85,71 +111,147 @@ impl Tree {
     pub fn labels(&self) -> &[i64]
         ensures { result.now ≡ self.now.labels }
     {
-        &self.labels
+        self.labels.entries()
     }
 
     /// How each node got its label.
     pub fn predecessors(&self) -> &[Predecessor]
-        ensures { result.now ≡ self.now.predecessors }
+        ensures value { result.now ≡ self.now.predecessors }
+        ensures as_many { length result.now ≡ length self.now.labels }
     {
-        &self.predecessors
+        self.predecessors.entries()
     }
 
-    /// Notes that the arcs in these rows may have got another row or another flow.
-    pub fn note_all(&mut self, places: &[u32])
-        ensures { self.new ≡ self.old }
+    /// Places that name each node whose label is another than that which was tested, and maybe others.
+    pub fn label_places(&self) -> &[u32]
+        ensures named { NameChanges 0 result.now self.now.held.labels self.now.labels }
+        ensures as_many { length self.now.held.labels ≡ length self.now.labels }
     {
-        if !add_all(&mut self.noted, places) {
+        self.labels.places()
+    }
+
+    /// Places that name each node whose predecessor is another than that which was tested, and maybe others.
+    pub fn predecessor_places(&self) -> &[u32]
+        ensures named { NameChanges 0 result.now self.now.held.predecessors self.now.predecessors }
+        ensures as_many { length self.now.held.predecessors ≡ length self.now.predecessors }
+    {
+        self.predecessors.places()
+    }
+
+    /// The arcs that are noted, each once.
+    pub fn noted(&self) -> &[u32]
+        ensures listed { (k : ℕ) → in_set self.now.held.noted k ≡ true → Any (λ p. p ≡ k) result.now }
+        ensures noted { All (λ p. in_set self.now.held.noted p ≡ true) result.now }
+        ensures apart { AllPairs ◌≢◌ result.now }
+    {
+        self.noted.places()
+    }
+
+    /// The nodes at the arcs that are noted, each once.
+    pub fn beside(&self) -> &[u32]
+        ensures listed { (v : ℕ) → in_set self.now.held.beside v ≡ true → Any (λ p. p ≡ v) result.now }
+        ensures noted { All (λ p. in_set self.now.held.beside p ≡ true) result.now }
+        ensures apart { AllPairs ◌≢◌ result.now }
+        ensures one_a_node { length self.now.held.beside ≡ length self.now.labels }
+    {
+        self.beside.places()
+    }
+
+    /// Whether more changed than is noted, or no labels were tested.
+    pub fn is_lost(&self) -> bool
+        ensures { result ≡ self.now.held.is_lost }
+    {
+        self.is_lost
+    }
+
+    /// Notes that an arc may have got another row or another flow, and the nodes at its ends. A place past the rows stands for
+    /// no arc.
+    pub fn note(&mut self, graph: &Graph, k: usize)
+        ensures labels { self.new.labels ≡ self.old.labels }
+        ensures predecessors { self.new.predecessors ≡ self.old.predecessors }
+        ensures held { StaysHeld self.old.held self.new.held }
+        ensures noted { self.new.held.is_lost ≡ false → k < length graph.now.rows → IsArcNoted graph.now.rows self.new.held k }
+    {
+        if k >= graph.rows().len() {
+            return;
+        }
+        let row = graph.row(k);
+        let tail = row.tail as usize;
+        let head = row.head as usize;
+        let nodes = self.beside.size();
+        if k >= self.noted.size() || tail >= nodes || head >= nodes {
             self.is_lost = true;
+            return;
+        }
+        self.noted.note(k);
+        self.beside.note(tail);
+        self.beside.note(head);
+    }
+
+    /// Notes all these arcs so.
+    pub fn note_all(&mut self, graph: &Graph, places: &[u32])
+        ensures labels { self.new.labels ≡ self.old.labels }
+        ensures predecessors { self.new.predecessors ≡ self.old.predecessors }
+        ensures held { StaysHeld self.old.held self.new.held }
+        ensures noted { AreArcsNoted graph.now.rows places.now self.new.held }
+    {
+        for place in places {
+            self.note(graph, *place as usize);
         }
     }
 
-    /// Forgets the labels: they are to be found anew.
+    /// Forgets what is held: the labels are to be found anew.
     pub fn forget(&mut self)
-        ensures { self.new ≡ self.old }
+        ensures { self.new ≡ record self.old { held = record self.old.held { is_lost = true } } }
     {
         self.is_lost = true;
     }
 
+    /// Holds the labels, which were tested; the flow of these arcs may be brought back.
+    pub fn accept(&mut self, graph: &Graph, written: &[u32])
+        ensures labels { self.new.labels ≡ self.old.labels }
+        ensures predecessors { self.new.predecessors ≡ self.old.predecessors }
+        ensures held_labels { self.new.held.labels ≡ self.old.labels }
+        ensures held_predecessors { self.new.held.predecessors ≡ self.old.predecessors }
+        ensures noted { AreArcsNoted graph.now.rows written.now self.new.held }
+    {
+        self.labels.snapshot();
+        self.predecessors.snapshot();
+        self.noted.clear();
+        self.beside.clear();
+        self.is_lost = false;
+        self.note_all(graph, written);
+    }
+
     /// Finds all labels anew, from all nodes with label 0. Says whether all may be right.
     pub fn search(&mut self, residual: Residual<'_>) -> bool
-        ensures { IsTrue result → IsTreeOf residual.entry self.new }
+        ensures sized { IsTrue result → IsTreeOf residual.entry self.new }
+        ensures held { self.new.held ≡ self.old.held }
     {
-        self.open(residual.potentials.len());
-        if self.labels.len() != residual.potentials.len() {
+        let nodes = residual.potentials.len();
+        if self.labels.entries().len() != nodes {
             return false;
         }
         self.begin();
-        for v in 0..self.labels.len() {
+        for v in 0..nodes {
+            self.put(v, 0, Predecessor::open());
             self.queue(v as u32, 0_i64.saturating_sub(residual.potentials[v]));
         }
-        self.noted.clear();
-        self.is_lost = false;
         self.settle_all(residual)
     }
 
-    /// Makes tables of so many entries, each of a queued node with label 0, in the room that there is; and else of none.
-    fn open(&mut self, entries: usize)
-        requires few { entries ≤ entry_limit }
-    {
-        let filled = fill(&mut self.labels, &mut self.predecessors, entries);
-        if filled.is_err() || !self.heap.open(entries) {
-            self.labels.clear();
-            self.predecessors.clear();
-            self.heap.close();
-        }
-    }
-
-    /// Mends the tree where arcs were noted or are among these. Says whether all labels may be right now.
+    /// Mends the tree where arcs are noted or are among these. Says whether all labels may be right now.
     pub fn mend(&mut self, residual: Residual<'_>, written: &[u32]) -> bool
-        ensures { IsTrue result → IsTreeOf residual.entry self.new }
+        ensures sized { IsTrue result → IsTreeOf residual.entry self.new }
+        ensures held { self.new.held ≡ self.old.held }
     {
-        if self.is_lost || self.labels.len() != residual.potentials.len() {
+        if self.is_lost || self.labels.entries().len() != residual.potentials.len() {
             return false;
         }
         self.begin();
-        for i in 0..self.noted.len() {
-            let k = entry(&self.noted, i);
+        let noted = self.noted.places().len();
+        for i in 0..noted {
+            let k = entry(self.noted.places(), i);
             self.loosen_along(residual, k);
         }
         for k in written {
@@ -162,15 +264,58 @@ impl Tree {
             let v = entry(&self.loose, i);
             self.hang(residual, v);
         }
-        for i in 0..self.noted.len() {
-            let k = entry(&self.noted, i);
+        for i in 0..noted {
+            let k = entry(self.noted.places(), i);
             self.improve_along(residual, k);
         }
         for k in written {
             self.improve_along(residual, *k);
         }
-        self.noted.clear();
         self.settle_all(residual)
+    }
+
+    /// The label of a node.
+    #[inline(always)]
+    fn label(&self, v: usize) -> i64
+        requires node { v < length self.now.labels }
+    {
+        self.labels.get(v)
+    }
+
+    /// How a node got its label.
+    #[inline(always)]
+    fn predecessor(&self, v: usize) -> Predecessor
+        requires node { v < length self.now.labels }
+    {
+        self.predecessors.get(v)
+    }
+
+    /// Gives a node a label.
+    fn set_label(&mut self, v: usize, label: i64)
+        requires node { v < length self.old.labels }
+        ensures sized { length self.new.labels ≡ length self.old.labels }
+        ensures held { self.new.held ≡ self.old.held }
+    {
+        self.labels.set(v, label);
+    }
+
+    /// Gives a node a predecessor.
+    fn set_predecessor(&mut self, v: usize, predecessor: Predecessor)
+        requires node { v < length self.old.labels }
+        ensures sized { length self.new.labels ≡ length self.old.labels }
+        ensures held { self.new.held ≡ self.old.held }
+    {
+        self.predecessors.set(v, predecessor);
+    }
+
+    /// Gives a node both.
+    fn put(&mut self, v: usize, label: i64, predecessor: Predecessor)
+        requires node { v < length self.old.labels }
+        ensures sized { length self.new.labels ≡ length self.old.labels }
+        ensures held { self.new.held ≡ self.old.held }
+    {
+        self.set_label(v, label);
+        self.set_predecessor(v, predecessor);
     }
 
     /// Begins with no loose node and none that is queued.
@@ -187,6 +332,7 @@ impl Tree {
     fn loosen_along(&mut self, residual: Residual<'_>, k: u32)
         requires sized { IsTreeOf residual self.old }
         ensures sized { IsTreeOf residual.entry self.new }
+        ensures held { self.new.held ≡ self.old.held }
     {
         if (k as usize) < residual.graph.rows().len() {
             self.loosen_at(residual, arc_of(k, Way::Forward));
@@ -199,13 +345,14 @@ impl Tree {
         requires sized { IsTreeOf residual self.old }
         requires arc_in { arc.arc < length residual.graph.now.rows }
         ensures sized { IsTreeOf residual.entry self.new }
+        ensures held { self.new.held ≡ self.old.held }
     {
         let v = residual.graph.end(arc.arc as usize, arc.way);
         if !self.hangs(v, end_of(arc)) {
             return;
         }
         if residual.graph.has_room(residual.flow, arc)
-            && self.labels[v] >= self.label_by(residual, arc)
+            && self.label(v) >= self.label_by(residual, arc)
         {
             return;
         }
@@ -216,7 +363,7 @@ impl Tree {
     fn hangs(&self, v: usize, end: u32) -> bool
         requires node { v < length self.now.labels }
     {
-        self.predecessors[v].end == end && self.labels[v] < 0
+        self.predecessor(v).end == end && self.label(v) < 0
     }
 
     /// The label to which a residual arc leads.
@@ -226,7 +373,7 @@ impl Tree {
     {
         let row = residual.graph.row(arc.arc as usize);
         let start = arc.way.start(&row) as usize;
-        self.labels[start].saturating_add(arc.way.unit_cost(&row))
+        self.label(start).saturating_add(arc.way.unit_cost(&row))
     }
 
     /// Loosens a node, unless it can hang on another one at its label while few are loose.
@@ -234,12 +381,13 @@ impl Tree {
         requires sized { IsTreeOf residual self.old }
         requires node { v < length residual.potentials.now }
         ensures sized { IsTreeOf residual.entry self.new }
+        ensures held { self.new.held ≡ self.old.held }
     {
         if self.loose.len() < FEW_LOOSE && self.rehang(residual, v) {
             return;
         }
         if self.loose.len() < self.loose.capacity() && self.loose.push(v).is_ok() {
-            self.labels[v as usize] = FAR;
+            self.set_label(v as usize, FAR);
         }
     }
 
@@ -248,11 +396,16 @@ impl Tree {
         requires sized { IsTreeOf residual self.old }
         requires node { v < length residual.potentials.now }
         ensures sized { IsTreeOf residual.entry self.new }
+        ensures held { self.new.held ≡ self.old.held }
     {
         let mut walk = Walk::at(residual.graph, v);
         while let Some(end) = walk.next() {
             if self.can_hang(residual, v, end) {
-                self.predecessors[v as usize].end = end_of(end.entering());
+                let predecessor = Predecessor {
+                    end: end_of(end.entering()),
+                    ..self.predecessor(v as usize)
+                };
+                self.set_predecessor(v as usize, predecessor);
                 return true;
             }
         }
@@ -265,8 +418,8 @@ impl Tree {
         requires node { v < length residual.potentials.now }
         requires end { IsWithin residual.graph.now end }
     {
-        self.labels[end.other as usize].saturating_sub(end.cost) == self.labels[v as usize]
-            && self.predecessors[end.other as usize].rank < self.predecessors[v as usize].rank
+        self.label(end.other as usize).saturating_sub(end.cost) == self.label(v as usize)
+            && self.predecessor(end.other as usize).rank < self.predecessor(v as usize).rank
             && residual.graph.has_room(residual.flow, end.entering())
     }
 
@@ -274,8 +427,9 @@ impl Tree {
     fn loosen_below(&mut self, residual: Residual<'_>) -> bool
         requires sized { IsTreeOf residual self.old }
         ensures sized { IsTreeOf residual.entry self.new }
+        ensures held { self.new.held ≡ self.old.held }
     {
-        for i in 0..self.labels.len() / MOST_LOOSE {
+        for i in 0..self.labels.entries().len() / MOST_LOOSE {
             if i >= self.loose.len() {
                 return true;
             }
@@ -289,8 +443,9 @@ impl Tree {
     fn loosen_beyond(&mut self, residual: Residual<'_>, u: u32)
         requires sized { IsTreeOf residual self.old }
         ensures sized { IsTreeOf residual.entry self.new }
+        ensures held { self.new.held ≡ self.old.held }
     {
-        if u as usize >= self.labels.len() {
+        if u as usize >= self.labels.entries().len() {
             return;
         }
         let mut walk = Walk::at(residual.graph, u);
@@ -305,29 +460,29 @@ impl Tree {
     fn hang(&mut self, residual: Residual<'_>, v: u32)
         requires sized { IsTreeOf residual self.old }
         ensures sized { IsTreeOf residual.entry self.new }
+        ensures held { self.new.held ≡ self.old.held }
     {
-        if v as usize >= self.labels.len() {
+        if v as usize >= self.labels.entries().len() {
             return;
         }
-        // No label is below the node's potential.
+        // No label is below the node's potential, if the potentials certify the flow.
         let least = residual.potentials[v as usize];
         let mut label = 0;
         let mut predecessor = Predecessor::open();
         let mut walk = Walk::at(residual.graph, v);
         while let Some(end) = walk.next() {
             if self.leads_below(residual, end, label) {
-                label = self.labels[end.other as usize].saturating_sub(end.cost);
+                label = self.label(end.other as usize).saturating_sub(end.cost);
                 predecessor = after(
                     end_of(end.entering()),
-                    self.predecessors[end.other as usize].rank,
+                    self.predecessor(end.other as usize).rank,
                 );
                 if label <= least {
                     break;
                 }
             }
         }
-        self.labels[v as usize] = label;
-        self.predecessors[v as usize] = predecessor;
+        self.put(v as usize, label, predecessor);
         self.queue(v, label.saturating_sub(least));
     }
 
@@ -337,8 +492,8 @@ impl Tree {
         requires end { IsWithin residual.graph.now end }
         ensures { end.other < length self.now.labels }
     {
-        self.labels[end.other as usize].saturating_sub(end.cost) < label
-            && !self.predecessors[end.other as usize].is_open
+        self.label(end.other as usize).saturating_sub(end.cost) < label
+            && !self.predecessor(end.other as usize).is_open
             && residual.graph.has_room(residual.flow, end.entering())
     }
 
@@ -346,6 +501,7 @@ impl Tree {
     fn improve_along(&mut self, residual: Residual<'_>, k: u32)
         requires sized { IsTreeOf residual self.old }
         ensures sized { IsTreeOf residual.entry self.new }
+        ensures held { self.new.held ≡ self.old.held }
     {
         if (k as usize) < residual.graph.rows().len() {
             self.improve_by(residual, arc_of(k, Way::Forward));
@@ -358,6 +514,7 @@ impl Tree {
         requires sized { IsTreeOf residual self.old }
         requires arc_in { arc.arc < length residual.graph.now.rows }
         ensures sized { IsTreeOf residual.entry self.new }
+        ensures held { self.new.held ≡ self.old.held }
     {
         if !residual.graph.has_room(residual.flow, arc) {
             return;
@@ -365,8 +522,8 @@ impl Tree {
         let start = residual.graph.start(arc.arc as usize, arc.way);
         let end = residual.graph.end(arc.arc as usize, arc.way);
         let label = self.label_by(residual, arc);
-        if label < self.labels[end] {
-            let predecessor = after(end_of(arc), self.predecessors[start].rank);
+        if label < self.label(end) {
+            let predecessor = after(end_of(arc), self.predecessor(start).rank);
             self.improve(residual, end as u32, label, predecessor);
         }
     }
@@ -376,16 +533,20 @@ impl Tree {
         requires sized { IsTreeOf residual self.old }
         requires node { v < length residual.potentials.now }
         ensures sized { IsTreeOf residual.entry self.new }
+        ensures held { self.new.held ≡ self.old.held }
     {
         let place = v as usize;
-        let key = label.saturating_sub(residual.potentials[place]);
-        self.labels[place] = label;
-        let is_open = self.predecessors[place].is_open;
-        self.predecessors[place] = predecessor;
-        if is_open {
-            self.heap.lower(place, key);
-        } else {
+        let potential = residual.potentials[place];
+        let key = label.saturating_sub(potential);
+        let key_before = self.label(place).saturating_sub(potential);
+        let is_open = self.predecessor(place).is_open;
+        self.put(place, label, predecessor);
+        // A queued node at `present` may be a ready one, which has no place in the heap, and is taken soon in any case. Its label
+        // becomes lower only where the potentials do not certify the flow.
+        if !is_open {
             self.queue(v, key);
+        } else if key_before > self.present {
+            self.heap.lower(place, key);
         }
     }
 
@@ -417,8 +578,9 @@ impl Tree {
     fn settle_all(&mut self, residual: Residual<'_>) -> bool
         requires sized { IsTreeOf residual self.old }
         ensures sized { IsTreeOf residual.entry self.new }
+        ensures held { self.new.held ≡ self.old.held }
     {
-        for _ in 0..self.labels.len() * MOST_SETTLED {
+        for _ in 0..self.labels.entries().len() * MOST_SETTLED {
             let Some(u) = self.take_first() else {
                 return true;
             };
@@ -431,11 +593,16 @@ impl Tree {
     fn settle(&mut self, residual: Residual<'_>, u: u32)
         requires sized { IsTreeOf residual self.old }
         ensures sized { IsTreeOf residual.entry self.new }
+        ensures held { self.new.held ≡ self.old.held }
     {
-        if u as usize >= self.labels.len() {
+        if u as usize >= self.labels.entries().len() {
             return;
         }
-        self.predecessors[u as usize].is_open = false;
+        let predecessor = Predecessor {
+            is_open: false,
+            ..self.predecessor(u as usize)
+        };
+        self.set_predecessor(u as usize, predecessor);
         let mut walk = Walk::at(residual.graph, u);
         while let Some(end) = walk.next() {
             self.improve_beyond(residual, u, end);
@@ -448,12 +615,13 @@ impl Tree {
         requires node { u < length residual.potentials.now }
         requires end { IsWithin residual.graph.now end }
         ensures sized { IsTreeOf residual.entry self.new }
+        ensures held { self.new.held ≡ self.old.held }
     {
-        let label = self.labels[u as usize].saturating_add(end.cost);
-        if label < self.labels[end.other as usize]
+        let label = self.label(u as usize).saturating_add(end.cost);
+        if label < self.label(end.other as usize)
             && residual.graph.has_room(residual.flow, end.leaving())
         {
-            let predecessor = after(end.number, self.predecessors[u as usize].rank);
+            let predecessor = after(end.number, self.predecessor(u as usize).rank);
             self.improve(residual, end.other, label, predecessor);
         }
     }
@@ -462,16 +630,6 @@ impl Tree {
 /// The entry at a place of a list, or a number that is no place of any table.
 fn entry(list: &[u32], i: usize) -> u32 {
     if i < list.len() { list[i] } else { u32::MAX }
-}
-
-/// Adds places to a list, and says whether there is room for all.
-fn add_all(list: &mut Vec<u32>, places: &[u32]) -> bool {
-    for place in places {
-        if list.len() >= list.capacity() || list.push(*place).is_err() {
-            return false;
-        }
-    }
-    true
 }
 
 /// The residual arc in this way along an arc.
@@ -497,20 +655,4 @@ fn after(end: u32, rank: u32) -> Predecessor {
         rank: rank.saturating_add(1),
         is_open: true,
     }
-}
-
-/// Makes two tables of so many entries of queued nodes with label 0.
-fn fill(
-    labels: &mut Vec<i64>,
-    predecessors: &mut Vec<Predecessor>,
-    entries: usize,
-) -> Result<(), AllocError>
-    ensures labels { IfOk result (λ done. length labels.new.items ≡ entries) }
-    ensures predecessors { IfOk result (λ done. length predecessors.new.items ≡ entries) }
-{
-    labels.clear();
-    predecessors.clear();
-    labels.resize(entries, 0)?;
-    predecessors.resize(entries, Predecessor::open())?;
-    Ok(())
 }

@@ -47,6 +47,13 @@ impl Touched {
         })
     }
 
+    /// How many places the table has.
+    pub fn size(&self) -> usize
+        ensures { result ≡ length self.now }
+    {
+        self.marks.len()
+    }
+
     /// Notes a place.
     pub fn note(&mut self, place: usize)
         requires place { place < length self.old }

@@ -258,7 +258,7 @@ impl Tables {
     {
         self.before.verdict = None;
         self.balance.cost = cost_now(self.graph.rows(), &self.flow, self.balance.cost);
-        self.scratch.note_all(self.flow.places());
+        self.scratch.note_all(&self.graph, self.flow.places());
         self.flow.snapshot();
         self.potentials.table.snapshot();
         self.cut.snapshot();
@@ -274,7 +274,7 @@ impl Tables {
         self.before.verdict = None;
         self.potentials.greatest = false;
         carry_back(self.graph.rows(), &self.flow, &mut self.balance.excess);
-        self.scratch.note_all(self.flow.places());
+        self.scratch.note_all(&self.graph, self.flow.places());
         self.flow.bring_back();
         self.potentials.table.bring_back();
         self.cut.bring_back();

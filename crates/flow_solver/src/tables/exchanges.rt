@@ -107,7 +107,7 @@ impl Tables {
             self.flow.whole()[place],
         );
         self.graph.set_row(k, *row);
-        self.scratch.note_all(&[place as u32]);
+        self.scratch.note_all(&self.graph, &[place as u32]);
         *row = before;
     }
 

@@ -2,5 +2,8 @@ use Rattle.std.proofs.Common.{arith}
 use Rattle.shortest_paths.proofs.LabelLemmas.{greatest_of}
 use Rattle.shortest_paths.proofs.predecessor.are_traced.Goals as goal
 
-pub returns : goal.returns
-returns c = λ yes. greatest_of _ _ _ c.args.predecessors.now (λ v lt. c.loop-v.invariant.traced v (omega (arith, lt, c.loop-v-test.false)))
+pub returns-clause-traced : goal.returns-clause-traced
+returns-clause-traced c = λ yes v lt. c.loop-v.invariant.traced v (omega (arith, lt, c.loop-v-test.false))
+
+pub returns-clause-greatest : goal.returns-clause-greatest
+returns-clause-greatest c = λ yes. greatest_of _ _ _ c.args.predecessors.now (λ v lt. c.loop-v.invariant.traced v (omega (arith, lt, c.loop-v-test.false)))

@@ -4,4 +4,5 @@ use Rattle.shortest_paths.proofs.tree.Tree.search.Given as goal
 abbrev pub invariant-loop-v : goal.invariant-loop-v
 invariant-loop-v l = record {
   sized : length l.self.labels ≡ length l.residual.potentials.now;
+  held : l.self.held ≡ l.initial.self.held;
 }

@@ -4,6 +4,7 @@ use Rattle.shortest_paths.proofs.tree.Tree.settle.Given as goal
 abbrev pub invariant-loop-end : goal.invariant-loop-end
 invariant-loop-end l = record {
   sized : length l.self.labels ≡ length l.residual.potentials.now;
+  held : l.self.held ≡ l.initial.self.held;
   graph : l.walk.graph ≡ l.residual.graph.now;
 }
 

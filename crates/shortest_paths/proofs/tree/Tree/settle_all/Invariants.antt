@@ -4,4 +4,5 @@ use Rattle.shortest_paths.proofs.tree.Tree.settle_all.Given as goal
 abbrev pub invariant-loop : goal.invariant-loop
 invariant-loop l = record {
   sized : length l.self.labels ≡ length l.residual.potentials.now;
+  held : l.self.held ≡ l.initial.self.held;
 }
