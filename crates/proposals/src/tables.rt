@@ -69,7 +69,7 @@ impl Proposals {
         let ring = Ring::new(alloc, entries)?;
         let sets = Sets::new(alloc, entries, arcs)?;
         let search = Search::new(alloc, entries)?;
-        let between = Between::new(alloc, entries)?;
+        let between = Between::new(alloc, entries, arcs)?;
         let noted = Noted::new(alloc, arcs)?;
         Ok(Proposals {
             proposal,

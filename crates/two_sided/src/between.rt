@@ -29,6 +29,9 @@ impl Readings {
 /// More nodes than these are many.
 const MANY: usize = 16;
 
+/// So many nodes are looked at together where most are in balance.
+const BLOCK: usize = 64;
+
 /// How a run of pushes ended.
 #[derive(Clone, Copy, PartialEq, Eq)]
 pub enum Halt {
@@ -65,19 +68,20 @@ impl Model for Between {
 }
 
 impl Between {
-    /// Room for a search among so many entries of nodes, of which nothing is loaded.
+    /// Room for a search among so many entries of nodes, and so many arcs, of which nothing is loaded.
     ///
     /// # Errors
     /// Memory for a table was refused.
-    pub fn new(alloc: Global, entries: usize) -> Result<Between, AllocError>
-        requires { entries < 2 ^ 31 }
+    pub fn new(alloc: Global, entries: usize, arcs: usize) -> Result<Between, AllocError>
+        requires entries { entries < 2 ^ 31 }
+        requires arcs { arcs < 2 ^ 31 }
     {
         let ahead = Front::new(alloc, entries)?;
         let behind = Front::new(alloc, entries)?;
         let roots = Nodes::reserve(alloc, entries)?;
         let path_ahead = Places::new(alloc, entries)?;
         let path_behind = Places::new(alloc, entries)?;
-        let free = FreeEnds::new(alloc, entries)?;
+        let free = FreeEnds::new(alloc, entries, arcs)?;
         Ok(Between {
             ahead,
             behind,
@@ -185,7 +189,21 @@ impl Between {
         ensures { self.new ≡ self.old }
     {
         self.roots.clear();
-        for v in 0..proposal.entries() {
+        for block in 0..=proposal.entries() / BLOCK {
+            let first = block.saturating_mul(BLOCK);
+            if !are_balanced(proposal, first) {
+                self.list_roots_from(proposal, first);
+            }
+        }
+    }
+
+    /// Lists those of the nodes from one on that are in its block.
+    fn list_roots_from(&mut self, proposal: &Proposal, first: usize)
+        requires { proposal.now ≡ self.old }
+        ensures { self.new ≡ self.old }
+    {
+        let end = first.saturating_add(BLOCK).min(proposal.entries());
+        for v in first..end {
             if proposal.rest(v) != 0 {
                 self.add_root(v);
             }
@@ -270,6 +288,17 @@ impl Between {
             &self.path_behind,
         );
     }
+}
+
+/// Whether all nodes of the block from one on are in balance.
+#[inline(always)]
+fn are_balanced(proposal: &Proposal, first: usize) -> bool {
+    let end = first.saturating_add(BLOCK).min(proposal.entries());
+    let mut any = 0;
+    for v in first..end {
+        any = any | proposal.rest(v);
+    }
+    any == 0
 }
 
 /// Begins at all these nodes that are in excess or in deficit.

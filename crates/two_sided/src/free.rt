@@ -21,6 +21,8 @@ pub struct FreeEnd {
     pub opposite: u32,
     /// The next one of the chain.
     pub next: u32,
+    /// The one before it in the chain.
+    before: u32,
 }
 
 /// The ends of arcs with room both ways, a chain a node, close together: searches reach most nodes over these, and they are
@@ -30,6 +32,9 @@ pub struct FreeEnds {
     /// Where the chain of each node begins.
     heads: Vec<u32>,
     ends: Vec<FreeEnd>,
+    /// Where in `ends` the end is, if it is there, of which the arc's other end has this place of a proposal. So it is found
+    /// without a walk along the chain, which is long at a node of many arcs.
+    spots: Vec<u32>,
     /// The first one that is in no chain any more; these are a chain too.
     spare: u32,
     /// None was left out for want of room.
@@ -45,19 +50,23 @@ impl Model for FreeEnds {
 }
 
 impl FreeEnds {
-    /// Room for chains of so many nodes: they are opened before they are used, and the room is not touched.
+    /// Room for chains of so many nodes, and for so many arcs: they are opened before they are used, and the room is not
+    /// touched.
     ///
     /// # Errors
     /// Memory for a table was refused.
-    pub fn new(alloc: Global, entries: usize) -> Result<FreeEnds, AllocError>
-        requires { entries < 2 ^ 31 }
+    pub fn new(alloc: Global, entries: usize, arcs: usize) -> Result<FreeEnds, AllocError>
+        requires entries { entries < 2 ^ 31 }
+        requires arcs { arcs < 2 ^ 31 }
         ensures { IfOk result (λ f. f ≡ 0) }
     {
         let heads = Vec::with_capacity(alloc, entries)?;
         let ends = Vec::with_capacity(alloc, ROOM * entries)?;
+        let spots = Vec::with_capacity(alloc, 2 * arcs)?;
         Ok(FreeEnds {
             heads,
             ends,
+            spots,
             spare: NONE,
             whole: true,
         })
@@ -89,6 +98,8 @@ impl FreeEnds {
     {
         self.heads.fill(NONE);
         self.ends.clear();
+        self.spots.clear();
+        let _filled = self.spots.resize(self.spots.capacity(), NONE);
         self.spare = NONE;
         self.whole = true;
         for v in 0..proposal.entries() {
@@ -171,13 +182,19 @@ impl FreeEnds {
         requires { v < self.old }
         ensures { self.new ≡ self.old }
     {
+        let next = self.heads[v];
         let end = FreeEnd {
             other: link.other,
             opposite: link.opposite,
-            next: self.heads[v],
+            next,
+            before: NONE,
         };
         match self.put(end) {
-            Some(place) => self.heads[v] = place,
+            Some(place) => {
+                self.heads[v] = place;
+                self.lead_back(next, place);
+                self.note_spot(link.opposite, place);
+            }
             None => self.whole = false,
         }
     }
@@ -206,19 +223,31 @@ impl FreeEnds {
         requires { v < self.old }
         ensures { self.new ≡ self.old }
     {
-        let mut before = NONE;
-        let mut at = self.heads[v];
-        for _ in 0..self.ends.len() {
-            let Some(end) = self.at(at) else {
-                return;
-            };
-            if end.opposite == opposite {
-                self.lead_past(v, before, end.next);
-                self.give_place(at);
-                return;
-            }
-            before = at;
-            at = end.next;
+        let spot = self.spot(opposite);
+        let Some(end) = self.at(spot) else {
+            return;
+        };
+        self.lead_past(v, end.before, end.next);
+        self.lead_back(end.next, end.before);
+        self.note_spot(opposite, NONE);
+        self.give_place(spot);
+    }
+
+    /// Where the end is of which the arc's other end has this place.
+    fn spot(&self, opposite: u32) -> u32 {
+        match self.spots.get(opposite as usize) {
+            Some(spot) => *spot,
+            None => NONE,
+        }
+    }
+
+    /// Writes down where that end is.
+    fn note_spot(&mut self, opposite: u32, spot: u32)
+        ensures { self.new ≡ self.old }
+    {
+        let opposite = opposite as usize;
+        if opposite < self.spots.len() {
+            self.spots[opposite] = spot;
         }
     }
 
@@ -243,6 +272,16 @@ impl FreeEnds {
             self.ends[before].next = next;
         } else {
             self.heads[v] = next;
+        }
+    }
+
+    /// Leads the chain back from the end at a place, if it is one, to the one before it.
+    fn lead_back(&mut self, place: u32, before: u32)
+        ensures { self.new ≡ self.old }
+    {
+        let place = place as usize;
+        if place < self.ends.len() {
+            self.ends[place].before = before;
         }
     }
 }

@@ -97,6 +97,8 @@ pub struct Front {
     /// How far beyond each node its other ends lead at least, by `walked` more: 0 where these were not read in this run, or
     /// changed since.
     beyond: Vec<i64>,
+    /// The nodes of which `beyond` may hold another number than 0, some of them twice.
+    margins: Nodes,
     /// Settled nodes whose other ends lead on far only: they are read when the search has come half so far, as a rule never.
     late: Heap,
     /// The nodes that are settled, in order.
@@ -130,6 +132,7 @@ impl Model for Front {
         × (f.heap ≡ length f.labels.items)
         × (f.late ≡ length f.labels.items)
         × (length f.beyond.items ≡ length f.labels.items)
+        × (f.margins ≡ length f.labels.items)
         × (f.settled ≡ length f.labels.items)
         × (f.touched ≡ length f.labels.items) };
 }
@@ -145,6 +148,7 @@ impl Front {
         let labels = Vec::with_capacity(alloc, entries)?;
         let heap = Heap::new(alloc, entries)?;
         let beyond = Vec::with_capacity(alloc, entries)?;
+        let margins = Nodes::reserve(alloc, entries)?;
         let late = Heap::new(alloc, entries)?;
         let settled = Nodes::reserve(alloc, entries)?;
         let touched = Nodes::reserve(alloc, entries)?;
@@ -152,6 +156,7 @@ impl Front {
             labels,
             heap,
             beyond,
+            margins,
             late,
             settled,
             touched,
@@ -177,6 +182,7 @@ impl Front {
             self.labels.clear();
             self.heap.close();
             self.beyond.clear();
+            self.margins.begin(0);
             self.late.close();
             self.settled.begin(0);
             self.touched.begin(0);
@@ -186,6 +192,7 @@ impl Front {
         self.beyond.clear();
         let _filled = self.labels.resize(entries, Label::NONE);
         let _filled = self.beyond.resize(entries, 0);
+        self.margins.begin(entries);
         self.settled.begin(entries);
         self.touched.begin(entries);
         true
@@ -198,6 +205,7 @@ impl Front {
         self.labels.clear();
         self.heap.close();
         self.beyond.clear();
+        self.margins.begin(0);
         self.late.close();
         self.settled.begin(0);
         self.touched.begin(0);
@@ -348,7 +356,13 @@ impl Front {
     pub fn forget_margins(&mut self)
         ensures { self.new ≡ self.old }
     {
-        self.beyond.fill(0);
+        // Where fewer are listed than there is room for, none was left out.
+        if self.margins.listed().len() < self.beyond.len() {
+            forget_beyond(&mut self.beyond, &self.margins);
+        } else {
+            self.beyond.fill(0);
+        }
+        self.margins.clear();
         self.walked = 0;
     }
 
@@ -459,8 +473,20 @@ impl Front {
                 meeting = self.note(link.other as usize, label, other, meeting);
             }
         }
-        self.beyond[u] = least.saturating_add(self.walked);
+        self.note_margin(u, least);
         meeting
+    }
+
+    /// Writes down how far beyond a node its other ends lead at least.
+    #[inline(always)]
+    fn note_margin(&mut self, v: usize, least: i64)
+        requires { v < self.old }
+        ensures { self.new ≡ self.old }
+    {
+        if self.beyond[v] == 0 {
+            self.margins.add(v);
+        }
+        self.beyond[v] = least.saturating_add(self.walked);
     }
 
     /// Counts ends that are read.
@@ -685,6 +711,16 @@ impl Front {
             }
         }
         last
+    }
+}
+
+/// Forgets how far the ends at these nodes lead on.
+fn forget_beyond(beyond: &mut [i64], nodes: &Nodes)
+    requires { nodes.now ≡ length beyond.old }
+    ensures { length beyond.new ≡ length beyond.old }
+{
+    for v in nodes.listed() {
+        beyond[*v as usize] = 0;
     }
 }
 

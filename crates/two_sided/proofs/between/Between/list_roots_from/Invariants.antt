@@ -1,5 +1,5 @@
 use Rattle.std.proofs.Common.{◌≡◌}
-use Rattle.relaxation.proofs.proposal.Proposal.load_nodes.Given as goal
+use Rattle.two_sided.proofs.between.Between.list_roots_from.Given as goal
 
 abbrev pub invariant-loop-v : goal.invariant-loop-v
 invariant-loop-v l = l.self ≡ l.initial.self
