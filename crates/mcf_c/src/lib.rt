@@ -85,7 +85,10 @@ pub extern "C" fn mcf_open(
             handle.put(plan);
             0
         }
-        Err(_) => MEMORY, // No session is kept.
+        Err(refused) => {
+            drop(refused);
+            MEMORY // No session is kept.
+        }
     }
 }
 
@@ -129,7 +132,10 @@ pub extern "C" fn mcf_open_arrays(
             handle.put(plan);
             0
         }
-        Err(_) => MEMORY,
+        Err(refused) => {
+            drop(refused);
+            MEMORY
+        }
     }
 }
 
