@@ -1,6 +1,6 @@
 -- Lists of the nodes out of balance.
 use Rattle.std.proofs.Common.{◌≡◌, ◌∙◌, ◌<◌, ◌≤◌, ◌+◌, ℕ, ℤ, List, Bool, true, false, pos, length, refl, sym, subst, arith, inl, inr, true≢false}
-use Rattle.std.specs.Prelude.{◌≢◌, Any, slice_set}
+use Rattle.std.specs.Prelude.{◌≢◌, All, Any, slice_set}
 use Rattle.std.specs.List.{AllPairs}
 use Rattle.std.proofs.lemmas.Bool.{cases_eq}
 use Rattle.std.proofs.lemmas.Int.{ints}
@@ -11,7 +11,11 @@ use Rattle.residual_graph.specs.Residual.{number_at}
 use Rattle.residual_graph.specs.Side.{IsRoot}
 use Rattle.tracked.specs.NodeLists.{IsListed, node_at}
 use Rattle.tracked.specs.Marks.{in_set}
-use Rattle.augmentation.specs.Excess.{AreUnbalancedListed}
+use Rattle.tracked.specs.Journal.{IsSince}
+use Rattle.tracked.specs.declared.journal.Journal.{Journal}
+use Rattle.tracked.proofs.JournalLemmas.{named_at}
+use Rattle.tracked.proofs.TouchedLemmas.{noted_or_not}
+use Rattle.augmentation.specs.Excess.{AreUnbalancedListed, IsBalancedOrListed}
 
 -- a root is out of balance
 root_unbalanced : (side : Side) (z : ℤ) → IsRoot side z → z ≡ pos 0 → ⊥
@@ -35,6 +39,30 @@ set_listed listed e v z lt are = record {
   balanced = λ u out. (elim (cases_eq u v) [
     | inl same ↦ absurd (true≢false (sym (subst (λ (w : ℕ). in_set (slice_set listed v true) w ≡ true) (sym same) (get_or-set_same listed v true false (omega (arith, are.one_a_node)))) ∙ out))
     | inr ne ↦ get_or-set_other e v u z (pos 0) ne ∙ are.balanced u (sym (get_or-set_other listed v u true false ne) ∙ out)
+  ]);
+}
+
+-- of the nodes on a list those out of balance are listed anew
+pub listed_anew : (listed listed' : List Bool) (e : List ℤ) (nodes : List ℕ) → AreUnbalancedListed listed e → ((v : ℕ) → in_set listed v ≡ true → Any (λ p. p ≡ v) nodes) → length listed' ≡ length e → All (IsBalancedOrListed listed' e) nodes → AreUnbalancedListed listed' e
+listed_anew listed listed' e nodes are named sized all = record {
+  one_a_node = sized;
+  balanced = λ v out. (elim (noted_or_not listed v) [
+    | inl noted ↦ (let at = named_at nodes v (named v noted) in subst (IsBalancedOrListed listed' e) at.is_there (all at.place 0 at.in_list) out)
+    | inr free ↦ are.balanced v free
+  ]);
+}
+
+-- once a journal brought excesses back, and the nodes that it notes are listed where they are out of balance, all these are
+pub listed_back : (listed listed' : List Bool) (j : Journal) (es ys : List ℤ) (nodes : List ℕ) → AreUnbalancedListed listed ys → IsSince j es ys → length listed' ≡ length listed → ((v : ℕ) → in_set listed v ≡ true → in_set listed' v ≡ true)
+    → ((v : ℕ) → in_set j.written v ≡ true → Any (λ p. p ≡ v) nodes) → All (IsBalancedOrListed listed' es) nodes → AreUnbalancedListed listed' es
+listed_back listed listed' j es ys nodes are since sized still named all = record {
+  one_a_node = sized ∙ are.one_a_node ∙ since.same_length;
+  balanced = λ v out. (elim (noted_or_not j.written v) [
+    | inl noted ↦ (let at = named_at nodes v (named v noted) in subst (IsBalancedOrListed listed' es) at.is_there (all at.place 0 at.in_list) out)
+    | inr free ↦ sym (since.elsewhere v free (pos 0)) ∙ are.balanced v (elim (noted_or_not listed v) [
+      | inl is ↦ absurd (true≢false (sym (still v is) ∙ out))
+      | inr not_listed ↦ not_listed
+    ])
   ]);
 }
 

@@ -1,19 +1,23 @@
 -- A flow that is changed arc by arc, with the excess at the ends of each arc.
-use Rattle.std.proofs.Common.{◌≡◌, ℕ, ◌<◌, ℤ, pos, neg_ℤ, ◌-ℤ◌, ◌+ℤ◌, List, Bool, true, false, length, refl, sym, subst, ◌∙◌, inl, inr, arith, cond, eqb}
-use Rattle.std.specs.Prelude.{slice_set}
+use Rattle.std.proofs.Common.{◌≡◌, ◌≢◌, ℕ, ◌+◌, ◌<◌, ◌≤◌, ℤ, pos, negsuc, neg_ℤ, ◌-ℤ◌, ◌+ℤ◌, List, Bool, true, false, length, refl, sym, ap, subst, ◌∙◌, inl, inr, arith, cond, eqb}
+use Rattle.std.specs.Prelude.{Any, slice_set}
+use Rattle.std.specs.List.{AllPairs}
 use Rattle.std.proofs.lemmas.Int.{ints}
 use Rattle.std.proofs.lemmas.Bool.{cases_eq}
-use Rattle.std.proofs.lemmas.List.{get_or-set_same, get_or-set_other, length-set}
+use Rattle.std.proofs.lemmas.List.{get_or_default, get_or-set_same, get_or-set_other, length-set}
+use Rattle.std.proofs.lemmas.List.Sums.{sum_by-set}
 use Rattle.dimacs_text.specs.declared.problem.ArcRow.{ArcRow}
 use Rattle.residual_graph.specs.Residual.{number_at, row_at}
-use Rattle.augmentation.specs.Changes.{AreNearer, IsExcessAfter, Rises}
+use Rattle.augmentation.specs.Changes.{AreNearer, IsExcessAfter, IsNearer, Rises}
 use Rattle.tracked.specs.Marks.{in_set}
-use Rattle.augmentation.specs.Exchange.{RisesBetween}
-use Rattle.tracked.specs.Journal.{IsSince}
-use Rattle.augmentation.specs.Push.{AreSmall, IsTransfer, at_node}
+use Rattle.augmentation.specs.Exchange.{IsJournalFor, IsLed, RisesBetween}
+use Rattle.tracked.specs.Journal.{IsJournal, IsSince}
+use Rattle.augmentation.specs.Push.{AreSmall, IsTransfer, at_node, left, positive_part}
 use Rattle.tracked.specs.declared.journal.Journal.{Journal}
 use Rattle.augmentation.proofs.PushLemmas.{at_node-sub, at_other, at_same, flow_in-set, flow_out-set}
+use Rattle.tracked.specs.NodeLists.{node_at}
 use Rattle.tracked.proofs.TouchedLemmas.{noted_or_not}
+use Rattle.tracked.proofs.TrackedLemmas.{AreLeft, AreLeft-all, AreLeft-more, AreLeft-start}
 
 -- a table in which d more stands at node u
 put_more : (e : List ℤ) (u : ℕ) (a d : ℤ) → u < length e → a ≡ number_at e u +ℤ d → (v : ℕ) → number_at (slice_set e u a) v ≡ number_at e v +ℤ at_node u d v
@@ -30,11 +34,21 @@ at_node-neg u v m = by_test (eqb u v)
     by_test false = refl
 
 -- m is taken from node u and put at node w, which may be the same
-pub transfer_put : (u w : ℕ) (m : ℤ) (e : List ℤ) (a b : ℤ) → u < length e → w < length e → a ≡ number_at e u -ℤ m → b ≡ number_at (slice_set e u a) w +ℤ m → IsTransfer u w m e (slice_set (slice_set e u a) w b)
-transfer_put u w m e a b u_in w_in a_is b_is = record {
-  same_length = length-set (slice_set e u a) w b ∙ length-set e u a;
-  by_node = λ v. omega (arith, ints, at_node-neg u v m, put_more e u a (neg_ℤ m) u_in (omega (arith, ints, a_is)) v, put_more (slice_set e u a) w b m (omega (arith, length-set e u a, w_in)) b_is v);
-}
+pub transfer_put : (u w : ℕ) (m : ℤ) (e f g : List ℤ) (a b : ℤ) → u < length e → w < length e → f ≡ slice_set e u a → a ≡ number_at e u -ℤ m → g ≡ slice_set f w b → b ≡ number_at f w +ℤ m → IsTransfer u w m e g
+transfer_put u w m e f g a b u_in w_in f_is a_is g_is b_is =
+    let sized : length f ≡ length e = ap length f_is ∙ length-set e u a in
+    record {
+      same_length = ap length g_is ∙ length-set f w b ∙ sized;
+      by_node = λ v. omega (
+        arith,
+        ints,
+        at_node-neg u v m,
+        ap (λ (h : List ℤ). number_at h v) f_is,
+        put_more e u a (neg_ℤ m) u_in (omega (arith, ints, a_is)) v,
+        ap (λ (h : List ℤ). number_at h v) g_is,
+        put_more f w b m (omega (arith, sized, w_in)) b_is v,
+      );
+    }
 
 pub after-same : (rows : List ArcRow) (x e : List ℤ) → IsExcessAfter rows x e x e
 after-same rows x e = λ v. omega (arith, ints)
@@ -65,3 +79,69 @@ small_nearer e f small nearer = record {
     | inr below ↦ omega (arith, ints, below.1)
   ];
 }
+
+-- ---- tables that are written with journals
+
+pub led_same : (j : Journal) (xs : List ℤ) → IsJournal j → IsLed j j xs xs
+led_same j xs is = record { journal = is; room = refl; same_length = refl; since = λ zs since. since }
+
+pub led_on : {i j k : Journal} → {xs ys zs : List ℤ} → IsLed i j xs ys → IsLed j k ys zs → IsLed i k xs zs
+led_on one two = record {
+  journal = two.journal;
+  room = two.room ∙ one.room;
+  same_length = two.same_length ∙ one.same_length;
+  since = λ ws is. two.since ws (one.since ws is);
+}
+
+-- a journal has room as long as it notes the same table
+pub led_for : {i j : Journal} → {xs ys : List ℤ} → IsJournalFor (length xs) i → IsLed i j xs ys → IsJournalFor (length ys) j
+led_for is led = record { journal = led.journal; room = omega (arith, is.room, led.room, led.same_length) }
+
+-- ---- what the nodes that a journal notes gave
+
+nearer_same : (z : ℤ) → IsNearer z z
+nearer_same (pos n) = inl (omega (arith, ints), omega (arith, ints))
+nearer_same (negsuc n) = inr (omega (arith, ints), omega (arith, ints))
+
+-- a table holds at the first j of these nodes what stands there now, and elsewhere what stood there before: n units are given
+pub record AreGiven (nodes : List ℕ) (j : ℕ) (before now : List ℤ) (n : ℕ) : Type 0 where
+  pub table : List ℤ
+  pub rest : AreLeft nodes j table now
+  pub not_yet : (i : ℕ) → j ≤ i → i < length nodes → number_at table (node_at nodes i) ≡ number_at before (node_at nodes i)
+  pub nearer : AreNearer before table
+  pub units : n + left table ≡ left before
+
+pub AreGiven-none : (j : Journal) (before now : List ℤ) (nodes : List ℕ) → ((k : ℕ) → in_set j.written k ≡ true → Any (λ p. p ≡ k) nodes) → IsSince j before now → AreGiven nodes 0 before now 0
+AreGiven-none j before now nodes listed is = record {
+  table = before;
+  rest = AreLeft-start nodes before now is.same_length (λ k lt. elim (noted_or_not j.written k) [
+    | inl noted ↦ inl (subst (λ (q : ℕ). Any (λ p. p ≡ q) nodes) (omega arith) (listed k noted))
+    | inr out ↦ inr (is.elsewhere k out)
+  ]);
+  not_yet = λ i le lt. refl;
+  nearer = λ v. nearer_same (number_at before v);
+  units = omega arith;
+}
+
+pub AreGiven-more : (nodes : List ℕ) (j : ℕ) (before now : List ℤ) (n m : ℕ) → AllPairs ◌≢◌ nodes → j < length nodes → node_at nodes j < length now → IsNearer (number_at before (node_at nodes j)) (number_at now (node_at nodes j))
+    → m + positive_part (number_at now (node_at nodes j)) ≡ positive_part (number_at before (node_at nodes j)) → AreGiven nodes j before now n → AreGiven nodes (j + 1) before now (n + m)
+AreGiven-more nodes j before now n m apart j_in there nearer gave are =
+    let p = node_at nodes j in
+    let z = number_at now p in
+    let p_in : p < length are.table = omega (arith, there, are.rest.same_length) in
+    let kept = ap positive_part (are.not_yet j (omega arith) j_in) in
+    let put = sum_by-set positive_part are.table p z (pos 0) p_in in
+    record {
+      table = slice_set are.table p z;
+      rest = AreLeft-more nodes j are.table now z are.rest p_in (get_or_default now p (pos 0) z there);
+      not_yet = λ i le lt. get_or-set_other are.table p (node_at nodes i) z (pos 0) (λ same. apart j i 0 (omega (arith, le)) lt (sym same)) ∙ are.not_yet i (omega (arith, le)) lt;
+      nearer = λ v. (elim (cases_eq v p) [
+        | inl same ↦ subst (λ (q : ℕ). IsNearer (number_at before q) (number_at (slice_set are.table p z) q)) (sym same) (subst (IsNearer (number_at before p)) (sym (get_or-set_same are.table p z (pos 0) p_in)) nearer)
+        | inr ne ↦ subst (IsNearer (number_at before v)) (sym (get_or-set_other are.table p v z (pos 0) ne)) (are.nearer v)
+      ]);
+      units = omega (arith, kept, put, gave, are.units);
+    }
+
+pub AreGiven-all : (nodes : List ℕ) (j : ℕ) (before now : List ℤ) (n : ℕ) → AreGiven nodes j before now n → length nodes ≤ j → AreNearer before now × (n + left now ≡ left before)
+AreGiven-all nodes j before now n are all =
+    subst (λ (table : List ℤ). AreNearer before table × (n + left table ≡ left before)) (AreLeft-all nodes j are.table now are.rest all) (are.nearer, are.units)

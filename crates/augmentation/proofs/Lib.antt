@@ -8,4 +8,5 @@ pub mod ExchangeLemmas
 pub mod WantedPaths
 pub mod ChangeLemmas
 pub mod CertificateLemmas
+pub mod HeldLemmas
 pub mod TurnedRows

@@ -1,10 +1,12 @@
 -- The tables in which proposals are made and tried.
 use Rattle.std.specs.Prelude.{◌≡◌, ℕ}
 use Rattle.augmentation.specs.declared.attempt.Attempt.{Attempt}
+use Rattle.augmentation.specs.Exchange.{IsJournalFor}
 use Rattle.tracked.specs.Journal.{IsJournal}
 
 -- the tables have one entry a node
 pub record IsAttemptFor (entries : ℕ) (a : Attempt) : Type 0 where
   pub proposals : a.proposals ≡ entries
-  pub journal : IsJournal a.draft.journal
+  pub flow : IsJournal a.draft.flow
+  pub excess : IsJournalFor entries a.draft.excess
   pub order : a.draft.order ≡ entries

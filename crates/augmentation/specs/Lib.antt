@@ -10,6 +10,7 @@ pub mod ScratchView
 pub mod Changes
 pub mod Exchange
 pub mod Certificate
+pub mod Held
 pub mod Wanted
 pub mod Attempt
 pub mod Adoption

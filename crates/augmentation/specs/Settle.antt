@@ -2,7 +2,6 @@
 use Rattle.std.specs.Prelude.{ℤ, List, length}
 use Rattle.dimacs_text.specs.declared.problem.ArcRow.{ArcRow}
 use Rattle.shortest_paths.specs.Limits.{label_floor}
-use Rattle.residual_graph.specs.declared.residual_network.Residual.{Residual}
 use Rattle.residual_graph.specs.Residual.{AreGreatest, ArePotentials, IsReducedCostOptimal}
 
 -- these potentials certify the flow, and are the greatest that do
@@ -10,6 +9,3 @@ pub record AreShortest (arcs : List ArcRow) (x q : List ℤ) : Type 0 where
   pub certified : IsReducedCostOptimal arcs x q
   pub within : ArePotentials (length q) label_floor q
   pub greatest : AreGreatest arcs x q
-
-abbrev pub AreShortestOver : Residual → List ℤ → Type 0
-AreShortestOver net q = AreShortest net.graph.now.rows net.flow.now q

@@ -1,108 +1,52 @@
 //! Proposals that are taken where they are certified, and pushes from there.
 
-ghost use Rattle.std.specs.Prelude.{◌≡◌, ℕ, ◌<◌, ◌≤◌, length, IfNone, IfSome, IsTrue, MatchOption, true};
-ghost use Rattle.shortest_paths.specs.Limits.{label_floor};
-ghost use Rattle.residual_graph.specs.Graph.{HasEntries};
-ghost use Rattle.residual_graph.specs.Residual.{ArePotentials, IsPseudoflow, NoneBelow};
-ghost use Rattle.augmentation.specs.Cut.{IsParted};
-ghost use Rattle.tracked.specs.Marks.{in_set};
+ghost use Rattle.std.specs.Prelude.{◌≡◌, ℕ, ℤ, ◌<◌, ◌≤◌, List, length, IfNone, IfSome, IsTrue, MatchOption, false, true};
+ghost use Rattle.residual_graph.specs.Residual.{AreGreatest, IsPseudoflow};
+ghost use Rattle.residual_graph.specs.declared.side.Side.TheVariants.{Ahead};
 ghost use Rattle.tracked.specs.Journal.{IsJournal, IsSince};
-ghost use Rattle.augmentation.specs.Pseudoflow.{IsCertifiedPseudoflow, IsReady};
-ghost use Rattle.augmentation.specs.Push.{ArePushes, AreSmall};
+ghost use Rattle.tracked.specs.Marks.{in_set};
 ghost use Rattle.tracked.specs.Tracked.{IsWritten};
 ghost use Rattle.augmentation.specs.Adoption.{IsAsBefore, IsCertifiedBy};
+ghost use Rattle.augmentation.specs.Attempt.{IsAttemptFor};
+ghost use Rattle.augmentation.specs.Cut.{IsParted, IsSide};
+ghost use Rattle.augmentation.specs.Exchange.{IsExchange, IsJournalFor};
+ghost use Rattle.augmentation.specs.Held.{IsHeldIn};
+ghost use Rattle.augmentation.specs.Pseudoflow.{IsCertifiedPseudoflow, IsReady};
+ghost use Rattle.augmentation.specs.Push.{ArePushes, AreSmall};
+ghost use Rattle.augmentation.specs.Settle.{AreShortest};
 
-use crate::certificate::still_certifies;
+use crate::attempt::Attempt;
 use crate::draft::Draft;
-use crate::excess::Excess;
+use crate::excess::{Excess, note_unbalanced};
 use crate::exchange::exchange;
+use crate::potentials::certify;
 use crate::rounds::finish;
 use crate::scratch::Scratch;
-use crate::wanted::shift_potentials;
-use proposals::Wanted;
 use residual_graph::Graph;
 use tracked::{Journal, Touched, Tracked};
 
-/// Whether a proposal has an entry for each node, and there is room for what stood in the flow.
-fn fits(flow: &[i64], excess: &[i64], wanted: &Wanted, draft: &Draft) -> bool
-    ensures room { IsTrue result → length flow.now ≤ length draft.now.journal.before.items }
-    ensures potentials { IsTrue result → length wanted.now.potentials.items ≡ length excess.now }
-{
-    wanted.potentials.len() == excess.len() && draft.journal.before.len() >= flow.len()
+/// What pushes came to.
+#[derive(Clone, Copy)]
+pub struct Pushed {
+    /// How many were made.
+    pub count: u64,
+    /// Whether the potentials of the scratch are known to be the greatest that certify the flow.
+    pub are_greatest: bool,
+    /// Whether the marks of the scratch are known to be those of the nodes in excess, and of all that they reach.
+    pub are_marked: bool,
 }
 
-/// Makes the flow the proposed one, and counts the units that this moves: nothing where the changes do not serve or the
-/// proposed potentials do not certify what comes of them, and then the flow is as it was.
-fn lead(
-    graph: &Graph,
-    flow: &mut [i64],
-    excess: &[i64],
-    potentials: &[i64],
-    wanted: &mut Wanted,
-    draft: &mut Draft,
-) -> Option<u64>
-    requires graph { HasEntries (length excess.now) graph.now }
-    requires flow { IsPseudoflow (length excess.now) graph.now.rows flow.old }
-    requires none_below { NoneBelow graph.now.rows flow.old potentials.now }
-    requires potentials { ArePotentials (length excess.now) label_floor potentials.now }
-    requires small { AreSmall excess.now }
-    requires copied { draft.old.excess.items ≡ excess.now }
-    requires wanted { length wanted.old.potentials.items ≡ length excess.now }
-    requires journal { IsJournal draft.old.journal }
-    requires room { length flow.old ≤ length draft.old.journal.before.items }
-    requires order { draft.old.order ≡ length excess.now }
-    ensures none { IfNone result (flow.new ≡ flow.old) }
-    ensures some { IfSome result (λ n. IsCertifiedBy graph.now n flow.old excess.now flow.new draft.new.excess.items wanted.new.potentials.items) }
-    ensures since { IfSome result (λ n. IsSince draft.new.journal flow.old flow.new) }
-    ensures journal { IsJournal draft.new.journal }
-    ensures order { draft.new.order ≡ draft.old.order }
-{
-    draft.journal.clear();
-    if let Some(units) = exchange(graph, flow, excess, &mut wanted.changes, draft) {
-        if still_certifies(
-            graph,
-            flow,
-            &draft.journal.written,
-            potentials,
-            &wanted.potentials,
-        ) {
-            return Some(units);
+impl Pushed {
+    /// So many pushes, after which nothing more is known.
+    pub fn counted(count: u64) -> Pushed
+        ensures { result ≡ record { count = count; are_greatest = false; are_marked = false } }
+    {
+        Pushed {
+            count,
+            are_greatest: false,
+            are_marked: false,
         }
     }
-    draft.journal.bring_back(flow);
-    None
-}
-
-/// Makes the flow the proposed one, with a copy of its excess, and counts the pushes: nothing where the proposal does not
-/// serve, and then the flow is as it was.
-fn draw(
-    graph: &Graph,
-    flow: &mut [i64],
-    excess: &[i64],
-    potentials: &[i64],
-    wanted: &mut Wanted,
-    draft: &mut Draft,
-) -> Option<u64>
-    requires graph { HasEntries (length excess.now) graph.now }
-    requires flow { IsPseudoflow (length excess.now) graph.now.rows flow.old }
-    requires none_below { NoneBelow graph.now.rows flow.old potentials.now }
-    requires potentials { ArePotentials (length excess.now) label_floor potentials.now }
-    requires small { AreSmall excess.now }
-    requires journal { IsJournal draft.old.journal }
-    requires order { draft.old.order ≡ length excess.now }
-    ensures none { IfNone result (flow.new ≡ flow.old) }
-    ensures some { IfSome result (λ n. IsCertifiedBy graph.now n flow.old excess.now flow.new draft.new.excess.items wanted.new.potentials.items) }
-    ensures since { IfSome result (λ n. IsSince draft.new.journal flow.old flow.new) }
-    ensures journal { IsJournal draft.new.journal }
-    ensures order { draft.new.order ≡ draft.old.order }
-{
-    if !fits(flow, excess, wanted, draft) {
-        return None;
-    }
-    draft.excess.clear();
-    draft.excess.extend_from_slice(excess).ok()?;
-    shift_potentials(&mut wanted.potentials);
-    lead(graph, flow, excess, potentials, wanted, draft)
 }
 
 /// Notes the places in a journal.
@@ -118,50 +62,99 @@ fn note_written(touched: &mut Touched, journal: &Journal)
     }
 }
 
-/// Makes the excesses the same as a copy.
-fn take_excess(excess: &mut Excess, copy: &[i64])
-    requires { length copy.now ≡ length excess.old }
-    ensures { excess.new ≡ copy.now }
+/// Makes the flow the proposed one, with the excess that it leaves, and counts the units that this moves: nothing where the
+/// changes do not serve, and then both are as they were.
+fn lead(
+    graph: &Graph,
+    flow: &mut Tracked<i64>,
+    excess: &mut Excess,
+    attempt: &mut Attempt,
+) -> Option<u64>
+    requires flow { IsPseudoflow (length excess.old) graph.now.rows flow.old.entries }
+    requires small { AreSmall excess.old }
+    requires attempt { IsAttemptFor (length excess.old) attempt.old }
+    ensures written { IsWritten flow.old flow.new }
+    ensures same_flow { IfNone result (flow.new.entries ≡ flow.old.entries) }
+    ensures same_excess { IfNone result (excess.new ≡ excess.old) }
+    ensures some { IfSome result (λ n. IsExchange (length excess.old) graph.now.rows n flow.old.entries excess.old flow.new.entries excess.new) }
+    ensures flow_since { IfSome result (λ n. IsSince attempt.new.draft.flow flow.old.entries flow.new.entries) }
+    ensures excess_since { IfSome result (λ n. IsSince attempt.new.draft.excess excess.old excess.new) }
+    ensures attempt { IsAttemptFor (length excess.old) attempt.new }
 {
-    for v in 0..copy.len() {
-        if excess.entries()[v] != copy[v] {
-            excess.set(v, copy[v]);
-        }
+    let draft = &mut attempt.draft;
+    if draft.flow.before.len() < flow.entries.len() {
+        return None;
     }
+    let changes = &mut attempt.wanted.changes;
+    let Some(units) = exchange(
+        graph,
+        &mut flow.entries,
+        &mut excess.entries,
+        changes,
+        draft,
+    ) else {
+        draft.flow.bring_back(&mut flow.entries);
+        draft.excess.bring_back(&mut excess.entries);
+        return None;
+    };
+    // Each node came nearer to balance, so those out of balance are listed still.
+    note_written(&mut flow.touched, &draft.flow);
+    Some(units)
 }
 
-/// Takes what the proposal at hand leads to where its potentials certify that, and counts the pushes that lead there; else
-/// leaves all as it was.
+/// Brings flow and excess back.
+fn take_back(flow: &mut Tracked<i64>, excess: &mut Excess, draft: &Draft)
+    requires flow_journal { IsJournalFor (length flow.old.entries) draft.now.flow }
+    requires flow_since { (xs : List ℤ) × IsSince draft.now.flow xs flow.old.entries }
+    requires excess_journal { IsJournalFor (length excess.old) draft.now.excess }
+    requires excess_since { (es : List ℤ) × IsSince draft.now.excess es excess.old }
+    ensures written { IsWritten flow.old flow.new }
+    ensures flow { (xs : List ℤ) → IsSince draft.now.flow xs flow.old.entries → flow.new.entries ≡ xs }
+    ensures excess { (es : List ℤ) → IsSince draft.now.excess es excess.old → excess.new ≡ es }
+{
+    draft.flow.bring_back(&mut flow.entries);
+    note_written(&mut flow.touched, &draft.flow);
+    draft.excess.bring_back(&mut excess.entries);
+    note_unbalanced(
+        draft.excess.written.places(),
+        &excess.entries,
+        &mut excess.unbalanced,
+    );
+}
+
+/// Takes what the proposal at hand leads to where potentials certify that, and counts the pushes that lead there; else leaves
+/// all as it was.
 pub fn adopt(
     graph: &Graph,
     flow: &mut Tracked<i64>,
     excess: &mut Excess,
     scratch: &mut Scratch,
-) -> Option<u64>
+) -> Option<Pushed>
     requires ready { IsReady graph.now flow.old.entries scratch.old.potentials excess.old }
+    requires held { IsHeldIn graph.now.rows flow.old.whole scratch.old.held }
     ensures flow_written { IsWritten flow.old flow.new }
-    ensures adopted { MatchOption result (IsAsBefore flow.old flow.new excess.old excess.new scratch.old.potentials scratch.new.potentials) (λ n. IsCertifiedBy graph.now n flow.old.entries excess.old flow.new.entries excess.new scratch.new.potentials) }
+    ensures adopted { MatchOption result (IsAsBefore flow.old flow.new excess.old excess.new scratch.old.potentials scratch.new.potentials) (λ p. IsCertifiedBy graph.now p.count flow.old.entries excess.old flow.new.entries excess.new scratch.new.potentials) }
+    ensures greatest { IfSome result (λ p. IsTrue p.are_greatest → AreGreatest graph.now.rows flow.new.entries scratch.new.potentials) }
+    ensures unmarked { IfSome result (λ p. p.are_marked ≡ false) }
+    ensures held { IsHeldIn graph.now.rows flow.new.whole scratch.new.held }
 {
     let attempt = &mut scratch.attempt;
-    let drawn = draw(
+    let count = lead(graph, flow, excess, attempt)?;
+    let Some(are_greatest) = certify(
         graph,
-        &mut flow.entries,
-        excess.entries(),
-        &scratch.potentials,
-        &mut attempt.wanted,
-        &mut attempt.draft,
-    );
-    match drawn {
-        Some(pushes) => {
-            note_written(&mut flow.touched, &attempt.draft.journal);
-            take_excess(excess, &attempt.draft.excess);
-            scratch
-                .potentials
-                .copy_from_slice(&scratch.attempt.wanted.potentials);
-            Some(pushes)
-        }
-        None => None,
-    }
+        flow,
+        &mut attempt.wanted.potentials,
+        &mut scratch.potentials,
+        &mut scratch.tree,
+    ) else {
+        take_back(flow, excess, &attempt.draft);
+        return None;
+    };
+    Some(Pushed {
+        count,
+        are_greatest,
+        are_marked: false,
+    })
 }
 
 /// Takes the proposal at hand where it is certified, and counts the pushes that lead there; else there are none.
@@ -170,69 +163,92 @@ fn take_proposed(
     flow: &mut Tracked<i64>,
     excess: &mut Excess,
     scratch: &mut Scratch,
-) -> u64
+) -> Pushed
     requires ready { IsReady graph.now flow.old.entries scratch.old.potentials excess.old }
+    requires held { IsHeldIn graph.now.rows flow.old.whole scratch.old.held }
     ensures flow_written { IsWritten flow.old flow.new }
-    ensures taken { IsCertifiedBy graph.now result flow.old.entries excess.old flow.new.entries excess.new scratch.new.potentials }
+    ensures taken { IsCertifiedBy graph.now result.count flow.old.entries excess.old flow.new.entries excess.new scratch.new.potentials }
+    ensures greatest { IsTrue result.are_greatest → AreGreatest graph.now.rows flow.new.entries scratch.new.potentials }
+    ensures unmarked { result.are_marked ≡ false }
+    ensures held { IsHeldIn graph.now.rows flow.new.whole scratch.new.held }
 {
-    adopt(graph, flow, excess, scratch).unwrap_or(0)
-}
-
-/// Makes a proposal and takes it where it is certified; where it left something to push, makes another from afar. Counts the
-/// pushes that lead there.
-fn push_as_proposed(
-    graph: &Graph,
-    flow: &mut Tracked<i64>,
-    excess: &mut Excess,
-    scratch: &mut Scratch,
-) -> u64
-    requires ready { IsReady graph.now flow.old.entries scratch.old.potentials excess.old }
-    ensures flow_written { IsWritten flow.old flow.new }
-    ensures taken { IsCertifiedBy graph.now result flow.old.entries excess.old flow.new.entries excess.new scratch.new.potentials }
-{
-    scratch.propose(graph, flow.entries(), excess.entries());
-    let pushes = take_proposed(graph, flow, excess, scratch);
-    if !scratch.leads_on(graph, flow.entries(), excess) {
-        return pushes;
+    match adopt(graph, flow, excess, scratch) {
+        Some(pushed) => pushed,
+        None => Pushed::counted(0),
     }
-    scratch.propose_from_afar(graph, flow.entries(), excess.entries());
-    pushes + take_proposed(graph, flow, excess, scratch)
 }
 
-/// Pushes as proposals have it, and then until no node in excess reaches a node in deficit; counts the pushes.
+/// Pushes as a proposal has it, the first time and where there are nodes of both kinds.
 fn push_proposed(
     graph: &Graph,
     flow: &mut Tracked<i64>,
     excess: &mut Excess,
     scratch: &mut Scratch,
-) -> u64
+) -> Pushed
     requires ready { IsReady graph.now flow.old.entries scratch.old.potentials excess.old }
+    requires held { IsHeldIn graph.now.rows flow.old.whole scratch.old.held }
     ensures flow_written { IsWritten flow.old flow.new }
-    ensures state { IsCertifiedPseudoflow graph.now flow.new.entries scratch.new.potentials excess.new }
-    ensures pushed { ArePushes graph.now.rows result flow.old.entries excess.old flow.new.entries excess.new }
-    ensures parted { IsParted graph.now.rows flow.new.entries excess.new }
+    ensures taken { IsCertifiedBy graph.now result.count flow.old.entries excess.old flow.new.entries excess.new scratch.new.potentials }
+    ensures greatest { IsTrue result.are_greatest → AreGreatest graph.now.rows flow.new.entries scratch.new.potentials }
+    ensures unmarked { result.are_marked ≡ false }
+    ensures held { IsHeldIn graph.now.rows flow.new.whole scratch.new.held }
 {
-    let pushes = push_as_proposed(graph, flow, excess, scratch);
-    pushes + finish(graph, flow, excess, scratch)
+    if !scratch.attempt.proposals.is_fresh() && !excess.has_both() {
+        return Pushed::counted(0);
+    }
+    scratch.propose(graph, flow.entries(), excess.entries());
+    take_proposed(graph, flow, excess, scratch)
 }
 
-/// Pushes flow until no node in excess reaches a node in deficit, and counts the pushes. The first time, and where
-/// there are nodes of both kinds, a proposal is made and tried.
-pub fn push_all(
+/// Pushes as proposals from afar have it, and then until no node in excess reaches a node in deficit; counts the pushes.
+fn push_from_afar(
     graph: &Graph,
     flow: &mut Tracked<i64>,
     excess: &mut Excess,
     scratch: &mut Scratch,
 ) -> u64
     requires ready { IsReady graph.now flow.old.entries scratch.old.potentials excess.old }
+    requires held { IsHeldIn graph.now.rows flow.old.whole scratch.old.held }
     ensures flow_written { IsWritten flow.old flow.new }
     ensures state { IsCertifiedPseudoflow graph.now flow.new.entries scratch.new.potentials excess.new }
     ensures pushed { ArePushes graph.now.rows result flow.old.entries excess.old flow.new.entries excess.new }
     ensures parted { IsParted graph.now.rows flow.new.entries excess.new }
+    ensures held { IsHeldIn graph.now.rows flow.new.whole scratch.new.held }
 {
-    if scratch.attempt.proposals.is_fresh() || excess.has_both() {
-        push_proposed(graph, flow, excess, scratch)
-    } else {
-        finish(graph, flow, excess, scratch)
+    scratch.propose_from_afar(graph, flow.entries(), excess.entries());
+    let pushed = take_proposed(graph, flow, excess, scratch);
+    pushed.count + finish(graph, flow, excess, scratch)
+}
+
+/// Pushes flow until no node in excess reaches a node in deficit, and counts the pushes. The first time, and where there are
+/// nodes of both kinds, a proposal is made and tried; where it left something to push, another one from afar.
+pub fn push_all(
+    graph: &Graph,
+    flow: &mut Tracked<i64>,
+    excess: &mut Excess,
+    scratch: &mut Scratch,
+) -> Pushed
+    requires ready { IsReady graph.now flow.old.entries scratch.old.potentials excess.old }
+    requires held { IsHeldIn graph.now.rows flow.old.whole scratch.old.held }
+    ensures flow_written { IsWritten flow.old flow.new }
+    ensures state { IsCertifiedPseudoflow graph.now flow.new.entries scratch.new.potentials excess.new }
+    ensures pushed { ArePushes graph.now.rows result.count flow.old.entries excess.old flow.new.entries excess.new }
+    ensures parted { IsParted graph.now.rows flow.new.entries excess.new }
+    ensures greatest { IsTrue result.are_greatest → AreShortest graph.now.rows flow.new.entries scratch.new.potentials }
+    ensures marked { IsTrue result.are_marked → IsSide Ahead graph.now.rows flow.new.entries excess.new scratch.new.marks }
+    ensures held { IsHeldIn graph.now.rows flow.new.whole scratch.new.held }
+{
+    excess.tidy();
+    let pushed = push_proposed(graph, flow, excess, scratch);
+    if !excess.has_both() {
+        return pushed;
     }
+    if scratch.is_parted(graph, flow.entries(), excess) {
+        return Pushed {
+            are_marked: true,
+            ..pushed
+        };
+    }
+    let more = push_from_afar(graph, flow, excess, scratch);
+    Pushed::counted(pushed.count + more)
 }

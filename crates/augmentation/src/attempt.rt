@@ -1,12 +1,14 @@
 //! The tables in which proposals are made and tried.
 
-ghost use Rattle.std.specs.Prelude.{◌≡◌, ◌<◌, ◌^◌, IfOk, length};
+ghost use Rattle.std.specs.Prelude.{◌≡◌, ◌≤◌, IfOk, length};
 ghost use Rattle.residual_graph.specs.Graph.{HasEntries};
+ghost use Rattle.residual_graph.specs.Limits.{row_limit};
 ghost use Rattle.residual_graph.specs.Residual.{IsPseudoflow};
 ghost use Rattle.augmentation.specs.Attempt.{IsAttemptFor};
 
 use crate::draft::Draft;
 use proposals::{Aim, Proposals, Wanted};
+use relaxation::both;
 use residual_graph::Graph;
 use std::alloc::{AllocError, Global};
 
@@ -27,13 +29,14 @@ impl Attempt {
     /// # Errors
     /// Memory for a table was refused.
     pub fn new(alloc: Global, entries: usize, arcs: usize) -> Result<Attempt, AllocError>
-        requires { entries < 2 ^ 31 }
+        requires { entries ≤ row_limit }
         ensures { IfOk result (λ a. IsAttemptFor entries a) }
     {
         let arcs = arcs.min(MOST_ARCS);
-        let proposals = Proposals::new(alloc, entries, arcs)?;
-        let wanted = Wanted::new(alloc, entries, arcs)?;
-        let draft = Draft::new(alloc, entries, arcs)?;
+        let proposals = Proposals::new(alloc, entries, arcs);
+        let wanted = Wanted::new(alloc, entries, arcs);
+        let draft = Draft::new(alloc, entries, arcs);
+        let (proposals, (wanted, draft)) = both(proposals, both(wanted, draft))?;
         Ok(Attempt {
             proposals,
             wanted,

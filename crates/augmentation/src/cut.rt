@@ -26,36 +26,31 @@ struct OnSide<'a> {
     flow: &'a [i64],
 }
 
-/// Marks the set that tells why some supply is left over or some demand is not met, first in the scratch.
+/// Marks the set that tells why some supply is left over or some demand is not met, first in the scratch, where that does not
+/// have the marks of the nodes in excess, and of all that they reach, already.
 pub fn mark_cut(
     graph: &Graph,
     flow: &Tracked<i64>,
     excess: &Excess,
     scratch: &mut Scratch,
+    are_marked: bool,
     cut: &mut Tracked<bool>,
 )
     requires graph { HasEntries (length excess.now) graph.now }
     requires flow { IsPseudoflow (length excess.now) graph.now.rows flow.now.entries }
     requires cut_in { length cut.old.entries ≡ length excess.now }
     requires scratch_in { length scratch.old.potentials ≡ length excess.now }
+    requires marked { IsTrue are_marked → IsSide Ahead graph.now.rows flow.now.entries excess.now scratch.old.marks }
     ensures in_excess { 0 < left excess.now → IsSide Ahead graph.now.rows flow.now.entries excess.now cut.new.entries }
     ensures no_excess { left excess.now ≡ 0 → IsSide Behind graph.now.rows flow.now.entries excess.now cut.new.entries }
     ensures written { IsWritten cut.old cut.new }
-    ensures scratch { scratch.new ≡ scratch.old }
+    ensures scratch { scratch.new ≡ record scratch.old { marks = scratch.new.marks } }
 {
-    let side = if excess.has_root(Side::Ahead) {
-        Side::Ahead
-    } else {
-        Side::Behind
-    };
-    mark_side(
-        side,
-        graph,
-        flow.entries(),
-        excess,
-        &mut scratch.marks,
-        &mut scratch.worklist,
-    );
+    if !excess.has_root(Side::Ahead) {
+        scratch.mark_side(Side::Behind, graph, flow.entries(), excess);
+    } else if !are_marked {
+        scratch.mark_side(Side::Ahead, graph, flow.entries(), excess);
+    }
     take_marks(cut, &scratch.marks);
 }
 
@@ -71,7 +66,8 @@ pub(crate) fn is_parted(
     requires flow { IsPseudoflow (length excess.now) graph.now.rows flow.now }
     requires marks_in { length marks.old ≡ length excess.now }
     requires worklist_in { length worklist.old ≡ length excess.now }
-    ensures { IsTrue result → IsParted graph.now.rows flow.now excess.now }
+    ensures parted { IsTrue result → IsParted graph.now.rows flow.now excess.now }
+    ensures marked { IsSide Ahead graph.now.rows flow.now excess.now marks.new }
 {
     mark_side(Side::Ahead, graph, flow, excess, marks, worklist);
     for v in 0..marks.len() {
@@ -83,7 +79,7 @@ pub(crate) fn is_parted(
 }
 
 /// Marks the nodes of a side. `worklist` is a table to list them in.
-fn mark_side(
+pub(crate) fn mark_side(
     side: Side,
     graph: &Graph,
     flow: &[i64],

@@ -1,20 +1,23 @@
 //! The tables in which a proposal is tried.
 
-ghost use Rattle.std.specs.Prelude.{◌≡◌, IfOk};
+ghost use Rattle.std.specs.Prelude.{◌≡◌, ◌≤◌, IfOk};
+ghost use Rattle.residual_graph.specs.Limits.{row_limit};
+ghost use Rattle.augmentation.specs.Exchange.{IsJournalFor};
 ghost use Rattle.tracked.specs.Journal.{IsJournal};
 
 use crate::order::Order;
+use relaxation::both;
 use std::alloc::{AllocError, Global};
 use tracked::Journal;
 
 /// The most arcs of which a journal has room for the flow.
 const MOST_ROWS: usize = 200_001;
 
-/// A copy of the excess on which a proposal is tried, what stood in the flow before, and the order of its nodes.
+/// What stood in the flow and in the excess before a proposal is tried on them, and the order of its nodes.
 #[derive(Drop)]
 pub struct Draft {
-    pub excess: Vec<i64>,
-    pub journal: Journal,
+    pub flow: Journal,
+    pub excess: Journal,
     pub order: Order,
 }
 
@@ -24,15 +27,18 @@ impl Draft {
     /// # Errors
     /// Memory for a table was refused.
     pub fn new(alloc: Global, entries: usize, arcs: usize) -> Result<Draft, AllocError>
-        ensures journal { IfOk result (λ d. IsJournal d.journal) }
+        requires { entries ≤ row_limit }
+        ensures flow { IfOk result (λ d. IsJournal d.flow) }
+        ensures excess { IfOk result (λ d. IsJournalFor entries d.excess) }
         ensures order { IfOk result (λ d. d.order ≡ entries) }
     {
-        let excess = Vec::with_capacity(alloc, entries)?;
-        let journal = Journal::new(alloc, arcs.min(MOST_ROWS))?;
-        let order = Order::new(alloc, entries)?;
+        let flow = Journal::new(alloc, arcs.min(MOST_ROWS));
+        let excess = Journal::new(alloc, entries);
+        let order = Order::new(alloc, entries);
+        let (flow, (excess, order)) = both(flow, both(excess, order))?;
         Ok(Draft {
+            flow,
             excess,
-            journal,
             order,
         })
     }

@@ -1,14 +1,16 @@
 //! The excess of each node, with the nodes out of balance at hand.
 
-ghost use Rattle.std.specs.Prelude.{◌≡◌, ◌<◌, ◌≤◌, IfOk, IsTrue, ◌↔◌, length, slice_set};
+ghost use Rattle.std.specs.Prelude.{◌≡◌, ℕ, ◌<◌, ◌≤◌, All, IfOk, IsTrue, ◌↔◌, length, slice_set, true};
 ghost use Rattle.residual_graph.specs.Limits.{row_limit};
 ghost use Rattle.augmentation.specs.Cut.{amount, lack};
-ghost use Rattle.augmentation.specs.Excess.{AreUnbalancedListed};
+ghost use Rattle.augmentation.specs.Excess.{AreUnbalancedListed, IsBalancedOrListed};
 ghost use Rattle.augmentation.specs.Push.{left};
+ghost use Rattle.tracked.specs.Marks.{in_set};
 
 use residual_graph::Side;
 use std::alloc::{AllocError, Global};
 use std::marker::Model;
+use std::mem::swap;
 use tracked::Touched;
 
 /// The most places on the list for which it is not searched for balanced nodes.
@@ -21,17 +23,19 @@ const FEW_PLACES: usize = 64;
 pub struct Excess {
     pub(crate) entries: Vec<i64>,
     pub(crate) unbalanced: Touched,
+    /// A list that takes the place of the other where that has grown long.
+    spare: Touched,
 }
 
 impl Model for Excess {
-    ghost use Rattle.std.specs.Prelude.{ℤ, List};
+    ghost use Rattle.std.specs.Prelude.{◌≡◌, ℤ, List, length};
     ghost use Rattle.augmentation.specs.Excess.{AreUnbalancedListed};
 
     ghost Value = { List ℤ };
 
     ghost view = { λ e. e.entries.items };
 
-    ghost invariant = { λ e. AreUnbalancedListed e.unbalanced e.entries.items };
+    ghost invariant = { λ e. AreUnbalancedListed e.unbalanced e.entries.items × (length e.spare ≡ length e.entries.items) };
 }
 
 impl Excess {
@@ -44,10 +48,12 @@ impl Excess {
         ensures { IfOk result (λ e. e ≡ entries.items) }
     {
         let mut unbalanced = Touched::new(alloc, entries.len())?;
-        note_unbalanced(&entries, &mut unbalanced);
+        let spare = Touched::new(alloc, entries.len())?;
+        note_all_unbalanced(&entries, &mut unbalanced);
         Ok(Excess {
             entries,
             unbalanced,
+            spare,
         })
     }
 
@@ -72,8 +78,9 @@ impl Excess {
         ensures { self.new ≡ self.old }
     {
         if self.unbalanced.places().len() > FEW_PLACES {
-            self.unbalanced.clear();
-            note_unbalanced(&self.entries, &mut self.unbalanced);
+            self.spare.clear();
+            note_unbalanced(self.unbalanced.places(), &self.entries, &mut self.spare);
+            swap(&mut self.unbalanced, &mut self.spare);
         }
     }
 
@@ -99,11 +106,27 @@ impl Excess {
 }
 
 /// Notes each node out of balance.
-fn note_unbalanced(entries: &[i64], unbalanced: &mut Touched)
+fn note_all_unbalanced(entries: &[i64], unbalanced: &mut Touched)
     requires one_a_node { length unbalanced.old ≡ length entries.now }
     ensures { AreUnbalancedListed unbalanced.new entries.now }
 {
     for v in 0..entries.len() {
+        if entries[v] != 0 {
+            unbalanced.note(v);
+        }
+    }
+}
+
+/// Notes each node out of balance among these.
+pub(crate) fn note_unbalanced(nodes: &[u32], entries: &[i64], unbalanced: &mut Touched)
+    requires nodes { All (λ v. v < length entries.now) nodes.now }
+    requires one_a_node { length unbalanced.old ≡ length entries.now }
+    ensures same_size { length unbalanced.new ≡ length unbalanced.old }
+    ensures still { (v : ℕ) → in_set unbalanced.old v ≡ true → in_set unbalanced.new v ≡ true }
+    ensures noted { All (IsBalancedOrListed unbalanced.new entries.now) nodes.now }
+{
+    for node in nodes {
+        let v = *node as usize;
         if entries[v] != 0 {
             unbalanced.note(v);
         }

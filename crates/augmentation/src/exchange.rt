@@ -1,11 +1,12 @@
 //! A flow that becomes the wanted one at once, with the excess at the ends of each changed arc, and how many units that
 //! moves.
 
-ghost use Rattle.std.specs.Prelude.{◌≡◌, ◌+◌, ◌<◌, ◌≤◌, ℤ, IfSome, IsTrue, List, length};
+ghost use Rattle.std.specs.Prelude.{◌≡◌, ℕ, ◌+◌, ◌<◌, ◌≤◌, ℤ, IfSome, IsTrue, List, length, slice_set, true};
 ghost use Rattle.residual_graph.specs.Residual.{IsPseudoflow, IsRow};
 ghost use Rattle.augmentation.specs.Changes.{AreNearer, IsExcessAfter, IsNearer, Rises};
-ghost use Rattle.augmentation.specs.Exchange.{IsExchange, RisesBetween};
+ghost use Rattle.augmentation.specs.Exchange.{IsExchange, IsJournalFor, IsLed, RisesBetween};
 ghost use Rattle.tracked.specs.Journal.{IsJournal, IsSince};
+ghost use Rattle.tracked.specs.Marks.{in_set};
 ghost use Rattle.augmentation.specs.Push.{AreSmall, IsTransfer, left, positive_part};
 
 use crate::draft::Draft;
@@ -14,10 +15,22 @@ use proposals::Change;
 use residual_graph::Graph;
 use tracked::Journal;
 
+/// Writes an entry of a table, and has a journal note before what stood there.
+fn write(table: &mut [i64], journal: &mut Journal, place: usize, value: i64)
+    requires place { place < length table.old }
+    requires journal { IsJournalFor (length table.old) journal.old }
+    ensures table { table.new ≡ slice_set table.old place value }
+    ensures led { IsLed journal.old journal.new table.old table.new }
+{
+    journal.note(table, place);
+    table[place] = value;
+}
+
 /// Moves `amount` from the excess of an arc's tail to that of its head, and says whether the sums are in range.
-fn move_excess(excess: &mut [i64], row: &ArcRow, amount: i64) -> bool
+fn move_excess(excess: &mut [i64], journal: &mut Journal, row: &ArcRow, amount: i64) -> bool
     requires row { IsRow (length excess.old) row.now }
-    ensures sized { length excess.new ≡ length excess.old }
+    requires journal { IsJournalFor (length excess.old) journal.old }
+    ensures led { IsLed journal.old journal.new excess.old excess.new }
     ensures moved { IsTrue result → IsTransfer row.now.tail row.now.head amount excess.old excess.new }
 {
     let tail = row.tail as usize;
@@ -25,11 +38,11 @@ fn move_excess(excess: &mut [i64], row: &ArcRow, amount: i64) -> bool
     let Some(left) = excess[tail].checked_sub(amount) else {
         return false;
     };
-    excess[tail] = left;
+    write(excess, journal, tail, left);
     let Some(come) = excess[head].checked_add(amount) else {
         return false;
     };
-    excess[head] = come;
+    write(excess, journal, head, come);
     true
 }
 
@@ -38,18 +51,17 @@ fn move_excess(excess: &mut [i64], row: &ArcRow, amount: i64) -> bool
 fn change_arc(
     graph: &Graph,
     flow: &mut [i64],
-    journal: &mut Journal,
     excess: &mut [i64],
+    draft: &mut Draft,
     change: &Change,
 ) -> bool
     requires flow { IsPseudoflow (length excess.old) graph.now.rows flow.old }
-    requires journal { IsJournal journal.old }
-    requires room { length flow.old ≤ length journal.old.before.items }
+    requires flow_journal { IsJournalFor (length flow.old) draft.old.flow }
+    requires excess_journal { IsJournalFor (length excess.old) draft.old.excess }
     ensures flow { IsPseudoflow (length excess.new) graph.now.rows flow.new }
-    ensures sized { length excess.new ≡ length excess.old }
-    ensures journal { IsJournal journal.new }
-    ensures room { length journal.new.before.items ≡ length journal.old.before.items }
-    ensures since { (x : List ℤ) → IsSince journal.old x flow.old → IsSince journal.new x flow.new }
+    ensures flow_led { IsLed draft.old.flow draft.new.flow flow.old flow.new }
+    ensures excess_led { IsLed draft.old.excess draft.new.excess excess.old excess.new }
+    ensures order { draft.new.order ≡ draft.old.order }
     ensures excess { IsTrue result → IsExcessAfter graph.now.rows flow.old excess.old flow.new excess.new }
 {
     let k = change.arc as usize;
@@ -62,31 +74,29 @@ fn change_arc(
         return true;
     }
     let amount = goal - flow[k];
-    journal.note(flow, k);
-    flow[k] = goal;
-    move_excess(excess, &row, amount)
+    write(flow, &mut draft.flow, k, goal);
+    move_excess(excess, &mut draft.excess, &row, amount)
 }
 
 /// The same of all changes, in turn.
 fn change_arcs(
     graph: &Graph,
     flow: &mut [i64],
-    journal: &mut Journal,
     excess: &mut [i64],
+    draft: &mut Draft,
     changes: &[Change],
 ) -> bool
     requires flow { IsPseudoflow (length excess.old) graph.now.rows flow.old }
-    requires journal { IsJournal journal.old }
-    requires room { length flow.old ≤ length journal.old.before.items }
+    requires flow_journal { IsJournalFor (length flow.old) draft.old.flow }
+    requires excess_journal { IsJournalFor (length excess.old) draft.old.excess }
     ensures flow { IsPseudoflow (length excess.new) graph.now.rows flow.new }
-    ensures sized { length excess.new ≡ length excess.old }
-    ensures journal { IsJournal journal.new }
-    ensures room { length journal.new.before.items ≡ length journal.old.before.items }
-    ensures since { (x : List ℤ) → IsSince journal.old x flow.old → IsSince journal.new x flow.new }
+    ensures flow_led { IsLed draft.old.flow draft.new.flow flow.old flow.new }
+    ensures excess_led { IsLed draft.old.excess draft.new.excess excess.old excess.new }
+    ensures order { draft.new.order ≡ draft.old.order }
     ensures excess { IsTrue result → IsExcessAfter graph.now.rows flow.old excess.old flow.new excess.new }
 {
     for change in changes {
-        if !change_arc(graph, flow, journal, excess, change) {
+        if !change_arc(graph, flow, excess, draft, change) {
             return false;
         }
     }
@@ -139,47 +149,52 @@ fn given(before: i64, after: i64) -> Option<u64>
     }
 }
 
-/// How many units all nodes gave: nothing is told unless each node comes nearer to balance.
-fn units_given(before: &[i64], after: &[i64]) -> Option<u64>
-    requires sized { length after.now ≡ length before.now }
-    ensures { IfSome result (λ n. AreNearer before.now after.now × (n + left after.now ≡ left before.now)) }
+/// How many units all nodes gave that a journal notes: nothing is told unless each comes nearer to balance.
+fn units_given(journal: &Journal, excess: &[i64]) -> Option<u64>
+    requires places { (v : ℕ) → in_set journal.now.written v ≡ true → v < length excess.now }
+    requires room { length excess.now ≤ length journal.now.before.items }
+    ensures { IfSome result (λ n. (before : List ℤ) → IsSince journal.now before excess.now → AreNearer before excess.now × (n + left excess.now ≡ left before)) }
 {
     let mut units: u64 = 0;
-    for v in 0..before.len() {
-        units = units.checked_add(given(before[v], after[v])?)?;
+    for place in journal.written.places() {
+        let v = *place as usize;
+        units = units.checked_add(given(journal.before[v], excess[v])?)?;
     }
     Some(units)
 }
 
-/// Makes the flow the wanted one, where its changes go round in no circle and bring each node nearer to balance, and counts
-/// the units that this moves. Else the flow is to be brought back.
+/// Makes the flow the wanted one, with the excess that it leaves, where its changes go round in no circle and bring each
+/// node nearer to balance, and counts the units that this moves. Else both are to be brought back, from the journals that
+/// begin here.
 pub(crate) fn exchange(
     graph: &Graph,
     flow: &mut [i64],
-    excess: &[i64],
+    excess: &mut [i64],
     changes: &mut [Change],
     draft: &mut Draft,
 ) -> Option<u64>
-    requires flow { IsPseudoflow (length excess.now) graph.now.rows flow.old }
-    requires small { AreSmall excess.now }
-    requires copied { draft.old.excess.items ≡ excess.now }
-    requires journal { IsJournal draft.old.journal }
-    requires since { IsSince draft.old.journal flow.old flow.old }
-    requires order { draft.old.order ≡ length excess.now }
-    ensures some { IfSome result (λ n. IsExchange (length excess.now) graph.now.rows n flow.old excess.now flow.new draft.new.excess.items) }
-    ensures journal { IsJournal draft.new.journal }
-    ensures since { IsSince draft.new.journal flow.old flow.new }
+    requires flow { IsPseudoflow (length excess.old) graph.now.rows flow.old }
+    requires small { AreSmall excess.old }
+    requires flow_journal { IsJournalFor (length flow.old) draft.old.flow }
+    requires excess_journal { IsJournalFor (length excess.old) draft.old.excess }
+    requires order { draft.old.order ≡ length excess.old }
+    ensures some { IfSome result (λ n. IsExchange (length excess.old) graph.now.rows n flow.old excess.old flow.new excess.new) }
+    ensures flow_journal { IsJournal draft.new.flow }
+    ensures flow_since { IsSince draft.new.flow flow.old flow.new }
+    ensures excess_journal { IsJournal draft.new.excess }
+    ensures excess_since { IsSince draft.new.excess excess.old excess.new }
     ensures order { draft.new.order ≡ draft.old.order }
 {
+    draft.flow.clear();
+    draft.excess.clear();
     if !draft.order.lay_out(graph, flow, changes) {
         return None;
     }
-    if !change_arcs(graph, flow, &mut draft.journal, &mut draft.excess, changes) {
+    if !change_arcs(graph, flow, excess, draft, changes) {
         return None;
     }
-    if !rise(graph, flow, &draft.journal, draft.order.ranks()) {
+    if !rise(graph, flow, &draft.flow, draft.order.ranks()) {
         return None;
     }
-    let units = units_given(excess, &draft.excess)?;
-    Some(units)
+    units_given(&draft.excess, excess)
 }

@@ -14,13 +14,14 @@ mod cut;
 mod draft;
 mod excess;
 mod exchange;
+mod held;
 mod order;
 mod potentials;
 mod rounds;
 mod scratch;
 mod wanted;
 
-pub use adoption::{adopt, push_all};
+pub use adoption::{Pushed, adopt, push_all};
 pub use attempt::Attempt;
 pub use certificate::{certifies, is_within};
 pub use cut::mark_cut;

@@ -1,17 +1,20 @@
 //! The greatest potentials that certify a flow: the shortest labels.
 
-ghost use Rattle.std.specs.Prelude.{◌≡◌, length, IsTrue};
+ghost use Rattle.std.specs.Prelude.{◌≡◌, length, IfNone, IfSome, IsTrue, Some, true};
 ghost use Rattle.residual_graph.specs.Graph.{HasEntries};
 ghost use Rattle.shortest_paths.specs.Limits.{label_floor};
-ghost use Rattle.residual_graph.specs.Residual.{AreGreatest, IsReducedCostOptimal, ArePotentials};
-ghost use Rattle.shortest_paths.specs.Tree.{IsTreeOf};
-ghost use Rattle.augmentation.specs.Settle.{AreShortestOver};
+ghost use Rattle.residual_graph.specs.Residual.{AreGreatest, ArePotentials, IsPseudoflow, IsReducedCostOptimal};
+ghost use Rattle.augmentation.specs.Certificate.{AreCertifying};
+ghost use Rattle.augmentation.specs.Held.{AreTestedIn, IsHeldIn};
+ghost use Rattle.augmentation.specs.Settle.{AreShortest};
 ghost use Rattle.tracked.specs.Tracked.{IsWritten};
 
-use crate::certificate::certifies_beside;
+use crate::certificate::certifies;
+use crate::held::{holds, holds_whole};
 use crate::scratch::Scratch;
+use crate::wanted::shift_potentials;
 use residual_graph::{Graph, Residual};
-use shortest_paths::{Tree, are_traced, search_labels};
+use shortest_paths::Tree;
 use tracked::Tracked;
 
 /// Makes a table the same as these numbers.
@@ -27,70 +30,120 @@ fn write_all(table: &mut Tracked<i64>, numbers: &[i64])
     }
 }
 
-/// Whether the labels of a tree certify the flow, and are the greatest that do.
-fn serve(residual: Residual<'_>, tree: &Tree) -> bool
-    requires certified { IsReducedCostOptimal residual.graph.now.rows residual.flow.now residual.potentials.now }
-    requires sized { IsTreeOf residual tree.now }
-    ensures { IsTrue result → AreShortestOver residual.entry tree.now.labels }
+/// Has a tree mend its labels, and says whether they are the greatest potentials that certify the flow. `potentials` are
+/// likely to certify it.
+fn mend(graph: &Graph, flow: &Tracked<i64>, potentials: &[i64], tree: &mut Tree) -> bool
+    requires graph { HasEntries (length potentials.now) graph.now }
+    requires flow { IsPseudoflow (length potentials.now) graph.now.rows flow.now.entries }
+    requires sized { length tree.old.labels ≡ length potentials.now }
+    requires held { IsHeldIn graph.now.rows flow.now.whole tree.old.held }
+    ensures tested { IsTrue result → AreTestedIn graph.now.rows flow.now.entries tree.new }
+    ensures sized { length tree.new.labels ≡ length tree.old.labels }
+    ensures held { tree.new.held ≡ tree.old.held }
 {
-    certifies_beside(
-        residual.graph,
-        residual.flow,
-        residual.potentials,
-        tree.labels(),
-    ) && are_traced(
-        residual.graph,
-        residual.flow,
-        tree.labels(),
-        tree.predecessors(),
-    )
+    let residual = Residual {
+        graph,
+        flow: flow.entries(),
+        potentials,
+    };
+    tree.mend(residual, flow.places()) && holds(graph, flow, tree)
 }
 
-/// Has a tree mend its labels, or else find them anew, and says whether they serve.
-fn renew(residual: Residual<'_>, tree: &mut Tree, written: &[u32]) -> bool
-    requires { IsReducedCostOptimal residual.graph.now.rows residual.flow.now residual.potentials.now }
-    ensures sized { IsTrue result → IsTreeOf residual.entry tree.new }
-    ensures shortest { IsTrue result → AreShortestOver residual.entry tree.new.labels }
+/// Has a tree find its labels anew, and says whether they are the greatest potentials that certify the flow.
+fn search(graph: &Graph, flow: &Tracked<i64>, potentials: &[i64], tree: &mut Tree) -> bool
+    requires graph { HasEntries (length potentials.now) graph.now }
+    requires flow { IsPseudoflow (length potentials.now) graph.now.rows flow.now.entries }
+    requires sized { length tree.old.labels ≡ length potentials.now }
+    ensures tested { IsTrue result → AreTestedIn graph.now.rows flow.now.entries tree.new }
+    ensures sized { length tree.new.labels ≡ length tree.old.labels }
+    ensures held { tree.new.held ≡ tree.old.held }
 {
-    if tree.mend(residual, written) && serve(residual, tree) {
-        return true;
+    let residual = Residual {
+        graph,
+        flow: flow.entries(),
+        potentials,
+    };
+    tree.search(residual) && holds_whole(graph, flow.entries(), tree)
+}
+
+/// Has a tree mend its labels, or else find them anew, and says whether they are the greatest potentials that certify the
+/// flow.
+pub(crate) fn renew(graph: &Graph, flow: &Tracked<i64>, potentials: &[i64], tree: &mut Tree) -> bool
+    requires graph { HasEntries (length potentials.now) graph.now }
+    requires flow { IsPseudoflow (length potentials.now) graph.now.rows flow.now.entries }
+    requires sized { length tree.old.labels ≡ length potentials.now }
+    requires held { IsHeldIn graph.now.rows flow.now.whole tree.old.held }
+    ensures shortest { IsTrue result → AreShortest graph.now.rows flow.now.entries tree.new.labels }
+    ensures sized { length tree.new.labels ≡ length tree.old.labels }
+    ensures held { IsHeldIn graph.now.rows flow.now.whole tree.new.held }
+{
+    if !mend(graph, flow, potentials, tree) && !search(graph, flow, potentials, tree) {
+        tree.forget();
+        return false;
     }
-    tree.search(residual) && serve(residual, tree)
+    tree.accept(graph, flow.places());
+    true
 }
 
-/// Writes the shortest labels into the `Tracked` table: the greatest potentials that certify the flow. Those that were
-/// written last are mended; where what comes of that does not serve, a search that is proved finds them.
+/// Takes over the greatest potentials that certify a flow, or else those that are wanted, where these certify it; says whether
+/// they are the greatest. Nothing where neither certifies it.
+pub(crate) fn certify(
+    graph: &Graph,
+    flow: &Tracked<i64>,
+    wanted: &mut [i64],
+    potentials: &mut [i64],
+    tree: &mut Tree,
+) -> Option<bool>
+    requires graph { HasEntries (length potentials.old) graph.now }
+    requires flow { IsPseudoflow (length potentials.old) graph.now.rows flow.now.entries }
+    requires sized { length tree.old.labels ≡ length potentials.old }
+    requires held { IsHeldIn graph.now.rows flow.now.whole tree.old.held }
+    ensures same_length { length potentials.new ≡ length potentials.old }
+    ensures none { IfNone result (potentials.new ≡ potentials.old) }
+    ensures some { IfSome result (λ greatest. AreCertifying graph.now.rows flow.now.entries potentials.new) }
+    ensures greatest { result ≡ Some true → AreGreatest graph.now.rows flow.now.entries potentials.new }
+    ensures sized { length tree.new.labels ≡ length tree.old.labels }
+    ensures held { IsHeldIn graph.now.rows flow.now.whole tree.new.held }
+{
+    if wanted.len() != potentials.len() {
+        return None;
+    }
+    shift_potentials(wanted);
+    if renew(graph, flow, wanted, tree) {
+        potentials.copy_from_slice(tree.labels());
+        return Some(true);
+    }
+    if certifies(graph, flow.entries(), wanted) {
+        potentials.copy_from_slice(wanted);
+        return Some(false);
+    }
+    None
+}
+
+/// Writes the potentials of the scratch into the `Tracked` table, first raised to the greatest that certify the flow, where
+/// they are not known to be these.
 pub fn write_potentials(
     graph: &Graph,
     flow: &Tracked<i64>,
     potentials: &mut Tracked<i64>,
     scratch: &mut Scratch,
+    are_greatest: bool,
 )
     requires same_length { length potentials.old.entries ≡ length scratch.old.potentials }
     requires graph { HasEntries (length scratch.old.potentials) graph.now }
     requires certified { IsReducedCostOptimal graph.now.rows flow.now.entries scratch.old.potentials }
+    requires known { IsTrue are_greatest → AreShortest graph.now.rows flow.now.entries scratch.old.potentials }
+    requires held { IsHeldIn graph.now.rows flow.now.whole scratch.old.held }
     ensures written { IsWritten potentials.old potentials.new }
     ensures certified { IsReducedCostOptimal graph.now.rows flow.now.entries potentials.new.entries }
     ensures within { ArePotentials (length potentials.new.entries) label_floor potentials.new.entries }
     ensures greatest { AreGreatest graph.now.rows flow.now.entries potentials.new.entries }
-    ensures scratch { length scratch.new.potentials ≡ length scratch.old.potentials }
+    ensures sized { length scratch.new.potentials ≡ length scratch.old.potentials }
+    ensures marks { scratch.new.marks ≡ scratch.old.marks }
+    ensures held { IsHeldIn graph.now.rows flow.now.whole scratch.new.held }
 {
-    let residual = Residual {
-        graph,
-        flow: flow.entries(),
-        potentials: &scratch.potentials,
-    };
-    if renew(residual, &mut scratch.tree, flow.places()) {
-        write_all(potentials, scratch.tree.labels());
-        scratch.tree.accept(graph, flow.places());
-        return;
+    if !are_greatest {
+        scratch.raise(graph, flow);
     }
-    search_labels(
-        graph,
-        flow.entries(),
-        &mut scratch.potentials,
-        &mut scratch.predecessors,
-    );
-    write_all(potentials, &scratch.potentials);
-    scratch.tree.forget();
+    write_all(potentials, scratch.potentials());
 }

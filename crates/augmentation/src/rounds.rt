@@ -8,7 +8,6 @@ ghost use Rattle.tracked.specs.Tracked.{IsWritten};
 ghost use Rattle.shortest_paths.specs.Search.{HasFound};
 
 use crate::augment::augment;
-use crate::cut::is_parted;
 use crate::excess::Excess;
 use crate::scratch::Scratch;
 use residual_graph::Graph;
@@ -30,8 +29,8 @@ pub fn finish(
     ensures state { IsCertifiedPseudoflow graph.now flow.new.entries scratch.new.potentials excess.new }
     ensures pushed { ArePushes graph.now.rows result flow.old.entries excess.old flow.new.entries excess.new }
     ensures parted { IsParted graph.now.rows flow.new.entries excess.new }
+    ensures held { scratch.new.held ≡ scratch.old.held }
 {
-    excess.tidy();
     let mut pushes = 0;
     while let Some(target) = search_on(graph, flow, excess, scratch) {
         push_to(graph, flow, excess, scratch, target);
@@ -51,18 +50,13 @@ fn search_on(
 ) -> Option<usize>
     requires ready { IsReady graph.now flow.now.entries scratch.old.potentials excess.now }
     ensures state { IsCertifiedPseudoflow graph.now flow.now.entries scratch.new.potentials excess.now }
+    ensures held { scratch.new.held ≡ scratch.old.held }
     ensures found { MatchOption result (IsParted graph.now.rows flow.now.entries excess.now) (HasFound graph.now.rows flow.now.entries scratch.new.potentials excess.now scratch.new.predecessors) }
 {
     if !excess.has_both() {
         return None;
     }
-    if is_parted(
-        graph,
-        flow.entries(),
-        excess,
-        &mut scratch.marks,
-        &mut scratch.worklist,
-    ) {
+    if scratch.is_parted(graph, flow.entries(), excess) {
         return None;
     }
     find_deficit(
@@ -88,6 +82,7 @@ fn push_to(
     requires found { HasFound graph.now.rows flow.old.entries scratch.old.potentials excess.old scratch.old.predecessors target }
     ensures flow_written { IsWritten flow.old flow.new }
     ensures ready { IsReady graph.now flow.new.entries scratch.new.potentials excess.new }
+    ensures held { scratch.new.held ≡ scratch.old.held }
     ensures pushed { ArePushes graph.now.rows 1 flow.old.entries excess.old flow.new.entries excess.new }
 {
     augment(

@@ -1,18 +1,26 @@
 //! The tables that searches write in.
 
-ghost use Rattle.std.specs.Prelude.{◌≡◌, ◌≤◌, IfOk, length};
+ghost use Rattle.std.specs.Prelude.{◌≡◌, ◌≤◌, IfOk, IsTrue, length, true};
 ghost use Rattle.residual_graph.specs.Graph.{HasEntries};
 ghost use Rattle.residual_graph.specs.Limits.{row_limit};
-ghost use Rattle.residual_graph.specs.Residual.{IsPseudoflow};
+ghost use Rattle.residual_graph.specs.Residual.{IsPseudoflow, IsReducedCostOptimal};
+ghost use Rattle.residual_graph.specs.declared.side.Side.TheVariants.{Ahead};
+ghost use Rattle.shortest_paths.specs.Tree.{AreArcsNoted, StaysHeld};
+ghost use Rattle.augmentation.specs.Cut.{IsParted, IsSide};
+ghost use Rattle.augmentation.specs.Held.{IsHeldIn};
+ghost use Rattle.augmentation.specs.Settle.{AreShortest};
 
 use crate::attempt::Attempt;
-use crate::cut::is_parted;
+use crate::cut::{is_parted, mark_side};
 use crate::excess::Excess;
+use crate::potentials::renew;
 use proposals::Wanted;
-use residual_graph::Graph;
-use shortest_paths::{Predecessor, Tree};
+use relaxation::both;
+use residual_graph::{Graph, Side};
+use shortest_paths::{Predecessor, Tree, search_labels};
 use std::alloc::{AllocError, Global};
 use std::marker::Model;
+use tracked::Tracked;
 
 /// Tables with one entry a node. Between two calls nothing is known of them but their size.
 #[derive(Drop)]
@@ -37,7 +45,12 @@ impl Model for Scratch {
 
     ghost use Rattle.augmentation.specs.Scratch.{IsScratch};
 
-    ghost view = { λ s. record { potentials = s.potentials.items; predecessors = s.predecessors.items } };
+    ghost view = { λ s. record {
+      potentials = s.potentials.items;
+      predecessors = s.predecessors.items;
+      marks = s.marks.items;
+      held = s.tree.held;
+    } };
 
     ghost invariant = { IsScratch };
 }
@@ -49,14 +62,19 @@ impl Scratch {
     /// Memory for a table was refused.
     pub fn new(alloc: Global, entries: u32, arcs: usize) -> Result<Scratch, AllocError>
         requires { entries ≤ row_limit }
-        ensures { IfOk result (λ s. length s.potentials ≡ entries) }
+        ensures sized { IfOk result (λ s. length s.potentials ≡ entries) }
+        ensures lost { IfOk result (λ s. s.held.is_lost ≡ true) }
     {
-        let predecessors = vec![in alloc; Predecessor::open(); entries as usize]?;
-        let potentials = vec![in alloc; 0; entries as usize]?;
-        let tree = Tree::new(alloc, entries as usize, arcs / 2)?;
-        let marks = vec![in alloc; false; entries as usize]?;
-        let worklist = vec![in alloc; 0; entries as usize]?;
-        let attempt = Attempt::new(alloc, entries as usize, arcs / 2)?;
+        let predecessors = vec![in alloc; Predecessor::open(); entries as usize];
+        let potentials = vec![in alloc; 0; entries as usize];
+        let tree = Tree::new(alloc, entries as usize, arcs / 2);
+        let marks = vec![in alloc; false; entries as usize];
+        let worklist = vec![in alloc; 0; entries as usize];
+        let attempt = Attempt::new(alloc, entries as usize, arcs / 2);
+        let ((predecessors, (potentials, tree)), ((marks, worklist), attempt)) = both(
+            both(predecessors, both(potentials, tree)),
+            both(both(marks, worklist), attempt),
+        )?;
         Ok(Scratch {
             predecessors,
             potentials,
@@ -83,12 +101,22 @@ impl Scratch {
         self.potentials.copy_from_slice(potentials);
     }
 
-    /// Notes that the arcs in these rows may have got another row or another flow: the next proposal looks at them.
+    /// Notes that the arcs in these rows may have got another row or another flow: the next proposal looks at them, and so
+    /// does the next search for the greatest potentials.
     pub fn note_all(&mut self, graph: &Graph, places: &[u32])
-        ensures { self.new ≡ self.old }
+        ensures same { self.new ≡ record self.old { held = self.new.held } }
+        ensures held { StaysHeld self.old.held self.new.held }
+        ensures noted { AreArcsNoted graph.now.rows places.now self.new.held }
     {
         self.attempt.note_all(places);
         self.tree.note_all(graph, places);
+    }
+
+    /// Forgets the labels that are held, as is to be where pushes begin with a flow of another table.
+    pub fn forget(&mut self)
+        ensures { self.new ≡ record self.old { held = record self.old.held { is_lost = true } } }
+    {
+        self.tree.forget();
     }
 
     /// Has this proposal at hand.
@@ -120,13 +148,55 @@ impl Scratch {
             .propose_from_afar(graph, flow, excess, &self.potentials);
     }
 
-    /// Whether a node in excess reaches a node in deficit.
-    pub(crate) fn leads_on(&mut self, graph: &Graph, flow: &[i64], excess: &Excess) -> bool
+    /// Marks the nodes in excess and all that they reach, and says whether none of these is in deficit.
+    pub(crate) fn is_parted(&mut self, graph: &Graph, flow: &[i64], excess: &Excess) -> bool
         requires graph { HasEntries (length self.old.potentials) graph.now }
         requires flow { IsPseudoflow (length self.old.potentials) graph.now.rows flow.now }
         requires excess { length excess.now ≡ length self.old.potentials }
-        ensures { self.new ≡ self.old }
+        ensures same { self.new ≡ record self.old { marks = self.new.marks } }
+        ensures marked { IsSide Ahead graph.now.rows flow.now excess.now self.new.marks }
+        ensures parted { IsTrue result → IsParted graph.now.rows flow.now excess.now }
     {
-        excess.has_both() && !is_parted(graph, flow, excess, &mut self.marks, &mut self.worklist)
+        is_parted(graph, flow, excess, &mut self.marks, &mut self.worklist)
+    }
+
+    /// Marks the nodes of a side.
+    pub(crate) fn mark_side(&mut self, side: Side, graph: &Graph, flow: &[i64], excess: &Excess)
+        requires graph { HasEntries (length self.old.potentials) graph.now }
+        requires flow { IsPseudoflow (length self.old.potentials) graph.now.rows flow.now }
+        requires excess { length excess.now ≡ length self.old.potentials }
+        ensures same { self.new ≡ record self.old { marks = self.new.marks } }
+        ensures marked { IsSide side graph.now.rows flow.now excess.now self.new.marks }
+    {
+        mark_side(
+            side,
+            graph,
+            flow,
+            excess,
+            &mut self.marks,
+            &mut self.worklist,
+        );
+    }
+
+    /// Makes potentials that certify a flow the greatest that do.
+    pub(crate) fn raise(&mut self, graph: &Graph, flow: &Tracked<i64>)
+        requires graph { HasEntries (length self.old.potentials) graph.now }
+        requires certified { IsReducedCostOptimal graph.now.rows flow.now.entries self.old.potentials }
+        requires held { IsHeldIn graph.now.rows flow.now.whole self.old.held }
+        ensures sized { length self.new.potentials ≡ length self.old.potentials }
+        ensures marks { self.new.marks ≡ self.old.marks }
+        ensures shortest { AreShortest graph.now.rows flow.now.entries self.new.potentials }
+        ensures held { IsHeldIn graph.now.rows flow.now.whole self.new.held }
+    {
+        if renew(graph, flow, &self.potentials, &mut self.tree) {
+            self.potentials.copy_from_slice(self.tree.labels());
+            return;
+        }
+        search_labels(
+            graph,
+            flow.entries(),
+            &mut self.potentials,
+            &mut self.predecessors,
+        );
     }
 }

@@ -58,10 +58,14 @@ balance_set I rows flow flow' b b' k y lt many carried same_cost written kept is
   cost = rw (same_cost, kept) is.cost;
 }
 
--- the row of a numbered arc becomes another with the same ends
+-- the rows once that of a numbered arc became another
+pub rows_swapped : (I J : Instance) (rows rows' : List ArcRow) (k place : ℕ) (row : ArcRow) → 1 ≤ k → IsPlace I rows k place → rows ≡ (reduced I).arcs → rows' ≡ (reduced J).arcs → J ≡ with_row I (k - 1) row → rows' ≡ slice_set rows place row
+rows_swapped I J rows rows' k place row one there before after other = after ∙ (rw (other, before, there.index_is) (sym (rows_changed I k row one)))
+
+-- that row becomes another with the same ends
 pub balance_swapped : (I J : Instance) (rows rows' : List ArcRow) (flow : TrackedView ℤ) (b b' : Balance) (k place : ℕ) (row : ArcRow) → 1 ≤ k → IsPlace I rows k place → rows ≡ (reduced I).arcs → rows' ≡ (reduced J).arcs → J ≡ with_row I (k - 1) row → row.tail ≡ (slice_index_or I.arcs (k - 1) row).tail → row.head ≡ (slice_index_or I.arcs (k - 1) row).head → length flow.entries ≡ length rows → length flow.whole ≡ length rows → b'.excess ≡ b.excess → b'.cost ≡ int_wrap w128 (b.cost +ℤ (row.cost -ℤ (row_at rows place).cost) *ℤ number_at flow.whole place) → IsBalanceOf I rows flow b → IsBalanceOf J rows' flow b'
 balance_swapped I J rows rows' flow b b' k place row one there before after other tail head many as_many same_excess cost is =
-    let rows_are : rows' ≡ slice_set rows place row = after ∙ (rw (other, before, there.index_is) (sym (rows_changed I k row one))) in
+    let rows_are = rows_swapped I J rows rows' k place row one there before after other in
     let excess = excess_row rows (sends I) flow.entries b.excess place row there.in_rows many (rw (there.row_is row) tail) (rw (there.row_is row) head) is.excess in
     record {
       sized = rw (same_excess, other) is.sized;

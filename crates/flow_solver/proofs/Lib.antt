@@ -14,3 +14,4 @@ pub mod CarryLemmas
 pub mod GroupLemmas
 pub mod LogLemmas
 pub mod StandingLemmas
+pub mod HeldTables

@@ -178,4 +178,4 @@ module _ (I : Instance) (k : ℕ) (row : ArcRow) (at : (1 ≤ k) × (k ≤ lengt
 pub tables_told : (g : Graph) (flow : TrackedView ℤ) (potentials : Potentials) (balance : Balance) (cut : TrackedView Bool) (scratch : ScratchView) (before : Before) (greatest : Bool) →
     AreTables g flow potentials balance cut scratch before → AreAsTold g.net flow.entries (record potentials { greatest = greatest }) →
     AreTables g flow (record potentials { greatest = greatest }) balance cut scratch before
-tables_told g flow potentials balance cut scratch before greatest t told = record { fit = t.fit; balance_is = t.balance_is; told = told; log_fits = t.log_fits; before_is = t.before_is }
+tables_told g flow potentials balance cut scratch before greatest t told = record { fit = t.fit; balance_is = t.balance_is; told = told; held = t.held; log_fits = t.log_fits; before_is = t.before_is }

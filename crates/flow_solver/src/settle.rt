@@ -1,49 +1,60 @@
 //! A best flow, or the cut that tells why there is none, with the greatest potentials that certify it.
 
-ghost use Rattle.std.specs.Prelude.{◌≡◌, ℕ, ℤ, length};
+ghost use Rattle.std.specs.Prelude.{◌≡◌, ℕ, ℤ, IsTrue, length};
 ghost use Rattle.augmentation.specs.Pseudoflow.{IsReady};
 ghost use Rattle.augmentation.specs.Push.{ArePushes, IsExcess};
 ghost use Rattle.tracked.specs.Tracked.{IsWritten};
 ghost use Rattle.flow_solver.specs.Potentials.{AreAsTold, AreGreatestIn};
-ghost use Rattle.augmentation.specs.Cut.{IsChosenSet, IsParted};
+ghost use Rattle.augmentation.specs.Cut.{IsChosenSet, IsParted, IsSide};
+ghost use Rattle.augmentation.specs.Held.{IsHeldIn};
 ghost use Rattle.residual_graph.specs.Walk.{AreRowsOf};
+ghost use Rattle.residual_graph.specs.declared.side.Side.TheVariants.{Ahead};
 
 use crate::potentials::Potentials;
-use augmentation::{Excess, Scratch, mark_cut, push_all, write_potentials};
+use augmentation::{Excess, Pushed, Scratch, mark_cut, push_all, write_potentials};
 use residual_graph::Graph;
 use tracked::Tracked;
 
-/// Pushes what can be pushed, and counts the pushes; the potentials become the greatest that certify the flow.
+/// Pushes what can be pushed, and says what that came to; the potentials become the greatest that certify the flow.
 fn push_and_raise(
     graph: &Graph,
     flow: &mut Tracked<i64>,
     potentials: &mut Potentials,
     excess: &mut Excess,
     scratch: &mut Scratch,
-) -> u64
+) -> Pushed
     requires rows { AreRowsOf graph.now.net graph.now.rows }
     requires ready { IsReady graph.now flow.old.entries potentials.old.table.entries excess.old }
     requires told { AreAsTold graph.now.net flow.old.entries potentials.old }
     requires scratch_in { length scratch.old.potentials ≡ length excess.old }
+    requires held { IsHeldIn graph.now.rows flow.old.whole scratch.old.held }
     ensures flow_written { IsWritten flow.old flow.new }
     ensures potentials_written { IsWritten potentials.old.table potentials.new.table }
     ensures ready { IsReady graph.now flow.new.entries potentials.new.table.entries excess.new }
     ensures greatest { AreGreatestIn graph.now.net flow.new.entries potentials.new.table.entries }
-    ensures pushed { ArePushes graph.now.rows result flow.old.entries excess.old flow.new.entries excess.new }
+    ensures pushed { ArePushes graph.now.rows result.count flow.old.entries excess.old flow.new.entries excess.new }
     ensures parted { IsParted graph.now.rows flow.new.entries excess.new }
+    ensures marked { IsTrue result.are_marked → IsSide Ahead graph.now.rows flow.new.entries excess.new scratch.new.marks }
     ensures scratch_in { length scratch.new.potentials ≡ length excess.new }
+    ensures held { IsHeldIn graph.now.rows flow.new.whole scratch.new.held }
 {
     let stood = potentials.greatest;
     if stood && !excess.has_both() {
-        return 0;
+        return Pushed::counted(0);
     }
     scratch.take_potentials(potentials.table.entries());
-    let pushes = push_all(graph, flow, excess, scratch);
+    let pushed = push_all(graph, flow, excess, scratch);
     // Where nothing is pushed the flow is what it was, and potentials that were the greatest are so still.
-    if pushes > 0 || !stood {
-        write_potentials(graph, flow, &mut potentials.table, scratch);
+    if pushed.count > 0 || !stood {
+        write_potentials(
+            graph,
+            flow,
+            &mut potentials.table,
+            scratch,
+            pushed.are_greatest,
+        );
     }
-    pushes
+    pushed
 }
 
 /// Makes the flow a best one, or marks the cut that tells why there is none, with the greatest
@@ -61,6 +72,7 @@ pub fn settle(
     requires told { AreAsTold graph.now.net flow.old.entries potentials.old }
     requires cut_in { length cut.old.entries ≡ length excess.old }
     requires scratch_in { length scratch.old.potentials ≡ length excess.old }
+    requires held { IsHeldIn graph.now.rows flow.old.whole scratch.old.held }
     ensures flow_written { IsWritten flow.old flow.new }
     ensures potentials_written { IsWritten potentials.old.table potentials.new.table }
     ensures cut_written { IsWritten cut.old cut.new }
@@ -68,10 +80,11 @@ pub fn settle(
     ensures greatest { AreGreatestIn graph.now.net flow.new.entries potentials.new.table.entries }
     ensures pushed { ArePushes graph.now.rows result flow.old.entries excess.old flow.new.entries excess.new }
     ensures scratch_in { length scratch.new.potentials ≡ length excess.new }
+    ensures held { IsHeldIn graph.now.rows flow.new.whole scratch.new.held }
     ensures cut { (supply : ℕ → ℤ) → IsExcess graph.now.rows supply flow.old.entries excess.old → IsChosenSet graph.now.rows supply excess.new cut.new.entries }
 {
-    let pushes = push_and_raise(graph, flow, potentials, excess, scratch);
-    mark_cut(graph, flow, excess, scratch, cut);
+    let pushed = push_and_raise(graph, flow, potentials, excess, scratch);
+    mark_cut(graph, flow, excess, scratch, pushed.are_marked, cut);
     potentials.greatest = true;
-    pushes
+    pushed.count
 }

@@ -1,6 +1,6 @@
 //! What the tables begin with.
 
-ghost use Rattle.std.specs.Prelude.{◌≡◌, ◌≤◌, ◌+◌, IfOk, false, length, map, pos, replicate, vec_capacity};
+ghost use Rattle.std.specs.Prelude.{◌≡◌, ◌≤◌, ◌+◌, IfOk, false, length, map, pos, replicate, true, vec_capacity};
 ghost use Rattle.flow_solver.specs.Balance.{IsBalanceOf};
 ghost use Rattle.flow_solver.specs.Moment.{start};
 ghost use Rattle.residual_graph.specs.Graph.{IsGraph};
@@ -90,6 +90,7 @@ pub fn start_nodes(
     ensures cut { IfOk result (λ t. t.1.entries ≡ replicate (nodes + 1) false) }
     ensures cut_kept { IfOk result (λ t. t.1.kept ≡ replicate (nodes + 1) false) }
     ensures scratch { IfOk result (λ t. length t.2.potentials ≡ nodes + 1) }
+    ensures lost { IfOk result (λ t. t.2.held.is_lost ≡ true) }
 {
     let entries = nodes as usize + 1;
     let potentials = zeros(alloc, entries)?;

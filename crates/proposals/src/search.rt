@@ -6,7 +6,7 @@ ghost use Rattle.relaxation.specs.Limits.{IsWithin, rest_limit};
 use crate::record::State;
 use crate::records::Records;
 use crate::walk::Walk;
-use relaxation::{Link, Nodes, Proposal, seen};
+use relaxation::{Link, Nodes, Proposal, both, seen};
 use std::alloc::{AllocError, Global};
 use std::marker::Model;
 use two_sided::{Heap, NO_PLACE};
@@ -79,16 +79,17 @@ impl Search {
         requires { entries < 2 ^ 31 }
         ensures { IfOk result (λ s. s ≡ entries) }
     {
-        let records = Records::new(alloc, entries)?;
-        let mut heap = Heap::new(alloc, entries)?;
-        if !heap.open(entries) {
-            return Err(AllocError);
-        }
-        let queue = Nodes::new(alloc, entries)?;
-        let settled = Nodes::new(alloc, entries)?;
-        let touched = Nodes::new(alloc, entries)?;
-        let walk = Walk::new(alloc, entries)?;
-        let apart = Vec::with_capacity(alloc, entries)?;
+        let known = both(Records::new(alloc, entries), Heap::opened(alloc, entries));
+        let lists = both(Nodes::new(alloc, entries), Nodes::new(alloc, entries));
+        let touched = Nodes::new(alloc, entries);
+        let walk = both(
+            Walk::new(alloc, entries),
+            Vec::with_capacity(alloc, entries),
+        );
+        let (((records, heap), (queue, settled)), (touched, (walk, apart))) = both(
+            both(known, lists),
+            both(touched, walk),
+        )?;
         Ok(Search {
             records,
             heap,

@@ -6,7 +6,7 @@ use crate::search::Search;
 use crate::solving::{Fuel, solve, solve_greatest};
 use crate::wanted::Wanted;
 use dimacs_text::ArcRow;
-use relaxation::{Noted, Proposal, Ring, Sets};
+use relaxation::{Noted, Proposal, Ring, Sets, both};
 use std::alloc::{AllocError, Global};
 use std::marker::Model;
 use two_sided::{Between, Halt, Readings};
@@ -65,12 +65,14 @@ impl Proposals {
         requires arcs { arcs < 2 ^ 31 }
         ensures { IfOk result (λ p. p ≡ entries) }
     {
-        let proposal = Proposal::new(alloc, entries, arcs)?;
-        let ring = Ring::new(alloc, entries)?;
-        let sets = Sets::new(alloc, entries, arcs)?;
-        let search = Search::new(alloc, entries)?;
-        let between = Between::new(alloc, entries, arcs)?;
-        let noted = Noted::new(alloc, arcs)?;
+        let proposal = Proposal::new(alloc, entries, arcs);
+        let relaxing = both(Ring::new(alloc, entries), Sets::new(alloc, entries, arcs));
+        let search = Search::new(alloc, entries);
+        let near = both(Between::new(alloc, entries, arcs), Noted::new(alloc, arcs));
+        let ((proposal, (ring, sets)), (search, (between, noted))) = both(
+            both(proposal, relaxing),
+            both(search, near),
+        )?;
         Ok(Proposals {
             proposal,
             ring,

@@ -3,14 +3,15 @@
 //! Proved is that each call returns, that no index, sum or cast leaves its range, and that what is held stays as it is while
 //! labels are looked for. Nothing is proved of these labels: who takes them tests them, and has them accepted.
 
-ghost use Rattle.std.specs.Prelude.{◌≡◌, ◌≢◌, ℕ, ◌<◌, ◌≤◌, All, AllPairs, Any, IfOk, IsTrue, false, length, true};
+ghost use Rattle.std.specs.Prelude.{◌≡◌, ℕ, ◌<◌, ◌≤◌, IfOk, IsTrue, false, length, true};
 ghost use Rattle.residual_graph.specs.Limits.{row_limit};
 ghost use Rattle.residual_graph.specs.Walk.{IsWithin};
 ghost use Rattle.tracked.specs.Marks.{in_set};
-ghost use Rattle.tracked.specs.Touched.{NameChanges};
+ghost use Rattle.tracked.specs.Touched.{AgreeAt};
 ghost use Rattle.shortest_paths.specs.Tree.{AreArcsNoted, IsArcNoted, IsTreeOf, StaysHeld};
 
 use crate::predecessor::Predecessor;
+use relaxation::both;
 use residual_graph::{End, Graph, Residual, ResidualArc, Walk, Way};
 use std::alloc::{AllocError, Global};
 use std::marker::Model;
@@ -29,7 +30,10 @@ const MOST_LOOSE: usize = 2;
 /// How often, counted over all nodes, a node is settled at most.
 const MOST_SETTLED: usize = 4;
 
-/// The most arcs that can be noted.
+/// Where more arcs than one in so many would have to be noted, all labels are searched anew.
+const MOST_NOTED: usize = 4;
+
+/// The most arcs for whose notes there is room.
 const MOST_ROWS: usize = 200_001;
 
 /// The labels of all nodes, and how each node got its own. A node whose predecessor no longer leads to it is loose.
@@ -73,6 +77,15 @@ impl Model for Tree {
     ghost invariant = { AreTables };
 }
 
+/// So many entries with this value, all of them kept.
+fn filled<T: Copy>(alloc: Global, value: T, entries: usize) -> Result<Tracked<T>, AllocError>
+    requires few { entries ≤ row_limit }
+    ensures entries { IfOk result (λ t. length t.entries ≡ entries) }
+    ensures kept { IfOk result (λ t. length t.kept ≡ entries) }
+{
+    Tracked::new(alloc, vec![in alloc; value; entries]?, entries)
+}
+
 impl Tree {
     /// A tree of so many nodes, of which no label is known yet, with room for notes of so many arcs.
     ///
@@ -83,17 +96,19 @@ impl Tree {
         ensures sized { IfOk result (λ t. length t.labels ≡ entries) }
         ensures lost { IfOk result (λ t. t.held.is_lost ≡ true) }
     {
-        let labels = Tracked::new(alloc, vec![in alloc; 0; entries]?, entries)?;
-        let open = vec![in alloc; Predecessor::open(); entries]?;
-        let predecessors = Tracked::new(alloc, open, entries)?;
-        let noted = Touched::new(alloc, arcs.min(MOST_ROWS))?;
-        let beside = Touched::new(alloc, entries)?;
-        let loose = Vec::with_capacity(alloc, entries)?;
-        let ready = Vec::with_capacity(alloc, entries)?;
-        let mut heap = Heap::new(alloc, entries)?;
-        if !heap.open(entries) {
-            return Err(AllocError);
-        }
+        let labels = filled(alloc, 0, entries);
+        let predecessors = filled(alloc, Predecessor::open(), entries);
+        let noted = Touched::new(alloc, arcs.min(MOST_ROWS));
+        let beside = Touched::new(alloc, entries);
+        let queues = both(
+            Vec::with_capacity(alloc, entries),
+            Vec::with_capacity(alloc, entries),
+        );
+        let heap = Heap::opened(alloc, entries);
+        let ((labels, predecessors), ((noted, beside), ((loose, ready), heap))) = both(
+            both(labels, predecessors),
+            both(both(noted, beside), both(queues, heap)),
+        )?;
         Ok(Tree {
             labels,
             predecessors,
@@ -122,39 +137,35 @@ impl Tree {
         self.predecessors.entries()
     }
 
-    /// Places that name each node whose label is another than that which was tested, and maybe others.
-    pub fn label_places(&self) -> &[u32]
-        ensures named { NameChanges 0 result.now self.now.held.labels self.now.labels }
+    /// Where labels may be others than those that were tested.
+    pub fn relabelled(&self) -> &Touched
+        ensures elsewhere { (v : ℕ) → in_set result.now v ≡ false → AgreeAt self.now.held.labels self.now.labels v }
+        ensures room { length self.now.labels ≤ length result.now }
         ensures as_many { length self.now.held.labels ≡ length self.now.labels }
     {
-        self.labels.places()
+        self.labels.written()
     }
 
-    /// Places that name each node whose predecessor is another than that which was tested, and maybe others.
-    pub fn predecessor_places(&self) -> &[u32]
-        ensures named { NameChanges 0 result.now self.now.held.predecessors self.now.predecessors }
-        ensures as_many { length self.now.held.predecessors ≡ length self.now.predecessors }
+    /// Where predecessors may be others than those that were tested.
+    pub fn rehung(&self) -> &Touched
+        ensures elsewhere { (v : ℕ) → in_set result.now v ≡ false → AgreeAt self.now.held.predecessors self.now.predecessors v }
+        ensures room { length self.now.labels ≤ length result.now }
     {
-        self.predecessors.places()
+        self.predecessors.written()
     }
 
-    /// The arcs that are noted, each once.
-    pub fn noted(&self) -> &[u32]
-        ensures listed { (k : ℕ) → in_set self.now.held.noted k ≡ true → Any (λ p. p ≡ k) result.now }
-        ensures noted { All (λ p. in_set self.now.held.noted p ≡ true) result.now }
-        ensures apart { AllPairs ◌≢◌ result.now }
+    /// The arcs that are noted.
+    pub fn noted(&self) -> &Touched
+        ensures { result.now ≡ self.now.held.noted }
     {
-        self.noted.places()
+        &self.noted
     }
 
-    /// The nodes at the arcs that are noted, each once.
-    pub fn beside(&self) -> &[u32]
-        ensures listed { (v : ℕ) → in_set self.now.held.beside v ≡ true → Any (λ p. p ≡ v) result.now }
-        ensures noted { All (λ p. in_set self.now.held.beside p ≡ true) result.now }
-        ensures apart { AllPairs ◌≢◌ result.now }
-        ensures one_a_node { length self.now.held.beside ≡ length self.now.labels }
+    /// The nodes at the arcs that are noted.
+    pub fn beside(&self) -> &Touched
+        ensures { result.now ≡ self.now.held.beside }
     {
-        self.beside.places()
+        &self.beside
     }
 
     /// Whether more changed than is noted, or no labels were tested.
@@ -207,7 +218,8 @@ impl Tree {
         self.is_lost = true;
     }
 
-    /// Holds the labels, which were tested; the flow of these arcs may be brought back.
+    /// Holds the labels, which were tested; the flow of these arcs may be brought back. Where most arcs were written nothing is
+    /// held, since the next search would have to look at nearly all of them.
     pub fn accept(&mut self, graph: &Graph, written: &[u32])
         ensures labels { self.new.labels ≡ self.old.labels }
         ensures predecessors { self.new.predecessors ≡ self.old.predecessors }
@@ -219,13 +231,15 @@ impl Tree {
         self.predecessors.snapshot();
         self.noted.clear();
         self.beside.clear();
-        self.is_lost = false;
-        self.note_all(graph, written);
+        self.is_lost = written.len() > graph.rows().len() / MOST_NOTED;
+        if !self.is_lost {
+            self.note_all(graph, written);
+        }
     }
 
     /// Finds all labels anew, from all nodes with label 0. Says whether all may be right.
     pub fn search(&mut self, residual: Residual<'_>) -> bool
-        ensures sized { IsTrue result → IsTreeOf residual.entry self.new }
+        ensures sized { length self.new.labels ≡ length self.old.labels }
         ensures held { self.new.held ≡ self.old.held }
     {
         let nodes = residual.potentials.len();
@@ -242,7 +256,7 @@ impl Tree {
 
     /// Mends the tree where arcs are noted or are among these. Says whether all labels may be right now.
     pub fn mend(&mut self, residual: Residual<'_>, written: &[u32]) -> bool
-        ensures sized { IsTrue result → IsTreeOf residual.entry self.new }
+        ensures sized { length self.new.labels ≡ length self.old.labels }
         ensures held { self.new.held ≡ self.old.held }
     {
         if self.is_lost || self.labels.entries().len() != residual.potentials.len() {

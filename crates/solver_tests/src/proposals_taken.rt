@@ -93,10 +93,10 @@ static PROPOSALS: [(Proposed, Outcome); 19] = [
         ),
         (None, 1, &[2, 2, 0, 0, 0], &[0; 5], Some(4)),
     ),
-    // A potential off by one.
+    // A potential off by one: other potentials certify the flow.
     (
         (&[(0, 1), (1, 1), (2, 1)], &[0, -2, -2, 0, 0]),
-        (None, 1, &[2, 2, 0, 0, 0], &[0; 5], Some(4)),
+        (Some(2), 0, &[1, 1, 1, 0, 0], &[0; 5], Some(4)),
     ),
     // A node to which more comes than goes on, one from which more goes than comes, one that gives more than it has.
     (

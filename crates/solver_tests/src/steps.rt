@@ -35,8 +35,9 @@ pub fn take_up(
 ) -> (Option<u64>, u64)
     requires ready { IsReady graph.now flow.old.entries scratch.old.potentials excess.old }
 {
+    scratch.forget();
     match adopt(graph, flow, excess, scratch) {
-        Some(pushes) => (Some(pushes), finish(graph, flow, excess, scratch)),
+        Some(pushed) => (Some(pushed.count), finish(graph, flow, excess, scratch)),
         None => (None, finish(graph, flow, excess, scratch)),
     }
 }

@@ -25,7 +25,8 @@ impl Journal {
     /// Memory for a table was refused.
     pub fn new(alloc: Global, size: usize) -> Result<Journal, AllocError>
         requires { size ≤ row_limit }
-        ensures { IfOk result IsJournal }
+        ensures journal { IfOk result IsJournal }
+        ensures room { IfOk result (λ j. length j.before.items ≡ size) }
     {
         let before = vec![in alloc; 0; size]?;
         let written = Touched::new(alloc, size)?;

@@ -1,7 +1,8 @@
 //! A table beside what stood in it before.
 
-ghost use Rattle.std.specs.Prelude.{◌≡◌, ◌≢◌, ℕ, ◌<◌, ◌≤◌, ◌+◌, ◌++◌, ◌∷◌, [], AllPairs, length, take, slice_index_or, slice_set, IfOk, vec_capacity};
-ghost use Rattle.tracked.specs.Touched.{NameChanges};
+ghost use Rattle.std.specs.Prelude.{◌≡◌, ◌≢◌, ℕ, false, ◌<◌, ◌≤◌, ◌+◌, ◌++◌, ◌∷◌, [], AllPairs, length, take, slice_index_or, slice_set, IfOk, vec_capacity};
+ghost use Rattle.tracked.specs.Marks.{in_set};
+ghost use Rattle.tracked.specs.Touched.{AgreeAt, NameChanges};
 ghost use Rattle.tracked.specs.Tracked.{IsWritten};
 ghost use Rattle.residual_graph.specs.Limits.{row_limit};
 
@@ -103,9 +104,20 @@ impl<T: Copy> Tracked<T> {
     pub fn places(&self) -> &[u32]
         ensures named { NameChanges 0 result.now self.now.kept self.now.entries }
         ensures all_named { NameChanges 0 result.now self.now.whole self.now.entries }
+        ensures as_many { length self.now.whole ≡ length self.now.entries }
         ensures apart { AllPairs ◌≢◌ result.now }
     {
         self.touched.places()
+    }
+
+    /// Where the table may have been written since the snapshot.
+    pub fn written(&self) -> &Touched
+        ensures elsewhere { (k : ℕ) → in_set result.now k ≡ false → AgreeAt self.now.whole self.now.entries k }
+        ensures none_added { length self.now.kept ≡ length self.now.entries → self.now.whole ≡ self.now.kept }
+        ensures room { length result.now ≡ self.now.room }
+        ensures fits { length self.now.entries ≤ self.now.room }
+    {
+        &self.touched
     }
 
     /// Writes an entry.

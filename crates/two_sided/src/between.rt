@@ -5,7 +5,7 @@ ghost use Rattle.std.specs.Prelude.{◌≡◌, ◌<◌, ◌^◌, ℕ, IfOk, IfSo
 use crate::free::FreeEnds;
 use crate::front::{Front, Meeting};
 use crate::length::FAR;
-use relaxation::{Nodes, Noted, Places, Proposal};
+use relaxation::{Nodes, Noted, Places, Proposal, both};
 use std::alloc::{AllocError, Global};
 use std::marker::Model;
 
@@ -76,12 +76,14 @@ impl Between {
         requires entries { entries < 2 ^ 31 }
         requires arcs { arcs < 2 ^ 31 }
     {
-        let ahead = Front::new(alloc, entries)?;
-        let behind = Front::new(alloc, entries)?;
-        let roots = Nodes::reserve(alloc, entries)?;
-        let path_ahead = Places::new(alloc, entries)?;
-        let path_behind = Places::new(alloc, entries)?;
-        let free = FreeEnds::new(alloc, entries, arcs)?;
+        let fronts = both(Front::new(alloc, entries), Front::new(alloc, entries));
+        let roots = Nodes::reserve(alloc, entries);
+        let paths = both(Places::new(alloc, entries), Places::new(alloc, entries));
+        let free = FreeEnds::new(alloc, entries, arcs);
+        let (((ahead, behind), roots), ((path_ahead, path_behind), free)) = both(
+            both(fronts, roots),
+            both(paths, free),
+        )?;
         Ok(Between {
             ahead,
             behind,

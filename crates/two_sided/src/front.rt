@@ -7,7 +7,7 @@ ghost use Rattle.two_sided.specs.Keys.{key_limit};
 use crate::free::{FreeEnd, FreeEnds};
 use crate::heap::Heap;
 use crate::length::{FAR, NO_PLACE};
-use relaxation::{Nodes, Places, Proposal};
+use relaxation::{Nodes, Places, Proposal, both};
 use std::alloc::{AllocError, Global};
 use std::marker::Model;
 
@@ -145,13 +145,21 @@ impl Front {
     pub fn new(alloc: Global, entries: usize) -> Result<Front, AllocError>
         ensures { IfOk result (λ f. f ≡ 0) }
     {
-        let labels = Vec::with_capacity(alloc, entries)?;
-        let heap = Heap::new(alloc, entries)?;
-        let beyond = Vec::with_capacity(alloc, entries)?;
-        let margins = Nodes::reserve(alloc, entries)?;
-        let late = Heap::new(alloc, entries)?;
-        let settled = Nodes::reserve(alloc, entries)?;
-        let touched = Nodes::reserve(alloc, entries)?;
+        let labels = Vec::with_capacity(alloc, entries);
+        let heap = Heap::new(alloc, entries);
+        let margins = both(
+            Vec::with_capacity(alloc, entries),
+            Nodes::reserve(alloc, entries),
+        );
+        let late = Heap::new(alloc, entries);
+        let lists = both(
+            Nodes::reserve(alloc, entries),
+            Nodes::reserve(alloc, entries),
+        );
+        let ((labels, heap), ((beyond, margins), (late, (settled, touched)))) = both(
+            both(labels, heap),
+            both(margins, both(late, lists)),
+        )?;
         Ok(Front {
             labels,
             heap,

@@ -258,7 +258,9 @@ impl Tables {
     {
         self.before.verdict = None;
         self.balance.cost = cost_now(self.graph.rows(), &self.flow, self.balance.cost);
-        self.scratch.note_all(&self.graph, self.flow.places());
+        // Labels that are held were tested beside what was kept before.
+        let changed = self.flow.places();
+        self.scratch.note_all(&self.graph, changed);
         self.flow.snapshot();
         self.potentials.table.snapshot();
         self.cut.snapshot();

@@ -106,8 +106,8 @@ impl Tables {
             row.cost,
             self.flow.whole()[place],
         );
-        self.graph.set_row(k, *row);
         self.scratch.note_all(&self.graph, &[place as u32]);
+        self.graph.set_row(k, *row);
         *row = before;
     }
 
@@ -143,6 +143,8 @@ impl Tables {
         let row = self.graph.rows()[last];
         carry_over(&mut self.balance.excess, &row, self.flow.get(last), 0);
         self.balance.cost = reprice(self.balance.cost, self.flow.whole()[last], 0, row.cost);
+        // While its ends can still be told.
+        self.scratch.note_all(&self.graph, &[last as u32]);
         let row = self.graph.pop_arc();
         let flow = self.flow.pop();
         (row, flow)
@@ -164,7 +166,9 @@ impl Tables {
         self.potentials.greatest = false;
         carry_over(&mut self.balance.excess, &row, 0, flow);
         self.balance.cost = reprice(self.balance.cost, 0, flow, row.cost);
+        let added = self.graph.rows().len();
         self.graph.push_arc(row);
+        self.scratch.note_all(&self.graph, &[added as u32]);
         self.flow.push(flow);
     }
 }

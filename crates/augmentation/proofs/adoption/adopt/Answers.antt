@@ -1,34 +1,44 @@
-use Rattle.std.proofs.Common.{◌∙◌, ℤ, List, ap, arith, length, refl, subst, sym, take}
+use Rattle.std.proofs.Common.{◌≡◌, ◌∙◌, ℕ, ap, arith, length, refl, subst, sym}
+use Rattle.std.proofs.lemmas.Int.{ints}
 use Rattle.std.proofs.lemmas.List.{with_items_is}
-use Rattle.tracked.specs.Journal.{IsSince}
+use Rattle.residual_graph.specs.Graph.{HasEntries}
+use Rattle.residual_graph.specs.Residual.{IsPseudoflow}
+use Rattle.augmentation.specs.Adoption.{IsCertifiedBy}
+use Rattle.augmentation.specs.Certificate.{AreCertifying}
+use Rattle.augmentation.specs.Exchange.{IsExchange}
 use Rattle.augmentation.specs.ScratchView.{ScratchView}
-use Rattle.tracked.specs.Touched.{AreNoted}
-use Rattle.tracked.proofs.JournalLemmas.{since_noted}
-use Rattle.tracked.proofs.TrackedLemmas.{IsTracked-noted}
+use Rattle.augmentation.proofs.CertificateLemmas.{within_potentials}
+use Rattle.augmentation.proofs.ChangeLemmas.{pushes_of_change}
+use Rattle.augmentation.proofs.ExchangeLemmas.{small_nearer}
 use Rattle.augmentation.proofs.adoption.adopt.Goals as goal
 
-pub returns-in-None-clause-adopted : goal.returns-in-None-clause-adopted
-returns-in-None-clause-adopted c =
-    let f = c.flow.inside in
-    record {
-      same_flow = ap (λ (xs : List ℤ). record { entries = xs; kept = take f.size f.whole.items; whole = f.whole.items; room = length f.touched })
-          (with_items_is f.entries c.draw-drawn.new.flow (c.draw-drawn.auto.flow ∙ c.deref_mut.ensures.len) ∙ c.in-None.ensures.none ∙ c.deref_mut.ensures.value) ∙ c.flow.view_is;
-      same_excess = refl;
-      same_potentials = ap (λ (v : ScratchView). v.potentials) c.scratch.view_is;
-    }
-
-pub note_written-requires : goal.note_written-requires
-note_written-requires c = record {
-  room = λ k noted. omega (arith, c.in-Some.ensures.since.inside k noted, ap length c.deref_mut.ensures.value, c.flow.invariant.marked);
-}
-
-pub invariant_of-flow : goal.invariant_of-flow
-invariant_of-flow c =
-    let f = c.flow.inside in
-    let y = c.draw-drawn.new.flow in
-    let journal = c.draw-drawn.new.draft.journal in
-    let now = c.note_written.new.touched in
-    let since : IsSince journal f.entries.items y = subst (λ (x : List ℤ). IsSince journal x y) c.deref_mut.ensures.value c.in-Some.ensures.since in
-    let noted : AreNoted f.touched f.entries.items now y = since_noted journal f.entries.items y f.touched now since c.note_written.ensures.same_size c.note_written.ensures.still c.note_written.ensures.noted in
-    IsTracked-noted _ _ _ _ _ _ c.flow.invariant _ now _ (omega arith)
-    (subst (λ (x : List ℤ). AreNoted f.touched f.entries.items now x) (sym (with_items_is f.entries y (c.draw-drawn.auto.flow ∙ c.deref_mut.ensures.len))) noted)
+pub returns-clause-adopted : goal.returns-clause-adopted
+returns-clause-adopted c =
+    let rows = c.args.graph.now.rows in
+    let nodes = length c.args.excess.now in
+    let x = c.args.flow.now.entries in
+    let e = c.args.excess.now in
+    let y = c.lead.new.flow.entries in
+    let f = c.lead.new.excess in
+    let p = c.certify.new.potentials in
+    let n = c.in_ok-count.count in
+    let moved : IsExchange nodes rows n x e y f = c.in_ok-count.ensures.some in
+    let sized : length p ≡ nodes = c.certify.ensures.same_length ∙ ap length (c.deref_mut-2.ensures.value ∙ ap (λ (v : ScratchView). v.potentials) c.scratch.view_is) ∙ sym c.requires.ready.state.excess_in in
+    let certifying : AreCertifying rows y p = c.in-Some.ensures.some in
+    let is : IsCertifiedBy c.args.graph.now n x e y f p = record {
+      ready = record {
+        state = record {
+          graph = subst (λ (m : ℕ). HasEntries m c.args.graph.now) (sym (sized ∙ c.requires.ready.state.excess_in)) c.requires.ready.state.graph;
+          certified = record {
+            flow = subst (λ (m : ℕ). IsPseudoflow m rows y) (sym sized) moved.change.after;
+            potentials = within_potentials (length p) p certifying.0;
+            none_below = certifying.1;
+          };
+          excess_in = moved.change.after_sized ∙ sym sized;
+          small = small_nearer e f moved.change.small moved.change.nearer;
+        };
+        in_range = certifying.0;
+      };
+      pushes = pushes_of_change nodes rows x e y f moved.ranks moved.change n moved.units;
+    } in
+    subst (IsCertifiedBy c.args.graph.now n x e y f) (sym (with_items_is c.scratch.inside.potentials p (c.certify.auto.potentials ∙ c.deref_mut-2.ensures.len))) is

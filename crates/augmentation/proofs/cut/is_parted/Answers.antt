@@ -2,8 +2,8 @@ use Rattle.std.proofs.Common.{arith}
 use Rattle.augmentation.proofs.CutLemmas.{marked_in}
 use Rattle.augmentation.proofs.cut.is_parted.Goals as goal
 
-pub returns : goal.returns
-returns c = λ yes.
+pub returns-clause-parted : goal.returns-clause-parted
+returns-clause-parted c = λ yes.
     record {
       set = c.mark_side.new.cut;
       closed = c.mark_side.ensures.closed;

@@ -19,10 +19,10 @@ loop-j-preserved c =
     let e = c.excess.inside.entries.items in
     let are = c.loop-j.invariant.are in
     let noted = noted_in c.excess.inside.unbalanced v (c.places-places.ensures.noted c.loop-j.j 0 c.loop-j-test.true) in
-    let there : v < length c.loop-j.cut = omega (arith, noted, c.excess.invariant.one_a_node, ap (λ (xs : List ℤ). length xs) c.excess.view_is, c.requires.cut_in, c.loop-j.auto.cut, c.fill.auto.self) in
+    let there : v < length c.loop-j.cut = omega (arith, noted, c.excess.invariant.0.one_a_node, ap (λ (xs : List ℤ). length xs) c.excess.view_is, c.requires.cut_in, c.loop-j.auto.cut, c.fill.auto.self) in
     let fits : SFits w64 c.index.result.now = search rules in
     let entry : to_z w64 (of_z w64 c.index.result.now) ≡ number_at c.args.excess.now v =
-    to_z-of_z w64 c.index.result.now fits ∙ c.index.ensures ∙ get_or_default e v c.index.result.now (pos 0) (omega (arith, noted, c.excess.invariant.one_a_node)) ∙ ap (λ (xs : List ℤ). number_at xs v) c.excess.view_is in
+    to_z-of_z w64 c.index.result.now fits ∙ c.index.ensures ∙ get_or_default e v c.index.result.now (pos 0) (omega (arith, noted, c.excess.invariant.0.one_a_node)) ∙ ap (λ (xs : List ℤ). number_at xs v) c.excess.view_is in
     elim c.if-is_root.branch [
       | then-is_root w ↦ (let root = subst (IsRoot c.args.side) entry (c.is_root.ensures.0 w.if-is_root.true) in
           record {
@@ -41,7 +41,7 @@ pub returns-clause-marked : goal.returns-clause-marked
 returns-clause-marked c = λ v.
     (let are = c.loop-j.invariant.are in
     let places = c.places-places.result.now in
-    let listed = subst (AreUnbalancedListed c.excess.inside.unbalanced) c.excess.view_is c.excess.invariant in (
+    let listed = subst (AreUnbalancedListed c.excess.inside.unbalanced) c.excess.view_is c.excess.invariant.0 in (
       are.roots v,
       λ root.
           (let at = root_listed c.args.side c.excess.inside.unbalanced c.args.excess.now places listed c.places-places.ensures.listed v root in

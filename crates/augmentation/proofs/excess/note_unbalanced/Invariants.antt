@@ -1,10 +1,12 @@
-use Rattle.std.proofs.Common.{◌≡◌, ℕ, ◌<◌, length, pos, false}
-use Rattle.residual_graph.specs.Residual.{number_at}
+use Rattle.std.proofs.Common.{◌≡◌, ℕ, ◌<◌, length, true}
+use Rattle.augmentation.specs.Excess.{IsBalancedOrListed}
 use Rattle.tracked.specs.Marks.{in_set}
+use Rattle.tracked.specs.NodeLists.{node_at}
 use Rattle.augmentation.proofs.excess.note_unbalanced.Given as goal
 
-abbrev pub invariant-loop-v : goal.invariant-loop-v
-invariant-loop-v l = record {
-  one_a_node : length l.unbalanced ≡ length l.entries;
-  balanced : (k : ℕ) → k < l.v → in_set l.unbalanced k ≡ false → number_at l.entries k ≡ pos 0;
+abbrev pub invariant-loop-node : goal.invariant-loop-node
+invariant-loop-node l = record {
+  same_size : length l.unbalanced ≡ length l.initial.unbalanced;
+  still : (v : ℕ) → in_set l.initial.unbalanced v ≡ true → in_set l.unbalanced v ≡ true;
+  noted : (i : ℕ) → i < l.node-index → IsBalancedOrListed l.unbalanced l.entries (node_at l.nodes i);
 }

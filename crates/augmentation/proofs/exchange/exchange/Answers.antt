@@ -1,37 +1,39 @@
-use Rattle.std.proofs.Common.{◌≡◌, ◌∙◌, ◌+◌, ℕ, ℤ, List, ap, length, refl, subst, sym}
-use Rattle.std.proofs.lemmas.List.{with_items_is}
+use Rattle.std.proofs.Common.{◌≡◌, ◌+◌, ℕ, ℤ, List, length, refl, subst}
+use Rattle.std.proofs.lemmas.Option.{IfSome_then}
 use Rattle.residual_graph.specs.Residual.{IsPseudoflow}
-use Rattle.augmentation.specs.Changes.{AreNearer, IsExcessAfter}
-use Rattle.augmentation.specs.Exchange.{IsExchange}
+use Rattle.augmentation.specs.Changes.{AreNearer}
 use Rattle.augmentation.specs.Push.{left}
+use Rattle.tracked.specs.Journal.{IsSince}
 use Rattle.augmentation.proofs.exchange.exchange.Goals as goal
+use Rattle.augmentation.proofs.exchange.exchange.Goals.{After-change_arcs}
+
+-- the journals note the changes
+flow_since : (c : After-change_arcs) → IsSince c.change_arcs.new.draft.flow c.args.flow.now c.change_arcs.new.flow
+flow_since c = c.change_arcs.ensures.flow_led.since c.args.flow.now (c.clear.ensures.since c.args.flow.now c.requires.flow_journal.room)
+
+excess_since : (c : After-change_arcs) → IsSince c.change_arcs.new.draft.excess c.args.excess.now c.change_arcs.new.excess
+excess_since c = c.change_arcs.ensures.excess_led.since c.args.excess.now (c.clear-2.ensures.since c.args.excess.now c.requires.excess_journal.room)
 
 pub returns-clause-some : goal.returns-clause-some
 returns-clause-some c =
+    let a = (goal.at.returns-clause-some c).After-change_arcs in
     let rows = c.args.graph.now.rows in
-    let x = c.args.flow.now in
     let e = c.args.excess.now in
     let y = c.change_arcs.new.flow in
     let f = c.change_arcs.new.excess in
-    let n = c.in_ok-units.units in
-    let copied : c.deref_mut.result.now ≡ e = c.deref_mut.ensures.value ∙ c.requires.copied in
-    let sized : length f ≡ length e = c.change_arcs.ensures.sized ∙ ap length copied in
-    let held = with_items_is c.args.draft.now.excess f (c.change_arcs.auto.excess ∙ c.deref_mut.ensures.len) in
-    let flow : IsPseudoflow (length e) rows y = subst (λ (m : ℕ). IsPseudoflow m rows y) sized c.change_arcs.ensures.flow in
-    let excess : IsExcessAfter rows x e y f = subst (λ (d : List ℤ). IsExcessAfter rows x d y f) copied (c.change_arcs.ensures.excess c.if-not-change_arcs.false) in
-    let gave : AreNearer e f × (n + left f ≡ left e) = subst (λ (d : List ℤ). AreNearer e d × (n + left d ≡ left e)) (c.deref.ensures.value ∙ held) c.in_ok-units.ensures in
-    let is : IsExchange (length e) rows n x e y f = record {
+    let sized : length f ≡ length e = c.change_arcs.ensures.excess_led.same_length in
+    IfSome_then c.units_given.result {P = λ n. (before : List ℤ) → IsSince c.change_arcs.new.draft.excess before f → AreNearer before f × (n + left f ≡ left before)} c.units_given.ensures
+    (λ n gave. record {
       ranks = c.ranks.result.now;
       change = record {
         before = c.requires.flow;
-        after = flow;
+        after = subst (λ (m : ℕ). IsPseudoflow m rows y) sized c.change_arcs.ensures.flow;
         excess_sized = refl;
         after_sized = sized;
         small = c.requires.small;
-        excess = excess;
-        nearer = gave.0;
-        rises = c.rise.ensures c.if-not-rise.false x (c.change_arcs.ensures.since x c.requires.since);
+        excess = c.change_arcs.ensures.excess c.if-not-change_arcs.false;
+        nearer = (gave e (excess_since a)).0;
+        rises = c.rise.ensures c.if-not-rise.false c.args.flow.now (flow_since a);
       };
-      units = gave.1;
-    } in
-    subst (IsExchange (length e) rows n x e y) (sym held) is
+      units = (gave e (excess_since a)).1;
+    })

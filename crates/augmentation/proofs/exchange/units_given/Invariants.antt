@@ -1,11 +1,7 @@
-use Rattle.std.proofs.Common.{◌≡◌, ◌+◌, ◌<◌, ℕ, take}
-use Rattle.residual_graph.specs.Residual.{number_at}
-use Rattle.augmentation.specs.Changes.{IsNearer}
-use Rattle.augmentation.specs.Push.{left}
+use Rattle.std.proofs.Common.{ℤ, List}
+use Rattle.augmentation.proofs.ExchangeLemmas.{AreGiven}
+use Rattle.tracked.specs.Journal.{IsSince}
 use Rattle.augmentation.proofs.exchange.units_given.Given as goal
 
-abbrev pub invariant-loop-v : goal.invariant-loop-v
-invariant-loop-v l = record {
-  nearer : (u : ℕ) → u < l.v → IsNearer (number_at l.before u) (number_at l.after u);
-  units : l.units + left (take l.v l.after) ≡ left (take l.v l.before);
-}
+abbrev pub invariant-loop-place : goal.invariant-loop-place
+invariant-loop-place l = (before : List ℤ) → IsSince l.journal before l.excess → AreGiven l.place-items l.place-index before l.excess l.units

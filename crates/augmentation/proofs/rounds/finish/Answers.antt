@@ -1,6 +1,4 @@
-use Rattle.std.proofs.Common.{◌≡◌, ◌<◌, ◌+◌, ◌^◌, length, ap, arith, rules, subst, sym}
-use Rattle.augmentation.specs.Pseudoflow.{IsReady}
-use Rattle.augmentation.specs.Push.{left}
+use Rattle.std.proofs.Common.{◌<◌, ◌∙◌, ◌+◌, ◌^◌, length, arith, refl, rules}
 use Rattle.augmentation.proofs.SettleLemmas.{ArePushes-more, ArePushes-none, left-small}
 use Rattle.tracked.proofs.TrackedLemmas.{IsWritten-same, IsWritten-trans}
 use Rattle.augmentation.proofs.rounds.finish.Goals as goal
@@ -8,7 +6,8 @@ use Rattle.augmentation.proofs.rounds.finish.Goals as goal
 pub loop-target-init : goal.loop-target-init
 loop-target-init c = record {
   flow_written = IsWritten-same _;
-  ready = subst (IsReady c.args.graph.now c.args.flow.now.entries c.args.scratch.now.potentials) (sym c.tidy.ensures) c.requires.ready;
+  ready = c.requires.ready;
+  held = refl;
   pushed = ArePushes-none _ _ _;
 }
 
@@ -19,13 +18,13 @@ loop-target-preserved c =
     record {
       flow_written = IsWritten-trans _ _ _ inv.flow_written call.flow_written;
       ready = call.ready;
+      held = call.held ∙ c.search_on.ensures.held ∙ inv.held;
       pushed = ArePushes-more inv.pushed call.pushed;
     }
 
 pub overflow_add-pushes : goal.overflow_add-pushes
 overflow_add-pushes c =
     let small = left-small (length c.args.scratch.now.potentials) c.args.excess.now c.requires.ready.state.small c.requires.ready.state.excess_in c.requires.ready.state.certified.flow.few_nodes in
-    let before : left c.tidy.new.self ≡ left c.args.excess.now = ap left c.tidy.ensures in
     let count = (ArePushes-more c.loop-target.invariant.pushed c.push_to.ensures.pushed).count in
-    let bound : c.loop-target.pushes + 1 < 2 ^ 64 = omega (arith, small, before, count) in
+    let bound : c.loop-target.pushes + 1 < 2 ^ 64 = omega (arith, small, count) in
     search (rules, bound)

@@ -64,10 +64,13 @@ pub invariant_of-excess : goal.invariant_of-excess
 invariant_of-excess c =
     let a = (goal.at.invariant_of-excess c).After-augment in
     let pushed = (is_pushed a).pushed in
-    record {
-      one_a_node = c.excess.invariant.one_a_node ∙ sym (ap length (excess_is a) ∙ c.augment.auto.excess ∙ ap length c.deref_mut.ensures.value);
-      balanced = λ v out. ap (λ (e : List ℤ). number_at e v) (excess_is a) ∙ pushed.balanced v (ap (λ (e : List ℤ). number_at e v) (sym c.excess.view_is) ∙ c.excess.invariant.balanced v out);
-    }
+    let sized = sym (ap length (excess_is a) ∙ c.augment.auto.excess ∙ ap length c.deref_mut.ensures.value) in (
+      record {
+        one_a_node = c.excess.invariant.0.one_a_node ∙ sized;
+        balanced = λ v out. ap (λ (e : List ℤ). number_at e v) (excess_is a) ∙ pushed.balanced v (ap (λ (e : List ℤ). number_at e v) (sym c.excess.view_is) ∙ c.excess.invariant.0.balanced v out);
+      },
+      c.excess.invariant.1 ∙ sized,
+    )
 
 pub returns-clause-pushed : goal.returns-clause-pushed
 returns-clause-pushed c =

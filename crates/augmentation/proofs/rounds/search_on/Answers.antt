@@ -27,8 +27,8 @@ by_result c (Some t) found =
     let rows = c.args.graph.now.rows in
     let q = c.find_deficit.new.potentials in
     let s = c.find_deficit.new.predecessors in
-    subst (λ (p : List ℤ). HasFound rows c.args.flow.now.entries p c.args.excess.now (with_items c.scratch.inside.predecessors s).items t) (sym (with_items_is c.scratch.inside.potentials q (c.find_deficit.auto.potentials ∙ c.deref_mut-3.ensures.len)))
-    (subst (λ (r : List Predecessor). HasFound rows c.args.flow.now.entries q c.args.excess.now r t) (sym (with_items_is c.scratch.inside.predecessors s (c.find_deficit.auto.predecessors ∙ c.deref_mut-4.ensures.len)))
+    subst (λ (p : List ℤ). HasFound rows c.args.flow.now.entries p c.args.excess.now (with_items c.scratch.inside.predecessors s).items t) (sym (with_items_is c.scratch.inside.potentials q (c.find_deficit.auto.potentials ∙ c.deref_mut.ensures.len)))
+    (subst (λ (r : List Predecessor). HasFound rows c.args.flow.now.entries q c.args.excess.now r t) (sym (with_items_is c.scratch.inside.predecessors s (c.find_deficit.auto.predecessors ∙ c.deref_mut-2.ensures.len)))
     (subst (λ (x : List ℤ). HasFound rows x q c.args.excess.now s t) c.entries-2.ensures
     (subst (λ (e : List ℤ). HasFound rows c.entries-2.result.now q e s t) c.entries-3.ensures found)))
 

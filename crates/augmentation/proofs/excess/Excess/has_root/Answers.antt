@@ -11,6 +11,6 @@ pub returns : goal.returns
 returns c =
     let e = c.self.inside.entries.items in
     let none = amount-none c.args.side e (λ v lt root.
-    (let at = root_listed c.args.side c.self.inside.unbalanced e c.places-places.result.now c.self.invariant c.places-places.ensures.listed v root in
+    (let at = root_listed c.args.side c.self.inside.unbalanced e c.places-places.result.now c.self.invariant.0 c.places-places.ensures.listed v root in
     c.loop-j.invariant at.place (omega (arith, at.in_list)) (subst (λ (q : ℕ). IsRoot c.args.side (number_at e q)) (sym at.is_there) root))) in
     (λ h. absurd (false≢true h), λ some. absurd (omega (arith, some, ap (amount c.args.side) c.self.view_is, none)))

@@ -6,6 +6,7 @@ use Rattle.flow_solver.specs.TablesView.{TablesView}
 use Rattle.augmentation.specs.Nodes.{IsIdleEntry}
 use Rattle.augmentation.specs.ScratchView.{ScratchView}
 use Rattle.flow_solver.proofs.CarryLemmas.{balance_back, sends}
+use Rattle.flow_solver.proofs.HeldTables.{held_noted}
 use Rattle.flow_solver.proofs.tables.Tables.bring_back.Goals as goal
 
 pub invariant_of-self : goal.invariant_of-self
@@ -27,11 +28,12 @@ invariant_of-self c =
         idle = subst IsIdleEntry (sym c.bring_back-2.ensures.entries) inv.kept_idle;
         kept_idle = subst IsIdleEntry (sym c.bring_back-2.ensures.kept) inv.kept_idle;
         cut_in = record { entries_in = rw c.bring_back-3.ensures.entries inv.cut_in.kept_in; kept_in = rw c.bring_back-3.ensures.kept inv.cut_in.kept_in };
-        scratch_in = ap (λ (v : ScratchView). length v.potentials) c.note_all.ensures ∙ inv.scratch_in;
+        scratch_in = ap (λ (v : ScratchView). length v.potentials) c.note_all.ensures.same ∙ inv.scratch_in;
       };
       balance_is = balance_back I t.graph.rows t.flow c.bring_back.new.self t.balance _ c.bring_back.ensures.none_added c.bring_back.ensures.entries c.bring_back.ensures.whole
           c.carry_back.ensures.same_length excess refl inv.balance_is;
       told = λ none. cc;
+      held = rw c.bring_back.ensures.whole (held_noted t.graph.rows t.flow.whole t.scratch.held c.note_all.new.self.held c.note_all.ensures.held inv.held);
       log_fits = omega (arith, inv.log_fits);
       before_is = tt;
     }

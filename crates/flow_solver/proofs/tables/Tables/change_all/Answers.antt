@@ -37,6 +37,7 @@ invariant_of-self c =
       fit = inv.fit;
       balance_is = inv.balance_is;
       told = inv.told;
+      held = inv.held;
       log_fits = inv.log_fits;
       before_is = (
         leads.can,

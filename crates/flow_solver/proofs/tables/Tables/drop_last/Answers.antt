@@ -1,4 +1,4 @@
-use Rattle.std.proofs.Common.{◌≡◌, ◌∙◌, ◌-◌, ◌<◌, ◌∷◌, [], ℕ, ℤ, List, pos, drop, ap, arith, length, rules, subst, sym, w64, to_z, of_z}
+use Rattle.std.proofs.Common.{take, ◌≡◌, ◌∙◌, ◌-◌, ◌<◌, ◌∷◌, [], ℕ, ℤ, List, pos, drop, ap, arith, length, rules, subst, sym, w64, to_z, of_z}
 use Rattle.std.specs.Int.{w128}
 use Rattle.std.proofs.lemmas.Int.{to_z-of_z}
 use Rattle.std.proofs.lemmas.List.{get_or_default, length-append, length-take-le}
@@ -6,7 +6,9 @@ use Rattle.dimacs_text.specs.declared.problem.ArcRow.{ArcRow}
 use Rattle.network.specs.Instance.{Instance}
 use Rattle.flow_solver.specs.TablesView.{TablesView}
 use Rattle.residual_graph.specs.Residual.{row_at, number_at}
+use Rattle.augmentation.specs.ScratchView.{ScratchView}
 use Rattle.flow_solver.proofs.CarryLemmas.{arcs_in, balance_dropped, ends_in}
+use Rattle.flow_solver.proofs.HeldTables.{held_dropped}
 use Rattle.tracked.proofs.TrackedLemmas.{IsWritten-same}
 use Rattle.flow_solver.proofs.TablesViewLemmas.{fit_again}
 use Rattle.flow_solver.proofs.tables.Tables.drop_last.Goals as goal
@@ -48,13 +50,15 @@ invariant_of-self c =
     let one_less = ap (λ (r : List ArcRow). length r) c.pop_arc-row.ensures.rows ∙ length-append c.pop_arc-row.new.self.rows (c.pop_arc-row.result ∷ []) in
     let entries_less = ap (λ (xs : List ℤ). length xs) c.pop-flow.ensures.entries ∙ length-append c.pop-flow.new.self.entries (c.pop-flow.result ∷ []) in
     record {
-      fit = fit_again t.graph c.pop_arc-row.new.self t.flow c.pop-flow.new.self t.potentials.table t.potentials.table t.cut t.cut t.scratch t.scratch inv.fit
+      fit = fit_again t.graph c.pop_arc-row.new.self t.flow c.pop-flow.new.self t.potentials.table t.potentials.table t.cut t.cut t.scratch _ inv.fit
           (sym (ap (λ (K : Instance). K.nodes) c.pop_arc-row.ensures.net)) (sym (ap (λ (K : Instance). K.room) c.pop_arc-row.ensures.net)) c.pop_arc-row.ensures.graph
           (omega (arith, entries_less, inv.flow_in, one_less))
           (omega (arith, ap (λ (xs : List ℤ). length xs) c.pop-flow.ensures.whole, length-take-le (length c.pop-flow.new.self.entries) t.flow.whole (omega (arith, entries_less, inv.flow_in, inv.flow_whole)), entries_less, inv.flow_in, one_less))
-          c.pop-flow.ensures.room (IsWritten-same t.potentials.table) inv.idle (IsWritten-same t.cut) inv.scratch_in;
+          c.pop-flow.ensures.room (IsWritten-same t.potentials.table) inv.idle (IsWritten-same t.cut) (ap (λ (v : ScratchView). length v.potentials) c.note_all.ensures.same ∙ inv.scratch_in);
       balance_is = balance;
       told = λ none. cc;
+      held = held_dropped t.graph.rows t.flow.whole t.scratch.held c.note_all.new.self.held c.note_all.ensures.held inv.held c.pop_arc-row.new.self.rows c.pop-flow.new.self.whole last c.pop_arc-row.result c.pop_arc-row.ensures.rows
+          (c.pop-flow.ensures.whole ∙ ap (λ (n : ℕ). take n t.flow.whole) (omega (arith, entries_less, inv.flow_in, one_less))) (omega (arith, many, one_less)) c.note_all.ensures.noted;
       log_fits = inv.log_fits;
       before_is = tt;
     }

@@ -1,4 +1,5 @@
 use Rattle.std.proofs.Common.{add-one, ◌≡◌, ◌∙◌, ◌+◌, ℕ, suc, ℤ, arith, pos, false, List, map, drop, length, replicate, ap, sym, subst}
+use Rattle.std.proofs.lemmas.Bool.{true≢false}
 use Rattle.std.proofs.lemmas.Int.{ints}
 use Rattle.std.proofs.lemmas.List.{length-map, length-replicate}
 use Rattle.network.specs.Flow.{IsCertifiedFlow}
@@ -39,6 +40,7 @@ invariant_of-result c =
       };
       balance_is = c.in_ok-flow.ensures.balance;
       told = λ none. cc;
+      held = λ found. absurd (true≢false (sym nodes.lost ∙ found));
       log_fits = omega (arith, c.in_ok-log.ensures.capacity);
       before_is = tt;
     }

@@ -6,7 +6,9 @@ use Rattle.dimacs_text.specs.declared.problem.ArcRow.{ArcRow}
 use Rattle.network.specs.Instance.{Instance}
 use Rattle.flow_solver.specs.TablesView.{TablesView}
 use Rattle.flow_solver.proofs.InstanceLemmas.{rows_counted}
+use Rattle.augmentation.specs.ScratchView.{ScratchView}
 use Rattle.flow_solver.proofs.CarryLemmas.{balance_put}
+use Rattle.flow_solver.proofs.HeldTables.{held_put}
 use Rattle.tracked.proofs.TrackedLemmas.{IsWritten-same}
 use Rattle.flow_solver.proofs.TablesViewLemmas.{fit_again}
 use Rattle.flow_solver.proofs.tables.Tables.put_last.Goals as goal
@@ -21,6 +23,7 @@ invariant_of-self c =
     let many_whole = ap (λ (xs : List ℤ). length xs) c.push.ensures.whole ∙ length-append t.flow.whole _ in
     let one_more = ap (λ (r : List ArcRow). length r) c.push_arc.ensures.rows ∙ length-append t.graph.rows _ in
     let now = record t.balance { excess = c.carry_over.new.excess; cost = to_z w128 (of_z w128 c.reprice-self-inside.result) } in
+    let added = ap (λ (r : List ArcRow). length r) c.rows-added.ensures in
     let flow = to_z-of_z w64 c.args.flow (search rules) in
     let cost = to_z-of_z w128 c.reprice-self-inside.result (record { sfits = c.reprice-self-inside.type_inv })
     ∙ (rw (to_z-of_z w128 t.balance.cost (search rules), flow, to_z-of_z w64 c.args.row.cost (search rules)) at c.reprice-self-inside.ensures) in
@@ -28,12 +31,13 @@ invariant_of-self c =
     let balance = balance_put I J t.graph.rows c.push_arc.new.self.rows t.flow c.push.new.self t.balance now c.args.row c.args.flow c.push_arc.ensures.net c.push_arc.ensures.rows
     inv.flow_in inv.flow_whole (rw flow at c.push.ensures.entries) (rw flow at c.push.ensures.whole) carried cost inv.balance_is in
     record {
-      fit = fit_again t.graph c.push_arc.new.self t.flow c.push.new.self t.potentials.table t.potentials.table t.cut t.cut t.scratch t.scratch inv.fit
+      fit = fit_again t.graph c.push_arc.new.self t.flow c.push.new.self t.potentials.table t.potentials.table t.cut t.cut t.scratch _ inv.fit
           (ap (λ (K : Instance). K.nodes) c.push_arc.ensures.net) (ap (λ (K : Instance). K.room) c.push_arc.ensures.net) c.push_arc.ensures.graph
           (omega (arith, many, inv.flow_in, one_more)) (omega (arith, many_whole, inv.flow_whole, one_more))
-          c.push.ensures.room (IsWritten-same t.potentials.table) inv.idle (IsWritten-same t.cut) inv.scratch_in;
+          c.push.ensures.room (IsWritten-same t.potentials.table) inv.idle (IsWritten-same t.cut) (ap (λ (v : ScratchView). length v.potentials) c.note_all.ensures.same ∙ inv.scratch_in);
       balance_is = balance;
       told = λ none. cc;
+      held = held_put t.graph.rows t.flow.whole t.scratch.held c.note_all.new.self.held c.note_all.ensures.held inv.held c.push_arc.new.self.rows c.push.new.self.whole (length c.rows-added.result.now) c.args.row c.args.flow c.push_arc.ensures.rows (rw flow at c.push.ensures.whole) inv.flow_whole added c.note_all.ensures.noted;
       log_fits = inv.log_fits;
       before_is = tt;
     }

@@ -92,6 +92,7 @@ invariant_of-self c =
           inv.fit refl refl inv.graph refl call.ensures.flow_written call.ensures.potentials_written (call.ensures.ready.in_range.at_least 0, call.ensures.ready.in_range.at_most_0 0) call.ensures.cut_written (call.ensures.scratch_in ∙ excess_in s);
       balance_is = balance;
       told = λ told. call.ensures.greatest;
+      held = call.ensures.held;
       log_fits = inv.log_fits;
       before_is = tt;
     }

@@ -6,6 +6,7 @@ use Rattle.flow_solver.specs.Balance.{IsWrappedCost}
 use Rattle.augmentation.specs.Nodes.{IsIdleEntry}
 use Rattle.augmentation.specs.ScratchView.{ScratchView}
 use Rattle.flow_solver.proofs.CarryLemmas.{balance_kept}
+use Rattle.flow_solver.proofs.HeldTables.{held_kept}
 use Rattle.flow_solver.proofs.tables.Tables.snapshot.Goals as goal
 
 pub invariant_of-self : goal.invariant_of-self
@@ -25,10 +26,11 @@ invariant_of-self c =
         idle = subst IsIdleEntry (sym c.snapshot-2.ensures.entries) inv.idle;
         kept_idle = subst IsIdleEntry (sym c.snapshot-2.ensures.kept) inv.idle;
         cut_in = record { entries_in = rw c.snapshot-3.ensures.entries inv.cut_in.entries_in; kept_in = rw c.snapshot-3.ensures.kept inv.cut_in.entries_in };
-        scratch_in = ap (λ (v : ScratchView). length v.potentials) c.note_all.ensures ∙ inv.scratch_in;
+        scratch_in = ap (λ (v : ScratchView). length v.potentials) c.note_all.ensures.same ∙ inv.scratch_in;
       };
       balance_is = balance_kept t.graph.net t.graph.rows t.flow c.snapshot.new.self t.balance _ c.snapshot.ensures.entries c.snapshot.ensures.whole refl cost inv.balance_is;
       told = λ stood. rw (c.snapshot-2.ensures.entries, c.snapshot.ensures.entries) (inv.told stood);
+      held = rw c.snapshot.ensures.whole (held_kept t.graph.rows t.flow.whole t.scratch.held c.note_all.new.self.held c.note_all.ensures.held inv.held c.places-changed.result.now t.flow.entries inv.flow_whole c.places-changed.ensures.all_named c.note_all.ensures.noted);
       log_fits = omega (arith, inv.log_fits);
       before_is = tt;
     }

@@ -44,6 +44,7 @@ invariant_of-self c =
       fit = fit_written t.graph t.graph t.flow c.exchange.new.self t.potentials.table t.potentials.table t.cut t.cut t.scratch t.scratch inv.fit refl refl inv.graph refl c.exchange.ensures.written (IsWritten-same t.potentials.table) inv.idle (IsWritten-same t.cut) inv.scratch_in;
       balance_is = balance;
       told = λ none. cc;
+      held = rw c.exchange.ensures.written.whole inv.held;
       log_fits = inv.log_fits;
       before_is = tt;
     }

@@ -13,6 +13,7 @@ invariant_of-self c =
       fit = fit_written t.graph t.graph t.flow t.flow t.potentials.table _ t.cut t.cut t.scratch t.scratch inv.fit refl refl inv.graph refl (IsWritten-same t.flow) c.exchange_node.ensures.written (rw same inv.idle) (IsWritten-same t.cut) inv.scratch_in;
       balance_is = inv.balance_is;
       told = λ none. cc;
+      held = inv.held;
       log_fits = inv.log_fits;
       before_is = tt;
     }

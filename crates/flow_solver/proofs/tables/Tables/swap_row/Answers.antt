@@ -6,7 +6,8 @@ use Rattle.network.specs.Instance.{Instance}
 use Rattle.flow_solver.specs.TablesView.{TablesView}
 use Rattle.residual_graph.specs.Residual.{row_at, number_at}
 use Rattle.augmentation.specs.ScratchView.{ScratchView}
-use Rattle.flow_solver.proofs.CarryLemmas.{balance_swapped, place_is}
+use Rattle.flow_solver.proofs.CarryLemmas.{balance_swapped, place_is, rows_swapped}
+use Rattle.flow_solver.proofs.HeldTables.{held_swapped}
 use Rattle.flow_solver.proofs.InstanceLemmas.{few_rows}
 use Rattle.flow_solver.proofs.TablesViewLemmas.{fit_written}
 use Rattle.tracked.proofs.TrackedLemmas.{IsWritten-same}
@@ -31,14 +32,16 @@ invariant_of-self c =
     let factor = to_z-of_z w64 (number_at c.whole.result.now place) (search rules) ∙ ap (λ (x : List ℤ). number_at x place) c.whole.ensures.value in
     let cost = to_z-of_z w128 c.reprice-self-inside.result (record { sfits = c.reprice-self-inside.type_inv })
     ∙ (rw (to_z-of_z w128 t.balance.cost (search rules), to_z-of_z w64 row.cost (search rules), price, factor) at c.reprice-self-inside.ensures) in
+    let rows_are = rows_swapped I J t.graph.rows c.set_row.new.self.rows c.args.k place row there.0 at inv.graph.rows.rows_are c.set_row.ensures.graph.rows.rows_are net in
     let now = record t.balance { cost = to_z w128 (of_z w128 c.reprice-self-inside.result) } in
     let balance = balance_swapped I J t.graph.rows c.set_row.new.self.rows t.flow t.balance now c.args.k place row there.0 at inv.graph.rows.rows_are c.set_row.ensures.graph.rows.rows_are net tail head
     inv.flow_in inv.flow_whole refl cost inv.balance_is in
     record {
       fit = fit_written t.graph c.set_row.new.self t.flow t.flow t.potentials.table t.potentials.table t.cut t.cut t.scratch _ inv.fit (ap (λ (K : Instance). K.nodes) net) (ap (λ (K : Instance). K.room) net) c.set_row.ensures.graph c.set_row.ensures.one_a_row
-          (IsWritten-same t.flow) (IsWritten-same t.potentials.table) inv.idle (IsWritten-same t.cut) (ap (λ (v : ScratchView). length v.potentials) c.note_all.ensures ∙ inv.scratch_in);
+          (IsWritten-same t.flow) (IsWritten-same t.potentials.table) inv.idle (IsWritten-same t.cut) (ap (λ (v : ScratchView). length v.potentials) c.note_all.ensures.same ∙ inv.scratch_in);
       balance_is = balance;
       told = λ none. cc;
+      held = held_swapped t.graph.rows t.flow.whole t.scratch.held c.note_all.new.self.held c.note_all.ensures.held inv.held c.set_row.new.self.rows place row rows_are c.note_all.ensures.noted;
       log_fits = inv.log_fits;
       before_is = tt;
     }

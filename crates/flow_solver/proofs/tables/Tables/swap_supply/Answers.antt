@@ -33,6 +33,7 @@ invariant_of-self c =
           (ap length c.set_supply.ensures.rows) (IsWritten-same t.flow) (IsWritten-same t.potentials.table) inv.idle (IsWritten-same t.cut) inv.scratch_in;
       balance_is = balance;
       told = λ stood. rw net (greatest_supplied I c.args.id c.args.value.now (at_node (drop 1 t.potentials.table.entries)) t.flow.entries (inv.told stood));
+      held = rw c.set_supply.ensures.rows inv.held;
       log_fits = inv.log_fits;
       before_is = tt;
     }

@@ -1,0 +1,228 @@
+//! Labels that were tested under an earlier flow: whether they certify the present one, and are the greatest that do. Only
+//! what changed since is looked at.
+
+ghost use Rattle.std.specs.Prelude.{◌≡◌, ◌<◌, ℕ, IsTrue, length, true};
+ghost use Rattle.residual_graph.specs.Graph.{HasEntries};
+ghost use Rattle.residual_graph.specs.Residual.{IsPseudoflow, end_at, number_at};
+ghost use Rattle.residual_graph.specs.declared.residual.Way.{Way};
+ghost use Rattle.shortest_paths.specs.Predecessor.{IsTracedAt, arc_to};
+ghost use Rattle.augmentation.specs.Certificate.{AreInRange};
+ghost use Rattle.tracked.specs.Marks.{in_set};
+ghost use Rattle.augmentation.specs.Held.{AllMarked, AreTestedIn, AreTestedOn, HangsWellOn, HoldsAlongOn, HoldsAtOn, IsHeldIn, IsInRangeAt, IsTracedOn};
+
+use crate::certificate::{FLOOR, certifies, keeps_arc};
+use residual_graph::{Graph, Walk, Way};
+use shortest_paths::{Predecessor, Tree, are_traced, is_traced};
+use tracked::{Touched, Tracked};
+
+/// Labels with predecessors, and the flow that they are to certify.
+#[derive(Clone, Copy)]
+struct Labelled<'a> {
+    graph: &'a Graph,
+    flow: &'a [i64],
+    labels: &'a [i64],
+    predecessors: &'a [Predecessor],
+}
+
+/// Whether the labels of these nodes are in the range with which a run of pushes begins.
+fn are_in_range_at(labels: &[i64], nodes: &Touched) -> bool
+    ensures { IsTrue result → AllMarked nodes.now (length labels.now) (IsInRangeAt labels.now) }
+{
+    for node in nodes.places() {
+        let v = *node as usize;
+        if v >= labels.len() {
+            continue;
+        }
+        if labels[v] > 0 || labels[v] < FLOOR {
+            return false;
+        }
+    }
+    true
+}
+
+/// Whether the node to which the residual arc in this way along an arc leads is traced, if it hangs on that arc.
+fn hangs_well(on: Labelled<'_>, k: usize, way: Way) -> bool
+    requires arc { k < length on.graph.now.rows }
+    requires flow { IsPseudoflow (length on.labels.now) on.graph.now.rows on.flow.now }
+    requires labels { AreInRange on.labels.now }
+    requires same_length { length on.predecessors.now ≡ length on.labels.now }
+    ensures { IsTrue result → HangsWellOn on.entry k way }
+{
+    let v = on.graph.end(k, way);
+    on.predecessors[v].end as usize / 2 != k
+        || is_traced(on.graph, on.flow, on.labels, on.predecessors, v)
+}
+
+/// Whether the labels certify an arc, and each node that hangs on it is traced.
+fn holds_along(on: Labelled<'_>, k: usize) -> bool
+    requires arc { k < length on.graph.now.rows }
+    requires flow { IsPseudoflow (length on.labels.now) on.graph.now.rows on.flow.now }
+    requires labels { AreInRange on.labels.now }
+    requires same_length { length on.predecessors.now ≡ length on.labels.now }
+    ensures { IsTrue result → HoldsAlongOn on.entry k }
+{
+    keeps_arc(on.graph, on.flow, on.labels, k)
+        && hangs_well(on, k, Way::Forward)
+        && hangs_well(on, k, Way::Backward)
+}
+
+/// Whether this is so of these arcs.
+fn hold_along_all(on: Labelled<'_>, arcs: &Touched) -> bool
+    requires flow { IsPseudoflow (length on.labels.now) on.graph.now.rows on.flow.now }
+    requires labels { AreInRange on.labels.now }
+    requires same_length { length on.predecessors.now ≡ length on.labels.now }
+    ensures { IsTrue result → AllMarked arcs.now (length on.entry.graph.now.rows) (HoldsAlongOn on.entry) }
+{
+    for place in arcs.places() {
+        let k = *place as usize;
+        if k >= on.flow.len() {
+            continue;
+        }
+        if !holds_along(on, k) {
+            return false;
+        }
+    }
+    true
+}
+
+/// Whether it is so of each arc at a node, and the node is traced.
+fn holds_at(on: Labelled<'_>, node: u32) -> bool
+    requires graph { HasEntries (length on.labels.now) on.graph.now }
+    requires flow { IsPseudoflow (length on.labels.now) on.graph.now.rows on.flow.now }
+    requires labels { AreInRange on.labels.now }
+    requires same_length { length on.predecessors.now ≡ length on.labels.now }
+    requires node_in { node < length on.labels.now }
+    ensures { IsTrue result → HoldsAtOn on.entry node }
+{
+    if !is_traced(on.graph, on.flow, on.labels, on.predecessors, node as usize) {
+        return false;
+    }
+    // The quick walk guesses the ends ahead of the list, so that no end has to wait for the one before it to be read.
+    let mut guesses = Walk::at(on.graph, node);
+    let mut current = on.graph.first_end(node);
+    let mut is_right = true;
+    while let Some(guess) = guesses.next() {
+        is_right = is_right & (current == Some(guess.number));
+        if !holds_along(on, guess.number as usize / 2) {
+            return false;
+        }
+        current = on.graph.next_end(guess.number);
+    }
+    if !is_right {
+        current = on.graph.first_end(node);
+    }
+    while let Some(end) = current {
+        if !holds_along(on, end as usize / 2) {
+            return false;
+        }
+        current = on.graph.next_end(end);
+    }
+    true
+}
+
+/// Whether it is so at each of these nodes.
+fn hold_at_all(on: Labelled<'_>, nodes: &Touched) -> bool
+    requires graph { HasEntries (length on.labels.now) on.graph.now }
+    requires flow { IsPseudoflow (length on.labels.now) on.graph.now.rows on.flow.now }
+    requires labels { AreInRange on.labels.now }
+    requires same_length { length on.predecessors.now ≡ length on.labels.now }
+    ensures { IsTrue result → AllMarked nodes.now (length on.entry.labels.now) (HoldsAtOn on.entry) }
+{
+    for node in nodes.places() {
+        let v = *node as usize;
+        if v >= on.labels.len() {
+            continue;
+        }
+        if !holds_at(on, *node) {
+            return false;
+        }
+    }
+    true
+}
+
+/// Whether each of these nodes is traced.
+fn are_traced_at(on: Labelled<'_>, nodes: &Touched) -> bool
+    requires flow { IsPseudoflow (length on.labels.now) on.graph.now.rows on.flow.now }
+    requires labels { AreInRange on.labels.now }
+    requires same_length { length on.predecessors.now ≡ length on.labels.now }
+    ensures { IsTrue result → AllMarked nodes.now (length on.entry.labels.now) (IsTracedOn on.entry) }
+{
+    for node in nodes.places() {
+        let v = *node as usize;
+        if v >= on.labels.len() {
+            continue;
+        }
+        if !is_traced(on.graph, on.flow, on.labels, on.predecessors, v) {
+            return false;
+        }
+    }
+    true
+}
+
+/// Whether each of these nodes is one of the others.
+fn are_among(nodes: &Touched, others: &Touched) -> bool
+    ensures { IsTrue result → (v : ℕ) → in_set nodes.now v ≡ true → in_set others.now v ≡ true }
+{
+    for node in nodes.places() {
+        let v = *node as usize;
+        if v >= others.size() || !others.is_noted(v) {
+            return false;
+        }
+    }
+    true
+}
+
+/// Whether all holds along noted and written arcs, at nodes beside the noted ones, and where nodes were hung anew.
+fn hold_there(
+    on: Labelled<'_>,
+    noted: &Touched,
+    beside: &Touched,
+    written: &Touched,
+    rehung: &Touched,
+) -> bool
+    requires graph { HasEntries (length on.labels.now) on.graph.now }
+    requires flow { IsPseudoflow (length on.labels.now) on.graph.now.rows on.flow.now }
+    requires labels { AreInRange on.labels.now }
+    requires same_length { length on.predecessors.now ≡ length on.labels.now }
+    ensures { IsTrue result → AreTestedOn on.entry noted.now beside.now written.now rehung.now }
+{
+    if !hold_along_all(on, noted) || !hold_along_all(on, written) || !are_traced_at(on, beside) {
+        return false;
+    }
+    hold_at_all(on, rehung)
+}
+
+/// Whether labels that are held certify the flow, and are the greatest that do.
+pub(crate) fn holds(graph: &Graph, flow: &Tracked<i64>, tree: &Tree) -> bool
+    requires graph { HasEntries (length tree.now.labels) graph.now }
+    requires flow { IsPseudoflow (length tree.now.labels) graph.now.rows flow.now.entries }
+    requires held { IsHeldIn graph.now.rows flow.now.whole tree.now.held }
+    ensures { IsTrue result → AreTestedIn graph.now.rows flow.now.entries tree.now }
+{
+    if tree.is_lost() {
+        return false;
+    }
+    let labels = tree.labels();
+    let relabelled = tree.relabelled();
+    let rehung = tree.rehung();
+    // Where a label changed, so did what is known of the node's predecessor.
+    if !are_in_range_at(labels, relabelled) || !are_among(relabelled, rehung) {
+        return false;
+    }
+    let on = Labelled {
+        graph,
+        flow: flow.entries(),
+        labels,
+        predecessors: tree.predecessors(),
+    };
+    hold_there(on, tree.noted(), tree.beside(), flow.written(), rehung)
+}
+
+/// Whether labels certify the flow, and are the greatest that do: all are looked at.
+pub(crate) fn holds_whole(graph: &Graph, flow: &[i64], tree: &Tree) -> bool
+    requires flow { IsPseudoflow (length tree.now.labels) graph.now.rows flow.now }
+    ensures { IsTrue result → AreTestedIn graph.now.rows flow.now tree.now }
+{
+    certifies(graph, flow, tree.labels())
+        && are_traced(graph, flow, tree.labels(), tree.predecessors())
+}
