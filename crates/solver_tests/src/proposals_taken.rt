@@ -355,18 +355,34 @@ fn is_best(graph: &Graph, flow: &[i64], potentials: &[i64], worth: i128) -> bool
     check_best(graph.network(), &flow[first..], &potentials[1..], worth)
 }
 
-/// This comes of a proposal, or where there is none of the solver's own.
-fn expect(
+/// The flow and the excesses with which a run begins; its potentials are set to 0.
+fn start_of(
     rt: &impl Abort,
     alloc: Global,
     run: &mut Run,
-    wanted: Option<Wanted>,
-    outcome: &Outcome,
-) -> Result<(), AllocError> {
-    let mut flow = tracked_of(rt, alloc, start_flow(alloc, run.graph.rows())?)?;
-    let mut excess = excess_of(rt, alloc, run.balance)?;
+) -> Result<(Tracked<i64>, Excess), AllocError> {
     let zeros = vec![in alloc; 0; run.scratch.potentials().len()]?;
     run.scratch.take_potentials(&zeros);
+    drop(zeros);
+    let flow = tracked_of(rt, alloc, start_flow(alloc, run.graph.rows())?)?;
+    match excess_of(rt, alloc, run.balance) {
+        Ok(excess) => Ok((flow, excess)),
+        Err(refused) => {
+            drop(flow);
+            Err(refused)
+        }
+    }
+}
+
+/// This comes of a proposal, or where there is none of the solver's own, from such a start.
+fn expect_from(
+    rt: &impl Abort,
+    run: &mut Run,
+    mut flow: Tracked<i64>,
+    mut excess: Excess,
+    wanted: Option<Wanted>,
+    outcome: &Outcome,
+) {
     let pushes = push_from(
         rt,
         &run.graph,
@@ -382,7 +398,28 @@ fn expect(
         let best = is_best(&run.graph, flow.entries(), run.scratch.potentials(), worth);
         assert!(rt; best);
     }
-    Ok(())
+    drop(flow);
+    drop(excess);
+}
+
+/// This comes of a proposal, or where there is none of the solver's own.
+fn expect(
+    rt: &impl Abort,
+    alloc: Global,
+    run: &mut Run,
+    wanted: Option<Wanted>,
+    outcome: &Outcome,
+) -> Result<(), AllocError> {
+    match start_of(rt, alloc, run) {
+        Ok((flow, excess)) => {
+            expect_from(rt, run, flow, excess, wanted, outcome);
+            Ok(())
+        }
+        Err(refused) => {
+            drop(wanted);
+            Err(refused)
+        }
+    }
 }
 
 /// This comes of a proposal that is written down, or where there is none of the solver's own.
