@@ -1,8 +1,7 @@
 //! What stood in a table before it was written.
 
-ghost use Rattle.std.specs.Prelude.{◌≡◌, ℤ, ◌<◌, ◌≤◌, List, length, true, IfOk};
+ghost use Rattle.std.specs.Prelude.{◌≡◌, ℤ, ◌<◌, ◌≤◌, List, length, IfOk};
 ghost use Rattle.residual_graph.specs.Limits.{row_limit};
-ghost use Rattle.tracked.specs.Marks.{in_set};
 
 use crate::touched::Touched;
 use std::alloc::{AllocError, Global};
@@ -16,7 +15,7 @@ pub struct Journal {
     pub written: Touched,
 }
 
-ghost use Rattle.tracked.specs.Journal.{IsJournal, IsSince};
+ghost use Rattle.tracked.specs.Journal.{HasNoted, IsCleared, IsJournal, IsSince};
 
 impl Journal {
     /// A journal of a table that has at most so many entries.
@@ -36,8 +35,7 @@ impl Journal {
     /// Begins with a table of so many entries, for which there is room.
     pub fn clear(&mut self)
         requires journal { IsJournal self.old }
-        ensures journal { IsJournal self.new }
-        ensures since { (xs : List ℤ) → length xs ≤ length self.old.before.items → IsSince self.new xs xs }
+        ensures { IsCleared self.old self.new }
     {
         self.written.clear();
     }
@@ -47,10 +45,7 @@ impl Journal {
         requires journal { IsJournal self.old }
         requires place { place < length table.now }
         requires room { length table.now ≤ length self.old.before.items }
-        ensures journal { IsJournal self.new }
-        ensures room { length self.new.before.items ≡ length self.old.before.items }
-        ensures noted { in_set self.new.written place ≡ true }
-        ensures since { (xs : List ℤ) → IsSince self.old xs table.now → IsSince self.new xs table.now }
+        ensures { HasNoted self.old self.new table.now place }
     {
         if !self.written.is_noted(place) {
             self.before[place] = table[place];

@@ -1,9 +1,8 @@
 //! A table beside what stood in it before.
 
-ghost use Rattle.std.specs.Prelude.{◌≡◌, ◌≢◌, ℕ, false, ◌<◌, ◌≤◌, ◌+◌, ◌++◌, ◌∷◌, [], AllPairs, length, take, slice_index_or, slice_set, IfOk, vec_capacity};
-ghost use Rattle.tracked.specs.Marks.{in_set};
-ghost use Rattle.tracked.specs.Touched.{AgreeAt, NameChanges};
-ghost use Rattle.tracked.specs.Tracked.{IsWritten};
+ghost use Rattle.std.specs.Prelude.{◌≡◌, ◌<◌, ◌≤◌, length, slice_index_or, slice_set, IfOk, vec_capacity};
+ghost use Rattle.tracked.specs.Touched.{NameChanges};
+ghost use Rattle.tracked.specs.Tracked.{IsAppended, IsBroughtBack, IsFresh, IsTakenOff, IsWritten, MarkAllChanges, NameAllChanges};
 ghost use Rattle.residual_graph.specs.Limits.{row_limit};
 
 use crate::touched::Touched;
@@ -49,10 +48,7 @@ impl<T: Copy> Tracked<T> {
         requires fits { length entries.items ≤ room }
         requires few { room ≤ row_limit }
         requires room { room ≤ vec_capacity entries }
-        ensures entries { IfOk result (λ l. l.entries ≡ entries.items) }
-        ensures kept { IfOk result (λ l. l.kept ≡ entries.items) }
-        ensures whole { IfOk result (λ l. l.whole ≡ entries.items) }
-        ensures room { IfOk result (λ l. l.room ≡ room) }
+        ensures { IfOk result (IsFresh entries.items room) }
     {
         let mut whole = Vec::with_capacity(alloc, room)?;
         whole.extend_from_slice(&entries)?;
@@ -102,20 +98,14 @@ impl<T: Copy> Tracked<T> {
     /// Places, each once and in no order, which name each one at which the entries differ from what was kept, and maybe
     /// others: some may lie past the end.
     pub fn places(&self) -> &[u32]
-        ensures named { NameChanges 0 result.now self.now.kept self.now.entries }
-        ensures all_named { NameChanges 0 result.now self.now.whole self.now.entries }
-        ensures as_many { length self.now.whole ≡ length self.now.entries }
-        ensures apart { AllPairs ◌≢◌ result.now }
+        ensures { NameAllChanges result.now self.now }
     {
         self.touched.places()
     }
 
     /// Where the table may have been written since the snapshot.
     pub fn written(&self) -> &Touched
-        ensures elsewhere { (k : ℕ) → in_set result.now k ≡ false → AgreeAt self.now.whole self.now.entries k }
-        ensures none_added { length self.now.kept ≡ length self.now.entries → self.now.whole ≡ self.now.kept }
-        ensures room { length result.now ≡ self.now.room }
-        ensures fits { length self.now.entries ≤ self.now.room }
+        ensures { MarkAllChanges result.now self.now }
     {
         &self.touched
     }
@@ -144,10 +134,7 @@ impl<T: Copy> Tracked<T> {
 
     /// Keeps what stands in the table.
     pub fn snapshot(&mut self)
-        ensures entries { self.new.entries ≡ self.old.entries }
-        ensures kept { self.new.kept ≡ self.old.entries }
-        ensures whole { self.new.whole ≡ self.old.entries }
-        ensures room { self.new.room ≡ self.old.room }
+        ensures { IsFresh self.old.entries self.old.room self.new }
     {
         catch_up(&mut self.whole, &self.entries, self.touched.places());
         self.size = self.entries.len();
@@ -157,11 +144,7 @@ impl<T: Copy> Tracked<T> {
     /// Brings back what was kept.
     pub fn bring_back(&mut self)
         requires as_many { length self.old.kept ≡ length self.old.entries }
-        ensures none_added { self.old.whole ≡ self.old.kept }
-        ensures entries { self.new.entries ≡ self.old.kept }
-        ensures kept { self.new.kept ≡ self.old.kept }
-        ensures whole { self.new.whole ≡ self.old.whole }
-        ensures room { self.new.room ≡ self.old.room }
+        ensures { IsBroughtBack self.old self.new }
     {
         catch_up(&mut self.entries, &self.whole, self.touched.places());
         self.touched.clear();
@@ -170,10 +153,7 @@ impl<T: Copy> Tracked<T> {
     /// Adds an entry at the end.
     pub fn push(&mut self, value: T)
         requires room { length self.old.entries < self.old.room }
-        ensures entries { self.new.entries ≡ self.old.entries ++ value ∷ [] }
-        ensures kept { self.new.kept ≡ self.old.kept }
-        ensures whole { self.new.whole ≡ self.old.whole ++ value ∷ [] }
-        ensures room { self.new.room ≡ self.old.room }
+        ensures { IsAppended value self.old self.new }
     {
         let Ok(()) = self.entries.push(value) else {
             unreachable!()
@@ -186,10 +166,7 @@ impl<T: Copy> Tracked<T> {
     /// Takes the last entry off. What was kept stays, unless it was the last entry of that.
     pub fn pop(&mut self) -> T
         requires some { 0 < length self.old.entries }
-        ensures entries { self.old.entries ≡ self.new.entries ++ result ∷ [] }
-        ensures kept { length self.old.kept < length self.old.entries → self.new.kept ≡ self.old.kept }
-        ensures whole { self.new.whole ≡ take (length self.new.entries) self.old.whole }
-        ensures room { self.new.room ≡ self.old.room }
+        ensures { IsTakenOff result self.old self.new }
     {
         let Some(last) = self.entries.pop() else {
             unreachable!()
