@@ -12,18 +12,29 @@ use std::marker::Model;
 /// How often all ends are read before a run of pushes gives up.
 #[derive(Clone, Copy)]
 pub struct Readings {
-    /// While many nodes are out of balance: relaxation serves these better.
+    /// Where many nodes are out of balance, before the first of them is in balance.
+    pub of_first: u64,
+    /// Besides, for all of many nodes together: where they take longer, relaxation serves them better.
     pub of_many: u64,
-    /// While few nodes are.
+    /// While few nodes are out of balance.
     pub of_few: u64,
 }
 
 impl Readings {
     /// What served best in sessions.
     pub const USUAL: Readings = Readings {
-        of_many: 2,
+        of_first: 1,
+        of_many: 12,
         of_few: 200,
     };
+
+    /// How many ends are read at most, of so many, until one node more than these of all is in balance.
+    fn most(self, ends: u64, passed: usize, roots: usize) -> u64 {
+        let each = self.of_many.saturating_mul(ends) / (roots as u64).max(1);
+        self.of_first
+            .saturating_mul(ends)
+            .saturating_add(each.saturating_mul(passed as u64))
+    }
 }
 
 /// More nodes than these are many.
@@ -43,14 +54,15 @@ pub enum Halt {
     Spent,
 }
 
-/// A search from all nodes in excess and from all in deficit at once, and the path that it finds. It is seen as the number
+/// A search from nodes in excess and from nodes in deficit at once, and the path that it finds. It is seen as the number
 /// of entries that a table of nodes has: 0 before the first load, so that a run without one does not touch its room.
 #[derive(Drop)]
 pub struct Between {
     ahead: Front,
     behind: Front,
-    /// The nodes that were out of balance at the start.
-    roots: Nodes,
+    /// The nodes that were in excess at the start, and those in deficit.
+    sources: Nodes,
+    sinks: Nodes,
     /// The places of the arcs of the path, each as the front sees it that came by it.
     path_ahead: Places,
     path_behind: Places,
@@ -64,7 +76,11 @@ impl Model for Between {
 
     ghost view = { λ b. b.ahead };
 
-    ghost invariant = { λ b. (b.behind ≡ b.ahead) × (b.roots ≡ b.ahead) × (b.free ≡ b.ahead) × (b.ahead < 2 ^ 31) };
+    ghost invariant = { λ b. (b.behind ≡ b.ahead)
+        × (b.sources ≡ b.ahead)
+        × (b.sinks ≡ b.ahead)
+        × (b.free ≡ b.ahead)
+        × (b.ahead < 2 ^ 31) };
 }
 
 impl Between {
@@ -77,17 +93,21 @@ impl Between {
         requires arcs { arcs < 2 ^ 31 }
     {
         let fronts = both(Front::new(alloc, entries), Front::new(alloc, entries));
-        let roots = Nodes::reserve(alloc, entries);
+        let roots = both(
+            Nodes::reserve(alloc, entries),
+            Nodes::reserve(alloc, entries),
+        );
         let paths = both(Places::new(alloc, entries), Places::new(alloc, entries));
         let free = FreeEnds::new(alloc, entries, arcs);
-        let (((ahead, behind), roots), ((path_ahead, path_behind), free)) = both(
+        let (((ahead, behind), (sources, sinks)), ((path_ahead, path_behind), free)) = both(
             both(fronts, roots),
             both(paths, free),
         )?;
         Ok(Between {
             ahead,
             behind,
-            roots,
+            sources,
+            sinks,
             path_ahead,
             path_behind,
             free,
@@ -117,13 +137,15 @@ impl Between {
         ensures { IsTrue result → self.new ≡ entries }
     {
         if self.ahead.open(entries) && self.behind.open(entries) && self.free.open(entries) {
-            self.roots.begin(entries);
+            self.sources.begin(entries);
+            self.sinks.begin(entries);
             return true;
         }
         self.ahead.close();
         self.behind.close();
         self.free.close();
-        self.roots.begin(0);
+        self.sources.begin(0);
+        self.sinks.begin(0);
         false
     }
 
@@ -151,6 +173,9 @@ impl Between {
         self.list_roots(proposal);
         self.ahead.forget_margins();
         self.behind.forget_margins();
+        if self.roots() > MANY && !self.push_in_pairs(proposal, noted, readings) {
+            return Halt::Spent;
+        }
         let ends = proposal.ends() as u64;
         let mut reads: u64 = 0;
         for _ in 0..u64::MAX {
@@ -158,7 +183,7 @@ impl Between {
                 return Halt::Met;
             }
             let most = if self.begun() > MANY {
-                readings.of_many
+                readings.of_first
             } else {
                 readings.of_few
             };
@@ -169,20 +194,85 @@ impl Between {
                 return Halt::Apart;
             };
             self.push(proposal, noted, meeting);
-            reads = reads
-                .saturating_add(self.ahead.reads())
-                .saturating_add(self.behind.reads());
+            reads = reads.saturating_add(self.reads());
         }
         Halt::Spent
     }
 
+    /// Pushes from one node in excess to one in deficit, until either is in balance, and then from or to the next one; says
+    /// whether that did not take too long. So a search sees little, as after a single edit: one that begins at all nodes sees
+    /// more, since it has to come from each as far as the shortest path is long.
+    fn push_in_pairs(
+        &mut self,
+        proposal: &mut Proposal,
+        noted: &mut Noted,
+        readings: Readings,
+    ) -> bool
+        requires { proposal.old ≡ self.old }
+        ensures kept { self.new ≡ self.old }
+        ensures proposal { proposal.new ≡ proposal.old }
+    {
+        let ends = proposal.ends() as u64;
+        let roots = self.roots();
+        let mut reads: u64 = 0;
+        let mut from: usize = 0;
+        let mut to: usize = 0;
+        for _ in 0..u64::MAX {
+            let passed = from.saturating_add(to);
+            if reads > readings.most(ends, passed, roots) {
+                return false;
+            }
+            let (Some(s), Some(t)) = (self.sources.at(from), self.sinks.at(to)) else {
+                break;
+            };
+            let joined = self.push_pair(proposal, noted, s, t);
+            reads = reads.saturating_add(self.reads());
+            // One that reaches no more nodes, or is reached from no more, is left for others to join.
+            let all_ahead = self.ahead.reach().is_none();
+            if proposal.rest(s) == 0 || !joined && all_ahead {
+                from = from.saturating_add(1);
+            }
+            if proposal.rest(t) == 0 || !joined && !all_ahead {
+                to = to.saturating_add(1);
+            }
+        }
+        true
+    }
+
+    /// Pushes along a shortest path from one node to another, and says whether there is one.
+    fn push_pair(&mut self, proposal: &mut Proposal, noted: &mut Noted, s: usize, t: usize) -> bool
+        requires proposal { proposal.old ≡ self.old }
+        requires s { s < self.old }
+        requires t { t < self.old }
+        ensures kept { self.new ≡ self.old }
+        ensures proposal { proposal.new ≡ proposal.old }
+    {
+        self.ahead.forget();
+        self.behind.forget();
+        self.ahead.begin_at(s);
+        self.behind.begin_at(t);
+        let Some(meeting) = self.search(proposal) else {
+            return false;
+        };
+        self.push(proposal, noted, meeting);
+        true
+    }
+
+    /// How many nodes were out of balance at the start.
+    fn roots(&self) -> usize {
+        let sources = self.sources.listed().len();
+        sources.saturating_add(self.sinks.listed().len())
+    }
+
     /// At how many nodes the searches began.
     fn begun(&self) -> usize {
-        self.ahead
-            .settled()
-            .listed()
-            .len()
-            .saturating_add(self.behind.settled().listed().len())
+        let ahead = self.ahead.settled().listed().len();
+        ahead.saturating_add(self.behind.settled().listed().len())
+    }
+
+    /// How many ends the last search read.
+    fn reads(&self) -> u64 {
+        self.ahead.reads().saturating_add(self.behind.reads())
     }
 
     /// Lists the nodes out of balance.
@@ -190,7 +280,8 @@ impl Between {
         requires { proposal.now ≡ self.old }
         ensures { self.new ≡ self.old }
     {
-        self.roots.clear();
+        self.sources.clear();
+        self.sinks.clear();
         for block in 0..=proposal.entries() / BLOCK {
             let first = block.saturating_mul(BLOCK);
             if !are_balanced(proposal, first) {
@@ -206,18 +297,20 @@ impl Between {
     {
         let end = first.saturating_add(BLOCK).min(proposal.entries());
         for v in first..end {
-            if proposal.rest(v) != 0 {
-                self.add_root(v);
-            }
+            self.list_root(v, proposal.rest(v));
         }
     }
 
-    /// Lists a node.
-    fn add_root(&mut self, v: usize)
+    /// Lists a node at which so much lies, if it is out of balance.
+    fn list_root(&mut self, v: usize, rest: i64)
         requires { v < self.old }
         ensures { self.new ≡ self.old }
     {
-        self.roots.add(v);
+        if rest > 0 {
+            self.sources.add(v);
+        } else if rest < 0 {
+            self.sinks.add(v);
+        }
     }
 
     /// Begins at all nodes in excess and at all in deficit, and says whether there are both.
@@ -227,7 +320,8 @@ impl Between {
     {
         self.ahead.forget();
         self.behind.forget();
-        begin_all(&mut self.ahead, &mut self.behind, &self.roots, proposal);
+        begin_all::<true>(&mut self.ahead, &self.sources, proposal);
+        begin_all::<false>(&mut self.behind, &self.sinks, proposal);
         self.ahead.has_waiting() && self.behind.has_waiting()
     }
 
@@ -303,21 +397,16 @@ fn are_balanced(proposal: &Proposal, first: usize) -> bool {
     any == 0
 }
 
-/// Begins at all these nodes that are in excess or in deficit.
-fn begin_all(ahead: &mut Front, behind: &mut Front, roots: &Nodes, proposal: &Proposal)
-    requires ahead { ahead.old ≡ proposal.now }
-    requires behind { behind.old ≡ proposal.now }
+/// Begins at all these nodes that are in excess still, as a side sees them.
+fn begin_all<const AHEAD: bool>(front: &mut Front, roots: &Nodes, proposal: &Proposal)
+    requires front { front.old ≡ proposal.now }
     requires roots { roots.now ≡ proposal.now }
-    ensures ahead { ahead.new ≡ ahead.old }
-    ensures behind { behind.new ≡ behind.old }
+    ensures { front.new ≡ front.old }
 {
     for v in roots.listed() {
         let v = *v as usize;
-        let rest = proposal.rest(v);
-        if rest > 0 {
-            ahead.begin_at(v);
-        } else if rest < 0 {
-            behind.begin_at(v);
+        if proposal.excess::<AHEAD>(v) > 0 {
+            front.begin_at(v);
         }
     }
 }

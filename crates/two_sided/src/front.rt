@@ -11,6 +11,9 @@ use relaxation::{Nodes, Places, Proposal, both};
 use std::alloc::{AllocError, Global};
 use std::marker::Model;
 
+/// So many free ends of a node are read at a time: the other side may come upon a node of many arcs before all are.
+const SOME_ENDS: usize = 32;
+
 /// What a side knows of a node.
 #[derive(Clone, Copy)]
 pub struct Label {
@@ -105,8 +108,10 @@ pub struct Front {
     settled: Nodes,
     /// The nodes to which a path was found.
     touched: Nodes,
-    /// Of how many settled nodes the free ends were read.
+    /// Of how many settled nodes the free ends were read, but for those that come next of the last one.
     spread: usize,
+    /// The free end that is read next, if there are some left of a node.
+    free_end: u32,
     /// Of how many settled nodes the other ends were read.
     read: usize,
     /// The key of the node that was settled last.
@@ -169,6 +174,7 @@ impl Front {
             settled,
             touched,
             spread: 0,
+            free_end: NO_PLACE,
             read: 0,
             last: 0,
             spent: false,
@@ -236,6 +242,7 @@ impl Front {
         self.settled.clear();
         self.touched.clear();
         self.spread = 0;
+        self.free_end = NO_PLACE;
         self.read = 0;
         self.last = 0;
         self.spent = false;
@@ -273,10 +280,10 @@ impl Front {
         self.reads
     }
 
-    /// Whether a node waits whose free ends were not read.
+    /// Whether a node waits whose free ends were not all read.
     #[inline(always)]
     pub fn has_waiting(&self) -> bool {
-        self.spread < self.settled.listed().len()
+        self.free_end != NO_PLACE || self.spread < self.settled.listed().len()
     }
 
     /// Of how many settled nodes the other ends were not read.
@@ -318,8 +325,8 @@ impl Front {
         requires other { other.now ≡ self.old }
         ensures { self.new ≡ self.old }
     {
-        if let Some(u) = self.take_waiting() {
-            return self.read_free(free, other, u, meeting);
+        if self.take_waiting(free) {
+            return self.read_free(free, other, meeting);
         }
         match self.take_due(free) {
             Some(u) => self.read_others::<AHEAD>(proposal, free, other, u, meeting),
@@ -389,15 +396,34 @@ impl Front {
         self.walked = self.walked.saturating_add(length);
     }
 
-    /// Takes the next settled node whose free ends were not read.
+    /// Whether a node has free ends that were not read: where all of the last one were, it goes on to the next settled node.
     #[inline(always)]
-    fn take_waiting(&mut self) -> Option<usize>
+    fn take_waiting(&mut self, free: &FreeEnds) -> bool
+        requires { free.now ≡ self.old }
+        ensures { self.new ≡ self.old }
+    {
+        if self.free_end != NO_PLACE {
+            return true;
+        }
+        match self.take_settled() {
+            Some(u) => {
+                self.free_end = free.first(u);
+                true
+            }
+            None => false,
+        }
+    }
+
+    /// Takes the next settled node of whose free ends none was read. To take it counts as a read: it takes as long.
+    #[inline(always)]
+    fn take_settled(&mut self) -> Option<usize>
         ensures kept { self.new ≡ self.old }
         ensures node { IfSome result (λ v. v < self.old) }
     {
         let next = self.settled.at(self.spread);
         let taken = if next.is_some() { 1 } else { 0 };
         self.spread = self.spread.saturating_add(taken);
+        self.count(taken);
         next
     }
 
@@ -413,16 +439,14 @@ impl Front {
         next
     }
 
-    /// Reads the ends of arcs at a settled node that have room both ways.
-    fn read_free(&mut self, free: &FreeEnds, other: &Front, u: usize, meeting: Meeting) -> Meeting
-        requires free { free.now ≡ self.old }
-        requires other { other.now ≡ self.old }
-        requires node { u < self.old }
+    /// Reads some ends of arcs at a settled node that have room both ways.
+    fn read_free(&mut self, free: &FreeEnds, other: &Front, meeting: Meeting) -> Meeting
+        requires { other.now ≡ self.old }
         ensures { self.new ≡ self.old }
     {
         let mut meeting = meeting;
-        let mut at = free.first(u);
-        for _ in 0..free.most() {
+        let mut at = self.free_end;
+        for _ in 0..SOME_ENDS {
             let Some(end) = free.at(at) else {
                 break;
             };
@@ -430,6 +454,7 @@ impl Front {
             meeting = self.spread_to(&end, other, meeting);
             at = end.next;
         }
+        self.free_end = at;
         meeting
     }
 
