@@ -5,6 +5,7 @@
 //! entry a row of the graph. Flow and excess are in units of flow; costs, potentials and labels in cost a unit of flow.
 #![tactic(auto)]
 
+mod forest;
 mod labels;
 mod predecessor;
 mod search;

@@ -10,6 +10,9 @@ ghost use Rattle.tracked.specs.Marks.{in_set};
 ghost use Rattle.tracked.specs.Touched.{AgreeAt};
 ghost use Rattle.shortest_paths.specs.Tree.{AreArcsNoted, IsArcNoted, IsTreeOf, StaysHeld};
 
+mod whole;
+
+use crate::forest::Forest;
 use crate::predecessor::Predecessor;
 use relaxation::both;
 use residual_graph::{End, Graph, Residual, ResidualArc, Walk, Way};
@@ -24,8 +27,8 @@ const FAR: i64 = i64::MAX;
 /// So few nodes are loose while one that lost its predecessor is hung on another node first, at the same label.
 const FEW_LOOSE: usize = 64;
 
-/// Where more nodes than one in so many are loose, all labels are searched anew.
-const MOST_LOOSE: usize = 2;
+/// Where more nodes than one in so many are loose, or are settled, the whole tree is mended.
+const MOST_LOOSE: usize = 8;
 
 /// How often, counted over all nodes, a node is settled at most.
 const MOST_SETTLED: usize = 4;
@@ -53,6 +56,11 @@ pub struct Tree {
     ready: Vec<u32>,
     present: i64,
     heap: Heap,
+    forest: Forest,
+    /// How many of the ready nodes reached all that is joined to them.
+    spread: usize,
+    /// How many queued nodes are open.
+    open: usize,
 }
 
 impl Model for Tree {
@@ -105,9 +113,10 @@ impl Tree {
             Vec::with_capacity(alloc, entries),
         );
         let heap = Heap::opened(alloc, entries);
-        let ((labels, predecessors), ((noted, beside), ((loose, ready), heap))) = both(
+        let forest = Forest::new(alloc, entries);
+        let ((labels, predecessors), ((noted, beside), ((loose, ready), (heap, forest)))) = both(
             both(labels, predecessors),
-            both(both(noted, beside), both(queues, heap)),
+            both(both(noted, beside), both(queues, both(heap, forest))),
         )?;
         Ok(Tree {
             labels,
@@ -119,6 +128,9 @@ impl Tree {
             ready,
             present: 0,
             heap,
+            forest,
+            spread: 0,
+            open: 0,
         })
     }
 
@@ -262,6 +274,15 @@ impl Tree {
         if self.is_lost || self.labels.entries().len() != residual.potentials.len() {
             return false;
         }
+        self.mend_there(residual, written) || self.mend_whole(residual)
+    }
+
+    /// Mends the tree there, if few nodes are to be looked at, and says whether that was so.
+    fn mend_there(&mut self, residual: Residual<'_>, written: &[u32]) -> bool
+        requires sized { IsTreeOf residual self.old }
+        ensures sized { IsTreeOf residual.entry self.new }
+        ensures held { self.new.held ≡ self.old.held }
+    {
         self.begin();
         let noted = self.noted.places().len();
         for i in 0..noted {
@@ -274,10 +295,7 @@ impl Tree {
         if !self.loosen_below(residual) {
             return false;
         }
-        for i in 0..self.loose.len() {
-            let v = entry(&self.loose, i);
-            self.hang(residual, v);
-        }
+        self.hang_all(residual);
         for i in 0..noted {
             let k = entry(self.noted.places(), i);
             self.improve_along(residual, k);
@@ -285,7 +303,7 @@ impl Tree {
         for k in written {
             self.improve_along(residual, *k);
         }
-        self.settle_all(residual)
+        self.settle_few(residual)
     }
 
     /// The label of a node.
@@ -340,6 +358,8 @@ impl Tree {
         self.ready.clear();
         self.present = 0;
         self.heap.clear();
+        self.spread = 0;
+        self.open = 0;
     }
 
     /// Loosens the nodes that hang on an arc which no longer leads to them.
@@ -470,6 +490,18 @@ impl Tree {
         }
     }
 
+    /// Queues the loose nodes.
+    fn hang_all(&mut self, residual: Residual<'_>)
+        requires sized { IsTreeOf residual self.old }
+        ensures sized { IsTreeOf residual.entry self.new }
+        ensures held { self.new.held ≡ self.old.held }
+    {
+        for i in 0..self.loose.len() {
+            let v = entry(&self.loose, i);
+            self.hang(residual, v);
+        }
+    }
+
     /// Queues a loose node with the least label that it can have by a residual arc from a node that is not queued.
     fn hang(&mut self, residual: Residual<'_>, v: u32)
         requires sized { IsTreeOf residual self.old }
@@ -554,6 +586,20 @@ impl Tree {
         let key = label.saturating_sub(potential);
         let key_before = self.label(place).saturating_sub(potential);
         let is_open = self.predecessor(place).is_open;
+        if key == self.present {
+            // Nothing is below: where the node is in the heap, it is passed over when it comes up there.
+            self.put(
+                place,
+                label,
+                Predecessor {
+                    is_open,
+                    ..predecessor
+                },
+            );
+            self.close(v);
+            self.list(v);
+            return;
+        }
         self.put(place, label, predecessor);
         // A queued node at `present` may be a ready one, which has no place in the heap, and is taken soon in any case. Its label
         // becomes lower only where the potentials do not certify the flow.
@@ -569,32 +615,85 @@ impl Tree {
         requires node { v < length self.old.labels }
         ensures { self.new ≡ self.old }
     {
-        if key != self.present {
+        self.open = self.open.saturating_add(1);
+        if key == self.present {
+            self.list(v);
+        } else {
             self.heap.add(v as usize, key);
-        } else if self.ready.len() < self.ready.capacity() {
+        }
+    }
+
+    /// Lists a node as ready.
+    fn list(&mut self, v: u32)
+        ensures { self.new ≡ self.old }
+    {
+        if self.ready.len() < self.ready.capacity() {
             let _ = self.ready.push(v);
         }
     }
 
     /// Takes a queued node whose label is the least above its potential.
     fn take_first(&mut self) -> Option<u32>
-        ensures { self.new ≡ self.old }
+        ensures sized { length self.new.labels ≡ length self.old.labels }
+        ensures held { self.new.held ≡ self.old.held }
     {
         if let Some(u) = self.ready.pop() {
+            self.close(u);
             return Some(u);
         }
-        self.present = self.heap.least();
-        let first = self.heap.take()?;
-        Some(first as u32)
+        for _ in 0..self.labels.entries().len() {
+            self.present = self.heap.least();
+            let first = self.heap.take()? as u32;
+            if self.close(first) {
+                return Some(first);
+            }
+        }
+        None
     }
 
-    /// Settles the queued nodes, and says whether all were.
+    /// Closes a node, whose label is the last one now, and says whether it was open.
+    fn close(&mut self, v: u32) -> bool
+        ensures sized { length self.new.labels ≡ length self.old.labels }
+        ensures held { self.new.held ≡ self.old.held }
+    {
+        let place = v as usize;
+        if place >= self.labels.entries().len() || !self.predecessor(place).is_open {
+            return false;
+        }
+        self.open = self.open.saturating_sub(1);
+        let closed = Predecessor {
+            is_open: false,
+            ..self.predecessor(place)
+        };
+        self.set_predecessor(place, closed);
+        true
+    }
+
+    /// Settles the queued nodes until none is open, and says whether it came to that. All others have their last label.
     fn settle_all(&mut self, residual: Residual<'_>) -> bool
         requires sized { IsTreeOf residual self.old }
         ensures sized { IsTreeOf residual.entry self.new }
         ensures held { self.new.held ≡ self.old.held }
     {
         for _ in 0..self.labels.entries().len() * MOST_SETTLED {
+            if self.open == 0 {
+                return true;
+            }
+            let Some(u) = self.take_first() else {
+                return true;
+            };
+            self.settle(residual, u);
+        }
+        false
+    }
+
+    /// Settles the queued nodes, and says whether these were few.
+    fn settle_few(&mut self, residual: Residual<'_>) -> bool
+        requires sized { IsTreeOf residual self.old }
+        ensures sized { IsTreeOf residual.entry self.new }
+        ensures held { self.new.held ≡ self.old.held }
+    {
+        for _ in 0..self.labels.entries().len() / MOST_LOOSE {
             let Some(u) = self.take_first() else {
                 return true;
             };
@@ -612,11 +711,6 @@ impl Tree {
         if u as usize >= self.labels.entries().len() {
             return;
         }
-        let predecessor = Predecessor {
-            is_open: false,
-            ..self.predecessor(u as usize)
-        };
-        self.set_predecessor(u as usize, predecessor);
         let mut walk = Walk::at(residual.graph, u);
         while let Some(end) = walk.next() {
             self.improve_beyond(residual, u, end);

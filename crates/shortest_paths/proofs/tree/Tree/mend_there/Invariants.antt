@@ -1,5 +1,5 @@
 use Rattle.std.proofs.Common.{◌≡◌, length}
-use Rattle.shortest_paths.proofs.tree.Tree.mend.Given as goal
+use Rattle.shortest_paths.proofs.tree.Tree.mend_there.Given as goal
 
 abbrev pub invariant-loop-i : goal.invariant-loop-i
 invariant-loop-i l = record {
@@ -15,12 +15,6 @@ invariant-loop-k l = record {
 
 abbrev pub invariant-loop-i-2 : goal.invariant-loop-i-2
 invariant-loop-i-2 l = record {
-  sized : length l.self.labels ≡ length l.residual.potentials.now;
-  held : l.self.held ≡ l.initial.self.held;
-}
-
-abbrev pub invariant-loop-i-3 : goal.invariant-loop-i-3
-invariant-loop-i-3 l = record {
   sized : length l.self.labels ≡ length l.residual.potentials.now;
   held : l.self.held ≡ l.initial.self.held;
 }

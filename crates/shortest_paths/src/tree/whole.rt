@@ -1,0 +1,345 @@
+//! The whole tree of labels mended at once, where much of it changed: labels mostly move in large blocks, which hang together
+//! as before.
+
+ghost use Rattle.std.specs.Prelude.{◌≡◌, ◌<◌, length};
+ghost use Rattle.residual_graph.specs.Walk.{IsWithin};
+ghost use Rattle.shortest_paths.specs.Tree.{IsTreeOf};
+
+use super::{FAR, Tree, after, end_of, entry};
+use crate::predecessor::{Predecessor, leaving};
+use residual_graph::{End, Residual, Walk};
+
+/// How often the tops of all blocks are gone over at most.
+const MOST_ROUNDS: usize = 8;
+
+/// How often all nodes that were not reached are gone over at most. A third time costs more than to search their labels.
+const MOST_TURNS: usize = 2;
+
+impl Tree {
+    /// Makes the labels the potentials, the greatest of which becomes 0, and mends the tree for these: what hangs together still
+    /// is hung on as a block, and only what cannot be hung on so gets other labels. Says whether all labels may be right now.
+    pub(super) fn mend_whole(&mut self, residual: Residual<'_>) -> bool
+        requires sized { IsTreeOf residual self.old }
+        ensures sized { IsTreeOf residual.entry self.new }
+        ensures held { self.new.held ≡ self.old.held }
+    {
+        self.begin();
+        let greatest = greatest(residual.potentials);
+        self.relabel(residual, greatest);
+        self.join_all(residual);
+        self.reach_tops(residual);
+        self.reach_others(residual);
+        if self.ready.len() > residual.potentials.len() / 2 {
+            self.loosen_others();
+            self.hang_all(residual);
+        } else {
+            self.present = 0_i64.saturating_sub(greatest);
+            self.queue_others(residual);
+        }
+        self.settle_all(residual)
+    }
+
+    /// Makes the labels the potentials, less the greatest. No arc is at node 0.
+    fn relabel(&mut self, residual: Residual<'_>, greatest: i64)
+        requires sized { IsTreeOf residual self.old }
+        ensures sized { IsTreeOf residual.entry self.new }
+        ensures held { self.new.held ≡ self.old.held }
+    {
+        for v in 1..residual.potentials.len() {
+            let label = residual.potentials[v].saturating_sub(greatest);
+            if label != self.label(v) {
+                self.put(v, label, self.predecessor(v));
+            }
+        }
+    }
+
+    /// Joins each node to its predecessor, where that leads to it at its label, and reaches what is joined to nodes of label 0.
+    /// The other nodes are the tops of blocks, and become the loose ones.
+    fn join_all(&mut self, residual: Residual<'_>)
+        requires sized { IsTreeOf residual self.old }
+        ensures sized { IsTreeOf residual.entry self.new }
+        ensures held { self.new.held ≡ self.old.held }
+    {
+        self.forest.clear();
+        for v in 0..residual.potentials.len() {
+            if self.label(v) >= 0 {
+                self.reach(v as u32, Predecessor::root());
+            } else if let Some(above) = self.above(residual, v) {
+                let end = self.predecessor(v).end;
+                self.forest.join(v as u32, above, end);
+            } else if self.loose.len() < self.loose.capacity() {
+                let _ = self.loose.push(v as u32);
+            }
+        }
+        self.reach_joined(residual);
+    }
+
+    /// The node from which its predecessor leads to a node at its label, if it does.
+    fn above(&self, residual: Residual<'_>, v: usize) -> Option<u32>
+        requires sized { IsTreeOf residual self.now }
+        requires node { v < length residual.potentials.now }
+    {
+        let arc = self.predecessor(v).arc();
+        let k = arc.arc as usize;
+        if k >= residual.graph.rows().len() || residual.graph.end(k, arc.way) != v {
+            return None;
+        }
+        if self.label_by(residual, arc) == self.label(v)
+            && residual.graph.has_room(residual.flow, arc)
+        {
+            let row = residual.graph.row(k);
+            Some(arc.way.start(&row))
+        } else {
+            None
+        }
+    }
+
+    /// Reaches the tops of blocks from nodes that were reached, as long as there is one.
+    fn reach_tops(&mut self, residual: Residual<'_>)
+        requires sized { IsTreeOf residual self.old }
+        ensures sized { IsTreeOf residual.entry self.new }
+        ensures held { self.new.held ≡ self.old.held }
+    {
+        for _ in 0..MOST_ROUNDS {
+            let before = self.ready.len();
+            for i in 0..self.loose.len() {
+                let v = entry(&self.loose, i);
+                self.reach_from_behind(residual, v);
+            }
+            if self.ready.len() == before {
+                return;
+            }
+        }
+    }
+
+    /// Reaches other nodes from those that were reached, as long as there is one: looked at are the ends at the nodes of the one
+    /// sort, or of the other, if these are fewer.
+    fn reach_others(&mut self, residual: Residual<'_>)
+        requires sized { IsTreeOf residual self.old }
+        ensures sized { IsTreeOf residual.entry self.new }
+        ensures held { self.new.held ≡ self.old.held }
+    {
+        let mut done = 0;
+        for _ in 0..MOST_TURNS {
+            done = self.reach_ahead(residual, done);
+            let before = self.ready.len();
+            if done >= before {
+                return;
+            }
+            for v in 0..residual.potentials.len() {
+                self.reach_from_behind(residual, v as u32);
+            }
+            if self.ready.len() == before {
+                return;
+            }
+        }
+    }
+
+    /// Reaches nodes from those that were reached, in turn from this one on, until fewer nodes are left that were not. Says how
+    /// far it came.
+    fn reach_ahead(&mut self, residual: Residual<'_>, done: usize) -> usize
+        requires sized { IsTreeOf residual self.old }
+        ensures sized { IsTreeOf residual.entry self.new }
+        ensures held { self.new.held ≡ self.old.held }
+    {
+        let nodes = residual.potentials.len();
+        for place in done..nodes {
+            let others = nodes.saturating_sub(self.ready.len());
+            if others < self.ready.len().saturating_sub(place) || place >= self.ready.len() {
+                return place;
+            }
+            let u = entry(&self.ready, place);
+            self.reach_from(residual, u);
+        }
+        nodes
+    }
+
+    /// Reaches the nodes to which a node that was reached leads at their labels.
+    fn reach_from(&mut self, residual: Residual<'_>, u: u32)
+        requires sized { IsTreeOf residual self.old }
+        ensures sized { IsTreeOf residual.entry self.new }
+        ensures held { self.new.held ≡ self.old.held }
+    {
+        if u as usize >= self.labels.entries().len() {
+            return;
+        }
+        let mut walk = Walk::at(residual.graph, u);
+        while let Some(end) = walk.next() {
+            if self.leads_on(residual, u, end) {
+                let rank = self.predecessor(u as usize).rank;
+                self.reach(end.other, reached(end.number, rank));
+                self.reach_joined(residual);
+            }
+        }
+    }
+
+    /// Whether a node leads to the other node at this end at its label, and that was not reached.
+    fn leads_on(&self, residual: Residual<'_>, u: u32, end: End) -> bool
+        requires sized { IsTreeOf residual self.now }
+        requires node { u < length residual.potentials.now }
+        requires end { IsWithin residual.graph.now end }
+        ensures { end.other < length self.now.labels }
+    {
+        self.label(u as usize).saturating_add(end.cost) == self.label(end.other as usize)
+            && !self.forest.is_reached(end.other)
+            && residual.graph.has_room(residual.flow, end.leaving())
+    }
+
+    /// Reaches a node that was not reached from one that was and leads to it at its label, where there is one.
+    fn reach_from_behind(&mut self, residual: Residual<'_>, v: u32)
+        requires sized { IsTreeOf residual self.old }
+        ensures sized { IsTreeOf residual.entry self.new }
+        ensures held { self.new.held ≡ self.old.held }
+    {
+        if v as usize >= self.labels.entries().len() || self.forest.is_reached(v) {
+            return;
+        }
+        let mut walk = Walk::at(residual.graph, v);
+        while let Some(end) = walk.next() {
+            if self.is_led_to(residual, v, end) {
+                let rank = self.predecessor(end.other as usize).rank;
+                self.reach(v, reached(end_of(end.entering()), rank));
+                self.reach_joined(residual);
+                return;
+            }
+        }
+    }
+
+    /// Whether the other node at this end leads to a node at its label, and was reached.
+    fn is_led_to(&self, residual: Residual<'_>, v: u32, end: End) -> bool
+        requires sized { IsTreeOf residual self.now }
+        requires node { v < length residual.potentials.now }
+        requires end { IsWithin residual.graph.now end }
+        ensures { end.other < length self.now.labels }
+    {
+        self.label(end.other as usize).saturating_sub(end.cost) == self.label(v as usize)
+            && self.forest.is_reached(end.other)
+            && residual.graph.has_room(residual.flow, end.entering())
+    }
+
+    /// Reaches a node, and gives it this predecessor, unless its own is of the same residual arc and its rank is as high.
+    fn reach(&mut self, v: u32, predecessor: Predecessor)
+        requires node { v < length self.old.labels }
+        ensures sized { length self.new.labels ≡ length self.old.labels }
+        ensures held { self.new.held ≡ self.old.held }
+    {
+        let before = self.predecessor(v as usize);
+        if before.is_open || before.end != predecessor.end || before.rank < predecessor.rank {
+            self.set_predecessor(v as usize, predecessor);
+        }
+        self.forest.reach(v);
+        self.list(v);
+    }
+
+    /// Reaches all that is joined to the nodes that were reached.
+    fn reach_joined(&mut self, residual: Residual<'_>)
+        requires sized { IsTreeOf residual self.old }
+        ensures sized { IsTreeOf residual.entry self.new }
+        ensures held { self.new.held ≡ self.old.held }
+    {
+        let nodes = residual.potentials.len();
+        for place in self.spread..nodes {
+            if place >= self.ready.len() {
+                self.spread = place;
+                return;
+            }
+            let v = entry(&self.ready, place);
+            self.reach_below(v);
+            self.reach_above(residual, v);
+        }
+        self.spread = nodes;
+    }
+
+    /// Reaches the nodes that are joined to a node from below.
+    fn reach_below(&mut self, v: u32)
+        ensures sized { length self.new.labels ≡ length self.old.labels }
+        ensures held { self.new.held ≡ self.old.held }
+    {
+        let nodes = self.labels.entries().len();
+        if v as usize >= nodes {
+            return;
+        }
+        let rank = self.predecessor(v as usize).rank;
+        let mut next = self.forest.joint(v).first;
+        for _ in 0..nodes {
+            if next == 0 || next as usize >= nodes {
+                return;
+            }
+            let joint = self.forest.joint(next);
+            if !joint.is_reached {
+                self.reach(next, reached(joint.end, rank));
+            }
+            next = joint.next;
+        }
+    }
+
+    /// Reaches the node to which a node is joined, where there is room back to it.
+    fn reach_above(&mut self, residual: Residual<'_>, v: u32)
+        requires sized { IsTreeOf residual self.old }
+        ensures sized { IsTreeOf residual.entry self.new }
+        ensures held { self.new.held ≡ self.old.held }
+    {
+        let nodes = self.labels.entries().len();
+        let joint = self.forest.joint(v);
+        if joint.above == 0 || self.forest.is_reached(joint.above) {
+            return;
+        }
+        let back = leaving(joint.end).turned();
+        if (v as usize) < nodes
+            && (joint.above as usize) < nodes
+            && (back.arc as usize) < residual.graph.rows().len()
+            && residual.graph.has_room(residual.flow, back)
+        {
+            let rank = self.predecessor(v as usize).rank;
+            self.reach(joint.above, reached(end_of(back), rank));
+        }
+    }
+
+    /// Loosens the nodes that were not reached.
+    fn loosen_others(&mut self)
+        ensures sized { length self.new.labels ≡ length self.old.labels }
+        ensures held { self.new.held ≡ self.old.held }
+    {
+        self.ready.clear();
+        self.loose.clear();
+        for v in 0..self.labels.entries().len() {
+            if !self.forest.is_reached(v as u32)
+                && self.loose.len() < self.loose.capacity()
+                && self.loose.push(v as u32).is_ok()
+            {
+                self.set_label(v, FAR);
+            }
+        }
+    }
+
+    /// Queues the nodes that were not reached with label 0.
+    fn queue_others(&mut self, residual: Residual<'_>)
+        requires sized { IsTreeOf residual self.old }
+        ensures sized { IsTreeOf residual.entry self.new }
+        ensures held { self.new.held ≡ self.old.held }
+    {
+        for v in 0..residual.potentials.len() {
+            if !self.forest.is_reached(v as u32) {
+                self.put(v, 0, Predecessor::open());
+                self.queue(v as u32, 0_i64.saturating_sub(residual.potentials[v]));
+            }
+        }
+    }
+}
+
+/// The greatest potential of a node.
+fn greatest(potentials: &[i64]) -> i64 {
+    let mut greatest = i64::MIN;
+    for v in 1..potentials.len() {
+        greatest = greatest.max(potentials[v]);
+    }
+    greatest
+}
+
+/// The predecessor of a node that was reached from one of this rank, by the residual arc that leaves at this end.
+fn reached(end: u32, rank: u32) -> Predecessor {
+    Predecessor {
+        is_open: false,
+        ..after(end, rank)
+    }
+}
