@@ -238,8 +238,9 @@ pub fn push_all(
     ensures marked { IsTrue result.are_marked → IsSide Ahead graph.now.rows flow.new.entries excess.new scratch.new.marks }
     ensures held { IsHeldIn graph.now.rows flow.new.whole scratch.new.held }
 {
-    excess.tidy();
     let pushed = push_proposed(graph, flow, excess, scratch);
+    // After a cold solve the list still holds all nodes that had a supply.
+    excess.tidy();
     if !excess.has_both() {
         return pushed;
     }

@@ -17,6 +17,9 @@ use residual_graph::{Graph, Residual};
 use shortest_paths::Tree;
 use tracked::Tracked;
 
+/// Where more nodes than one in so many were hung anew, labels are tested at all.
+const MOST_REHUNG: usize = 16;
+
 /// Makes a table the same as these numbers.
 fn write_all(table: &mut Tracked<i64>, numbers: &[i64])
     requires same_length { length numbers.now ≡ length table.old.entries }
@@ -46,7 +49,14 @@ fn mend(graph: &Graph, flow: &Tracked<i64>, potentials: &[i64], tree: &mut Tree)
         flow: flow.entries(),
         potentials,
     };
-    tree.mend(residual, flow.places()) && holds(graph, flow, tree)
+    if !tree.mend(residual, flow.places()) {
+        return false;
+    }
+    // Where many nodes were hung anew, a pass over all in turn is quicker than a walk at each.
+    if tree.rehung().places().len() > tree.labels().len() / MOST_REHUNG {
+        return holds_whole(graph, flow.entries(), tree);
+    }
+    holds(graph, flow, tree)
 }
 
 /// Has a tree find its labels anew, and says whether they are the greatest potentials that certify the flow.
