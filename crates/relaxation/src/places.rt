@@ -28,7 +28,7 @@ impl Places {
     #[inline(always)]
     pub fn add(&mut self, place: u32) {
         if self.list.len() < self.list.capacity() {
-            let _listed = self.list.push(place);
+            self.list.push_reserved(place);
         }
     }
 

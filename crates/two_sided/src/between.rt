@@ -492,9 +492,11 @@ fn lower_all<const AHEAD: bool>(front: &Front, proposal: &mut Proposal, far: i64
     for v in front.settled().listed() {
         let v = *v as usize;
         let key = front.key(v);
-        if key < far {
-            let _lowered = proposal.lower::<AHEAD>(v, far - key);
+        // They come in the order of their keys.
+        if key >= far {
+            break;
         }
+        let _lowered = proposal.lower::<AHEAD>(v, far - key);
     }
 }
 

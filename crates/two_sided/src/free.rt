@@ -214,7 +214,7 @@ impl FreeEnds {
         if self.ends.len() >= self.ends.capacity() {
             return None;
         }
-        let _listed = self.ends.push(end);
+        self.ends.push_reserved(end);
         Some(place)
     }
 

@@ -6,6 +6,7 @@ ghost use Rattle.two_sided.specs.Keys.{key_limit};
 
 use crate::free::{FreeEnd, FreeEnds};
 use crate::heap::Heap;
+use crate::late::Late;
 use crate::length::{FAR, NO_PLACE};
 use relaxation::{Nodes, Places, Proposal, both};
 use std::alloc::{AllocError, Global};
@@ -14,15 +15,24 @@ use std::marker::Model;
 /// So many free ends of a node are read at a time: the other side may come upon a node of many arcs before all are.
 const SOME_ENDS: usize = 32;
 
-/// What a side knows of a node.
+/// How far a side has come with a node.
+#[derive(Clone, Copy, PartialEq, Eq)]
+enum State {
+    /// No path to it was found: its label is one of an earlier search.
+    Unknown,
+    /// A path was found.
+    Waiting,
+    /// No path is shorter.
+    Settled,
+}
+
+/// What a side knows of a node to which it found a path.
 #[derive(Clone, Copy)]
 pub struct Label {
     /// The length of the best path so far.
     key: i64,
     /// The place, at this node, of the last arc of that path.
     parent: u32,
-    /// No path is shorter.
-    settled: bool,
     /// It is on the path that is traced.
     walked: bool,
     ghost key_low: { pos 0 ≤ℤ key },
@@ -33,7 +43,6 @@ impl Label {
     const NONE: Label = Label {
         key: FAR,
         parent: NO_PLACE,
-        settled: false,
         walked: false,
     };
 }
@@ -53,7 +62,6 @@ fn label_beyond(key: i64, reduced_cost: i64, parent: u32) -> Label
     Label {
         key: length.min(FAR),
         parent,
-        settled: false,
         walked: false,
     }
 }
@@ -96,6 +104,8 @@ impl Meeting {
 #[derive(Drop)]
 pub struct Front {
     labels: Vec<Label>,
+    /// A byte a node, so that a search reads labels only where it has to.
+    states: Vec<State>,
     heap: Heap,
     /// How far beyond each node its other ends lead at least, by `walked` more: 0 where these were not read in this run, or
     /// changed since.
@@ -103,11 +113,9 @@ pub struct Front {
     /// The nodes of which `beyond` may hold another number than 0, some of them twice.
     margins: Nodes,
     /// Settled nodes whose other ends lead on far only: they are read when the search has come half so far, as a rule never.
-    late: Heap,
+    late: Late,
     /// The nodes that are settled, in order.
     settled: Nodes,
-    /// The nodes to which a path was found.
-    touched: Nodes,
     /// Of how many settled nodes the free ends were read, but for those that come next of the last one.
     spread: usize,
     /// The free end that is read next, if there are some left of a node.
@@ -134,12 +142,12 @@ impl Model for Front {
     ghost view = { λ f. length f.labels.items };
 
     ghost invariant = { λ f. (length f.labels.items < 2 ^ 31)
+        × (length f.states.items ≡ length f.labels.items)
         × (f.heap ≡ length f.labels.items)
         × (f.late ≡ length f.labels.items)
         × (length f.beyond.items ≡ length f.labels.items)
         × (f.margins ≡ length f.labels.items)
-        × (f.settled ≡ length f.labels.items)
-        × (f.touched ≡ length f.labels.items) };
+        × (f.settled ≡ length f.labels.items) };
 }
 
 impl Front {
@@ -150,29 +158,29 @@ impl Front {
     pub fn new(alloc: Global, entries: usize) -> Result<Front, AllocError>
         ensures { IfOk result (λ f. f ≡ 0) }
     {
-        let labels = Vec::with_capacity(alloc, entries);
+        let labels = both(
+            Vec::with_capacity(alloc, entries),
+            Vec::with_capacity(alloc, entries),
+        );
         let heap = Heap::new(alloc, entries);
         let margins = both(
             Vec::with_capacity(alloc, entries),
             Nodes::reserve(alloc, entries),
         );
-        let late = Heap::new(alloc, entries);
-        let lists = both(
-            Nodes::reserve(alloc, entries),
-            Nodes::reserve(alloc, entries),
-        );
-        let ((labels, heap), ((beyond, margins), (late, (settled, touched)))) = both(
+        let late = Late::new(alloc, entries);
+        let settled = Nodes::reserve(alloc, entries);
+        let (((labels, states), heap), ((beyond, margins), (late, settled))) = both(
             both(labels, heap),
-            both(margins, both(late, lists)),
+            both(margins, both(late, settled)),
         )?;
         Ok(Front {
             labels,
+            states,
             heap,
             beyond,
             margins,
             late,
             settled,
-            touched,
             spread: 0,
             free_end: NO_PLACE,
             read: 0,
@@ -189,26 +197,28 @@ impl Front {
         requires { entries < 2 ^ 31 }
         ensures { IsTrue result → self.new ≡ entries }
     {
-        if entries > self.labels.capacity() || entries > self.beyond.capacity() {
+        let room = self.labels.capacity().min(self.states.capacity());
+        if entries > room || entries > self.beyond.capacity() {
             return false;
         }
         if !self.heap.open(entries) || !self.late.open(entries) {
             self.labels.clear();
+            self.states.clear();
             self.heap.close();
             self.beyond.clear();
             self.margins.begin(0);
             self.late.close();
             self.settled.begin(0);
-            self.touched.begin(0);
             return false;
         }
         self.labels.clear();
+        self.states.clear();
         self.beyond.clear();
         let _filled = self.labels.resize(entries, Label::NONE);
+        let _filled = self.states.resize(entries, State::Unknown);
         let _filled = self.beyond.resize(entries, 0);
         self.margins.begin(entries);
         self.settled.begin(entries);
-        self.touched.begin(entries);
         true
     }
 
@@ -217,12 +227,12 @@ impl Front {
         ensures { self.new ≡ 0 }
     {
         self.labels.clear();
+        self.states.clear();
         self.heap.close();
         self.beyond.clear();
         self.margins.begin(0);
         self.late.close();
         self.settled.begin(0);
-        self.touched.begin(0);
     }
 
     /// The number of entries of a table of nodes.
@@ -236,11 +246,11 @@ impl Front {
     pub fn forget(&mut self)
         ensures { self.new ≡ self.old }
     {
-        forget_all(&mut self.labels, &self.touched);
+        forget_settled(&mut self.states, &self.settled);
+        forget_waiting(&mut self.states, &self.heap);
         self.heap.clear();
         self.late.clear();
         self.settled.clear();
-        self.touched.clear();
         self.spread = 0;
         self.free_end = NO_PLACE;
         self.read = 0;
@@ -254,15 +264,7 @@ impl Front {
         requires { v < self.old }
         ensures { self.new ≡ self.old }
     {
-        let label = Label {
-            key: 0,
-            parent: NO_PLACE,
-            settled: false,
-            walked: false,
-        };
-        self.write_label(v, label);
-        self.touch(v);
-        self.settle(v);
+        self.settle_at(v, NO_PLACE);
     }
 
     /// How far the search has come, if it is not at its end: no node that is not settled is nearer.
@@ -306,6 +308,9 @@ impl Front {
         ensures low { pos 0 ≤ℤ result }
         ensures high { result ≤ℤ pos key_limit }
     {
+        if self.states[v] == State::Unknown {
+            return FAR;
+        }
         let label = self.labels[v];
         label.key
     }
@@ -325,7 +330,7 @@ impl Front {
         requires other { other.now ≡ self.old }
         ensures { self.new ≡ self.old }
     {
-        if self.take_waiting(free) {
+        if self.has_waiting() {
             return self.read_free(free, other, meeting);
         }
         match self.take_due(free) {
@@ -396,37 +401,6 @@ impl Front {
         self.walked = self.walked.saturating_add(length);
     }
 
-    /// Whether a node has free ends that were not read: where all of the last one were, it goes on to the next settled node.
-    #[inline(always)]
-    fn take_waiting(&mut self, free: &FreeEnds) -> bool
-        requires { free.now ≡ self.old }
-        ensures { self.new ≡ self.old }
-    {
-        if self.free_end != NO_PLACE {
-            return true;
-        }
-        match self.take_settled() {
-            Some(u) => {
-                self.free_end = free.first(u);
-                true
-            }
-            None => false,
-        }
-    }
-
-    /// Takes the next settled node of whose free ends none was read. To take it counts as a read: it takes as long.
-    #[inline(always)]
-    fn take_settled(&mut self) -> Option<usize>
-        ensures kept { self.new ≡ self.old }
-        ensures node { IfSome result (λ v. v < self.old) }
-    {
-        let next = self.settled.at(self.spread);
-        let taken = if next.is_some() { 1 } else { 0 };
-        self.spread = self.spread.saturating_add(taken);
-        self.count(taken);
-        next
-    }
-
     /// Takes the next settled node whose other ends were not read.
     #[inline(always)]
     fn take_unread(&mut self) -> Option<usize>
@@ -439,42 +413,72 @@ impl Front {
         next
     }
 
-    /// Reads some ends of arcs at a settled node that have room both ways.
+    /// Reads some ends of arcs that have room both ways, at the settled nodes in turn. To take a node counts as a read: it takes
+    /// as long.
     fn read_free(&mut self, free: &FreeEnds, other: &Front, meeting: Meeting) -> Meeting
-        requires { other.now ≡ self.old }
+        requires free { free.now ≡ self.old }
+        requires other { other.now ≡ self.old }
         ensures { self.new ≡ self.old }
     {
         let mut meeting = meeting;
-        let mut at = self.free_end;
         for _ in 0..SOME_ENDS {
-            let Some(end) = free.at(at) else {
+            if !self.has_waiting() {
                 break;
-            };
+            }
             self.count(1);
-            meeting = self.spread_to(&end, other, meeting);
-            at = end.next;
+            match free.at(self.free_end) {
+                Some(end) => {
+                    meeting = self.spread_to(&end, other, meeting);
+                    self.free_end = end.next;
+                }
+                None => self.take_settled(free),
+            }
         }
-        self.free_end = at;
         meeting
     }
 
-    /// Goes over a free end to a node.
+    /// Takes the next settled node of whose free ends none was read, if there is one.
+    #[inline(always)]
+    fn take_settled(&mut self, free: &FreeEnds)
+        requires { free.now ≡ self.old }
+        ensures { self.new ≡ self.old }
+    {
+        self.free_end = match self.settled.at(self.spread) {
+            Some(u) => free.first(u),
+            None => NO_PLACE,
+        };
+        self.spread = self.spread.saturating_add(1);
+    }
+
+    /// Goes over a free end to a node, which is settled so, unless it is already or lies no nearer than the way across is long.
     #[inline(always)]
     fn spread_to(&mut self, end: &FreeEnd, other: &Front, meeting: Meeting) -> Meeting
         requires { other.now ≡ self.old }
         ensures { self.new ≡ self.old }
     {
         let v = end.other as usize;
-        if v >= self.labels.len() {
+        if v >= self.states.len()
+            || self.states[v] == State::Settled
+            || meeting.length <= self.last
+        {
             return meeting;
         }
-        let label = Label {
+        self.settle_at(v, end.opposite);
+        meeting.or_over(v, self.last, other.key(v))
+    }
+
+    /// Settles a node as far off as the search has come, where no path to it was as short.
+    #[inline(always)]
+    fn settle_at(&mut self, v: usize, parent: u32)
+        requires { v < self.old }
+        ensures { self.new ≡ self.old }
+    {
+        self.labels[v] = Label {
             key: self.last,
-            parent: end.opposite,
-            settled: false,
+            parent,
             walked: false,
         };
-        self.note(v, label, other, meeting)
+        self.settle(v);
     }
 
     /// Reads the ends at a settled node of the other residual arcs that lead on from it.
@@ -553,26 +557,13 @@ impl Front {
         requires { v < self.old }
         ensures { self.new ≡ self.old }
     {
-        if known == FAR {
-            self.touch(v);
-            if key != self.last {
-                self.wait(v, key);
-                return;
-            }
-        } else if key != self.last {
+        if key == self.last {
+            self.settle(v);
+        } else if known == FAR {
+            self.wait(v, key);
+        } else {
             self.wait_less(v, key);
-            return;
         }
-        self.settle(v);
-    }
-
-    /// Lists a node as one to which a path was found.
-    #[inline(always)]
-    fn touch(&mut self, v: usize)
-        requires { v < self.old }
-        ensures { self.new ≡ self.old }
-    {
-        self.touched.add(v);
     }
 
     /// Puts a node into the heap.
@@ -581,6 +572,7 @@ impl Front {
         requires { v < self.old }
         ensures { self.new ≡ self.old }
     {
+        self.states[v] = State::Waiting;
         self.heap.add(v, key);
     }
 
@@ -608,7 +600,7 @@ impl Front {
         requires { v < self.old }
         ensures { self.new ≡ self.old }
     {
-        self.labels[v].settled = true;
+        self.states[v] = State::Settled;
         self.settled.add(v);
     }
 
@@ -658,10 +650,10 @@ impl Front {
         requires { u < self.old }
         ensures { self.new ≡ self.old }
     {
-        let label = self.labels[u];
-        if label.settled {
+        if self.states[u] == State::Settled {
             return false;
         }
+        let label = self.labels[u];
         self.last = label.key;
         self.settle(u);
         true
@@ -757,12 +749,22 @@ fn forget_beyond(beyond: &mut [i64], nodes: &Nodes)
     }
 }
 
-/// Forgets the paths to these nodes.
-fn forget_all(labels: &mut [Label], touched: &Nodes)
-    requires { touched.now ≡ length labels.old }
-    ensures { length labels.new ≡ length labels.old }
+/// Forgets the paths to the nodes that are settled.
+fn forget_settled(states: &mut [State], settled: &Nodes)
+    requires { settled.now ≡ length states.old }
+    ensures { length states.new ≡ length states.old }
 {
-    for v in touched.listed() {
-        labels[*v as usize] = Label::NONE;
+    for v in settled.listed() {
+        states[*v as usize] = State::Unknown;
+    }
+}
+
+/// Forgets the paths to the nodes in a heap.
+fn forget_waiting(states: &mut [State], heap: &Heap)
+    requires { heap.now ≡ length states.old }
+    ensures { length states.new ≡ length states.old }
+{
+    for entry in heap.entries() {
+        states[entry.node as usize] = State::Unknown;
     }
 }

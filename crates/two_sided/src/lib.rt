@@ -8,6 +8,7 @@ mod between;
 mod free;
 mod front;
 mod heap;
+mod late;
 mod length;
 
 pub use between::{Between, Halt, Readings};
