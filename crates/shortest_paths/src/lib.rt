@@ -8,6 +8,7 @@
 mod forest;
 mod labels;
 mod predecessor;
+mod rooms;
 mod search;
 mod tree;
 

@@ -14,6 +14,7 @@ mod whole;
 
 use crate::forest::Forest;
 use crate::predecessor::Predecessor;
+use crate::rooms::Rooms;
 use relaxation::both;
 use residual_graph::{End, Graph, Residual, ResidualArc, Walk, Way};
 use std::alloc::{AllocError, Global};
@@ -57,6 +58,8 @@ pub struct Tree {
     present: i64,
     heap: Heap,
     forest: Forest,
+    /// As they were when the tree was mended last.
+    rooms: Rooms,
     /// How many of the ready nodes reached all that is joined to them.
     spread: usize,
     /// How many queued nodes are open.
@@ -113,11 +116,15 @@ impl Tree {
             Vec::with_capacity(alloc, entries),
         );
         let heap = Heap::opened(alloc, entries);
-        let forest = Forest::new(alloc, entries);
-        let ((labels, predecessors), ((noted, beside), ((loose, ready), (heap, forest)))) = both(
-            both(labels, predecessors),
-            both(both(noted, beside), both(queues, both(heap, forest))),
-        )?;
+        let forests = both(
+            Forest::new(alloc, entries),
+            Rooms::new(alloc, arcs.min(MOST_ROWS)),
+        );
+        let ((labels, predecessors), ((noted, beside), ((loose, ready), (heap, (forest, rooms))))) =
+            both(
+                both(labels, predecessors),
+                both(both(noted, beside), both(queues, both(heap, forests))),
+            )?;
         Ok(Tree {
             labels,
             predecessors,
@@ -129,6 +136,7 @@ impl Tree {
             present: 0,
             heap,
             forest,
+            rooms,
             spread: 0,
             open: 0,
         })
@@ -259,6 +267,7 @@ impl Tree {
             return false;
         }
         self.begin();
+        self.rooms.load(residual);
         for v in 0..nodes {
             self.put(v, 0, Predecessor::open());
             self.queue(v as u32, 0_i64.saturating_sub(residual.potentials[v]));
@@ -274,6 +283,9 @@ impl Tree {
         if self.is_lost || self.labels.entries().len() != residual.potentials.len() {
             return false;
         }
+        self.rooms.fit(residual);
+        self.rooms.renew_all(residual, self.noted.places());
+        self.rooms.renew_all(residual, written);
         self.mend_there(residual, written) || self.mend_whole(residual)
     }
 
@@ -385,9 +397,7 @@ impl Tree {
         if !self.hangs(v, end_of(arc)) {
             return;
         }
-        if residual.graph.has_room(residual.flow, arc)
-            && self.label(v) >= self.label_by(residual, arc)
-        {
+        if self.rooms.is_open(end_of(arc)) && self.label(v) >= self.label_by(residual, arc) {
             return;
         }
         self.loosen(residual, v as u32);
@@ -454,7 +464,7 @@ impl Tree {
     {
         self.label(end.other as usize).saturating_sub(end.cost) == self.label(v as usize)
             && self.predecessor(end.other as usize).rank < self.predecessor(v as usize).rank
-            && residual.graph.has_room(residual.flow, end.entering())
+            && self.rooms.is_open(end_of(end.entering()))
     }
 
     /// Loosens the nodes that hang on loose ones, and says whether all were gone over.
@@ -540,7 +550,7 @@ impl Tree {
     {
         self.label(end.other as usize).saturating_sub(end.cost) < label
             && !self.predecessor(end.other as usize).is_open
-            && residual.graph.has_room(residual.flow, end.entering())
+            && self.rooms.is_open(end_of(end.entering()))
     }
 
     /// Improves the labels to which the residual arcs along an arc lead.
@@ -562,7 +572,7 @@ impl Tree {
         ensures sized { IsTreeOf residual.entry self.new }
         ensures held { self.new.held ≡ self.old.held }
     {
-        if !residual.graph.has_room(residual.flow, arc) {
+        if !self.rooms.is_open(end_of(arc)) {
             return;
         }
         let start = residual.graph.start(arc.arc as usize, arc.way);
@@ -628,7 +638,7 @@ impl Tree {
         ensures { self.new ≡ self.old }
     {
         if self.ready.len() < self.ready.capacity() {
-            let _ = self.ready.push(v);
+            self.ready.push_reserved(v);
         }
     }
 
@@ -726,9 +736,7 @@ impl Tree {
         ensures held { self.new.held ≡ self.old.held }
     {
         let label = self.label(u as usize).saturating_add(end.cost);
-        if label < self.label(end.other as usize)
-            && residual.graph.has_room(residual.flow, end.leaving())
-        {
+        if label < self.label(end.other as usize) && self.rooms.is_open(end.number) {
             let predecessor = after(end.number, self.predecessor(u as usize).rank);
             self.improve(residual, end.other, label, predecessor);
         }

@@ -84,9 +84,7 @@ impl Tree {
         if k >= residual.graph.rows().len() || residual.graph.end(k, arc.way) != v {
             return None;
         }
-        if self.label_by(residual, arc) == self.label(v)
-            && residual.graph.has_room(residual.flow, arc)
-        {
+        if self.label_by(residual, arc) == self.label(v) && self.rooms.is_open(end_of(arc)) {
             let row = residual.graph.row(k);
             Some(arc.way.start(&row))
         } else {
@@ -182,7 +180,7 @@ impl Tree {
     {
         self.label(u as usize).saturating_add(end.cost) == self.label(end.other as usize)
             && !self.forest.is_reached(end.other)
-            && residual.graph.has_room(residual.flow, end.leaving())
+            && self.rooms.is_open(end.number)
     }
 
     /// Reaches a node that was not reached from one that was and leads to it at its label, where there is one.
@@ -214,7 +212,7 @@ impl Tree {
     {
         self.label(end.other as usize).saturating_sub(end.cost) == self.label(v as usize)
             && self.forest.is_reached(end.other)
-            && residual.graph.has_room(residual.flow, end.entering())
+            && self.rooms.is_open(end_of(end.entering()))
     }
 
     /// Reaches a node, and gives it this predecessor, unless its own is of the same residual arc and its rank is as high.
@@ -287,8 +285,7 @@ impl Tree {
         let back = leaving(joint.end).turned();
         if (v as usize) < nodes
             && (joint.above as usize) < nodes
-            && (back.arc as usize) < residual.graph.rows().len()
-            && residual.graph.has_room(residual.flow, back)
+            && self.rooms.is_open(end_of(back))
         {
             let rank = self.predecessor(v as usize).rank;
             self.reach(joint.above, reached(end_of(back), rank));
