@@ -7,6 +7,7 @@
 
 mod forest;
 mod labels;
+mod links;
 mod predecessor;
 mod rooms;
 mod search;

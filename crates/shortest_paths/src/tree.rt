@@ -13,6 +13,7 @@ ghost use Rattle.shortest_paths.specs.Tree.{AreArcsNoted, IsArcNoted, IsTreeOf, 
 mod whole;
 
 use crate::forest::Forest;
+use crate::links::Links;
 use crate::predecessor::Predecessor;
 use crate::rooms::Rooms;
 use relaxation::both;
@@ -30,6 +31,12 @@ const FEW_LOOSE: usize = 64;
 
 /// Where more nodes than one in so many are loose, or are settled, the whole tree is mended.
 const MOST_LOOSE: usize = 8;
+
+/// Once one node in so many is loose, or settled, it is asked whether many nodes moved.
+const SOME_LOOSE: usize = 64;
+
+/// Where more nodes than one in so many moved, the whole tree is mended.
+const MOST_MOVED: usize = 16;
 
 /// How often, counted over all nodes, a node is settled at most.
 const MOST_SETTLED: usize = 4;
@@ -58,6 +65,7 @@ pub struct Tree {
     present: i64,
     heap: Heap,
     forest: Forest,
+    links: Links,
     /// As they were when the tree was mended last.
     rooms: Rooms,
     /// How many of the ready nodes reached all that is joined to them.
@@ -117,14 +125,16 @@ impl Tree {
         );
         let heap = Heap::opened(alloc, entries);
         let forests = both(
-            Forest::new(alloc, entries),
+            both(Forest::new(alloc, entries), Links::new(alloc, entries)),
             Rooms::new(alloc, arcs.min(MOST_ROWS)),
         );
-        let ((labels, predecessors), ((noted, beside), ((loose, ready), (heap, (forest, rooms))))) =
-            both(
-                both(labels, predecessors),
-                both(both(noted, beside), both(queues, both(heap, forests))),
-            )?;
+        let (
+            (labels, predecessors),
+            ((noted, beside), ((loose, ready), (heap, ((forest, links), rooms)))),
+        ) = both(
+            both(labels, predecessors),
+            both(both(noted, beside), both(queues, both(heap, forests))),
+        )?;
         Ok(Tree {
             labels,
             predecessors,
@@ -136,6 +146,7 @@ impl Tree {
             present: 0,
             heap,
             forest,
+            links,
             rooms,
             spread: 0,
             open: 0,
@@ -268,6 +279,7 @@ impl Tree {
         }
         self.begin();
         self.rooms.load(residual);
+        self.links.clear();
         for v in 0..nodes {
             self.put(v, 0, Predecessor::open());
             self.queue(v as u32, 0_i64.saturating_sub(residual.potentials[v]));
@@ -283,10 +295,11 @@ impl Tree {
         if self.is_lost || self.labels.entries().len() != residual.potentials.len() {
             return false;
         }
+        self.links.forget_all(self.beside.places());
         self.rooms.fit(residual);
         self.rooms.renew_all(residual, self.noted.places());
         self.rooms.renew_all(residual, written);
-        self.mend_there(residual, written) || self.mend_whole(residual)
+        self.mend_there(residual, written) || self.mend_whole(residual, written)
     }
 
     /// Mends the tree there, if few nodes are to be looked at, and says whether that was so.
@@ -473,14 +486,61 @@ impl Tree {
         ensures sized { IsTreeOf residual.entry self.new }
         ensures held { self.new.held ≡ self.old.held }
     {
-        for i in 0..self.labels.entries().len() / MOST_LOOSE {
+        let nodes = self.labels.entries().len();
+        for i in 0..nodes / MOST_LOOSE {
             if i >= self.loose.len() {
                 return true;
+            }
+            if i == nodes / SOME_LOOSE && self.have_many_moved(residual) {
+                return false;
             }
             let u = self.loose[i];
             self.loosen_beyond(residual, u);
         }
         false
+    }
+
+    /// Whether the potentials are further from the labels, or nearer, at many nodes than they are at most.
+    fn have_many_moved(&self, residual: Residual<'_>) -> bool
+        requires sized { IsTreeOf residual self.now }
+    {
+        let usual = self.usual_gap(residual);
+        let mut moved: usize = 0;
+        for v in 1..residual.potentials.len() {
+            if self.gap(residual, v) != usual {
+                moved = moved.saturating_add(1);
+            }
+        }
+        moved > residual.potentials.len() / MOST_MOVED
+    }
+
+    /// How far the potentials are from the labels at most nodes, if it is the same at so many.
+    fn usual_gap(&self, residual: Residual<'_>) -> i64
+        requires sized { IsTreeOf residual self.now }
+    {
+        let mut usual = 0;
+        let mut votes: usize = 0;
+        for v in 1..residual.potentials.len() {
+            let gap = self.gap(residual, v);
+            if gap == usual {
+                votes = votes.saturating_add(1);
+            } else if votes > 0 {
+                votes = votes.saturating_sub(1);
+            } else {
+                usual = gap;
+                votes = 1;
+            }
+        }
+        usual
+    }
+
+    /// How far the potential of a node is from its label.
+    #[inline(always)]
+    fn gap(&self, residual: Residual<'_>, v: usize) -> i64
+        requires sized { IsTreeOf residual self.now }
+        requires node { v < length residual.potentials.now }
+    {
+        residual.potentials[v].saturating_sub(self.label(v))
     }
 
     /// Loosens the nodes that hang on a node.
@@ -703,7 +763,11 @@ impl Tree {
         ensures sized { IsTreeOf residual.entry self.new }
         ensures held { self.new.held ≡ self.old.held }
     {
-        for _ in 0..self.labels.entries().len() / MOST_LOOSE {
+        let nodes = self.labels.entries().len();
+        for i in 0..nodes / MOST_LOOSE {
+            if i == nodes / SOME_LOOSE && self.have_many_moved(residual) {
+                return false;
+            }
             let Some(u) = self.take_first() else {
                 return true;
             };

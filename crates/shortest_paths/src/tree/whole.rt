@@ -5,20 +5,20 @@ ghost use Rattle.std.specs.Prelude.{◌≡◌, ◌<◌, length};
 ghost use Rattle.residual_graph.specs.Walk.{IsWithin};
 ghost use Rattle.shortest_paths.specs.Tree.{IsTreeOf};
 
-use super::{FAR, Tree, after, end_of, entry};
+use super::{FAR, Tree, after, arc_of, end_of, entry};
 use crate::predecessor::{Predecessor, leaving};
-use residual_graph::{End, Residual, Walk};
+use residual_graph::{End, Residual, ResidualArc, Walk, Way};
 
-/// How often the tops of all blocks are gone over at most.
+/// Where more nodes than one in so many are left that were not reached, others are looked for by which they can be.
+const MOST_LEFT: usize = 4;
+
+/// How often the arcs that changed are gone over at most.
 const MOST_ROUNDS: usize = 8;
-
-/// How often all nodes that were not reached are gone over at most. A third time costs more than to search their labels.
-const MOST_TURNS: usize = 2;
 
 impl Tree {
     /// Makes the labels the potentials, the greatest of which becomes 0, and mends the tree for these: what hangs together still
     /// is hung on as a block, and only what cannot be hung on so gets other labels. Says whether all labels may be right now.
-    pub(super) fn mend_whole(&mut self, residual: Residual<'_>) -> bool
+    pub(super) fn mend_whole(&mut self, residual: Residual<'_>, written: &[u32]) -> bool
         requires sized { IsTreeOf residual self.old }
         ensures sized { IsTreeOf residual.entry self.new }
         ensures held { self.new.held ≡ self.old.held }
@@ -27,7 +27,7 @@ impl Tree {
         let greatest = greatest(residual.potentials);
         self.relabel(residual, greatest);
         self.join_all(residual);
-        self.reach_tops(residual);
+        self.reach_along_all(residual, written);
         self.reach_others(residual);
         if self.ready.len() > residual.potentials.len() / 2 {
             self.loosen_others();
@@ -54,7 +54,7 @@ impl Tree {
     }
 
     /// Joins each node to its predecessor, where that leads to it at its label, and reaches what is joined to nodes of label 0.
-    /// The other nodes are the tops of blocks, and become the loose ones.
+    /// The other nodes are the tops of blocks.
     fn join_all(&mut self, residual: Residual<'_>)
         requires sized { IsTreeOf residual self.old }
         ensures sized { IsTreeOf residual.entry self.new }
@@ -67,42 +67,45 @@ impl Tree {
             } else if let Some(above) = self.above(residual, v) {
                 let end = self.predecessor(v).end;
                 self.forest.join(v as u32, above, end);
-            } else if self.loose.len() < self.loose.capacity() {
-                let _ = self.loose.push(v as u32);
             }
         }
         self.reach_joined(residual);
     }
 
     /// The node from which its predecessor leads to a node at its label, if it does.
-    fn above(&self, residual: Residual<'_>, v: usize) -> Option<u32>
-        requires sized { IsTreeOf residual self.now }
+    fn above(&mut self, residual: Residual<'_>, v: usize) -> Option<u32>
+        requires sized { IsTreeOf residual self.old }
         requires node { v < length residual.potentials.now }
+        ensures { self.new ≡ self.old }
     {
-        let arc = self.predecessor(v).arc();
-        let k = arc.arc as usize;
-        if k >= residual.graph.rows().len() || residual.graph.end(k, arc.way) != v {
-            return None;
-        }
-        if self.label_by(residual, arc) == self.label(v) && self.rooms.is_open(end_of(arc)) {
-            let row = residual.graph.row(k);
-            Some(arc.way.start(&row))
+        let end = self.predecessor(v).end;
+        let link = self.links.link(residual, v, end);
+        let above = link.above as usize;
+        if above != 0
+            && above < self.labels.entries().len()
+            && self.label(above).saturating_add(link.cost) == self.label(v)
+            && self.rooms.is_open(end)
+        {
+            Some(link.above)
         } else {
             None
         }
     }
 
-    /// Reaches the tops of blocks from nodes that were reached, as long as there is one.
-    fn reach_tops(&mut self, residual: Residual<'_>)
+    /// Reaches nodes along the noted arcs and these, as long as there is one: along a path of pushes blocks hang together.
+    fn reach_along_all(&mut self, residual: Residual<'_>, written: &[u32])
         requires sized { IsTreeOf residual self.old }
         ensures sized { IsTreeOf residual.entry self.new }
         ensures held { self.new.held ≡ self.old.held }
     {
         for _ in 0..MOST_ROUNDS {
             let before = self.ready.len();
-            for i in 0..self.loose.len() {
-                let v = entry(&self.loose, i);
-                self.reach_from_behind(residual, v);
+            for i in 0..self.noted.places().len() {
+                let k = entry(self.noted.places(), i);
+                self.reach_along(residual, k);
+            }
+            for k in written {
+                self.reach_along(residual, *k);
             }
             if self.ready.len() == before {
                 return;
@@ -110,46 +113,70 @@ impl Tree {
         }
     }
 
-    /// Reaches other nodes from those that were reached, as long as there is one: looked at are the ends at the nodes of the one
-    /// sort, or of the other, if these are fewer.
+    /// Reaches the nodes to which the residual arcs along an arc lead at their labels.
+    fn reach_along(&mut self, residual: Residual<'_>, k: u32)
+        requires sized { IsTreeOf residual self.old }
+        ensures sized { IsTreeOf residual.entry self.new }
+        ensures held { self.new.held ≡ self.old.held }
+    {
+        if (k as usize) < residual.graph.rows().len() {
+            self.reach_by(residual, arc_of(k, Way::Forward));
+            self.reach_by(residual, arc_of(k, Way::Backward));
+        }
+    }
+
+    /// Reaches the node to which a residual arc leads from one that was reached, at its label.
+    fn reach_by(&mut self, residual: Residual<'_>, arc: ResidualArc)
+        requires sized { IsTreeOf residual self.old }
+        requires arc_in { arc.arc < length residual.graph.now.rows }
+        ensures sized { IsTreeOf residual.entry self.new }
+        ensures held { self.new.held ≡ self.old.held }
+    {
+        let start = residual.graph.start(arc.arc as usize, arc.way);
+        let end = residual.graph.end(arc.arc as usize, arc.way);
+        if self.forest.is_reached(start as u32)
+            && !self.forest.is_reached(end as u32)
+            && self.rooms.is_open(end_of(arc))
+            && self.label_by(residual, arc) == self.label(end)
+        {
+            let rank = self.predecessor(start).rank;
+            self.reach(end as u32, reached(end_of(arc), rank));
+            self.reach_joined(residual);
+        }
+    }
+
+    /// Reaches other nodes from those that were reached, where many are left: looked at are the ends at the nodes of the one
+    /// sort, and at those of the other once they are fewer.
     fn reach_others(&mut self, residual: Residual<'_>)
         requires sized { IsTreeOf residual self.old }
         ensures sized { IsTreeOf residual.entry self.new }
         ensures held { self.new.held ≡ self.old.held }
     {
-        let mut done = 0;
-        for _ in 0..MOST_TURNS {
-            done = self.reach_ahead(residual, done);
-            let before = self.ready.len();
-            if done >= before {
-                return;
-            }
-            for v in 0..residual.potentials.len() {
-                self.reach_from_behind(residual, v as u32);
-            }
-            if self.ready.len() == before {
-                return;
-            }
+        let nodes = residual.potentials.len();
+        if nodes.saturating_sub(self.ready.len()) <= nodes / MOST_LEFT {
+            return;
+        }
+        self.reach_ahead(residual);
+        for v in 0..nodes {
+            self.reach_from_behind(residual, v as u32);
         }
     }
 
-    /// Reaches nodes from those that were reached, in turn from this one on, until fewer nodes are left that were not. Says how
-    /// far it came.
-    fn reach_ahead(&mut self, residual: Residual<'_>, done: usize) -> usize
+    /// Reaches nodes from those that were reached, in turn, until fewer nodes are left that were not.
+    fn reach_ahead(&mut self, residual: Residual<'_>)
         requires sized { IsTreeOf residual self.old }
         ensures sized { IsTreeOf residual.entry self.new }
         ensures held { self.new.held ≡ self.old.held }
     {
         let nodes = residual.potentials.len();
-        for place in done..nodes {
+        for place in 0..nodes {
             let others = nodes.saturating_sub(self.ready.len());
             if others < self.ready.len().saturating_sub(place) || place >= self.ready.len() {
-                return place;
+                return;
             }
             let u = entry(&self.ready, place);
             self.reach_from(residual, u);
         }
-        nodes
     }
 
     /// Reaches the nodes to which a node that was reached leads at their labels.

@@ -1,5 +1,5 @@
 use Rattle.std.proofs.Common.{◌≡◌, length}
-use Rattle.shortest_paths.proofs.tree.Tree.reach_tops.Given as goal
+use Rattle.shortest_paths.proofs.tree.Tree.reach_along_all.Given as goal
 
 abbrev pub invariant-loop : goal.invariant-loop
 invariant-loop l = record {
@@ -9,6 +9,12 @@ invariant-loop l = record {
 
 abbrev pub invariant-loop-i : goal.invariant-loop-i
 invariant-loop-i l = record {
+  sized : length l.self.labels ≡ length l.residual.potentials.now;
+  held : l.self.held ≡ l.initial.self.held;
+}
+
+abbrev pub invariant-loop-k : goal.invariant-loop-k
+invariant-loop-k l = record {
   sized : length l.self.labels ≡ length l.residual.potentials.now;
   held : l.self.held ≡ l.initial.self.held;
 }
