@@ -36,7 +36,7 @@ const MOST_LOOSE: usize = 8;
 const SOME_LOOSE: usize = 64;
 
 /// Where more nodes than one in so many moved, the whole tree is mended.
-const MOST_MOVED: usize = 16;
+const MOST_MOVED: usize = 8;
 
 /// How often, counted over all nodes, a node is settled at most.
 const MOST_SETTLED: usize = 4;

@@ -156,27 +156,34 @@ impl Tree {
         if nodes.saturating_sub(self.ready.len()) <= nodes / MOST_LEFT {
             return;
         }
-        self.reach_ahead(residual);
+        if self.reach_ahead(residual) {
+            return;
+        }
         for v in 0..nodes {
             self.reach_from_behind(residual, v as u32);
         }
     }
 
-    /// Reaches nodes from those that were reached, in turn, until fewer nodes are left that were not.
-    fn reach_ahead(&mut self, residual: Residual<'_>)
+    /// Reaches nodes from those that were reached, in turn, until fewer nodes are left that were not. Says whether it looked at
+    /// all that were reached.
+    fn reach_ahead(&mut self, residual: Residual<'_>) -> bool
         requires sized { IsTreeOf residual self.old }
         ensures sized { IsTreeOf residual.entry self.new }
         ensures held { self.new.held ≡ self.old.held }
     {
         let nodes = residual.potentials.len();
         for place in 0..nodes {
-            let others = nodes.saturating_sub(self.ready.len());
-            if others < self.ready.len().saturating_sub(place) || place >= self.ready.len() {
-                return;
+            let count = self.ready.len();
+            if place >= count {
+                return true;
+            }
+            if nodes.saturating_sub(count) < count.saturating_sub(place) {
+                return false;
             }
             let u = entry(&self.ready, place);
             self.reach_from(residual, u);
         }
+        true
     }
 
     /// Reaches the nodes to which a node that was reached leads at their labels.
