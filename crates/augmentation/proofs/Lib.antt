@@ -9,4 +9,5 @@ pub mod WantedPaths
 pub mod ChangeLemmas
 pub mod CertificateLemmas
 pub mod HeldLemmas
+pub mod NearLemmas
 pub mod TurnedRows

@@ -11,6 +11,7 @@ pub mod Changes
 pub mod Exchange
 pub mod Certificate
 pub mod Held
+pub mod Near
 pub mod Wanted
 pub mod Attempt
 pub mod Adoption

@@ -64,7 +64,7 @@ fn note_written(touched: &mut Touched, journal: &Journal)
 
 /// Makes the flow the proposed one, with the excess that it leaves, and counts the units that this moves: nothing where the
 /// changes do not serve, and then both are as they were.
-fn lead(
+pub(crate) fn lead(
     graph: &Graph,
     flow: &mut Tracked<i64>,
     excess: &mut Excess,
@@ -103,7 +103,7 @@ fn lead(
 }
 
 /// Brings flow and excess back.
-fn take_back(flow: &mut Tracked<i64>, excess: &mut Excess, draft: &Draft)
+pub(crate) fn take_back(flow: &mut Tracked<i64>, excess: &mut Excess, draft: &Draft)
     requires flow_journal { IsJournalFor (length flow.old.entries) draft.now.flow }
     requires flow_since { (xs : List ℤ) × IsSince draft.now.flow xs flow.old.entries }
     requires excess_journal { IsJournalFor (length excess.old) draft.now.excess }

@@ -7,6 +7,7 @@ ghost use Rattle.residual_graph.specs.Residual.{IsPseudoflow};
 ghost use Rattle.augmentation.specs.Attempt.{IsAttemptFor};
 
 use crate::draft::Draft;
+use crate::excess::Excess;
 use proposals::{Aim, Proposals, Wanted};
 use relaxation::both;
 use residual_graph::Graph;
@@ -71,10 +72,35 @@ impl Attempt {
         if self.proposals.is_fresh() {
             self.propose_from_afar(graph, flow, excess, potentials);
         } else {
+            self.proposals.forget_nodes();
             self.proposals
-                .propose_near(graph.rows(), flow, excess, potentials);
+                .propose_near(graph.rows(), flow, excess, potentials, &[]);
             self.proposals.write(graph.rows(), flow, &mut self.wanted);
         }
+    }
+
+    /// Proposes where to lead a flow and its excess near the nodes out of balance, and writes down the changes of the flow alone.
+    pub(crate) fn propose_near(
+        &mut self,
+        graph: &Graph,
+        flow: &[i64],
+        excess: &Excess,
+        potentials: &[i64],
+    )
+        requires tables { IsAttemptFor (length potentials.now) self.old }
+        requires flow { IsPseudoflow (length potentials.now) graph.now.rows flow.now }
+        requires excess { length excess.now ≡ length potentials.now }
+        ensures { IsAttemptFor (length potentials.now) self.new }
+    {
+        self.proposals.propose_near(
+            graph.rows(),
+            flow,
+            excess.entries(),
+            potentials,
+            excess.unbalanced.places(),
+        );
+        self.proposals
+            .write_changes(graph.rows(), flow, &mut self.wanted);
     }
 
     /// Proposes where to lead a flow, its excess and potentials, and looks at all nodes for that.

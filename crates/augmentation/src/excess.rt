@@ -74,7 +74,7 @@ impl Excess {
     }
 
     /// Takes balanced nodes off the list, where it has grown long.
-    pub(crate) fn tidy(&mut self)
+    pub fn tidy(&mut self)
         ensures { self.new ≡ self.old }
     {
         if self.unbalanced.places().len() > FEW_PLACES {

@@ -21,7 +21,7 @@ use tracked::Tracked;
 const MOST_REHUNG: usize = 16;
 
 /// Makes a table the same as these numbers.
-fn write_all(table: &mut Tracked<i64>, numbers: &[i64])
+pub(crate) fn write_all(table: &mut Tracked<i64>, numbers: &[i64])
     requires same_length { length numbers.now ≡ length table.old.entries }
     ensures written { IsWritten table.old table.new }
     ensures entries { table.new.entries ≡ numbers.now }
@@ -77,7 +77,31 @@ fn search(graph: &Graph, flow: &Tracked<i64>, potentials: &[i64], tree: &mut Tre
 }
 
 /// Has a tree mend its labels, or else find them anew, and says whether they are the greatest potentials that certify the
-/// flow.
+/// flow. If not, they are forgotten.
+pub(crate) fn is_renewed(
+    graph: &Graph,
+    flow: &Tracked<i64>,
+    potentials: &[i64],
+    tree: &mut Tree,
+) -> bool
+    requires graph { HasEntries (length potentials.now) graph.now }
+    requires flow { IsPseudoflow (length potentials.now) graph.now.rows flow.now.entries }
+    requires sized { length tree.old.labels ≡ length potentials.now }
+    requires held { IsHeldIn graph.now.rows flow.now.whole tree.old.held }
+    ensures tested { IsTrue result → AreTestedIn graph.now.rows flow.now.entries tree.new }
+    ensures sized { length tree.new.labels ≡ length tree.old.labels }
+    ensures labels { tree.new.held.labels ≡ tree.old.held.labels }
+    ensures held { IsHeldIn graph.now.rows flow.now.whole tree.new.held }
+{
+    if mend(graph, flow, potentials, tree) || search(graph, flow, potentials, tree) {
+        return true;
+    }
+    tree.forget();
+    false
+}
+
+/// Has a tree find its labels so, and hold them where they are the greatest potentials that certify the flow; says whether
+/// they are.
 pub(crate) fn renew(graph: &Graph, flow: &Tracked<i64>, potentials: &[i64], tree: &mut Tree) -> bool
     requires graph { HasEntries (length potentials.now) graph.now }
     requires flow { IsPseudoflow (length potentials.now) graph.now.rows flow.now.entries }
@@ -87,8 +111,8 @@ pub(crate) fn renew(graph: &Graph, flow: &Tracked<i64>, potentials: &[i64], tree
     ensures sized { length tree.new.labels ≡ length tree.old.labels }
     ensures held { IsHeldIn graph.now.rows flow.now.whole tree.new.held }
 {
-    if !mend(graph, flow, potentials, tree) && !search(graph, flow, potentials, tree) {
-        tree.forget();
+    tree.lower(0);
+    if !is_renewed(graph, flow, potentials, tree) {
         return false;
     }
     tree.accept(graph, flow.places());

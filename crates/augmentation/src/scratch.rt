@@ -149,7 +149,7 @@ impl Scratch {
     }
 
     /// Marks the nodes in excess and all that they reach, and says whether none of these is in deficit.
-    pub(crate) fn is_parted(&mut self, graph: &Graph, flow: &[i64], excess: &Excess) -> bool
+    pub fn is_parted(&mut self, graph: &Graph, flow: &[i64], excess: &Excess) -> bool
         requires graph { HasEntries (length self.old.potentials) graph.now }
         requires flow { IsPseudoflow (length self.old.potentials) graph.now.rows flow.now }
         requires excess { length excess.now ≡ length self.old.potentials }

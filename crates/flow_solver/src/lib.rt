@@ -4,6 +4,7 @@
 
 mod answer;
 mod balance;
+mod cut;
 mod edit;
 mod part;
 mod potentials;

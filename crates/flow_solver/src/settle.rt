@@ -1,22 +1,28 @@
 //! A best flow, or the cut that tells why there is none, with the greatest potentials that certify it.
 
-ghost use Rattle.std.specs.Prelude.{◌≡◌, ℕ, ℤ, IsTrue, length};
+ghost use Rattle.std.specs.Prelude.{◌≡◌, ◌<◌, ℕ, ℤ, IsTrue, length};
 ghost use Rattle.augmentation.specs.Pseudoflow.{IsReady};
-ghost use Rattle.augmentation.specs.Push.{ArePushes, IsExcess};
+ghost use Rattle.augmentation.specs.Push.{ArePushes, IsExcess, left};
 ghost use Rattle.tracked.specs.Tracked.{IsWritten};
+ghost use Rattle.flow_solver.specs.CutMarks.{IsClear};
 ghost use Rattle.flow_solver.specs.Potentials.{AreAsTold, AreGreatestIn};
+ghost use Rattle.residual_graph.specs.Graph.{HasEntries};
+ghost use Rattle.residual_graph.specs.Residual.{IsPseudoflow};
 ghost use Rattle.augmentation.specs.Cut.{IsChosenSet, IsParted, IsSide};
 ghost use Rattle.augmentation.specs.Held.{IsHeldIn};
+ghost use Rattle.augmentation.specs.Near.{AreInStep};
 ghost use Rattle.residual_graph.specs.Walk.{AreRowsOf};
-ghost use Rattle.residual_graph.specs.declared.side.Side.TheVariants.{Ahead};
+ghost use Rattle.residual_graph.specs.declared.side.Side.TheVariants.{Ahead, Behind};
 
+use crate::cut::Cut;
 use crate::potentials::Potentials;
-use augmentation::{Excess, Pushed, Scratch, mark_cut, push_all, write_potentials};
-use residual_graph::Graph;
+use augmentation::{Excess, Pushed, Scratch, mark_cut, push_all, push_near, write_potentials};
+use residual_graph::{Graph, Side};
 use tracked::Tracked;
 
-/// Pushes what can be pushed, and says what that came to; the potentials become the greatest that certify the flow.
-fn push_and_raise(
+/// Pushes what can be pushed, and says what that came to; the potentials become the greatest that certify the flow. All nodes
+/// are gone over.
+fn push_and_raise_all(
     graph: &Graph,
     flow: &mut Tracked<i64>,
     potentials: &mut Potentials,
@@ -28,6 +34,7 @@ fn push_and_raise(
     requires told { AreAsTold graph.now.net flow.old.entries potentials.old }
     requires scratch_in { length scratch.old.potentials ≡ length excess.old }
     requires held { IsHeldIn graph.now.rows flow.old.whole scratch.old.held }
+    requires step { AreInStep potentials.old.apart scratch.old.held.labels potentials.old.table.entries }
     ensures flow_written { IsWritten flow.old flow.new }
     ensures potentials_written { IsWritten potentials.old.table potentials.new.table }
     ensures ready { IsReady graph.now flow.new.entries potentials.new.table.entries excess.new }
@@ -37,11 +44,10 @@ fn push_and_raise(
     ensures marked { IsTrue result.are_marked → IsSide Ahead graph.now.rows flow.new.entries excess.new scratch.new.marks }
     ensures scratch_in { length scratch.new.potentials ≡ length excess.new }
     ensures held { IsHeldIn graph.now.rows flow.new.whole scratch.new.held }
+    ensures step { AreInStep potentials.new.apart scratch.new.held.labels potentials.new.table.entries }
 {
     let stood = potentials.greatest;
-    if stood && !excess.has_both() {
-        return Pushed::counted(0);
-    }
+    potentials.apart.are_all = true;
     scratch.take_potentials(potentials.table.entries());
     let pushed = push_all(graph, flow, excess, scratch);
     // Where nothing is pushed the flow is what it was, and potentials that were the greatest are so still.
@@ -57,6 +63,93 @@ fn push_and_raise(
     pushed
 }
 
+/// Pushes what can be pushed, and says what that came to; the potentials become the greatest that certify the flow. First it
+/// is tried near the nodes out of balance.
+fn push_and_raise(
+    graph: &Graph,
+    flow: &mut Tracked<i64>,
+    potentials: &mut Potentials,
+    excess: &mut Excess,
+    scratch: &mut Scratch,
+) -> Pushed
+    requires rows { AreRowsOf graph.now.net graph.now.rows }
+    requires ready { IsReady graph.now flow.old.entries potentials.old.table.entries excess.old }
+    requires told { AreAsTold graph.now.net flow.old.entries potentials.old }
+    requires scratch_in { length scratch.old.potentials ≡ length excess.old }
+    requires held { IsHeldIn graph.now.rows flow.old.whole scratch.old.held }
+    requires step { AreInStep potentials.old.apart scratch.old.held.labels potentials.old.table.entries }
+    ensures flow_written { IsWritten flow.old flow.new }
+    ensures potentials_written { IsWritten potentials.old.table potentials.new.table }
+    ensures ready { IsReady graph.now flow.new.entries potentials.new.table.entries excess.new }
+    ensures greatest { AreGreatestIn graph.now.net flow.new.entries potentials.new.table.entries }
+    ensures pushed { ArePushes graph.now.rows result.count flow.old.entries excess.old flow.new.entries excess.new }
+    ensures parted { IsParted graph.now.rows flow.new.entries excess.new }
+    ensures marked { IsTrue result.are_marked → IsSide Ahead graph.now.rows flow.new.entries excess.new scratch.new.marks }
+    ensures scratch_in { length scratch.new.potentials ≡ length excess.new }
+    ensures held { IsHeldIn graph.now.rows flow.new.whole scratch.new.held }
+    ensures step { AreInStep potentials.new.apart scratch.new.held.labels potentials.new.table.entries }
+{
+    if potentials.greatest && !excess.has_both() {
+        return Pushed::counted(0);
+    }
+    let Some(count) = push_near(
+        graph,
+        flow,
+        excess,
+        &mut potentials.table,
+        &mut potentials.apart,
+        scratch,
+    ) else {
+        return push_and_raise_all(graph, flow, potentials, excess, scratch);
+    };
+    potentials.greatest = true;
+    excess.tidy();
+    if !excess.has_both() {
+        return Pushed::counted(count);
+    }
+    if scratch.is_parted(graph, flow.entries(), excess) {
+        return Pushed {
+            are_marked: true,
+            ..Pushed::counted(count)
+        };
+    }
+    let more = push_and_raise_all(graph, flow, potentials, excess, scratch);
+    Pushed {
+        count: count + more.count,
+        ..more
+    }
+}
+
+/// Marks the set that tells why some supply is left over or some demand is not met; where no node is out of balance, none is
+/// marked. The scratch has the marks of the nodes in excess, and of all that they reach, already, or not.
+fn mark(
+    graph: &Graph,
+    flow: &Tracked<i64>,
+    excess: &Excess,
+    scratch: &mut Scratch,
+    are_marked: bool,
+    cut: &mut Cut,
+)
+    requires graph { HasEntries (length excess.now) graph.now }
+    requires flow { IsPseudoflow (length excess.now) graph.now.rows flow.now.entries }
+    requires cut_in { length cut.old.table.entries ≡ length excess.now }
+    requires scratch_in { length scratch.old.potentials ≡ length excess.now }
+    requires marked { IsTrue are_marked → IsSide Ahead graph.now.rows flow.now.entries excess.now scratch.old.marks }
+    requires clear { IsClear cut.old }
+    ensures in_excess { 0 < left excess.now → IsSide Ahead graph.now.rows flow.now.entries excess.now cut.new.table.entries }
+    ensures no_excess { left excess.now ≡ 0 → IsSide Behind graph.now.rows flow.now.entries excess.now cut.new.table.entries }
+    ensures written { IsWritten cut.old.table cut.new.table }
+    ensures clear { IsClear cut.new }
+    ensures scratch { scratch.new ≡ record scratch.old { marks = scratch.new.marks } }
+{
+    let is_balanced = !excess.has_root(Side::Ahead) && !excess.has_root(Side::Behind);
+    if is_balanced && cut.is_clear {
+        return;
+    }
+    mark_cut(graph, flow, excess, scratch, are_marked, &mut cut.table);
+    cut.is_clear = is_balanced;
+}
+
 /// Makes the flow a best one, or marks the cut that tells why there is none, with the greatest
 /// potentials that certify it, and counts the pushes.
 pub fn settle(
@@ -65,26 +158,30 @@ pub fn settle(
     potentials: &mut Potentials,
     excess: &mut Excess,
     scratch: &mut Scratch,
-    cut: &mut Tracked<bool>,
+    cut: &mut Cut,
 ) -> u64
     requires rows { AreRowsOf graph.now.net graph.now.rows }
     requires ready { IsReady graph.now flow.old.entries potentials.old.table.entries excess.old }
     requires told { AreAsTold graph.now.net flow.old.entries potentials.old }
-    requires cut_in { length cut.old.entries ≡ length excess.old }
+    requires cut_in { length cut.old.table.entries ≡ length excess.old }
+    requires clear { IsClear cut.old }
     requires scratch_in { length scratch.old.potentials ≡ length excess.old }
     requires held { IsHeldIn graph.now.rows flow.old.whole scratch.old.held }
+    requires step { AreInStep potentials.old.apart scratch.old.held.labels potentials.old.table.entries }
     ensures flow_written { IsWritten flow.old flow.new }
     ensures potentials_written { IsWritten potentials.old.table potentials.new.table }
-    ensures cut_written { IsWritten cut.old cut.new }
+    ensures cut_written { IsWritten cut.old.table cut.new.table }
+    ensures clear { IsClear cut.new }
     ensures ready { IsReady graph.now flow.new.entries potentials.new.table.entries excess.new }
     ensures greatest { AreGreatestIn graph.now.net flow.new.entries potentials.new.table.entries }
     ensures pushed { ArePushes graph.now.rows result flow.old.entries excess.old flow.new.entries excess.new }
     ensures scratch_in { length scratch.new.potentials ≡ length excess.new }
     ensures held { IsHeldIn graph.now.rows flow.new.whole scratch.new.held }
-    ensures cut { (supply : ℕ → ℤ) → IsExcess graph.now.rows supply flow.old.entries excess.old → IsChosenSet graph.now.rows supply excess.new cut.new.entries }
+    ensures step { AreInStep potentials.new.apart scratch.new.held.labels potentials.new.table.entries }
+    ensures cut { (supply : ℕ → ℤ) → IsExcess graph.now.rows supply flow.old.entries excess.old → IsChosenSet graph.now.rows supply excess.new cut.new.table.entries }
 {
     let pushed = push_and_raise(graph, flow, potentials, excess, scratch);
-    mark_cut(graph, flow, excess, scratch, pushed.are_marked, cut);
+    mark(graph, flow, excess, scratch, pushed.are_marked, cut);
     potentials.greatest = true;
     pushed.count
 }

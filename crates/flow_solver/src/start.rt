@@ -7,7 +7,8 @@ ghost use Rattle.residual_graph.specs.Graph.{IsGraph};
 ghost use Rattle.residual_graph.specs.Limits.{row_limit};
 
 use crate::balance::Balance;
-use augmentation::Scratch;
+use crate::potentials::Potentials;
+use augmentation::{Apart, Scratch};
 use dimacs_text::ArcRow;
 use residual_graph::Graph;
 use std::alloc::{AllocError, Global};
@@ -83,10 +84,13 @@ pub fn start_nodes(
     alloc: Global,
     nodes: u32,
     arcs: usize,
-) -> Result<(Tracked<i64>, Tracked<bool>, Scratch), AllocError>
+) -> Result<(Potentials, Tracked<bool>, Scratch), AllocError>
     requires few { nodes + 1 ≤ row_limit }
-    ensures potentials { IfOk result (λ t. t.0.entries ≡ replicate (nodes + 1) (pos 0)) }
-    ensures potentials_kept { IfOk result (λ t. t.0.kept ≡ replicate (nodes + 1) (pos 0)) }
+    ensures potentials { IfOk result (λ t. t.0.table.entries ≡ replicate (nodes + 1) (pos 0)) }
+    ensures potentials_kept { IfOk result (λ t. t.0.table.kept ≡ replicate (nodes + 1) (pos 0)) }
+    ensures told { IfOk result (λ t. t.0.greatest ≡ false) }
+    ensures apart { IfOk result (λ t. length t.0.apart.nodes ≡ nodes + 1) }
+    ensures all_apart { IfOk result (λ t. t.0.apart.are_all ≡ true) }
     ensures cut { IfOk result (λ t. t.1.entries ≡ replicate (nodes + 1) false) }
     ensures cut_kept { IfOk result (λ t. t.1.kept ≡ replicate (nodes + 1) false) }
     ensures scratch { IfOk result (λ t. length t.2.potentials ≡ nodes + 1) }
@@ -94,7 +98,13 @@ pub fn start_nodes(
 {
     let entries = nodes as usize + 1;
     let potentials = zeros(alloc, entries)?;
+    let apart = Apart::new(alloc, entries)?;
     let cut = no_marks(alloc, entries)?;
     let scratch = Scratch::new(alloc, nodes + 1, arcs)?;
+    let potentials = Potentials {
+        table: potentials,
+        greatest: false,
+        apart,
+    };
     Ok((potentials, cut, scratch))
 }

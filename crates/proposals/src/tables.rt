@@ -38,6 +38,8 @@ pub struct Proposals {
     rows: Option<usize>,
     /// The first arc in the proposal: from afar a greatest flow has no return arc.
     first: usize,
+    /// Whether the potentials keep step too, but at the nodes that the proposal has noted.
+    keeps_nodes: bool,
     /// Nothing was proposed yet.
     fresh: bool,
 }
@@ -82,6 +84,7 @@ impl Proposals {
             noted,
             rows: None,
             first: 0,
+            keeps_nodes: false,
             fresh: true,
         })
     }
@@ -137,7 +140,8 @@ impl Proposals {
 
     /// Leads a flow on to one of least cost, where it is likely that few nodes are out of balance: by searches from
     /// both sides, and where these take long by relaxation too. The return arc is an arc as others are, so that a
-    /// greatest flow is one of least cost.
+    /// greatest flow is one of least cost. Potentials are those of the last call but at the nodes that were noted since, and
+    /// no other node than these is out of balance; where `forget_nodes` was called since, all nodes are looked at.
     #[inline(never)] // a name of its own in the program: `bench/count` counts its calls
     pub fn propose_near(
         &mut self,
@@ -145,6 +149,7 @@ impl Proposals {
         flow: &[i64],
         excess: &[i64],
         potentials: &[i64],
+        unbalanced: &[u32],
     )
         requires flow { length flow.now ≡ length rows.now }
         requires excess { length excess.now ≡ self.old }
@@ -152,7 +157,7 @@ impl Proposals {
         ensures { self.new ≡ self.old }
     {
         self.fresh = false;
-        self.take_over(rows, flow, excess, potentials);
+        self.take_over(rows, flow, excess, potentials, unbalanced);
         if self.push_near() == Halt::Spent {
             self.rows = None;
             solve(
@@ -184,9 +189,47 @@ impl Proposals {
         self.noted.note(k);
     }
 
-    /// Takes over a flow, what it leaves at each node and potentials: of the arcs those alone that were noted, where the
-    /// proposal keeps step with all others and they are few.
-    fn take_over(&mut self, rows: &[ArcRow], flow: &[i64], excess: &[i64], potentials: &[i64])
+    /// Notes that a node may have got another potential.
+    pub fn note_node(&mut self, v: u32)
+        ensures { self.new ≡ self.old }
+    {
+        self.proposal.note_node(v);
+    }
+
+    /// Notes that all nodes may have got other potentials.
+    pub fn forget_nodes(&mut self)
+        ensures { self.new ≡ self.old }
+    {
+        self.keeps_nodes = false;
+    }
+
+    /// The potentials of the proposal.
+    pub fn potentials(&self) -> &[i64]
+        ensures { length result.now ≡ self.now }
+    {
+        self.proposal.potentials()
+    }
+
+    /// The greatest of them, or 0 if that is greater: of the nodes alone that were moved, where these are few. All were at most
+    /// 0 before.
+    pub fn greatest(&self) -> i64 {
+        let potentials = self.proposal.potentials();
+        match self.proposal.moved() {
+            Some(moved) => greatest_at(potentials, moved),
+            None => greatest_of(potentials),
+        }
+    }
+
+    /// Takes over a flow, what it leaves at each node and potentials: of the arcs and the nodes those alone that were noted,
+    /// where the proposal keeps step with all others and they are few.
+    fn take_over(
+        &mut self,
+        rows: &[ArcRow],
+        flow: &[i64],
+        excess: &[i64],
+        potentials: &[i64],
+        unbalanced: &[u32],
+    )
         requires flow { length flow.now ≡ length rows.now }
         requires excess { length excess.now ≡ self.old }
         requires potentials { length potentials.now ≡ self.old }
@@ -201,16 +244,49 @@ impl Proposals {
                 flow,
             )
         {
-            self.proposal.load_nodes(excess, potentials);
+            self.take_over_nodes(excess, potentials, unbalanced);
         } else {
             self.first = 0;
             self.proposal.tell_arcs();
             self.proposal.load(rows, flow, 0, excess, potentials);
             self.between.load(&self.proposal);
+            self.list_roots();
             self.noted.open();
             self.rows = Some(rows.len());
         }
         self.noted.clear();
+        self.keeps_nodes = true;
+    }
+
+    /// Takes over what a flow leaves at each node and potentials, and lists the nodes out of balance.
+    fn take_over_nodes(&mut self, excess: &[i64], potentials: &[i64], unbalanced: &[u32])
+        requires excess { length excess.now ≡ self.old }
+        requires potentials { length potentials.now ≡ self.old }
+        ensures { self.new ≡ self.old }
+    {
+        if self.between.entries() != self.proposal.entries() {
+            return;
+        }
+        if !self.keeps_nodes || self.proposal.moved().is_none() {
+            self.proposal.load_nodes(excess, potentials);
+            self.between.list_roots(&self.proposal);
+            return;
+        }
+        let (sources, sinks) = self.between.listed_roots();
+        self.proposal.load_rests(excess, sources);
+        self.proposal.load_rests(excess, sinks);
+        self.proposal.load_rests(excess, unbalanced);
+        self.proposal.load_moved(potentials);
+        self.between.list_roots_among(&self.proposal, unbalanced);
+    }
+
+    /// Lists the nodes out of balance, where what searches from both sides know is of the same nodes.
+    fn list_roots(&mut self)
+        ensures { self.new ≡ self.old }
+    {
+        if self.between.entries() == self.proposal.entries() {
+            self.between.list_roots(&self.proposal);
+        }
     }
 
     /// Whether the proposal is of so many rows, and few of them were noted.
@@ -220,8 +296,13 @@ impl Proposals {
 
     /// Writes down where the proposal stands, less than all where there is no room for it.
     pub fn write(&self, rows: &[ArcRow], flow: &[i64], wanted: &mut Wanted) {
-        wanted.changes.clear();
         let _potentials = wanted.take_potentials(&self.proposal);
+        self.write_changes(rows, flow, wanted);
+    }
+
+    /// Writes down which arcs are to have another flow.
+    pub fn write_changes(&self, rows: &[ArcRow], flow: &[i64], wanted: &mut Wanted) {
+        wanted.changes.clear();
         if self.first > 0 && !rows.is_empty() && !flow.is_empty() {
             let row = &rows[0];
             if let Some(rest) = self.proposal.rests().get(row.head as usize) {
@@ -258,6 +339,27 @@ fn renew_all(
         between.renew(proposal, k);
     }
     true
+}
+
+/// The greatest of these potentials, or 0 if that is greater.
+fn greatest_of(potentials: &[i64]) -> i64 {
+    let mut greatest = 0;
+    for p in potentials {
+        greatest = greatest.max(*p);
+    }
+    greatest
+}
+
+/// The same of the potentials of these nodes.
+fn greatest_at(potentials: &[i64], nodes: &[u32]) -> i64 {
+    let mut greatest = 0;
+    for v in nodes {
+        let v = *v as usize;
+        if v < potentials.len() {
+            greatest = greatest.max(potentials[v]);
+        }
+    }
+    greatest
 }
 
 /// Writes down the flow of each noted arc, where it is to change.

@@ -1,11 +1,11 @@
-//! Lists of arcs, each once.
+//! Lists of arcs or of nodes, each once.
 
 use crate::places::Places;
 use std::alloc::{AllocError, Global};
 use std::marker::Model;
 
-/// Arcs in the order in which they were first noted, of so many that have a number: another one is not listed, and none
-/// before the list is opened, so that its room is not touched. It is seen as of how many arcs it can be.
+/// Arcs, or nodes, in the order in which they were first noted, of so many that have a number: another one is not listed,
+/// and none before the list is opened, so that its room is not touched. It is seen as of how many arcs it can be.
 #[derive(Drop)]
 pub struct Noted {
     marks: Vec<bool>,
@@ -26,8 +26,16 @@ impl Noted {
     /// # Errors
     /// Memory for a table was refused.
     pub fn new(alloc: Global, arcs: usize) -> Result<Noted, AllocError> {
+        Noted::with_room(alloc, arcs, arcs)
+    }
+
+    /// The same, with room for so many of them: one more is not listed.
+    ///
+    /// # Errors
+    /// Memory for a table was refused.
+    pub fn with_room(alloc: Global, arcs: usize, most: usize) -> Result<Noted, AllocError> {
         let marks = Vec::with_capacity(alloc, arcs)?;
-        let arcs = Places::new(alloc, arcs)?;
+        let arcs = Places::new(alloc, most)?;
         Ok(Noted { marks, arcs })
     }
 
@@ -36,13 +44,24 @@ impl Noted {
         let _filled = self.marks.resize(self.marks.capacity(), false);
     }
 
-    /// Lists an arc, if it is not listed.
+    /// Lists an arc, or a node, if it is not listed.
     #[inline(always)]
     pub fn note(&mut self, k: u32) {
         let place = k as usize;
+        if self.arcs.is_full() {
+            return;
+        }
         if place < self.marks.len() && !self.marks[place] {
             self.marks[place] = true;
             self.arcs.add(k);
+        }
+    }
+
+    /// Lists the arc, or the node, of this place so, if it has a number.
+    #[inline(always)]
+    pub fn note_place(&mut self, place: usize) {
+        if let Ok(k) = u32::try_from(place) {
+            self.note(k);
         }
     }
 

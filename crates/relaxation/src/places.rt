@@ -32,6 +32,12 @@ impl Places {
         }
     }
 
+    /// Whether there is no room for one more.
+    #[inline(always)]
+    pub fn is_full(&self) -> bool {
+        self.list.len() >= self.list.capacity()
+    }
+
     /// Those that are listed.
     pub fn listed(&self) -> &[u32] {
         &self.list

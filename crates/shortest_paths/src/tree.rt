@@ -63,6 +63,8 @@ pub struct Tree {
     /// Queued nodes whose label is above their potential by `present`, and in the heap those of which it is more.
     ready: Vec<u32>,
     present: i64,
+    /// What is taken off the potentials that are likely to certify, so that none is above 0.
+    taken_off: i64,
     heap: Heap,
     forest: Forest,
     links: Links,
@@ -144,6 +146,7 @@ impl Tree {
             loose,
             ready,
             present: 0,
+            taken_off: 0,
             heap,
             forest,
             links,
@@ -242,6 +245,13 @@ impl Tree {
         }
     }
 
+    /// Has the tree take so much off all potentials that are likely to certify a flow, which it gets from now on.
+    pub fn lower(&mut self, amount: i64)
+        ensures { self.new ≡ self.old }
+    {
+        self.taken_off = amount;
+    }
+
     /// Forgets what is held: the labels are to be found anew.
     pub fn forget(&mut self)
         ensures { self.new ≡ record self.old { held = record self.old.held { is_lost = true } } }
@@ -282,7 +292,7 @@ impl Tree {
         self.links.clear();
         for v in 0..nodes {
             self.put(v, 0, Predecessor::open());
-            self.queue(v as u32, 0_i64.saturating_sub(residual.potentials[v]));
+            self.queue(v as u32, 0_i64.saturating_sub(self.potential(residual, v)));
         }
         self.settle_all(residual)
     }
@@ -329,6 +339,14 @@ impl Tree {
             self.improve_along(residual, *k);
         }
         self.settle_few(residual)
+    }
+
+    /// The potential of a node that is likely to certify the flow.
+    #[inline(always)]
+    fn potential(&self, residual: Residual<'_>, v: usize) -> i64
+        requires node { v < length residual.potentials.now }
+    {
+        residual.potentials[v].saturating_sub(self.taken_off)
     }
 
     /// The label of a node.
@@ -582,7 +600,7 @@ impl Tree {
             return;
         }
         // No label is below the node's potential, if the potentials certify the flow.
-        let least = residual.potentials[v as usize];
+        let least = self.potential(residual, v as usize);
         let mut label = 0;
         let mut predecessor = Predecessor::open();
         let mut walk = Walk::at(residual.graph, v);
@@ -652,7 +670,7 @@ impl Tree {
         ensures held { self.new.held ≡ self.old.held }
     {
         let place = v as usize;
-        let potential = residual.potentials[place];
+        let potential = self.potential(residual, place);
         let key = label.saturating_sub(potential);
         let key_before = self.label(place).saturating_sub(potential);
         let is_open = self.predecessor(place).is_open;

@@ -158,7 +158,7 @@ impl Between {
     }
 
     /// Pushes along shortest paths until one side is empty, the sides do not meet, or the readings are used up, and notes
-    /// the arcs whose flow it moves. Which arcs have room both ways was taken over before.
+    /// the arcs whose flow it moves. Which arcs have room both ways was taken over before, and the nodes out of balance are listed.
     #[inline(never)] // a name of its own in the program: `bench/count` counts its calls
     pub fn push_between(
         &mut self,
@@ -170,7 +170,6 @@ impl Between {
         ensures kept { self.new ≡ self.old }
         ensures proposal { proposal.new ≡ proposal.old }
     {
-        self.list_roots(proposal);
         self.ahead.forget_margins();
         self.behind.forget_margins();
         if self.roots() > MANY && !self.push_in_pairs(proposal, noted, readings) {
@@ -276,7 +275,7 @@ impl Between {
     }
 
     /// Lists the nodes out of balance.
-    fn list_roots(&mut self, proposal: &Proposal)
+    pub fn list_roots(&mut self, proposal: &Proposal)
         requires { proposal.now ≡ self.old }
         ensures { self.new ≡ self.old }
     {
@@ -288,6 +287,26 @@ impl Between {
                 self.list_roots_from(proposal, first);
             }
         }
+    }
+
+    /// Lists those of these nodes that are out of balance.
+    pub fn list_roots_among(&mut self, proposal: &Proposal, nodes: &[u32])
+        requires { proposal.now ≡ self.old }
+        ensures { self.new ≡ self.old }
+    {
+        self.sources.clear();
+        self.sinks.clear();
+        for v in nodes {
+            let v = *v as usize;
+            if v < proposal.entries() {
+                self.list_root(v, proposal.rest(v));
+            }
+        }
+    }
+
+    /// The nodes that were listed as in excess, and those as in deficit.
+    pub fn listed_roots(&self) -> (&[u32], &[u32]) {
+        (self.sources.listed(), self.sinks.listed())
     }
 
     /// Lists those of the nodes from one on that are in its block.

@@ -263,7 +263,7 @@ impl Tables {
         self.scratch.note_all(&self.graph, changed);
         self.flow.snapshot();
         self.potentials.table.snapshot();
-        self.cut.snapshot();
+        self.cut.table.snapshot();
         self.before.log.clear();
     }
 
@@ -279,7 +279,9 @@ impl Tables {
         self.scratch.note_all(&self.graph, self.flow.places());
         self.flow.bring_back();
         self.potentials.table.bring_back();
-        self.cut.bring_back();
+        self.potentials.apart.are_all = true;
+        self.cut.table.bring_back();
+        self.cut.is_clear = false;
         self.verdict = verdict;
     }
 }

@@ -50,6 +50,7 @@ impl Tables {
         self.before.verdict = None;
         self.potentials.greatest = false;
         exchange_node(&mut self.potentials.table, id, value);
+        self.potentials.apart.nodes.note(id as usize);
     }
 
     /// Exchanges the mark of a node.
@@ -61,7 +62,8 @@ impl Tables {
         ensures before { self.new.before ≡ None }
     {
         self.before.verdict = None;
-        exchange_node(&mut self.cut, id, value);
+        self.cut.is_clear = false;
+        exchange_node(&mut self.cut.table, id, value);
     }
 
     /// Exchanges what is told of the instance. Where there is a return arc, its flow goes with the worth that is told.

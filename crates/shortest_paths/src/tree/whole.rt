@@ -25,7 +25,8 @@ impl Tree {
     {
         self.begin();
         let greatest = greatest(residual.potentials);
-        self.relabel(residual, greatest);
+        self.lower(greatest);
+        self.relabel(residual);
         self.join_all(residual);
         self.reach_along_all(residual, written);
         self.reach_others(residual);
@@ -33,20 +34,19 @@ impl Tree {
             self.loosen_others();
             self.hang_all(residual);
         } else {
-            self.present = 0_i64.saturating_sub(greatest);
             self.queue_others(residual);
         }
         self.settle_all(residual)
     }
 
     /// Makes the labels the potentials, less the greatest. No arc is at node 0.
-    fn relabel(&mut self, residual: Residual<'_>, greatest: i64)
+    fn relabel(&mut self, residual: Residual<'_>)
         requires sized { IsTreeOf residual self.old }
         ensures sized { IsTreeOf residual.entry self.new }
         ensures held { self.new.held ≡ self.old.held }
     {
         for v in 1..residual.potentials.len() {
-            let label = residual.potentials[v].saturating_sub(greatest);
+            let label = self.potential(residual, v);
             if label != self.label(v) {
                 self.put(v, label, self.predecessor(v));
             }
@@ -352,7 +352,7 @@ impl Tree {
         for v in 0..residual.potentials.len() {
             if !self.forest.is_reached(v as u32) {
                 self.put(v, 0, Predecessor::open());
-                self.queue(v as u32, 0_i64.saturating_sub(residual.potentials[v]));
+                self.queue(v as u32, 0_i64.saturating_sub(self.potential(residual, v)));
             }
         }
     }

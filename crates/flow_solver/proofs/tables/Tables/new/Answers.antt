@@ -1,5 +1,5 @@
 use Rattle.std.proofs.Common.{add-one, ◌≡◌, ◌∙◌, ◌+◌, ℕ, suc, ℤ, arith, pos, false, List, map, drop, length, replicate, ap, sym, subst}
-use Rattle.std.proofs.lemmas.Bool.{true≢false}
+use Rattle.std.proofs.lemmas.Bool.{false≢true, true≢false}
 use Rattle.std.proofs.lemmas.Int.{ints}
 use Rattle.std.proofs.lemmas.List.{length-map, length-replicate}
 use Rattle.network.specs.Flow.{IsCertifiedFlow}
@@ -39,9 +39,14 @@ invariant_of-result c =
         scratch_in = nodes.scratch ∙ entries;
       };
       balance_is = c.in_ok-flow.ensures.balance;
-      told = λ none. cc;
+      told = λ stood. absurd (false≢true (sym nodes.told ∙ stood));
+      step = record {
+        sized = nodes.apart ∙ sym (rw nodes.potentials (length-replicate (c.nodes.result + 1) (pos 0)));
+        elsewhere = λ few. absurd (true≢false (sym nodes.all_apart ∙ few));
+      };
       held = λ found. absurd (true≢false (sym nodes.lost ∙ found));
       log_fits = omega (arith, c.in_ok-log.ensures.capacity);
+      clear = λ none. cc;
       before_is = tt;
     }
 
@@ -58,6 +63,6 @@ returns-clause-start c =
 pub returns-clause-certified : goal.returns-clause-certified
 returns-clause-certified c =
     let I = c.in_ok-graph.graph.net in
-    let potentials = c.in_ok-potentials.potentials.entries in
+    let potentials = c.in_ok-potentials.potentials.table.entries in
     subst (λ (x : List ℤ). IsCertifiedFlow (reduced I) x (at_node (drop 1 potentials))) (sym (started c))
     (start_certified I (at_node (drop 1 potentials)) c.in_ok-graph.ensures.graph.rows.lawful (λ v. ap (λ (p : List ℤ). at_node (drop 1 p) v) c.in_ok-potentials.ensures.potentials ∙ zero_entries (c.nodes.result + 1) v))

@@ -1,10 +1,11 @@
-use Rattle.std.proofs.Common.{◌∙◌, List, ap, arith, length, refl, subst, sym}
+use Rattle.std.proofs.Common.{◌∙◌, Bool, List, ap, arith, length, refl, subst, sym}
 use Rattle.std.specs.Int.{w128}
 use Rattle.std.proofs.lemmas.Int.{to_z-of_z}
 use Rattle.dimacs_text.specs.declared.problem.ArcRow.{ArcRow}
 use Rattle.flow_solver.specs.Balance.{IsWrappedCost}
 use Rattle.augmentation.specs.Nodes.{IsIdleEntry}
 use Rattle.augmentation.specs.ScratchView.{ScratchView}
+use Rattle.tracked.specs.Marks.{in_set}
 use Rattle.flow_solver.proofs.CarryLemmas.{balance_kept}
 use Rattle.flow_solver.proofs.HeldTables.{held_kept}
 use Rattle.flow_solver.proofs.tables.Tables.snapshot.Goals as goal
@@ -31,6 +32,8 @@ invariant_of-self c =
       balance_is = balance_kept t.graph.net t.graph.rows t.flow c.snapshot.new.self t.balance _ c.snapshot.ensures.entries c.snapshot.ensures.whole refl cost inv.balance_is;
       told = λ stood. rw (c.snapshot-2.ensures.entries, c.snapshot.ensures.entries) (inv.told stood);
       held = rw c.snapshot.ensures.whole (held_kept t.graph.rows t.flow.whole t.scratch.held c.note_all.new.self.held c.note_all.ensures.held inv.held c.places-changed.result.now t.flow.entries inv.flow_whole c.places-changed.ensures.all_named c.note_all.ensures.noted);
+      step = rw (c.note_all.ensures.held.labels, c.snapshot-2.ensures.entries) inv.step;
       log_fits = omega (arith, inv.log_fits);
+      clear = λ told v. ap (λ (m : List Bool). in_set m v) c.snapshot-3.ensures.entries ∙ inv.clear told v;
       before_is = tt;
     }

@@ -1,0 +1,236 @@
+//! Pushes and the greatest potentials after an edit, in the table that holds the potentials: no table is gone over.
+
+ghost use Rattle.std.specs.Prelude.{◌≡◌, ℕ, ◌<◌, ◌≤◌, IfOk, IsTrue, MatchOption, false, length, true};
+ghost use Rattle.std.specs.Bool.{OnFalse};
+ghost use Rattle.residual_graph.specs.Graph.{HasEntries};
+ghost use Rattle.residual_graph.specs.Limits.{row_limit};
+ghost use Rattle.residual_graph.specs.Residual.{IsPseudoflow};
+ghost use Rattle.tracked.specs.Marks.{in_set};
+ghost use Rattle.tracked.specs.Touched.{NameChanges};
+ghost use Rattle.tracked.specs.Tracked.{IsWritten};
+ghost use Rattle.augmentation.specs.Adoption.{IsAsBefore};
+ghost use Rattle.augmentation.specs.Held.{IsHeldIn};
+ghost use Rattle.augmentation.specs.Near.{AreInStep, IsRaisedBy};
+ghost use Rattle.augmentation.specs.Pseudoflow.{IsReady};
+ghost use Rattle.augmentation.specs.Settle.{AreShortest};
+
+use crate::adoption::{lead, take_back};
+use crate::excess::Excess;
+use crate::potentials::{is_renewed, write_all};
+use crate::scratch::Scratch;
+use proposals::Proposals;
+use residual_graph::Graph;
+use shortest_paths::Tree;
+use std::alloc::{AllocError, Global};
+use tracked::{Touched, Tracked};
+
+/// Where more nodes than one in so many may have another potential, all are compared: so they are gone over in order.
+const MOST_APART: usize = 8;
+
+/// The nodes whose potential may be another than the label that a tree holds.
+#[derive(Drop)]
+pub struct Apart {
+    pub nodes: Touched,
+    /// Any node may be one.
+    pub are_all: bool,
+}
+
+impl Apart {
+    /// Any of so many entries.
+    ///
+    /// # Errors
+    /// Memory for the list was refused.
+    pub fn new(alloc: Global, entries: usize) -> Result<Apart, AllocError>
+        requires { entries ≤ row_limit }
+        ensures sized { IfOk result (λ a. length a.nodes ≡ entries) }
+        ensures all { IfOk result (λ a. a.are_all ≡ true) }
+    {
+        let nodes = Touched::new(alloc, entries)?;
+        Ok(Apart {
+            nodes,
+            are_all: true,
+        })
+    }
+}
+
+/// Notes those of the places that are among those of a list.
+fn note_among(nodes: &mut Touched, more: &Touched)
+    ensures same_size { length nodes.new ≡ length nodes.old }
+    ensures still { (v : ℕ) → in_set nodes.old v ≡ true → in_set nodes.new v ≡ true }
+    ensures noted { (v : ℕ) → v < length nodes.old → in_set more.now v ≡ true → in_set nodes.new v ≡ true }
+{
+    for place in more.places() {
+        let v = *place as usize;
+        if v < nodes.size() {
+            nodes.note(v);
+        }
+    }
+}
+
+/// Makes a table the same as these numbers, where the places name each one at which they differ.
+fn write_at(table: &mut Tracked<i64>, numbers: &[i64], places: &[u32])
+    requires same_length { length numbers.now ≡ length table.old.entries }
+    requires named { NameChanges 0 places.now table.old.entries numbers.now }
+    ensures written { IsWritten table.old table.new }
+    ensures entries { table.new.entries ≡ numbers.now }
+{
+    for place in places {
+        let v = *place as usize;
+        if v >= numbers.len() {
+            continue;
+        }
+        if numbers[v] != table.get(v) {
+            table.set(v, numbers[v]);
+        }
+    }
+}
+
+/// Has the next proposal look at these nodes.
+fn note_nodes(proposals: &mut Proposals, nodes: &[u32])
+    ensures { proposals.new ≡ proposals.old }
+{
+    for v in nodes {
+        proposals.note_node(*v);
+    }
+}
+
+/// Has the next proposal look at the nodes whose potential may be another.
+fn note_apart(proposals: &mut Proposals, apart: &Apart)
+    ensures { proposals.new ≡ proposals.old }
+{
+    if apart.are_all {
+        proposals.forget_nodes();
+    } else {
+        note_nodes(proposals, apart.nodes.places());
+    }
+}
+
+/// Whether the labels of a tree may be other potentials at many nodes.
+fn are_many(apart: &Apart, tree: &Tree) -> bool
+    ensures { OnFalse result (apart.now.are_all ≡ false) }
+{
+    let listed = apart.nodes.places().len();
+    let listed = listed.saturating_add(tree.relabelled().places().len());
+    apart.are_all || listed > apart.nodes.size() / MOST_APART
+}
+
+/// Makes a table the labels of a tree, and has the next proposal look where they changed.
+fn write_labels(table: &mut Tracked<i64>, apart: &mut Apart, tree: &Tree, proposals: &mut Proposals)
+    requires sized { length tree.now.labels ≡ length table.old.entries }
+    requires step { AreInStep apart.old tree.now.held.labels table.old.entries }
+    ensures written { IsWritten table.old table.new }
+    ensures entries { table.new.entries ≡ tree.now.labels }
+    ensures step { AreInStep apart.new tree.now.labels table.new.entries }
+    ensures proposals { proposals.new ≡ proposals.old }
+{
+    if are_many(apart, tree) {
+        write_all(table, tree.labels());
+        proposals.forget_nodes();
+    } else {
+        note_among(&mut apart.nodes, tree.relabelled());
+        write_at(table, tree.labels(), apart.nodes.places());
+        note_nodes(proposals, apart.nodes.places());
+    }
+    apart.nodes.clear();
+    apart.are_all = false;
+}
+
+/// Makes potentials that certify a flow the greatest that do, if the tree of labels finds these, and says whether it does.
+fn raise_near(
+    graph: &Graph,
+    flow: &Tracked<i64>,
+    potentials: &mut Tracked<i64>,
+    apart: &mut Apart,
+    scratch: &mut Scratch,
+) -> bool
+    requires graph { HasEntries (length potentials.old.entries) graph.now }
+    requires flow { IsPseudoflow (length potentials.old.entries) graph.now.rows flow.now.entries }
+    requires scratch_in { length scratch.old.potentials ≡ length potentials.old.entries }
+    requires held { IsHeldIn graph.now.rows flow.now.whole scratch.old.held }
+    requires step { AreInStep apart.old scratch.old.held.labels potentials.old.entries }
+    ensures written { IsWritten potentials.old potentials.new }
+    ensures shortest { IsTrue result → AreShortest graph.now.rows flow.now.entries potentials.new.entries }
+    ensures kept { OnFalse result (potentials.new ≡ potentials.old) }
+    ensures scratch_in { length scratch.new.potentials ≡ length scratch.old.potentials }
+    ensures held { IsHeldIn graph.now.rows flow.now.whole scratch.new.held }
+    ensures step { AreInStep apart.new scratch.new.held.labels potentials.new.entries }
+{
+    let tree = &mut scratch.tree;
+    tree.lower(0);
+    if !is_renewed(graph, flow, potentials.entries(), tree) {
+        return false;
+    }
+    write_labels(potentials, apart, tree, &mut scratch.attempt.proposals);
+    tree.accept(graph, flow.places());
+    true
+}
+
+/// Pushes as a proposal near the nodes out of balance has it, where the tree of labels certifies that, and counts the pushes;
+/// the potentials become the greatest that certify the flow. Nothing where the tree does not.
+fn push_proposed_near(
+    graph: &Graph,
+    flow: &mut Tracked<i64>,
+    excess: &mut Excess,
+    potentials: &mut Tracked<i64>,
+    apart: &mut Apart,
+    scratch: &mut Scratch,
+) -> Option<u64>
+    requires ready { IsReady graph.now flow.old.entries potentials.old.entries excess.old }
+    requires scratch_in { length scratch.old.potentials ≡ length potentials.old.entries }
+    requires held { IsHeldIn graph.now.rows flow.old.whole scratch.old.held }
+    requires step { AreInStep apart.old scratch.old.held.labels potentials.old.entries }
+    ensures flow_written { IsWritten flow.old flow.new }
+    ensures potentials_written { IsWritten potentials.old potentials.new }
+    ensures pushed { MatchOption result (IsAsBefore flow.old flow.new excess.old excess.new potentials.old.entries potentials.new.entries) (λ n. IsRaisedBy graph.now n flow.old.entries excess.old flow.new.entries excess.new potentials.new.entries) }
+    ensures scratch_in { length scratch.new.potentials ≡ length scratch.old.potentials }
+    ensures held { IsHeldIn graph.now.rows flow.new.whole scratch.new.held }
+    ensures step { AreInStep apart.new scratch.new.held.labels potentials.new.entries }
+{
+    let attempt = &mut scratch.attempt;
+    note_apart(&mut attempt.proposals, apart);
+    attempt.propose_near(graph, flow.entries(), excess, potentials.entries());
+    let count = lead(graph, flow, excess, attempt)?;
+    let tree = &mut scratch.tree;
+    tree.lower(attempt.proposals.greatest());
+    if !is_renewed(graph, flow, attempt.proposals.potentials(), tree) {
+        take_back(flow, excess, &attempt.draft);
+        return None;
+    }
+    write_labels(potentials, apart, tree, &mut attempt.proposals);
+    tree.accept(graph, flow.places());
+    Some(count)
+}
+
+/// Pushes so where there are nodes of both kinds, and counts the pushes; the potentials become the greatest that certify the
+/// flow. Nothing where the tree of labels does not find these, or where nothing was proposed yet.
+pub fn push_near(
+    graph: &Graph,
+    flow: &mut Tracked<i64>,
+    excess: &mut Excess,
+    potentials: &mut Tracked<i64>,
+    apart: &mut Apart,
+    scratch: &mut Scratch,
+) -> Option<u64>
+    requires ready { IsReady graph.now flow.old.entries potentials.old.entries excess.old }
+    requires scratch_in { length scratch.old.potentials ≡ length potentials.old.entries }
+    requires held { IsHeldIn graph.now.rows flow.old.whole scratch.old.held }
+    requires step { AreInStep apart.old scratch.old.held.labels potentials.old.entries }
+    ensures flow_written { IsWritten flow.old flow.new }
+    ensures potentials_written { IsWritten potentials.old potentials.new }
+    ensures pushed { MatchOption result (IsAsBefore flow.old flow.new excess.old excess.new potentials.old.entries potentials.new.entries) (λ n. IsRaisedBy graph.now n flow.old.entries excess.old flow.new.entries excess.new potentials.new.entries) }
+    ensures scratch_in { length scratch.new.potentials ≡ length scratch.old.potentials }
+    ensures held { IsHeldIn graph.now.rows flow.new.whole scratch.new.held }
+    ensures step { AreInStep apart.new scratch.new.held.labels potentials.new.entries }
+{
+    if scratch.attempt.proposals.is_fresh() {
+        return None;
+    }
+    if excess.has_both() {
+        return push_proposed_near(graph, flow, excess, potentials, apart, scratch);
+    }
+    if raise_near(graph, flow, potentials, apart, scratch) {
+        Some(0)
+    } else {
+        None
+    }
+}
