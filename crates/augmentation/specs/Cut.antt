@@ -78,6 +78,11 @@ pub record IsSide (side : Side) (arcs : List ArcRow) (x e : List ℤ) (set : Lis
   pub holds : HoldsRoots side e set
   pub least : (other : List Bool) → IsClosed side arcs x other → HoldsRoots side e other → (v : ℕ) → in_set set v ≡ true → in_set other v ≡ true
 
+-- where something lies in excess, the nodes that it reaches; else those that reach a node in deficit
+pub record IsSideOfCut (arcs : List ArcRow) (x e : List ℤ) (set : List Bool) : Type 0 where
+  pub in_excess : 0 < left e → IsSide Ahead arcs x e set
+  pub no_excess : left e ≡ 0 → IsSide Behind arcs x e set
+
 -- no node in excess reaches a node in deficit: some set that no residual arc leaves holds all the former and none of the latter
 pub record IsParted (arcs : List ArcRow) (x e : List ℤ) : Type 0 where
   pub set : List Bool

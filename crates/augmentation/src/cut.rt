@@ -4,12 +4,11 @@ ghost use Rattle.std.specs.Prelude.{◌≡◌, ℕ, length, ◌<◌, ◌≤◌, 
 ghost use Rattle.residual_graph.specs.Limits.{entry_limit};
 ghost use Rattle.residual_graph.specs.Residual.{IsPseudoflow, number_at};
 ghost use Rattle.residual_graph.specs.Graph.{HasEntries};
-ghost use Rattle.augmentation.specs.Cut.{IsParted, IsSide, IsGrown, IsFarIn, AreFarIn, near_at, near_of, far_of};
+ghost use Rattle.augmentation.specs.Cut.{IsParted, IsSide, IsSideOfCut, IsGrown, IsFarIn, AreFarIn, near_at, near_of, far_of};
 ghost use Rattle.tracked.specs.Marks.{in_set, IsListOf};
-ghost use Rattle.augmentation.specs.Push.{left};
 ghost use Rattle.residual_graph.specs.Side.{IsRoot};
 ghost use Rattle.residual_graph.specs.declared.residual.Way.{Way};
-ghost use Rattle.residual_graph.specs.declared.side.Side.TheVariants.{Ahead, Behind};
+ghost use Rattle.residual_graph.specs.declared.side.Side.TheVariants.{Ahead};
 ghost use Rattle.tracked.specs.Tracked.{IsWritten};
 
 use crate::excess::Excess;
@@ -41,8 +40,7 @@ pub fn mark_cut(
     requires cut_in { length cut.old.entries ≡ length excess.now }
     requires scratch_in { length scratch.old.potentials ≡ length excess.now }
     requires marked { IsTrue are_marked → IsSide Ahead graph.now.rows flow.now.entries excess.now scratch.old.marks }
-    ensures in_excess { 0 < left excess.now → IsSide Ahead graph.now.rows flow.now.entries excess.now cut.new.entries }
-    ensures no_excess { left excess.now ≡ 0 → IsSide Behind graph.now.rows flow.now.entries excess.now cut.new.entries }
+    ensures side { IsSideOfCut graph.now.rows flow.now.entries excess.now cut.new.entries }
     ensures written { IsWritten cut.old cut.new }
     ensures scratch { scratch.new ≡ record scratch.old { marks = scratch.new.marks } }
 {

@@ -9,7 +9,7 @@ ghost use Rattle.tracked.specs.Marks.{in_set};
 ghost use Rattle.tracked.specs.Touched.{NameChanges};
 ghost use Rattle.tracked.specs.Tracked.{IsWritten};
 ghost use Rattle.augmentation.specs.Adoption.{IsAsBefore};
-ghost use Rattle.augmentation.specs.Held.{IsHeldIn};
+ghost use Rattle.augmentation.specs.Held.{AllMarked, IsHeldIn};
 ghost use Rattle.augmentation.specs.Near.{AreInStep, IsRaisedBy};
 ghost use Rattle.augmentation.specs.Pseudoflow.{IsReady};
 ghost use Rattle.augmentation.specs.Settle.{AreShortest};
@@ -57,7 +57,7 @@ impl Apart {
 fn note_among(nodes: &mut Touched, more: &Touched)
     ensures same_size { length nodes.new ≡ length nodes.old }
     ensures still { (v : ℕ) → in_set nodes.old v ≡ true → in_set nodes.new v ≡ true }
-    ensures noted { (v : ℕ) → v < length nodes.old → in_set more.now v ≡ true → in_set nodes.new v ≡ true }
+    ensures noted { AllMarked more.now (length nodes.old) (λ v. in_set nodes.new v ≡ true) }
 {
     for place in more.places() {
         let v = *place as usize;

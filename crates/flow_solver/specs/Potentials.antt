@@ -1,5 +1,7 @@
 -- What is told of potentials.
 use Rattle.std.specs.Prelude.{◌≡◌, ℤ, List, true, drop}
+use Rattle.augmentation.specs.Near.{AreInStep}
+use Rattle.augmentation.specs.ScratchView.{ScratchView}
 use Rattle.network.specs.Instance.{Instance, at_node, reduced}
 use Rattle.flow_solver.specs.Answer.{AreGreatestPotentials}
 use Rattle.flow_solver.specs.declared.potentials.Potentials.{Potentials}
@@ -11,3 +13,7 @@ AreGreatestIn I x entries = AreGreatestPotentials (reduced I) x (at_node (drop 1
 -- potentials that are told to be the greatest of a flow are so
 abbrev pub AreAsTold : Instance → List ℤ → Potentials → Type 0
 AreAsTold I x p = p.greatest ≡ true → AreGreatestIn I x p.table.entries
+
+-- the potentials are the labels that a scratch holds, but at the nodes that are listed
+abbrev pub KeepStep : Potentials → ScratchView → Type 0
+KeepStep p scratch = AreInStep p.apart scratch.held.labels p.table.entries

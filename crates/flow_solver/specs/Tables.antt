@@ -4,7 +4,6 @@ use Rattle.dimacs_text.specs.declared.group.TheConstants.{GROUP_LIMIT}
 use Rattle.residual_graph.specs.declared.graph.Graph.{Graph}
 use Rattle.residual_graph.specs.Graph.{IsGraph}
 use Rattle.augmentation.specs.Held.{IsHeldIn}
-use Rattle.augmentation.specs.Near.{AreInStep}
 use Rattle.augmentation.specs.Nodes.{IsIdleEntry}
 use Rattle.augmentation.specs.ScratchView.{ScratchView}
 use Rattle.flow_solver.specs.declared.balance.Balance.{Balance}
@@ -12,7 +11,7 @@ use Rattle.flow_solver.specs.declared.part.Before.{Before}
 use Rattle.flow_solver.specs.declared.part.Part.{Part}
 use Rattle.flow_solver.specs.CutMarks.{IsClear}
 use Rattle.flow_solver.specs.declared.cut.Cut.{Cut}
-use Rattle.flow_solver.specs.Potentials.{AreAsTold}
+use Rattle.flow_solver.specs.Potentials.{AreAsTold, KeepStep}
 use Rattle.flow_solver.specs.declared.potentials.Potentials.{Potentials}
 use Rattle.flow_solver.specs.Balance.{IsBalanceOf}
 use Rattle.tracked.specs.Tracked.{TrackedView}
@@ -49,7 +48,7 @@ pub record AreTables (g : Graph) (flow : TrackedView ℤ) (potentials : Potentia
   pub balance_is : IsBalanceOf g.net g.rows flow balance
   pub told : AreAsTold g.net flow.entries potentials
   pub held : IsHeldIn g.rows flow.whole scratch.held
-  pub step : AreInStep potentials.apart scratch.held.labels potentials.table.entries
+  pub step : KeepStep potentials scratch
   pub log_fits : GROUP_LIMIT ≤ vec_capacity before.log
   pub clear : IsClear cut
   pub before_is : IsKept before.verdict g.net (kept_by flow potentials.table cut.table before.log.items)

@@ -1,18 +1,17 @@
 //! A best flow, or the cut that tells why there is none, with the greatest potentials that certify it.
 
-ghost use Rattle.std.specs.Prelude.{◌≡◌, ◌<◌, ℕ, ℤ, IsTrue, length};
+ghost use Rattle.std.specs.Prelude.{◌≡◌, ℕ, ℤ, IsTrue, length};
 ghost use Rattle.augmentation.specs.Pseudoflow.{IsReady};
-ghost use Rattle.augmentation.specs.Push.{ArePushes, IsExcess, left};
+ghost use Rattle.augmentation.specs.Push.{ArePushes, IsExcess};
 ghost use Rattle.tracked.specs.Tracked.{IsWritten};
 ghost use Rattle.flow_solver.specs.CutMarks.{IsClear};
-ghost use Rattle.flow_solver.specs.Potentials.{AreAsTold, AreGreatestIn};
+ghost use Rattle.flow_solver.specs.Potentials.{AreAsTold, AreGreatestIn, KeepStep};
 ghost use Rattle.residual_graph.specs.Graph.{HasEntries};
 ghost use Rattle.residual_graph.specs.Residual.{IsPseudoflow};
-ghost use Rattle.augmentation.specs.Cut.{IsChosenSet, IsParted, IsSide};
+ghost use Rattle.augmentation.specs.Cut.{IsChosenSet, IsParted, IsSide, IsSideOfCut};
 ghost use Rattle.augmentation.specs.Held.{IsHeldIn};
-ghost use Rattle.augmentation.specs.Near.{AreInStep};
 ghost use Rattle.residual_graph.specs.Walk.{AreRowsOf};
-ghost use Rattle.residual_graph.specs.declared.side.Side.TheVariants.{Ahead, Behind};
+ghost use Rattle.residual_graph.specs.declared.side.Side.TheVariants.{Ahead};
 
 use crate::cut::Cut;
 use crate::potentials::Potentials;
@@ -34,7 +33,7 @@ fn push_and_raise_all(
     requires told { AreAsTold graph.now.net flow.old.entries potentials.old }
     requires scratch_in { length scratch.old.potentials ≡ length excess.old }
     requires held { IsHeldIn graph.now.rows flow.old.whole scratch.old.held }
-    requires step { AreInStep potentials.old.apart scratch.old.held.labels potentials.old.table.entries }
+    requires step { KeepStep potentials.old scratch.old }
     ensures flow_written { IsWritten flow.old flow.new }
     ensures potentials_written { IsWritten potentials.old.table potentials.new.table }
     ensures ready { IsReady graph.now flow.new.entries potentials.new.table.entries excess.new }
@@ -44,7 +43,7 @@ fn push_and_raise_all(
     ensures marked { IsTrue result.are_marked → IsSide Ahead graph.now.rows flow.new.entries excess.new scratch.new.marks }
     ensures scratch_in { length scratch.new.potentials ≡ length excess.new }
     ensures held { IsHeldIn graph.now.rows flow.new.whole scratch.new.held }
-    ensures step { AreInStep potentials.new.apart scratch.new.held.labels potentials.new.table.entries }
+    ensures step { KeepStep potentials.new scratch.new }
 {
     let stood = potentials.greatest;
     potentials.apart.are_all = true;
@@ -77,7 +76,7 @@ fn push_and_raise(
     requires told { AreAsTold graph.now.net flow.old.entries potentials.old }
     requires scratch_in { length scratch.old.potentials ≡ length excess.old }
     requires held { IsHeldIn graph.now.rows flow.old.whole scratch.old.held }
-    requires step { AreInStep potentials.old.apart scratch.old.held.labels potentials.old.table.entries }
+    requires step { KeepStep potentials.old scratch.old }
     ensures flow_written { IsWritten flow.old flow.new }
     ensures potentials_written { IsWritten potentials.old.table potentials.new.table }
     ensures ready { IsReady graph.now flow.new.entries potentials.new.table.entries excess.new }
@@ -87,7 +86,7 @@ fn push_and_raise(
     ensures marked { IsTrue result.are_marked → IsSide Ahead graph.now.rows flow.new.entries excess.new scratch.new.marks }
     ensures scratch_in { length scratch.new.potentials ≡ length excess.new }
     ensures held { IsHeldIn graph.now.rows flow.new.whole scratch.new.held }
-    ensures step { AreInStep potentials.new.apart scratch.new.held.labels potentials.new.table.entries }
+    ensures step { KeepStep potentials.new scratch.new }
 {
     if potentials.greatest && !excess.has_both() {
         return Pushed::counted(0);
@@ -136,8 +135,7 @@ fn mark(
     requires scratch_in { length scratch.old.potentials ≡ length excess.now }
     requires marked { IsTrue are_marked → IsSide Ahead graph.now.rows flow.now.entries excess.now scratch.old.marks }
     requires clear { IsClear cut.old }
-    ensures in_excess { 0 < left excess.now → IsSide Ahead graph.now.rows flow.now.entries excess.now cut.new.table.entries }
-    ensures no_excess { left excess.now ≡ 0 → IsSide Behind graph.now.rows flow.now.entries excess.now cut.new.table.entries }
+    ensures side { IsSideOfCut graph.now.rows flow.now.entries excess.now cut.new.table.entries }
     ensures written { IsWritten cut.old.table cut.new.table }
     ensures clear { IsClear cut.new }
     ensures scratch { scratch.new ≡ record scratch.old { marks = scratch.new.marks } }
@@ -167,7 +165,7 @@ pub fn settle(
     requires clear { IsClear cut.old }
     requires scratch_in { length scratch.old.potentials ≡ length excess.old }
     requires held { IsHeldIn graph.now.rows flow.old.whole scratch.old.held }
-    requires step { AreInStep potentials.old.apart scratch.old.held.labels potentials.old.table.entries }
+    requires step { KeepStep potentials.old scratch.old }
     ensures flow_written { IsWritten flow.old flow.new }
     ensures potentials_written { IsWritten potentials.old.table potentials.new.table }
     ensures cut_written { IsWritten cut.old.table cut.new.table }
@@ -177,7 +175,7 @@ pub fn settle(
     ensures pushed { ArePushes graph.now.rows result flow.old.entries excess.old flow.new.entries excess.new }
     ensures scratch_in { length scratch.new.potentials ≡ length excess.new }
     ensures held { IsHeldIn graph.now.rows flow.new.whole scratch.new.held }
-    ensures step { AreInStep potentials.new.apart scratch.new.held.labels potentials.new.table.entries }
+    ensures step { KeepStep potentials.new scratch.new }
     ensures cut { (supply : ℕ → ℤ) → IsExcess graph.now.rows supply flow.old.entries excess.old → IsChosenSet graph.now.rows supply excess.new cut.new.table.entries }
 {
     let pushed = push_and_raise(graph, flow, potentials, excess, scratch);

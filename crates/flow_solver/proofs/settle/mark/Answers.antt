@@ -1,4 +1,4 @@
-use Rattle.std.proofs.Common.{◌≡◌, ◌∙◌, ◌<◌, Bool, arith, false, inl, inr, not, refl, sym, true}
+use Rattle.std.proofs.Common.{◌≡◌, ◌∙◌, Bool, arith, false, inl, inr, not, refl, sym, true}
 use Rattle.std.proofs.lemmas.Bool.{cases_eq, false≢true}
 use Rattle.std.proofs.lemmas.Int.{ints}
 use Rattle.augmentation.specs.Cut.{lack}
@@ -26,6 +26,6 @@ returns-clause-clear c = λ balanced.
             | inl zero ↦ zero
             | inr some ↦ absurd (false≢true (sym (not_true w.has_root-then-not-has_root.result (sym w.is_balanced-is ∙ balanced)) ∙ w.has_root-then-not-has_root.ensures.1 (omega (arith, some))))
           ] in
-          none_of_side Behind c.args.graph.now.rows c.args.flow.now.entries e c.mark_cut.new.cut.entries (λ v low. absurd (omega (arith, ints, low, lack-none e no_lack v))) (c.mark_cut.ensures.no_excess none))
+          none_of_side Behind c.args.graph.now.rows c.args.flow.now.entries e c.mark_cut.new.cut.entries (λ v low. absurd (omega (arith, ints, low, lack-none e no_lack v))) (c.mark_cut.ensures.side.no_excess none))
       | else-not-has_root w ↦ absurd (false≢true (sym (not_true c.has_root.result (sym w.is_balanced-is ∙ balanced)) ∙ w.if-not-has_root.false))
     ])
