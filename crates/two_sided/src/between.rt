@@ -24,7 +24,7 @@ impl Readings {
     /// What served best in sessions.
     pub const USUAL: Readings = Readings {
         of_first: 1,
-        of_many: 12,
+        of_many: 9,
         of_few: 200,
     };
 
