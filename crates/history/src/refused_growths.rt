@@ -4,12 +4,11 @@ ghost use Rattle.std.specs.Prelude.{◌≡◌, ◌<◌};
 ghost use Rattle.std.proofs.Common.{◌∙◌, arith};
 ghost use Rattle.std.proofs.lemmas.List.{set-set, set-get_or};
 
-use crate::tests::{Place, board_of};
+use crate::tests::{MEMORY, Place, board_of};
 use crate::{Change, History};
 use refusing::Refusing;
 use std::alloc::{AllocError, Allocator, Global};
 use std::process::Abort;
-use std::test::Fail;
 
 /// More growths than any call of a history takes.
 const MOST: u64 = 9;
@@ -52,9 +51,9 @@ fn reserve_after_refusals<'a>(
 }
 
 #[test]
-fn each_growth_is_refused_in_turn(rt: HostRuntime) -> Result<(), Fail> {
+fn each_growth_is_refused_in_turn(rt: HostRuntime) {
     let memory = Refusing::new(rt.alloc());
-    let mut board = board_of(rt.alloc(), 7)?;
+    let mut board = board_of(rt.alloc(), 7).expect(&rt, MEMORY);
     let mut history = History::new(&memory);
     let growths = reserve_after_refusals(&rt, &memory, &mut history);
     assert!(rt; growths > 0);
@@ -68,17 +67,15 @@ fn each_growth_is_refused_in_turn(rt: HostRuntime) -> Result<(), Fail> {
     assert_eq!(rt; reserve_after_refusals(&rt, &memory, &mut history), 0);
     assert!(rt; history.redo(&mut board));
     assert_eq!(rt; board.values.as_slice(), [8].as_slice());
-    Ok(())
 }
 
 #[test]
-fn growths_refused_from_then_on(rt: HostRuntime) -> Result<(), Fail> {
+fn growths_refused_from_then_on(rt: HostRuntime) {
     let memory = Refusing::new(rt.alloc());
     let mut history: History<Place, &Refusing<Global>> = History::new(&memory);
     memory.plan(0, u64::MAX);
     assert!(rt; history.reserve_one().is_err());
     assert!(rt; history.reserve_one().is_err());
     memory.plan(0, 0);
-    history.reserve_one()?;
-    Ok(())
+    history.reserve_one().expect(&rt, MEMORY);
 }

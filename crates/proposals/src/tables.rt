@@ -6,7 +6,7 @@ use crate::search::Search;
 use crate::solving::{Fuel, solve, solve_greatest};
 use crate::wanted::Wanted;
 use dimacs_text::ArcRow;
-use relaxation::{Noted, Proposal, Ring, Sets, both};
+use relaxation::{Arc, Noted, Proposal, Ring, Sets, both};
 use std::alloc::{AllocError, Global};
 use std::marker::Model;
 use two_sided::{Between, Halt, Readings};
@@ -123,8 +123,8 @@ impl Proposals {
             Aim::LeastCost => 0,
             Aim::GreatestFlow => 1,
         };
-        self.proposal
-            .load(rows, flow, self.first, excess, potentials);
+        self.proposal.load_nodes(excess, potentials);
+        load_arcs(&mut self.proposal, rows, flow, self.first);
         match aim {
             Aim::LeastCost => solve(
                 &mut self.proposal,
@@ -248,7 +248,8 @@ impl Proposals {
         } else {
             self.first = 0;
             self.proposal.tell_arcs();
-            self.proposal.load(rows, flow, 0, excess, potentials);
+            self.proposal.load_nodes(excess, potentials);
+            load_arcs(&mut self.proposal, rows, flow, 0);
             self.between.load(&self.proposal);
             self.list_roots();
             self.noted.open();
@@ -317,6 +318,39 @@ impl Proposals {
     }
 }
 
+/// An arc of such a row, which carries such a flow.
+#[inline(always)]
+fn arc_of(row: &ArcRow, flow: i64) -> Arc
+    ensures low { result.low ≡ row.now.low }
+    ensures cap { result.cap ≡ row.now.cap }
+{
+    Arc {
+        tail: row.tail,
+        head: row.head,
+        low: row.low,
+        cap: row.cap,
+        cost: row.cost,
+        flow,
+    }
+}
+
+/// Takes over the rows and the flow of the arcs from one on.
+fn load_arcs(proposal: &mut Proposal, rows: &[ArcRow], flow: &[i64], first: usize)
+    requires { length flow.now ≡ length rows.now }
+    ensures { proposal.new ≡ proposal.old }
+{
+    proposal.clear_arcs();
+    for row in rows {
+        proposal.count_arc(row.tail, row.head);
+    }
+    proposal.make_room();
+    let arcs = rows.len().min(proposal.arcs());
+    for j in first..arcs {
+        let k = arcs - 1 - (j - first);
+        proposal.enter(k, &arc_of(&rows[k], flow[k]));
+    }
+}
+
 /// Takes over the rows and the flow of the noted arcs, and says whether all could be.
 fn renew_all(
     proposal: &mut Proposal,
@@ -333,7 +367,7 @@ fn renew_all(
     }
     for k in noted.listed() {
         let k = *k as usize;
-        if k >= rows.len() || !proposal.renew(k, &rows[k], flow[k]) {
+        if k >= rows.len() || !proposal.renew(k, &arc_of(&rows[k], flow[k])) {
             return false;
         }
         between.renew(proposal, k);
@@ -396,7 +430,7 @@ fn write_flow(
 /// The flow that is wanted of an arc that has this flow.
 fn flow_of(proposal: &Proposal, k: usize, row: &ArcRow, flow: i64) -> i64 {
     if row.low <= row.cap {
-        proposal.wanted(k, row, flow)
+        proposal.wanted(k, &arc_of(row, flow))
     } else {
         row.low
     }

@@ -1,6 +1,6 @@
 -- The ranges of numbers.
 use Rattle.std.specs.Prelude.{ℕ, ℤ, pos, neg_ℤ, ◌+ℤ◌, ◌≤ℤ◌}
-use Rattle.dimacs_text.specs.declared.problem.ArcRow.{ArcRow}
+use Rattle.relaxation.specs.declared.arc.Arc.{Arc}
 
 -- a cost, either way
 abbrev pub cost_limit : ℕ
@@ -23,10 +23,10 @@ pub record IsWithin (limit : ℕ) (x : ℤ) : Type 0 where
   pub low : neg_ℤ (pos limit) ≤ℤ x
   pub high : x ≤ℤ pos limit
 
--- the numbers of an arc and its flow are within the limits
-pub record IsInLimits (row : ArcRow) (flow : ℤ) : Type 0 where
-  pub cost : IsWithin cost_limit row.cost
-  pub low : pos 0 ≤ℤ row.low
-  pub above : row.low ≤ℤ flow
-  pub below : flow ≤ℤ row.cap
-  pub cap : row.cap ≤ℤ (row.low +ℤ pos room_limit)
+-- the numbers of an arc are within the limits
+pub record IsInLimits (arc : Arc) : Type 0 where
+  pub cost : IsWithin cost_limit arc.cost
+  pub low : pos 0 ≤ℤ arc.low
+  pub above : arc.low ≤ℤ arc.flow
+  pub below : arc.flow ≤ℤ arc.cap
+  pub cap : arc.cap ≤ℤ (arc.low +ℤ pos room_limit)

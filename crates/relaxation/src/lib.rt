@@ -7,6 +7,7 @@
 //! none does.
 #![tactic(auto)]
 
+mod arc;
 mod candidates;
 mod grow;
 mod limits;
@@ -22,6 +23,7 @@ mod sets;
 mod step;
 mod windows;
 
+pub use arc::Arc;
 pub use limits::REST_LIMIT;
 pub use link::{Link, seen};
 pub use nodes::Nodes;

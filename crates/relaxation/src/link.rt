@@ -1,10 +1,9 @@
 //! The ends of arcs at a node.
 
-ghost use Rattle.std.specs.Prelude.{◌≡◌, pos, ◌+◌, ◌≤◌, ◌≤ℤ◌, IfSome, IsTrue};
+ghost use Rattle.std.specs.Prelude.{◌≡◌, pos, ◌+◌, ◌≤◌, ◌≤ℤ◌, IfSome};
 ghost use Rattle.relaxation.specs.Limits.{IsInLimits, IsWithin, cost_limit, rest_limit, room_limit};
 
-use crate::limits::{COST_LIMIT, ROOM_LIMIT};
-use dimacs_text::ArcRow;
+use crate::arc::Arc;
 
 /// An end of an arc at a node, with all that a step asks of it: 24 bytes, which is what a look at it costs.
 #[derive(Clone, Copy)]
@@ -52,30 +51,30 @@ impl Link {
     }
 
     /// The end of an arc at its tail, where the other end has this place.
-    pub(crate) fn at_tail(row: &ArcRow, flow: i64, opposite: u32) -> Link
-        requires { IsInLimits row.now flow }
-        ensures { result.other ≡ row.now.head }
+    pub(crate) fn at_tail(arc: &Arc, opposite: u32) -> Link
+        requires { IsInLimits arc.now }
+        ensures { result.other ≡ arc.now.head }
     {
         Link {
-            other: row.head,
+            other: arc.head,
             opposite,
-            cost: row.cost,
-            leaving: (row.cap - flow) as u32,
-            entering: (flow - row.low) as u32,
+            cost: arc.cost,
+            leaving: (arc.cap - arc.flow) as u32,
+            entering: (arc.flow - arc.low) as u32,
         }
     }
 
     /// The end of an arc at its head.
-    pub(crate) fn at_head(row: &ArcRow, flow: i64, opposite: u32) -> Link
-        requires { IsInLimits row.now flow }
-        ensures { result.other ≡ row.now.tail }
+    pub(crate) fn at_head(arc: &Arc, opposite: u32) -> Link
+        requires { IsInLimits arc.now }
+        ensures { result.other ≡ arc.now.tail }
     {
         Link {
-            other: row.tail,
+            other: arc.tail,
             opposite,
-            cost: -row.cost,
-            leaving: (flow - row.low) as u32,
-            entering: (row.cap - flow) as u32,
+            cost: -arc.cost,
+            leaving: (arc.flow - arc.low) as u32,
+            entering: (arc.cap - arc.flow) as u32,
         }
     }
 
@@ -98,35 +97,6 @@ impl Link {
             entering: entering as u32,
         })
     }
-}
-
-/// An arc with no more room than the limits allow, of which this flow is one: where it has more, a part on either side
-/// of the flow.
-pub(crate) fn narrowed(row: &ArcRow, flow: i64) -> ArcRow
-    ensures tail { result.tail ≡ row.now.tail }
-    ensures head { result.head ≡ row.now.head }
-{
-    if row.cap <= ROOM_LIMIT {
-        return *row;
-    }
-    ArcRow {
-        low: row.low.max(flow.saturating_sub(ROOM_LIMIT / 2)),
-        cap: row.cap.min(flow.saturating_add(ROOM_LIMIT / 2)),
-        ..*row
-    }
-}
-
-/// Whether the numbers of an arc and its flow are within the limits.
-pub(crate) fn are_in_limits(row: &ArcRow, flow: i64) -> bool
-    ensures { IsTrue result → IsInLimits row.now flow }
-{
-    if row.low < 0 || row.low > flow || flow > row.cap {
-        return false;
-    }
-    if row.cap - row.low > ROOM_LIMIT {
-        return false;
-    }
-    row.cost >= -COST_LIMIT && row.cost <= COST_LIMIT
 }
 
 /// A number as a side sees it: behind, excess is deficit and a potential counts the other way.
