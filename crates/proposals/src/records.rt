@@ -1,6 +1,6 @@
 //! What a search knows of each node.
 
-ghost use Rattle.std.specs.Prelude.{◌≡◌, ◌<◌, ℕ, IfOk, length};
+ghost use Rattle.std.specs.Prelude.{◌≡◌, ◌<◌, ◌≤ℤ◌, ℕ, pos, IfOk, length};
 ghost use Rattle.relaxation.specs.Limits.{IsWithin, rest_limit};
 
 use crate::record::{Record, State};
@@ -100,10 +100,11 @@ impl Records {
     /// Writes down a path to a node that reaches so far.
     #[inline(always)]
     pub fn open(&mut self, v: usize, reach: i64, depth: u32, parent: u32)
-        requires { v < self.old }
+        requires node { v < self.old }
+        requires reach { reach ≤ℤ pos rest_limit }
         ensures { self.new ≡ self.old }
     {
-        self.reaches[v] = reach.clamp(-REST_LIMIT, REST_LIMIT);
+        self.reaches[v] = reach.max(-REST_LIMIT);
         self.table[v].depth = depth;
         self.table[v].parent = parent;
         self.table[v].state = State::Open;

@@ -185,7 +185,8 @@ impl Search {
 
     /// Begins at a node of this potential.
     fn begin_at(&mut self, v: usize, potential: i64)
-        requires { v < self.old }
+        requires node { v < self.old }
+        requires potential { IsWithin rest_limit potential }
         ensures { self.new ≡ self.old }
     {
         self.records.open(v, potential, 0, NO_PLACE);
@@ -299,8 +300,8 @@ impl Search {
     }
 
     /// Writes down a path that ends with this arc and reaches so far, if it is the best so far. A reduced cost below 0 counts
-    /// as 0.
-    #[inline(never)] // with this in its loop `look_on` would keep fewer numbers in registers
+    /// as 0. Sums wrap, so that they are short: all are far within the range.
+    #[inline(always)]
     fn note<const AHEAD: bool>(&mut self, proposal: &Proposal, link: &Link, reach: i64, depth: u32)
         requires proposal { proposal.now ≡ self.old }
         requires node { link.now.other < self.old }
@@ -308,14 +309,13 @@ impl Search {
     {
         let v = link.other as usize;
         let potential = seen::<AHEAD>(proposal.potential(v));
-        let key = reach.saturating_sub(potential).max(self.last);
-        if key >= self.key::<AHEAD>(proposal, v) {
+        let reach = reach.max(self.last.wrapping_add(potential));
+        if reach >= self.reach(v) {
             return;
         }
         let waited = self.records.state(v) == State::Open;
-        self.records
-            .open(v, key.saturating_add(potential), depth, link.opposite);
-        self.line_up(v, key, waited);
+        self.records.open(v, reach, depth, link.opposite);
+        self.line_up(v, reach.wrapping_sub(potential), waited);
     }
 
     /// Lines a node up to be settled, which waited before or did not.
