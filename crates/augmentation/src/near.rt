@@ -196,6 +196,7 @@ fn push_proposed_near(
         take_back(flow, excess, &attempt.draft);
         return None;
     }
+    attempt.proposals.adopted();
     write_labels(potentials, apart, tree, &mut attempt.proposals);
     tree.accept(graph, flow.places());
     Some(count)
