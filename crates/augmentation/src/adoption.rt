@@ -150,6 +150,7 @@ pub fn adopt(
         take_back(flow, excess, &attempt.draft);
         return None;
     };
+    attempt.proposals.adopted();
     Some(Pushed {
         count,
         are_greatest,
@@ -217,7 +218,11 @@ fn push_from_afar(
 {
     scratch.propose_from_afar(graph, flow.entries(), excess.entries());
     let pushed = take_proposed(graph, flow, excess, scratch);
-    pushed.count + finish(graph, flow, excess, scratch)
+    let more = finish(graph, flow, excess, scratch);
+    if more > 0 {
+        scratch.attempt.proposals.forget_arcs();
+    }
+    pushed.count + more
 }
 
 /// Pushes flow until no node in excess reaches a node in deficit, and counts the pushes. The first time, and where there are

@@ -49,9 +49,7 @@ impl Attempt {
     pub fn note_all(&mut self, places: &[u32])
         ensures { self.new ≡ self.old }
     {
-        for place in places {
-            self.proposals.note(*place);
-        }
+        self.proposals.note_all(places);
     }
 
     /// Proposes where to lead a flow, its excess and potentials: the first time from afar, else near the nodes out of
@@ -74,6 +72,8 @@ impl Attempt {
         } else {
             self.proposals.forget_nodes();
             self.proposals
+                .catch_up(graph.rows(), flow, &self.wanted.changes);
+            self.proposals
                 .propose_near(graph.rows(), flow, excess, potentials, &[]);
             self.proposals.write(graph.rows(), flow, &mut self.wanted);
         }
@@ -92,6 +92,8 @@ impl Attempt {
         requires excess { length excess.now ≡ length potentials.now }
         ensures { IsAttemptFor (length potentials.now) self.new }
     {
+        self.proposals
+            .catch_up(graph.rows(), flow, &self.wanted.changes);
         self.proposals.propose_near(
             graph.rows(),
             flow,

@@ -115,6 +115,7 @@ fn are_many(apart: &Apart, tree: &Tree) -> bool
 }
 
 /// Makes a table the labels of a tree, and has the next proposal look where they changed.
+#[inline(never)] // a name of its own in the program: `bench/count` counts its calls
 fn write_labels(table: &mut Tracked<i64>, apart: &mut Apart, tree: &Tree, proposals: &mut Proposals)
     requires sized { length tree.now.labels ≡ length table.old.entries }
     requires step { AreInStep apart.old tree.now.held.labels table.old.entries }
@@ -196,6 +197,7 @@ fn push_proposed_near(
         take_back(flow, excess, &attempt.draft);
         return None;
     }
+    attempt.proposals.adopted();
     write_labels(potentials, apart, tree, &mut attempt.proposals);
     tree.accept(graph, flow.places());
     Some(count)

@@ -53,7 +53,7 @@ fn mend(graph: &Graph, flow: &Tracked<i64>, potentials: &[i64], tree: &mut Tree)
         return false;
     }
     // Where many nodes were hung anew, a pass over all in turn is quicker than a walk at each.
-    if tree.rehung().places().len() > tree.labels().len() / MOST_REHUNG {
+    if tree.is_lost() || tree.rehung().places().len() > tree.labels().len() / MOST_REHUNG {
         return holds_whole(graph, flow.entries(), tree);
     }
     holds(graph, flow, tree)

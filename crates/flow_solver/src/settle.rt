@@ -21,6 +21,7 @@ use tracked::Tracked;
 
 /// Pushes what can be pushed, and says what that came to; the potentials become the greatest that certify the flow. All nodes
 /// are gone over.
+#[inline(never)] // a name of its own in the program: `bench/count` counts its calls
 fn push_and_raise_all(
     graph: &Graph,
     flow: &mut Tracked<i64>,

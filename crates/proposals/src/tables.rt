@@ -4,7 +4,7 @@ ghost use Rattle.std.specs.Prelude.{◌≡◌, ◌<◌, ◌^◌, ◌*◌, IfOk, 
 
 use crate::search::Search;
 use crate::solving::{Fuel, solve, solve_greatest};
-use crate::wanted::Wanted;
+use crate::wanted::{Change, Wanted};
 use dimacs_text::ArcRow;
 use relaxation::{Arc, Noted, Proposal, Ring, Sets, both};
 use std::alloc::{AllocError, Global};
@@ -23,6 +23,20 @@ pub enum Aim {
 /// Where more than one in so many arcs was noted, all are taken over anew: so they are gone over in order.
 const FEWER: usize = 4;
 
+/// More arcs than one in so many are many: those that a proposal changed are not noted then.
+const MANY: usize = 16;
+
+/// How the arcs of a proposal stand to those of the flow.
+#[derive(Clone, Copy, PartialEq, Eq)]
+enum Standing {
+    /// Nothing is known.
+    Apart,
+    /// They are the same but for noted ones, and for those where not all that was wanted was adopted.
+    Adopted,
+    /// They are the same but for noted ones.
+    InStep,
+}
+
 /// A proposal, and what the methods write in that lead it on. It is seen as the number of entries that a table of nodes
 /// has.
 #[derive(Drop)]
@@ -32,10 +46,11 @@ pub struct Proposals {
     sets: Sets,
     search: Search,
     between: Between,
-    /// The arcs whose row or flow may be another than in the proposal; the proposal keeps step with all others.
+    /// The arcs whose row or flow may be another than in the proposal.
     noted: Noted,
-    /// Of how many rows the proposal is, where it keeps step so.
-    rows: Option<usize>,
+    standing: Standing,
+    /// Of how many rows the proposal is.
+    rows: usize,
     /// The first arc in the proposal: from afar a greatest flow has no return arc.
     first: usize,
     /// Whether the potentials keep step too, but at the nodes that the proposal has noted.
@@ -82,7 +97,8 @@ impl Proposals {
             search,
             between,
             noted,
-            rows: None,
+            standing: Standing::Apart,
+            rows: 0,
             first: 0,
             keeps_nodes: false,
             fresh: true,
@@ -118,7 +134,8 @@ impl Proposals {
         ensures { self.new ≡ self.old }
     {
         self.fresh = false;
-        self.rows = None;
+        self.standing = Standing::Apart;
+        self.rows = rows.len();
         self.first = match aim {
             Aim::LeastCost => 0,
             Aim::GreatestFlow => 1,
@@ -159,7 +176,7 @@ impl Proposals {
         self.fresh = false;
         self.take_over(rows, flow, excess, potentials, unbalanced);
         if self.push_near() == Halt::Spent {
-            self.rows = None;
+            self.standing = Standing::Apart;
             solve(
                 &mut self.proposal,
                 &mut self.ring,
@@ -182,11 +199,64 @@ impl Proposals {
             .push_between(&mut self.proposal, &mut self.noted, Readings::USUAL)
     }
 
-    /// Notes that an arc may have got another row or another flow.
-    pub fn note(&mut self, k: u32)
+    /// Notes that these arcs may have got another row or another flow. Many are not noted where a proposal was adopted: as a
+    /// rule it was that which changed them.
+    pub fn note_all(&mut self, places: &[u32])
         ensures { self.new ≡ self.old }
     {
-        self.noted.note(k);
+        if self.standing == Standing::Adopted && places.len() > self.rows / MANY {
+            return;
+        }
+        self.noted.open();
+        note_each(&mut self.noted, places);
+    }
+
+    /// Notes that the flow became what was proposed, but for what goes round in circles.
+    pub fn adopted(&mut self)
+        ensures { self.new ≡ self.old }
+    {
+        if self.standing == Standing::Apart {
+            self.standing = Standing::Adopted;
+        }
+    }
+
+    /// Notes that all arcs may have got another flow.
+    pub fn forget_arcs(&mut self)
+        ensures { self.new ≡ self.old }
+    {
+        self.standing = Standing::Apart;
+    }
+
+    /// Brings the proposal in step with the flow where it was adopted: these are the changes that were made, and so all arcs
+    /// of which not all that was wanted was.
+    pub fn catch_up(&mut self, rows: &[ArcRow], flow: &[i64], changes: &[Change])
+        requires { length flow.now ≡ length rows.now }
+        ensures { self.new ≡ self.old }
+    {
+        if self.standing != Standing::Adopted || self.rows != rows.len() {
+            return;
+        }
+        complete_arcs(&mut self.proposal, rows, flow, self.first);
+        self.first = 0;
+        self.standing = Standing::InStep;
+        for change in changes {
+            self.catch_up_at(rows, flow, change.arc as usize);
+        }
+        self.between.load(&self.proposal);
+        self.noted.open();
+    }
+
+    /// Brings an arc in step.
+    fn catch_up_at(&mut self, rows: &[ArcRow], flow: &[i64], k: usize)
+        requires { length flow.now ≡ length rows.now }
+        ensures { self.new ≡ self.old }
+    {
+        if k >= rows.len() || flow_of(&self.proposal, k, &rows[k], flow[k]) == flow[k] {
+            return;
+        }
+        if !self.proposal.renew(k, &arc_of(&rows[k], flow[k])) {
+            self.standing = Standing::Apart;
+        }
     }
 
     /// Notes that a node may have got another potential.
@@ -253,7 +323,8 @@ impl Proposals {
             self.between.load(&self.proposal);
             self.list_roots();
             self.noted.open();
-            self.rows = Some(rows.len());
+            self.standing = Standing::InStep;
+            self.rows = rows.len();
         }
         self.noted.clear();
         self.keeps_nodes = true;
@@ -290,9 +361,14 @@ impl Proposals {
         }
     }
 
-    /// Whether the proposal is of so many rows, and few of them were noted.
+    /// Whether the proposal keeps step with these rows, and few of them were noted.
     fn keeps_step(&self, rows: &[ArcRow]) -> bool {
-        self.rows == Some(rows.len()) && self.noted.listed().len() <= rows.len() / FEWER
+        self.is_in_step(rows) && self.noted.listed().len() <= rows.len() / FEWER
+    }
+
+    /// Whether the proposal keeps step with these rows.
+    fn is_in_step(&self, rows: &[ArcRow]) -> bool {
+        self.standing == Standing::InStep && self.rows == rows.len()
     }
 
     /// Writes down where the proposal stands, less than all where there is no room for it.
@@ -310,7 +386,7 @@ impl Proposals {
                 let _back = wanted.lead_back(flow[0], *rest, (row.low, row.cap));
             }
         }
-        let _whole = if self.rows == Some(rows.len()) {
+        let _whole = if self.is_in_step(rows) {
             write_noted(wanted, &self.proposal, rows, flow, &self.noted)
         } else {
             write_flow(wanted, &self.proposal, rows, flow, self.first)
@@ -348,6 +424,27 @@ fn load_arcs(proposal: &mut Proposal, rows: &[ArcRow], flow: &[i64], first: usiz
     for j in first..arcs {
         let k = arcs - 1 - (j - first);
         proposal.enter(k, &arc_of(&rows[k], flow[k]));
+    }
+}
+
+/// Enters the arcs before the first one that was loaded, and writes down of which arc each end is.
+fn complete_arcs(proposal: &mut Proposal, rows: &[ArcRow], flow: &[i64], first: usize)
+    requires { length flow.now ≡ length rows.now }
+    ensures { proposal.new ≡ proposal.old }
+{
+    proposal.tell_arcs();
+    for k in 0..first.min(rows.len()) {
+        proposal.enter(k, &arc_of(&rows[k], flow[k]));
+    }
+    for k in 0..rows.len() {
+        proposal.tell_arc(k);
+    }
+}
+
+/// Notes each of these arcs.
+fn note_each(noted: &mut Noted, places: &[u32]) {
+    for k in places {
+        noted.note(*k);
     }
 }
 

@@ -30,8 +30,8 @@ const FAR: i64 = i64::MAX;
 /// How often, counted over all nodes, a node is settled at most.
 const MOST_SETTLED: usize = 4;
 
-/// Where more arcs than one in so many would have to be noted, all labels are searched anew.
-const MOST_NOTED: usize = 4;
+/// Where more arcs than one in so many would have to be noted, all labels are tested.
+const MOST_NOTED: usize = 16;
 
 /// The most arcs for whose notes there is room.
 const MOST_ROWS: usize = 200_001;
@@ -48,6 +48,8 @@ pub struct Tree {
     beside: Touched,
     /// Whether more changed than is noted, or no labels were tested.
     is_lost: bool,
+    /// Whether the labels can be mended all the same: what changed since is noted or written, as far as is known.
+    can_mend: bool,
     loose: Vec<u32>,
     /// Queued nodes whose label is above their potential by `present`, and in the heap those of which it is more.
     ready: Vec<u32>,
@@ -132,6 +134,7 @@ impl Tree {
             noted,
             beside,
             is_lost: true,
+            can_mend: false,
             loose,
             ready,
             present: 0,
@@ -214,7 +217,7 @@ impl Tree {
         let head = row.head as usize;
         let nodes = self.beside.size();
         if k >= self.noted.size() || tail >= nodes || head >= nodes {
-            self.is_lost = true;
+            self.forget();
             return;
         }
         self.noted.note(k);
@@ -222,13 +225,17 @@ impl Tree {
         self.beside.note(head);
     }
 
-    /// Notes all these arcs so.
+    /// Notes all these arcs so. Where nothing is held, most arcs are not noted: as a rule the labels were found since these
+    /// changed.
     pub fn note_all(&mut self, graph: &Graph, places: &[u32])
         ensures labels { self.new.labels ≡ self.old.labels }
         ensures predecessors { self.new.predecessors ≡ self.old.predecessors }
         ensures held { StaysHeld self.old.held self.new.held }
         ensures noted { AreArcsNoted graph.now.rows places.now self.new.held }
     {
+        if self.is_lost && are_many(graph, places) {
+            return;
+        }
         for place in places {
             self.note(graph, *place as usize);
         }
@@ -246,10 +253,11 @@ impl Tree {
         ensures { self.new ≡ record self.old { held = record self.old.held { is_lost = true } } }
     {
         self.is_lost = true;
+        self.can_mend = false;
     }
 
-    /// Holds the labels, which were tested; the flow of these arcs may be brought back. Where most arcs were written nothing is
-    /// held, since the next search would have to look at nearly all of them.
+    /// Holds the labels, which were tested; the flow of these arcs may be brought back. Where many arcs were written nothing is
+    /// held, since the next test would have to look at all of them: a test of all labels in turn is quicker.
     pub fn accept(&mut self, graph: &Graph, written: &[u32])
         ensures labels { self.new.labels ≡ self.old.labels }
         ensures predecessors { self.new.predecessors ≡ self.old.predecessors }
@@ -261,7 +269,8 @@ impl Tree {
         self.predecessors.snapshot();
         self.noted.clear();
         self.beside.clear();
-        self.is_lost = written.len() > graph.rows().len() / MOST_NOTED;
+        self.can_mend = true;
+        self.is_lost = are_many(graph, written);
         if !self.is_lost {
             self.note_all(graph, written);
         }
@@ -286,12 +295,13 @@ impl Tree {
         self.settle_all(residual)
     }
 
-    /// Mends the tree where arcs are noted or are among these. Says whether all labels may be right now.
+    /// Mends the tree where arcs are noted or are among these, also where nothing is held. Says whether all labels may be right
+    /// now.
     pub fn mend(&mut self, residual: Residual<'_>, written: &[u32]) -> bool
         ensures sized { length self.new.labels ≡ length self.old.labels }
         ensures held { self.new.held ≡ self.old.held }
     {
-        if self.is_lost || self.labels.entries().len() != residual.potentials.len() {
+        if !self.can_mend || self.labels.entries().len() != residual.potentials.len() {
             return false;
         }
         self.links.forget_all(self.beside.places());
@@ -570,6 +580,11 @@ impl Tree {
             self.improve(residual, end.other, label, predecessor);
         }
     }
+}
+
+/// Whether these are so many arcs that they are not noted.
+fn are_many(graph: &Graph, places: &[u32]) -> bool {
+    places.len() > graph.rows().len() / MOST_NOTED
 }
 
 /// The entry at a place of a list, or a number that is no place of any table.
