@@ -74,3 +74,6 @@ returns-clause-kept c asked =
     let less : length t.flow.kept < length t.flow.entries = omega (arith, asked, view, ap (λ (r : List ArcRow). length r) c.pop_arc-row.ensures.graph.rows.rows_are, one_less, inv.flow_in) in
     ap (λ (x : List ℤ). record { flow = x; potentials = drop 1 t.potentials.table.kept; cut = drop 1 t.cut.table.kept; log = t.before.log.items }) (c.pop-flow.ensures.kept less)
     ∙ ap (λ (b : TablesView). b.kept) c.self.view_is
+
+pub returns-clause-flow : goal.returns-clause-flow
+returns-clause-flow c = search rules
