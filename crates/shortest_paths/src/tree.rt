@@ -225,15 +225,15 @@ impl Tree {
         self.beside.note(head);
     }
 
-    /// Notes all these arcs so. Where nothing is held, most arcs are not noted: as a rule the labels were found since these
-    /// changed.
+    /// Notes all these arcs so. Where nothing is held, and nothing was noted since, many are not noted: as a rule the labels were
+    /// found since these changed.
     pub fn note_all(&mut self, graph: &Graph, places: &[u32])
         ensures labels { self.new.labels ≡ self.old.labels }
         ensures predecessors { self.new.predecessors ≡ self.old.predecessors }
         ensures held { StaysHeld self.old.held self.new.held }
         ensures noted { AreArcsNoted graph.now.rows places.now self.new.held }
     {
-        if self.is_lost && are_many(graph, places) {
+        if self.is_lost && self.noted.places().is_empty() && are_many(graph, places) {
             return;
         }
         for place in places {
