@@ -1,12 +1,15 @@
 -- Lists of the nodes out of balance.
-use Rattle.std.proofs.Common.{◌≡◌, ◌∙◌, ◌<◌, ◌≤◌, ◌+◌, ℕ, ℤ, List, Bool, true, false, pos, length, refl, sym, subst, arith, inl, inr, true≢false}
+use Rattle.std.proofs.Common.{◌≡◌, ◌∙◌, ◌<◌, ◌≤◌, ◌+◌, ◌*◌, ℕ, ℤ, List, Bool, true, false, pos, length, refl, sym, ap, subst, arith, inl, inr, true≢false, replicate}
 use Rattle.std.specs.Prelude.{◌≢◌, All, Any, slice_set}
-use Rattle.std.specs.List.{AllPairs}
+use Rattle.std.specs.List.{AllPairs, sum_by}
 use Rattle.std.proofs.lemmas.Bool.{cases_eq}
 use Rattle.std.proofs.lemmas.Int.{ints}
-use Rattle.std.proofs.lemmas.List.{get_or_default, get_or-set_same, get_or-set_other, length-set}
+use Rattle.std.proofs.lemmas.List.{get_or_default, get_or-replicate, get_or-set_same, get_or-set_other, length-replicate, length-set}
+use Rattle.std.proofs.lemmas.List.Folds.{sum_by-replicate}
+use Rattle.std.proofs.lemmas.List.Sums.{sum_by-set}
 use Rattle.residual_graph.specs.declared.side.Side.{Side}
 use Rattle.residual_graph.specs.declared.side.Side.TheVariants.{Ahead, Behind}
+use Rattle.residual_graph.specs.Limits.{entry_limit}
 use Rattle.residual_graph.specs.Residual.{number_at}
 use Rattle.residual_graph.specs.Side.{IsRoot}
 use Rattle.tracked.specs.NodeLists.{IsListed, node_at}
@@ -15,7 +18,12 @@ use Rattle.tracked.specs.Journal.{IsSince}
 use Rattle.tracked.specs.declared.journal.Journal.{Journal}
 use Rattle.tracked.proofs.JournalLemmas.{named_at}
 use Rattle.tracked.proofs.TouchedLemmas.{noted_or_not}
+use Rattle.tracked.proofs.TrackedLemmas.{AreLeft, AreLeft-all, AreLeft-more, AreLeft-start}
+use Rattle.augmentation.specs.Cut.{amount, amount_of}
 use Rattle.augmentation.specs.Excess.{AreUnbalancedListed, IsBalancedOrListed}
+use Rattle.augmentation.specs.Limits.{left_limit}
+use Rattle.augmentation.specs.Push.{AreSmall}
+use Rattle.augmentation.proofs.SettleLemmas.{lack-small, left-small}
 
 -- a root is out of balance
 root_unbalanced : (side : Side) (z : ℤ) → IsRoot side z → z ≡ pos 0 → ⊥
@@ -98,3 +106,56 @@ module _ (side : Side) (e : List ℤ) (places : List ℕ) (j : ℕ) (set : List 
     ]);
     not_yet = λ i le lt. are.not_yet i (omega (arith, le)) lt;
   }
+
+-- ---- what lies at the roots of a side, summed over the nodes that are listed
+
+amount_is : (side : Side) (e : List ℤ) → amount side e ≡ sum_by (amount_of side) e
+amount_is Ahead e = refl
+amount_is Behind e = refl
+
+amount_of-none : (side : Side) → amount_of side (pos 0) ≡ 0
+amount_of-none Ahead = refl
+amount_of-none Behind = refl
+
+pub amount-small : (side : Side) (e : List ℤ) → AreSmall e → length e ≤ entry_limit → amount side e ≤ left_limit
+amount-small Ahead e small few = left-small (length e) e small refl few
+amount-small Behind e small few = lack-small e small few
+
+-- the first j nodes of a list have n units, and all others what a table has that holds 0 at the first j
+pub record IsCounted (side : Side) (nodes : List ℕ) (j : ℕ) (e : List ℤ) (n : ℕ) : Type 0 where
+  pub table : List ℤ
+  pub rest : AreLeft nodes j table (replicate (length e) (pos 0))
+  pub not_yet : (i : ℕ) → j ≤ i → i < length nodes → number_at table (node_at nodes i) ≡ number_at e (node_at nodes i)
+  pub units : n + amount side table ≡ amount side e
+
+pub IsCounted-none : (side : Side) (listed : List Bool) (e : List ℤ) (nodes : List ℕ) → AreUnbalancedListed listed e → ((v : ℕ) → in_set listed v ≡ true → Any (λ p. p ≡ v) nodes) → IsCounted side nodes 0 e 0
+IsCounted-none side listed e nodes are named =
+    let none = replicate (length e) (pos 0) in
+    record {
+      table = e;
+      rest = AreLeft-start nodes e none (length-replicate (length e) (pos 0)) (λ k lt. elim (noted_or_not listed k) [
+        | inl noted ↦ inl (subst (λ (q : ℕ). Any (λ p. p ≡ q) nodes) (omega arith) (named k noted))
+        | inr out ↦ inr (λ d. get_or-replicate (length e) k (pos 0) d lt ∙ sym (get_or_default e k d (pos 0) lt ∙ are.balanced k out))
+      ]);
+      not_yet = λ i le lt. refl;
+      units = omega arith;
+    }
+
+pub IsCounted-more : (side : Side) (nodes : List ℕ) (j : ℕ) (e : List ℤ) (n : ℕ) → AllPairs ◌≢◌ nodes → j < length nodes → node_at nodes j < length e → IsCounted side nodes j e n → IsCounted side nodes (j + 1) e (n + amount_of side (number_at e (node_at nodes j)))
+IsCounted-more side nodes j e n apart j_in there are =
+    let v = node_at nodes j in
+    let none = replicate (length e) (pos 0) in
+    let v_in : v < length are.table = omega (arith, there, are.rest.same_length, length-replicate (length e) (pos 0)) in
+    let kept = ap (amount_of side) (are.not_yet j (omega arith) j_in) in
+    let put = sum_by-set (amount_of side) are.table v (pos 0) (pos 0) v_in in
+    record {
+      table = slice_set are.table v (pos 0);
+      rest = AreLeft-more nodes j are.table none (pos 0) are.rest v_in (sym (get_or-replicate (length e) v (pos 0) (pos 0) there));
+      not_yet = λ i le lt. get_or-set_other are.table v (node_at nodes i) (pos 0) (pos 0) (λ same. apart j i 0 (omega (arith, le)) lt (sym same)) ∙ are.not_yet i (omega (arith, le)) lt;
+      units = omega (arith, kept, put, amount_of-none side, amount_is side are.table, amount_is side (slice_set are.table v (pos 0)), are.units);
+    }
+
+pub IsCounted-all : (side : Side) (nodes : List ℕ) (j : ℕ) (e : List ℤ) (n : ℕ) → IsCounted side nodes j e n → length nodes ≤ j → n ≡ amount side e
+IsCounted-all side nodes j e n are all =
+    let none = replicate (length e) (pos 0) in
+    omega (arith, are.units, ap (amount side) (AreLeft-all nodes j are.table none are.rest all), amount_is side none, sum_by-replicate (amount_of side) (length e) (pos 0), ap (λ (m : ℕ). length e * m) (amount_of-none side))

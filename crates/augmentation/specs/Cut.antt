@@ -1,11 +1,11 @@
 -- Sets of nodes whose supply cannot leave, or whose demand cannot be met
 -- (Ahuja, Magnanti, Orlin, "Network Flows": feasibility of flows, cuts).
-use Rattle.std.specs.Prelude.{◌≡◌, ℕ, suc, ◌<◌, ◌≤◌, ℤ, pos, ◌-ℤ◌, ◌+ℤ◌, ◌≤ℤ◌, List, [], ◌∷◌, length, Bool, true, false, if◌then◌else◌, ◌&&◌, not, IsTrue}
+use Rattle.std.specs.Prelude.{◌≡◌, ℕ, suc, ◌<◌, ◌≤◌, ℤ, pos, ◌-ℤ◌, ◌+ℤ◌, ◌≤ℤ◌, neg_ℤ, List, [], ◌∷◌, length, Bool, true, false, if◌then◌else◌, ◌&&◌, not, IsTrue}
 use Rattle.dimacs_text.specs.declared.problem.ArcRow.{ArcRow}
 use Rattle.residual_graph.specs.declared.residual.Way.{Way}
 use Rattle.residual_graph.specs.declared.side.Side.{Side}
 use Rattle.residual_graph.specs.declared.side.Side.TheVariants.{Ahead, Behind}
-use Rattle.augmentation.specs.Push.{left}
+use Rattle.augmentation.specs.Push.{left, positive_part}
 pub use Rattle.augmentation.specs.Push.{lack}
 use Rattle.residual_graph.specs.Residual.{number_at, row_at, start_of, end_of, IsResidual}
 use Rattle.residual_graph.specs.Side.{IsRoot}
@@ -42,6 +42,11 @@ pub record IsLeastSet (value : List Bool → ℤ) (set : List Bool) (d : ℤ) : 
   pub value_is : value set ≡ d
   pub greatest : (other : List Bool) → length other ≡ length set → value other ≤ℤ d
   pub smallest : (other : List Bool) → length other ≡ length set → value other ≡ d → (v : ℕ) → IsTrue (in_set set v) → IsTrue (in_set other v)
+
+-- what a node with this excess has as a root of a side: its excess ahead, its deficit behind
+abbrev pub amount_of : Side → ℤ → ℕ
+amount_of Ahead z = positive_part z
+amount_of Behind z = positive_part (neg_ℤ z)
 
 -- what lies at the roots of a side
 abbrev pub amount : Side → List ℤ → ℕ

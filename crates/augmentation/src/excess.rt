@@ -1,10 +1,11 @@
 //! The excess of each node, with the nodes out of balance at hand.
 
-ghost use Rattle.std.specs.Prelude.{◌≡◌, ℕ, ◌<◌, ◌≤◌, All, IfOk, IsTrue, ◌↔◌, length, slice_set, true};
-ghost use Rattle.residual_graph.specs.Limits.{row_limit};
-ghost use Rattle.augmentation.specs.Cut.{amount, lack};
+ghost use Rattle.std.specs.Prelude.{◌≡◌, ℕ, ◌<◌, ◌≤◌, pos, neg_ℤ, ◌≤ℤ◌, All, IfOk, IsTrue, ◌↔◌, length, slice_set, true};
+ghost use Rattle.residual_graph.specs.Limits.{entry_limit, row_limit};
+ghost use Rattle.augmentation.specs.Cut.{amount, amount_of, lack};
 ghost use Rattle.augmentation.specs.Excess.{AreUnbalancedListed, IsBalancedOrListed};
-ghost use Rattle.augmentation.specs.Push.{left};
+ghost use Rattle.augmentation.specs.Limits.{excess_limit};
+ghost use Rattle.augmentation.specs.Push.{AreSmall, left};
 ghost use Rattle.tracked.specs.Marks.{in_set};
 
 use residual_graph::Side;
@@ -97,12 +98,37 @@ impl Excess {
         false
     }
 
+    /// What lies at the roots of a side: the sum of all excess, or of all deficit.
+    pub fn amount(&self, side: Side) -> u64
+        requires small { AreSmall self.now }
+        requires few { length self.now ≤ entry_limit }
+        ensures { result ≡ amount side self.now }
+    {
+        let mut sum = 0;
+        for place in self.unbalanced.places() {
+            sum += amount_of(side, self.entries[*place as usize]);
+        }
+        sum
+    }
+
     /// Whether there are both nodes in excess and nodes in deficit.
     pub fn has_both(&self) -> bool
         ensures { IsTrue result ↔ ((0 < left self.now) × (0 < lack self.now)) }
     {
         self.has_root(Side::Ahead) && self.has_root(Side::Behind)
     }
+}
+
+/// What a node with this excess has as a root of a side.
+fn amount_of(side: Side, excess: i64) -> u64
+    requires small { neg_ℤ (pos excess_limit) ≤ℤ excess }
+    ensures { result ≡ amount_of side excess }
+{
+    let amount = match side {
+        Side::Ahead => excess,
+        Side::Behind => -excess,
+    };
+    if amount > 0 { amount as u64 } else { 0 }
 }
 
 /// Notes each node out of balance.

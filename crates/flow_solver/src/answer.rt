@@ -4,7 +4,7 @@ ghost use Rattle.std.specs.Prelude.{◌≡◌, ◌^◌, ◌<◌, ◌≤◌, leng
 ghost use Rattle.network.specs.Flow.{AllWithinBounds};
 ghost use Rattle.network.specs.Instance.{reduced, IsLawful};
 ghost use Rattle.residual_graph.specs.Limits.{entry_limit};
-ghost use Rattle.augmentation.specs.Push.{AreSmall, left, positive_part};
+ghost use Rattle.augmentation.specs.Push.{AreSmall, left};
 ghost use Rattle.augmentation.specs.Cut.{lack};
 ghost use Rattle.augmentation.specs.Nodes.{held};
 ghost use Rattle.flow_solver.specs.Balance.{IsWrappedCost};
@@ -25,39 +25,6 @@ pub fn supply_at(net: &Network, id: u32) -> i64
         Some(supply) => supply,
         None => 0,
     }
-}
-
-/// The part of a number above 0.
-fn positive_part(number: i64) -> u64
-    ensures { result ≡ positive_part number }
-{
-    if number > 0 { number as u64 } else { 0 }
-}
-
-/// The sum of what lies in excess.
-fn sum_excess(excess: &[i64]) -> u64
-    requires small { AreSmall excess.now }
-    requires few { length excess.now ≤ entry_limit }
-    ensures { result ≡ left excess.now }
-{
-    let mut sum = 0;
-    for e in excess {
-        sum += positive_part(*e);
-    }
-    sum
-}
-
-/// The sum of what lies in deficit.
-fn sum_deficit(excess: &[i64]) -> u64
-    requires small { AreSmall excess.now }
-    requires few { length excess.now ≤ entry_limit }
-    ensures { result ≡ lack excess.now }
-{
-    let mut sum = 0;
-    for e in excess {
-        sum += positive_part(-*e);
-    }
-    sum
 }
 
 /// The cost of the present flow of a `Tracked` table, or what its return arc carries.
@@ -86,11 +53,13 @@ pub fn judge(net: &Network, rows: &[ArcRow], flow: &Tracked<i64>, balance: &Bala
     requires lack_fits { left balance.now.excess ≡ 0 → lack balance.now.excess < 2 ^ 63 }
     ensures { IsJudged (worth_by net.now.demand rows.now flow.now.entries) balance.now.excess result }
 {
-    if balance.excess.has_root(Side::Ahead) {
-        return Verdict::Infeasible(sum_excess(balance.excess.entries()) as i64);
+    let left = balance.excess.amount(Side::Ahead);
+    if left > 0 {
+        return Verdict::Infeasible(left as i64);
     }
-    if balance.excess.has_root(Side::Behind) {
-        return Verdict::Infeasible(sum_deficit(balance.excess.entries()) as i64);
+    let lack = balance.excess.amount(Side::Behind);
+    if lack > 0 {
+        return Verdict::Infeasible(lack as i64);
     }
     Verdict::Best(worth(net, rows, flow, balance))
 }
