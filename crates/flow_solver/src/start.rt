@@ -47,7 +47,7 @@ fn start_flow(alloc: Global, rows: &[ArcRow], room: usize) -> Result<Tracked<i64
 /// The potentials at the start.
 fn zeros(alloc: Global, entries: usize) -> Result<Tracked<i64>, AllocError>
     requires few { entries ≤ row_limit }
-    ensures entries { IfOk result (λ t. t.entries ≡ replicate entries (pos 0)) }
+    ensures entries { IfOk result (λ potentials. potentials.entries ≡ replicate entries (pos 0)) }
     ensures kept { IfOk result (λ potentials. potentials.kept ≡ replicate entries (pos 0)) }
     ensures room { IfOk result (λ potentials. potentials.room ≡ entries) }
 {
