@@ -12,7 +12,7 @@ const NONE: u32 = u32::MAX;
 /// For how many ends there is room, for each node.
 const ROOM: usize = 4;
 
-/// An end of an arc with room both ways, in the chain of its node.
+/// An end of an arc with room both ways, in the chain of its node. Where a chain begins, there may be none.
 #[derive(Clone, Copy)]
 pub struct FreeEnd {
     /// The node at the arc's other end.
@@ -25,13 +25,23 @@ pub struct FreeEnd {
     before: u32,
 }
 
+impl FreeEnd {
+    const NONE: FreeEnd = FreeEnd {
+        other: NONE,
+        opposite: NONE,
+        next: NONE,
+        before: NONE,
+    };
+}
+
 /// The ends of arcs with room both ways, a chain a node, close together: searches reach most nodes over these, and they are
 /// few. It is seen as the number of entries that a table of nodes has.
 #[derive(Drop)]
 pub struct FreeEnds {
-    /// Where the chain of each node begins.
-    heads: Vec<u32>,
+    /// First a place for each node, at which its chain begins and a search finds most ends; then all other ends.
     ends: Vec<FreeEnd>,
+    /// So many nodes have a chain.
+    nodes: usize,
     /// Where in `ends` the end is, if it is there, of which the arc's other end has this place of a proposal. So it is found
     /// without a walk along the chain, which is long at a node of many arcs.
     spots: Vec<u32>,
@@ -42,11 +52,13 @@ pub struct FreeEnds {
 }
 
 impl Model for FreeEnds {
-    ghost use Rattle.std.specs.Prelude.{ℕ, length};
+    ghost use Rattle.std.specs.Prelude.{ℕ, ◌≤◌, ◌<◌, ◌^◌, length};
 
     ghost Value = { ℕ };
 
-    ghost view = { λ f. length f.heads.items };
+    ghost view = { λ f. f.nodes };
+
+    ghost invariant = { λ f. (f.nodes ≤ length f.ends.items) × (f.nodes < 2 ^ 31) };
 }
 
 impl FreeEnds {
@@ -60,12 +72,11 @@ impl FreeEnds {
         requires arcs { arcs < 2 ^ 31 }
         ensures { IfOk result (λ f. f ≡ 0) }
     {
-        let heads = Vec::with_capacity(alloc, entries)?;
         let ends = Vec::with_capacity(alloc, ROOM * entries)?;
         let spots = Vec::with_capacity(alloc, 2 * arcs)?;
         Ok(FreeEnds {
-            heads,
             ends,
+            nodes: 0,
             spots,
             spare: NONE,
             whole: true,
@@ -74,13 +85,15 @@ impl FreeEnds {
 
     /// Makes a table of so many entries of nodes in the room that there is, and says whether it is enough.
     pub fn open(&mut self, entries: usize) -> bool
+        requires { entries < 2 ^ 31 }
         ensures { IsTrue result → self.new ≡ entries }
     {
-        if entries > self.heads.capacity() {
+        if entries > self.ends.capacity() {
             return false;
         }
-        self.heads.clear();
-        let _filled = self.heads.resize(entries, NONE);
+        self.ends.clear();
+        let _filled = self.ends.resize(entries, FreeEnd::NONE);
+        self.nodes = entries;
         true
     }
 
@@ -88,7 +101,8 @@ impl FreeEnds {
     pub fn close(&mut self)
         ensures { self.new ≡ 0 }
     {
-        self.heads.clear();
+        self.nodes = 0;
+        self.ends.clear();
     }
 
     /// Takes over those of a proposal.
@@ -96,8 +110,8 @@ impl FreeEnds {
         requires { proposal.now ≡ self.old }
         ensures { self.new ≡ self.old }
     {
-        self.heads.fill(NONE);
-        self.ends.clear();
+        self.ends.truncate(self.nodes);
+        self.ends.fill(FreeEnd::NONE);
         self.spots.clear();
         let _filled = self.spots.resize(self.spots.capacity(), NONE);
         self.spare = NONE;
@@ -126,18 +140,12 @@ impl FreeEnds {
         self.whole
     }
 
-    /// How many there are at most.
+    /// The place at which the chain of a node begins; it may hold no end.
     #[inline(always)]
-    pub fn most(&self) -> usize {
-        self.ends.len()
-    }
-
-    /// The place of the first one of a node.
-    #[inline(always)]
-    pub fn first(&self, v: usize) -> u32
-        requires { v < self.now }
+    pub fn first(v: usize) -> u32
+        requires { v < 2 ^ 31 }
     {
-        self.heads[v]
+        v as u32
     }
 
     /// The end at a place of a chain, if it is one.
@@ -171,7 +179,7 @@ impl FreeEnds {
         requires { v < self.old }
         ensures { self.new ≡ self.old }
     {
-        self.remove(v, link.opposite);
+        self.remove(link.opposite);
         if is_free(link) {
             self.add(v, link);
         }
@@ -182,17 +190,23 @@ impl FreeEnds {
         requires { v < self.old }
         ensures { self.new ≡ self.old }
     {
-        let next = self.heads[v];
+        let first = self.ends[v];
+        if first.other == NONE {
+            self.ends[v].other = link.other;
+            self.ends[v].opposite = link.opposite;
+            self.note_spot(link.opposite, v as u32);
+            return;
+        }
         let end = FreeEnd {
             other: link.other,
             opposite: link.opposite,
-            next,
-            before: NONE,
+            next: first.next,
+            before: v as u32,
         };
         match self.put(end) {
             Some(place) => {
-                self.heads[v] = place;
-                self.lead_back(next, place);
+                self.ends[v].next = place;
+                self.lead_back(first.next, place);
                 self.note_spot(link.opposite, place);
             }
             None => self.whole = false,
@@ -218,18 +232,22 @@ impl FreeEnds {
         Some(place)
     }
 
-    /// Takes an end at a node out of its chain.
-    fn remove(&mut self, v: usize, opposite: u32)
-        requires { v < self.old }
+    /// Takes an end out of its chain.
+    fn remove(&mut self, opposite: u32)
         ensures { self.new ≡ self.old }
     {
         let spot = self.spot(opposite);
         let Some(end) = self.at(spot) else {
             return;
         };
-        self.lead_past(v, end.before, end.next);
-        self.lead_back(end.next, end.before);
         self.note_spot(opposite, NONE);
+        let at = spot as usize;
+        if at < self.nodes {
+            self.ends[at].other = NONE;
+            return;
+        }
+        self.lead_on(end.before, end.next);
+        self.lead_back(end.next, end.before);
         self.give_place(spot);
     }
 
@@ -262,16 +280,13 @@ impl FreeEnds {
         }
     }
 
-    /// Leads the chain of a node on to a place, from the end at the one before, or from its beginning.
-    fn lead_past(&mut self, v: usize, before: u32, next: u32)
-        requires { v < self.old }
+    /// Leads the chain on from the end at a place, if it is one, to the next one.
+    fn lead_on(&mut self, place: u32, next: u32)
         ensures { self.new ≡ self.old }
     {
-        let before = before as usize;
-        if before < self.ends.len() {
-            self.ends[before].next = next;
-        } else {
-            self.heads[v] = next;
+        let place = place as usize;
+        if place < self.ends.len() {
+            self.ends[place].next = next;
         }
     }
 

@@ -421,33 +421,30 @@ impl Front {
         ensures { self.new ≡ self.old }
     {
         let mut meeting = meeting;
-        for _ in 0..SOME_ENDS {
-            if !self.has_waiting() {
-                break;
-            }
-            self.count(1);
-            match free.at(self.free_end) {
+        // Held here, and not in the tables, which the loop writes: so they stay in registers.
+        let mut next = self.free_end;
+        let mut spread = self.spread;
+        let mut reads: usize = 0;
+        while reads < SOME_ENDS {
+            match free.at(next) {
                 Some(end) => {
                     meeting = self.spread_to(&end, other, meeting);
-                    self.free_end = end.next;
+                    next = end.next;
                 }
-                None => self.take_settled(free),
+                None => {
+                    let Some(u) = self.settled.at(spread) else {
+                        break;
+                    };
+                    next = FreeEnds::first(u);
+                    spread = spread.saturating_add(1);
+                }
             }
+            reads += 1;
         }
+        self.free_end = next;
+        self.spread = spread;
+        self.count(reads);
         meeting
-    }
-
-    /// Takes the next settled node of whose free ends none was read, if there is one.
-    #[inline(always)]
-    fn take_settled(&mut self, free: &FreeEnds)
-        requires { free.now ≡ self.old }
-        ensures { self.new ≡ self.old }
-    {
-        self.free_end = match self.settled.at(self.spread) {
-            Some(u) => free.first(u),
-            None => NO_PLACE,
-        };
-        self.spread = self.spread.saturating_add(1);
     }
 
     /// Goes over a free end to a node, which is settled so, unless it is already or lies no nearer than the way across is long.
