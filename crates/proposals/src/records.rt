@@ -1,10 +1,8 @@
 //! What a search knows of each node.
 
-ghost use Rattle.std.specs.Prelude.{◌≡◌, ◌<◌, ◌≤ℤ◌, ℕ, pos, IfOk, length};
-ghost use Rattle.relaxation.specs.Limits.{IsWithin, rest_limit};
+ghost use Rattle.std.specs.Prelude.{◌≡◌, ◌<◌, ℕ, IfOk, length};
 
 use crate::record::{Record, State};
-use relaxation::REST_LIMIT;
 use std::alloc::{AllocError, Global};
 use std::marker::Model;
 use two_sided::{FAR, NO_PLACE};
@@ -20,14 +18,12 @@ pub struct Records {
 
 impl Model for Records {
     ghost use Rattle.std.specs.Prelude.{ℕ, ◌≡◌, length};
-    ghost use Rattle.relaxation.specs.Limits.{rest_limit};
-    ghost use Rattle.relaxation.specs.Links.{AreWithin};
 
     ghost Value = { ℕ };
 
     ghost view = { λ r. length r.table.items };
 
-    ghost invariant = { λ r. (length r.reaches.items ≡ length r.table.items) × AreWithin rest_limit r.reaches.items };
+    ghost invariant = { λ r. length r.reaches.items ≡ length r.table.items };
 }
 
 impl Records {
@@ -70,7 +66,6 @@ impl Records {
     #[inline(always)]
     pub fn reach(&self, v: usize) -> i64
         requires { v < self.now }
-        ensures { IsWithin rest_limit result }
     {
         self.reaches[v]
     }
@@ -100,14 +95,14 @@ impl Records {
     /// Writes down a path to a node that reaches so far.
     #[inline(always)]
     pub fn open(&mut self, v: usize, reach: i64, depth: u32, parent: u32)
-        requires node { v < self.old }
-        requires reach { reach ≤ℤ pos rest_limit }
+        requires { v < self.old }
         ensures { self.new ≡ self.old }
     {
-        self.reaches[v] = reach.max(-REST_LIMIT);
-        self.table[v].depth = depth;
-        self.table[v].parent = parent;
-        self.table[v].state = State::Open;
+        self.reaches[v] = reach;
+        let record = &mut self.table[v];
+        record.depth = depth;
+        record.parent = parent;
+        record.state = State::Open;
     }
 
     /// Forgets the path to a node.

@@ -411,6 +411,7 @@ fn arc_of(row: &ArcRow, flow: i64) -> Arc
 }
 
 /// Takes over the rows and the flow of the arcs from one on.
+#[inline(never)] // a name of its own in the program: `bench/count` counts its calls
 fn load_arcs(proposal: &mut Proposal, rows: &[ArcRow], flow: &[i64], first: usize)
     requires { length flow.now ≡ length rows.now }
     ensures { proposal.new ≡ proposal.old }
