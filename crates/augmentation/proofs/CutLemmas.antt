@@ -1,12 +1,10 @@
--- Sums over sets of nodes, which set has the greatest surplus, and the list of marked nodes by which a set grows.
+-- Sums over sets of nodes, which set has the greatest surplus, the marked nodes by which a set grows, and those of a cut.
 use Rattle.std.proofs.Common.{◌≡◌, ℕ, zero, suc, ◌+◌, ◌<◌, ℤ, pos, negsuc, neg_ℤ, ◌-ℤ◌, ◌+ℤ◌, ◌≤ℤ◌, List, [], ◌∷◌, length, map, replicate, refl, sym, ap, subst, ◌∙◌, inl, inr, arith, Bool, true, false, cond, not, ◌&&◌, None}
-use Rattle.std.specs.Prelude.{◌<ℤ◌, slice_set}
+use Rattle.std.specs.Prelude.{◌<ℤ◌, Any, slice_set}
 use Rattle.std.proofs.lemmas.Int.{ints, by_lt_z}
 use Rattle.std.proofs.lemmas.Bool.{cases_eq, cases_lt, false≢true, true≢false, true_from_ne_false, false_from_ne_true}
 use Rattle.std.proofs.lemmas.List.Sums.{sum_by-cons}
-use Rattle.std.proofs.lemmas.List.{length-map, get_or-set_other, get_or-replicate, get_or_past}
-use Rattle.std.specs.Cmp.Lexicographic.{pointwise}
-use Rattle.std.proofs.Math.Bool.{beq}
+use Rattle.std.proofs.lemmas.List.{ext_get_or, length-map, length-set, get_or-set_other, get_or-set_same, get_or-replicate, get_or_past}
 use Rattle.dimacs_text.specs.declared.problem.ArcRow.{ArcRow}
 use Rattle.residual_graph.specs.declared.residual.Way.{Way}
 use Rattle.residual_graph.specs.declared.residual.Way.TheVariants.{Forward, Backward}
@@ -23,10 +21,12 @@ use Rattle.shortest_paths.specs.declared.predecessor.Predecessor.{Predecessor}
 use Rattle.shortest_paths.specs.Predecessor.{predecessor_at}
 use Rattle.shortest_paths.specs.Search.{IsExhausted, IsReached}
 use Rattle.shortest_paths.proofs.SearchLemmas.{open_or_reached}
-use Rattle.augmentation.specs.Cut.{sum_in, sum_leaving, sum_entering, surplus, shortfall, IsLeastSet, amount, near_at, near_of, far_at, far_of, IsFarIn, IsClosed, HoldsRoots, IsSide, IsParted, IsChosenSet, IsGrown, lack}
-use Rattle.tracked.specs.Marks.{in_set, IsListOf}
+use Rattle.augmentation.specs.Marked.{MarkedView}
+use Rattle.augmentation.specs.Cut.{sum_in, sum_leaving, sum_entering, surplus, shortfall, IsLeastSet, amount, near_at, near_of, far_at, far_of, IsFarIn, IsClosed, HoldsRoots, IsSide, IsParted, IsChosenSet, IsGrown, AreMarkedListed, lack}
+use Rattle.tracked.specs.Marks.{in_set}
 use Rattle.residual_graph.specs.Side.{IsRoot}
-use Rattle.tracked.proofs.MarkLemmas.{line_kept, set_kept}
+use Rattle.tracked.specs.Touched.{NameChanges}
+use Rattle.tracked.proofs.TouchedLemmas.{noted_or_not, still_noted}
 use Rattle.augmentation.proofs.TurnedRows.{turned_row, row_at-turned, start_at-turned, end_at-turned, residual-turned, residual-unturned, outflow-turned, inflow-turned, number_at-neg, left-neg}
 
 pub sum_in-same : (set : List Bool) (f g : ℕ → ℤ) → ((v : ℕ) → f v ≡ g v) → sum_in set f ≡ sum_in set g
@@ -403,11 +403,12 @@ module _ (arcs : List ArcRow) (x e : List ℤ) (s : List Predecessor) (flow : Is
 
 -- ---- sets that grow
 
-pub IsGrown-refl : (side : Side) (arcs : List ArcRow) (x : List ℤ) (set : List Bool) (list : List ℕ) (len : ℕ) → IsGrown side arcs x set list len set list len
-IsGrown-refl side arcs x set list len = record { kept = λ v h. h; least = λ other closed holds. holds; no_shorter = omega arith; same_before = λ j lt. refl }
+pub IsGrown-refl : (side : Side) (arcs : List ArcRow) (x : List ℤ) (m : MarkedView) → IsGrown side arcs x m m
+IsGrown-refl side arcs x m = record { same_size = refl; kept = λ v h. h; least = λ other closed holds. holds; no_shorter = omega arith; same_before = λ j lt. refl }
 
-pub IsGrown-trans : {side : Side} {arcs : List ArcRow} {x : List ℤ} {set mid new : List Bool} → {list list' list'' : List ℕ} → {len len' len'' : ℕ} → IsGrown side arcs x set list len mid list' len' → IsGrown side arcs x mid list' len' new list'' len'' → IsGrown side arcs x set list len new list'' len''
+pub IsGrown-trans : {side : Side} {arcs : List ArcRow} {x : List ℤ} {old mid new : MarkedView} → IsGrown side arcs x old mid → IsGrown side arcs x mid new → IsGrown side arcs x old new
 IsGrown-trans one two = record {
+  same_size = two.same_size ∙ one.same_size;
   kept = λ v h. two.kept v (one.kept v h);
   least = λ other closed holds. two.least other closed (one.least other closed holds);
   no_shorter = omega (arith, one.no_shorter, two.no_shorter);
@@ -433,24 +434,68 @@ far_all Behind g x set v come k Forward near residual = come.passed k Backward r
 far_all Behind g x set v come k Backward near residual = come.passed k Forward residual.is_arc near tt Backward near residual
 
 -- the node to which a residual arc leads on is marked
-pub IsGrown-put : (side : Side) (arcs : List ArcRow) (x : List ℤ) (set : List Bool) (list : List ℕ) (len v k : ℕ) (way : Way) → IsListOf set list len → IsResidual arcs x k way → in_set set (near_at side arcs k way) ≡ true
-    → far_at side arcs k way ≡ v → v < length set → in_set set v ≡ false → IsGrown side arcs x set list len (slice_set set v true) (slice_set list len v) (len + 1)
-IsGrown-put side arcs x set list len v k way is residual near far node out = record {
-  kept = λ w h. set_kept set list len v is node out w h;
+pub IsGrown-put : (side : Side) (arcs : List ArcRow) (x : List ℤ) (old new : MarkedView) (v k : ℕ) (way : Way) → IsResidual arcs x k way → in_set old.marks (near_at side arcs k way) ≡ true → far_at side arcs k way ≡ v → v < length old.marks
+    → new.marks ≡ slice_set old.marks v true → new.nodes ≡ slice_set old.nodes old.count v → new.count ≡ old.count + 1 → IsGrown side arcs x old new
+IsGrown-put side arcs x old new v k way residual near far node marks nodes count = rw (marks, nodes, count) (record {
+  same_size = length-set old.marks v true;
+  kept = λ w h. still_noted old.marks v w node h;
   least = λ other closed holds w h. elim (cases_eq w v) [
     | inl same ↦ subst (λ (q : ℕ). in_set other q ≡ true) (far ∙ sym same) (closed k way residual (holds (near_at side arcs k way) near))
-    | inr ne ↦ holds w (sym (get_or-set_other set v w true false ne) ∙ h)
+    | inr ne ↦ holds w (sym (get_or-set_other old.marks v w true false ne) ∙ h)
   ];
   no_shorter = omega arith;
-  same_before = λ j lt. line_kept set list len v is node out j lt;
+  same_before = λ j lt. get_or-set_other old.nodes old.count j v 0 (λ e. omega (arith, lt));
+})
+
+-- ---- marks of a cut whose nodes are listed
+
+-- a mark is exchanged, and its node listed
+pub exchanged_listed : (listed marks : List Bool) (v : ℕ) (value : Bool) → v < length marks → AreMarkedListed listed marks → AreMarkedListed (slice_set listed v true) (slice_set marks v value)
+exchanged_listed listed marks v value lt are = record {
+  one_a_node = length-set listed v true ∙ are.one_a_node ∙ sym (length-set marks v value);
+  unmarked = λ u out. elim (cases_eq u v) [
+    | inl same ↦ absurd (true≢false (sym (subst (λ (w : ℕ). in_set (slice_set listed v true) w ≡ true) (sym same) (get_or-set_same listed v true false (omega (arith, lt, are.one_a_node)))) ∙ out))
+    | inr ne ↦ get_or-set_other marks v u value false ne ∙ are.unmarked u (sym (get_or-set_other listed v u true false ne) ∙ out)
+  ];
 }
 
--- marks that are compared one by one
-pub marks_same : (xs ys : List Bool) → pointwise beq xs ys ≡ true → xs ≡ ys
-marks_same [] [] h = refl
-marks_same [] (y ∷ ys) h = absurd (false≢true h)
-marks_same (x ∷ xs) [] h = absurd (false≢true h)
-marks_same (true ∷ xs) (true ∷ ys) h = ap (λ (set : List Bool). true ∷ set) (marks_same xs ys h)
-marks_same (true ∷ xs) (false ∷ ys) h = absurd (false≢true h)
-marks_same (false ∷ xs) (true ∷ ys) h = absurd (false≢true h)
-marks_same (false ∷ xs) (false ∷ ys) h = ap (λ (set : List Bool). false ∷ set) (marks_same xs ys h)
+-- all nodes are listed at which the marks that come back differ
+pub back_listed : (listed listed' : List Bool) (places : List ℕ) (kept marks : List Bool) → AreMarkedListed listed marks → NameChanges 0 places kept marks → length kept ≡ length marks → length listed' ≡ length listed
+    → ((v : ℕ) → in_set listed v ≡ true → in_set listed' v ≡ true) → ((v : ℕ) → Any (λ p. p ≡ v) places → v < length listed' → in_set listed' v ≡ true) → AreMarkedListed listed' kept
+back_listed listed listed' places kept marks are named as_many sized still noted = record {
+  one_a_node = sized ∙ are.one_a_node ∙ sym as_many;
+  unmarked = λ v out. elim (cases_lt v (length kept)) [
+    | inr past ↦ get_or_past kept v false past
+    | inl lt ↦ elim (named v lt) [
+      | inl there ↦ absurd (true≢false (sym (noted v (subst (λ (q : ℕ). Any (λ p. p ≡ q) places) (omega arith) there) (omega (arith, lt, sized, are.one_a_node, as_many))) ∙ out))
+      | inr agree ↦ sym (agree false) ∙ are.unmarked v (false_from_ne_true (in_set listed v) (λ h. true≢false (sym (still v h) ∙ out)))
+    ]
+  ];
+}
+
+-- the marks of the nodes are those of another table, and so they are wherever they were
+pub record AreTaken (nodes : List ℕ) (before after marks : List Bool) : Type 0 where
+  pub taken : (v : ℕ) → Any (λ p. p ≡ v) nodes → in_set after v ≡ in_set marks v
+  pub kept : (v : ℕ) → in_set before v ≡ in_set marks v → in_set after v ≡ in_set marks v
+
+-- marks that are taken at each node that was listed, and at each that is marked, are taken at all
+pub taken_all : (listed before between after marks : List Bool) (places nodes : List ℕ) → AreMarkedListed listed before → length after ≡ length marks → ((v : ℕ) → in_set listed v ≡ true → Any (λ p. p ≡ v) places) → ((v : ℕ) → in_set marks v ≡ true → Any (λ p. p ≡ v) nodes)
+    → AreTaken places before between marks → AreTaken nodes between after marks → after ≡ marks
+taken_all listed before between after marks places nodes are sized named marked first second =
+    ext_get_or false after marks sized (λ v lt. at v)
+  where
+    at : (v : ℕ) → in_set after v ≡ in_set marks v
+    at v = elim (noted_or_not marks v) [
+      | inl is ↦ second.taken v (marked v is)
+      | inr out ↦ elim (noted_or_not listed v) [
+        | inl was ↦ second.kept v (first.taken v (named v was))
+        | inr free ↦ second.kept v (first.kept v (are.unmarked v free ∙ sym out))
+      ]
+    ]
+
+-- the nodes of the marks that were taken are listed
+pub taken_listed : (listed marks : List Bool) (nodes : List ℕ) → length listed ≡ length marks → ((v : ℕ) → in_set marks v ≡ true → Any (λ p. p ≡ v) nodes) → ((v : ℕ) → Any (λ p. p ≡ v) nodes → v < length listed → in_set listed v ≡ true) → AreMarkedListed listed marks
+taken_listed listed marks nodes sized marked noted = record {
+  one_a_node = sized;
+  unmarked = λ v out. false_from_ne_true (in_set marks v) (λ is. true≢false (sym (noted v (marked v is) (omega (arith, marked_in marks v is, sized))) ∙ out));
+}

@@ -5,6 +5,7 @@ use Rattle.dimacs_text.specs.declared.problem.ArcRow.{ArcRow}
 use Rattle.residual_graph.specs.declared.residual.Way.{Way}
 use Rattle.residual_graph.specs.declared.side.Side.{Side}
 use Rattle.residual_graph.specs.declared.side.Side.TheVariants.{Ahead, Behind}
+use Rattle.augmentation.specs.Marked.{MarkedView}
 use Rattle.augmentation.specs.Push.{left, positive_part}
 pub use Rattle.augmentation.specs.Push.{lack}
 use Rattle.residual_graph.specs.Residual.{number_at, row_at, start_of, end_of, IsResidual}
@@ -83,6 +84,11 @@ pub record IsSide (side : Side) (arcs : List ArcRow) (x e : List ℤ) (set : Lis
   pub holds : HoldsRoots side e set
   pub least : (other : List Bool) → IsClosed side arcs x other → HoldsRoots side e other → (v : ℕ) → in_set set v ≡ true → in_set other v ≡ true
 
+-- each marked node is listed: an unlisted one is not marked
+pub record AreMarkedListed (listed marks : List Bool) : Type 0 where
+  pub one_a_node : length listed ≡ length marks
+  pub unmarked : (v : ℕ) → in_set listed v ≡ false → in_set marks v ≡ false
+
 -- where something lies in excess, the nodes that it reaches; else those that reach a node in deficit
 pub record IsSideOfCut (arcs : List ArcRow) (x e : List ℤ) (set : List Bool) : Type 0 where
   pub in_excess : 0 < left e → IsSide Ahead arcs x e set
@@ -103,12 +109,13 @@ IsFarIn side arcs x set k way = IsResidual arcs x k way → in_set set (far_at s
 abbrev pub AreFarIn : Side → List ArcRow → List ℤ → List Bool → ℕ → Type 0
 AreFarIn side arcs x set v = (k : ℕ) (way : Way) → near_at side arcs k way ≡ v → IsFarIn side arcs x set k way
 
--- set and list have grown, or are the same: whatever holds the set, and has no residual arc that leads on out of it, holds the new one too
-pub record IsGrown (side : Side) (arcs : List ArcRow) (x : List ℤ) (set : List Bool) (list : List ℕ) (len : ℕ) (set' : List Bool) (list' : List ℕ) (len' : ℕ) : Type 0 where
-  pub kept : (v : ℕ) → in_set set v ≡ true → in_set set' v ≡ true
-  pub least : (other : List Bool) → IsClosed side arcs x other → ((v : ℕ) → in_set set v ≡ true → in_set other v ≡ true) → (v : ℕ) → in_set set' v ≡ true → in_set other v ≡ true
-  pub no_shorter : len ≤ len'
-  pub same_before : (j : ℕ) → j < len → node_at list' j ≡ node_at list j
+-- the marked nodes are others beside the same, or the same: whatever holds the old, and has no residual arc that leads on out of it, holds the new too
+pub record IsGrown (side : Side) (arcs : List ArcRow) (x : List ℤ) (old new : MarkedView) : Type 0 where
+  pub same_size : length new.marks ≡ length old.marks
+  pub kept : (v : ℕ) → in_set old.marks v ≡ true → in_set new.marks v ≡ true
+  pub least : (other : List Bool) → IsClosed side arcs x other → ((v : ℕ) → in_set old.marks v ≡ true → in_set other v ≡ true) → (v : ℕ) → in_set new.marks v ≡ true → in_set other v ≡ true
+  pub no_shorter : old.count ≤ new.count
+  pub same_before : (j : ℕ) → j < old.count → node_at new.nodes j ≡ node_at old.nodes j
 
 -- the set that tells why there is no legal flow: where something lies in excess the smallest set of the greatest surplus, else where something lies in deficit that of the greatest shortfall, else none
 pub record IsChosenSet (arcs : List ArcRow) (supply : ℕ → ℤ) (e : List ℤ) (set : List Bool) : Type 0 where

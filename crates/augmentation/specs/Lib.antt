@@ -3,6 +3,7 @@ pub mod Nodes
 pub mod Push
 pub mod Pseudoflow
 pub mod Settle
+pub mod Marked
 pub mod Cut
 pub mod Excess
 pub mod Scratch

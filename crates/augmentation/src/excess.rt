@@ -1,7 +1,8 @@
 //! The excess of each node, with the nodes out of balance at hand.
 
-ghost use Rattle.std.specs.Prelude.{◌≡◌, ℕ, ◌<◌, ◌≤◌, pos, neg_ℤ, ◌≤ℤ◌, All, IfOk, IsTrue, ◌↔◌, length, slice_set, true};
+ghost use Rattle.std.specs.Prelude.{◌≡◌, ℕ, ◌<◌, ◌≤◌, pos, neg_ℤ, ◌≤ℤ◌, All, IfOk, IsTrue, ◌↔◌, false, length, slice_set, true};
 ghost use Rattle.residual_graph.specs.Limits.{entry_limit, row_limit};
+ghost use Rattle.residual_graph.specs.Residual.{number_at};
 ghost use Rattle.augmentation.specs.Cut.{amount, amount_of, lack};
 ghost use Rattle.augmentation.specs.Excess.{AreUnbalancedListed, IsBalancedOrListed};
 ghost use Rattle.augmentation.specs.Limits.{excess_limit};
@@ -109,6 +110,21 @@ impl Excess {
             sum += amount_of(side, self.entries[*place as usize]);
         }
         sum
+    }
+
+    /// Whether a marked node is in deficit.
+    pub(crate) fn has_deficit_among(&self, marks: &[bool]) -> bool
+        requires one_a_node { length marks.now ≡ length self.now }
+        ensures { result ≡ false → (v : ℕ) → in_set marks.now v ≡ true → pos 0 ≤ℤ number_at self.now v }
+    {
+        let places = self.unbalanced.places();
+        for j in 0..places.len() {
+            let v = places[j] as usize;
+            if marks[v] && self.entries[v] < 0 {
+                return true;
+            }
+        }
+        false
     }
 
     /// Whether there are both nodes in excess and nodes in deficit.

@@ -11,9 +11,10 @@ ghost use Rattle.augmentation.specs.Held.{IsHeldIn};
 ghost use Rattle.augmentation.specs.Settle.{AreShortest};
 
 use crate::attempt::Attempt;
-use crate::cut::{is_parted, mark_side};
 use crate::excess::Excess;
+use crate::marked::Marked;
 use crate::potentials::renew;
+use crate::side::mark_side;
 use proposals::Wanted;
 use relaxation::both;
 use residual_graph::{Graph, Side};
@@ -31,10 +32,8 @@ pub struct Scratch {
     pub(crate) potentials: Vec<i64>,
     /// The labels that were tested last, and what changed since.
     pub(crate) tree: Tree,
-    /// Marks of nodes, while a cut is looked for.
-    pub(crate) marks: Vec<bool>,
-    /// The marked nodes.
-    pub(crate) worklist: Vec<u32>,
+    /// The nodes of a side, while a cut is looked for.
+    pub(crate) marked: Marked,
     pub(crate) attempt: Attempt,
 }
 
@@ -48,7 +47,7 @@ impl Model for Scratch {
     ghost view = { λ s. record {
       potentials = s.potentials.items;
       predecessors = s.predecessors.items;
-      marks = s.marks.items;
+      marks = s.marked.marks;
       held = s.tree.held;
     } };
 
@@ -68,19 +67,17 @@ impl Scratch {
         let predecessors = vec![in alloc; Predecessor::open(); entries as usize];
         let potentials = vec![in alloc; 0; entries as usize];
         let tree = Tree::new(alloc, entries as usize, arcs / 2);
-        let marks = vec![in alloc; false; entries as usize];
-        let worklist = vec![in alloc; 0; entries as usize];
+        let marked = Marked::new(alloc, entries as usize);
         let attempt = Attempt::new(alloc, entries as usize, arcs / 2);
-        let ((predecessors, (potentials, tree)), ((marks, worklist), attempt)) = both(
-            both(predecessors, both(potentials, tree)),
-            both(both(marks, worklist), attempt),
+        let ((predecessors, potentials), (tree, (marked, attempt))) = both(
+            both(predecessors, potentials),
+            both(tree, both(marked, attempt)),
         )?;
         Ok(Scratch {
             predecessors,
             potentials,
             tree,
-            marks,
-            worklist,
+            marked,
             attempt,
         })
     }
@@ -157,7 +154,8 @@ impl Scratch {
         ensures marked { IsSide Ahead graph.now.rows flow.now excess.now self.new.marks }
         ensures parted { IsTrue result → IsParted graph.now.rows flow.now excess.now }
     {
-        is_parted(graph, flow, excess, &mut self.marks, &mut self.worklist)
+        self.mark_side(Side::Ahead, graph, flow, excess);
+        !excess.has_deficit_among(self.marked.marks())
     }
 
     /// Marks the nodes of a side.
@@ -168,14 +166,7 @@ impl Scratch {
         ensures same { self.new ≡ record self.old { marks = self.new.marks } }
         ensures marked { IsSide side graph.now.rows flow.now excess.now self.new.marks }
     {
-        mark_side(
-            side,
-            graph,
-            flow,
-            excess,
-            &mut self.marks,
-            &mut self.worklist,
-        );
+        mark_side(side, graph, flow, excess, &mut self.marked);
     }
 
     /// Makes potentials that certify a flow the greatest that do.

@@ -2,7 +2,6 @@ pub mod ExcessLemmas
 pub mod SignLemmas
 pub mod FlowLaws
 pub mod CutLaws
-pub mod CutMarkLemmas
 pub mod PushLaws
 pub mod InstanceLemmas
 pub mod AnswerLemmas

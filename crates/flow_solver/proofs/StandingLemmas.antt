@@ -19,7 +19,6 @@ use Rattle.residual_graph.specs.Walk.{AreRowsOf}
 use Rattle.flow_solver.specs.Answer.{AreGreatestPotentials}
 use Rattle.flow_solver.specs.declared.balance.Balance.{Balance}
 use Rattle.tracked.specs.Tracked.{TrackedView}
-use Rattle.flow_solver.specs.declared.cut.Cut.{Cut}
 use Rattle.flow_solver.specs.declared.part.Before.{Before}
 use Rattle.flow_solver.specs.Edit.{KeepsResidualArcs}
 use Rattle.flow_solver.specs.TablesView.{flow_index}
@@ -176,7 +175,7 @@ module _ (I : Instance) (k : ℕ) (row : ArcRow) (at : (1 ≤ k) × (k ≤ lengt
 -- ---- the tables
 
 -- the tables stay tables where nothing is told of the potentials, or what is true of them
-pub tables_told : (g : Graph) (flow : TrackedView ℤ) (potentials : Potentials) (balance : Balance) (cut : Cut) (scratch : ScratchView) (before : Before) (greatest : Bool) →
+pub tables_told : (g : Graph) (flow : TrackedView ℤ) (potentials : Potentials) (balance : Balance) (cut : TrackedView Bool) (scratch : ScratchView) (before : Before) (greatest : Bool) →
     AreTables g flow potentials balance cut scratch before → AreAsTold g.net flow.entries (record potentials { greatest = greatest }) →
     AreTables g flow (record potentials { greatest = greatest }) balance cut scratch before
-tables_told g flow potentials balance cut scratch before greatest t told = record { fit = t.fit; balance_is = t.balance_is; told = told; held = t.held; step = t.step; log_fits = t.log_fits; clear = t.clear; before_is = t.before_is }
+tables_told g flow potentials balance cut scratch before greatest t told = record { fit = t.fit; balance_is = t.balance_is; told = told; held = t.held; step = t.step; log_fits = t.log_fits; before_is = t.before_is }

@@ -1,6 +1,5 @@
 pub mod Edit
 pub mod Answer
-pub mod CutMarks
 pub mod Potentials
 pub mod Moment
 pub mod TablesView

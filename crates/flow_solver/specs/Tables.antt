@@ -9,8 +9,6 @@ use Rattle.augmentation.specs.ScratchView.{ScratchView}
 use Rattle.flow_solver.specs.declared.balance.Balance.{Balance}
 use Rattle.flow_solver.specs.declared.part.Before.{Before}
 use Rattle.flow_solver.specs.declared.part.Part.{Part}
-use Rattle.flow_solver.specs.CutMarks.{IsClear}
-use Rattle.flow_solver.specs.declared.cut.Cut.{Cut}
 use Rattle.flow_solver.specs.Potentials.{AreAsTold, KeepStep}
 use Rattle.flow_solver.specs.declared.potentials.Potentials.{Potentials}
 use Rattle.flow_solver.specs.Balance.{IsBalanceOf}
@@ -40,15 +38,13 @@ pub record FitGraph (g : Graph) (flow : TrackedView ℤ) (potentials : TrackedVi
   pub scratch_in : length scratch.potentials ≡ g.net.nodes + 1
 
 -- the tables fit the graph, and there is room to log a group. What is told of the potentials is true, and labels that were
--- tested are held under the flow that was kept; it is known where the potentials may be others than these. What is told of the
--- cut is true
-pub record AreTables (g : Graph) (flow : TrackedView ℤ) (potentials : Potentials) (balance : Balance) (cut : Cut) (scratch : ScratchView) (before : Before) : Type 0 where
-  pub fit : FitGraph g flow potentials.table cut.table scratch
+-- tested are held under the flow that was kept; it is known where the potentials may be others than these
+pub record AreTables (g : Graph) (flow : TrackedView ℤ) (potentials : Potentials) (balance : Balance) (cut : TrackedView Bool) (scratch : ScratchView) (before : Before) : Type 0 where
+  pub fit : FitGraph g flow potentials.table cut scratch
   pub open fit use *
   pub balance_is : IsBalanceOf g.net g.rows flow balance
   pub told : AreAsTold g.net flow.entries potentials
   pub held : IsHeldIn g.rows flow.whole scratch.held
   pub step : KeepStep potentials scratch
   pub log_fits : GROUP_LIMIT ≤ vec_capacity before.log
-  pub clear : IsClear cut
-  pub before_is : IsKept before.verdict g.net (kept_by flow potentials.table cut.table before.log.items)
+  pub before_is : IsKept before.verdict g.net (kept_by flow potentials.table cut before.log.items)

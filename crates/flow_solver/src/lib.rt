@@ -4,7 +4,6 @@
 
 mod answer;
 mod balance;
-mod cut;
 mod edit;
 mod part;
 mod potentials;

@@ -4,7 +4,6 @@ ghost use Rattle.std.specs.Prelude.{◌≡◌, ℕ, ℤ, IsTrue, length};
 ghost use Rattle.augmentation.specs.Pseudoflow.{IsReady};
 ghost use Rattle.augmentation.specs.Push.{ArePushes, IsExcess};
 ghost use Rattle.tracked.specs.Tracked.{IsWritten};
-ghost use Rattle.flow_solver.specs.CutMarks.{IsClear};
 ghost use Rattle.flow_solver.specs.Potentials.{AreAsTold, AreGreatestIn, KeepStep};
 ghost use Rattle.residual_graph.specs.Graph.{HasEntries};
 ghost use Rattle.residual_graph.specs.Residual.{IsPseudoflow};
@@ -13,9 +12,10 @@ ghost use Rattle.augmentation.specs.Held.{IsHeldIn};
 ghost use Rattle.residual_graph.specs.Walk.{AreRowsOf};
 ghost use Rattle.residual_graph.specs.declared.side.Side.TheVariants.{Ahead};
 
-use crate::cut::Cut;
 use crate::potentials::Potentials;
-use augmentation::{Excess, Pushed, Scratch, mark_cut, push_all, push_near, write_potentials};
+use augmentation::{
+    Cut, Excess, Pushed, Scratch, mark_cut, push_all, push_near, write_potentials,
+};
 use residual_graph::{Graph, Side};
 use tracked::Tracked;
 
@@ -120,35 +120,6 @@ fn push_and_raise(
     }
 }
 
-/// Marks the set that tells why some supply is left over or some demand is not met; where no node is out of balance, none is
-/// marked. The scratch has the marks of the nodes in excess, and of all that they reach, already, or not.
-fn mark(
-    graph: &Graph,
-    flow: &Tracked<i64>,
-    excess: &Excess,
-    scratch: &mut Scratch,
-    are_marked: bool,
-    cut: &mut Cut,
-)
-    requires graph { HasEntries (length excess.now) graph.now }
-    requires flow { IsPseudoflow (length excess.now) graph.now.rows flow.now.entries }
-    requires cut_in { length cut.old.table.entries ≡ length excess.now }
-    requires scratch_in { length scratch.old.potentials ≡ length excess.now }
-    requires marked { IsTrue are_marked → IsSide Ahead graph.now.rows flow.now.entries excess.now scratch.old.marks }
-    requires clear { IsClear cut.old }
-    ensures side { IsSideOfCut graph.now.rows flow.now.entries excess.now cut.new.table.entries }
-    ensures written { IsWritten cut.old.table cut.new.table }
-    ensures clear { IsClear cut.new }
-    ensures scratch { scratch.new ≡ record scratch.old { marks = scratch.new.marks } }
-{
-    let is_balanced = !excess.has_root(Side::Ahead) && !excess.has_root(Side::Behind);
-    if is_balanced && cut.is_clear {
-        return;
-    }
-    mark_cut(graph, flow, excess, scratch, are_marked, &mut cut.table);
-    cut.is_clear = is_balanced;
-}
-
 /// Makes the flow a best one, or marks the cut that tells why there is none, with the greatest
 /// potentials that certify it, and counts the pushes.
 pub fn settle(
@@ -162,25 +133,23 @@ pub fn settle(
     requires rows { AreRowsOf graph.now.net graph.now.rows }
     requires ready { IsReady graph.now flow.old.entries potentials.old.table.entries excess.old }
     requires told { AreAsTold graph.now.net flow.old.entries potentials.old }
-    requires cut_in { length cut.old.table.entries ≡ length excess.old }
-    requires clear { IsClear cut.old }
+    requires cut_in { length cut.old.entries ≡ length excess.old }
     requires scratch_in { length scratch.old.potentials ≡ length excess.old }
     requires held { IsHeldIn graph.now.rows flow.old.whole scratch.old.held }
     requires step { KeepStep potentials.old scratch.old }
     ensures flow_written { IsWritten flow.old flow.new }
     ensures potentials_written { IsWritten potentials.old.table potentials.new.table }
-    ensures cut_written { IsWritten cut.old.table cut.new.table }
-    ensures clear { IsClear cut.new }
+    ensures cut_written { IsWritten cut.old cut.new }
     ensures ready { IsReady graph.now flow.new.entries potentials.new.table.entries excess.new }
     ensures greatest { AreGreatestIn graph.now.net flow.new.entries potentials.new.table.entries }
     ensures pushed { ArePushes graph.now.rows result flow.old.entries excess.old flow.new.entries excess.new }
     ensures scratch_in { length scratch.new.potentials ≡ length excess.new }
     ensures held { IsHeldIn graph.now.rows flow.new.whole scratch.new.held }
     ensures step { KeepStep potentials.new scratch.new }
-    ensures cut { (supply : ℕ → ℤ) → IsExcess graph.now.rows supply flow.old.entries excess.old → IsChosenSet graph.now.rows supply excess.new cut.new.table.entries }
+    ensures cut { (supply : ℕ → ℤ) → IsExcess graph.now.rows supply flow.old.entries excess.old → IsChosenSet graph.now.rows supply excess.new cut.new.entries }
 {
     let pushed = push_and_raise(graph, flow, potentials, excess, scratch);
-    mark(graph, flow, excess, scratch, pushed.are_marked, cut);
+    mark_cut(graph, flow, excess, scratch, pushed.are_marked, cut);
     potentials.greatest = true;
     pushed.count
 }

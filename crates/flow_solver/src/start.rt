@@ -8,7 +8,7 @@ ghost use Rattle.residual_graph.specs.Limits.{row_limit};
 
 use crate::balance::Balance;
 use crate::potentials::Potentials;
-use augmentation::{Apart, Scratch};
+use augmentation::{Apart, Cut, Scratch};
 use dimacs_text::ArcRow;
 use residual_graph::Graph;
 use std::alloc::{AllocError, Global};
@@ -54,16 +54,6 @@ fn zeros(alloc: Global, entries: usize) -> Result<Tracked<i64>, AllocError>
     Tracked::new(alloc, vec![in alloc; 0; entries]?, entries)
 }
 
-/// A cut that marks no node.
-fn no_marks(alloc: Global, entries: usize) -> Result<Tracked<bool>, AllocError>
-    requires few { entries ≤ row_limit }
-    ensures entries { IfOk result (λ cut. cut.entries ≡ replicate entries false) }
-    ensures kept { IfOk result (λ cut. cut.kept ≡ replicate entries false) }
-    ensures room { IfOk result (λ cut. cut.room ≡ entries) }
-{
-    Tracked::new(alloc, vec![in alloc; false; entries]?, entries)
-}
-
 /// The start flow of a network, with room for each arc that it may have, and the balance of that flow.
 pub fn start_balance(alloc: Global, graph: &Graph) -> Result<(Tracked<i64>, Balance), AllocError>
     requires { IsGraph graph.now }
@@ -84,7 +74,7 @@ pub fn start_nodes(
     alloc: Global,
     nodes: u32,
     arcs: usize,
-) -> Result<(Potentials, Tracked<bool>, Scratch), AllocError>
+) -> Result<(Potentials, Cut, Scratch), AllocError>
     requires few { nodes + 1 ≤ row_limit }
     ensures potentials { IfOk result (λ t. t.0.table.entries ≡ replicate (nodes + 1) (pos 0)) }
     ensures potentials_kept { IfOk result (λ t. t.0.table.kept ≡ replicate (nodes + 1) (pos 0)) }
@@ -99,7 +89,7 @@ pub fn start_nodes(
     let entries = nodes as usize + 1;
     let potentials = zeros(alloc, entries)?;
     let apart = Apart::new(alloc, entries)?;
-    let cut = no_marks(alloc, entries)?;
+    let cut = Cut::new(alloc, entries)?;
     let scratch = Scratch::new(alloc, nodes + 1, arcs)?;
     let potentials = Potentials {
         table: potentials,

@@ -12,12 +12,11 @@ ghost use Rattle.flow_solver.specs.Moment.{IsStart};
 ghost use Rattle.flow_solver.specs.Part.{return_count};
 
 use crate::balance::Balance;
-use crate::cut::Cut;
 use crate::part::{Before, return_count, row_before, supply_before};
 use crate::potentials::Potentials;
 use crate::start::{start_balance, start_nodes};
 use crate::verdict::Verdict;
-use augmentation::Scratch;
+use augmentation::{Cut, Scratch};
 use dimacs_text::{ArcRow, GROUP_LIMIT, NODE_LIMIT};
 use network::Network;
 use residual_graph::Graph;
@@ -50,9 +49,9 @@ impl Model for Tables {
     ghost Value = { TablesView };
 
     ghost view = { λ t. record {
-      moment = record { instance = t.graph.net; flow = t.flow.entries; potentials = drop 1 t.potentials.table.entries; verdict = t.verdict; cut = drop 1 t.cut.table.entries };
-      kept = kept_by t.flow t.potentials.table t.cut.table t.before.log.items;
-      before = before_of t.before.verdict t.graph.net (kept_by t.flow t.potentials.table t.cut.table t.before.log.items);
+      moment = record { instance = t.graph.net; flow = t.flow.entries; potentials = drop 1 t.potentials.table.entries; verdict = t.verdict; cut = drop 1 t.cut.entries };
+      kept = kept_by t.flow t.potentials.table t.cut t.before.log.items;
+      before = before_of t.before.verdict t.graph.net (kept_by t.flow t.potentials.table t.cut t.before.log.items);
     } };
 
     ghost invariant = { λ t. AreTables t.graph t.flow t.potentials t.balance t.cut t.scratch t.before };
@@ -80,10 +79,7 @@ impl Tables {
             flow,
             potentials,
             balance,
-            cut: Cut {
-                table: cut,
-                is_clear: false,
-            },
+            cut,
             scratch,
             verdict: Verdict::Best(0),
             before: Before { log, verdict: None },
@@ -120,7 +116,7 @@ impl Tables {
         ensures one_a_node { length result.now ≡ self.now.moment.instance.nodes }
         ensures few { length result.now ≤ NODE_LIMIT }
     {
-        &self.cut.table.entries()[1..]
+        &self.cut.table().entries()[1..]
     }
 
     /// The verdict.
@@ -152,7 +148,7 @@ impl Tables {
         requires { IsSome self.now.before }
         ensures { IfSome self.now.before (λ old. result.now ≡ old.cut) }
     {
-        &self.cut.table.before()[1..]
+        &self.cut.table().before()[1..]
     }
 
     /// What was told of the instance before the last change.
@@ -193,7 +189,7 @@ impl Tables {
         ensures named { IfSome self.now.before (λ old. NameChanges 1 result.now old.cut self.now.moment.cut) }
         ensures apart { AllPairs ◌≢◌ result.now }
     {
-        self.cut.table.places()
+        self.cut.table().places()
     }
 
     /// The arc with this number before the last change, if it was there.

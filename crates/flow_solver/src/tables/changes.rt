@@ -263,7 +263,7 @@ impl Tables {
         self.scratch.note_all(&self.graph, changed);
         self.flow.snapshot();
         self.potentials.table.snapshot();
-        self.cut.table.snapshot();
+        self.cut.snapshot();
         self.before.log.clear();
     }
 
@@ -280,8 +280,7 @@ impl Tables {
         self.flow.bring_back();
         self.potentials.table.bring_back();
         self.potentials.apart.are_all = true;
-        self.cut.table.bring_back();
-        self.cut.is_clear = false;
+        self.cut.bring_back();
         self.verdict = verdict;
     }
 }

@@ -62,8 +62,7 @@ impl Tables {
         ensures before { self.new.before ≡ None }
     {
         self.before.verdict = None;
-        self.cut.is_clear = false;
-        exchange_node(&mut self.cut.table, id, value);
+        self.cut.exchange(id as usize, value);
     }
 
     /// Exchanges what is told of the instance. Where there is a return arc, its flow goes with the worth that is told.

@@ -1,10 +1,12 @@
-use Rattle.std.proofs.Common.{◌≡◌, ℕ, ◌<◌, Bool}
-use Rattle.std.specs.Prelude.{slice_index_or}
+use Rattle.std.proofs.Common.{◌≡◌, ℕ, ◌<◌}
+use Rattle.tracked.specs.Marks.{in_set}
+use Rattle.tracked.specs.NodeLists.{node_at}
 use Rattle.tracked.specs.Tracked.{IsWritten}
 use Rattle.augmentation.proofs.cut.take_marks.Given as goal
 
-abbrev pub invariant-loop-v : goal.invariant-loop-v
-invariant-loop-v l = record {
-  written : IsWritten l.initial.cut l.cut;
-  taken : (k : ℕ) → k < l.v → (d : Bool) → slice_index_or l.cut.entries k d ≡ slice_index_or l.marks k d;
+abbrev pub invariant-loop-node : goal.invariant-loop-node
+invariant-loop-node l = record {
+  written : IsWritten l.initial.table l.table;
+  taken : (i : ℕ) → i < l.node-index → in_set l.table.entries (node_at l.nodes i) ≡ in_set l.marks (node_at l.nodes i);
+  kept : (v : ℕ) → in_set l.initial.table.entries v ≡ in_set l.marks v → in_set l.table.entries v ≡ in_set l.marks v;
 }

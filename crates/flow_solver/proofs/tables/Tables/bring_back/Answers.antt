@@ -36,6 +36,5 @@ invariant_of-self c =
       step = record { sized = rw c.bring_back-2.ensures.entries (inv.step.sized ∙ inv.potentials_in.entries_in ∙ sym inv.potentials_in.kept_in); elsewhere = λ few. cc };
       held = rw c.bring_back.ensures.whole (held_noted t.graph.rows t.flow.whole t.scratch.held c.note_all.new.self.held c.note_all.ensures.held inv.held);
       log_fits = omega (arith, inv.log_fits);
-      clear = λ none. cc;
       before_is = tt;
     }

@@ -23,7 +23,7 @@ back c =
     rw (log, here) (rw c.snapshot.ensures.moment at c.make_all.ensures.back)
 
 -- what was kept is kept still
-kept_is : (c : After-self-1) → kept_by c.self-2.inside.flow c.self-2.inside.potentials.table c.self-2.inside.cut.table c.self-2.inside.before.log.items ≡ record (kept_of c.args.self.now.moment) { log = c.self-2.inside.before.log.items }
+kept_is : (c : After-self-1) → kept_by c.self-2.inside.flow c.self-2.inside.potentials.table c.self-2.inside.cut c.self-2.inside.before.log.items ≡ record (kept_of c.args.self.now.moment) { log = c.self-2.inside.before.log.items }
 kept_is c =
     let all = ap (λ (d : TablesView). d.kept) c.self-2.view_is ∙ c.settle-pushes.ensures.kept ∙ c.make_all.ensures.kept in
     ap (λ (k : Snapshot). record k { log = c.self-2.inside.before.log.items }) (all ∙ ap (λ (k : Snapshot). record k { log = c.make_all.new.tables.kept.log }) c.snapshot.ensures.kept)
@@ -40,7 +40,6 @@ invariant_of-self c =
       held = inv.held;
       step = inv.step;
       log_fits = inv.log_fits;
-      clear = inv.clear;
       before_is = (
         leads.can,
         ap (λ (k : Snapshot). length k.flow) (kept_is c) ∙ sized.one_flow ∙ ap (λ (I : Instance). length (reduced I).arcs) (sym leads.back),
@@ -57,7 +56,7 @@ pub returns-clause-before : goal.returns-clause-before
 returns-clause-before c =
     let t = c.self-2.inside in
     let told = ap (λ (d : TablesView). d.moment.verdict) c.self.view_is in
-    ap Some (moment_kept (before_all t.before.log.items t.graph.net) (kept_by t.flow t.potentials.table t.cut.table t.before.log.items) c.self.inside.verdict c.args.self.now.moment (back c).back (kept_is c) told)
+    ap Some (moment_kept (before_all t.before.log.items t.graph.net) (kept_by t.flow t.potentials.table t.cut t.before.log.items) c.self.inside.verdict c.args.self.now.moment (back c).back (kept_is c) told)
 
 pub returns-clause-changed : goal.returns-clause-changed
 returns-clause-changed c =

@@ -50,18 +50,17 @@ invariant_of-self c =
     let one_less = ap (λ (r : List ArcRow). length r) c.pop_arc-row.ensures.rows ∙ length-append c.pop_arc-row.new.self.rows (c.pop_arc-row.result ∷ []) in
     let entries_less = ap (λ (xs : List ℤ). length xs) c.pop-flow.ensures.entries ∙ length-append c.pop-flow.new.self.entries (c.pop-flow.result ∷ []) in
     record {
-      fit = fit_again t.graph c.pop_arc-row.new.self t.flow c.pop-flow.new.self t.potentials.table t.potentials.table t.cut.table t.cut.table t.scratch _ inv.fit
+      fit = fit_again t.graph c.pop_arc-row.new.self t.flow c.pop-flow.new.self t.potentials.table t.potentials.table t.cut t.cut t.scratch _ inv.fit
           (sym (ap (λ (K : Instance). K.nodes) c.pop_arc-row.ensures.net)) (sym (ap (λ (K : Instance). K.room) c.pop_arc-row.ensures.net)) c.pop_arc-row.ensures.graph
           (omega (arith, entries_less, inv.flow_in, one_less))
           (omega (arith, ap (λ (xs : List ℤ). length xs) c.pop-flow.ensures.whole, length-take-le (length c.pop-flow.new.self.entries) t.flow.whole (omega (arith, entries_less, inv.flow_in, inv.flow_whole)), entries_less, inv.flow_in, one_less))
-          c.pop-flow.ensures.room (IsWritten-same t.potentials.table) inv.idle (IsWritten-same t.cut.table) (ap (λ (v : ScratchView). length v.potentials) c.note_all.ensures.same ∙ inv.scratch_in);
+          c.pop-flow.ensures.room (IsWritten-same t.potentials.table) inv.idle (IsWritten-same t.cut) (ap (λ (v : ScratchView). length v.potentials) c.note_all.ensures.same ∙ inv.scratch_in);
       balance_is = balance;
       told = λ none. cc;
       held = held_dropped t.graph.rows t.flow.whole t.scratch.held c.note_all.new.self.held c.note_all.ensures.held inv.held c.pop_arc-row.new.self.rows c.pop-flow.new.self.whole last c.pop_arc-row.result c.pop_arc-row.ensures.rows
           (c.pop-flow.ensures.whole ∙ ap (λ (n : ℕ). take n t.flow.whole) (omega (arith, entries_less, inv.flow_in, one_less))) (omega (arith, many, one_less)) c.note_all.ensures.noted;
       step = rw c.note_all.ensures.held.labels inv.step;
       log_fits = inv.log_fits;
-      clear = inv.clear;
       before_is = tt;
     }
 
@@ -72,7 +71,7 @@ returns-clause-kept c asked =
     let view = ap (λ (b : TablesView). length b.kept.flow) c.self.view_is in
     let one_less = ap (λ (r : List ArcRow). length r) c.pop_arc-row.ensures.rows ∙ length-append c.pop_arc-row.new.self.rows (c.pop_arc-row.result ∷ []) in
     let less : length t.flow.kept < length t.flow.entries = omega (arith, asked, view, ap (λ (r : List ArcRow). length r) c.pop_arc-row.ensures.graph.rows.rows_are, one_less, inv.flow_in) in
-    ap (λ (x : List ℤ). record { flow = x; potentials = drop 1 t.potentials.table.kept; cut = drop 1 t.cut.table.kept; log = t.before.log.items }) (c.pop-flow.ensures.kept less)
+    ap (λ (x : List ℤ). record { flow = x; potentials = drop 1 t.potentials.table.kept; cut = drop 1 t.cut.kept; log = t.before.log.items }) (c.pop-flow.ensures.kept less)
     ∙ ap (λ (b : TablesView). b.kept) c.self.view_is
 
 pub returns-clause-flow : goal.returns-clause-flow

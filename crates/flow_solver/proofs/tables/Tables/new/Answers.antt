@@ -46,7 +46,6 @@ invariant_of-result c =
       };
       held = λ found. absurd (true≢false (sym nodes.lost ∙ found));
       log_fits = omega (arith, c.in_ok-log.ensures.capacity);
-      clear = λ none. cc;
       before_is = tt;
     }
 

@@ -18,7 +18,7 @@ within : (c : After-before-2) → c.return_count-first.result ≤ length c.befor
 within c =
     let t = c.self.inside in
     let some = subst (λ (d : TablesView). IsSome d.before) (sym c.self.view_is) c.requires in
-    omega (arith, return_kept t.before.verdict t.graph.net (kept_by t.flow t.potentials.table t.cut.table t.before.log.items) some c.self.invariant.before_is, counted c, ap (λ (xs : List ℤ). length xs) c.before-2.ensures)
+    omega (arith, return_kept t.before.verdict t.graph.net (kept_by t.flow t.potentials.table t.cut t.before.log.items) some c.self.invariant.before_is, counted c, ap (λ (xs : List ℤ). length xs) c.before-2.ensures)
 
 pub slice_bounds-result-count : goal.slice_bounds-result-count
 slice_bounds-result-count c = within c

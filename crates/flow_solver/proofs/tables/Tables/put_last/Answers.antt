@@ -31,16 +31,15 @@ invariant_of-self c =
     let balance = balance_put I J t.graph.rows c.push_arc.new.self.rows t.flow c.push.new.self t.balance now c.args.row c.args.flow c.push_arc.ensures.net c.push_arc.ensures.rows
     inv.flow_in inv.flow_whole (rw flow at c.push.ensures.entries) (rw flow at c.push.ensures.whole) carried cost inv.balance_is in
     record {
-      fit = fit_again t.graph c.push_arc.new.self t.flow c.push.new.self t.potentials.table t.potentials.table t.cut.table t.cut.table t.scratch _ inv.fit
+      fit = fit_again t.graph c.push_arc.new.self t.flow c.push.new.self t.potentials.table t.potentials.table t.cut t.cut t.scratch _ inv.fit
           (ap (λ (K : Instance). K.nodes) c.push_arc.ensures.net) (ap (λ (K : Instance). K.room) c.push_arc.ensures.net) c.push_arc.ensures.graph
           (omega (arith, many, inv.flow_in, one_more)) (omega (arith, many_whole, inv.flow_whole, one_more))
-          c.push.ensures.room (IsWritten-same t.potentials.table) inv.idle (IsWritten-same t.cut.table) (ap (λ (v : ScratchView). length v.potentials) c.note_all.ensures.same ∙ inv.scratch_in);
+          c.push.ensures.room (IsWritten-same t.potentials.table) inv.idle (IsWritten-same t.cut) (ap (λ (v : ScratchView). length v.potentials) c.note_all.ensures.same ∙ inv.scratch_in);
       balance_is = balance;
       told = λ none. cc;
       held = held_put t.graph.rows t.flow.whole t.scratch.held c.note_all.new.self.held c.note_all.ensures.held inv.held c.push_arc.new.self.rows c.push.new.self.whole (length c.rows-added.result.now) c.args.row c.args.flow c.push_arc.ensures.rows (rw flow at c.push.ensures.whole) inv.flow_whole added c.note_all.ensures.noted;
       step = rw c.note_all.ensures.held.labels inv.step;
       log_fits = inv.log_fits;
-      clear = inv.clear;
       before_is = tt;
     }
 

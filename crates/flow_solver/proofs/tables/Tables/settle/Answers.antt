@@ -46,7 +46,7 @@ excess_in : (c : After-settle-pushes) → length c.settle-pushes.new.excess ≡ 
 excess_in c = c.settle-pushes.ensures.ready.state.excess_in ∙ c.settle-pushes.ensures.ready.state.graph
 
 -- what stands in the tables after the searches
-end : (c : After-settle-pushes) → IsEnd c.self.inside.graph.net c.settle-pushes.new.flow.entries c.settle-pushes.new.potentials.table.entries c.settle-pushes.new.excess c.settle-pushes.new.cut.table.entries
+end : (c : After-settle-pushes) → IsEnd c.self.inside.graph.net c.settle-pushes.new.flow.entries c.settle-pushes.new.potentials.table.entries c.settle-pushes.new.excess c.settle-pushes.new.cut.entries
 end c =
     let supply = held c.self.inside.graph.net.nodes (reduced c.self.inside.graph.net).supply in
     let same = c.self.invariant.graph.rows.rows_are in
@@ -88,14 +88,13 @@ invariant_of-self c =
       cost = rw call.ensures.flow_written.whole inv.balance_is.cost;
     } in
     record {
-      fit = fit_written t.graph t.graph t.flow call.new.flow t.potentials.table call.new.potentials.table t.cut.table call.new.cut.table t.scratch call.new.scratch
+      fit = fit_written t.graph t.graph t.flow call.new.flow t.potentials.table call.new.potentials.table t.cut call.new.cut t.scratch call.new.scratch
           inv.fit refl refl inv.graph refl call.ensures.flow_written call.ensures.potentials_written (call.ensures.ready.in_range.at_least 0, call.ensures.ready.in_range.at_most_0 0) call.ensures.cut_written (call.ensures.scratch_in ∙ excess_in s);
       balance_is = balance;
       told = λ told. call.ensures.greatest;
       held = call.ensures.held;
       step = call.ensures.step;
       log_fits = inv.log_fits;
-      clear = call.ensures.clear;
       before_is = tt;
     }
 
@@ -107,11 +106,11 @@ returns-clause-answered c =
     let y = call.new.flow.entries in
     let p = call.new.potentials.table.entries in
     let e = call.new.excess in
-    let set = call.new.cut.table.entries in
+    let set = call.new.cut.entries in
     let ended = end (goal.at.returns-clause-answered c).After-settle-pushes in
     let told = judged (goal.at.returns-clause-answered c).After-judge-self-inside in
     record {
-      sized = sized_written t.graph t.graph t.flow call.new.flow t.potentials.table call.new.potentials.table t.cut.table call.new.cut.table t.scratch c.judge-self-inside.result
+      sized = sized_written t.graph t.graph t.flow call.new.flow t.potentials.table call.new.potentials.table t.cut call.new.cut t.scratch c.judge-self-inside.result
           c.self.invariant.fit refl c.self.invariant.graph.rows refl call.ensures.flow_written call.ensures.potentials_written call.ensures.cut_written;
       certified = end_certified I y p e set ended;
       verdict = end_verdict I y p e set ended c.judge-self-inside.result told;

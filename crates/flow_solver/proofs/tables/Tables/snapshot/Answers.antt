@@ -34,6 +34,5 @@ invariant_of-self c =
       held = rw c.snapshot.ensures.whole (held_kept t.graph.rows t.flow.whole t.scratch.held c.note_all.new.self.held c.note_all.ensures.held inv.held c.places-changed.result.now t.flow.entries inv.flow_whole c.places-changed.ensures.all_named c.note_all.ensures.noted);
       step = rw (c.note_all.ensures.held.labels, c.snapshot-2.ensures.entries) inv.step;
       log_fits = omega (arith, inv.log_fits);
-      clear = λ told v. ap (λ (m : List Bool). in_set m v) c.snapshot-3.ensures.entries ∙ inv.clear told v;
       before_is = tt;
     }

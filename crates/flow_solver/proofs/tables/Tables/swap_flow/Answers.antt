@@ -41,13 +41,12 @@ invariant_of-self c =
     let carried = rw (c.rows.ensures, entry, to_z-of_z w64 c.args.value.now (search rules)) at c.carry_over.ensures in
     let balance = balance_set t.graph.net t.graph.rows t.flow c.exchange.new.self t.balance _ place c.args.value.now there inv.flow_in carried refl c.exchange.ensures.entries c.exchange.ensures.written.whole inv.balance_is in
     record {
-      fit = fit_written t.graph t.graph t.flow c.exchange.new.self t.potentials.table t.potentials.table t.cut.table t.cut.table t.scratch t.scratch inv.fit refl refl inv.graph refl c.exchange.ensures.written (IsWritten-same t.potentials.table) inv.idle (IsWritten-same t.cut.table) inv.scratch_in;
+      fit = fit_written t.graph t.graph t.flow c.exchange.new.self t.potentials.table t.potentials.table t.cut t.cut t.scratch t.scratch inv.fit refl refl inv.graph refl c.exchange.ensures.written (IsWritten-same t.potentials.table) inv.idle (IsWritten-same t.cut) inv.scratch_in;
       balance_is = balance;
       told = λ none. cc;
       held = rw c.exchange.ensures.written.whole inv.held;
       step = inv.step;
       log_fits = inv.log_fits;
-      clear = inv.clear;
       before_is = tt;
     }
 
@@ -55,7 +54,7 @@ pub returns-clause-moment : goal.returns-clause-moment
 returns-clause-moment c =
     let t = c.self.inside in
     let index = (place_there (goal.at.returns-clause-moment c).After-first_row).index_is in
-    ap (λ (x : List ℤ). record { instance = t.graph.net; flow = x; potentials = drop 1 t.potentials.table.entries; verdict = t.verdict; cut = drop 1 t.cut.table.entries })
+    ap (λ (x : List ℤ). record { instance = t.graph.net; flow = x; potentials = drop 1 t.potentials.table.entries; verdict = t.verdict; cut = drop 1 t.cut.entries })
     (c.exchange.ensures.entries ∙ ap (λ (n : ℕ). slice_set t.flow.entries n c.args.value.now) index)
     ∙ ap (λ (b : TablesView). record b.moment { flow = slice_set b.moment.flow (flow_index b.moment.instance.demand c.args.k) c.args.value.now }) c.self.view_is
 

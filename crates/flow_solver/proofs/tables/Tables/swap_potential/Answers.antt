@@ -14,12 +14,11 @@ invariant_of-self c =
     let node = subst (λ (b : TablesView). IsNode b.moment.instance.nodes c.args.id) (sym c.self.view_is) c.requires.node in
     let same : number_at c.exchange_node.new.table.entries 0 ≡ number_at t.potentials.table.entries 0 = c.exchange_node.ensures.no_node (pos 0) in
     record {
-      fit = fit_written t.graph t.graph t.flow t.flow t.potentials.table _ t.cut.table t.cut.table t.scratch t.scratch inv.fit refl refl inv.graph refl (IsWritten-same t.flow) c.exchange_node.ensures.written (rw same inv.idle) (IsWritten-same t.cut.table) inv.scratch_in;
+      fit = fit_written t.graph t.graph t.flow t.flow t.potentials.table _ t.cut t.cut t.scratch t.scratch inv.fit refl refl inv.graph refl (IsWritten-same t.flow) c.exchange_node.ensures.written (rw same inv.idle) (IsWritten-same t.cut) inv.scratch_in;
       balance_is = inv.balance_is;
       told = λ none. cc;
       step = step_noted t.potentials.apart _ t.scratch.held.labels t.potentials.table.entries _ c.args.id _ inv.step (omega (arith, node.1, inv.step.sized, inv.potentials_in.entries_in)) c.note.ensures refl c.exchange_node.ensures.entries;
       held = inv.held;
       log_fits = inv.log_fits;
-      clear = inv.clear;
       before_is = tt;
     }

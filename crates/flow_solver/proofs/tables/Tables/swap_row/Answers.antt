@@ -37,14 +37,13 @@ invariant_of-self c =
     let balance = balance_swapped I J t.graph.rows c.set_row.new.self.rows t.flow t.balance now c.args.k place row there.0 at inv.graph.rows.rows_are c.set_row.ensures.graph.rows.rows_are net tail head
     inv.flow_in inv.flow_whole refl cost inv.balance_is in
     record {
-      fit = fit_written t.graph c.set_row.new.self t.flow t.flow t.potentials.table t.potentials.table t.cut.table t.cut.table t.scratch _ inv.fit (ap (λ (K : Instance). K.nodes) net) (ap (λ (K : Instance). K.room) net) c.set_row.ensures.graph c.set_row.ensures.one_a_row
-          (IsWritten-same t.flow) (IsWritten-same t.potentials.table) inv.idle (IsWritten-same t.cut.table) (ap (λ (v : ScratchView). length v.potentials) c.note_all.ensures.same ∙ inv.scratch_in);
+      fit = fit_written t.graph c.set_row.new.self t.flow t.flow t.potentials.table t.potentials.table t.cut t.cut t.scratch _ inv.fit (ap (λ (K : Instance). K.nodes) net) (ap (λ (K : Instance). K.room) net) c.set_row.ensures.graph c.set_row.ensures.one_a_row
+          (IsWritten-same t.flow) (IsWritten-same t.potentials.table) inv.idle (IsWritten-same t.cut) (ap (λ (v : ScratchView). length v.potentials) c.note_all.ensures.same ∙ inv.scratch_in);
       balance_is = balance;
       told = λ none. cc;
       held = held_swapped t.graph.rows t.flow.whole t.scratch.held c.note_all.new.self.held c.note_all.ensures.held inv.held c.set_row.new.self.rows place row rows_are c.note_all.ensures.noted;
       step = rw c.note_all.ensures.held.labels inv.step;
       log_fits = inv.log_fits;
-      clear = inv.clear;
       before_is = tt;
     }
 

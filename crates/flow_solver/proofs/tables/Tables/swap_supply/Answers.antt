@@ -29,14 +29,13 @@ invariant_of-self c =
     let now = record t.balance { excess = c.add_difference.new.excess } in
     let balance : IsBalanceOf J c.set_supply.new.self.rows t.flow now = rw (c.set_supply.ensures.rows, net) (balance_supplied I t.graph.rows t.flow t.balance now c.args.id c.args.value.now inv.graph.rows.lawful kind node raised refl inv.balance_is) in
     record {
-      fit = fit_written t.graph c.set_supply.new.self t.flow t.flow t.potentials.table t.potentials.table t.cut.table t.cut.table t.scratch t.scratch inv.fit (ap (λ (K : Instance). K.nodes) net) (ap (λ (K : Instance). K.room) net) c.set_supply.ensures.graph
-          (ap length c.set_supply.ensures.rows) (IsWritten-same t.flow) (IsWritten-same t.potentials.table) inv.idle (IsWritten-same t.cut.table) inv.scratch_in;
+      fit = fit_written t.graph c.set_supply.new.self t.flow t.flow t.potentials.table t.potentials.table t.cut t.cut t.scratch t.scratch inv.fit (ap (λ (K : Instance). K.nodes) net) (ap (λ (K : Instance). K.room) net) c.set_supply.ensures.graph
+          (ap length c.set_supply.ensures.rows) (IsWritten-same t.flow) (IsWritten-same t.potentials.table) inv.idle (IsWritten-same t.cut) inv.scratch_in;
       balance_is = balance;
       told = λ stood. rw net (greatest_supplied I c.args.id c.args.value.now (at_node (drop 1 t.potentials.table.entries)) t.flow.entries (inv.told stood));
       held = rw c.set_supply.ensures.rows inv.held;
       step = inv.step;
       log_fits = inv.log_fits;
-      clear = inv.clear;
       before_is = tt;
     }
 

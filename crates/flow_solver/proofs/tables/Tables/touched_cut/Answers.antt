@@ -8,7 +8,7 @@ use Rattle.flow_solver.proofs.tables.Tables.touched_cut.Goals as goal
 
 pub returns-clause-named : goal.returns-clause-named
 returns-clause-named c =
-    let cut = c.self.inside.cut.table in
+    let cut = c.self.inside.cut in
     let places = c.places.result.now in
     subst (λ (d : TablesView). IfSome d.before (λ old. NameChanges 1 places old.cut d.moment.cut)) c.self.view_is
     (since _ _ _ (λ old. NameChanges 1 places old.cut (drop 1 cut.entries)) (λ told. named_after_first places cut.kept cut.entries c.places.ensures.named))
