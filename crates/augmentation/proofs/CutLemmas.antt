@@ -22,7 +22,7 @@ use Rattle.shortest_paths.specs.Predecessor.{predecessor_at}
 use Rattle.shortest_paths.specs.Search.{IsExhausted, IsReached}
 use Rattle.shortest_paths.proofs.SearchLemmas.{open_or_reached}
 use Rattle.augmentation.specs.Marked.{MarkedView}
-use Rattle.augmentation.specs.Cut.{sum_in, sum_leaving, sum_entering, surplus, shortfall, IsLeastSet, amount, near_at, near_of, far_at, far_of, IsFarIn, IsClosed, HoldsRoots, IsSide, IsParted, IsChosenSet, IsGrown, AreMarkedListed, lack}
+use Rattle.augmentation.specs.Cut.{sum_in, sum_leaving, sum_entering, surplus, shortfall, IsLeastSet, amount, near_at, near_of, far_at, far_of, IsFarIn, IsClosed, HoldsRoots, IsSide, IsParted, IsChosenSet, IsGrown, AreMarkedListed, AreNodesIn, AreTaken, HasNoDeficit, lack}
 use Rattle.tracked.specs.Marks.{in_set}
 use Rattle.residual_graph.specs.Side.{IsRoot}
 use Rattle.tracked.specs.Touched.{NameChanges}
@@ -205,7 +205,7 @@ sum_in-all (false ∷ set) (z ∷ e) sized holds none =
 module _ (arcs : List ArcRow) (supply : ℕ → ℤ) (x e : List ℤ) (set : List Bool)
     (is : IsExcess arcs supply x e) (sized : length x ≡ length arcs) (within : (k : ℕ) → k < length arcs → IsWithinRow (row_at arcs k) (number_at x k))
     (sized_set : length set ≡ length e) (closed : IsClosed Ahead arcs x set) (holds : HoldsRoots Ahead e set)
-    (none : (v : ℕ) → in_set set v ≡ true → pos 0 ≤ℤ number_at e v)
+    (none : HasNoDeficit e set)
     (least : (other : List Bool) → IsClosed Ahead arcs x other → HoldsRoots Ahead e other → (v : ℕ) → in_set set v ≡ true → in_set other v ≡ true)
   where
     surplus_below : (other : List Bool) → surplus arcs supply other ≤ℤ sum_in other (number_at e)
@@ -461,7 +461,7 @@ exchanged_listed listed marks v value lt are = record {
 
 -- all nodes are listed at which the marks that come back differ
 pub back_listed : (listed listed' : List Bool) (places : List ℕ) (kept marks : List Bool) → AreMarkedListed listed marks → NameChanges 0 places kept marks → length kept ≡ length marks → length listed' ≡ length listed
-    → ((v : ℕ) → in_set listed v ≡ true → in_set listed' v ≡ true) → ((v : ℕ) → Any (λ p. p ≡ v) places → v < length listed' → in_set listed' v ≡ true) → AreMarkedListed listed' kept
+    → ((v : ℕ) → in_set listed v ≡ true → in_set listed' v ≡ true) → AreNodesIn places listed' → AreMarkedListed listed' kept
 back_listed listed listed' places kept marks are named as_many sized still noted = record {
   one_a_node = sized ∙ are.one_a_node ∙ sym as_many;
   unmarked = λ v out. elim (cases_lt v (length kept)) [
@@ -472,11 +472,6 @@ back_listed listed listed' places kept marks are named as_many sized still noted
     ]
   ];
 }
-
--- the marks of the nodes are those of another table, and so they are wherever they were
-pub record AreTaken (nodes : List ℕ) (before after marks : List Bool) : Type 0 where
-  pub taken : (v : ℕ) → Any (λ p. p ≡ v) nodes → in_set after v ≡ in_set marks v
-  pub kept : (v : ℕ) → in_set before v ≡ in_set marks v → in_set after v ≡ in_set marks v
 
 -- marks that are taken at each node that was listed, and at each that is marked, are taken at all
 pub taken_all : (listed before between after marks : List Bool) (places nodes : List ℕ) → AreMarkedListed listed before → length after ≡ length marks → ((v : ℕ) → in_set listed v ≡ true → Any (λ p. p ≡ v) places) → ((v : ℕ) → in_set marks v ≡ true → Any (λ p. p ≡ v) nodes)
@@ -494,7 +489,7 @@ taken_all listed before between after marks places nodes are sized named marked 
     ]
 
 -- the nodes of the marks that were taken are listed
-pub taken_listed : (listed marks : List Bool) (nodes : List ℕ) → length listed ≡ length marks → ((v : ℕ) → in_set marks v ≡ true → Any (λ p. p ≡ v) nodes) → ((v : ℕ) → Any (λ p. p ≡ v) nodes → v < length listed → in_set listed v ≡ true) → AreMarkedListed listed marks
+pub taken_listed : (listed marks : List Bool) (nodes : List ℕ) → length listed ≡ length marks → ((v : ℕ) → in_set marks v ≡ true → Any (λ p. p ≡ v) nodes) → AreNodesIn nodes listed → AreMarkedListed listed marks
 taken_listed listed marks nodes sized marked noted = record {
   one_a_node = sized;
   unmarked = λ v out. false_from_ne_true (in_set marks v) (λ is. true≢false (sym (noted v (marked v is) (omega (arith, marked_in marks v is, sized))) ∙ out));

@@ -1,6 +1,6 @@
 -- Sets of nodes whose supply cannot leave, or whose demand cannot be met
 -- (Ahuja, Magnanti, Orlin, "Network Flows": feasibility of flows, cuts).
-use Rattle.std.specs.Prelude.{◌≡◌, ℕ, suc, ◌<◌, ◌≤◌, ℤ, pos, ◌-ℤ◌, ◌+ℤ◌, ◌≤ℤ◌, neg_ℤ, List, [], ◌∷◌, length, Bool, true, false, if◌then◌else◌, ◌&&◌, not, IsTrue}
+use Rattle.std.specs.Prelude.{◌≡◌, ℕ, suc, ◌<◌, ◌≤◌, ℤ, pos, ◌-ℤ◌, ◌+ℤ◌, ◌≤ℤ◌, neg_ℤ, List, [], ◌∷◌, length, Bool, true, false, if◌then◌else◌, ◌&&◌, ◌↔◌, Any, not, IsTrue}
 use Rattle.dimacs_text.specs.declared.problem.ArcRow.{ArcRow}
 use Rattle.residual_graph.specs.declared.residual.Way.{Way}
 use Rattle.residual_graph.specs.declared.side.Side.{Side}
@@ -78,11 +78,28 @@ IsClosed side arcs x set = (k : ℕ) (way : Way) → IsResidual arcs x k way →
 abbrev pub HoldsRoots : Side → List ℤ → List Bool → Type 0
 HoldsRoots side e set = (v : ℕ) → IsRoot side (number_at e v) → in_set set v ≡ true
 
+-- the set is that of the roots
+abbrev pub AreRoots : Side → List ℤ → List Bool → Type 0
+AreRoots side e set = (v : ℕ) → IsTrue (in_set set v) ↔ IsRoot side (number_at e v)
+
+-- no node of the set is in deficit
+abbrev pub HasNoDeficit : List ℤ → List Bool → Type 0
+HasNoDeficit e set = (v : ℕ) → in_set set v ≡ true → pos 0 ≤ℤ number_at e v
+
 -- the nodes that those in excess reach, or those that reach a node in deficit
 pub record IsSide (side : Side) (arcs : List ArcRow) (x e : List ℤ) (set : List Bool) : Type 0 where
   pub closed : IsClosed side arcs x set
   pub holds : HoldsRoots side e set
   pub least : (other : List Bool) → IsClosed side arcs x other → HoldsRoots side e other → (v : ℕ) → in_set set v ≡ true → in_set other v ≡ true
+
+-- the nodes are in the set, where they have a mark
+abbrev pub AreNodesIn : List ℕ → List Bool → Type 0
+AreNodesIn nodes set = (v : ℕ) → Any (λ p. p ≡ v) nodes → v < length set → in_set set v ≡ true
+
+-- the marks of the nodes are those of another table, and so are all that were
+pub record AreTaken (nodes : List ℕ) (before after marks : List Bool) : Type 0 where
+  pub taken : (v : ℕ) → Any (λ p. p ≡ v) nodes → in_set after v ≡ in_set marks v
+  pub kept : (v : ℕ) → in_set before v ≡ in_set marks v → in_set after v ≡ in_set marks v
 
 -- each marked node is listed: an unlisted one is not marked
 pub record AreMarkedListed (listed marks : List Bool) : Type 0 where
@@ -99,7 +116,7 @@ pub record IsParted (arcs : List ArcRow) (x e : List ℤ) : Type 0 where
   pub set : List Bool
   pub closed : IsClosed Ahead arcs x set
   pub holds : HoldsRoots Ahead e set
-  pub no_deficit : (v : ℕ) → in_set set v ≡ true → pos 0 ≤ℤ number_at e v
+  pub no_deficit : HasNoDeficit e set
 
 -- the residual arc along arc k, where it is there, has its far node in the set
 abbrev pub IsFarIn : Side → List ArcRow → List ℤ → List Bool → ℕ → Way → Type 0

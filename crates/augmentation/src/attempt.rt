@@ -105,6 +105,30 @@ impl Attempt {
             .write_changes(graph.rows(), flow, &mut self.wanted);
     }
 
+    /// Takes over what the next proposal near an edit would else take over.
+    pub(crate) fn prepare(
+        &mut self,
+        graph: &Graph,
+        flow: &[i64],
+        excess: &Excess,
+        potentials: &[i64],
+    )
+        requires tables { IsAttemptFor (length potentials.now) self.old }
+        requires flow { IsPseudoflow (length potentials.now) graph.now.rows flow.now }
+        requires excess { length excess.now ≡ length potentials.now }
+        ensures { IsAttemptFor (length potentials.now) self.new }
+    {
+        self.proposals
+            .catch_up(graph.rows(), flow, &self.wanted.changes);
+        self.proposals.take_over(
+            graph.rows(),
+            flow,
+            excess.entries(),
+            potentials,
+            excess.unbalanced.places(),
+        );
+    }
+
     /// Proposes where to lead a flow, its excess and potentials, and looks at all nodes for that.
     pub(crate) fn propose_from_afar(
         &mut self,

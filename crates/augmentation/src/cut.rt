@@ -1,11 +1,11 @@
 //! The nodes that show why supply is left over or demand is not met.
 
-ghost use Rattle.std.specs.Prelude.{◌≡◌, ℕ, All, Any, IfOk, IsTrue, length, ◌<◌, ◌≤◌, false, replicate, slice_index_or, slice_set, true};
+ghost use Rattle.std.specs.Prelude.{◌≡◌, ℕ, All, IfOk, IsTrue, length, ◌<◌, ◌≤◌, false, replicate, slice_index_or, slice_set, true};
 ghost use Rattle.residual_graph.specs.Graph.{HasEntries};
 ghost use Rattle.residual_graph.specs.Limits.{row_limit};
 ghost use Rattle.residual_graph.specs.Residual.{IsPseudoflow};
 ghost use Rattle.residual_graph.specs.declared.side.Side.TheVariants.{Ahead};
-ghost use Rattle.augmentation.specs.Cut.{IsSide, IsSideOfCut};
+ghost use Rattle.augmentation.specs.Cut.{AreNodesIn, AreTaken, IsSide, IsSideOfCut};
 ghost use Rattle.tracked.specs.Marks.{in_set};
 ghost use Rattle.tracked.specs.Tracked.{IsBroughtBack, IsFresh, IsWritten};
 
@@ -131,8 +131,7 @@ fn take_marks(table: &mut Tracked<bool>, marks: &[bool], nodes: &[u32])
     requires same_length { length marks.now ≡ length table.old.entries }
     requires nodes_in { All (λ v. v < length marks.now) nodes.now }
     ensures written { IsWritten table.old table.new }
-    ensures taken { (v : ℕ) → Any (λ p. p ≡ v) nodes.now → in_set table.new.entries v ≡ in_set marks.now v }
-    ensures kept { (v : ℕ) → in_set table.old.entries v ≡ in_set marks.now v → in_set table.new.entries v ≡ in_set marks.now v }
+    ensures taken { AreTaken nodes.now table.old.entries table.new.entries marks.now }
 {
     for node in nodes {
         let v = *node as usize;
@@ -146,7 +145,7 @@ fn take_marks(table: &mut Tracked<bool>, marks: &[bool], nodes: &[u32])
 fn list(listed: &mut Touched, nodes: &[u32])
     ensures same_size { length listed.new ≡ length listed.old }
     ensures still { (v : ℕ) → in_set listed.old v ≡ true → in_set listed.new v ≡ true }
-    ensures noted { (v : ℕ) → Any (λ p. p ≡ v) nodes.now → v < length listed.new → in_set listed.new v ≡ true }
+    ensures noted { AreNodesIn nodes.now listed.new }
 {
     for node in nodes {
         let v = *node as usize;

@@ -2,8 +2,7 @@
 
 ghost use Rattle.std.specs.Prelude.{◌≡◌, ℕ, ◌<◌, ◌≤◌, pos, neg_ℤ, ◌≤ℤ◌, All, IfOk, IsTrue, ◌↔◌, false, length, slice_set, true};
 ghost use Rattle.residual_graph.specs.Limits.{entry_limit, row_limit};
-ghost use Rattle.residual_graph.specs.Residual.{number_at};
-ghost use Rattle.augmentation.specs.Cut.{amount, amount_of, lack};
+ghost use Rattle.augmentation.specs.Cut.{HasNoDeficit, amount, amount_of, lack};
 ghost use Rattle.augmentation.specs.Excess.{AreUnbalancedListed, IsBalancedOrListed};
 ghost use Rattle.augmentation.specs.Limits.{excess_limit};
 ghost use Rattle.augmentation.specs.Push.{AreSmall, left};
@@ -115,7 +114,7 @@ impl Excess {
     /// Whether a marked node is in deficit.
     pub(crate) fn has_deficit_among(&self, marks: &[bool]) -> bool
         requires one_a_node { length marks.now ≡ length self.now }
-        ensures { result ≡ false → (v : ℕ) → in_set marks.now v ≡ true → pos 0 ≤ℤ number_at self.now v }
+        ensures { result ≡ false → HasNoDeficit self.now marks.now }
     {
         let places = self.unbalanced.places();
         for j in 0..places.len() {

@@ -30,7 +30,7 @@ pub use certificate::{certifies, is_within};
 pub use cut::{Cut, mark_cut};
 pub use draft::Draft;
 pub use excess::Excess;
-pub use near::{Apart, push_near};
+pub use near::{Apart, prepare, push_near};
 pub use order::Order;
 pub use potentials::write_potentials;
 pub use rounds::finish;

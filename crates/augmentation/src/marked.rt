@@ -2,7 +2,8 @@
 
 ghost use Rattle.std.specs.Prelude.{◌≡◌, ℕ, ◌+◌, ◌<◌, All, Any, IfOk, false, length, slice_set, true};
 ghost use Rattle.tracked.specs.Marks.{in_set};
-ghost use Rattle.tracked.specs.NodeLists.{IsListed, node_at};
+ghost use Rattle.tracked.specs.NodeLists.{node_at};
+ghost use Rattle.augmentation.specs.Marked.{AreAllListed};
 
 use std::alloc::{AllocError, Global};
 use std::marker::Model;
@@ -62,7 +63,7 @@ impl Marked {
     /// How many nodes are marked.
     pub fn count(&self) -> usize
         ensures value { result ≡ self.now.count }
-        ensures listed { (v : ℕ) → in_set self.now.marks v ≡ true → IsListed self.now.nodes result v }
+        ensures listed { AreAllListed self.now }
     {
         self.count
     }

@@ -105,6 +105,21 @@ fn note_apart(proposals: &mut Proposals, apart: &Apart)
     }
 }
 
+/// Lists the nodes whose potential is another than the label.
+fn list_apart(apart: &mut Apart, labels: &[i64], potentials: &[i64])
+    requires same_length { length labels.now ≡ length potentials.now }
+    requires sized { length apart.old.nodes ≡ length potentials.now }
+    ensures { AreInStep apart.new labels.now potentials.now }
+{
+    apart.nodes.clear();
+    for v in 0..potentials.len() {
+        if labels[v] != potentials[v] {
+            apart.nodes.note(v);
+        }
+    }
+    apart.are_all = false;
+}
+
 /// Whether the labels of a tree may be other potentials at many nodes.
 fn are_many(apart: &Apart, tree: &Tree) -> bool
     ensures { OnFalse result (apart.now.are_all ≡ false) }
@@ -164,6 +179,41 @@ fn raise_near(
     write_labels(potentials, apart, tree, &mut scratch.attempt.proposals);
     tree.accept(graph, flow.places());
     true
+}
+
+/// Does beforehand what the first proposal near an edit would do at all nodes and arcs, where some proposal was made: brings
+/// the tables of its searches in step, and has the tree hold the labels of the flow.
+pub fn prepare(
+    graph: &Graph,
+    flow: &Tracked<i64>,
+    excess: &Excess,
+    potentials: &[i64],
+    apart: &mut Apart,
+    scratch: &mut Scratch,
+)
+    requires graph { HasEntries (length potentials.now) graph.now }
+    requires flow { IsPseudoflow (length potentials.now) graph.now.rows flow.now.entries }
+    requires excess { length excess.now ≡ length potentials.now }
+    requires scratch_in { length scratch.old.potentials ≡ length potentials.now }
+    requires held { IsHeldIn graph.now.rows flow.now.whole scratch.old.held }
+    requires step { AreInStep apart.old scratch.old.held.labels potentials.now }
+    ensures scratch_in { length scratch.new.potentials ≡ length scratch.old.potentials }
+    ensures held { IsHeldIn graph.now.rows flow.now.whole scratch.new.held }
+    ensures step { AreInStep apart.new scratch.new.held.labels potentials.now }
+{
+    let attempt = &mut scratch.attempt;
+    if attempt.proposals.is_fresh() {
+        return;
+    }
+    note_apart(&mut attempt.proposals, apart);
+    attempt.prepare(graph, flow.entries(), excess, potentials);
+    let tree = &mut scratch.tree;
+    tree.lower(0);
+    if !is_renewed(graph, flow, potentials, tree) {
+        return;
+    }
+    list_apart(apart, tree.labels(), potentials);
+    tree.accept(graph, flow.places());
 }
 
 /// Pushes as a proposal near the nodes out of balance has it, where the tree of labels certifies that, and counts the pushes;

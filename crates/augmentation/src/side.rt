@@ -1,11 +1,10 @@
 //! The nodes of a side: those that the nodes in excess reach, or those that reach a node in deficit.
 
-ghost use Rattle.std.specs.Prelude.{◌≡◌, ℕ, length, ◌<◌, IsTrue, ◌↔◌, true};
-ghost use Rattle.residual_graph.specs.Residual.{IsPseudoflow, number_at};
+ghost use Rattle.std.specs.Prelude.{◌≡◌, ℕ, length, ◌<◌, true};
+ghost use Rattle.residual_graph.specs.Residual.{IsPseudoflow};
 ghost use Rattle.residual_graph.specs.Graph.{HasEntries};
-ghost use Rattle.augmentation.specs.Cut.{IsSide, IsGrown, IsFarIn, AreFarIn, near_at, near_of, far_of};
+ghost use Rattle.augmentation.specs.Cut.{AreRoots, IsSide, IsGrown, IsFarIn, AreFarIn, near_at, near_of, far_of};
 ghost use Rattle.tracked.specs.Marks.{in_set};
-ghost use Rattle.residual_graph.specs.Side.{IsRoot};
 ghost use Rattle.residual_graph.specs.declared.residual.Way.{Way};
 
 use crate::excess::Excess;
@@ -48,7 +47,7 @@ pub(crate) fn mark_side(
 fn mark_roots(side: Side, excess: &Excess, marked: &mut Marked)
     requires marked_in { length marked.old.marks ≡ length excess.now }
     ensures same_size { length marked.new.marks ≡ length marked.old.marks }
-    ensures marked { (v : ℕ) → IsTrue (in_set marked.new.marks v) ↔ IsRoot side (number_at excess.now v) }
+    ensures marked { AreRoots side excess.now marked.new.marks }
 {
     marked.clear();
     let places = excess.unbalanced.places();

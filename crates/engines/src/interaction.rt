@@ -106,6 +106,8 @@ pub fn run_session_in<A: Allocator + Copy, P: Source, C: Source, O: Sink>(
     };
     match tell_opening(&session, out) {
         Ok(()) => {
+            // While nothing is asked yet.
+            session.prepare();
             let end = serve_commands(&mut session, script, out);
             // By a call, whose steps are proved once. At the end of a block they are proved again for each of its exits.
             drop(session);

@@ -13,9 +13,7 @@ ghost use Rattle.residual_graph.specs.Walk.{AreRowsOf};
 ghost use Rattle.residual_graph.specs.declared.side.Side.TheVariants.{Ahead};
 
 use crate::potentials::Potentials;
-use augmentation::{
-    Cut, Excess, Pushed, Scratch, mark_cut, push_all, push_near, write_potentials,
-};
+use augmentation::{Cut, Excess, Pushed, Scratch, mark_cut, push_all, push_near, write_potentials};
 use residual_graph::{Graph, Side};
 use tracked::Tracked;
 

@@ -290,9 +290,9 @@ impl Proposals {
         }
     }
 
-    /// Takes over a flow, what it leaves at each node and potentials: of the arcs and the nodes those alone that were noted,
-    /// where the proposal keeps step with all others and they are few.
-    fn take_over(
+    /// Takes over a flow, what it leaves at each node and potentials, as a proposal near an edit begins: of the arcs and the
+    /// nodes those alone that were noted, where the proposal keeps step with all others and they are few.
+    pub fn take_over(
         &mut self,
         rows: &[ArcRow],
         flow: &[i64],

@@ -91,6 +91,14 @@ impl<A: Allocator + Copy> Session<A> {
         })
     }
 
+    /// Does beforehand what the first edit would else do at all nodes and arcs, so that it is answered as later ones are. The
+    /// session stays as it is.
+    pub fn prepare(&mut self)
+        ensures { self.new ≡ self.old }
+    {
+        self.tables.prepare();
+    }
+
     /// Applies an edit: the present moment becomes past, and the future is dropped with its marks. Gives the number of
     /// pushes. After a refusal the session is as before.
     ///

@@ -19,6 +19,7 @@ use crate::edit::{added_row, arc_of, edited_row, edited_supply, nearest, reduced
 use crate::part::{Part, part_of};
 use crate::settle::settle;
 use crate::verdict::Verdict;
+use augmentation::prepare;
 use dimacs_text::{ArcRow, Edit, GROUP_LIMIT};
 
 impl Tables {
@@ -250,9 +251,28 @@ impl Tables {
         }
     }
 
+    /// Does beforehand what the first change would else do at all nodes and arcs: keeps what stands there, and brings the
+    /// tables of the searches in step with it.
+    pub fn prepare(&mut self)
+        requires { IsCertifiedMoment self.old.moment }
+        ensures moment { self.new.moment ≡ self.old.moment }
+        ensures before { self.new.before ≡ None }
+    {
+        self.snapshot();
+        prepare(
+            &self.graph,
+            &self.flow,
+            &self.balance.excess,
+            self.potentials.table.entries(),
+            &mut self.potentials.apart,
+            &mut self.scratch,
+        );
+    }
+
     /// Keeps the flow, the potentials and the marks, with an empty log.
     fn snapshot(&mut self)
         ensures moment { self.new.moment ≡ self.old.moment }
+        ensures before { self.new.before ≡ None }
         ensures kept { self.new.kept ≡ kept_of self.old.moment }
         ensures sized { IsSized self.new.moment }
     {

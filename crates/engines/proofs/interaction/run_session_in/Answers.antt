@@ -23,7 +23,7 @@ returns-in-Err-tell_opening-clause-session g c =
 pub returns-in-Ok-tell_opening-clause-session : goal.returns-in-Ok-tell_opening-clause-session
 returns-in-Ok-tell_opening-clause-session g c =
     let begun = c.in-Ok.ensures.opened in
-    let served = c.serve_commands-end.ensures.served in
+    let served = rw c.prepare.ensures at c.serve_commands-end.ensures.served in
     SessionOnDevices-commands c.serve_commands-end.result c.args.extra begun.problem (state_of c.in-Ok.session) _ _ _ _ served.0 _ _ _ _ _ begun.problem_read begun.opens
     c.in-Ok-tell_opening.ensures.bytes served.1 served.2
 
@@ -59,5 +59,5 @@ returns-in-Err-tell_opening-clause-out_flushed g c =
 
 pub returns-in-Ok-tell_opening-clause-out_flushed : goal.returns-in-Ok-tell_opening-clause-out_flushed
 returns-in-Ok-tell_opening-clause-out_flushed g c =
-    let served = c.serve_commands-end.ensures.served in
+    let served = rw c.prepare.ensures at c.serve_commands-end.ensures.served in
     FlushesOnDevices-commands c.serve_commands-end.result (state_of c.in-Ok.session) _ _ served.0 _ _ (g.O.Sink.flushes c.args.out.now) _ _ served.1 c.in-Ok-tell_opening.ensures.flushed served.2

@@ -9,10 +9,8 @@ sized c = c.take_marks-2.ensures.written.same_length ∙ c.take_marks.ensures.wr
 
 all_taken : (c : After-list) → c.take_marks-2.new.table.entries ≡ c.args.marked.now.marks
 all_taken c =
-    let one = rw c.marks.ensures at c.take_marks.ensures in
-    let two = rw c.marks-2.ensures at c.take_marks-2.ensures in
     taken_all c.self.inside.listed c.self.inside.table.entries c.take_marks.new.table.entries c.take_marks-2.new.table.entries c.args.marked.now.marks c.places.result.now c.nodes.result.now
-    c.self.invariant (sized c) c.places.ensures.listed c.nodes.ensures.listed (record { taken = one.taken; kept = one.kept }) (record { taken = two.taken; kept = two.kept })
+    c.self.invariant (sized c) c.places.ensures.listed c.nodes.ensures.listed (rw c.marks.ensures at c.take_marks.ensures.taken) (rw c.marks-2.ensures at c.take_marks-2.ensures.taken)
 
 pub invariant_of-self : goal.invariant_of-self
 invariant_of-self c =

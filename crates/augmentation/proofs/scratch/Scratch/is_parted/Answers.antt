@@ -1,7 +1,6 @@
-use Rattle.std.proofs.Common.{◌≡◌, ◌∙◌, Bool, List, ap, false, not, pos, refl, subst, true, ℕ, ◌≤ℤ◌}
+use Rattle.std.proofs.Common.{◌≡◌, ◌∙◌, Bool, ap, false, not, refl, subst, true}
 use Rattle.std.proofs.lemmas.Bool.{false≢true}
-use Rattle.residual_graph.specs.Residual.{number_at}
-use Rattle.tracked.specs.Marks.{in_set}
+use Rattle.augmentation.specs.Cut.{HasNoDeficit}
 use Rattle.augmentation.specs.ScratchView.{ScratchView}
 use Rattle.augmentation.proofs.scratch.Scratch.is_parted.Goals as goal
 
@@ -16,5 +15,5 @@ returns-clause-parted c = λ yes.
       set = c.mark_side.new.self.marks;
       closed = c.mark_side.ensures.marked.closed;
       holds = c.mark_side.ensures.marked.holds;
-      no_deficit = subst (λ (set : List Bool). (v : ℕ) → in_set set v ≡ true → pos 0 ≤ℤ number_at c.args.excess.now v) marks (c.has_deficit_among.ensures (not_true _ yes));
+      no_deficit = subst (HasNoDeficit c.args.excess.now) marks (c.has_deficit_among.ensures (not_true _ yes));
     })

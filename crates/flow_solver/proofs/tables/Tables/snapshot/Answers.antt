@@ -1,11 +1,10 @@
-use Rattle.std.proofs.Common.{◌∙◌, Bool, List, ap, arith, length, refl, subst, sym}
+use Rattle.std.proofs.Common.{◌∙◌, List, ap, arith, length, refl, subst, sym}
 use Rattle.std.specs.Int.{w128}
 use Rattle.std.proofs.lemmas.Int.{to_z-of_z}
 use Rattle.dimacs_text.specs.declared.problem.ArcRow.{ArcRow}
 use Rattle.flow_solver.specs.Balance.{IsWrappedCost}
 use Rattle.augmentation.specs.Nodes.{IsIdleEntry}
 use Rattle.augmentation.specs.ScratchView.{ScratchView}
-use Rattle.tracked.specs.Marks.{in_set}
 use Rattle.flow_solver.proofs.CarryLemmas.{balance_kept}
 use Rattle.flow_solver.proofs.HeldTables.{held_kept}
 use Rattle.flow_solver.proofs.tables.Tables.snapshot.Goals as goal

@@ -11,4 +11,4 @@ returns-clause-named c =
     let cut = c.self.inside.cut in
     let places = c.places.result.now in
     subst (λ (d : TablesView). IfSome d.before (λ old. NameChanges 1 places old.cut d.moment.cut)) c.self.view_is
-    (since _ _ _ (λ old. NameChanges 1 places old.cut (drop 1 cut.entries)) (λ told. named_after_first places cut.kept cut.entries c.places.ensures.named))
+    (since _ _ _ (λ old. NameChanges 1 places old.cut (drop 1 cut.entries)) (λ told. named_after_first places cut.kept cut.entries (rw c.table.ensures at c.places.ensures.named)))
