@@ -101,6 +101,7 @@ class Dialogue:
         assert self.process.stdin is not None and self.process.stdout is not None
         self.entry, self.output, self.limit = self.process.stdin, self.process.stdout, limit
         self.opening = self.reply()
+        self.await_readiness()
 
     def __enter__(self) -> "Dialogue":
         return self
@@ -110,6 +111,12 @@ class Dialogue:
             self.entry.close()
         self.process.wait()
         self.output.close()
+
+    def await_readiness(self) -> None:
+        """Waits until the session reads commands: it gets ready for edits after its first reply."""
+        end = time.monotonic() + self.limit
+        while not is_asleep(self.process.pid) and time.monotonic() < end:
+            time.sleep(0.001)
 
     def ask(self, command: bytes) -> Tuple[float, bytes]:
         """Sends a command; gives the processor time until its reply, and the reply, which is empty where none came."""
@@ -133,6 +140,13 @@ class Dialogue:
         if not select.select([self.output], [], [], self.limit)[0]:
             self.process.send_signal(signal.SIGXCPU)
         return self.output.readline()
+
+
+def is_asleep(process: int) -> bool:
+    """Whether a process waits for something, or has ended."""
+    # The state is behind the name, which may hold anything.
+    stat = Path(f"/proc/{process}/stat").read_text(encoding="ascii", errors="replace")
+    return stat.rpartition(")")[2].split()[0] in ("S", "Z", "X")
 
 
 def processor_seconds(process: int) -> float:
