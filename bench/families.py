@@ -70,7 +70,7 @@ def skeleton(draw: random.Random, shape: Netgen, problem: Problem) -> None:
     draw.shuffle(sinks)
     for place, (chain, supply) in enumerate(zip(chains, shares(draw, shape.supply, shape.sources))):
         # Each sink is reached by one chain at least.
-        reached = sinks[place::shape.sources] or [draw.choice(sinks)]
+        reached = sinks[place :: shape.sources] or [draw.choice(sinks)]
         reached = list({*reached, *(draw.choice(sinks) for _ in range(min(2, supply)))})[: max(1, supply)]
         links = list(zip(chain, chain[1:])) + [(draw.choice(chain), sink) for sink in reached]
         for tail, head in links:
@@ -172,10 +172,16 @@ class Grid:
 
     def steps(self) -> List[Tuple[int, int]]:
         """Each pair of a node and its neighbour on the right or below."""
-        across = [(self.node(row, column), self.node(row, column + 1))
-                  for row in range(self.rows) for column in range(self.columns - 1)]
-        down = [(self.node(row, column), self.node(row + 1, column))
-                for row in range(self.rows - 1) for column in range(self.columns)]
+        across = [
+            (self.node(row, column), self.node(row, column + 1))
+            for row in range(self.rows)
+            for column in range(self.columns - 1)
+        ]
+        down = [
+            (self.node(row, column), self.node(row + 1, column))
+            for row in range(self.rows - 1)
+            for column in range(self.columns)
+        ]
         return across + down
 
     @property
@@ -254,8 +260,9 @@ def road(draw: random.Random, arcs: int) -> Problem:
     side = math.isqrt(arcs // 3)
     grid = Grid(side, side)
     problem = Problem("min", grid.nodes)
-    places = [(row + draw.random() * 0.8, column + draw.random() * 0.8)
-              for row in range(side) for column in range(side)]
+    places = [
+        (row + draw.random() * 0.8, column + draw.random() * 0.8) for row in range(side) for column in range(side)
+    ]
     middle = side // 2
     # What each amount would take: along its row to the middle column, along this one, and along the row of its target.
     loads: Dict[Tuple[int, int], int] = {}
@@ -485,7 +492,8 @@ def inf_sum(draw: random.Random, arcs: int) -> Problem:
     problem.supplies[1] += 5
     problem.supplies[first.nodes + 1] -= 5
     problem.arcs = first.arcs + [
-        arc._replace(tail=arc.tail + first.nodes, head=arc.head + first.nodes) for arc in second.arcs]
+        arc._replace(tail=arc.tail + first.nodes, head=arc.head + first.nodes) for arc in second.arcs
+    ]
     return problem
 
 
@@ -579,7 +587,7 @@ def max_rmf_wide(draw: random.Random, arcs: int) -> Problem:
 
 def max_rlg(draw: random.Random, arcs: int) -> Problem:
     """A random level graph (Washington): from each node three arcs into the next level."""
-    width = round(arcs ** 0.36)
+    width = round(arcs**0.36)
     levels = arcs // (3 * width)
     grid = Grid(levels, width)
     problem = Problem("max", grid.nodes + 2, source=grid.nodes + 1, sink=grid.nodes + 2)
@@ -663,9 +671,9 @@ def bad_zadeh(_: random.Random, levels: int) -> Problem:
         source, sink, cap = 2 * level + 1, 2 * level + 2, 2 ** (level - 1)
         problem.add(source, source - 2, cap)
         problem.add(sink - 2, sink, cap)
-        problem.add(source, sink - 2, cap, 2 ** level - 1)
-        problem.add(source - 2, sink, cap, 2 ** level - 1)
-    problem.ship(2 * levels + 1, 2 * levels + 2, 2 ** levels)
+        problem.add(source, sink - 2, cap, 2**level - 1)
+        problem.add(source - 2, sink, cap, 2**level - 1)
+    problem.ship(2 * levels + 1, 2 * levels + 2, 2**levels)
     return problem
 
 

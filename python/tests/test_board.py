@@ -176,9 +176,7 @@ class BoardTest(unittest.TestCase):
             board = Board(session)
             self.assertEqual(board.state()["cost"], "2")
             self.assertIn("b to c: 2", board.state()["limit"])
-            self.assertEqual(
-                board.do({"do": "edits", "edits": [{"edit": "cap", "arc": 1, "value": "5"}]})["cost"], "3"
-            )
+            self.assertEqual(board.do({"do": "edits", "edits": [{"edit": "cap", "arc": 1, "value": "5"}]})["cost"], "3")
             self.assertTrue(board.do({"do": "edits", "edits": [{"edit": "cost", "arc": 1, "value": "5"}]})["error"])
         pairs = Problem("asn")
         for name, supply in [("Ann", 1), ("Ben", 1), ("day", -1), ("night", -1)]:

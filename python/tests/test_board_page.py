@@ -359,9 +359,9 @@ class PageTest(unittest.TestCase):
         self.at("#find").clear()
         self.at("#only-full").click()
         self.until(
-            lambda: [row.text.split("\n")[0] for row in self.all("#arcs tbody tr") if row.is_displayed()][
-                0
-            ].startswith("north to middle")
+            lambda: [row.text.split("\n")[0] for row in self.all("#arcs tbody tr") if row.is_displayed()][0].startswith(
+                "north to middle"
+            )
         )
 
     def test_two_widths(self) -> None:

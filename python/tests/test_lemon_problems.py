@@ -18,17 +18,39 @@ SUPPLIES = {
 }
 # Tail, head, cost, capacity, and three lower bounds.
 NETWORK = [
-    (1, 2, 70, 11, 0, 8, 8), (1, 3, 150, 3, 0, 1, 0), (1, 4, 80, 15, 0, 2, 2), (2, 8, 80, 12, 0, 0, 0),
-    (3, 5, 140, 5, 0, 3, 1), (4, 6, 60, 10, 0, 1, 0), (4, 7, 80, 2, 0, 0, 0), (4, 8, 110, 3, 0, 0, 0),
-    (5, 7, 60, 14, 0, 0, 0), (5, 11, 120, 12, 0, 0, 0), (6, 3, 0, 3, 0, 0, 0), (6, 9, 140, 4, 0, 0, 0),
-    (6, 10, 90, 8, 0, 0, 0), (7, 1, 30, 5, 0, 0, -5), (8, 12, 60, 16, 0, 4, 3), (9, 12, 50, 6, 0, 0, 0),
-    (10, 12, 70, 13, 0, 5, 2), (10, 2, 100, 7, 0, 0, 0), (10, 7, 60, 10, 0, 0, -3), (11, 10, 20, 14, 0, 6, -20),
+    (1, 2, 70, 11, 0, 8, 8),
+    (1, 3, 150, 3, 0, 1, 0),
+    (1, 4, 80, 15, 0, 2, 2),
+    (2, 8, 80, 12, 0, 0, 0),
+    (3, 5, 140, 5, 0, 3, 1),
+    (4, 6, 60, 10, 0, 1, 0),
+    (4, 7, 80, 2, 0, 0, 0),
+    (4, 8, 110, 3, 0, 0, 0),
+    (5, 7, 60, 14, 0, 0, 0),
+    (5, 11, 120, 12, 0, 0, 0),
+    (6, 3, 0, 3, 0, 0, 0),
+    (6, 9, 140, 4, 0, 0, 0),
+    (6, 10, 90, 8, 0, 0, 0),
+    (7, 1, 30, 5, 0, 0, -5),
+    (8, 12, 60, 16, 0, 4, 3),
+    (9, 12, 50, 6, 0, 0, 0),
+    (10, 12, 70, 13, 0, 5, 2),
+    (10, 2, 100, 7, 0, 0, 0),
+    (10, 7, 60, 10, 0, 0, -3),
+    (11, 10, 20, 14, 0, 6, -20),
     (12, 11, 30, 10, 0, 0, -10),
 ]
 # Tail, head, cost, and two lower bounds.
 CIRCLE = [
-    (1, 2, 100, 0, 0), (1, 3, 30, 0, 0), (2, 4, 20, 0, 0), (3, 4, 80, 0, 0), (3, 2, 50, 0, 0), (5, 3, 10, 0, 0),
-    (5, 6, 80, 0, 1000), (6, 7, 30, 0, -1000), (7, 5, -120, 0, 0),
+    (1, 2, 100, 0, 0),
+    (1, 3, 30, 0, 0),
+    (2, 4, 20, 0, 0),
+    (3, 4, 80, 0, 0),
+    (3, 2, 50, 0, 0),
+    (5, 3, 10, 0, 0),
+    (5, 6, 80, 0, 1000),
+    (6, 7, 30, 0, -1000),
+    (7, 5, -120, 0, 0),
 ]
 
 
@@ -39,15 +61,21 @@ class Case(NamedTuple):
     answer: object
 
 
-def network(supplies: str, low: Optional[int] = None, *, has_caps: bool = True, has_costs: bool = True,
-            balance: str = "equal") -> Problem:
+def network(
+    supplies: str, low: Optional[int] = None, *, has_caps: bool = True, has_costs: bool = True, balance: str = "equal"
+) -> Problem:
     """A problem on the network: with the lower bounds `low` (0 to 2), capacities or none, costs or 1 each."""
     problem = Problem("min", balance=balance)
     for node, supply in enumerate(SUPPLIES[supplies], 1):
         problem.add_node(str(node), supply)
     for tail, head, cost, cap, *lows in NETWORK:
-        problem.add_arc(str(tail), str(head), low=0 if low is None else lows[low], cap=cap if has_caps else None,
-                        cost=cost if has_costs else 1)
+        problem.add_arc(
+            str(tail),
+            str(head),
+            low=0 if low is None else lows[low],
+            cap=cap if has_caps else None,
+            cost=cost if has_costs else 1,
+        )
     return problem
 
 

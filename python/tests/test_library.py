@@ -55,20 +55,50 @@ class LibraryCalls(unittest.TestCase):
                 self.assertEqual(ours.first, theirs.first)
                 for _ in range(40):
                     arc, node, other, value = (draws.randint(0, 9) for _ in range(4))
-                    line = draws.choice([f"cap {arc} {value}", f"cost {arc} {value - 5}", f"supply {node} {value - 4}",
-                                         f"close {arc}", f"add {node} {other} 0 5 1", "undo", "undo", "redo",
-                                         "mark here", "back here", "", "what", "x" * 1100, " " * 1025, "low 1 1",
-                                         "undo\n", "redo\r", "cap\v1 2"])
+                    line = draws.choice(
+                        [
+                            f"cap {arc} {value}",
+                            f"cost {arc} {value - 5}",
+                            f"supply {node} {value - 4}",
+                            f"close {arc}",
+                            f"add {node} {other} 0 5 1",
+                            "undo",
+                            "undo",
+                            "redo",
+                            "mark here",
+                            "back here",
+                            "",
+                            "what",
+                            "x" * 1100,
+                            " " * 1025,
+                            "low 1 1",
+                            "undo\n",
+                            "redo\r",
+                            "cap\v1 2",
+                        ]
+                    )
                     self.assertEqual(ours.ask(line), theirs.ask(line), (text, line))
                     if draws.random() < 0.2:
-                        group = ["group", line, f"add {node} {other} 0 5 1", "", f"cap {arc} {value}", "end\f",
-                                 "end" + " " * 1022, "end\n"]
+                        group = [
+                            "group",
+                            line,
+                            f"add {node} {other} 0 5 1",
+                            "",
+                            f"cap {arc} {value}",
+                            "end\f",
+                            "end" + " " * 1022,
+                            "end\n",
+                        ]
                         self.assertEqual(ours.ask_all(group), theirs.ask_all(group), (text, group))
                 found, wanted = ours.ask("proof"), theirs.ask("proof")
-                self.assertEqual([row.split()[:3] for row in found if row[0] in "sik"],
-                                 [row.split()[:3] for row in wanted if row[0] in "sik"])
-                self.assertEqual([row.split()[1:3] for row in found if row[0] == "f"],
-                                 [row.split()[1:3] for row in wanted if row[0] == "f"])
+                self.assertEqual(
+                    [row.split()[:3] for row in found if row[0] in "sik"],
+                    [row.split()[:3] for row in wanted if row[0] in "sik"],
+                )
+                self.assertEqual(
+                    [row.split()[1:3] for row in found if row[0] == "f"],
+                    [row.split()[1:3] for row in wanted if row[0] == "f"],
+                )
 
     def test_faults(self) -> None:
         library = Library()

@@ -16,7 +16,7 @@ from unittest import mock
 
 from limits import HEARD
 
-from mcf_plan.__main__ import main
+from mcf_plan.cli import main
 
 TOP = Path(__file__).resolve().parents[2]
 COMMAND = str(TOP / "mcf-plan")
@@ -258,7 +258,7 @@ class Command(unittest.TestCase):
 
     def test_no_memory(self):
         errors = io.StringIO()
-        with mock.patch("mcf_plan.__main__._plan", side_effect=MemoryError), contextlib.redirect_stderr(errors):
+        with mock.patch("mcf_plan.cli._plan", side_effect=MemoryError), contextlib.redirect_stderr(errors):
             status = main(["plan", self.nodes, self.arcs])
         self.assertEqual((status, errors.getvalue()), (4, "mcf-plan: out of memory\n"))
 

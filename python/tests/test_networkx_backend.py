@@ -65,8 +65,10 @@ class NetworkxBackend(unittest.TestCase):
                     self.assertEqual(ours, theirs, (name, G.nodes(data=True), G.edges(data=True)))
                     continue
                 self.assertEqual(ours[0], theirs[0])
-                self.assertEqual({node: set(heads) for node, heads in ours[1].items()},
-                                 {node: set(heads) for node, heads in theirs[1].items()})
+                self.assertEqual(
+                    {node: set(heads) for node, heads in ours[1].items()},
+                    {node: set(heads) for node, heads in theirs[1].items()},
+                )
                 if not G.is_multigraph():
                     self.assertEqual(nx.cost_of_flow(G, ours[1]), theirs[0])
         print(f"networkx, flows of least cost: {kinds}, the same")
@@ -153,18 +155,19 @@ class NetworkxBackend(unittest.TestCase):
 
         G = nx.DiGraph([(0, 1)])
         for function, error in [
-                (lambda: backend.maximum_flow(G, 0, 0), nx.NetworkXError),
-                (lambda: backend.maximum_flow(G, 0, 7), nx.NetworkXError),
-                (lambda: backend.maximum_flow(G, 0, 1), nx.NetworkXUnbounded),
-                (lambda: backend.maximum_flow(G, 0, 1, flow_func="dinitz"), nx.NetworkXError),
-                (lambda: backend.maximum_flow(G, 0, 1, cutoff=3), nx.NetworkXError),
-                (lambda: backend.minimum_cut(G, 0, 1, flow_func=nx.algorithms.flow.dinitz, cutoff=3), nx.NetworkXError),
-                (lambda: backend.maximum_flow(G, 0, 1, flow_func=lambda *_: None), nx.NetworkXNotImplemented),
-                (lambda: backend.maximum_flow(nx.MultiDiGraph(G), 0, 1), nx.NetworkXError),
-                (lambda: backend.preflow_push(G, 0, 1, global_relabel_freq=-1), nx.NetworkXError),
-                (lambda: backend.gomory_hu_tree(nx.Graph()), nx.NetworkXError),
-                (lambda: backend.network_simplex(nx.Graph(G)), nx.NetworkXNotImplemented),
-                (lambda: backend.network_simplex(nx.DiGraph()), nx.NetworkXError)]:
+            (lambda: backend.maximum_flow(G, 0, 0), nx.NetworkXError),
+            (lambda: backend.maximum_flow(G, 0, 7), nx.NetworkXError),
+            (lambda: backend.maximum_flow(G, 0, 1), nx.NetworkXUnbounded),
+            (lambda: backend.maximum_flow(G, 0, 1, flow_func="dinitz"), nx.NetworkXError),
+            (lambda: backend.maximum_flow(G, 0, 1, cutoff=3), nx.NetworkXError),
+            (lambda: backend.minimum_cut(G, 0, 1, flow_func=nx.algorithms.flow.dinitz, cutoff=3), nx.NetworkXError),
+            (lambda: backend.maximum_flow(G, 0, 1, flow_func=lambda *_: None), nx.NetworkXNotImplemented),
+            (lambda: backend.maximum_flow(nx.MultiDiGraph(G), 0, 1), nx.NetworkXError),
+            (lambda: backend.preflow_push(G, 0, 1, global_relabel_freq=-1), nx.NetworkXError),
+            (lambda: backend.gomory_hu_tree(nx.Graph()), nx.NetworkXError),
+            (lambda: backend.network_simplex(nx.Graph(G)), nx.NetworkXNotImplemented),
+            (lambda: backend.network_simplex(nx.DiGraph()), nx.NetworkXError),
+        ]:
             self.assertRaises(error, function)
         self.assertFalse(backend.can_run("maximum_flow", (G, 0, 1), {"flow_func": lambda *_: None}))
         self.assertTrue(backend.can_run("maximum_flow", (G, 0, 1), {}))

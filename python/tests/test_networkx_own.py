@@ -15,8 +15,7 @@ NEWER_NETWORKX = Path(os.environ.get("NEWER_NETWORKX", Path(tempfile.gettempdir(
 TESTS = NEWER_NETWORKX / "networkx" / "algorithms" / "flow" / "tests"
 DIFFERING: Dict[str, str] = {
     "test_maxflow_large_graph::TestMaxflowLargeGraph::test_pyramid": TOO_FINE,
-    "test_mincost::TestMinCostFlow::test_exceptions":
-        "it expects NetworkXNotImplemented, which networkx' harness takes from a backend as a function that it lacks",
+    "test_mincost::TestMinCostFlow::test_exceptions": "it expects NetworkXNotImplemented, which networkx' harness takes from a backend as a function that it lacks",
 }
 
 
@@ -44,8 +43,10 @@ class Networkx(OwnTests):
         told = Path(folder, "mcf_plan-0.dist-info")
         told.mkdir()
         (told / "METADATA").write_text("Metadata-Version: 2.1\nName: mcf-plan\nVersion: 0\n")
-        (told / "entry_points.txt").write_text("[networkx.backends]\nmcf = mcf_plan.networkx_backend:backend\n"
-                                               "[networkx.backend_info]\nmcf = mcf_plan.networkx_backend:info\n")
+        (told / "entry_points.txt").write_text(
+            "[networkx.backends]\nmcf = mcf_plan.networkx_backend:backend\n"
+            "[networkx.backend_info]\nmcf = mcf_plan.networkx_backend:info\n"
+        )
         return [NEWER_NETWORKX, SOURCE, Path(folder)]
 
     def test_own(self) -> None:
@@ -57,10 +58,20 @@ class Networkx(OwnTests):
         """Calls that name the backend, and calls that go there by the environment."""
         with tempfile.TemporaryDirectory() as folder:
             environment = {**os.environ, "PYTHONPATH": os.pathsep.join(map(str, self.path(folder)))}
-            for script, more in [(CALLS, {}), (CALLS.replace(', backend="mcf"', "").replace(", time_limit=60", ""),
-                                               {"NETWORKX_AUTOMATIC_BACKENDS": "mcf"})]:
-                done = subprocess.run([sys.executable, "-c", script], env={**environment, **more}, capture_output=True,
-                                      text=True, timeout=300)
+            for script, more in [
+                (CALLS, {}),
+                (
+                    CALLS.replace(', backend="mcf"', "").replace(", time_limit=60", ""),
+                    {"NETWORKX_AUTOMATIC_BACKENDS": "mcf"},
+                ),
+            ]:
+                done = subprocess.run(
+                    [sys.executable, "-c", script],
+                    env={**environment, **more},
+                    capture_output=True,
+                    text=True,
+                    timeout=300,
+                )
                 self.assertEqual((done.returncode, done.stderr), (0, ""))
 
 

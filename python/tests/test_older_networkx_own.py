@@ -21,8 +21,12 @@ class OlderNetworkx(OwnTests):
         if hasattr(networkx.utils, "backends"):
             self.skipTest("the networkx here knows backends: its functions are not put in their place")
         tests = Path(networkx.__file__).parent / "algorithms" / "flow" / "tests"
-        self.judge(f"networkx {networkx.__version__} with the functions of mcf_plan",
-                   ["-p", "networkx_plugin", str(tests)], [SOURCE, PEERS], DIFFERING)
+        self.judge(
+            f"networkx {networkx.__version__} with the functions of mcf_plan",
+            ["-p", "networkx_plugin", str(tests)],
+            [SOURCE, PEERS],
+            DIFFERING,
+        )
 
 
 if __name__ == "__main__":

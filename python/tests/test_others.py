@@ -59,13 +59,21 @@ class Others(unittest.TestCase):
 
     def test_texts(self) -> None:
         flows = "f 1 2 2\nf 1 3 2\nf 2 3 2\nf 2 4 0\nf 3 4 4\n"
-        for answer in [RIGHT, flows, "s 14\n" + flows, "2\n2\n2\n0\n4\n", "c said by another\n# or so\n\n" + flows,
-                       "f 3 4 4.0\nf 2 3 2\nf 1 3 2e0\nf 1 2 +2\n", flows.replace("\n", "\r\n")]:
+        for answer in [
+            RIGHT,
+            flows,
+            "s 14\n" + flows,
+            "2\n2\n2\n0\n4\n",
+            "c said by another\n# or so\n\n" + flows,
+            "f 3 4 4.0\nf 2 3 2\nf 1 3 2e0\nf 1 2 +2\n",
+            flows.replace("\n", "\r\n"),
+        ]:
             self.assertEqual(answer_from(DIAMOND, answer, "flows"), RIGHT, answer)
         raised = re.sub(r"^v (\d) (.*)$", lambda line: f"v {line[1]} {int(line[2]) + 77}", RIGHT, flags=re.M)
         self.assertEqual(answer_from(DIAMOND, raised, "lemon"), RIGHT)
-        self.assertEqual(answer_from((TOP / "examples/starved/problem.min").read_text(), "c cut\ni 1\nk 1\n", "flows"),
-                         "i 1\nk 1\n")
+        self.assertEqual(
+            answer_from((TOP / "examples/starved/problem.min").read_text(), "c cut\ni 1\nk 1\n", "flows"), "i 1\nk 1\n"
+        )
 
     def test_spoilt(self) -> None:
         self.refuse("the text is empty", "c nothing\n")
@@ -79,10 +87,14 @@ class Others(unittest.TestCase):
         self.refuse("arc 2 (1 to 3) carries 3, and its bounds are 0 and 2", "1\n3\n1\n0\n4\n")
         self.refuse("what leaves node 2 less what comes in is 1, and has to be 0", "2\n2\n2\n1\n4\n")
         self.refuse("the answer says that its flow is worth 13, and it is worth 14", RIGHT.replace("s 14", "s 13"))
-        self.refuse("by its potentials 1 unit more on arc 4 (2 to 4) would be worth more",
-                    RIGHT.replace("v 4 0", "v 4 2"))
-        self.refuse("the flow is not best: 1 unit more on arc 2 (1 to 3), 1 more on arc 5 (3 to 4), 1 less on arc 4 (2 "
-                    "to 4), 1 less on arc 1 (1 to 2) saves 2", "3\n1\n2\n1\n3\n")
+        self.refuse(
+            "by its potentials 1 unit more on arc 4 (2 to 4) would be worth more", RIGHT.replace("v 4 0", "v 4 2")
+        )
+        self.refuse(
+            "the flow is not best: 1 unit more on arc 2 (1 to 3), 1 more on arc 5 (3 to 4), 1 less on arc 4 (2 "
+            "to 4), 1 less on arc 1 (1 to 2) saves 2",
+            "3\n1\n2\n1\n3\n",
+        )
         parallel = "p min 2 2\nn 1 3\nn 2 -3\na 1 2 0 2 4\na 1 2 0 9 7\n"
         self.refuse("line 1: 2 arcs lead from 1 to 2: each needs its line", "f 1 2 3\n", problem=parallel)
         with self.assertRaises(ValueError):
@@ -91,28 +103,38 @@ class Others(unittest.TestCase):
             answer_from(DIAMOND, RIGHT, "cplex")
 
     def test_graph_texts(self) -> None:
-        graph = ("@nodes\nlabel\tpotential\n3\t9\n2\t8\n1\t7\n0\t5\n@arcs\n\t\tlabel\tflow\n"
-                 "2\t3\t4\t4\n1\t3\t3\t0\n1\t2\t2\t2\n0\t2\t1\t2\n0\t1\t0\t2\n@attributes\nsource 0\n")
+        graph = (
+            "@nodes\nlabel\tpotential\n3\t9\n2\t8\n1\t7\n0\t5\n@arcs\n\t\tlabel\tflow\n"
+            "2\t3\t4\t4\n1\t3\t3\t0\n1\t2\t2\t2\n0\t2\t1\t2\n0\t1\t0\t2\n@attributes\nsource 0\n"
+        )
         self.assertEqual(answer_from(DIAMOND, graph, "lemon"), RIGHT)
         self.assertEqual(answer_from(DIAMOND, graph.replace("potential", "supply"), "lemon"), RIGHT)
         self.refuse("the section @arcs has no column `flow`", graph.replace("flow", "cost"), "lemon")
-        self.refuse("the labels of the section with `flow` have to be 0 to 4", graph.replace("2\t3\t4\t4\n", ""),
-                    "lemon")
+        self.refuse(
+            "the labels of the section with `flow` have to be 0 to 4", graph.replace("2\t3\t4\t4\n", ""), "lemon"
+        )
         self.refuse("line 9: wrong number of fields", graph.replace("2\t3\t4\t4\n", "2\t3\t4\n"), "lemon")
 
     def test_raw_solutions(self) -> None:
-        raw = ("c Problem\ns bas 4 5 f f 14\ni 1 s 4 3\ni 2 s 0 1\ni 3 b 0 0\ni 4 s -4 -1\n"
-               "j 1 u 2 -1\nj 2 b 2 0\nj 3 l 0 1\nj 4 b 2 0\nj 5 b 4 0\ne o f\n")
+        raw = (
+            "c Problem\ns bas 4 5 f f 14\ni 1 s 4 3\ni 2 s 0 1\ni 3 b 0 0\ni 4 s -4 -1\n"
+            "j 1 u 2 -1\nj 2 b 2 0\nj 3 l 0 1\nj 4 b 2 0\nj 5 b 4 0\ne o f\n"
+        )
         self.assertEqual(answer_from(DIAMOND, raw, "glpk"), RIGHT)
         self.assertEqual(answer_from(DIAMOND, raw.replace(" s 4 3", " s 4 3.5"), "glpk"), RIGHT)
         self.refuse("line 2: GLPK says that it found no best plan", raw.replace("f f", "f n"), "glpk")
-        self.refuse("line 2: it is about 4 nodes and 6 arcs, and the problem has 4 and 5", raw.replace("4 5", "4 6"),
-                    "glpk")
-        self.refuse("GLPK's `-w` has an `s` line and 5 `j` lines: the text is cut off", raw.replace("j 5 b 4 0\n", ""),
-                    "glpk")
+        self.refuse(
+            "line 2: it is about 4 nodes and 6 arcs, and the problem has 4 and 5", raw.replace("4 5", "4 6"), "glpk"
+        )
+        self.refuse(
+            "GLPK's `-w` has an `s` line and 5 `j` lines: the text is cut off", raw.replace("j 5 b 4 0\n", ""), "glpk"
+        )
         self.refuse("the answer says that its flow is worth 15, and it is worth 14", raw.replace("14", "15"), "glpk")
-        self.refuse("by its potentials 1 unit more on arc 4 (2 to 4) would be worth more",
-                    raw.replace(" -4 -1", " -4 -3"), "glpk")
+        self.refuse(
+            "by its potentials 1 unit more on arc 4 (2 to 4) would be worth more",
+            raw.replace(" -4 -1", " -4 -3"),
+            "glpk",
+        )
 
     def test_drawn(self) -> None:
         """Right flows are accepted without potentials and with them; a flow that is changed, or best by other costs, is
@@ -123,8 +145,11 @@ class Others(unittest.TestCase):
             problem = drawn(draws)
             text, solved = problem.text(), self.program.solve(problem.text())
             flows = parse_answer(solved).flows
-            for answer, program in [("".join(re.findall(r"^[sf] .*\n", solved, re.M)), "flows"), (solved, "lemon"),
-                                    ("\n".join(map(str, flows)), "flows")]:
+            for answer, program in [
+                ("".join(re.findall(r"^[sf] .*\n", solved, re.M)), "flows"),
+                (solved, "lemon"),
+                ("\n".join(map(str, flows)), "flows"),
+            ]:
                 self.accept(text, answer, program)
                 accepted += 1
             flows[draws.randrange(len(flows))] += draws.choice([-1, 1])
@@ -132,8 +157,9 @@ class Others(unittest.TestCase):
                 answer_from(text, "\n".join(map(str, flows)), "flows")
             refused += 1
             if problem.kind == "min":
-                other = DimacsProblem("min", problem.nodes, [(*arc[:4], draws.randint(-9, 9)) for arc in problem.arcs],
-                                      problem.supplies)
+                other = DimacsProblem(
+                    "min", problem.nodes, [(*arc[:4], draws.randint(-9, 9)) for arc in problem.arcs], problem.supplies
+                )
                 flows = parse_answer(self.program.solve(other.text())).flows
                 told = "\n".join(map(str, flows))
                 if sum(arc[4] * flow for arc, flow in zip(problem.arcs, flows)) == parse_answer(solved).value:
@@ -167,8 +193,9 @@ class Others(unittest.TestCase):
                 raw = written.read_text()
                 if not way:
                     self.accept(problem.text(), raw, "glpk")
-                    spoilt = re.sub(r"^j 1 (\w) (-?\d+)", lambda line: f"j 1 {line[1]} {int(line[2]) + 1}", raw,
-                                    flags=re.M)
+                    spoilt = re.sub(
+                        r"^j 1 (\w) (-?\d+)", lambda line: f"j 1 {line[1]} {int(line[2]) + 1}", raw, flags=re.M
+                    )
                     with self.assertRaises(NotAnAnswer):
                         answer_from(problem.text(), spoilt, "glpk")
 

@@ -138,9 +138,7 @@ class ReportTest(unittest.TestCase):
         for result in (self.plan, self.none, pipes().solve(), pairs().solve()):
             picture = xml.fromstring(report.svg_picture(result, graphviz=True))
             edges = [
-                group
-                for group in picture.iter("{http://www.w3.org/2000/svg}g")
-                if group.attrib.get("class") == "edge"
+                group for group in picture.iter("{http://www.w3.org/2000/svg}g") if group.attrib.get("class") == "edge"
             ]
             self.assertEqual(len(edges), len(result.problem.arcs))
 

@@ -22,9 +22,18 @@ class ScipyLike(unittest.TestCase):
         for case in range(120):
             shape = draws.randint(1, 8), draws.randint(1, 8)
             gaps = draws.choice([0, 0, 0.5, 0.8])
-            matrix = np.array([[float("inf") if draws.random() < gaps else
-                                draws.choice([draws.randint(-20, 99), draws.randint(-400, 400) / 8])
-                                for _ in range(shape[1])] for _ in range(shape[0])], dtype=float)
+            matrix = np.array(
+                [
+                    [
+                        float("inf")
+                        if draws.random() < gaps
+                        else draws.choice([draws.randint(-20, 99), draws.randint(-400, 400) / 8])
+                        for _ in range(shape[1])
+                    ]
+                    for _ in range(shape[0])
+                ],
+                dtype=float,
+            )
             maximize = case % 4 == 3
             matrix = -matrix if maximize else matrix
             try:
@@ -49,8 +58,12 @@ class ScipyLike(unittest.TestCase):
         draws = random.Random(10)
         for _ in range(80):
             nodes = draws.randint(2, 9)
-            graph = csr_matrix(np.array([[draws.choice([0, 0, draws.randint(0, 20)]) for _ in range(nodes)]
-                                         for _ in range(nodes)], dtype=np.int32))
+            graph = csr_matrix(
+                np.array(
+                    [[draws.choice([0, 0, draws.randint(0, 20)]) for _ in range(nodes)] for _ in range(nodes)],
+                    dtype=np.int32,
+                )
+            )
             found, other = maximum_flow(graph, 0, nodes - 1), theirs(graph, 0, nodes - 1)
             self.assertEqual(found.flow_value, other.flow_value)
             flow = found.flow.toarray()
@@ -62,9 +75,14 @@ class ScipyLike(unittest.TestCase):
     def test_refused(self) -> None:
         import numpy as np
 
-        for matrix, error in [([1, 2], ValueError), ([["a"]], TypeError), ([[float("nan")]], ValueError),
-                              ([[float("-inf")]], ValueError), ([[float("inf")]], ValueError),
-                              ([[1e-30, 1.0]], BeyondLimits)]:
+        for matrix, error in [
+            ([1, 2], ValueError),
+            ([["a"]], TypeError),
+            ([[float("nan")]], ValueError),
+            ([[float("-inf")]], ValueError),
+            ([[float("inf")]], ValueError),
+            ([[1e-30, 1.0]], BeyondLimits),
+        ]:
             self.assertRaises(error, linear_sum_assignment, np.array(matrix))
         with self.assertRaises(TimeLimit):
             linear_sum_assignment([[1]], time_limit=0)

@@ -23,8 +23,12 @@ class Scipy(OwnTests):
         tests = [folder / "optimize/tests/test_linear_assignment.py", folder / "sparse/csgraph/tests/test_flow.py"]
         if not all(test.exists() for test in tests):
             self.skipTest("scipy has no tests here: they are not run")
-        self.judge(f"scipy {scipy.__version__} with the functions of mcf_plan",
-                   ["-p", "scipy_plugin", *map(str, tests)], [SOURCE, PEERS], DIFFERING)
+        self.judge(
+            f"scipy {scipy.__version__} with the functions of mcf_plan",
+            ["-p", "scipy_plugin", *map(str, tests)],
+            [SOURCE, PEERS],
+            DIFFERING,
+        )
 
 
 if __name__ == "__main__":

@@ -21,8 +21,11 @@ def drawn(draws: random.Random, kind: str = "min", places: int = 0) -> Problem:
     for _ in range(draws.randint(1, 14)):
         tail, head = draws.sample(names, 2)
         low = draws.choice([0, 0, 0, 1]) if kind == "min" else 0
-        cap = draws.choice([None, low + draws.randint(0, 6), low + draws.randint(0, 6)]) if kind == "min" else \
-            draws.randint(0, 6)
+        cap = (
+            draws.choice([None, low + draws.randint(0, 6), low + draws.randint(0, 6)])
+            if kind == "min"
+            else draws.randint(0, 6)
+        )
         least = 0 if cap is None else -4
         cost = Decimal(draws.randint(least, 12)).scaleb(-places) if kind == "min" else 0
         problem.add_arc(tail, head, low=low, cap=cap, cost=cost)

@@ -82,8 +82,13 @@ def wrong_promises(text):
             continue
         count += len(names) + len(clauses) * len(names) + len(cited)
         wrong += [f"{crate}: no function {name}" for name in names if not named(known[crate], name)]
-        wrong += [f"{crate}: {each} has no clause {clause}" for name in names for each in named(known[crate], name)
-                  for clause in clauses if not any(clause in one for one in known[crate][each])]
+        wrong += [
+            f"{crate}: {each} has no clause {clause}"
+            for name in names
+            for each in named(known[crate], name)
+            for clause in clauses
+            if not any(clause in one for one in known[crate][each])
+        ]
         wrong += [f"{crate}: no definition {name}" for name in cited if name not in specs]
     return wrong, count
 
@@ -113,14 +118,17 @@ def wrong_claim(text):
     sources = [file.read_text() for file in sorted(TOP.glob("crates/*/src/**/*.rt"))]
     quoted = re.findall(r"(?m)^```rust\n((?:.*\n)*?)```$", text) + re.findall(r"`(ensures \w+ \{[^`]*\})`", text)
     paths = re.findall(r"`(?:crates/)?(\w+/(?:src|specs|must-fail)/[\w./-]+)`", text)
-    pairs = [(clause, name) for clauses, name in
-             re.findall(r"((?:`\w+`(?: and )?)+) of `([\w:]+)`", re.sub(r"\s+", " ", text))
-             for clause in re.findall(NAME, clauses)]
+    pairs = [
+        (clause, name)
+        for clauses, name in re.findall(r"((?:`\w+`(?: and )?)+) of `([\w:]+)`", re.sub(r"\s+", " ", text))
+        for clause in re.findall(NAME, clauses)
+    ]
     names = re.findall(r"`([A-Z]\w+|\w+_\w+|\w+::\w+)`", text)
     wrong = [f"no source has: {code}" for code in quoted if not any(code in source for source in sources)]
     wrong += [f"no file {path}" for path in paths if not (TOP / "crates" / path).is_file()]
-    wrong += [f"{name} has no clause {clause}" for clause, name in pairs
-              if not any(clause in one for one in known[name])]
+    wrong += [
+        f"{name} has no clause {clause}" for clause, name in pairs if not any(clause in one for one in known[name])
+    ]
     wrong += [f"no crate has {name}" for name in names if name not in specs and name not in known]
     return wrong, len(quoted) + len(paths) + len(pairs) + len(names)
 
@@ -129,8 +137,10 @@ def wrong_rows(readme, architecture):
     """Which crates have no row, or none of one line, in the table of README and the list of ARCHITECTURE; what these rows and
     the lists of ARCHITECTURE name and a crate has not; and which source does not say in its first line what it is."""
     known, wrong, count = {crate: functions(crate) for crate in CRATES}, [], 0
-    for page, rows, end in [("README", re.findall(r"(?m)^\| (`.*\|)$", readme), "|"),
-                            ("ARCHITECTURE", re.findall(r"(?m)^- (`.*)$", architecture.split("## The repository")[0]), ":")]:
+    for page, rows, end in [
+        ("README", re.findall(r"(?m)^\| (`.*\|)$", readme), "|"),
+        ("ARCHITECTURE", re.findall(r"(?m)^- (`.*)$", architecture.split("## The repository")[0]), ":"),
+    ]:
         rows = [(re.findall(NAME, row.split(end)[0]), row) for row in rows]
         for crate in CRATES:
             its = [row for names, row in rows if crate in names]
@@ -192,7 +202,7 @@ def wrong_assumed(claim, readme, log):
 
 def function_at(crate, file, line):
     """The function of a crate's file that a line belongs to."""
-    lines = (TOP / "crates" / crate / file).read_text().splitlines()[:int(line)]
+    lines = (TOP / "crates" / crate / file).read_text().splitlines()[: int(line)]
     heads = [head.group(1) for head in map(FUNCTION.match, lines) if head]
     return heads[-1] if heads else file
 

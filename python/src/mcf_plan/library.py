@@ -115,8 +115,9 @@ class Library(Program):
         finally:
             worker.end()
 
-    def session(self, text: Text, *, extra: Optional[int] = None,
-                time_limit: Optional[float] = None) -> LibraryDialogue:
+    def session(
+        self, text: Text, *, extra: Optional[int] = None, time_limit: Optional[float] = None
+    ) -> LibraryDialogue:
         """Opens a session on a problem text; `extra` says how many arcs can be added (1,000 without it).
 
         Raises Refused where the text has a fault, TimeLimit after `time_limit` seconds, ProgramFailed otherwise.
@@ -219,8 +220,9 @@ class _Worker:
 class LibraryDialogue(Dialogue):
     """A session of the library: lines in, replies out, as a `Dialogue` of the program."""
 
-    def __init__(self, library: Library, text: Text, *, extra: Optional[int] = None,
-                 time_limit: Optional[float] = None):
+    def __init__(
+        self, library: Library, text: Text, *, extra: Optional[int] = None, time_limit: Optional[float] = None
+    ):
         self._calls, self._handle, self._text = library.calls, _Handle(), as_bytes(text)
         self._ends: List[Tuple[int, int]] = []
         self._group: Optional[List[List[str]]] = None  # the words of the lines of a group that is open
@@ -266,8 +268,13 @@ class LibraryDialogue(Dialogue):
 
     def _open(self, extra: int) -> str:
         fault = _Fault()
-        status = self._calls.mcf_open(ctypes.byref(self._handle), self._text, ctypes.c_size_t(len(self._text)),
-                                      ctypes.c_uint32(extra), ctypes.byref(fault))
+        status = self._calls.mcf_open(
+            ctypes.byref(self._handle),
+            self._text,
+            ctypes.c_size_t(len(self._text)),
+            ctypes.c_uint32(extra),
+            ctypes.byref(fault),
+        )
         if status != DONE:
             raise not_solved(status, fault, self._text)
         self._ends = ends_of(self._text)
@@ -306,18 +313,21 @@ class LibraryDialogue(Dialogue):
             return self._solution(view, with_potentials=words[0] == "proof")
         added = [(int(tail), int(head)) for word, tail, head, *_ in (line for line in made if line[0] == "add")]
         if added:
-            self._ends[view.arcs - len(added):] = added
+            self._ends[view.arcs - len(added) :] = added
         return [view.line()]
 
     def _solution(self, view: _View, *, with_potentials: bool) -> List[str]:
         flow = (ctypes.c_int64 * max(view.arcs, 1))()
         potentials = (ctypes.c_int64 * max(view.nodes, 1))()
         cut = (ctypes.c_bool * max(view.nodes, 1))()
-        lists = [("flow", flow, view.arcs), ("potentials", potentials, view.nodes)] if view.feasible else [
-            ("cut", cut, view.nodes)]
+        lists = (
+            [("flow", flow, view.arcs), ("potentials", potentials, view.nodes)]
+            if view.feasible
+            else [("cut", cut, view.nodes)]
+        )
         for name, array, length in lists:
             status = getattr(self._calls, f"mcf_{name}")(ctypes.byref(self._handle), array, ctypes.c_size_t(length))
             if status != DONE:
                 raise ProgramFailed(f"the library answered {status}")
-        told = potentials[:view.nodes] if with_potentials else []
-        return solution(view, self._ends, flow[:view.arcs], told, cut[:view.nodes]).splitlines()
+        told = potentials[: view.nodes] if with_potentials else []
+        return solution(view, self._ends, flow[: view.arcs], told, cut[: view.nodes]).splitlines()

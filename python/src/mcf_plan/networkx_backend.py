@@ -48,8 +48,16 @@ ALGORITHM_ARGUMENTS = {
 """Their arguments after graph, source and sink, in networkx' order."""
 
 FUNCTIONS = ALGORITHMS + (
-    "network_simplex", "capacity_scaling", "min_cost_flow", "min_cost_flow_cost", "max_flow_min_cost",
-    "maximum_flow", "maximum_flow_value", "minimum_cut", "minimum_cut_value", "gomory_hu_tree",
+    "network_simplex",
+    "capacity_scaling",
+    "min_cost_flow",
+    "min_cost_flow_cost",
+    "max_flow_min_cost",
+    "maximum_flow",
+    "maximum_flow_value",
+    "minimum_cut",
+    "minimum_cut_value",
+    "gomory_hu_tree",
 )
 """The functions of networkx that are answered."""
 
@@ -101,8 +109,9 @@ class LeastCost:
         capacities = [data.get(capacity, math.inf) for _, _, _, data in self.edges]
         weights = [data.get(weight, 0) for _, _, _, data in self.edges]
         self.demands = [number(value, f"the demand of node {node!r}") for value, node in zip(demands, self.nodes)]
-        self.capacities = [number(value, f"the capacity of edge {edge[:2]!r}")
-                           for value, edge in zip(capacities, self.edges)]
+        self.capacities = [
+            number(value, f"the capacity of edge {edge[:2]!r}") for value, edge in zip(capacities, self.edges)
+        ]
         self.weights = [number(value, f"the weight of edge {edge[:2]!r}") for value, edge in zip(weights, self.edges)]
         self.like_amounts = Like(demands + capacities)
         self.like_costs = Like(demands + capacities + weights)
@@ -224,8 +233,11 @@ class MaximumFlow:
                 unsaturated.append((tail, head))
         sink_side = reached(self.sink, unsaturated)
         source_side = set(self.graph) - sink_side
-        crossing = sum(Fraction(bound) for (tail, head), bound in self.capacities.items()
-                       if tail in source_side and head in sink_side)
+        crossing = sum(
+            Fraction(bound)
+            for (tail, head), bound in self.capacities.items()
+            if tail in source_side and head in sink_side
+        )
         if self.source in sink_side or crossing != Fraction(self.value):
             raise Disagreement(f"the cut has capacity {crossing}, and the flow {self.value}")
         return source_side, sink_side
@@ -307,8 +319,15 @@ class Backend:
 
     # -- least cost
 
-    def network_simplex(self, G: Any, demand: str = "demand", capacity: str = "capacity", weight: str = "weight", *,
-                        time_limit: Optional[float] = None) -> Tuple[Any, Dict[Node, Any]]:
+    def network_simplex(
+        self,
+        G: Any,
+        demand: str = "demand",
+        capacity: str = "capacity",
+        weight: str = "weight",
+        *,
+        time_limit: Optional[float] = None,
+    ) -> Tuple[Any, Dict[Node, Any]]:
         """Cost and flows of a flow of least cost that meets all demands."""
         import networkx as nx
 
@@ -324,8 +343,16 @@ class Backend:
             raise nx.NetworkXUnfeasible("no flow satisfies all node demands")
         return network.result(answer)
 
-    def capacity_scaling(self, G: Any, demand: str = "demand", capacity: str = "capacity", weight: str = "weight",
-                         heap: Any = None, *, time_limit: Optional[float] = None) -> Tuple[Any, Dict[Node, Any]]:
+    def capacity_scaling(
+        self,
+        G: Any,
+        demand: str = "demand",
+        capacity: str = "capacity",
+        weight: str = "weight",
+        heap: Any = None,
+        *,
+        time_limit: Optional[float] = None,
+    ) -> Tuple[Any, Dict[Node, Any]]:
         """The same as `network_simplex`, with the exceptions of networkx' `capacity_scaling`; `heap` changes
         nothing."""
         import networkx as nx
@@ -345,22 +372,45 @@ class Backend:
                 self._solve(network.problem(with_demands=False), time_limit)
                 raise nx.NetworkXUnfeasible("No flow satisfying all demands.")
         except Unbounded as unbounded:
-            raise nx.NetworkXUnbounded("Negative cost cycle of infinite capacity found. "
-                                       "Min cost flow may be unbounded below.") from unbounded
+            raise nx.NetworkXUnbounded(
+                "Negative cost cycle of infinite capacity found. " "Min cost flow may be unbounded below."
+            ) from unbounded
         return network.result(answer)
 
-    def min_cost_flow(self, G: Any, demand: str = "demand", capacity: str = "capacity", weight: str = "weight", *,
-                      time_limit: Optional[float] = None) -> Dict[Node, Any]:
+    def min_cost_flow(
+        self,
+        G: Any,
+        demand: str = "demand",
+        capacity: str = "capacity",
+        weight: str = "weight",
+        *,
+        time_limit: Optional[float] = None,
+    ) -> Dict[Node, Any]:
         """The flows of `network_simplex`."""
         return self.network_simplex(G, demand, capacity, weight, time_limit=time_limit)[1]
 
-    def min_cost_flow_cost(self, G: Any, demand: str = "demand", capacity: str = "capacity", weight: str = "weight", *,
-                           time_limit: Optional[float] = None) -> Any:
+    def min_cost_flow_cost(
+        self,
+        G: Any,
+        demand: str = "demand",
+        capacity: str = "capacity",
+        weight: str = "weight",
+        *,
+        time_limit: Optional[float] = None,
+    ) -> Any:
         """The cost of `network_simplex`."""
         return self.network_simplex(G, demand, capacity, weight, time_limit=time_limit)[0]
 
-    def max_flow_min_cost(self, G: Any, s: Node, t: Node, capacity: str = "capacity", weight: str = "weight", *,
-                          time_limit: Optional[float] = None) -> Dict[Node, Any]:
+    def max_flow_min_cost(
+        self,
+        G: Any,
+        s: Node,
+        t: Node,
+        capacity: str = "capacity",
+        weight: str = "weight",
+        *,
+        time_limit: Optional[float] = None,
+    ) -> Dict[Node, Any]:
         """The flows of a maximum flow of least cost."""
         import networkx as nx
 
@@ -373,21 +423,24 @@ class Backend:
 
     # -- maximum flows and minimum cuts
 
-    def maximum_flow(self, flowG: Any, _s: Node, _t: Node, capacity: str = "capacity", flow_func: Any = None,
-                     **options: Any) -> Tuple[Any, Dict[Node, Any]]:
+    def maximum_flow(
+        self, flowG: Any, _s: Node, _t: Node, capacity: str = "capacity", flow_func: Any = None, **options: Any
+    ) -> Tuple[Any, Dict[Node, Any]]:
         """Value and flows of a maximum flow."""
         from networkx.algorithms.flow.utils import build_flow_dict
 
         R, flow = self._maximum_flow(flowG, _s, _t, capacity, (flow_func, options))
         return R.graph["flow_value"], plain(build_flow_dict)(flowG, R)
 
-    def maximum_flow_value(self, flowG: Any, _s: Node, _t: Node, capacity: str = "capacity", flow_func: Any = None,
-                           **options: Any) -> Any:
+    def maximum_flow_value(
+        self, flowG: Any, _s: Node, _t: Node, capacity: str = "capacity", flow_func: Any = None, **options: Any
+    ) -> Any:
         """The value of a maximum flow."""
         return self._maximum_flow(flowG, _s, _t, capacity, (flow_func, options))[0].graph["flow_value"]
 
-    def minimum_cut(self, flowG: Any, _s: Node, _t: Node, capacity: str = "capacity", flow_func: Any = None,
-                    **options: Any) -> Tuple[Any, Tuple[Set[Node], Set[Node]]]:
+    def minimum_cut(
+        self, flowG: Any, _s: Node, _t: Node, capacity: str = "capacity", flow_func: Any = None, **options: Any
+    ) -> Tuple[Any, Tuple[Set[Node], Set[Node]]]:
         """Value and sides of a minimum cut, the same that networkx tells."""
         import networkx as nx
 
@@ -396,13 +449,15 @@ class Backend:
         R, flow = self._maximum_flow(flowG, _s, _t, capacity, (flow_func, options))
         return R.graph["flow_value"], flow.partition()
 
-    def minimum_cut_value(self, flowG: Any, _s: Node, _t: Node, capacity: str = "capacity", flow_func: Any = None,
-                          **options: Any) -> Any:
+    def minimum_cut_value(
+        self, flowG: Any, _s: Node, _t: Node, capacity: str = "capacity", flow_func: Any = None, **options: Any
+    ) -> Any:
         """The value of a minimum cut."""
         return self.minimum_cut(flowG, _s, _t, capacity, flow_func, **options)[0]
 
-    def gomory_hu_tree(self, G: Any, capacity: str = "capacity", flow_func: Any = None, *,
-                       time_limit: Optional[float] = None) -> Any:
+    def gomory_hu_tree(
+        self, G: Any, capacity: str = "capacity", flow_func: Any = None, *, time_limit: Optional[float] = None
+    ) -> Any:
         """The tree of minimum cuts of all pairs of nodes of an undirected graph; each of its cuts is proved."""
         from networkx.algorithms.flow.gomory_hu import gomory_hu_tree
 
@@ -430,22 +485,25 @@ class Backend:
         except BeyondLimits as beyond:
             raise nx.NetworkXNotImplemented(f"beyond the limits of mcf: {beyond}") from beyond
 
-    def _maximum_flow(self, G: Any, source: Node, sink: Node, capacity: str,
-                      how: Tuple[Any, Dict[str, Any]]) -> Tuple[Any, MaximumFlow]:
+    def _maximum_flow(
+        self, G: Any, source: Node, sink: Node, capacity: str, how: Tuple[Any, Dict[str, Any]]
+    ) -> Tuple[Any, MaximumFlow]:
         """The residual network and the flow, for a call with `flow_func` and its options."""
         import networkx as nx
 
         flow_func, options = how
         if flow_func is None and set(options) - {"time_limit"}:
-            raise nx.NetworkXError("You have to explicitly set a flow_func if"
-                                   " you need to pass parameters via kwargs.")
+            raise nx.NetworkXError(
+                "You have to explicitly set a flow_func if" " you need to pass parameters via kwargs."
+            )
         if flow_func is not None and not callable(flow_func):
             raise nx.NetworkXError("flow_func has to be callable.")
         refuse_foreign(flow_func)
         return self._residual_by(getattr(flow_func, "__name__", "preflow_push"), (G, source, sink, capacity), options)
 
-    def _residual_by(self, algorithm: str, what: Tuple[Any, Node, Node, str],
-                     options: Dict[str, Any]) -> Tuple[Any, MaximumFlow]:
+    def _residual_by(
+        self, algorithm: str, what: Tuple[Any, Node, Node, str], options: Dict[str, Any]
+    ) -> Tuple[Any, MaximumFlow]:
         """The residual network and the flow, by an algorithm with its options."""
         import networkx as nx
         from networkx.algorithms.flow.utils import build_residual_network
@@ -493,7 +551,16 @@ def info() -> Dict[str, Any]:
     """What networkx tells of the backend in its documents."""
     summary = "Flows of least cost, maximum flows and minimum cuts by a solver that is proved; each answer is checked."
     parameter = {"time_limit : float, optional": "Seconds after which TimeLimit is raised (default: no limit)."}
-    function = {"extra_docstring": summary, "extra_parameters": parameter,
-                "additional_docs": summary, "additional_parameters": parameter}
-    return {"backend_name": "mcf", "project": "mcf", "package": "mcf_plan", "short_summary": summary,
-            "functions": {name: function for name in FUNCTIONS}}
+    function = {
+        "extra_docstring": summary,
+        "extra_parameters": parameter,
+        "additional_docs": summary,
+        "additional_parameters": parameter,
+    }
+    return {
+        "backend_name": "mcf",
+        "project": "mcf",
+        "package": "mcf_plan",
+        "short_summary": summary,
+        "functions": {name: function for name in FUNCTIONS},
+    }

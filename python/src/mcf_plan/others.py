@@ -269,8 +269,9 @@ def placed(problem: DimacsProblem, told: List[Tuple[int, int, int, int]]) -> Lis
         if len(found) > len(places[end]):
             raise NotAnAnswer(f"a line too many for {end[0]} to {end[1]}", found[-1][0])
         if len(found) < len(places[end]) and len({problem.arcs[place] for place in places[end]}) > 1:
-            raise NotAnAnswer(f"{len(places[end])} arcs lead from {end[0]} to {end[1]}: each needs its line",
-                              found[0][0])
+            raise NotAnAnswer(
+                f"{len(places[end])} arcs lead from {end[0]} to {end[1]}: each needs its line", found[0][0]
+            )
         for place, (_, flow) in zip(places[end], found):
             flows[place] = flow
     return flows
@@ -289,8 +290,11 @@ def told_by_glpk(problem: DimacsProblem, lines: List[Line]) -> Told:
             if any(state not in ("f", "o") for state in states):
                 raise NotAnAnswer("GLPK says that it found no best plan", line)
             if (int(words[2]), int(words[3])) != (problem.nodes, len(problem.arcs)):
-                raise NotAnAnswer(f"it is about {words[2]} nodes and {words[3]} arcs, and the problem has "
-                                  f"{problem.nodes} and {len(problem.arcs)}", line)
+                raise NotAnAnswer(
+                    f"it is about {words[2]} nodes and {words[3]} arcs, and the problem has "
+                    f"{problem.nodes} and {len(problem.arcs)}",
+                    line,
+                )
             kind, worth = words[1], words[-1]
         elif words[0] in ("i", "j") and worth is not None and len(words) >= 3:
             place = whole(words[1], line)

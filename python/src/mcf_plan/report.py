@@ -205,9 +205,7 @@ def layout(problem: Problem) -> dict[str, tuple[float, float]]:
     columns = [column for column in _untangled(problem, _columns(problem)) if column]
     tallest = max(map(len, columns), default=1)
     # A tall picture gets wide gaps, so that its arcs are not drawn upright.
-    column_gap = (
-        max(COLUMN_GAP, tallest * ROW_GAP * 0.9 / max(1, len(columns) - 1)) if len(columns) > 1 else COLUMN_GAP
-    )
+    column_gap = max(COLUMN_GAP, tallest * ROW_GAP * 0.9 / max(1, len(columns) - 1)) if len(columns) > 1 else COLUMN_GAP
     found = {}
     for column_number, column in enumerate(columns):
         gap = tallest * ROW_GAP / len(column)
@@ -354,9 +352,7 @@ def _own_picture(result: Result) -> str:
     ]
     for colour, name in HEADS.items():
         out.append(f'<marker id="head-{name}" viewBox="0 0 10 10" refX="2" refY="5" markerWidth="9" markerHeight="9"')
-        out.append(
-            f'  markerUnits="userSpaceOnUse" orient="auto"><path d="M0 0L10 5L0 10z" fill="{colour}"/></marker>'
-        )
+        out.append(f'  markerUnits="userSpaceOnUse" orient="auto"><path d="M0 0L10 5L0 10z" fill="{colour}"/></marker>')
     lines, labels = _drawn_arcs(result, where)
     dots, names = _drawn_nodes(result, where, right)
     out += ['<g fill="none">', *lines, "</g>", '<g stroke-width="2.5">', *dots, "</g>"]
@@ -391,9 +387,7 @@ def _drawn_arcs(result: Result, where: Mapping[str, tuple[float, float]]) -> tup
     return lines, labels
 
 
-def _drawn_nodes(
-    result: Result, where: Mapping[str, tuple[float, float]], right: float
-) -> tuple[list[str], list[str]]:
+def _drawn_nodes(result: Result, where: Mapping[str, tuple[float, float]], right: float) -> tuple[list[str], list[str]]:
     """The circles of the nodes, and their names: beside those at the left and right edge, above all others."""
     problem, cut = result.problem, _cut(result)
     on_map = bool(problem.places)
@@ -447,10 +441,7 @@ def _flow_table(plan: Plan) -> Iterator[str]:
     costs = problem.kind == "min"
     heads = ["From", "To"] + ["Name"] * has_name
     numbers = (
-        ["Flow"]
-        + ["At least"] * has_low
-        + ["Capacity"]
-        + ["Unit cost", "Cost", "One unit more saves at most"] * costs
+        ["Flow"] + ["At least"] * has_low + ["Capacity"] + ["Unit cost", "Cost", "One unit more saves at most"] * costs
     )
     yield "<table><tr>" + "".join(f'<th class="name">{head}</th>' for head in heads) + "".join(
         f"<th>{head}</th>" for head in numbers
@@ -458,9 +449,7 @@ def _flow_table(plan: Plan) -> Iterator[str]:
     for row in rows:
         arc = row.arc
         words = [arc.tail, arc.head] + [arc.name or ""] * has_name
-        cells = (
-            [number(row.flow)] + [number(arc.low)] * has_low + ["no limit" if arc.cap is None else number(arc.cap)]
-        )
+        cells = [number(row.flow)] + [number(arc.low)] * has_low + ["no limit" if arc.cap is None else number(arc.cap)]
         cells += [number(arc.cost), number(row.cost), number(row.saving)] * costs
         marked = row.full and bool(row.flow)
         yield f'<tr{" class=full" if marked else ""}>' + "".join(
@@ -479,9 +468,7 @@ def _node_table(plan: Plan) -> Iterator[str]:
     for name, supply in problem.nodes.items():
         cells = [number(supply)] + ([number(left.get(name)) if left.get(name) else ""] if left else [])
         cells += [number(plan.prices[name])] if plan.prices else []
-        yield f'<tr><td class="name">{html.escape(name)}</td>' + "".join(
-            f"<td>{cell}</td>" for cell in cells
-        ) + "</tr>"
+        yield f'<tr><td class="name">{html.escape(name)}</td>' + "".join(f"<td>{cell}</td>" for cell in cells) + "</tr>"
     yield "</table>"
 
 

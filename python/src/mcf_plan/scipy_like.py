@@ -22,8 +22,9 @@ METHODS = ("dinic", "edmonds_karp")
 """scipy's methods of `maximum_flow`. Which of them is asked for makes no difference here."""
 
 
-def linear_sum_assignment(cost_matrix: Any, maximize: bool = False, *, program: Optional[Program] = None,
-                          time_limit: Optional[float] = None) -> Tuple[Any, Any]:
+def linear_sum_assignment(
+    cost_matrix: Any, maximize: bool = False, *, program: Optional[Program] = None, time_limit: Optional[float] = None
+) -> Tuple[Any, Any]:
     """Rows and columns of an assignment of least cost (of most, with `maximize`), each row at most once and each
     column.
 
@@ -56,8 +57,9 @@ def linear_sum_assignment(cost_matrix: Any, maximize: bool = False, *, program: 
     return np.array(columns, dtype=np.intp)[order], np.array(rows, dtype=np.intp)[order]
 
 
-def assigned(matrix: Any, maximize: bool, program: Optional[Program],
-             time_limit: Optional[float]) -> Tuple[List[int], List[int]]:
+def assigned(
+    matrix: Any, maximize: bool, program: Optional[Program], time_limit: Optional[float]
+) -> Tuple[List[int], List[int]]:
     """The rows, each of them, and their columns, of which there are as many or more."""
     problem = Problem("min")
     height, width = matrix.shape
@@ -79,8 +81,15 @@ def assigned(matrix: Any, maximize: bool, program: Optional[Program],
     return [row for row, _ in chosen], [column for _, column in chosen]
 
 
-def maximum_flow(csgraph: Any, source: int, sink: int, *, method: str = "dinic", program: Optional[Program] = None,
-                 time_limit: Optional[float] = None) -> Any:
+def maximum_flow(
+    csgraph: Any,
+    source: int,
+    sink: int,
+    *,
+    method: str = "dinic",
+    program: Optional[Program] = None,
+    time_limit: Optional[float] = None,
+) -> Any:
     """A maximum flow of a graph in CSR format, whose entries are the capacities, as scipy's `MaximumFlowResult`.
 
     `csgraph` is a square matrix of whole numbers; `flow` of the result has the same shape, and what flows back is below
@@ -97,9 +106,11 @@ def maximum_flow(csgraph: Any, source: int, sink: int, *, method: str = "dinic",
     problem = Problem("max", source=str(source), sink=str(sink))
     for node in range(nodes):
         problem.add_node(str(node))
-    arcs = [(tail, head, bound) for tail, head, bound in zip(graph.row.tolist(), graph.col.tolist(),
-    graph.data.tolist())
-            if bound > 0 and tail != head]
+    arcs = [
+        (tail, head, bound)
+        for tail, head, bound in zip(graph.row.tolist(), graph.col.tolist(), graph.data.tolist())
+        if bound > 0 and tail != head
+    ]
     for tail, head, bound in arcs:
         problem.add_arc(str(tail), str(head), cap=bound)
     plan = problem.solve(program, time_limit=time_limit)

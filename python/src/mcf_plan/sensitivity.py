@@ -89,9 +89,15 @@ def ranges(session: Session) -> List[Ranges]:
     grid = steps_and_reach(plan)
     with apart(session) as beside:
         return [
-            Ranges(arc, Decimal(0) if kind == "asn" else saved(beside, plan, arc),
-                   *((None, None) if kind == "max" else
-                     (end_of_range(beside, plan, arc, -1, grid), end_of_range(beside, plan, arc, 1, grid))))
+            Ranges(
+                arc,
+                Decimal(0) if kind == "asn" else saved(beside, plan, arc),
+                *(
+                    (None, None)
+                    if kind == "max"
+                    else (end_of_range(beside, plan, arc, -1, grid), end_of_range(beside, plan, arc, 1, grid))
+                ),
+            )
             for arc in range(len(session.problem.arcs))
         ]
 
@@ -240,7 +246,11 @@ def set_number(beside: Session, what: What, value: Decimal) -> Optional[Decimal]
             beside.set_supply(other, left)
         return beside.cost
     edits: Dict[str, Callable[[Any, Decimal], Optional[Decimal]]] = {
-        "cap": beside.set_cap, "low": beside.set_low, "cost": beside.set_cost, "supply": beside.set_supply}
+        "cap": beside.set_cap,
+        "low": beside.set_low,
+        "cost": beside.set_cost,
+        "supply": beside.set_supply,
+    }
     if what[0] not in edits or len(what) != 2:
         raise ValueError(f"{what!r} is no number of a problem: say 'cap', 'low', 'cost' or 'supply', and where")
     return edits[what[0]](what[1], value)

@@ -187,7 +187,7 @@ def _number_hint(cell: str) -> str:
 
 def _pandas() -> Any:
     try:
-        import pandas  # type: ignore[import]
+        import pandas
     except ImportError:
         raise TableFault("spreadsheets want pandas, which is not installed; save the table as CSV") from None
     return pandas

@@ -28,11 +28,21 @@ class OwnTests(unittest.TestCase):
         other: List[str] = []
         with tempfile.TemporaryDirectory() as folder:
             log = Path(folder, "log.xml")
-            environment = {**os.environ, **settings, "MCF": Program().path, "PYTHONDONTWRITEBYTECODE": "1",
-                           "PYTHONPATH": os.pathsep.join(map(str, path))}
-            done = subprocess.run([sys.executable, "-m", "pytest", "-q", "-p", "no:cacheprovider",
-                                   f"--junitxml={log}", *words],
-                                  env=environment, cwd=folder, capture_output=True, text=True, timeout=1500)
+            environment = {
+                **os.environ,
+                **settings,
+                "MCF": Program().path,
+                "PYTHONDONTWRITEBYTECODE": "1",
+                "PYTHONPATH": os.pathsep.join(map(str, path)),
+            }
+            done = subprocess.run(
+                [sys.executable, "-m", "pytest", "-q", "-p", "no:cacheprovider", f"--junitxml={log}", *words],
+                env=environment,
+                cwd=folder,
+                capture_output=True,
+                text=True,
+                timeout=1500,
+            )
             self.assertTrue(log.exists(), done.stdout + done.stderr)
             for case in xml.parse(log).getroot().iter("testcase"):
                 name = "::".join([*case.get("classname", "").split("tests.")[-1].split("."), case.get("name", "")])

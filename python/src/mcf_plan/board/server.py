@@ -17,7 +17,7 @@ import threading
 from decimal import Decimal
 from http.server import BaseHTTPRequestHandler, ThreadingHTTPServer
 from pathlib import Path
-from typing import Any, NamedTuple, Optional, TextIO, Union
+from typing import Any, Callable, NamedTuple, Optional, TextIO, Union
 
 from ..explain import explain
 from ..plan import Disagreement, Infeasible, Plan
@@ -183,9 +183,7 @@ class Board:
             raise ValueError("there is no such arc")
         label = session.problem.arcs[arc].label
         if what == "cap":
-            session.set_cap(
-                arc, value_of(value, f"the capacity of {label}") if str(value).strip() else self._no_cap()
-            )
+            session.set_cap(arc, value_of(value, f"the capacity of {label}") if str(value).strip() else self._no_cap())
         elif what == "low":
             session.set_low(arc, value_of(value, f"the lower bound of {label}"))
         elif what == "cost":
@@ -252,7 +250,7 @@ class Board:
     def _set_arc(self, index: int, old: Arc, new: Arc) -> None:
         """Sets what differs, the bounds in an order in which the lower one is never above the capacity."""
         session = self.session
-        steps = [
+        steps: list[tuple[bool, Callable[[], object]]] = [
             (old.cap != new.cap, lambda: session.set_cap(index, new.cap)),
             (old.low != new.low, lambda: session.set_low(index, new.low)),
         ]

@@ -1,0 +1,370 @@
+"""The command mcf-plan: tables with names and decimals in, checked plans out."""
+
+from __future__ import annotations
+
+import argparse
+import sys
+import tempfile
+from contextlib import ExitStack
+from pathlib import Path
+from typing import Callable, List, Optional
+
+from . import __version__
+from .conversation import Conversation
+from .dimacs import find_answer_fault, find_fault, parse_answer, parse_problem
+from .explain import explain
+from .plan import Disagreement, Infeasible, Plan
+from .printing import of_system, print_table, tell
+from .problem import Problem, plain
+from .program import Program, ProgramFailed, Refused, TimeLimit, as_str
+from .rewrite import BeyondLimits, CannotRewrite, Options, Unbounded, rewrite, solve
+from .session import Session
+from .tables import TableFault, read_tables, write_plan
+
+NO_PLAN, USAGE, REFUSED, FAILED, UNBOUNDED, BEYOND, DISAGREE, TOO_LONG, INTERRUPTED = 1, 2, 3, 4, 6, 7, 8, 124, 130
+
+STATUSES = """status:
+  0    done
+  1    there is no plan, or an answer is not valid
+  2    the command line is refused
+  3    a table or a text is refused
+  4    a file or the program mcf failed, or memory ran out
+  6    there is no best plan: each unit more makes it better
+  7    beyond the limits of the formats
+  8    an answer was found wrong; the texts are kept
+  124  the time limit
+  130  Ctrl-C"""
+
+
+def main(arguments: Optional[List[str]] = None) -> int:
+    """Runs the command and returns its status."""
+    options = _parser().parse_args(arguments)
+    try:
+        status: int = options.run(options)
+        sys.stdout.flush()
+        return status
+    except Unbounded as error:
+        return _say(str(error), UNBOUNDED)
+    except BeyondLimits as error:
+        return _say(str(error), BEYOND)
+    except Disagreement as error:
+        return _say(f"an answer was found wrong: {error}{_kept(error)}", DISAGREE)
+    except Refused as error:
+        return _say(error.fault.words(), REFUSED)
+    except (TableFault, CannotRewrite) as error:
+        return _say(str(error), REFUSED)
+    except TimeLimit as error:
+        return _say(str(error), TOO_LONG)
+    except KeyboardInterrupt:
+        return _say("interrupted", INTERRUPTED)
+    except BrokenPipeError:
+        sys.stderr.close()
+        return FAILED
+    except MemoryError:
+        return _say("out of memory", FAILED)
+    except (ProgramFailed, OSError) as error:
+        return _say(of_system(error), FAILED)
+    except ValueError as error:
+        return _say(str(error), REFUSED)
+
+
+def _say(words: str, status: int) -> int:
+    print(f"mcf-plan: {words}", file=sys.stderr)
+    return status
+
+
+def _kept(error: Disagreement) -> str:
+    """Keeps the texts of a disagreement, and says where."""
+    if not error.problem_text:
+        return ""
+    folder = Path(tempfile.mkdtemp(prefix="mcf-plan-"))
+    (folder / "problem").write_text(error.problem_text)
+    (folder / "answer").write_text(error.answer_text)
+    return f"; the texts are kept in {folder}, please report them"
+
+
+# ---------------------------------------------------------------- the command line
+
+
+def _parser() -> argparse.ArgumentParser:
+    parser = argparse.ArgumentParser(
+        prog="mcf-plan",
+        description="Tables with names and decimals in, checked plans out.",
+        epilog=STATUSES,
+        formatter_class=argparse.RawDescriptionHelpFormatter,
+    )
+    parser.add_argument("--version", action="version", version=f"mcf-plan {__version__}")
+    commands = parser.add_subparsers(title="commands", metavar="COMMAND", required=True)
+
+    def command(
+        name: str, run: Callable[[argparse.Namespace], int], words: str, *, tables: bool
+    ) -> argparse.ArgumentParser:
+        made = commands.add_parser(name, help=words, description=words[:1].upper() + words[1:] + ".")
+        made.set_defaults(run=run)
+        if tables:
+            _add_tables(made)
+        return made
+
+    plan = command("plan", _plan, "find a best plan, or say why there is none", tables=True)
+    plan.add_argument("--report", metavar="FILE", help="write a report with a picture (HTML)")
+    plan.add_argument("--picture", metavar="FILE", help="write the picture alone (SVG)")
+    plan.add_argument("--table", metavar="FILE", help="write the plan as a table (.csv, .tsv, .xlsx)")
+    plan.add_argument("--json", action="store_true", help="print it as JSON")
+    plan.add_argument("--title", default="Plan", help="the report's title")
+
+    what_if = command("what-if", _what_if, "ask what would be if, at a prompt or from a file", tables=True)
+    what_if.add_argument("--commands", metavar="FILE", help="read the commands from a file in place of the prompt")
+
+    board = command("board", _board, "serve the what-if page on this computer alone", tables=True)
+    board.add_argument("--port", type=int, default=0, help="the port; without it a free one")
+    board.add_argument("--title", default="Plan", help="the page's title")
+
+    why = command("explain", _explain, "say why there is no plan", tables=True)
+    why.add_argument(
+        "--answer", metavar="FILE", help="explain this answer of mcf to the problem text, in place of solving"
+    )
+
+    check = command("check", _check, "check an answer to a problem text, whoever made it", tables=False)
+    check.add_argument("problem", metavar="PROBLEM")
+    check.add_argument("answer", metavar="ANSWER")
+    check.add_argument(
+        "--from",
+        dest="maker",
+        choices=["mcf", "lemon", "glpk", "flows"],
+        default="mcf",
+        help="which program wrote the answer (mcf)",
+    )
+
+    faults = command("faults", _faults, "say what is wrong with a problem text, and how to mend it", tables=False)
+    faults.add_argument("problem", metavar="PROBLEM")
+    faults.add_argument("answer", metavar="ANSWER", nargs="?", help="an answer to it, to be looked at too")
+
+    convert = command(
+        "convert", _convert, "write tables, or a text of another program, as a text that mcf reads", tables=True
+    )
+    convert.add_argument("-o", "--output", metavar="FILE", help="write to a file in place of the output")
+
+    command("ranges", _ranges, "say what one unit more saves, and within which costs the plan stays best", tables=True)
+    return parser
+
+
+def _add_tables(parser: argparse.ArgumentParser) -> None:
+    parser.add_argument(
+        "tables",
+        metavar="TABLE",
+        nargs="+",
+        help="the tables of nodes and arcs (.csv, .tsv, .xlsx), that of arcs alone, or a problem text",
+    )
+    parser.add_argument(
+        "--kind",
+        choices=["min", "max", "asn"],
+        default="min",
+        help="least cost (min), greatest flow (max) or assignment (asn)",
+    )
+    parser.add_argument("--source", metavar="NODE", help="where a greatest flow starts")
+    parser.add_argument("--sink", metavar="NODE", help="where it ends")
+    parser.add_argument(
+        "--surplus",
+        metavar="refuse|keep|COST",
+        default="refuse",
+        help="what becomes of supplies that do not add up to 0: there is no plan (refuse), they are kept or "
+        "not met at no cost (keep), or at this cost a unit",
+    )
+    parser.add_argument(
+        "--balance",
+        choices=["equal", "at least", "at most"],
+        default="equal",
+        help="whether what leaves a node less what comes in is equal to its supply, at least or at most it",
+    )
+    parser.add_argument("--time-limit", metavar="SECONDS", type=float, help="how long to wait for an answer")
+
+
+def _read(options: argparse.Namespace) -> Problem:
+    """The problem of the tables, or of the text, that the command line names."""
+    tables = options.tables
+    if len(tables) > 2:
+        raise TableFault(f"{len(tables)} tables are given, and there are two: that of nodes, then that of arcs")
+    if len(tables) == 1 and not tables[0].lower().endswith((".csv", ".tsv", ".xlsx", ".xls", ".ods")):
+        raw = sys.stdin.buffer.read() if tables[0] == "-" else Path(tables[0]).read_bytes()
+        try:
+            problem = Problem.from_dimacs(raw)
+        except Refused as refused:
+            raise TableFault(refused.fault.words("the problem" if tables[0] == "-" else tables[0])) from None
+        problem.balance = options.balance
+        return problem
+    for what, name in (("--source", options.source), ("--sink", options.sink)):
+        if options.kind == "max" and name is None:
+            raise TableFault(f"a greatest flow wants {what} NODE")
+    return read_tables(
+        tables[0] if len(tables) == 2 else None,
+        tables[-1],
+        kind=options.kind,
+        balance=options.balance,
+        source=options.source,
+        sink=options.sink,
+    )
+
+
+# ---------------------------------------------------------------- plan, explain, ranges
+
+
+def _plan(options: argparse.Namespace) -> int:
+    problem = _read(options)
+    for note in problem.notes:
+        print(f"note: {note}", file=sys.stderr)
+    result = problem.solve(surplus=options.surplus, time_limit=options.time_limit)
+    if options.json:
+        from .report import to_json
+
+        print(to_json(result), end="")
+    else:
+        tell(result, sys.stdout)
+    if options.report:
+        from .report import html_report
+
+        html_report(result, options.report, title=options.title)
+    if options.picture:
+        from .report import svg_picture
+
+        Path(options.picture).write_text(svg_picture(result), encoding="utf-8")
+    if options.table and isinstance(result, Plan):
+        write_plan(result, options.table)
+    return 0 if isinstance(result, Plan) else NO_PLAN
+
+
+def _explain(options: argparse.Namespace) -> int:
+    problem = _read(options)
+    if options.answer:
+        rewriting = rewrite(problem, Options(options.surplus))
+        answer = sys.stdin.read() if options.answer == "-" else Path(options.answer).read_text()
+        result = rewriting.checked(answer, Program(), options.time_limit)
+    else:
+        result = solve(problem, Options(options.surplus), None, options.time_limit)
+    if isinstance(result, Plan):
+        print(f"there is a plan, worth {plain(result.cost)}")
+        return 0
+    print(explain(result))
+    return NO_PLAN
+
+
+def _ranges(options: argparse.Namespace) -> int:
+    from .sensitivity import ranges
+
+    problem = _read(options)
+    with Session(problem, surplus=options.surplus, time_limit=options.time_limit) as session:
+        result = session.plan(True)
+        if isinstance(result, Infeasible):
+            print(result.explain())
+            return NO_PLAN
+        print(f"{'flow' if problem.kind == 'max' else 'cost'} {plain(result.cost)}")
+        more = "one more adds" if problem.kind == "max" else "one more saves"
+        rows = [["from", "to", "name", "flow", more, "cost", "best from", "to"]]
+        for row in ranges(session):
+            arc = problem.arcs[row.arc]
+            rows.append(
+                [
+                    str(arc.tail),
+                    str(arc.head),
+                    arc.name or "",
+                    plain(result.flows[row.arc]),
+                    plain(row.saves),
+                    plain(arc.cost),
+                    "any" if row.least_cost is None else plain(row.least_cost),
+                    "any" if row.greatest_cost is None else plain(row.greatest_cost),
+                ]
+            )
+        print_table(rows, 3, sys.stdout)
+    return 0
+
+
+# ---------------------------------------------------------------- texts
+
+
+def _check(options: argparse.Namespace) -> int:
+    problem, answer = Path(options.problem).read_bytes(), Path(options.answer).read_bytes()
+    if options.maker != "mcf":
+        from .others import NotAnAnswer, answer_from
+
+        fault = find_fault(problem)
+        if fault is not None:
+            return _say(fault.words(options.problem), REFUSED)
+        try:
+            answer = answer_from(problem, answer, options.maker).encode()
+        except NotAnAnswer as error:
+            print("not valid")
+            return _say(f"{options.answer}: {error}", NO_PLAN)
+    try:
+        verdict = Program().check(problem, answer)
+    except Refused as refused:
+        return _say(refused.fault.words(options.problem if refused.text is problem else options.answer), REFUSED)
+    print(verdict)
+    return 0 if verdict == "valid" else NO_PLAN
+
+
+def _faults(options: argparse.Namespace) -> int:
+    raw = sys.stdin.buffer.read() if options.problem == "-" else Path(options.problem).read_bytes()
+    fault = find_fault(raw)
+    if fault is not None:
+        print(fault.words(options.problem))
+        _show_line(raw, fault.line)
+        return REFUSED
+    if options.answer:
+        answer = Path(options.answer).read_bytes()
+        fault = find_answer_fault(raw, answer)
+        if fault is not None:
+            print(fault.words(options.answer))
+            _show_line(answer, fault.line)
+            return REFUSED
+    print("no fault")
+    found = parse_problem(raw)
+    total = sum(found.supplies.values())
+    if found.kind == "min" and total:
+        print(
+            f"note: the supplies add up to {total}, and not to 0, so there is no plan; is the sign of a demand missing?"
+            " `mcf-plan plan --surplus keep` lets the rest stay"
+        )
+    if found.kind == "asn" and 2 * len(found.supplies) != found.nodes:
+        print(
+            f"note: the nodes are {len(found.supplies)} on the source side and {found.nodes - len(found.supplies)} on "
+            "the sink side, so there is no assignment; `mcf-plan plan --surplus keep` lets the rest be alone"
+        )
+    return 0
+
+
+def _show_line(raw: bytes, line: int) -> None:
+    """Prints the line that the fault is on, cut where it is long."""
+    lines = raw.split(b"\n")
+    if 1 <= line <= len(lines):
+        text = as_str(lines[line - 1][:100]).rstrip("\r")
+        print("    " + "".join(c if c.isprintable() or c == "\t" else f"\\u{ord(c):04x}" for c in text))
+
+
+def _convert(options: argparse.Namespace) -> int:
+    problem = _read(options)
+    rewriting = rewrite(problem, Options(options.surplus))
+    for note in rewriting.notes:
+        print(f"note: {note}", file=sys.stderr)
+    if options.output:
+        Path(options.output).write_text(rewriting.text)
+    else:
+        sys.stdout.write(rewriting.text)
+    return 0
+
+
+# ---------------------------------------------------------------- what-if and board
+
+
+def _board(options: argparse.Namespace) -> int:
+    from .board.server import serve
+
+    with Session(_read(options), surplus=options.surplus, time_limit=options.time_limit) as session:
+        serve(session, port=options.port, title=options.title)
+    return 0
+
+
+def _what_if(options: argparse.Namespace) -> int:
+    with ExitStack() as stack:
+        session = stack.enter_context(Session(_read(options), surplus=options.surplus, time_limit=options.time_limit))
+        source = stack.enter_context(open(options.commands, encoding="utf-8")) if options.commands else sys.stdin
+        Conversation(session, sys.stdout, source.isatty()).run(source)
+    return 0
