@@ -14,7 +14,7 @@ from .conversation import Conversation
 from .dimacs import find_answer_fault, find_fault, parse_answer, parse_problem
 from .explain import explain
 from .plan import Disagreement, Infeasible, Plan
-from .printing import of_system, print_table, tell
+from .printing import of_system, print_table, say, tell, visible
 from .problem import Problem, plain
 from .program import Program, ProgramFailed, Refused, TimeLimit, as_str
 from .rewrite import BeyondLimits, CannotRewrite, Options, Unbounded, rewrite, solve
@@ -69,7 +69,7 @@ def main(arguments: Optional[List[str]] = None) -> int:
 
 
 def _say(words: str, status: int) -> int:
-    print(f"mcf-plan: {words}", file=sys.stderr)
+    say(f"mcf-plan: {words}", sys.stderr)
     return status
 
 
@@ -211,7 +211,7 @@ def _read(options: argparse.Namespace) -> Problem:
 def _plan(options: argparse.Namespace) -> int:
     problem = _read(options)
     for note in problem.notes:
-        print(f"note: {note}", file=sys.stderr)
+        say(f"note: {note}", sys.stderr)
     result = problem.solve(surplus=options.surplus, time_limit=options.time_limit)
     if options.json:
         from .report import to_json
@@ -243,7 +243,7 @@ def _explain(options: argparse.Namespace) -> int:
     if isinstance(result, Plan):
         print(f"there is a plan, worth {plain(result.cost)}")
         return 0
-    print(explain(result))
+    say(explain(result), sys.stdout)
     return NO_PLAN
 
 
@@ -254,7 +254,7 @@ def _ranges(options: argparse.Namespace) -> int:
     with Session(problem, surplus=options.surplus, time_limit=options.time_limit) as session:
         result = session.plan(True)
         if isinstance(result, Infeasible):
-            print(result.explain())
+            say(result.explain(), sys.stdout)
             return NO_PLAN
         print(f"{'flow' if problem.kind == 'max' else 'cost'} {plain(result.cost)}")
         more = "one more adds" if problem.kind == "max" else "one more saves"
@@ -305,14 +305,14 @@ def _faults(options: argparse.Namespace) -> int:
     raw = sys.stdin.buffer.read() if options.problem == "-" else Path(options.problem).read_bytes()
     fault = find_fault(raw)
     if fault is not None:
-        print(fault.words(options.problem))
+        say(fault.words(options.problem), sys.stdout)
         _show_line(raw, fault.line)
         return REFUSED
     if options.answer:
         answer = Path(options.answer).read_bytes()
         fault = find_answer_fault(raw, answer)
         if fault is not None:
-            print(fault.words(options.answer))
+            say(fault.words(options.answer), sys.stdout)
             _show_line(answer, fault.line)
             return REFUSED
     print("no fault")
@@ -336,14 +336,14 @@ def _show_line(raw: bytes, line: int) -> None:
     lines = raw.split(b"\n")
     if 1 <= line <= len(lines):
         text = as_str(lines[line - 1][:100]).rstrip("\r")
-        print("    " + "".join(c if c.isprintable() or c == "\t" else f"\\u{ord(c):04x}" for c in text))
+        print("    " + "\t".join(map(visible, text.split("\t"))))
 
 
 def _convert(options: argparse.Namespace) -> int:
     problem = _read(options)
     rewriting = rewrite(problem, Options(options.surplus))
     for note in rewriting.notes:
-        print(f"note: {note}", file=sys.stderr)
+        say(f"note: {note}", sys.stderr)
     if options.output:
         Path(options.output).write_text(rewriting.text)
     else:

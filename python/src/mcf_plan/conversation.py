@@ -8,7 +8,7 @@ from pathlib import Path
 from typing import Callable, Dict, List, Optional, TextIO
 
 from .plan import Infeasible
-from .printing import of_system, print_table, tell
+from .printing import of_system, print_table, say, tell
 from .problem import ArcKey, plain, total_of
 from .program import TimeLimit
 from .rewrite import CannotRewrite
@@ -38,7 +38,8 @@ class Conversation:
         self.group: Optional[ExitStack] = None
 
     def say(self, words: str) -> None:
-        print(words, file=self.out, flush=True)
+        """Prints words at once, with names as `visible` has them."""
+        say(words, self.out)
 
     def run(self, source: TextIO) -> None:
         """Reads commands up to the end or `quit`. Ctrl-C stops an edit, and not the conversation."""

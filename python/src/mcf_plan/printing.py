@@ -1,21 +1,54 @@
-"""Plans and tables of text, as mcf-plan prints them."""
+"""Plans, tables and sentences, as mcf-plan prints them.
+
+Names come from tables that others made, and may hold what a terminal obeys. All that is printed of them goes through
+`visible`, by `say` or `print_table`.
+"""
 
 from __future__ import annotations
 
+import unicodedata
 from typing import List, TextIO, Union
 
 from .plan import Infeasible, Plan
 from .problem import plain
 
+OBEYED = ("Cc", "Cf", "Cs", "Zl", "Zp")
+"""The Unicode categories of what a terminal obeys or can't show: controls, marks of direction, halves of characters."""
+JOINERS = "\u200c\u200d"
+"""These belong to the spelling of several languages, and only join letters."""
+
+
+def visible(text: str) -> str:
+    """The text with each character that a terminal would obey, or can't show, written as its number.
+
+    >>> print(visible("Ulm \\x1b[2J"), visible("S\\u00e3o Paulo"))
+    Ulm \\u001b[2J São Paulo
+    """
+    if text.isprintable():
+        return text
+    return "".join(_written(letter) if unicodedata.category(letter) in OBEYED else letter for letter in text)
+
+
+def _written(letter: str) -> str:
+    """A character by its number."""
+    if letter in JOINERS:
+        return letter
+    return f"\\u{ord(letter):04x}" if ord(letter) < 0x10000 else f"\\U{ord(letter):08x}"
+
+
+def say(words: str, out: TextIO) -> None:
+    """Prints a text for people, line by line."""
+    print("\n".join(map(visible, words.split("\n"))), file=out, flush=True)
+
 
 def tell(result: Union[Plan, Infeasible], out: TextIO) -> None:
     """Prints a plan, or why there is none, for people."""
     if isinstance(result, Infeasible):
-        print(result.explain(), file=out)
+        say(result.explain(), out)
         return
     problem = result.problem
     what = {"min": "cost", "max": "flow", "asn": "cost"}[problem.kind]
-    print(f"{what} {plain(result.cost)}", file=out)
+    say(f"{what} {plain(result.cost)}", out)
     rows = [["from", "to", "name", "flow", "capacity", "cost"]]
     for arc, flow in zip(problem.arcs, result.flows):
         if flow:
@@ -46,13 +79,14 @@ def tell(result: Union[Plan, Infeasible], out: TextIO) -> None:
     )
     for rest, words in ((result.kept, "stays at"), (result.not_met, "is not met at")):
         for name, amount in rest.items():
-            print(f"{plain(amount)} {words} {name}", file=out)
+            say(f"{plain(amount)} {words} {name}", out)
 
 
 def print_table(rows: List[List[str]], texts: int, out: TextIO) -> None:
     """Prints rows in columns, the first `texts` to the left, numbers to the right."""
-    widths = [max(map(len, column)) for column in zip(*rows)]
-    for row in rows:
+    shown = [list(map(visible, row)) for row in rows]
+    widths = [max(map(len, column)) for column in zip(*shown)]
+    for row in shown:
         cells = [
             cell.ljust(width) if place < texts else cell.rjust(width)
             for place, (cell, width) in enumerate(zip(row, widths))

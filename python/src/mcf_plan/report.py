@@ -22,6 +22,7 @@ from typing import Any, Iterator, Mapping, NamedTuple, Optional, Union
 
 from .explain import explain
 from .plan import Infeasible, Plan
+from .printing import visible
 from .problem import WIDE, ZERO, Arc, Problem, plain
 from .sensitivity import minimum_cut
 from .tables import PLAN_COLUMNS, plan_rows
@@ -585,4 +586,10 @@ def to_json(result: Result) -> str:
         )
         for name, rest in (("kept", result.kept), ("not_met", result.not_met)):
             told[name] = {node: number(amount) for node, amount in rest.items()}
-    return json.dumps(told, ensure_ascii=False, indent=1) + "\n"
+    text = json.dumps(told, ensure_ascii=False, indent=1)
+    return "\n".join(line if line.isprintable() else _escaped(line) for line in text.split("\n")) + "\n"
+
+
+def _escaped(line: str) -> str:
+    """A line of JSON in which what a terminal obeys, or can't show, stands by its number."""
+    return "".join(letter if visible(letter) == letter else json.dumps(letter)[1:-1] for letter in line)
