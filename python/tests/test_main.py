@@ -178,6 +178,8 @@ class Command(unittest.TestCase):
                     "group",
                     "cap road 9",
                     "cap nowhere 9",
+                    "cap road 7",
+                    "end",
                     "show",
                     "nonsense",
                     "saves",
@@ -201,7 +203,11 @@ class Command(unittest.TestCase):
             "refused, nothing is changed: no moment bears the mark nowhere",
             "dear: cost 13\n",
             "what if> group\nwhat if> supply Kiel 6\nwhat if> supply Ulm -4.5\nwhat if> end\n" "cost 17 (4 more)\n",
-            "the group is left, and none of its edits is made",
+            "what if> cap nowhere 9\n"
+            "refused: there is no arc nowhere; the whole group is refused, and its lines up to `end` are passed over\n"
+            "what if> cap road 7\npassed over\n"
+            "what if> end\nthe group is refused, nothing is changed: there is no arc nowhere\n"
+            "what if> show\ncost 13\n",
             "refused, nothing is changed: there is no command nonsense",
             "arc   one more saves\nroad            2.75\n",
             "what if> cap #1 inf\ncost 8.875 (4.125 less)",

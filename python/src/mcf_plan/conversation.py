@@ -3,7 +3,8 @@
 from __future__ import annotations
 
 import shlex
-from contextlib import ExitStack
+from contextlib import ExitStack, suppress
+from decimal import Decimal
 from pathlib import Path
 from typing import Callable, Dict, List, Optional, TextIO
 
@@ -26,6 +27,12 @@ report FILE          write a report (HTML)               write FILE     write th
 table FILE           write the plan (.csv, .xlsx)        proof FILE     write the answer for mcf check
 An ARC is its name, its ends (FROM TO), or #3 for the third; names with blanks stand in quotes. quit ends it."""
 
+Command = Callable[[List[str]], object]
+"""What a command does with the words behind it."""
+
+ALONE = ("undo", "redo", "show", "why", "saves", "moments", "group", "end", "help")
+"""Commands that take no words."""
+
 
 class Conversation:
     """A what-if session in words: `session` answers, `out` takes what is said."""
@@ -36,6 +43,38 @@ class Conversation:
         self.is_terminal = is_terminal
         self.marked: Dict[str, str] = {}
         self.group: Optional[ExitStack] = None
+        self.before: Optional[Decimal] = None  # the cost where the group began
+        self.refusal: Optional[str] = None  # why the group is refused whose lines are passed over
+        self.edits: Dict[str, Command] = {
+            "cap": lambda words: session.set_cap(self.arc(words[:-1]), words[-1]),
+            "capacity": lambda words: session.set_cap(self.arc(words[:-1]), words[-1]),
+            "low": lambda words: session.set_low(self.arc(words[:-1]), words[-1]),
+            "cost": lambda words: session.set_cost(self.arc(words[:-1]), words[-1]),
+            "supply": lambda words: session.set_supply(self.node(words[:-1]), words[-1]),
+            "close": lambda words: session.close(self.arc(words)),
+            "add": self.add,
+        }
+        self.steps: Dict[str, Command] = {
+            "undo": lambda words: session.undo(),
+            "redo": lambda words: session.redo(),
+            "back": lambda words: session.back(self.one(words, "the name of a mark")),
+        }
+        self.tells: Dict[str, Command] = {
+            "show": lambda words: tell(session.plan(), self.out),
+            "why": lambda words: self.why(),
+            "saves": lambda words: self.saves(),
+            "mark": lambda words: self.mark(self.one(words, "a name")),
+            "moments": lambda words: self.moments(),
+            "write": lambda words: self.write(self.one(words, "the name of a file"), session.text),
+            "proof": lambda words: self.write(self.one(words, "the name of a file"), session.proof),
+            "report": lambda words: self.report(self.one(words, "the name of a file")),
+            "table": lambda words: self.table(self.one(words, "the name of a file")),
+            "group": lambda words: self.open_group(),
+        }
+        self.at_any_time: Dict[str, Command] = {
+            "help": lambda words: self.say(HELP),
+            "end": lambda words: self.end_group(),
+        }
 
     def say(self, words: str) -> None:
         """Prints words at once, with names as `visible` has them."""
@@ -69,73 +108,66 @@ class Conversation:
                 self.answer(line)
             except KeyboardInterrupt:
                 self.say("interrupted: nothing is changed")
-        if self.group is not None:
+        if self.group is not None or self.refusal is not None:
             self.leave_group(EditRefused("the group has no end"))
+            self.say("the group has no end: none of its edits is made")
 
     def answer(self, line: str) -> None:
         """Does what a line says."""
+        if self.refusal is not None:
+            return self.pass_over(line)
         try:
             words = [] if line.lstrip().startswith("#") else shlex.split(line)
-        except ValueError as error:
-            return self.say(f"refused, nothing is changed: {error}")
-        if not words:
-            return None
-        try:
-            return self.do(words[0].lower(), words[1:])
+            if words:
+                self.do(words[0].lower(), words[1:])
         except (EditRefused, CannotRewrite, ValueError) as error:
-            reason = str(error)
+            self.refuse(error, str(error))
         except KeyError as error:
-            reason = str(error.args[0])
+            self.refuse(error, str(error.args[0]))
         except TimeLimit as error:
-            reason = f"{error}, it was stopped"
+            self.say(f"stopped, nothing is changed: {error}")
         except OSError as error:
-            return self.say(f"not written: {of_system(error)}")
-        if self.group is not None:
-            self.leave_group(EditRefused(reason))
-        return self.say(f"refused, nothing is changed: {reason}")
+            self.say(f"not written: {of_system(error)}")
+
+    def refuse(self, error: Exception, reason: str) -> None:
+        """Tells that a line is refused, and with it the group that it stands in."""
+        if self.group is None:
+            return self.say(f"refused, nothing is changed: {reason}")
+        self.leave_group(error)
+        self.refusal = reason
+        return self.say(f"refused: {reason}; the whole group is refused, and its lines up to `end` are passed over")
+
+    def pass_over(self, line: str) -> None:
+        """Passes over a line of a refused group, up to its `end`."""
+        if line.split() == ["end"]:
+            reason, self.refusal = self.refusal, None
+            self.say(f"the group is refused, nothing is changed: {reason}")
+        elif line.strip() and not line.lstrip().startswith("#"):
+            self.say("passed over")
 
     def do(self, word: str, words: List[str]) -> None:
         """Does one command."""
-        session = self.session
-        edits: Dict[str, Callable[[], object]] = {
-            "cap": lambda: session.set_cap(self.arc(words[:-1]), words[-1]),
-            "capacity": lambda: session.set_cap(self.arc(words[:-1]), words[-1]),
-            "low": lambda: session.set_low(self.arc(words[:-1]), words[-1]),
-            "cost": lambda: session.set_cost(self.arc(words[:-1]), words[-1]),
-            "supply": lambda: session.set_supply(self.node(words[:-1]), words[-1]),
-            "close": lambda: session.close(self.arc(words)),
-            "add": lambda: self.add(words),
-            "undo": session.undo,
-            "redo": session.redo,
-            "back": lambda: session.back(self.one(words, "the name of a mark")),
-        }
-        tells: Dict[str, Callable[[], None]] = {
-            "show": lambda: tell(session.plan(), self.out),
-            "why": self.why,
-            "saves": self.saves,
-            "mark": lambda: self.mark(self.one(words, "a name")),
-            "moments": self.moments,
-            "write": lambda: self.write(words, session.text()),
-            "proof": lambda: self.write(words, session.proof()),
-            "report": lambda: self.report(words),
-            "table": lambda: self.table(words),
-            "help": lambda: self.say(HELP),
-            "group": self.open_group,
-            "end": self.end_group,
-        }
-        if word in edits:
-            before = session.cost
-            if word not in ("undo", "redo") and not words:
-                raise EditRefused(f"{word} wants more words; `help` tells them")
-            edits[word]()
-            if self.group is None:
-                self.say(
-                    self.standing(None if before is None or session.cost is None else plain(session.cost - before))
-                )
-        elif word in tells:
-            tells[word]()
-        else:
+        does_step = word in self.edits or word in self.steps
+        if not does_step and word not in self.tells and word not in self.at_any_time:
             raise EditRefused(f"there is no command {word}; `help` tells them")
+        if words and word in ALONE:
+            raise EditRefused(f"{word} stands alone, and {' '.join(words)} stands behind it")
+        if not words and word in self.edits:
+            raise EditRefused(f"{word} wants more words; `help` tells them")
+        if self.group is not None and word not in self.edits and word not in self.at_any_time:
+            raise EditRefused(f"a group is open, and {word} has to wait for its end")
+        if not does_step:
+            (self.tells.get(word) or self.at_any_time[word])(words)
+            return
+        before = self.session.cost
+        (self.edits.get(word) or self.steps[word])(words)
+        if self.group is None:
+            self.say(self.standing(self.change_from(before)))
+
+    def change_from(self, before: Optional[Decimal]) -> Optional[str]:
+        """By how much the moment costs more than one before; None where one of them has no plan."""
+        cost = self.session.cost
+        return None if before is None or cost is None else plain(cost - before)
 
     def standing(self, change: Optional[str] = None) -> str:
         """The moment in words, and by how much it costs more than before."""
@@ -148,6 +180,7 @@ class Conversation:
         return f"{what} {plain(session.cost)} ({change[1:] + ' less' if change[0] == '-' else change + ' more'})"
 
     def one(self, words: List[str], what: str) -> str:
+        """The one word that is expected, which is `what`."""
         if len(words) != 1:
             raise EditRefused(f"{what} was expected, and nothing more")
         return words[0]
@@ -167,9 +200,11 @@ class Conversation:
         return words[0]
 
     def node(self, words: List[str]) -> str:
+        """A node by its name."""
         return self.one(words, "a node and a number")
 
     def add(self, words: List[str]) -> None:
+        """Adds an arc."""
         if len(words) > 2 and words[1] == "to":
             del words[1]
         if len(words) < 2 or len(words) % 2:
@@ -190,36 +225,34 @@ class Conversation:
         )
 
     def open_group(self) -> None:
-        if self.group is not None:
-            raise EditRefused("a group is open already")
+        """Opens a group: what follows up to `end` is made together, or refused together."""
         self.before = self.session.cost
         group = ExitStack()
         group.enter_context(self.session.group())
         self.group = group
 
     def end_group(self) -> None:
+        """Makes the edits of the group."""
         if self.group is None:
             raise EditRefused("no group is open")
         group, self.group = self.group, None
         group.close()
-        cost = self.session.cost
-        self.say(self.standing(None if cost is None or self.before is None else plain(cost - self.before)))
+        self.say(self.standing(self.change_from(self.before)))
 
     def leave_group(self, error: Exception) -> None:
         """Leaves the group without its edits."""
         group, self.group = self.group, None
         if group is not None:
-            try:
+            with suppress(type(error)):
                 group.__exit__(type(error), error, None)
-            except EditRefused:
-                pass
-            self.say("the group is left, and none of its edits is made")
 
     def why(self) -> None:
+        """Says why there is no plan."""
         result = self.session.plan()
         self.say(result.explain() if isinstance(result, Infeasible) else "there is a plan")
 
     def saves(self) -> None:
+        """Prints what one unit more saves, arc by arc."""
         from .sensitivity import one_unit_more
 
         rows = [["arc", "one more saves"]]
@@ -231,27 +264,32 @@ class Conversation:
         return print_table(rows, 1, self.out)
 
     def mark(self, name: str) -> None:
+        """Names the moment."""
         self.session.mark(name)
         self.marked[name] = self.standing()
         self.say(f"{name}: {self.standing()}")
 
     def moments(self) -> None:
+        """Prints the marks and what costs how much there."""
         for name in self.session.marks:
             self.say(f"{name}: {self.marked[name]}")
 
-    def write(self, words: List[str], text: str) -> None:
-        Path(self.one(words, "the name of a file")).write_text(text)
-        self.say(f"written to {words[0]}")
+    def write(self, name: str, text: Callable[[], str]) -> None:
+        """Writes a text to a file."""
+        Path(name).write_text(text(), encoding="utf-8")
+        self.say(f"written to {name}")
 
-    def report(self, words: List[str]) -> None:
+    def report(self, name: str) -> None:
+        """Writes the report to a file."""
         from .report import html_report
 
-        html_report(self.session.plan(), self.one(words, "the name of a file"))
-        self.say(f"written to {words[0]}")
+        html_report(self.session.plan(), name)
+        self.say(f"written to {name}")
 
-    def table(self, words: List[str]) -> None:
+    def table(self, name: str) -> None:
+        """Writes the plan as a table to a file, where there is one."""
         result = self.session.plan()
         if isinstance(result, Infeasible):
             return self.say("there is no plan to write")
-        write_plan(result, self.one(words, "the name of a file"))
-        return self.say(f"written to {words[0]}")
+        write_plan(result, name)
+        return self.say(f"written to {name}")

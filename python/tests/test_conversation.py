@@ -1,0 +1,100 @@
+"""What-if in words: groups that are refused as a whole, and commands that are not understood."""
+
+import io
+import sys
+import unittest
+from typing import List
+
+from mcf_plan import Problem, Session
+from mcf_plan.conversation import Conversation
+
+
+def roads() -> Problem:
+    """5 go from a by two roads; the cheap one is full. Cost 3 * 1 + 2 * 4."""
+    problem = Problem()
+    problem.add_node("a", 5)
+    problem.add_node("b", -5)
+    problem.add_arc("a", "b", cap=3, cost=1, name="cheap")
+    problem.add_arc("a", "b", cap=9, cost=4, name="dear")
+    return problem
+
+
+def answers(*lines: str) -> List[str]:
+    """What is said to these lines, each behind its line, and at the end the cost and whether something can be undone."""
+    out = io.StringIO()
+    with Session(roads()) as session:
+        Conversation(session, out).run(io.StringIO("".join(line + "\n" for line in lines)))
+        said = out.getvalue().splitlines()
+        said.append(f"{session.cost} {session.can_undo}")
+    return [line for line in said[1:] if not line.startswith("what if> ")]
+
+
+REFUSED = "; the whole group is refused, and its lines up to `end` are passed over"
+
+
+class Groups(unittest.TestCase):
+    def test_group(self) -> None:
+        self.assertEqual(answers("group", "cap cheap 4", "cost dear 5", "end"), ["cost 9 (2 less)", "9 True"])
+        self.assertEqual(answers("group", "end"), ["cost 11, as before", "11 True"])
+
+    def test_refused_line_refuses_the_whole_group(self) -> None:
+        """As in `mcf session`: the lines before and after the refused one change nothing, up to `end` and not on."""
+        for refused, reason in (
+            ("cap nix 3", "there is no arc nix"),
+            ("cap cheap x", "the capacity is 'x', and has to be a decimal number"),
+            ("supply nowhere 3", "there is no node nowhere"),
+            ("group", "a group is open, and group has to wait for its end"),
+            ("undo", "a group is open, and undo has to wait for its end"),
+            ("show", "a group is open, and show has to wait for its end"),
+            ("write a.min", "a group is open, and write has to wait for its end"),
+            ("nonsense", "there is no command nonsense; `help` tells them"),
+            ('cap "cheap 3', "No closing quotation"),
+            ("end now", "end stands alone, and now stands behind it"),
+        ):
+            with self.subTest(refused):
+                self.assertEqual(
+                    answers("group", "cap cheap 4", refused, "cap cheap 5", "# remark", "", "end", "cost dear 5"),
+                    [
+                        f"refused: {reason}{REFUSED}",
+                        "passed over",
+                        f"the group is refused, nothing is changed: {reason}",
+                        "cost 13 (2 more)",
+                        "13 True",
+                    ],
+                )
+
+    def test_what_is_refused_at_the_end(self) -> None:
+        said = answers("group", "low cheap 4", "cap dear 8", "end", "undo")
+        self.assertEqual(
+            said,
+            [
+                "refused, nothing is changed: the lower bound of cheap would be 4, above its capacity, 3",
+                "refused, nothing is changed: there is nothing to undo",
+                "11 False",
+            ],
+        )
+
+    def test_end_of_input_in_a_group(self) -> None:
+        for lines in (("group", "cap cheap 4"), ("group", "cap cheap 4", "quit")):
+            self.assertEqual(answers(*lines), ["the group has no end: none of its edits is made", "11 False"])
+        said = answers("group", "cap cheap 4", "cap nix 3", "cap cheap 5")
+        self.assertEqual(said[1:], ["passed over", "the group has no end: none of its edits is made", "11 False"])
+
+    def test_end_without_a_group(self) -> None:
+        self.assertEqual(answers("end"), ["refused, nothing is changed: no group is open", "11 False"])
+
+
+class Words(unittest.TestCase):
+    def test_what_is_not_understood(self) -> None:
+        for line, reason in (
+            ("undo 3", "undo stands alone, and 3 stands behind it"),
+            ("cap", "cap wants more words; `help` tells them"),
+            ("mark", "a name was expected, and nothing more"),
+            ("back", "the name of a mark was expected, and nothing more"),
+        ):
+            with self.subTest(line):
+                self.assertEqual(answers(line), [f"refused, nothing is changed: {reason}", "11 False"])
+
+
+if __name__ == "__main__":
+    sys.exit(unittest.main())
