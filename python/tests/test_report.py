@@ -7,6 +7,7 @@ import io
 import json
 import shutil
 import tempfile
+import time
 import unittest
 import xml.etree.ElementTree as xml
 from decimal import Decimal
@@ -57,7 +58,7 @@ class Tags(HTMLParser):
         self.cells: list = []
 
     def handle_starttag(self, tag: str, attrs: list) -> None:
-        if tag not in ("meta", "path", "circle", "polygon", "ellipse", "polyline", "title"):
+        if tag not in ("meta", "input", "path", "circle", "polygon", "ellipse", "polyline", "title"):
             self.open.append(tag)
 
     def handle_endtag(self, tag: str) -> None:
@@ -157,6 +158,30 @@ class ReportTest(unittest.TestCase):
         where = report.layout(problem)
         self.assertEqual(where["west"][1], 0)  # The greatest y is north.
         self.assertEqual(where["north & <sea>"], (0, report.MAP_SIDE))
+
+    def test_large_networks(self) -> None:
+        """Places and columns of 50,000 nodes take seconds; a picture that can't be read is told, and not drawn."""
+        problem = Problem()
+        for index in range(50_000):
+            problem.add_node(f"town {index}")
+        for index in range(1, 50_000):
+            problem.add_arc(f"town {index - 1}", f"town {index}", cap=1)
+        begin = time.process_time()
+        self.assertEqual(len(report.layout(problem)), 50_000)
+        problem.places = {name: (index % 223, index // 223) for index, name in enumerate(problem.nodes)}
+        self.assertEqual(len(set(report.layout(problem).values())), 50_000)
+        self.assertLess(time.process_time() - begin, 10)
+        few = Problem()
+        few.add_node("a")
+        for _ in range(report.MOST_DRAWN):
+            few.add_arc("a", "a", cap=1)
+        self.assertIn("<svg", report.html_text(few.solve()))
+        few.add_arc("a", "a", cap=1)
+        with self.assertRaises(ValueError):
+            report.svg_picture(few.solve())
+        text = report.html_text(few.solve())
+        self.assertNotIn("<svg", text)
+        self.assertIn("<p>The network has 3,001 arcs, and a picture of more than 3,000 can't be read.</p>", text)
 
     def test_csv(self) -> None:
         rows = list(csv.DictReader(io.StringIO(report.to_csv(self.plan))))

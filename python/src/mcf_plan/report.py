@@ -35,6 +35,8 @@ WORTH = {"min": "Cheapest plan", "max": "Most that can be sent", "asn": "Cheapes
 # Graphviz draws larger networks slowly, and its pictures of them say little.
 GRAPHVIZ_ARCS = 120
 GRAPHVIZ_SECONDS = 20
+MOST_DRAWN = 3000
+"""A picture of more arcs can't be read."""
 COLUMN_GAP, ROW_GAP, MAP_SIDE = 260, 58, 720
 RADIUS = 8
 # Colours that are told apart without red and green; width, dashes and words say the same.
@@ -45,9 +47,14 @@ HALO = 'stroke="white" stroke-width="4" paint-order="stroke"'
 STYLE = """body{font:16px/1.45 system-ui,sans-serif;color:#1c2127;max-width:62rem;margin:2rem auto;padding:0 1rem}
 h1{font-size:1.5rem}h2{font-size:1.15rem;margin-top:2rem}
 table{border-collapse:collapse;font-variant-numeric:tabular-nums}
-th,td{padding:.2rem .7rem;text-align:right;border-bottom:1px solid #dde1e6}th{font-weight:600;vertical-align:bottom}
+th,td{padding:.2rem .7rem;text-align:right;border-bottom:1px solid #dde1e6}th{font-weight:600;vertical-align:bottom;min-width:4.5rem}
 .name{text-align:left}.full td{background:#fdeee6}.mark{color:#9a3412;font-weight:600}
-.worth{font-size:1.6rem;font-weight:700}.wide{overflow-x:auto}@media print{svg{max-width:100%;height:auto}}
+.worth{font-size:1.6rem;font-weight:700}.wide{overflow-x:auto}
+.picture{overflow:auto;max-height:88vh;margin-top:.5rem;border:1px solid #dde1e6}.picture svg{display:block;margin:auto}
+#fitted:checked~.picture svg{max-width:100%;height:auto}
+@media(min-width:68rem){.picture{width:94vw;margin-left:calc(50% - 47vw)}}
+@media print{.picture{width:auto;max-height:none;margin:0;border:0}.picture svg{max-width:100%;height:auto}
+#fitted,#fitted+label{display:none}}
 pre{white-space:pre-wrap;font:inherit}"""
 
 
@@ -198,9 +205,10 @@ def layout(problem: Problem) -> dict[str, tuple[float, float]]:
     places = problem.places
     if problem.nodes and all(name in places for name in problem.nodes):
         xs, ys = zip(*(map(float, places[name]) for name in problem.nodes))
-        extent = max(max(xs) - min(xs), max(ys) - min(ys)) or 1.0
+        west, north = min(xs), max(ys)
+        extent = max(max(xs) - west, north - min(ys)) or 1.0
         return {
-            name: (round((x - min(xs)) / extent * MAP_SIDE, 1), round((max(ys) - y) / extent * MAP_SIDE, 1))
+            name: (round((x - west) / extent * MAP_SIDE, 1), round((north - y) / extent * MAP_SIDE, 1))
             for name, x, y in zip(problem.nodes, xs, ys)
         }
     columns = [column for column in _untangled(problem, _columns(problem)) if column]
@@ -404,14 +412,29 @@ def _drawn_nodes(result: Result, where: Mapping[str, tuple[float, float]], right
     return dots, names
 
 
+def not_drawn(problem: Problem) -> Optional[str]:
+    """Why there is no picture of so large a network, in words; None where there is one."""
+    if len(problem.arcs) <= MOST_DRAWN:
+        return None
+    return f"the network has {len(problem.arcs):,} arcs, and a picture of more than {MOST_DRAWN:,} can't be read"
+
+
 def svg_picture(result: Result, *, graphviz: Optional[bool] = None) -> str:
     """The network as an SVG picture: arcs as wide as their flow, full ones marked; of no plan, the cut.
 
     `graphviz` says who draws: True Graphviz, False the layout of this module, None (the default) Graphviz where `dot`
     is installed, the network has at most 120 arcs and its nodes have no places. RuntimeError where Graphviz is asked
-    for and does not draw it.
+    for and does not draw it, ValueError where the network is too large for a picture that can be read.
     """
     result.verify()
+    return _picture(result, graphviz)
+
+
+def _picture(result: Result, graphviz: Optional[bool] = None) -> str:
+    """The picture of a result that was verified."""
+    too_large = not_drawn(result.problem)
+    if too_large:
+        raise ValueError(too_large)
     wanted = graphviz is None and len(result.problem.arcs) <= GRAPHVIZ_ARCS and not result.problem.places
     if graphviz or wanted:
         picture = _by_graphviz(result)
@@ -521,7 +544,14 @@ def html_text(result: Result, *, title: str = "Plan") -> str:
         out.append(f"<pre>{html.escape(limit_text(result))}</pre>")
     for note in result.notes:
         out.append(f"<p>{html.escape(note)}</p>")
-    out.append(f'<h2>The network</h2><div class="wide">{svg_picture(result)}</div>')
+    out.append("<h2>The network</h2>")
+    too_large = not_drawn(problem)
+    if too_large:
+        out.append(f"<p>{too_large[:1].upper() + too_large[1:]}.</p>")
+    else:
+        out.append('<input type="checkbox" id="fitted" checked><label for="fitted"> as wide as the page</label>')
+        out.append('<div class="picture" tabindex="0" role="region" aria-label="Picture, which arrow keys move">')
+        out.append(f"{_picture(result)}</div>")
     if isinstance(result, Plan):
         out.append('<h2>What goes where</h2><div class="wide">' + "\n".join(_flow_table(result)) + "</div>")
         if problem.kind == "min":
@@ -557,7 +587,7 @@ def to_json(result: Result) -> str:
     """The plan, or why there is none, as JSON. Numbers are texts, so that no program rounds them.
 
     A plan: kind, feasible, cost, arcs (from, to, name, flow, low, capacity or null, unit_cost, cost, full), prices (or
-    null), kept, not_met. None: kind, feasible, shortage, cut, why.
+    null), kept, not_met, notes. None: kind, feasible, shortage, cut, why, notes. Each arc stands on a line of its own.
     """
     result.verify()
     problem = result.problem
@@ -586,8 +616,20 @@ def to_json(result: Result) -> str:
         )
         for name, rest in (("kept", result.kept), ("not_met", result.not_met)):
             told[name] = {node: number(amount) for node, amount in rest.items()}
-    text = json.dumps(told, ensure_ascii=False, indent=1)
-    return "\n".join(line if line.isprintable() else _escaped(line) for line in text.split("\n")) + "\n"
+    told["notes"] = list(result.notes)
+    fields = [f" {_ENCODE(key)}: {_lines(value)}" for key, value in told.items()]
+    text = "{\n" + ",\n".join(fields) + "\n}\n"
+    return "\n".join(line if line.isprintable() else _escaped(line) for line in text.split("\n"))
+
+
+_ENCODE = json.JSONEncoder(ensure_ascii=False).encode
+
+
+def _lines(value: Any) -> str:
+    """A value as JSON; of a list each member on a line of its own."""
+    if not isinstance(value, list) or not value:
+        return _ENCODE(value)
+    return "[\n  " + ",\n  ".join(map(_ENCODE, value)) + "\n ]"
 
 
 def _escaped(line: str) -> str:
