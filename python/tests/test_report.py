@@ -193,6 +193,7 @@ class ReportTest(unittest.TestCase):
 
     def test_json(self) -> None:
         told = json.loads(report.to_json(self.plan))
+        self.assertEqual(told["notes"], self.plan.notes)
         self.assertEqual((told["feasible"], told["cost"], told["arcs"][0]["flow"]), (True, "32.75", "2"))
         self.assertIsNone(told["arcs"][3]["capacity"])
         self.assertEqual(set(told["prices"]), set(self.plan.problem.nodes))

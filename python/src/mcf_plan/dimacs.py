@@ -171,10 +171,15 @@ def _number_hint(name: str, value: str, signed: bool) -> str:
             "Take the marks between the thousands out; if it is a fraction: there are none, so multiply all numbers of "
             "its kind by the same power of ten."
         )
-    if re.fullmatch(r"[+-]?\d*[.,]\d+", value):
+    if re.fullmatch(r"[+-]?\d*[.]\d+", value):
         return (
             "There are no fractions: multiply all numbers of its kind by the same power of ten, "
             "or let `mcf-plan convert` do it."
+        )
+    if re.fullmatch(r"[+-]?\d*,\d+", value):
+        return (
+            "There are no fractions: multiply all numbers of its kind by the same power of ten; or write a point in "
+            "place of each decimal comma, and let `mcf-plan convert` multiply."
         )
     if re.fullmatch(r"[+-]?\d*[.]?\d+[eE][+-]?\d+", value):
         return "Write the number out, without an exponent."
