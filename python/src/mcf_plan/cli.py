@@ -11,12 +11,12 @@ from typing import Callable, List, Optional
 
 from . import __version__
 from .conversation import Conversation
-from .dimacs import find_answer_fault, find_fault, parse_answer, parse_problem
+from .dimacs import as_str, find_answer_fault, find_fault, parse_answer, parse_problem
 from .explain import explain
 from .plan import Disagreement, Infeasible, Plan
 from .printing import of_system, print_table, say, tell, visible
 from .problem import Problem, plain
-from .program import Program, ProgramFailed, Refused, TimeLimit, as_str
+from .program import Program, ProgramFailed, Refused, TimeLimit
 from .rewrite import BeyondLimits, CannotRewrite, Options, Unbounded, rewrite, solve
 from .session import Session
 from .tables import TableFault, read_tables, write_plan

@@ -7,6 +7,18 @@ from dataclasses import dataclass, field
 from typing import Dict, List, Optional, Tuple, Union
 
 Text = Union[str, bytes]
+"""A text; bytes that are no UTF-8 are surrogates in a str."""
+
+
+def as_bytes(text: Text) -> bytes:
+    """The bytes of a text."""
+    return text if isinstance(text, bytes) else text.encode("utf-8", "surrogateescape")
+
+
+def as_str(text: Text) -> str:
+    """The text of bytes."""
+    return text if isinstance(text, str) else text.decode("utf-8", "surrogateescape")
+
 
 LONGEST_LINE = 1024
 MOST_NODES = 50_000
@@ -128,14 +140,6 @@ ANSWER_FIELDS = {
 }
 
 
-def _as_bytes(text: Text) -> bytes:
-    return text if isinstance(text, bytes) else text.encode("utf-8", "surrogateescape")
-
-
-def _as_str(word: bytes) -> str:
-    return word.decode("utf-8", "surrogateescape")
-
-
 def _lines(text: bytes) -> List[bytes]:
     """The pieces between line feeds; the last one counts where it has a byte."""
     pieces = text.split(b"\n")
@@ -236,7 +240,7 @@ class ProblemReader:
         """The number of a field: first its shape (4), then its range (5)."""
         signed = least < 0
         if not (_SIGNED if signed else _PLAIN).fullmatch(word):
-            value = _as_str(word)
+            value = as_str(word)
             raise self.fail(
                 4,
                 "a whole number" if signed else "a whole number, 0 or more",
@@ -271,7 +275,7 @@ class ProblemReader:
             elif name == "ARCS":
                 hint = "That is the largest problem that is taken."
             raise self.fail(
-                5, f"a number from {_grouped(least)} to {_grouped(most)}", name=name, value=_as_str(word), hint=hint
+                5, f"a number from {_grouped(least)} to {_grouped(most)}", name=name, value=as_str(word), hint=hint
             )
         return number
 
@@ -281,7 +285,7 @@ class ProblemReader:
             return
         form = " ".join((what, *names)) if what != "n" or self.kind != "max" else "n ID s` or `n ID t"
         given = "no field" if not words else "1 field" if len(words) == 1 else f"{len(words)} fields"
-        texts = [_as_str(word) for word in words]
+        texts = [as_str(word) for word in words]
         hint = ""
         if any("," in word or ";" in word for word in texts):
             hint = "Fields are parted by blanks: put blanks where the commas and semicolons are."
@@ -316,7 +320,7 @@ class ProblemReader:
 
     def read_problem_line(self, words: List[bytes]) -> None:
         self.count("p", ("KIND", "NODES", "ARCS"), words)
-        kind = _as_str(words[0])
+        kind = as_str(words[0])
         if kind not in ARC_FIELDS:
             hint = ""
             if kind.lower() in ARC_FIELDS:
@@ -341,7 +345,7 @@ class ProblemReader:
         if self.kind == "min":
             supply = self.number("FLOW", words[1], -MOST_FLOW, MOST_FLOW)
         elif self.kind == "max" and words[1] not in (b"s", b"t"):
-            value = _as_str(words[1])
+            value = as_str(words[1])
             hint = "Write it as a small letter." if value in ("S", "T") else ""
             if value.lower().startswith(("so", "fr", "st")):
                 hint = "The source is s."
@@ -474,13 +478,13 @@ class ProblemReader:
             return
         what, rest = words[0], words[1:]
         if what not in (b"p", b"n", b"a"):
-            word = _as_str(what)
+            word = as_str(what)
             raise self.fail(
                 2,
                 "p, n, a, or c for a comment",
                 name="first word",
                 value=word,
-                hint=self.first_word_hint(word, _as_str(raw)),
+                hint=self.first_word_hint(word, as_str(raw)),
             )
         if what == b"p":
             if self.kind:
@@ -548,7 +552,7 @@ class ProblemReader:
             )
 
     def read(self, text: Text) -> DimacsProblem:
-        for raw in _lines(_as_bytes(text)):
+        for raw in _lines(as_bytes(text)):
             self.read_line(raw)
         self.read_end()
         return DimacsProblem(self.kind, self.nodes, self.arcs, self.supplies, self.source, self.sink)
@@ -588,7 +592,7 @@ class _AnswerReader:
 
     def number(self, name: str, word: bytes, shape: re.Pattern[bytes]) -> int:
         if not shape.fullmatch(word):
-            value = _as_str(word)
+            value = as_str(word)
             signed = shape is not _PLAIN
             raise self.fail(
                 4,
@@ -603,7 +607,7 @@ class _AnswerReader:
                 5,
                 f"a node of the problem, 1 to {_grouped(self.problem.nodes)}",
                 name=name,
-                value=_as_str(word),
+                value=as_str(word),
                 hint="Is this the answer to another problem?",
             )
         return number
@@ -642,7 +646,7 @@ class _AnswerReader:
         words = [word for word in _BLANKS.split(raw) if word]
         if not words or words[0].startswith(b"c"):
             return
-        what, rest = _as_str(words[0]), words[1:]
+        what, rest = as_str(words[0]), words[1:]
         if what not in ANSWER_FIELDS:
             hint = "Is this a problem in place of an answer?" if what in ("p", "n", "a") else ""
             raise self.fail(2, "s, f, v, i or k, or c for a comment", name="first word", value=what, hint=hint)
@@ -709,7 +713,7 @@ class _AnswerReader:
                 )
 
     def read(self, text: Text) -> Answer:
-        for raw in _lines(_as_bytes(text)):
+        for raw in _lines(as_bytes(text)):
             self.read_line(raw)
         self.read_end()
         return self.answer
@@ -800,14 +804,16 @@ class Answer:
         return "".join(lines)
 
 
-def parse_answer(text: Text) -> Answer:
+def parse_answer(text: Text, *, with_ends: bool = True) -> Answer:
     """The answer of a text as `mcf solve`, `show` and `proof` print it. Raises ValueError where it is none.
+
+    `with_ends` False leaves the ends of its arcs away, of which it then may say nothing.
 
     >>> parse_answer("i 1\\nk 2\\n").cut
     [2]
     """
-    raw = _as_bytes(text)
-    quick = _quick_answer(raw)
+    raw = as_bytes(text)
+    quick = _quick_answer(raw, with_ends)
     if quick is not None:
         return quick
     try:
@@ -816,7 +822,7 @@ def parse_answer(text: Text) -> Answer:
         raise ValueError(found.fault.words()) from None
 
 
-def _quick_answer(raw: bytes) -> Optional[Answer]:
+def _quick_answer(raw: bytes, with_ends: bool) -> Optional[Answer]:
     """The answer, where the text is a flow in the very form that the program prints; else None."""
     if not raw.startswith(b"s "):
         return None
@@ -840,7 +846,7 @@ def _quick_answer(raw: bytes) -> Optional[Answer]:
             ):
                 return None
             potentials = list(map(int, labels[2::3]))
-        ends = list(zip(map(int, words[3::4]), map(int, words[4::4])))
+        ends = list(zip(map(int, words[3::4]), map(int, words[4::4]))) if with_ends else []
         return Answer(value=int(words[1]), flows=list(map(int, words[5::4])), potentials=potentials, ends=ends)
     except ValueError:
         return None

@@ -22,8 +22,8 @@ import time
 from pathlib import Path
 from typing import Any, Callable, List, Optional, Tuple, TypeVar, cast
 
-from .dimacs import Text, find_fault, parse_problem
-from .program import Dialogue, Program, ProgramFailed, Refused, TimeLimit, as_bytes, command_of
+from .dimacs import Text, as_bytes, find_fault, parse_problem
+from .program import Dialogue, Program, ProgramFailed, Refused, TimeLimit, command_of
 
 Result = TypeVar("Result")
 

@@ -15,11 +15,9 @@ mcf_plan.others.NotAnAnswer: the flow is not best: 1 unit more on arc 1 (1 to 2)
 from __future__ import annotations
 
 from decimal import Decimal, InvalidOperation
-from typing import Dict, Iterator, List, NamedTuple, Optional, Tuple, Union
+from typing import Dict, Iterator, List, NamedTuple, Optional, Tuple
 
-from .dimacs import RETURN_CAPACITY, Answer, DimacsProblem, parse_answer, parse_problem
-
-Text = Union[str, bytes]
+from .dimacs import RETURN_CAPACITY, Answer, DimacsProblem, Text, parse_answer, parse_problem
 
 PROGRAMS = ("lemon", "glpk", "flows")
 """Whose answers are read: see docs/OTHERS.md."""
@@ -205,9 +203,9 @@ Line = Tuple[int, List[str]]
 
 def words_of(text: Text) -> Iterator[Line]:
     """The words of each line that has some and is no comment, with the line's number."""
-    if isinstance(text, bytes):
-        text = text.decode("utf-8", "replace")
-    for number, line in enumerate(text.lstrip("\ufeff").split("\n"), 1):
+    # Words of the text come into messages, where a surrogate could not be printed.
+    shown = text.decode("utf-8", "replace") if isinstance(text, bytes) else text
+    for number, line in enumerate(shown.lstrip("\ufeff").split("\n"), 1):
         words = line.split()
         if words and words[0] != "c" and not words[0].startswith("#"):
             yield number, words

@@ -6,11 +6,13 @@ numbers, so nothing is rounded.
 
 from __future__ import annotations
 
+import operator
 from dataclasses import dataclass, field
 from decimal import Decimal
-from typing import TYPE_CHECKING, Dict, FrozenSet, Iterable, Iterator, List, NamedTuple, Optional
+from typing import TYPE_CHECKING, Dict, FrozenSet, Iterator, List, NamedTuple, Optional
 
 from .problem import WIDE, ZERO, plain, total_of
+from .units import Scale
 
 if TYPE_CHECKING:
     from .problem import Problem
@@ -24,35 +26,6 @@ class Disagreement(Exception):
         super().__init__(words)
         self.problem_text = problem_text
         self.answer_text = answer_text
-
-
-class Scale:
-    """Whole numbers in place of decimals: each is multiplied by the same power of ten."""
-
-    def __init__(self, *columns: Iterable[Optional[Decimal]]):
-        places = 0
-        for column in columns:
-            for number in column:
-                if number is not None:
-                    exponent = number.as_tuple().exponent
-                    if exponent < -places:  # type: ignore[operator]
-                        places = -exponent  # type: ignore[operator]
-        self.units = Decimal(10) ** places
-
-    def whole(self, number: Decimal) -> int:
-        """The number in small units."""
-        return int(number) if self.units == 1 else int(WIDE.multiply(number, self.units))
-
-    def wholes(self, numbers: Iterable[Decimal]) -> List[int]:
-        """The numbers in small units."""
-        if self.units == 1:
-            return list(map(int, numbers))
-        multiply, units = WIDE.multiply, self.units
-        return [int(multiply(number, units)) for number in numbers]
-
-    def wholes_or_none(self, numbers: Iterable[Optional[Decimal]]) -> List[Optional[int]]:
-        """The numbers in small units; None stays None."""
-        return [None if number is None else self.whole(number) for number in numbers]
 
 
 class RestArc(NamedTuple):
@@ -126,40 +99,30 @@ class Plan:
         """
         if len(self.flows) != len(self.problem.arcs):
             raise Disagreement(f"the plan has {len(self.flows)} flows for {len(self.problem.arcs)} arcs")
-        self._verify_flows()
-        self._verify_prices()
+        wholes = _Wholes.of(self)
+        self._verify_flows(wholes)
+        self._verify_prices(wholes)
 
-    def _verify_flows(self) -> None:
+    def _verify_flows(self, wholes: _Wholes) -> None:
         """The flow is within the bounds and balanced, and its cost is right."""
-        problem, flows = self.problem, self.flows
-        arcs = problem.arcs
-        scale = Scale(
-            flows,
-            (arc.low for arc in arcs),
-            (arc.cap for arc in arcs),
-            problem.nodes.values(),
-            self.kept.values(),
-            self.not_met.values(),
-        )
+        problem, amounts, money = self.problem, wholes.amounts, wholes.money
         net = dict.fromkeys(problem.nodes, 0)
-        amounts = scale.wholes(flows)
-        lows = scale.wholes(arc.low for arc in arcs)
-        caps = scale.wholes_or_none(arc.cap for arc in arcs)
-        for k, (arc, flow, low, cap) in enumerate(zip(arcs, amounts, lows, caps)):
+        rows = zip(problem.arcs, wholes.flows, wholes.lows, wholes.caps)
+        for k, (arc, flow, low, cap) in enumerate(rows):
             if flow < low or cap is not None and flow > cap:
-                raise Disagreement(f"arc {k + 1}, {arc.label}: the flow {plain(flows[k])} is outside its bounds")
-            net[arc.tail] += flow
-            net[arc.head] -= flow
+                raise Disagreement(f"arc {k + 1}, {arc.label}: the flow {plain(self.flows[k])} is outside its bounds")
+            if flow:
+                net[arc.tail] += flow
+                net[arc.head] -= flow
         if problem.kind == "max":
-            self._verify_value(net, scale)
-        else:
-            self._verify_balance(net, scale)
-            money = Scale((arc.cost for arc in arcs), (self.rest_cost,))
-            cost = sum(amount * cost for amount, cost in zip(amounts, money.wholes(arc.cost for arc in arcs)))
-            rest = sum(scale.wholes([*self.kept.values(), *self.not_met.values()]))
-            cost += rest * money.whole(self.rest_cost or ZERO)
-            if WIDE.multiply(WIDE.multiply(self.cost, scale.units), money.units) != cost:
-                raise Disagreement(f"the plan does not cost {plain(self.cost)}")
+            self._verify_value(net, amounts)
+            return
+        self._verify_balance(net, amounts)
+        cost = sum(map(operator.mul, wholes.flows, wholes.costs))
+        rest = sum(amounts.wholes([*self.kept.values(), *self.not_met.values()]))
+        cost += rest * money.whole(self.rest_cost or ZERO)
+        if WIDE.multiply(WIDE.multiply(self.cost, amounts.units), money.units) != cost:
+            raise Disagreement(f"the plan does not cost {plain(self.cost)}")
 
     def _verify_value(self, net: Dict[str, int], scale: Scale) -> None:
         source, sink = self.problem.source or "", self.problem.sink or ""
@@ -196,19 +159,16 @@ class Plan:
                     f"{plain(Decimal(wanted) / scale.units)}"
                 )
 
-    def _verify_prices(self) -> None:
+    def _verify_prices(self, wholes: _Wholes) -> None:
         """Each arc carries its lower bound where a unit more would cost, and its capacity where it would save."""
-        prices = self.prices
-        problem = self.problem
-        arcs = problem.arcs
-        if prices is None or len(prices) != len(problem.nodes):
+        problem, money = self.problem, wholes.money
+        price = dict(zip(self.prices or {}, wholes.prices))
+        if self.prices is None or len(price) != len(problem.nodes):
             raise Disagreement("the plan has no prices, so nothing shows that it is best")
-        money = Scale((arc.cost for arc in arcs), prices.values(), (self.rest_cost, self.rest_price))
-        price = dict(zip(prices, money.wholes(prices.values())))
-        costs = money.wholes(arc.cost for arc in arcs)
-        for k, (arc, cost, flow) in enumerate(zip(arcs, costs, self.flows)):
+        rows = zip(problem.arcs, wholes.costs, wholes.flows, wholes.lows, wholes.caps)
+        for k, (arc, cost, flow, low, cap) in enumerate(rows):
             reduced = cost + price[arc.tail] - price[arc.head]
-            if reduced > 0 and flow != arc.low or reduced < 0 and flow != arc.cap:
+            if reduced > 0 and flow != low or reduced < 0 and flow != cap:
                 raise Disagreement(f"arc {k + 1}, {arc.label}: with another flow the plan would be better")
         if problem.kind == "max":
             back = price[problem.sink or ""] - price[problem.source or ""] - int(money.units)
@@ -224,6 +184,36 @@ class Plan:
                     f"node {row.name}: if it {'kept' if row.is_kept else 'went without'} another amount, the "
                     "plan would be better"
                 )
+
+
+class _Wholes(NamedTuple):
+    """The numbers of a plan and of its tables as whole numbers, in units of their own."""
+
+    amounts: Scale
+    money: Scale
+    flows: List[int]
+    lows: List[int]
+    caps: List[Optional[int]]
+    costs: List[int]
+    prices: List[int]
+
+    @classmethod
+    def of(cls, plan: Plan) -> _Wholes:
+        """The numbers of a plan."""
+        arcs, prices = plan.problem.arcs, list((plan.prices or {}).values())
+        lows, caps, costs = [arc.low for arc in arcs], [arc.cap for arc in arcs], [arc.cost for arc in arcs]
+        rest = [*plan.kept.values(), *plan.not_met.values()]
+        amounts = Scale.of(plan.flows, lows, caps, plan.problem.nodes.values(), rest)
+        money = Scale.of(costs, prices, (plan.rest_cost, plan.rest_price))
+        return cls(
+            amounts,
+            money,
+            amounts.wholes(plan.flows),
+            amounts.wholes(lows),
+            amounts.wholes_or_none(caps),
+            money.wholes(costs),
+            money.wholes(prices),
+        )
 
 
 @dataclass

@@ -154,7 +154,7 @@ class Problem:
         self.notes: List[str] = []
         self.places: Dict[str, Tuple[float, float]] = {}
         self._numbers: Dict[Union[str, Tuple[str, str]], int] = {}  # -1: several
-        self._numbered = 0
+        self._numbered = 0  # so many arcs are in _numbers; -1: they are to be listed anew
 
     def add_node(self, name: str, supply: Number = 0) -> None:
         """Adds a node that supplies so much, or demands it where below 0. Raises ValueError where it is there
@@ -182,7 +182,7 @@ class Problem:
         for end, supply in ((tail, ONE), (head, -ONE)):
             if end not in self.nodes:
                 self.nodes[end] = supply if self.kind == "asn" else ZERO
-        self.arcs.append(arc)
+        self.append_arc(arc)
         return len(self.arcs) - 1
 
     def make_arc(
@@ -217,9 +217,20 @@ class Problem:
             raise KeyError(f"there are several arcs {_called(which)}: say which by its number")
         return number
 
-    def forget_numbers(self) -> None:
-        """To be called where arcs were taken out or changed their names: they are listed anew when they are looked
-        up."""
+    def append_arc(self, arc: Arc) -> None:
+        """Adds an arc as `make_arc` makes it, whose ends are there."""
+        self.arcs.append(arc)
+
+    def replace_arc(self, number: int, arc: Arc) -> None:
+        """Puts another arc in the place of an arc."""
+        before = self.arcs[number]
+        if (before.tail, before.head, before.name) != (arc.tail, arc.head, arc.name):
+            self._numbered = -1
+        self.arcs[number] = arc
+
+    def remove_last_arc(self) -> None:
+        """Takes the last arc away."""
+        self.arcs.pop()
         self._numbered = -1
 
     def _number(self) -> None:

@@ -15,11 +15,9 @@ import subprocess
 import tempfile
 import time
 from pathlib import Path
-from typing import List, Optional, Tuple, Union
+from typing import List, Optional, Tuple
 
-from .dimacs import LONGEST_LINE, Fault, find_answer_fault, find_fault
-
-Text = Union[str, bytes]
+from .dimacs import LONGEST_LINE, Fault, Text, as_bytes, as_str, find_answer_fault, find_fault
 
 
 class ProgramFailed(Exception):
@@ -45,16 +43,6 @@ class TimeLimit(Exception):
     def __init__(self, seconds: float):
         super().__init__(f"no answer within {seconds:g} seconds")
         self.seconds = seconds
-
-
-def as_bytes(text: Text) -> bytes:
-    """The bytes of a text, undecodable ones included (they are surrogates in a str)."""
-    return text if isinstance(text, bytes) else text.encode("utf-8", "surrogateescape")
-
-
-def as_str(text: bytes) -> str:
-    """The text of bytes, undecodable ones kept as surrogates."""
-    return text.decode("utf-8", "surrogateescape")
 
 
 def command_of(line: str) -> Tuple[str, List[str]]:

@@ -66,7 +66,7 @@ def one_unit_more(session: Session) -> List[Decimal]:
     if session.problem.kind == "asn":
         raise Meaningless("an assignment has no capacities")
     answer = session.plan()
-    with apart(session) as beside:
+    with session.beside() as beside:
         return [saved(beside, answer, arc) for arc in range(len(session.problem.arcs))]
 
 
@@ -76,7 +76,7 @@ def cost_range(session: Session, arc: ArcKey) -> Limits:
     Raises Meaningless for `max`, which has no costs, and where there is no plan.
     """
     place, plan = session.problem.find_arc(arc), standing_plan(session)
-    with apart(session) as beside:
+    with session.beside() as beside:
         grid = steps_and_reach(plan)
         return end_of_range(beside, plan, place, -1, grid), end_of_range(beside, plan, place, 1, grid)
 
@@ -87,7 +87,7 @@ def ranges(session: Session) -> List[Ranges]:
     if isinstance(plan, Infeasible):
         raise Meaningless("there is no plan, so it has no ranges")
     grid = steps_and_reach(plan)
-    with apart(session) as beside:
+    with session.beside() as beside:
         return [
             Ranges(
                 arc,
@@ -109,7 +109,7 @@ def curve(session: Session, what: What, values: Iterable[Number]) -> List[Tuple[
     Raises Unbounded, BeyondLimits, EditRefused, KeyError or ValueError where a value can't be set.
     """
     points: List[Tuple[Decimal, Optional[Decimal]]] = []
-    with apart(session) as beside:
+    with session.beside() as beside:
         for value in map(exact, values):
             points.append((value, set_number(beside, what, value)))
             beside.undo()
@@ -145,11 +145,6 @@ def minimum_cut(plan: Plan) -> Cut:
 
 
 # ---- through a session beside
-
-
-def apart(session: Session) -> Session:
-    """A session of its own on the problem as it stands."""
-    return Session(session.problem, session._program, surplus=session._options.surplus)
 
 
 def standing_plan(session: Session) -> Plan:

@@ -338,6 +338,10 @@ class Session:
         dialogue = self._moments[self._now].stretch.open(self._program)
         return "\n".join(dialogue.ask("proof", time_limit=self.time_limit)) + "\n"
 
+    def beside(self) -> Session:
+        """Another session on the problem as it stands, with the same program and options."""
+        return Session(self._problem, self._program, surplus=self._options.surplus)
+
     def end(self) -> None:
         """Ends the session."""
         for moment in self._moments:
@@ -358,10 +362,9 @@ class Session:
             if isinstance(change, _SupplyChange):
                 problem.nodes[change.name] = change.after
             elif change.before is None:
-                problem.arcs.append(change.after)
-                problem.forget_numbers()
+                problem.append_arc(change.after)
             else:
-                problem.arcs[change.number] = change.after
+                problem.replace_arc(change.number, change.after)
 
     def _take_back(self, changes: List[_TableChange]) -> None:
         """Takes changes of the tables back."""
@@ -370,10 +373,9 @@ class Session:
             if isinstance(change, _SupplyChange):
                 problem.nodes[change.name] = change.before
             elif change.before is None:
-                problem.arcs.pop()
-                problem.forget_numbers()
+                problem.remove_last_arc()
             else:
-                problem.arcs[change.number] = change.before
+                problem.replace_arc(change.number, change.before)
 
     @staticmethod
     def _touched(changes: List[_TableChange]) -> Tuple[List[int], List[str]]:
