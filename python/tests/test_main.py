@@ -5,6 +5,7 @@ import io
 import json
 import os
 import signal
+import socket
 import stat
 import subprocess
 import sys
@@ -22,6 +23,23 @@ TOP = Path(__file__).resolve().parents[2]
 COMMAND = str(TOP / "mcf-plan")
 NODES = "town,supply\nKiel,5\nUlm,-3.5\nBonn,-1.5\n"
 ARCS = "from,to,capacity,cost,name\nKiel,Ulm,2,1.25,road\nKiel,Ulm,,4,rail\nKiel,Bonn,9,2,\n"
+
+
+def waited_for(condition, seconds=60):
+    """Whether the condition came true in time."""
+    for _ in range(seconds * 20):
+        if condition():
+            return True
+        time.sleep(0.05)
+    return False
+
+
+def is_running(number):
+    """Whether the process of this number still runs: one that has ended, and that nobody asked for yet, does not."""
+    try:
+        return Path(f"/proc/{number}/stat").read_text().rsplit(")", 1)[1].split()[0] != "Z"
+    except FileNotFoundError:
+        return False
 
 
 class Command(unittest.TestCase):
@@ -99,7 +117,7 @@ class Command(unittest.TestCase):
         self.run_it("plan", "nowhere.min", status=4)
         self.run_it("plan", status=2)
         self.run_it("plan", self.nodes, self.arcs, "--kind", "max", status=3)
-        self.run_it("plan", self.nodes, self.arcs, "--surplus", "much", status=3)
+        self.run_it("plan", self.nodes, self.arcs, "--surplus", "much", status=2)
 
     def test_other_kinds(self):
         pairs = self.file("pairs.csv", "from,to,cost\nAnn,early,3\nAnn,late,5\nBob,early,2\nBob,late,9\n")
@@ -229,38 +247,114 @@ class Command(unittest.TestCase):
         self.assertIn("cost 86 (20 more)", out)
         self.assertIn("no plan: short by 1", out)
 
-    def test_time_limit_and_ctrl_c(self):
-        path = Path(self.folder.name) / "slow"
-        begun = Path(self.folder.name) / "begun"
-        path.write_text(f"#!/bin/sh\necho >{begun}\nexec sleep 20\n")
-        path.chmod(path.stat().st_mode | stat.S_IXUSR)
-        environment = dict(os.environ, MCF=str(path))
-        done = subprocess.run(
-            [COMMAND, "plan", self.nodes, self.arcs, "--time-limit", "0.2"],
-            env=environment,
-            capture_output=True,
-            text=True,
-            check=False,
-        )
-        self.assertEqual(done.returncode, 124, done.stderr)
+    def slow_program(self):
+        """The environment with a program that never answers, which writes its number to the file that is returned."""
+        path, begun = Path(self.folder.name) / "slow", Path(self.folder.name) / "begun"
         begun.unlink(missing_ok=True)
+        path.write_text(f"#!/bin/sh\necho $$ >{begun}.part\nmv {begun}.part {begun}\nexec sleep 20\n")
+        path.chmod(path.stat().st_mode | stat.S_IXUSR)
+        return dict(os.environ, MCF=str(path)), begun
+
+    def ended_by(self, number, environment, begun, *words):
+        """The status and the words of a command that a signal ends once the file is there, and how long that took."""
         with subprocess.Popen(
-            [COMMAND, "plan", self.nodes, self.arcs],
+            [COMMAND, *(words or ("plan", self.nodes, self.arcs))],
             env=environment,
             stdout=subprocess.DEVNULL,
             stderr=subprocess.PIPE,
             text=True,
         ) as process:
-            for _ in range(600):
-                if begun.exists():
-                    break
-                time.sleep(0.1)
-            time.sleep(0.3)
-            start = time.monotonic()
-            process.send_signal(signal.SIGINT)
-            _, errors = process.communicate(timeout=15)
-        self.assertLess(time.monotonic() - start, HEARD)
-        self.assertEqual((process.returncode, errors), (130, "mcf-plan: interrupted\n"))
+            try:
+                self.assertTrue(waited_for(begun.exists))
+                time.sleep(0.3)
+                start = time.monotonic()
+                process.send_signal(number)
+                _, errors = process.communicate(timeout=15)
+                return process.returncode, errors, time.monotonic() - start
+            finally:
+                process.kill()
+
+    def test_ctrl_c(self):
+        status, errors, took = self.ended_by(signal.SIGINT, *self.slow_program())
+        self.assertLess(took, HEARD)
+        self.assertEqual((status, errors), (130, "mcf-plan: interrupted\n"))
+
+    def test_signals_that_end_it_end_mcf_too(self):
+        """Whoever ends mcf-plan, be it by SIGKILL, ends the program that works for it."""
+        for number in (signal.SIGTERM, signal.SIGHUP, signal.SIGKILL):
+            for words in (("plan", self.nodes, self.arcs), ("what-if", self.nodes, self.arcs)):
+                with self.subTest(number=number, command=words[0]):
+                    environment, begun = self.slow_program()
+                    status, errors, took = self.ended_by(number, environment, begun, *words)
+                    self.assertEqual((status, errors), (-number, ""))
+                    self.assertLess(took, HEARD)
+                    self.assertTrue(waited_for(lambda: not is_running(int(begun.read_text()))))
+
+    def test_ctrl_c_while_modules_are_loaded(self):
+        """A module that is loaded slowly stands in for a slow disk: no words of Python's are shown."""
+        begun = Path(self.folder.name) / "begun"
+        self.file("shlex.py", f"import time\nopen({str(begun)!r}, 'w').close()\ntime.sleep(20)\n")
+        environment = dict(os.environ, PYTHONPATH=self.folder.name)
+        status, errors, _ = self.ended_by(signal.SIGINT, environment, begun)
+        self.assertEqual((status, errors), (-signal.SIGINT, ""))
+
+    def test_no_module_is_taken_from_the_current_folder(self):
+        for name in ("csv.py", "decimal.py", "mcf_plan.py"):
+            self.file(name, "raise SystemExit('taken from the current folder')")
+        self.assertIn("cost 11.5", self.run_it("plan", self.nodes, self.arcs)[0])
+
+    def test_time_limit_says_what_was_given(self):
+        environment, _ = self.slow_program()
+        for words in (("plan",), ("explain",), ("ranges",), ("what-if",), ("board",)):
+            with self.subTest(words[0]):
+                done = subprocess.run(
+                    [COMMAND, *words, self.nodes, self.arcs, "--time-limit", "0.8"],
+                    env=environment,
+                    capture_output=True,
+                    text=True,
+                    check=False,
+                )
+                self.assertEqual(
+                    (done.returncode, done.stdout, done.stderr), (124, "", "mcf-plan: no answer within 0.8 seconds\n")
+                )
+
+    def test_time_limit_counts_the_reading(self):
+        pipe = str(Path(self.folder.name) / "pipe.csv")
+        os.mkfifo(pipe)
+        for command in ("plan", "convert", "what-if"):
+            _, errors = self.run_it(command, self.nodes, pipe, "--time-limit", "0.5", status=124)
+            self.assertEqual(errors, "mcf-plan: no answer within 0.5 seconds\n")
+
+    def test_refused_command_lines(self):
+        for words, reason in (
+            (("plan", "--surplus", "maybe"), "'maybe' is none of refuse, keep and a number, the cost of a unit"),
+            (("plan", "--time-limit", "-3"), "'-3' is no number of seconds above 0"),
+            (("plan", "--time-limit", "nan"), "'nan' is no number of seconds above 0"),
+            (("what-if", "--time-limit", "soon"), "'soon' is no number of seconds above 0"),
+            (("board", "--port", "99999"), "'99999' is no port"),
+            (("board", "--port", "-1"), "'-1' is no port"),
+            (("board", "--port", "http"), "'http' is no port"),
+        ):
+            with self.subTest(words):
+                command, *rest = words
+                _, errors = self.run_it(command, self.nodes, self.arcs, *rest, status=2)
+                self.assertIn(reason, errors)
+
+    def test_port_that_is_taken(self):
+        with socket.create_server(("127.0.0.1", 0)) as taken:
+            port = str(taken.getsockname()[1])
+            _, errors = self.run_it("board", self.nodes, self.arcs, "--port", port, status=4)
+        self.assertEqual(errors, f"mcf-plan: port {port}: Address already in use\n")
+
+    def test_picture_that_cannot_be_read(self):
+        rows = "".join(f"Kiel,Ulm,1,{cost}\n" for cost in range(3001))
+        arcs = self.file("many.csv", "from,to,capacity,cost\n" + rows)
+        nodes = self.file("two.csv", "name,supply\nKiel,5\nUlm,-5\n")
+        out, errors = self.run_it("plan", nodes, arcs, "--picture", "many.svg", status=7)
+        self.assertEqual(out, "")
+        self.assertIn("--picture: the network has 3,001 arcs, and a picture of more than 3,000 can't be read", errors)
+        self.assertFalse((Path(self.folder.name) / "many.svg").exists())
+        self.run_it("plan", nodes, arcs, "--report", "many.html")
 
     def test_no_memory(self):
         errors = io.StringIO()

@@ -10,11 +10,13 @@ import time
 import unittest
 from pathlib import Path
 
+from mcf_plan import Problem, Session
 from mcf_plan.program import Program, ProgramFailed, Refused, TimeLimit, find_program
 
 from limits import HEARD
 
 DIAMOND = (Path(__file__).resolve().parents[2] / "examples/diamond/problem.min").read_text()
+SAID = "no answer within 0.75 seconds"
 
 
 def stub(folder, body):
@@ -75,6 +77,22 @@ class Solving(unittest.TestCase):
                 with self.assertRaises(TimeLimit):
                     call(DIAMOND, time_limit=0.2)
                 self.assertLess(time.monotonic() - start, 0.2 + HEARD)
+
+    def test_time_limit_as_given(self):
+        """Whatever part of the work was too slow, the words tell the limit of the whole."""
+        problem = Problem.from_dimacs(DIAMOND)
+        with tempfile.TemporaryDirectory() as folder:
+            slow_check = f'if [ "$1" = check ]; then exec sleep 20; fi; exec {Program().path} "$@"'
+            for body in ("exec sleep 20", slow_check):
+                with self.assertRaises(TimeLimit) as caught:
+                    problem.solve(Program(stub(folder, body)), time_limit=0.75)
+                self.assertEqual((caught.exception.seconds, str(caught.exception)), (0.75, SAID))
+            slow_edit = "echo s 1; read line; exec sleep 20"
+            with Session(problem, Program(stub(folder, slow_edit))) as session:
+                session.time_limit = 0.75
+                with self.assertRaises(TimeLimit) as caught:
+                    session.set_cap(0, 1)
+            self.assertEqual((caught.exception.seconds, str(caught.exception)), (0.75, SAID))
 
     def test_ctrl_c_is_heard_within_half_a_second(self):
         with tempfile.TemporaryDirectory() as folder:

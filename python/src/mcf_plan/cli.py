@@ -6,22 +6,28 @@ import argparse
 import sys
 import tempfile
 from contextlib import ExitStack
+from io import StringIO
 from pathlib import Path
 from typing import Callable, List, Optional
 
 from . import __version__
 from .conversation import Conversation
+from .deadline import alarm, lift_alarm
 from .dimacs import as_str, find_answer_fault, find_fault, parse_answer, parse_problem
 from .explain import explain
 from .plan import Disagreement, Infeasible, Plan
 from .printing import of_system, print_table, say, tell, visible
-from .problem import Problem, plain
+from .problem import Problem, exact, plain
 from .program import Program, ProgramFailed, Refused, TimeLimit
-from .rewrite import BeyondLimits, CannotRewrite, Options, Unbounded, rewrite, solve
+from .rewrite import BeyondLimits, CannotRewrite, Options, Surplus, Unbounded, rewrite, solve
 from .session import Session
+from .signals import Terminated, die_of, hearing
 from .tables import TableFault, read_tables, write_plan
 
 NO_PLAN, USAGE, REFUSED, FAILED, UNBOUNDED, BEYOND, DISAGREE, TOO_LONG, INTERRUPTED = 1, 2, 3, 4, 6, 7, 8, 124, 130
+MOST_SECONDS = 100_000_000
+"""A time limit is below this, some three years: the system's clock takes no greater ones."""
+MOST_PORT = 65_535
 
 STATUSES = """status:
   0    done
@@ -37,10 +43,23 @@ STATUSES = """status:
 
 
 def main(arguments: Optional[List[str]] = None) -> int:
-    """Runs the command and returns its status."""
+    """Runs the command and returns its status. A signal that asks the process to end does so."""
     options = _parser().parse_args(arguments)
     try:
-        status: int = options.run(options)
+        with hearing():
+            return _run(options)
+    except Terminated as ended:
+        die_of(ended.number)
+        return 128 + ended.number
+
+
+def _run(options: argparse.Namespace) -> int:
+    """Runs a command, and tells what went wrong."""
+    try:
+        # In a conversation each edit has its own limit.
+        limit = None if options.run in (_what_if, _board) else getattr(options, "time_limit", None)
+        with alarm(limit):
+            status: int = options.run(options)
         sys.stdout.flush()
         return status
     except Unbounded as error:
@@ -116,7 +135,7 @@ def _parser() -> argparse.ArgumentParser:
     what_if.add_argument("--commands", metavar="FILE", help="read the commands from a file in place of the prompt")
 
     board = command("board", _board, "serve the what-if page on this computer alone", tables=True)
-    board.add_argument("--port", type=int, default=0, help="the port; without it a free one")
+    board.add_argument("--port", type=_port, default=0, help="the port, up to 65535; without it a free one")
     board.add_argument("--title", default="Plan", help="the page's title")
 
     why = command("explain", _explain, "say why there is no plan", tables=True)
@@ -166,6 +185,7 @@ def _add_tables(parser: argparse.ArgumentParser) -> None:
     parser.add_argument(
         "--surplus",
         metavar="refuse|keep|COST",
+        type=_surplus,
         default="refuse",
         help="what becomes of supplies that do not add up to 0: there is no plan (refuse), they are kept or "
         "not met at no cost (keep), or at this cost a unit",
@@ -176,7 +196,43 @@ def _add_tables(parser: argparse.ArgumentParser) -> None:
         default="equal",
         help="whether what leaves a node less what comes in is equal to its supply, at least or at most it",
     )
-    parser.add_argument("--time-limit", metavar="SECONDS", type=float, help="how long to wait for an answer")
+    parser.add_argument(
+        "--time-limit",
+        metavar="SECONDS",
+        type=_seconds,
+        help="how long the command may take, from reading to the report; in what-if and board how long the opening may "
+        "take, and each edit",
+    )
+
+
+def _surplus(text: str) -> Surplus:
+    """What `--surplus` says."""
+    if text in ("refuse", "keep"):
+        return text
+    try:
+        return exact(text)
+    except ValueError:
+        raise argparse.ArgumentTypeError(f"'{text}' is none of refuse, keep and a number, the cost of a unit") from None
+
+
+def _seconds(text: str) -> float:
+    """What `--time-limit` says."""
+    try:
+        seconds = float(text)
+    except ValueError:
+        seconds = 0.0
+    if not 0 < seconds < MOST_SECONDS:
+        raise argparse.ArgumentTypeError(f"'{text}' is no number of seconds above 0 and below {MOST_SECONDS:,}")
+    return seconds
+
+
+def _port(text: str) -> int:
+    """What `--port` says."""
+    if not (text.isascii() and text.isdigit() and int(text[:6]) <= MOST_PORT):
+        raise argparse.ArgumentTypeError(
+            f"'{text}' is no port: these are the numbers from 0, any free one, to {MOST_PORT}"
+        )
+    return int(text)
 
 
 def _read(options: argparse.Namespace) -> Problem:
@@ -209,24 +265,29 @@ def _read(options: argparse.Namespace) -> Problem:
 
 
 def _plan(options: argparse.Namespace) -> int:
+    from .report import html_text, not_drawn, svg_picture, to_json
+
     problem = _read(options)
     for note in problem.notes:
         say(f"note: {note}", sys.stderr)
-    result = problem.solve(surplus=options.surplus, time_limit=options.time_limit)
+    too_large = not_drawn(problem)
+    if options.picture and too_large:
+        raise BeyondLimits(f"--picture: {too_large}")
+    result = problem.solve(surplus=options.surplus)
+    out = StringIO()
     if options.json:
-        from .report import to_json
-
-        print(to_json(result), end="")
+        out.write(to_json(result))
     else:
-        tell(result, sys.stdout)
+        tell(result, out)
+    files = []
     if options.report:
-        from .report import html_report
-
-        html_report(result, options.report, title=options.title)
+        files.append((options.report, html_text(result, title=options.title)))
     if options.picture:
-        from .report import svg_picture
-
-        Path(options.picture).write_text(svg_picture(result), encoding="utf-8")
+        files.append((options.picture, svg_picture(result)))
+    lift_alarm()
+    sys.stdout.write(out.getvalue())
+    for name, text in files:
+        Path(name).write_text(text, encoding="utf-8", errors="backslashreplace")
     if options.table and isinstance(result, Plan):
         write_plan(result, options.table)
     return 0 if isinstance(result, Plan) else NO_PLAN
@@ -237,13 +298,15 @@ def _explain(options: argparse.Namespace) -> int:
     if options.answer:
         rewriting = rewrite(problem, Options(options.surplus))
         answer = sys.stdin.read() if options.answer == "-" else Path(options.answer).read_text()
-        result = rewriting.checked(answer, Program(), options.time_limit)
+        result = rewriting.checked(answer, Program())
     else:
-        result = solve(problem, Options(options.surplus), None, options.time_limit)
+        result = solve(problem, Options(options.surplus))
     if isinstance(result, Plan):
         print(f"there is a plan, worth {plain(result.cost)}")
         return 0
-    say(explain(result), sys.stdout)
+    words = explain(result)
+    lift_alarm()
+    say(words, sys.stdout)
     return NO_PLAN
 
 
@@ -344,6 +407,7 @@ def _convert(options: argparse.Namespace) -> int:
     rewriting = rewrite(problem, Options(options.surplus))
     for note in rewriting.notes:
         say(f"note: {note}", sys.stderr)
+    lift_alarm()
     if options.output:
         Path(options.output).write_text(rewriting.text)
     else:
@@ -357,14 +421,25 @@ def _convert(options: argparse.Namespace) -> int:
 def _board(options: argparse.Namespace) -> int:
     from .board.server import serve
 
-    with Session(_read(options), surplus=options.surplus, time_limit=options.time_limit) as session:
+    with _opened(options) as session:
         serve(session, port=options.port, title=options.title)
     return 0
 
 
 def _what_if(options: argparse.Namespace) -> int:
     with ExitStack() as stack:
-        session = stack.enter_context(Session(_read(options), surplus=options.surplus, time_limit=options.time_limit))
         source = stack.enter_context(open(options.commands, encoding="utf-8")) if options.commands else sys.stdin
+        session = stack.enter_context(_opened(options))
         Conversation(session, sys.stdout, source.isatty()).run(source)
     return 0
+
+
+def _opened(options: argparse.Namespace) -> Session:
+    """A session on the tables. Its time limit counts the reading and the first answer together, then each edit."""
+    with alarm(options.time_limit):
+        problem = _read(options)
+        for note in problem.notes:
+            say(f"note: {note}", sys.stderr)
+        session = Session(problem, surplus=options.surplus)
+    session.time_limit = options.time_limit
+    return session

@@ -2,7 +2,8 @@
 
 A process that is started here does not hear the terminal's Ctrl-C itself. Python hears it, at once also while the
 program works, ends the process, and raises KeyboardInterrupt; a time limit is heard in the same way and raises
-TimeLimit.
+TimeLimit. Where Python itself is killed, the system kills the process; only a session that another thread than the main
+one has started ends at the end of its input, once it has answered what it was asked last.
 """
 
 from __future__ import annotations
@@ -13,11 +14,14 @@ import select
 import shutil
 import subprocess
 import tempfile
+import threading
 import time
 from pathlib import Path
 from typing import List, Optional, Tuple
 
+from .deadline import TimeLimit as TimeLimit
 from .dimacs import LONGEST_LINE, Fault, Text, as_bytes, as_str, find_answer_fault, find_fault
+from .signals import dying_with_us
 
 
 class ProgramFailed(Exception):
@@ -35,14 +39,6 @@ class Refused(Exception):
         super().__init__(str(fault))
         self.fault = fault
         self.text = text
-
-
-class TimeLimit(Exception):
-    """The time limit passed before the program answered. `seconds` is the limit."""
-
-    def __init__(self, seconds: float):
-        super().__init__(f"no answer within {seconds:g} seconds")
-        self.seconds = seconds
 
 
 def command_of(line: str) -> Tuple[str, List[str]]:
@@ -129,15 +125,19 @@ class Program:
         """
         return Dialogue(self, text, extra=extra, time_limit=time_limit)
 
-    def start(self, words: List[str], output: int = subprocess.PIPE) -> subprocess.Popen[bytes]:
-        """Starts the program with these arguments over pipes, in a process group that Ctrl-C does not reach."""
+    def start(self, words: List[str], *, outlives_thread: bool = False) -> subprocess.Popen[bytes]:
+        """Starts the program with these arguments over pipes, in a process group that Ctrl-C does not reach.
+
+        It is killed where this thread ends, unless it may outlive the thread.
+        """
         try:
             return subprocess.Popen(
                 [self.path, *words],
                 stdin=subprocess.PIPE,
-                stdout=output,
+                stdout=subprocess.PIPE,
                 stderr=subprocess.PIPE,
                 start_new_session=True,
+                preexec_fn=None if outlives_thread else dying_with_us(),
             )
         except OSError as error:
             raise ProgramFailed(f"{self.path} could not be run: {error.strerror}") from error
@@ -189,9 +189,9 @@ class Dialogue:
         with tempfile.NamedTemporaryFile(prefix="mcf-plan-", suffix=".problem") as file:
             file.write(as_bytes(text))
             file.flush()
-            self._process = program.start(
-                ["session"] + (["--extra", str(extra)] if extra is not None else []) + [file.name]
-            )
+            words = ["session"] + (["--extra", str(extra)] if extra is not None else []) + [file.name]
+            is_main = threading.current_thread() is threading.main_thread()
+            self._process = program.start(words, outlives_thread=not is_main)
             assert self._process.stdin is not None and self._process.stdout is not None
             self._input, self._output = self._process.stdin.fileno(), self._process.stdout.fileno()
             os.set_blocking(self._input, False)

@@ -565,7 +565,7 @@ def html_text(result: Result, *, title: str = "Plan") -> str:
 
 def html_report(result: Result, path: Union[str, Path], *, title: str = "Plan") -> None:
     """Writes the report to a file. OSError where it can't be written."""
-    Path(path).write_text(html_text(result, title=title), encoding="utf-8")
+    Path(path).write_text(html_text(result, title=title), encoding="utf-8", errors="backslashreplace")
 
 
 def to_csv(result: Result) -> str:

@@ -8,12 +8,12 @@ to 0 get a node more, the rest, with an arc to or from each node that may keep s
 
 from __future__ import annotations
 
-import time
 from dataclasses import replace
 from decimal import Decimal
 from typing import TYPE_CHECKING, Callable, Iterable, List, Optional, Tuple, Union
 
 from .change import Change
+from .deadline import Deadline
 from .dimacs import MOST_FLOW, Answer, ArcRow, parse_answer
 from .errors import BeyondLimits, CannotRewrite, DoesNotFit, Meaningless, Unbounded
 from .figures import Figures
@@ -37,7 +37,6 @@ __all__ = [
     "Rewriting",
     "Surplus",
     "Unbounded",
-    "left",
     "rewrite",
     "solve",
 ]
@@ -74,31 +73,26 @@ def solve(
     from .program import Program
 
     program = program or Program()
-    deadline = None if time_limit is None else time.monotonic() + time_limit
     tell = progress or _nobody
-    tell("writing the problem")
     unbounded: Optional[Unbounded] = None
-    try:
-        rewriting = rewrite(problem, options)
-    except Unbounded as found:
-        # Where there is no plan at all, that is the answer.
-        unbounded = found
-        rewriting = rewrite(problem, replace(options, without_costs=True))
-    tell("solving")
-    answer_text = program.solve(rewriting.text, time_limit=left(deadline))
-    if unbounded is not None and parse_answer(answer_text).is_flow:
-        raise unbounded
-    tell("checking the answer")
-    return rewriting.checked(answer_text, program, left(deadline))
+    with Deadline(time_limit) as deadline:
+        tell("writing the problem")
+        try:
+            rewriting = rewrite(problem, options)
+        except Unbounded as found:
+            # Where there is no plan at all, that is the answer.
+            unbounded = found
+            rewriting = rewrite(problem, replace(options, without_costs=True))
+        tell("solving")
+        answer_text = program.solve(rewriting.text, time_limit=deadline.left())
+        if unbounded is not None and parse_answer(answer_text).is_flow:
+            raise unbounded
+        tell("checking the answer")
+        return rewriting.checked(answer_text, program, deadline.left())
 
 
 def _nobody(words: str) -> None:
     """Where nobody wants to be told."""
-
-
-def left(deadline: Optional[float]) -> Optional[float]:
-    """The seconds up to a deadline."""
-    return None if deadline is None else max(0.0, deadline - time.monotonic())
 
 
 class Rewriting:

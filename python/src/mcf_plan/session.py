@@ -13,11 +13,12 @@ from dataclasses import dataclass, field
 from decimal import Decimal
 from typing import TYPE_CHECKING, Any, Dict, Iterator, List, NamedTuple, Optional, Tuple, Union
 
+from .deadline import Deadline
 from .dimacs import MOST_ARCS, MOST_EDITS, REFUSALS, Answer, parse_answer
 from .plan import Infeasible, Plan
 from .problem import ZERO, Arc, ArcKey, Number, Problem, capacity, exact, plain
 from .program import Dialogue, Program
-from .rewrite import Change, DoesNotFit, Meaningless, Options, Rewriting, Surplus, left
+from .rewrite import Change, DoesNotFit, Meaningless, Options, Rewriting, Surplus
 
 if TYPE_CHECKING:
     from contextlib import AbstractContextManager
@@ -75,13 +76,14 @@ class _Stretch:
         """A step of one line, or of a group."""
         return commands if len(commands) == 1 else ["group", *commands, "end"]
 
-    def open(self, program: Program) -> Dialogue:
+    def open(self, program: Program, deadline: Deadline) -> Dialogue:
         """The dialogue, where it stands; started and led there again where it had been ended."""
         if self.dialogue is None or not self.dialogue.is_open:
-            dialogue = program.session(self.text, extra=self.extra)
+            dialogue = program.session(self.text, extra=self.extra, time_limit=deadline.left())
             try:
                 lines = [line for step in self.steps for line in self.lines_of(step)]
-                dialogue.ask_all(lines + ["undo"] * (len(self.steps) - self.position))
+                back = ["undo"] * (len(self.steps) - self.position)
+                dialogue.ask_all(lines + back, time_limit=deadline.left())
             except BaseException:
                 dialogue.close()
                 raise
@@ -116,7 +118,7 @@ class Session:
     number, Unbounded, BeyondLimits) and changes nothing. Where an edit is interrupted, by Ctrl-C or by `time_limit`
     (TimeLimit), it has not happened, and the session goes on from the moment before.
 
-    `time_limit` is how many seconds an edit may take; None is no limit. It can be set at any time.
+    `time_limit` is how many seconds each edit may take, and the opening; None is no limit. It can be set at any time.
 
     >>> problem = Problem()
     >>> problem.add_node("depot", 4)
@@ -144,7 +146,8 @@ class Session:
         self._problem = problem.copy()
         self._group: Optional[List[_TableChange]] = None
         self._marks: Dict[str, int] = {}
-        self._moments: List[_Moment] = [self._new_moment([])]
+        with Deadline(time_limit) as deadline:
+            self._moments: List[_Moment] = [self._new_moment([], deadline)]
         self._now = 0
 
     # ------------------------------------------------------------ the moment
@@ -294,8 +297,9 @@ class Session:
         stretch = moment.stretch
         way = moment.position - stretch.position
         if way:
-            dialogue = stretch.open(self._program)
-            dialogue.ask_all(["redo" if way > 0 else "undo"] * abs(way), time_limit=self.time_limit)
+            with Deadline(self.time_limit) as deadline:
+                dialogue = stretch.open(self._program, deadline)
+                dialogue.ask_all(["redo" if way > 0 else "undo"] * abs(way), time_limit=deadline.left())
             stretch.position = moment.position
         while self._now != target:
             forward = self._now < target
@@ -320,11 +324,12 @@ class Session:
         Raises Disagreement where that finds it wrong.
         """
         rewriting = self._moments[self._now].stretch.rewriting
-        proof = self.proof()
-        if check or check is None and len(self._problem.arcs) < CHECKED_BELOW:
-            result = rewriting.checked(proof, self._program, self.time_limit)
-        else:
-            result = rewriting.answered(parse_answer(proof))
+        with Deadline(self.time_limit) as deadline:
+            proof = self._proof(deadline)
+            if check or check is None and len(self._problem.arcs) < CHECKED_BELOW:
+                result = rewriting.checked(proof, self._program, deadline.left())
+            else:
+                result = rewriting.answered(parse_answer(proof))
         result.problem = self._problem.copy()
         return result
 
@@ -334,9 +339,13 @@ class Session:
 
     def proof(self) -> str:
         """The answer as it stands, with its potentials or as a cut, as `mcf check` reads it."""
+        with Deadline(self.time_limit) as deadline:
+            return self._proof(deadline)
+
+    def _proof(self, deadline: Deadline) -> str:
         self._not_in_group("the answer")
-        dialogue = self._moments[self._now].stretch.open(self._program)
-        return "\n".join(dialogue.ask("proof", time_limit=self.time_limit)) + "\n"
+        dialogue = self._moments[self._now].stretch.open(self._program, deadline)
+        return "\n".join(dialogue.ask("proof", time_limit=deadline.left())) + "\n"
 
     def beside(self) -> Session:
         """Another session on the problem as it stands, with the same program and options."""
@@ -402,7 +411,8 @@ class Session:
         interrupted."""
         try:
             self._check_bounds(changes)
-            moment = self._step_in_stretch(changes) or self._new_moment(changes)
+            with Deadline(self.time_limit) as deadline:
+                moment = self._step_in_stretch(changes, deadline) or self._new_moment(changes, deadline)
         except Meaningless as refused:
             self._take_back(changes)
             raise EditRefused(str(refused)) from None
@@ -422,11 +432,11 @@ class Session:
             self._shut_others()
         return moment.cost
 
-    def _step_in_stretch(self, changes: List[_TableChange]) -> Optional[_Moment]:
+    def _step_in_stretch(self, changes: List[_TableChange], deadline: Deadline) -> Optional[_Moment]:
         """The next moment in the stretch that stands; None where the changes do not fit in its text."""
         stretch = self._moments[self._now].stretch
         rewriting = stretch.rewriting
-        dialogue = stretch.open(self._program)
+        dialogue = stretch.open(self._program, deadline)
         try:
             change = rewriting.update(*self._touched(changes))
         except DoesNotFit:
@@ -437,7 +447,7 @@ class Session:
             return None
         position, ahead = stretch.position, stretch.steps[stretch.position :]
         try:
-            reply = dialogue.ask_all(stretch.lines_of(commands), time_limit=self.time_limit)[0]
+            reply = dialogue.ask_all(stretch.lines_of(commands), time_limit=deadline.left())[0]
             if reply.startswith("r "):
                 number = int(reply[2:])
                 raise EditRefused(f"the session refused it: {REFUSALS[number]}", number)
@@ -455,12 +465,12 @@ class Session:
             change.take_back()
             raise
 
-    def _new_moment(self, changes: List[_TableChange]) -> _Moment:
+    def _new_moment(self, changes: List[_TableChange], deadline: Deadline) -> _Moment:
         """The next moment on a text of its own."""
         rewriting = Rewriting(self._problem, self._options)
         text = rewriting.text
         extra = max(0, min(ROOM_FOR_ARCS, MOST_ARCS - len(rewriting.rows)))
-        dialogue = self._program.session(text, extra=extra, time_limit=self.time_limit)
+        dialogue = self._program.session(text, extra=extra, time_limit=deadline.left())
         return self._moment_of(
             dialogue.first, changes, _Stretch(text, rewriting, extra, len(rewriting.rows) + extra, dialogue)
         )

@@ -504,7 +504,10 @@ class BoardServer(ThreadingHTTPServer):
     def __init__(self, session: Session, port: int = 0, title: str = "Plan"):
         self.board = Board(session, title)
         self.key = secrets.token_urlsafe(24)
-        super().__init__(("127.0.0.1", port), Handler)
+        try:
+            super().__init__(("127.0.0.1", port), Handler)
+        except OSError as error:
+            raise OSError(error.errno, error.strerror, f"port {port}") from None
         self.hosts = (f"127.0.0.1:{self.server_port}", f"localhost:{self.server_port}")
 
     @property
