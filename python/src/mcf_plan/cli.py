@@ -3,12 +3,14 @@
 from __future__ import annotations
 
 import argparse
+import re
 import sys
 import tempfile
 from contextlib import ExitStack
+from decimal import Decimal
 from io import StringIO
 from pathlib import Path
-from typing import Callable, List, Optional
+from typing import Callable, Dict, List, Optional, Tuple
 
 from . import __version__
 from .conversation import Conversation
@@ -20,9 +22,11 @@ from .printing import of_system, print_table, say, tell, visible
 from .problem import Problem, exact, plain
 from .program import Program, ProgramFailed, Refused, TimeLimit
 from .rewrite import BeyondLimits, CannotRewrite, Options, Surplus, Unbounded, rewrite, solve
+from .rounding import MOST_DECIMALS, round_problem
 from .session import Session
+from .sheets import is_table
 from .signals import Terminated, die_of, hearing
-from .tables import TableFault, read_tables, write_plan
+from .tables import COLUMNS, TableFault, check_output, read_tables, write_plan
 
 NO_PLAN, USAGE, REFUSED, FAILED, UNBOUNDED, BEYOND, DISAGREE, TOO_LONG, INTERRUPTED = 1, 2, 3, 4, 6, 7, 8, 124, 130
 MOST_SECONDS = 100_000_000
@@ -127,7 +131,9 @@ def _parser() -> argparse.ArgumentParser:
     plan = command("plan", _plan, "find a best plan, or say why there is none", tables=True)
     plan.add_argument("--report", metavar="FILE", help="write a report with a picture (HTML)")
     plan.add_argument("--picture", metavar="FILE", help="write the picture alone (SVG)")
-    plan.add_argument("--table", metavar="FILE", help="write the plan as a table (.csv, .tsv, .xlsx)")
+    plan.add_argument(
+        "--table", metavar="FILE", help="write the plan as a table (.csv, .tsv, .xlsx, or book.xlsx:SHEET)"
+    )
     plan.add_argument("--json", action="store_true", help="print it as JSON")
     plan.add_argument("--title", default="Plan", help="the report's title")
 
@@ -172,7 +178,8 @@ def _add_tables(parser: argparse.ArgumentParser) -> None:
         "tables",
         metavar="TABLE",
         nargs="+",
-        help="the tables of nodes and arcs (.csv, .tsv, .xlsx), that of arcs alone, or a problem text",
+        help="the tables of nodes and arcs (.csv, .tsv, .xlsx, or book.xlsx:SHEET), one workbook or map (.geojson) that "
+        "has both, that of arcs alone, or a problem text",
     )
     parser.add_argument(
         "--kind",
@@ -197,6 +204,21 @@ def _add_tables(parser: argparse.ArgumentParser) -> None:
         help="whether what leaves a node less what comes in is equal to its supply, at least or at most it",
     )
     parser.add_argument(
+        "--columns",
+        metavar="THING=NAME",
+        type=_named_columns,
+        action="append",
+        default=[],
+        help="the name of the column that holds node, supply, demand, x or y, or from, to, low, capacity, cost or name; "
+        "aside=NAME leaves one aside; several are parted by commas",
+    )
+    parser.add_argument(
+        "--decimal", choices=[".", ","], help="the decimal sign of the tables, where they do not show which it is"
+    )
+    parser.add_argument("--default-cost", metavar="COST", type=_number, help="the cost of a unit where none stands")
+    parser.add_argument("--round", metavar="N", type=_places, help="round all numbers to N decimals")
+    parser.add_argument("--encoding", metavar="NAME", help="the encoding of tables that are not UTF-8, as cp1252")
+    parser.add_argument(
         "--time-limit",
         metavar="SECONDS",
         type=_seconds,
@@ -213,6 +235,32 @@ def _surplus(text: str) -> Surplus:
         return exact(text)
     except ValueError:
         raise argparse.ArgumentTypeError(f"'{text}' is none of refuse, keep and a number, the cost of a unit") from None
+
+
+def _named_columns(text: str) -> List[Tuple[str, str]]:
+    """What `--columns` says: THING=NAME, several parted by commas; a name may have commas itself."""
+    pairs = [pair.partition("=")[::2] for pair in re.split(r",(?=\s*\w+=)", text)]
+    for what, name in pairs:
+        if what.strip() not in (*COLUMNS, "aside") or not name.strip():
+            raise argparse.ArgumentTypeError(
+                f"'{text}' is not of the form THING=NAME, as capacity=Kapa, with one of {', '.join(COLUMNS)}, aside"
+            )
+    return [(what.strip(), name) for what, name in pairs]
+
+
+def _number(text: str) -> Decimal:
+    """What `--default-cost` says."""
+    try:
+        return exact(text)
+    except ValueError:
+        raise argparse.ArgumentTypeError(f"'{text}' is no number") from None
+
+
+def _places(text: str) -> int:
+    """What `--round` says."""
+    if not (text.isascii() and text.isdigit() and int(text[:6]) <= MOST_DECIMALS):
+        raise argparse.ArgumentTypeError(f"'{text}' is no number of decimals: there are 0 to {MOST_DECIMALS}")
+    return int(text)
 
 
 def _seconds(text: str) -> float:
@@ -236,21 +284,28 @@ def _port(text: str) -> int:
 
 
 def _read(options: argparse.Namespace) -> Problem:
-    """The problem of the tables, or of the text, that the command line names."""
+    """The problem of the tables, or of the text, that the command line names; its notes are told."""
+    problem = _read_source(options)
+    for note in problem.notes:
+        say(f"note: {note}", sys.stderr)
+    return problem
+
+
+def _read_source(options: argparse.Namespace) -> Problem:
+    """The problem of the tables, or of the text."""
     tables = options.tables
     if len(tables) > 2:
         raise TableFault(f"{len(tables)} tables are given, and there are two: that of nodes, then that of arcs")
-    if len(tables) == 1 and not tables[0].lower().endswith((".csv", ".tsv", ".xlsx", ".xls", ".ods")):
-        raw = sys.stdin.buffer.read() if tables[0] == "-" else Path(tables[0]).read_bytes()
-        try:
-            problem = Problem.from_dimacs(raw)
-        except Refused as refused:
-            raise TableFault(refused.fault.words("the problem" if tables[0] == "-" else tables[0])) from None
+    if len(tables) == 1 and not is_table(tables[0]):
+        problem = _read_problem_text(tables[0])
         problem.balance = options.balance
-        return problem
+        return problem if options.round is None else round_problem(problem, options.round)
     for what, name in (("--source", options.source), ("--sink", options.sink)):
         if options.kind == "max" and name is None:
             raise TableFault(f"a greatest flow wants {what} NODE")
+    columns: Dict[str, List[str]] = {}
+    for what, name in (pair for pairs in options.columns for pair in pairs):
+        columns.setdefault(what, []).append(name)
     return read_tables(
         tables[0] if len(tables) == 2 else None,
         tables[-1],
@@ -258,7 +313,21 @@ def _read(options: argparse.Namespace) -> Problem:
         balance=options.balance,
         source=options.source,
         sink=options.sink,
+        columns=columns,
+        decimal=options.decimal,
+        default_cost=options.default_cost,
+        decimals=options.round,
+        encoding=options.encoding,
     )
+
+
+def _read_problem_text(name: str) -> Problem:
+    """The problem of a text of the formats, from a file or, for `-`, from the input."""
+    raw = sys.stdin.buffer.read() if name == "-" else Path(name).read_bytes()
+    try:
+        return Problem.from_dimacs(raw)
+    except Refused as refused:
+        raise TableFault(refused.fault.words("the problem" if name == "-" else name)) from None
 
 
 # ---------------------------------------------------------------- plan, explain, ranges
@@ -267,9 +336,9 @@ def _read(options: argparse.Namespace) -> Problem:
 def _plan(options: argparse.Namespace) -> int:
     from .report import html_text, not_drawn, svg_picture, to_json
 
+    if options.table:
+        check_output(options.table)
     problem = _read(options)
-    for note in problem.notes:
-        say(f"note: {note}", sys.stderr)
     too_large = not_drawn(problem)
     if options.picture and too_large:
         raise BeyondLimits(f"--picture: {too_large}")
@@ -405,7 +474,7 @@ def _show_line(raw: bytes, line: int) -> None:
 def _convert(options: argparse.Namespace) -> int:
     problem = _read(options)
     rewriting = rewrite(problem, Options(options.surplus))
-    for note in rewriting.notes:
+    for note in rewriting.notes[len(problem.notes) :]:
         say(f"note: {note}", sys.stderr)
     lift_alarm()
     if options.output:
@@ -437,9 +506,6 @@ def _what_if(options: argparse.Namespace) -> int:
 def _opened(options: argparse.Namespace) -> Session:
     """A session on the tables. Its time limit counts the reading and the first answer together, then each edit."""
     with alarm(options.time_limit):
-        problem = _read(options)
-        for note in problem.notes:
-            say(f"note: {note}", sys.stderr)
-        session = Session(problem, surplus=options.surplus)
+        session = Session(_read(options), surplus=options.surplus)
     session.time_limit = options.time_limit
     return session

@@ -1,196 +1,84 @@
-"""Tables in and out: CSV by the standard library, spreadsheets and frames where pandas is there."""
+"""Tables in and out: texts, workbooks and maps by the standard library, frames where pandas is there.
+
+A table that is not understood is refused, by its row and column, and never planned. What was chosen for the user is
+told in `Problem.notes`.
+"""
 
 from __future__ import annotations
 
 import csv
-import io
 import re
+from dataclasses import dataclass, field
 from decimal import Decimal
 from pathlib import Path
-from typing import TYPE_CHECKING, Any, Dict, Iterator, List, Optional, Sequence, Tuple, Union
+from typing import TYPE_CHECKING, Any, Dict, Iterable, List, Mapping, Optional, Sequence, Tuple, Union
 
-from .problem import ONE, WIDE, ZERO, Arc, Problem, capacity, exact, plain
+from .cells import (
+    MISSING,
+    NO_LIMIT,
+    CellFault,
+    Numbers,
+    Sign,
+    TableFault,
+    Undecided,
+    decimal_sign,
+    is_empty,
+    is_truth,
+    limit_fault,
+    name_of,
+    not_plain,
+    shown,
+)
+from .columns import ARC_COLUMNS, COLUMNS, NODE_COLUMNS, Found, called, compare_units, find_columns, folded
+from .problem import ONE, WIDE, ZERO, Arc, Number, Problem, capacity, exact, plain
+from .rounding import round_problem
+from .sheets import MAPS, WORKBOOKS, Sheet, check_ending, part_sheet, read_text, sheet_of_frame
 
 if TYPE_CHECKING:
     from .plan import Plan
 
+__all__ = ["COLUMNS", "PLAN_COLUMNS", "Source", "TableFault", "plan_rows", "read_tables", "write_plan"]
+
 Source = Union[str, Path, Any]
-"""A path of a .csv, .tsv or .xlsx file, or a pandas DataFrame."""
+"""A path of a .csv, .tsv, .xlsx or .geojson file, of a sheet as `book.xlsx:Orte`, or a pandas DataFrame."""
 
-COLUMNS: Dict[str, Tuple[str, ...]] = {
-    "node": ("name", "node", "id", "place", "town", "city", "site", "location", "person", "key"),
-    "supply": ("supply", "stock", "available", "amount", "offer"),
-    "demand": ("demand", "need", "wanted", "orders", "order"),
-    "from": ("from", "tail", "source", "origin", "src", "start"),
-    "to": ("to", "head", "target", "destination", "dst", "end"),
-    "low": ("low", "lower", "lower bound", "least", "min", "minimum"),
-    "capacity": ("capacity", "cap", "upper", "upper bound", "most", "max", "maximum", "limit"),
-    "cost": ("cost", "unit cost", "cost per unit", "unit_cost", "weight", "price", "distance"),
-    "x": ("x", "lon", "longitude", "east"),
-    "y": ("y", "lat", "latitude", "north"),
-    "name": ("name", "arc", "road", "route", "link", "label", "id"),
-}
-"""The names that a column may have, in small letters; the first one that a table has counts."""
+NODE_SHEETS = (
+    "nodes node places place towns cities sites locations supplies knoten orte ort standorte stadte nœuds noeuds lieux "
+    "villes sites sommets nodos lugares ciudades sitios"
+).split()
+ARC_SHEETS = (
+    "arcs arc edges roads links routes lanes connections kanten wege strecken strassen verbindungen arcs liaisons aretes "
+    "routes trajets arcos aristas rutas caminos carreteras enlaces"
+).split()
+"""The names that the sheets of a workbook may have, whatever the letters' size and accents."""
 
 
-class TableFault(ValueError):
-    """A row of a table can't be read: the message has file, line, column, value, and what was expected."""
+@dataclass(frozen=True)
+class _Reading:
+    """How the tables are to be read: see `read_tables`."""
 
+    columns: Dict[str, List[str]] = field(default_factory=dict)
+    decimal: Optional[str] = None
+    default_cost: Optional[Decimal] = None
+    encoding: Optional[str] = None
 
-class _Table:
-    """The rows of a table as lists of cells, with its name and the line of each row."""
-
-    def __init__(self, source: Source):
-        self.comma_is_point = False
-        if isinstance(source, (str, Path)):
-            path = Path(source)
-            self.name = path.name
-            if path.suffix.lower() in (".xlsx", ".xls", ".ods"):
-                self._read_frame(_pandas().read_excel(path, dtype=object))
-            else:
-                self._read_text(path)
-        else:
-            self.name = "frame"
-            self._read_frame(source)
-
-    def _read_text(self, path: Path) -> None:
-        raw = path.read_bytes()
-        if raw[:2] in (b"\xff\xfe", b"\xfe\xff"):
-            raise TableFault(f"{self.name}: this is UTF-16; save it as CSV in UTF-8")
-        if raw[:2] == b"PK":
-            raise TableFault(f"{self.name}: this is a spreadsheet by another name; give it its ending .xlsx")
-        try:
-            text = raw.decode("utf-8-sig")
-        except UnicodeDecodeError as error:
-            line = raw[: error.start].count(b"\n") + 1
-            raise TableFault(f"{self.name}, line {line}: a byte that is no UTF-8; save it as CSV in UTF-8") from None
-        first = text.split("\n", 1)[0]
-        delimiter = max(",;\t", key=first.count)
-        self.comma_is_point = delimiter == ";"
-        reader = csv.reader(io.StringIO(text), delimiter=delimiter, skipinitialspace=True)
-        self.header: List[str] = []
-        self.rows: List[List[Any]] = []
-        self.lines: List[int] = []
-        try:
-            for row in reader:
-                if not self.header:
-                    if any(row):
-                        self.header = [cell.strip() for cell in row]
-                elif any(row):
-                    self.rows.append(row)
-                    self.lines.append(reader.line_num)
-        except csv.Error as error:
-            raise TableFault(f"{self.name}, line {reader.line_num}: {error}") from None
-        if not self.header:
-            raise TableFault(f"{self.name}: the table is empty: a line with the names of the columns comes first")
-
-    def _read_frame(self, frame: Any) -> None:
-        self.header = [str(column).strip() for column in frame.columns]
-        self.rows = []
-        self.lines = []
-        for line, row in enumerate(frame.itertuples(index=False, name=None), 2):
-            cells = ["" if cell is None or cell != cell else cell for cell in row]
-            if any(cell != "" for cell in cells):
-                self.rows.append(cells)
-                self.lines.append(line)
-
-    def column(self, what: str, *, taken: Sequence[Optional[int]] = ()) -> Optional[int]:
-        """The place of a column by its names, or None where there is none that is not taken."""
-        names = [header.lower().replace("_", " ") for header in self.header]
-        for name in COLUMNS[what]:
-            for place, header in enumerate(names):
-                if header == name.replace("_", " ") and place not in taken:
-                    return place
-        return None
-
-    def wanted(self, what: str, taken: Sequence[Optional[int]] = ()) -> int:
-        """The place of a column that has to be there."""
-        place = self.column(what, taken=taken)
-        if place is None:
-            raise TableFault(
-                f"{self.name}: there is no column {COLUMNS[what][0]!r} (nor {', '.join(COLUMNS[what][1:])}); its "
-                f"columns are {', '.join(map(repr, self.header))}"
-            )
-        return place
-
-    def filled(self) -> Iterator[Tuple[int, List[Any]]]:
-        """Each row with its line, filled up to the width of the header."""
-        width = len(self.header)
-        for line, row in zip(self.lines, self.rows):
-            if len(row) != width:
-                if len(row) > width and any(row[width:]):
-                    raise TableFault(
-                        f"{self.name}, line {line}: {len(row)} fields stand under {width} columns; is there a "
-                        "comma in a number? Then put it between quotes, or write a point"
-                    )
-                row = [*row, *[""] * (width - len(row))][:width]
-            yield line, row
-
-    def text(self, line: int, row: List[Any], place: int) -> str:
-        """A name. Raises TableFault where the cell is empty."""
-        cell = row[place]
-        if isinstance(cell, float) and cell.is_integer():
-            cell = int(cell)
-        text = str(cell).strip()
-        if not text:
-            raise self.fault(line, place, cell, "a name was expected")
-        return text
-
-    def number(self, line: int, row: List[Any], place: Optional[int], default: Decimal = ZERO) -> Decimal:
-        """A number; the default where the cell is empty, or the column is not there."""
-        if place is None:
-            return default
-        cell = row[place]
-        if isinstance(cell, str):
-            cell = cell.strip()
-            if not cell:
-                return default
-            if self.comma_is_point and re.fullmatch(r"[+-]?\d+,\d+", cell):
-                cell = cell.replace(",", ".")
-        try:
-            return exact(cell)
-        except ValueError:
-            raise self.fault(line, place, cell, "a number was expected" + _number_hint(str(cell))) from None
-
-    def limit(self, line: int, row: List[Any], place: Optional[int]) -> Optional[Decimal]:
-        """A capacity; None where the cell is empty or says that there is no limit."""
-        if place is None:
-            return None
-        cell = row[place]
-        if isinstance(cell, str) and (not cell or cell.isspace() or re.fullmatch(r"\s*[-∞]\s*", cell)):
-            return None
-        try:
-            if capacity(cell) is None:
-                return None
-        except ValueError:
-            pass
-        return self.number(line, row, place)
-
-    def fault(self, line: int, place: int, cell: Any, expected: str) -> TableFault:
-        """What is wrong with a cell."""
-        return TableFault(f"{self.name}, line {line}, column {self.header[place]!r}: {cell!r} stands there; {expected}")
-
-
-def _number_hint(cell: str) -> str:
-    if re.fullmatch(r"[+-]?\d{1,3}([ \u00a0\u202f'’]\d{3})+([.,]\d+)?", cell):
-        return ": take the blanks between the thousands out"
-    if re.fullmatch(r"[+-]?\d+,\d+", cell):
-        return ": write a point in place of the comma, or take it out where it parts thousands"
-    if re.fullmatch(r"[+-]?\d{1,3}([.,]\d{3})+([.,]\d+)?", cell):
-        return ": take the marks between the thousands out"
-    if re.match(r"[−–—]\d", cell):
-        return ": the sign is a dash of typesetting, write a plain -"
-    if re.match(r"[+-]?[\d.]+\s*\S+", cell):
-        return ": leave the unit out, it can stand in the name of the column"
-    return ""
-
-
-def _pandas() -> Any:
-    try:
-        import pandas
-    except ImportError:
-        raise TableFault("spreadsheets want pandas, which is not installed; save the table as CSV") from None
-    return pandas
+    @classmethod
+    def of(
+        cls,
+        columns: Optional[Mapping[str, Union[str, Sequence[str]]]],
+        decimal: Optional[str],
+        default_cost: Optional[Number],
+        encoding: Optional[str],
+    ) -> _Reading:
+        """The same from what a caller says. Raises ValueError where that has no meaning."""
+        named = {what: [names] if isinstance(names, str) else list(names) for what, names in (columns or {}).items()}
+        for what in named:
+            if what not in COLUMNS and what != "aside":
+                raise ValueError(f"there is no column {what!r} to name; there are {', '.join(COLUMNS)} and aside")
+        if decimal not in (None, ".", ","):
+            raise ValueError(f"the decimal sign is {decimal!r}, and has to be '.' or ','")
+        cost = None if default_cost is None else exact(default_cost, "the default cost")
+        return cls(named, decimal, cost, encoding)
 
 
 def read_tables(
@@ -201,84 +89,544 @@ def read_tables(
     balance: str = "equal",
     source: Optional[str] = None,
     sink: Optional[str] = None,
+    columns: Optional[Mapping[str, Union[str, Sequence[str]]]] = None,
+    decimal: Optional[str] = None,
+    default_cost: Optional[Number] = None,
+    decimals: Optional[int] = None,
+    encoding: Optional[str] = None,
 ) -> Problem:
-    """The problem of two tables, or of one alone (without nodes all supplies are 0).
+    """The problem of two tables, or of one alone: a workbook or a map that has both, or the arcs.
 
-    Nodes: columns `name` (or node, id, place, ..) and `supply`, or `demand`, or both. Arcs: `from`, `to`, and where
-    there are such `low`, `capacity`, `cost`, `name`; a capacity that is missing or `inf` is no limit. Columns `x` and
-    `y` of the nodes are places on a map. `COLUMNS` has all names of columns. In 'asn' a node without a supply is on
-    the source side where an arc leaves it, else on the sink side. In 'max' `source` and `sink` name these.
-    Raises TableFault where a row can't be read, OSError where a file can't.
+    Nodes: columns `name` (or node, id, place, ..) and `supply`, or `demand`, or both. Arcs: `from`, `to`, `cost`, and
+    where there are such `low`, `capacity`, `name`; a capacity that is empty or `inf` is no limit. Columns `x` and `y` of
+    the nodes are places on a map. `COLUMNS` has all names of columns. In 'asn' a node without a supply is on the source
+    side where an arc leaves it, else on the sink side. In 'max' `source` and `sink` name these.
+
+    `columns` names columns that have other names, `{"capacity": "Kapa", "aside": ["old cost"]}`; `decimal` is the
+    decimal sign, '.' or ','; `default_cost` is the cost where none stands; `decimals` rounds all numbers to so many;
+    `encoding` is that of texts that are not UTF-8. `notes` of the problem say what was chosen.
+    Raises TableFault where a table is not understood, OSError where a file can't be read.
     """
+    reading = _Reading.of(columns, decimal, default_cost, encoding)
     problem = Problem(kind, balance=balance, source=source, sink=sink)
-    is_open: Dict[str, bool] = {}
-    if nodes is not None:
-        is_open = _read_nodes(problem, _Table(nodes))
-    alone = _read_arcs(problem, _Table(arcs), is_open)
-    if nodes is not None and kind != "asn" and alone:
+    node_sheet, arc_sheet = _sheets(nodes, arcs, reading)
+    _check_order(node_sheet, arc_sheet)
+    kinds = tuple(what for what in ARC_COLUMNS if not (kind == "max" and what == "cost"))
+    _check_chosen(reading, node_sheet)
+    arc_table = _Table(arc_sheet, find_columns(arc_sheet, kinds, reading.columns), reading)
+    tails, heads = arc_table.names("from"), arc_table.names("to")
+    ends = dict.fromkeys(end for pair in zip(tails, heads) for end in pair)
+    node_table = None
+    if node_sheet is not None:
+        found = find_columns(node_sheet, NODE_COLUMNS, reading.columns)
+        node_table = _Table(node_sheet, found, reading)
+        _find_names(node_table, ends)
+        compare_units({**_units(node_table), **_units(arc_table)})
+        _read_nodes(problem, node_table)
+    _add_ends(problem, ends, node_sheet)
+    _read_arcs(problem, arc_table, tails, heads)
+    for sheet in (node_sheet, arc_sheet):
+        problem.notes += [] if sheet is None else sheet.notes
+    _check_sense(problem, node_table, arc_table)
+    return problem if decimals is None else round_problem(problem, decimals)
+
+
+# ---------------------------------------------------------------- which sheets
+
+
+def _sheets(nodes: Optional[Source], arcs: Source, reading: _Reading) -> Tuple[Optional[Sheet], Sheet]:
+    """The sheets of nodes and arcs; one file may have both."""
+    if nodes is None and isinstance(arcs, (str, Path)):
+        path, name = part_sheet(arcs)
+        if path.suffix.lower() in MAPS:
+            from .geojson import read_map
+
+            points, lines = read_map(path)
+            if lines is None:
+                raise TableFault(f"{path.name}: there is no line, and roads are lines")
+            return points, lines
+        if path.suffix.lower() in WORKBOOKS and name is None:
+            return _both_of_workbook(path)
+    return None if nodes is None else _sheet(nodes, NODE_SHEETS, reading), _sheet(arcs, ARC_SHEETS, reading)
+
+
+def _sheet(source: Source, names: Sequence[str], reading: _Reading) -> Sheet:
+    """The sheet of one source; of a workbook of several the one that has one of these names."""
+    if not isinstance(source, (str, Path)):
+        return sheet_of_frame(source)
+    path, name = part_sheet(source)
+    check_ending(path)
+    if path.suffix.lower() in MAPS:
+        from .geojson import read_map
+
+        points, lines = read_map(path)
+        sheet = points if names is NODE_SHEETS else lines
+        if sheet is None:
+            raise TableFault(f"{path.name}: there is no {'point' if names is NODE_SHEETS else 'line'}")
+        return sheet
+    if path.suffix.lower() not in WORKBOOKS:
+        return read_text(path, reading.encoding)
+    from .workbook import read_sheet, sheet_names
+
+    if name is None:
+        there = sheet_names(path)
+        fitting = [each for each in there if folded(each) in names] if len(there) > 1 else there
+        if len(fitting) != 1:
+            raise TableFault(_which_sheet(path, there))
+        name = fitting[0]
+    return read_sheet(path, name)
+
+
+def _both_of_workbook(path: Path) -> Tuple[Optional[Sheet], Sheet]:
+    """The sheets of nodes and of arcs of one workbook; a workbook of one sheet has the arcs."""
+    from .workbook import read_sheet, sheet_names
+
+    there = sheet_names(path)
+    if len(there) == 1:
+        return None, read_sheet(path, there[0])
+    nodes = [each for each in there if folded(each) in NODE_SHEETS]
+    arcs = [each for each in there if folded(each) in ARC_SHEETS]
+    if len(nodes) != 1 or len(arcs) != 1 or nodes == arcs:
+        raise TableFault(_which_sheet(path, there))
+    sheets = read_sheet(path, nodes[0]), read_sheet(path, arcs[0])
+    rest = [repr(each) for each in there if each not in (nodes[0], arcs[0])]
+    if rest:
+        words = f"the sheet {rest[0]} is" if len(rest) == 1 else f"the sheets {', '.join(rest)} are"
+        sheets[1].notes.append(f"{path.name}: {words} left aside")
+    return sheets
+
+
+def _which_sheet(path: Path, there: Sequence[str]) -> str:
+    if not there:
+        return f"{path.name}: all its sheets are empty"
+    return (
+        f"{path.name}: which of its sheets {', '.join(map(repr, there))} has the nodes, and which the arcs? Call them "
+        f"nodes and arcs, or write {path.name}:SHEET for each"
+    )
+
+
+def _check_order(nodes: Optional[Sheet], arcs: Sheet) -> None:
+    """Raises TableFault where the two tables stand the wrong way round."""
+    if nodes is None:
+        return
+    ends = {folded(word) for what in ("from", "to") for word in COLUMNS[what]} - {"source", "end", "a", "de"}
+    if len(ends & set(map(folded, nodes.header))) >= 2 and not ends & set(map(folded, arcs.header)):
+        raise TableFault(
+            f"{nodes.name} looks like the table of arcs: the table of nodes comes first, then that of arcs"
+        )
+
+
+def _check_chosen(reading: _Reading, nodes: Optional[Sheet]) -> None:
+    """Raises TableFault where a column of nodes is named, and there is no table of nodes."""
+    for what in reading.columns:
+        if nodes is None and what in NODE_COLUMNS:
+            raise TableFault(f"a column is named for {called(what)}, and there is no table of nodes")
+
+
+def _find_names(table: _Table, ends: Iterable[str]) -> None:
+    """Finds where the names of the nodes stand: of several columns, or of an index without a name, what the arcs use.
+
+    Raises TableFault where none is one of them.
+    """
+    sheet, found = table.sheet, table.found
+    if "node" in found.places:
+        return
+    wanted = set(ends)
+    if found.names:
+        used = [place for place in found.names if wanted <= set(table.names_of(place))]
+        if len(used) != 1:
+            names = " and ".join(repr(sheet.header[place]) for place in found.names)
+            raise TableFault(
+                f"{sheet.name}: the columns {names} both look like {called('node')}, and the arcs do not show which "
+                "counts; say `--columns node=NAME`"
+            )
+        found.places["node"] = used[0]
+        rest = [repr(sheet.header[place]) for place in found.names if place != used[0]]
+        sheet.notes.append(
+            f"{sheet.name}: the nodes are called as in the column {sheet.header[used[0]]!r}, as in the table of arcs; "
+            f"{', '.join(rest)} is left aside"
+        )
+        return
+    if sheet.index is not None and any(isinstance(name, str) and name_of(name) in wanted for name in sheet.index):
+        if not (sheet.header and sheet.header[0] == "" and sheet.columns and sheet.columns[0] is sheet.index):
+            sheet.header.append("")
+            sheet.columns.append(sheet.index)
+        found.places["node"] = next(
+            place for place, column in enumerate(sheet.columns) if column is sheet.index and not sheet.header[place]
+        )
+        sheet.notes.append(f"{sheet.name}: {sheet.index_name} is taken as {called('node')}")
+        return
+    raise _no_column(sheet, "node")
+
+
+def _no_column(sheet: Sheet, what: str) -> TableFault:
+    """There is no column that holds this."""
+    return TableFault(
+        f"{sheet.name}: there is no column {COLUMNS[what][0]!r} (nor {', '.join(COLUMNS[what][1:6])}, ..); its columns "
+        f"are {sheet.its_columns()}; `--columns {what}=NAME` names it"
+    )
+
+
+# ---------------------------------------------------------------- cells
+
+
+class _Table:
+    """The cells of a sheet as names and numbers. Each method takes a column at once, and raises TableFault by row and
+    column."""
+
+    def __init__(self, sheet: Sheet, found: Found, reading: _Reading):
+        self.sheet, self.found, self.reading = sheet, found, reading
+        self._check_short_rows()
+        self._numbers: Optional[Numbers] = None
+
+    def __len__(self) -> int:
+        return len(self.sheet.lines)
+
+    def has(self, what: str) -> bool:
+        """Whether there is a column for this."""
+        return what in self.found.places
+
+    def fault(self, row: int, what: str, expected: str) -> TableFault:
+        """What is wrong with a cell."""
+        return self.sheet.fault(row, self.found.places[what], expected)
+
+    def _check_short_rows(self) -> None:
+        """Raises TableFault where a row has not all the cells that count."""
+        sheet = self.sheet
+        by_place = {place: what for what, place in self.found.places.items()}
+        for row, places in sheet.missing.items():
+            lacking = {by_place[place] for place in places if place in by_place}
+            if sheet.word == "feature":
+                lacking -= {"supply", "demand", "low", "name"}
+            if self.reading.default_cost is not None:
+                lacking.discard("cost")
+            if not lacking:
+                continue
+            if sheet.word == "feature":
+                what = next(what for what in by_place.values() if what in lacking)
+                header = sheet.header[self.found.places[what]]
+                raise TableFault(f"{sheet.name}, {sheet.place(row)}: it has no property {header!r}; null is empty")
+            width = len(sheet.header)
+            raise TableFault(
+                f"{sheet.name}, {sheet.place(row)}: {width - len(places)} "
+                f"field{' stands' if width - len(places) == 1 else 's stand'} under {width} columns; an empty field needs "
+                "its separator too"
+            )
+
+    # ------------------------------------------------------------ names
+
+    def names(self, what: str) -> List[str]:
+        """The names in a column that has to be there, none of them empty."""
+        if not self.has(what):
+            raise _no_column(self.sheet, what)
+        names = self.names_of(self.found.places[what])
+        if "" in names:
+            raise self.fault(names.index(""), what, "a name was expected")
+        return names
+
+    def names_of(self, place: int) -> List[str]:
+        """The names in a column by its place; '' where a cell is empty."""
+        cells = self.sheet.columns[place]
+        names: Dict[Tuple[type, Any], str] = {}
+        found = []
+        for row, cell in enumerate(cells):
+            key = type(cell), cell
+            name = names.get(key)
+            if name is None:
+                try:
+                    name = names[key] = name_of(cell)
+                except CellFault as fault:
+                    raise self.sheet.fault(row, place, str(fault)) from None
+            found.append(name)
+        return found
+
+    # ------------------------------------------------------------ numbers
+
+    def numbers(self, what: str, default: Optional[Decimal] = ZERO) -> List[Decimal]:
+        """The numbers in a column; the default where a cell is empty, or there is no such column.
+
+        Raises TableFault where a cell is empty and there is no default.
+        """
+        if not self.has(what):
+            return [ZERO if default is None else default] * len(self)
+        numbers = self._reader()
+        cells = self._cells(what)
+        if default is None:
+            for row, cell in enumerate(cells):
+                if is_empty(cell):
+                    raise self.fault(
+                        row, what, f"{called(what)} was expected; `--default-cost 0` takes 0 for those that are empty"
+                    )
+        else:
+            cells = [default if is_empty(cell) else cell for cell in cells]
+        return self._looked_up(what, cells, numbers)
+
+    def limits(self, what: str) -> List[Optional[Decimal]]:
+        """The capacities in a column; None where a cell is empty or says that there is no limit."""
+        if not self.has(what):
+            return [None] * len(self)
+        cells = self._cells(what)
+        bounded = [row for row, cell in enumerate(cells) if not _is_no_limit(cell)]
+        found: List[Optional[Decimal]] = [None] * len(cells)
+        numbers = self._looked_up(what, [cells[row] for row in bounded], self._reader(), bounded)
+        for row, number in zip(bounded, numbers):
+            found[row] = number
+        return found
+
+    def _cells(self, what: str) -> Sequence[Any]:
+        """The cells of a column of numbers, with truth values refused: they are equal to 0 and 1."""
+        cells = self.sheet.columns[self.found.places[what]]
+        if any(each.__name__ in ("bool", "bool_") for each in set(map(type, cells))):
+            row = next(row for row, cell in enumerate(cells) if is_truth(cell))
+            raise self.fault(row, what, f"a number was expected, and this is {not_plain(cells[row])}")
+        return cells
+
+    def _looked_up(
+        self, what: str, cells: Sequence[Any], numbers: Numbers, rows: Optional[Sequence[int]] = None
+    ) -> List[Decimal]:
+        try:
+            return [numbers[cell] for cell in cells]
+        except CellFault:
+            pass
+        for row, cell in enumerate(cells):
+            try:
+                numbers[cell]
+            except CellFault as fault:
+                expected = str(fault)
+                if what == "capacity" and isinstance(cell, str) and cell.strip().lower() in MISSING:
+                    expected = (
+                        "a number was expected: leave the cell empty where there is no limit, and write 0 where it is 0"
+                    )
+                raise self.fault(row if rows is None else rows[row], what, expected) from None
+        raise AssertionError("a cell was refused, and now none is")
+
+    def _reader(self) -> Numbers:
+        """What reads the numbers of the table, by its decimal sign."""
+        if self._numbers is None:
+            if self.reading.decimal is not None:
+                self._numbers = Numbers(Sign(self.reading.decimal))
+            else:
+                self._numbers = Numbers(self._decimal_sign())
+        return self._numbers
+
+    def _decimal_sign(self) -> Sign:
+        """The decimal sign of the table. Raises TableFault where nothing shows which it is."""
+        sheet = self.sheet
+        columns = [what for what in self.found.places if what not in ("node", "from", "to", "name")]
+        cells: Dict[str, None] = {}
+        for what in columns:
+            cells.update(
+                dict.fromkeys(cell for cell in sheet.columns[self.found.places[what]] if isinstance(cell, str))
+            )
+        try:
+            return decimal_sign(cells, point_is_usual=sheet.delimiter == ",")
+        except Undecided as doubt:
+            row, what = self._where(doubt.cell, columns)
+            if doubt.other:
+                other, theirs = self._where(doubt.other, columns)
+                raise self.fault(
+                    row,
+                    what,
+                    f"that is a decimal point, and {shown(doubt.other)} ({sheet.place(other)}, column "
+                    f"{sheet.header[self.found.places[theirs]]!r}) has a decimal comma: write all numbers alike",
+                ) from None
+            mark = next(mark for mark in ".," if mark in doubt.cell)
+            few, many = doubt.cell.replace(",", "."), doubt.cell.replace(mark, "")
+            raise self.fault(
+                row,
+                what,
+                f"is it {few} or {many}? Say `--decimal {mark}` for the first, `--decimal {'.' if mark == ',' else ','}` "
+                "for the second",
+            ) from None
+
+    def _where(self, cell: str, columns: Sequence[str]) -> Tuple[int, str]:
+        """The row and the column of the first cell that is this text."""
+        for what in columns:
+            for row, each in enumerate(self.sheet.columns[self.found.places[what]]):
+                if isinstance(each, str) and each.strip() == cell:
+                    return row, what
+        raise AssertionError(f"no cell is {cell!r}")
+
+    def tell_sign(self) -> None:
+        """Notes how numbers were read that might have been read otherwise."""
+        numbers, sheet = self._numbers, self.sheet
+        if numbers is None or not numbers.sign.shown_by:
+            return
+        mark = {".": "point", ",": "comma"}[numbers.sign.mark]
+        for cell, number in numbers.grouped.items():
+            sheet.notes.append(
+                f"{sheet.name}: numbers have a decimal {mark}, as {shown(numbers.sign.shown_by)} shows, so {shown(cell)} "
+                f"is {plain(number)}"
+            )
+            return
+        if numbers.sign.mark == "," and sheet.delimiter == ",":
+            sheet.notes.append(f"{sheet.name}: numbers have a decimal comma, as {shown(numbers.sign.shown_by)} shows")
+
+
+def _is_no_limit(cell: Any) -> bool:
+    """Whether a capacity is empty, or says that there is no limit."""
+    if isinstance(cell, str):
+        return not cell or cell.isspace() or cell.strip().lower() in NO_LIMIT
+    if is_empty(cell):
+        return True
+    try:
+        return capacity(cell) is None
+    except (ValueError, TypeError):
+        return False
+
+
+def _units(table: _Table) -> Dict[str, Any]:
+    """The units of the columns of a table, as `compare_units` takes them."""
+    sheet, found = table.sheet, table.found
+    return {what: (unit, sheet, sheet.header[found.places[what]]) for what, unit in found.units.items()}
+
+
+# ---------------------------------------------------------------- rows
+
+
+def _read_nodes(problem: Problem, table: _Table) -> None:
+    """Adds the nodes of the table of nodes."""
+    sheet = table.sheet
+    if not table.has("supply") and not table.has("demand") and problem.kind == "min":
+        raise _no_column(sheet, "supply")
+    names = table.names("node")
+    lines: Dict[str, int] = {}
+    for row, name in enumerate(names):
+        if lines.setdefault(name, row) != row:
+            raise table.fault(row, "node", f"it stands on {sheet.place(lines[name])} already")
+    supplies, demands = table.numbers("supply"), table.numbers("demand")
+    if table.has("supply") and table.has("demand"):
+        for row, demand in enumerate(demands):
+            if demand < 0:
+                raise table.fault(row, "demand", "beside a column of supplies a demand is 0 or more")
+    for name, supply, demand in zip(names, supplies, demands):
+        problem.nodes[name] = WIDE.subtract(supply, demand) if demand else supply
+    if table.has("x") and table.has("y"):
+        cells = [sheet.columns[table.found.places[axis]] for axis in "xy"]
+        for name, row, east, north in zip(names, range(len(names)), table.numbers("x"), table.numbers("y")):
+            if not is_empty(cells[0][row]) and not is_empty(cells[1][row]):
+                problem.places[name] = float(east), float(north)
+    table.tell_sign()
+
+
+def _add_ends(problem: Problem, ends: Iterable[str], nodes: Optional[Sheet]) -> None:
+    """Adds the nodes that the table of arcs alone has."""
+    listed = {_alike(name): name for name in problem.nodes}
+    alone = [end for end in ends if end not in problem.nodes]
+    for end in alone:
+        other = listed.get(_alike(end))
+        if other is not None:
+            raise TableFault(
+                f"the table of arcs has a node {end!r}, and the table of nodes {other!r}: if they are one, write them alike"
+            )
+        problem.nodes[end] = ZERO
+    if nodes is not None and problem.kind != "asn" and alone:
         told = ", ".join(alone[:5]) + (f" and {len(alone) - 5} more" if len(alone) > 5 else "")
         count = "1 node stands" if len(alone) == 1 else f"{len(alone)} nodes stand"
-        problem.notes.append(f"{count} in the table of arcs alone, and supply nothing: {told}")
-    lonely = [name for name, still in is_open.items() if still and kind == "asn"]
-    if lonely:
-        raise TableFault(f"node {lonely[0]} has neither an arc nor a supply that says on which side it is")
-    return problem
+        nodes.notes.append(f"{count} in the table of arcs alone, and supply nothing: {told}")
 
 
-def _read_nodes(problem: Problem, table: _Table) -> Dict[str, bool]:
-    """Reads the table of nodes; returns, for each node, whether it has no supply of its own."""
-    name_at = table.column("node")
-    supply_at, demand_at = table.column("supply"), table.column("demand")
-    if name_at is None:
-        name_at = 0
-    if supply_at is None and demand_at is None and problem.kind == "min":
-        table.wanted("supply")
-    x_at, y_at = table.column("x"), table.column("y")
-    lines: Dict[str, int] = {}
-    is_open: Dict[str, bool] = {}
-    for line, row in table.filled():
-        name = table.text(line, row, name_at)
-        if name in lines:
-            raise table.fault(line, name_at, name, f"it stands on line {lines[name]} already")
-        lines[name] = line
-        supply = table.number(line, row, supply_at)
-        demand = table.number(line, row, demand_at)
-        problem.nodes[name] = WIDE.subtract(supply, demand) if demand else supply
-        is_open[name] = not problem.nodes[name]
-        if x_at is not None and y_at is not None and row[x_at] != "" and row[y_at] != "":
-            problem.places[name] = float(table.number(line, row, x_at)), float(table.number(line, row, y_at))
-    return is_open
+def _alike(name: str) -> str:
+    """A name without what is hard to see: letters' size, and marks and blanks between words."""
+    return re.sub(r"[\s\-_.]+", "", name.casefold()) or name
 
 
-def _read_arcs(problem: Problem, table: _Table, is_open: Dict[str, bool]) -> List[str]:
-    """Reads the table of arcs; returns the nodes that no other table has."""
-    tail_at = table.wanted("from")
-    head_at = table.wanted("to", [tail_at])
-    low_at, cap_at, cost_at = (table.column(what) for what in ("low", "capacity", "cost"))
-    name_at = table.column("name", taken=[tail_at, head_at])
-    nodes, arcs = problem.nodes, problem.arcs
+def _read_arcs(problem: Problem, table: _Table, tails: Sequence[str], heads: Sequence[str]) -> None:
+    """Adds the arcs, and puts the nodes of an assignment on their sides."""
     is_assignment = problem.kind == "asn"
-    alone = []
-    for line, row in table.filled():
-        ends = table.text(line, row, tail_at), table.text(line, row, head_at)
-        low, cap = table.number(line, row, low_at), table.limit(line, row, cap_at)
+    lows, caps = table.numbers("low"), table.limits("capacity")
+    costs = _costs(problem.kind, table)
+    labels: List[str] = table.names_of(table.found.places["name"]) if table.has("name") else [""] * len(tails)
+    arcs = problem.arcs
+    for row, (tail, head, low, cap, cost, name) in enumerate(zip(tails, heads, lows, caps, costs, labels)):
         if cap is None and is_assignment:
             cap = ONE
         if cap is not None and low > cap:
-            raise table.fault(
-                line, cap_at if cap_at is not None else tail_at, plain(cap), f"the lower bound {plain(low)} is above it"
-            )
-        for end, side in zip(ends, (ONE, -ONE)):
-            if end not in nodes:
-                alone.append(end)
-                nodes[end] = side if is_assignment else ZERO
-            elif is_assignment and is_open.get(end):
-                nodes[end] = side
-                is_open[end] = False
-        name = str(row[name_at]).strip() if name_at is not None else ""
-        arcs.append(Arc(ends[0], ends[1], low, cap, table.number(line, row, cost_at), name or None))
-    return alone
+            if table.has("capacity"):
+                raise table.fault(row, "capacity", limit_fault(cap, low))
+            raise table.fault(row, "low", "it is above the capacity, which is 1")
+        arcs.append(Arc(tail, head, low, cap, cost, name or None))
+    if is_assignment:
+        _take_sides(problem)
+    elif not table.has("capacity"):
+        table.sheet.notes.append(f"{table.sheet.name}: there is no column of capacities, so no arc has a limit")
+    table.tell_sign()
+    _tell_twice(table, arcs)
 
+
+def _costs(kind: str, table: _Table) -> List[Decimal]:
+    """What a unit costs on each arc."""
+    if kind == "max":
+        return [ZERO] * len(table)
+    default = table.reading.default_cost
+    sheet = table.sheet
+    if not table.has("cost"):
+        if default is None:
+            raise TableFault(
+                f"{sheet.name}: there is no column 'cost' (nor {', '.join(COLUMNS['cost'][1:6])}, ..); its columns are "
+                f"{sheet.its_columns()}; `--columns cost=NAME` names it, and `--default-cost 0` takes 0 for all"
+            )
+        sheet.notes.append(f"{sheet.name}: there is no column of costs; a unit costs {plain(default)} on each arc")
+        return [default] * len(table)
+    costs = table.numbers("cost", default)
+    empty = sum(map(is_empty, sheet.columns[table.found.places["cost"]])) if default is not None else 0
+    if empty:
+        count = "1 empty cost is" if empty == 1 else f"{empty} empty costs are"
+        sheet.notes.append(f"{sheet.name}: {count} {plain(default or ZERO)}")
+    return costs
+
+
+def _take_sides(problem: Problem) -> None:
+    """Puts the nodes of an assignment that have no supply on the side that their first arc is on."""
+    nodes = problem.nodes
+    still = {name for name, supply in nodes.items() if not supply}
+    for arc in problem.arcs:
+        for end, side in ((arc.tail, ONE), (arc.head, -ONE)):
+            if end in still:
+                nodes[end] = side
+                still.discard(end)
+    for name in nodes:
+        if name in still:
+            raise TableFault(f"node {name!r} has neither an arc nor a supply that says on which side it is")
+
+
+def _tell_twice(table: _Table, arcs: Sequence[Arc]) -> None:
+    """Notes rows that say the same as one before: they may stand there by a slip, and both count."""
+    if len(set(arcs)) == len(arcs):
+        return
+    seen: Dict[Arc, int] = {}
+    twice = [(row, seen[arc]) for row, arc in enumerate(arcs) if seen.setdefault(arc, row) != row]
+    row, first = twice[0]
+    place = table.sheet.place
+    more = f" (and {len(twice) - 1} more)" if len(twice) > 1 else ""
+    table.sheet.notes.append(f"{table.sheet.name}: {place(row)} says the same as {place(first)}{more}, and both count")
+
+
+def _check_sense(problem: Problem, nodes: Optional[_Table], arcs: _Table) -> None:
+    """Raises TableFault where a cheapest plan is asked for and nothing has to flow since no supplies are there."""
+    if problem.kind != "min" or any(problem.nodes.values()) or any(arc.low or arc.cost < 0 for arc in problem.arcs):
+        if problem.kind == "min" and nodes is not None:
+            _tell_lonely(problem, nodes)
+        return
+    if nodes is None:
+        raise TableFault(
+            f"{arcs.sheet.name}: this is a table of arcs alone, and a cheapest plan wants supplies: give the table of nodes "
+            "before it (`--kind max` and `--kind asn` want none)"
+        )
+    problem.notes.append(f"{nodes.sheet.name}: no node supplies or demands anything, so nothing has to flow")
+
+
+def _tell_lonely(problem: Problem, nodes: _Table) -> None:
+    """Notes nodes that supply or demand something and have no arc."""
+    joined = {end for arc in problem.arcs for end in (arc.tail, arc.head)}
+    lonely = [name for name, supply in problem.nodes.items() if supply and name not in joined]
+    if lonely:
+        told = ", ".join(lonely[:5]) + (f" and {len(lonely) - 5} more" if len(lonely) > 5 else "")
+        count = "1 node has" if len(lonely) == 1 else f"{len(lonely)} nodes have"
+        problem.notes.append(f"{nodes.sheet.name}: {count} a supply or a demand and no arc: {told}")
+
+
+# ---------------------------------------------------------------- plans as tables
 
 PLAN_COLUMNS = ("name", "from", "to", "low", "capacity", "cost", "flow", "total cost", "is full", "one more costs")
 
@@ -305,13 +653,35 @@ def plan_rows(plan: Plan) -> List[Tuple[str, ...]]:
     return rows
 
 
+def check_output(path: Union[str, Path]) -> None:
+    """Raises TableFault where a plan can't be written as a table of this name: its ending is unknown, or it is a
+    workbook with other sheets, which would be lost."""
+    file, sheet = part_sheet(path)
+    ending = file.suffix.lower()
+    if ending not in (".csv", ".tsv", *WORKBOOKS):
+        raise TableFault(f"{file.name}: a table is written as .csv, .tsv or .xlsx, or as a sheet by book.xlsx:SHEET")
+    if ending in WORKBOOKS and sheet is None and file.exists():
+        from .workbook import sheet_names
+
+        others = [name for name in sheet_names(file) if name != "plan"]
+        if others:
+            raise TableFault(
+                f"{file.name}: it has other sheets, {', '.join(map(repr, others))}; {file.name}:plan writes a sheet and "
+                "keeps them"
+            )
+
+
 def write_plan(plan: Plan, path: Union[str, Path]) -> None:
-    """Writes the arcs of a plan with their flows as a table: .csv or .tsv, or .xlsx where pandas is there."""
-    path = Path(path)
+    """Writes the arcs of a plan with their flows as a table: .csv, .tsv or .xlsx, or `book.xlsx:plan` for one sheet of a
+    workbook whose other sheets are kept. Raises TableFault for another ending."""
+    check_output(path)
+    path, sheet = part_sheet(path)
     rows = plan_rows(plan)
-    if path.suffix.lower() in (".xlsx", ".xls", ".ods"):
+    if path.suffix.lower() in WORKBOOKS:
+        from .workbook import write_sheet
+
         numbers = [[_cell(cell) if place > 2 else cell for place, cell in enumerate(row)] for row in rows]
-        _pandas().DataFrame(numbers, columns=list(PLAN_COLUMNS)).to_excel(path, index=False)
+        write_sheet(path, sheet or "plan", [PLAN_COLUMNS, *numbers])
         return
     with open(path, "w", newline="", encoding="utf-8") as file:
         writer = csv.writer(file, delimiter="\t" if path.suffix.lower() == ".tsv" else ",", lineterminator="\n")

@@ -1,0 +1,264 @@
+"""Cells of tables: the numbers and names that they hold, and words for those that hold neither.
+
+A cell of a text is text. A cell of a spreadsheet or of a frame may be a number, a truth value, a date, or a formula
+whose value was not kept: what is not plainly a number or a name is refused, in each format alike.
+"""
+
+from __future__ import annotations
+
+import datetime
+import re
+import unicodedata
+from decimal import Decimal
+from typing import Any, Dict, Iterable, List, NamedTuple, Optional
+
+from .problem import exact, plain
+
+
+class TableFault(ValueError):
+    """A table can't be read: the message has file, line, column, value, and what was expected."""
+
+
+class CellFault(ValueError):
+    """What is wrong with a cell, in words that go behind its place and its value."""
+
+
+class NoValue(NamedTuple):
+    """A formula of a spreadsheet whose value was not kept, as in workbooks that a program wrote."""
+
+    formula: str
+
+
+ERROR = re.compile(r"#(N/?[AVD]|\S*[!?])|#{2,}|Err:\d+|#¿.*\?")
+"""Errors of spreadsheets in the languages that they are written in: #N/A, #NV, #REF!, #¡VALOR!, #NAME?, Err:502."""
+
+MISSING = frozenset(("n/a", "null", "none", "nan", "nil", "nul", "na", "<na>", "-", "--", "–", "—", "?", "."))
+NO_NAME = frozenset(("n/a", "N/A", "null", "NULL", "nan", "NaN", "<NA>"))
+YES_OR_NO = frozenset(("true", "false", "yes", "no", "wahr", "falsch", "ja", "nein", "vrai", "faux", "oui", "non"))
+NO_LIMIT = frozenset(
+    ("inf", "infinity", "infinite", "∞", "unlimited", "no limit", "unbegrenzt", "illimité", "illimitée")
+    + ("sans limite", "ilimitado", "ilimitada", "sin límite", "sin limite")
+)
+"""Words by which a capacity says that there is no limit; so does an empty cell."""
+
+MONEY = "€$£¥"
+_WELL_FORMED = re.compile(r"([+-]?)(\d[\d.,]*|[.,]\d+)([eE][+-]?\d{1,3})?", re.ASCII)
+_JOINERS = "\u200c\u200d"
+
+
+def is_empty(cell: Any) -> bool:
+    """Whether nothing stands in a cell, as None, NaN or blanks do."""
+    if isinstance(cell, str):
+        return not cell or cell.isspace()
+    return cell is None or type(cell).__name__ in ("NAType", "NaTType") or isinstance(cell, float) and cell != cell
+
+
+def is_truth(cell: Any) -> bool:
+    """Whether a cell is a truth value, of Python or of numpy."""
+    return isinstance(cell, bool) or type(cell).__name__ in ("bool_", "bool")
+
+
+def shown(cell: Any) -> str:
+    """A cell as messages show it."""
+    if isinstance(cell, NoValue):
+        return repr("=" + cell.formula if cell.formula else "=")
+    if is_truth(cell):
+        return "TRUE" if cell else "FALSE"
+    if isinstance(cell, datetime.date):
+        return repr(cell.isoformat().replace("T00:00:00", ""))
+    text = repr(cell)
+    return text if len(text) <= 60 else text[:57] + "..."
+
+
+def not_plain(cell: Any) -> Optional[str]:
+    """What is wrong with a cell that is neither a number nor a name; None where it may be one of them."""
+    if isinstance(cell, NoValue):
+        return "a formula without a kept value: open the workbook in a spreadsheet program and save it"
+    if is_truth(cell):
+        return "a truth value, which is no number and no name"
+    if isinstance(cell, str) and ERROR.fullmatch(cell.strip()):
+        return "an error of the spreadsheet"
+    return None
+
+
+# ---------------------------------------------------------------- names
+
+
+def name_of(cell: Any) -> str:
+    """The name in a cell, '' where it is empty: blanks in a row count as one, and a whole number has no point.
+
+    Raises CellFault where it holds what can't be a name.
+
+    >>> name_of(" New  York "), name_of(7.0), name_of("NA")
+    ('New York', '7', 'NA')
+    """
+    wrong = not_plain(cell)
+    if wrong:
+        raise CellFault(f"a name was expected, and this is {wrong}")
+    if is_empty(cell):
+        return ""
+    if isinstance(cell, float) and cell.is_integer():
+        cell = int(cell)
+    if isinstance(cell, datetime.datetime) and cell.time() == datetime.time():
+        cell = cell.date()
+    text = " ".join(unicodedata.normalize("NFC", str(cell)).split())
+    if text in NO_NAME:
+        raise CellFault("a name was expected; leave the cell empty where there is none")
+    hidden = [letter for letter in text if not letter.isprintable() and letter not in _JOINERS]
+    if hidden:
+        raise CellFault(f"a name was expected, and this one has a character that can't be seen, U+{ord(hidden[0]):04X}")
+    return text
+
+
+# ---------------------------------------------------------------- numbers
+
+
+class Sign(NamedTuple):
+    """Which mark parts the decimals of a table's numbers, and the cell that shows it, where one was looked for."""
+
+    mark: str
+    shown_by: str = ""
+
+    @property
+    def thousands(self) -> str:
+        """The other mark, which can only part thousands."""
+        return "," if self.mark == "." else "."
+
+
+class Undecided(ValueError):
+    """Nothing says which mark parts decimals: `cell` may be read in two ways. `other` is there where two cells
+    contradict each other."""
+
+    def __init__(self, cell: str, other: str = ""):
+        super().__init__(cell)
+        self.cell, self.other = cell, other
+
+
+def _decimal_mark(cell: str) -> Optional[str]:
+    """The mark that parts decimals, by what one cell shows; '' where it shows nothing, None where it may be either."""
+    found = _WELL_FORMED.fullmatch(cell)
+    if not found:
+        return ""
+    body = found[2]
+    marks = [letter for letter in body if letter in ".,"]
+    if not marks:
+        return ""
+    last = marks[-1]
+    other = "," if last == "." else "."
+    if len(set(marks)) == 2:
+        return last if re.fullmatch(rf"\d{{1,3}}(\{other}\d{{3}})+\{last}\d*", body) else ""
+    if len(marks) > 1:
+        return other if re.fullmatch(rf"\d{{1,3}}(\{last}\d{{3}})+", body) else ""
+    before, behind = body.split(last)
+    if len(behind) == 3 and 1 <= len(before) <= 3 and before[0] != "0" and not found[3]:
+        return None
+    return last
+
+
+def decimal_sign(cells: Iterable[Any], *, point_is_usual: bool) -> Sign:
+    """Which mark parts decimals in these cells. `point_is_usual` says that it is a point unless a cell has a comma.
+
+    Raises Undecided where a cell may be read in two ways and no other shows which, or where two contradict each other.
+
+    >>> decimal_sign(["1.250", "2,5"], point_is_usual=False)
+    Sign(mark=',', shown_by='2,5')
+    """
+    marked = [cell.strip() for cell in cells if isinstance(cell, str) and ("," in cell or "." in cell)]
+    if point_is_usual and not any("," in cell or cell.count(".") > 1 for cell in marked):
+        return Sign(".")
+    showing: Dict[str, str] = {}
+    unclear: List[str] = []
+    for cell in marked:
+        mark = _decimal_mark(cell)
+        if mark is None:
+            unclear.append(cell)
+        elif mark:
+            showing.setdefault(mark, cell)
+    if len(showing) == 2:
+        raise Undecided(showing["."], showing[","])
+    if not showing and unclear:
+        raise Undecided(unclear[0])
+    for mark, cell in showing.items():
+        return Sign(mark, cell)
+    return Sign(".")
+
+
+class Numbers(Dict[Any, Decimal]):
+    """The numbers of cells, each of which is read once. Looking up raises CellFault where a cell holds none."""
+
+    def __init__(self, sign: Sign):
+        super().__init__()
+        self.sign = sign
+        self.grouped: Dict[str, Decimal] = {}
+        """Cells that have a mark which another sign would make decimals."""
+
+    def __missing__(self, cell: Any) -> Decimal:
+        number = self[cell] = self._read(cell)
+        return number
+
+    def _read(self, cell: Any) -> Decimal:
+        if isinstance(cell, str):
+            return self._read_text(cell.strip())
+        wrong = not_plain(cell)
+        if wrong or isinstance(cell, (datetime.date, datetime.time, datetime.timedelta)):
+            raise CellFault(f"a number was expected, and this is {wrong or 'a date or a time'}")
+        try:
+            return exact(cell)
+        except ValueError:
+            raise CellFault("a number was expected") from None
+
+    def _read_text(self, cell: str) -> Decimal:
+        mark, thousands = self.sign.mark, self.sign.thousands
+        found = _WELL_FORMED.fullmatch(cell)
+        text = cell
+        if found and thousands in cell:
+            if not re.fullmatch(rf"[+-]?\d{{1,3}}(\{thousands}\d{{3}})+(\{mark}\d*)?", cell, re.ASCII):
+                raise CellFault(f"a number was expected, and decimals are parted by {shown(mark)} here")
+            text = cell.replace(thousands, "")
+        text = text.replace(mark, ".")
+        try:
+            if not found:
+                raise ValueError
+            number = exact(text)
+        except ValueError:
+            raise CellFault("a number was expected" + number_hint(cell)) from None
+        if _decimal_mark(cell) is None:
+            self.grouped[cell] = number
+        return number
+
+
+def number_hint(cell: str) -> str:
+    """What to do about a cell that is no number, for the commonest mistakes."""
+    lower = cell.lower()
+    if ERROR.fullmatch(cell):
+        return ", and this is an error of the spreadsheet"
+    if lower in MISSING:
+        return ": write 0, or a number, or leave the cell empty"
+    if lower in YES_OR_NO:
+        return ", and this is a truth value"
+    if lower in NO_LIMIT:
+        return ": only a capacity can be without limit"
+    if re.fullmatch(r"[+-]?\d{1,3}(['’_]\d{3})+([.,]\d+)?", cell):
+        return ": take the marks between the thousands out"
+    if re.fullmatch(r"[+-]?\d{1,3}([ \u00a0\u202f\u2009]\d{3})+([.,]\d+)?", cell):
+        return ": take the blanks between the thousands out"
+    if re.match(r"[−–—﹣－]\s*\d", cell):
+        return ": the sign is a dash of typesetting, write a plain -"
+    if re.fullmatch(r"\([\d.,]+\)|[\d.,]+-", cell):
+        return ": write a plain - before a number that is below 0"
+    if "%" in cell:
+        return ": write the number without a percent sign"
+    if any(sign in cell for sign in MONEY) or re.match(r"[A-Za-z]{3}\s*[\d.,]+$", cell):
+        return ": leave the currency out; it can stand in the name of the column, as in 'cost (EUR)'"
+    if re.fullmatch(r"\d{1,4}[-/.]\d{1,2}[-/.]\d{1,4}", cell):
+        return ", and this looks like a date"
+    if re.match(r"[+-]?[\d.,]+\s*[^\W\d]", cell):
+        return ": leave the unit out; it can stand in the name of the column, as in 'capacity (t)'"
+    return ""
+
+
+def limit_fault(capacity: Decimal, low: Decimal) -> str:
+    """What is wrong with a capacity that is below the lower bound."""
+    if capacity < 0 and not low:
+        return "a capacity is 0 or more; leave the cell empty where there is no limit"
+    return f"the lower bound {plain(low)} is above it"

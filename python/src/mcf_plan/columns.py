@@ -1,0 +1,408 @@
+"""Columns of tables: which one holds what, by the words that planners write over them.
+
+A column that is not understood is never planned with: it is left aside, which is told, or refused where it looks like
+one that matters.
+"""
+
+from __future__ import annotations
+
+import re
+import unicodedata
+from dataclasses import dataclass, field
+from typing import Collection, Dict, List, Mapping, NamedTuple, Optional, Sequence, Tuple
+
+from .cells import TableFault, is_empty
+from .sheets import Sheet
+from .measures import Unit, unit_of
+
+COLUMNS: Dict[str, Tuple[str, ...]] = {
+    "node": ("name", "node", "id", "place", "town", "city", "site", "location", "person", "key", "plant", "customer")
+    + ("warehouse", "depot", "node name", "node id")
+    + ("Knoten", "Ort", "Stadt", "Standort", "Lager", "Werk", "Kunde", "Bezeichnung")
+    + ("nom", "nœud", "noeud", "lieu", "ville", "entrepôt", "usine", "client")
+    + ("nombre", "nodo", "lugar", "ciudad", "sitio", "almacén", "planta", "cliente"),
+    "supply": ("supply", "supplies", "stock", "available", "amount", "offer", "production", "inventory")
+    + ("Angebot", "Bestand", "Vorrat", "Lagerbestand", "Produktion", "verfügbar")
+    + ("offre", "disponible", "production", "approvisionnement")
+    + ("oferta", "existencias", "suministro", "producción"),
+    "demand": ("demand", "demands", "need", "needs", "wanted", "orders", "order", "required", "consumption")
+    + ("Bedarf", "Nachfrage", "Bestellung", "Bestellungen", "Verbrauch")
+    + ("demande", "besoin", "besoins", "commande", "commandes", "consommation")
+    + ("demanda", "necesidad", "pedido", "pedidos", "consumo"),
+    "from": ("from", "tail", "source", "origin", "src", "start", "from node", "start node", "sender", "supplier")
+    + ("von", "ab", "Quelle", "Startort", "Herkunft", "Absender", "Lieferant")
+    + ("de", "depuis", "origine", "départ", "expéditeur")
+    + ("desde", "origen", "salida", "remitente"),
+    "to": ("to", "head", "target", "destination", "dst", "dest", "end", "to node", "end node", "receiver")
+    + ("nach", "bis", "zu", "Ziel", "Zielort", "Empfänger")
+    + ("vers", "à", "arrivée", "destinataire")
+    + ("hasta", "a", "destino", "hacia", "llegada", "destinatario"),
+    "low": ("low", "lower", "lower bound", "lower limit", "least", "min", "minimum", "at least", "min flow", "lb")
+    + ("mindestens", "Untergrenze", "untere Grenze", "untere Schranke", "Mindestmenge")
+    + ("au moins", "borne inférieure", "limite inférieure")
+    + ("mínimo", "al menos", "cota inferior", "límite inferior"),
+    "capacity": ("capacity", "cap", "upper", "upper bound", "upper limit", "most", "max", "maximum", "limit", "at most")
+    + ("max flow", "max capacity", "maximum capacity", "ub")
+    + ("Kapazität", "höchstens", "Obergrenze", "obere Grenze", "obere Schranke", "Höchstmenge")
+    + ("capacité", "au plus", "borne supérieure", "limite supérieure", "limite")
+    + ("capacidad", "máximo", "como máximo", "cota superior", "límite superior", "límite"),
+    "cost": ("cost", "costs", "unit cost", "unit costs", "cost per unit", "price", "unit price", "freight rate", "rate")
+    + ("transport cost", "transport costs", "shipping cost", "tariff")
+    + ("Kosten", "Stückkosten", "Kosten pro Stück", "Kosten pro Einheit", "Transportkosten", "Frachtkosten", "Preis")
+    + ("coût", "coûts", "coût unitaire", "coût de transport", "prix", "tarif")
+    + ("costo", "coste", "costos", "costes", "costo unitario", "coste unitario", "precio", "tarifa"),
+    "x": ("x", "lon", "lng", "longitude", "east", "Längengrad", "longitud"),
+    "y": ("y", "lat", "latitude", "north", "Breitengrad", "latitud"),
+    "name": ("name", "arc", "road", "route", "link", "label", "id", "arc name", "Strecke", "Name", "nom", "nombre")
+    + ("ruta", "Kennung", "Bezeichnung"),
+}
+"""The names that a column may have, whatever the letters' size and accents. A unit may stand behind, as in
+`capacity (t)`, `cost_eur` or `cost [EUR/t]`."""
+
+STAND_INS: Dict[str, Tuple[str, ...]] = {
+    "cost": ("weight", "distance", "Entfernung", "Distanz", "distancia", "Gewicht", "poids", "peso")
+}
+"""Names of columns that are taken where no other column is that thing, which is told."""
+
+NODE_COLUMNS = ("node", "supply", "demand", "x", "y")
+ARC_COLUMNS = ("from", "to", "low", "capacity", "cost", "name")
+ENDS = ("node", "from", "to")
+LABELS = frozenset(("x", "y", "name"))
+"""What no plan depends on: where several columns match, the first word counts."""
+
+HARMLESS = frozenset(
+    (
+        "comment comments note notes remark remarks region country state county zone area group km miles code type class "
+        "mode carrier description owner contact color colour hours time duration length via zip postcode address speed lane"
+        " flow tariff zone sector"
+        " kommentar bemerkung bemerkungen anmerkung notiz land bundesland gebiet typ art gruppe plz adresse dauer zeit "
+        "lange farbe hinweis nr nummer"
+        " commentaire commentaires remarque remarques pays departement type duree temps adresse longueur numero"
+        " comentario comentarios observaciones nota notas pais provincia tipo grupo duracion tiempo direccion longitud"
+    ).split()
+)
+"""Columns that are left aside without a look at the other words."""
+
+TWO_WAYS = frozenset(
+    "oneway both bothways bidirectional directed direction undirected twoway reverse richtung einbahn sens sentido".split()
+)
+SWITCHES = frozenset(
+    "active inactive open closed enabled disabled blocked usable status aktiv inaktiv offen gesperrt geschlossen gultig "
+    "actif ouvert ferme statut activo abierto cerrado estado".split()
+)
+OWN = frozenset(("flow", "total cost", "is full", "one more costs"))
+"""Columns that tables of plans have, as `write_plan` writes them: left aside where all are there."""
+
+PARTS = frozenset(
+    "product products commodity commodities good goods item items material article sku period periods day days week weeks "
+    "month date year scenario produkt ware material artikel tag woche monat datum jahr periode szenario produit article "
+    "jour semaine mois periode scenario producto articulo dia semana mes fecha ano periodo escenario".split()
+)
+"""Columns that part a table in several problems, where more than one thing stands in them."""
+
+
+class Match(NamedTuple):
+    """What the name of a column says: the thing that the column holds, and in which unit."""
+
+    what: str
+    unit: Optional[Unit]
+    stands_in: bool = False
+
+
+@dataclass
+class Found:
+    """Which columns of a sheet hold what. `names` are the columns that may have the names of the nodes, where more than
+    one may."""
+
+    places: Dict[str, int] = field(default_factory=dict)
+    units: Dict[str, Unit] = field(default_factory=dict)
+    names: List[int] = field(default_factory=list)
+
+
+def folded(text: str) -> str:
+    """A name of a column without what makes no difference: letters' size, accents, and what parts its words.
+
+    >>> folded("Unit_Cost"), folded("unitCost"), folded("Kapazität")
+    ('unit cost', 'unit cost', 'kapazitat')
+    """
+    text = re.sub(r"(?<=[a-zß-ÿ])(?=[A-Z][a-zß-ÿ])", " ", text)
+    bare = "".join(c for c in unicodedata.normalize("NFKD", text.casefold()) if not unicodedata.combining(c))
+    return " ".join(re.sub(r"[\s_\-.:/]+", " ", bare.replace("œ", "oe")).split())
+
+
+def _words_of(table: Mapping[str, Sequence[str]]) -> Dict[str, List[str]]:
+    """The things that a word may stand for, by the word; an umlaut may be written with an e."""
+    found: Dict[str, List[str]] = {}
+    for what, names in table.items():
+        for name in names:
+            spelled = name
+            for letter, pair in (("ä", "ae"), ("ö", "oe"), ("ü", "ue")):
+                spelled = spelled.replace(letter, pair)
+            for word in {folded(name), folded(spelled)}:
+                found.setdefault(word, [])
+                if what not in found[word]:
+                    found[word].append(what)
+    return found
+
+
+_WORDS, _STAND_INS = _words_of(COLUMNS), _words_of(STAND_INS)
+# Single words that a longer name may not have without being looked at; short ones, such as `de` or `a`, are in many.
+_TELLING = {word: things for word, things in _WORDS.items() if " " not in word and len(word) >= 3}
+_TELLING.update({"load": ["capacity"], "kosten": ["cost"], "fee": ["cost"], "toll": ["cost"], "bound": ["capacity"]})
+
+
+def find_columns(sheet: Sheet, kinds: Sequence[str], chosen: Mapping[str, Sequence[str]]) -> Found:
+    """Which column holds which of the things `kinds`. Notes of what was chosen are added to the sheet.
+
+    `chosen` are names of columns that were said, for a thing or for 'aside'. Raises TableFault where a column that looks
+    like one that matters is not understood, and where two are the same thing.
+    """
+    found = Found()
+    told = _told(sheet, kinds, chosen)
+    aside = [place for place, what in told.items() if what == "aside"]
+    unknown: List[int] = []
+    matches: Dict[str, List[Tuple[int, Match]]] = {}
+    for place, header in enumerate(sheet.header):
+        said = told.get(place)
+        if said == "aside":
+            continue
+        match = match_of(header, kinds if said is None else [said])
+        if said is not None:
+            matches.setdefault(said, []).append((place, match or Match(said, None)))
+        elif match is None:
+            unknown.append(place)
+        elif match.what in told.values():
+            aside.append(place)
+        else:
+            matches.setdefault(match.what, []).append((place, match))
+    for what, its in matches.items():
+        aside += _choose(sheet, what, its, found)
+    is_own = OWN <= set(map(folded, sheet.header))
+    for place in unknown:
+        if place == 0 and not sheet.header[0] and "node" in kinds and "node" not in matches:
+            continue  # It may have the names of the nodes.
+        if is_own and folded(sheet.header[place]) in OWN or _is_left_aside(sheet, place, kinds, matches):
+            aside.append(place)
+    compare_units({what: (unit, sheet, sheet.header[found.places[what]]) for what, unit in found.units.items()})
+    if aside:
+        names = [repr(sheet.header[place]) if sheet.header[place] else "one without a name" for place in sorted(aside)]
+        sheet.notes.append(
+            f"{sheet.name}: the column {names[0]} is left aside"
+            if len(names) == 1
+            else f"{sheet.name}: the columns {', '.join(names[:-1])} and {names[-1]} are left aside"
+        )
+    return found
+
+
+def _told(sheet: Sheet, kinds: Sequence[str], chosen: Mapping[str, Sequence[str]]) -> Dict[int, str]:
+    """The things that were said for columns, by their places."""
+    told: Dict[int, str] = {}
+    for what, names in chosen.items():
+        if what not in kinds and what != "aside":
+            continue
+        for name in names:
+            places = [place for place, header in enumerate(sheet.header) if header.strip() == name.strip()]
+            places = places or [place for place, header in enumerate(sheet.header) if folded(header) == folded(name)]
+            if not places and what != "aside":
+                raise TableFault(f"{sheet.name}: there is no column {name!r}; its columns are {sheet.its_columns()}")
+            told.update(dict.fromkeys(places, what))
+    return told
+
+
+def match_of(header: str, kinds: Sequence[str]) -> Optional[Match]:
+    """What the name of a column says, among the things `kinds`; None where it says nothing that is understood.
+
+    >>> match_of("Cost (EUR/t)", ["cost"]).what, match_of("capacty", ["capacity"])
+    ('cost', None)
+    """
+    for words, stands_in in ((_WORDS, False), (_STAND_INS, True)):
+        name = folded(header)
+        for what in words.get(name, ()):
+            if what in kinds:
+                return Match(what, None, stands_in)
+        for base, behind in _parted(header):
+            for what in words.get(folded(base), ()):
+                unit = unit_of(behind) if what in kinds and what not in LABELS and what != "node" else None
+                if unit is not None:
+                    return Match(what, unit, stands_in)
+    return None
+
+
+def _parted(header: str) -> List[Tuple[str, str]]:
+    """The ways to part the name of a column from a unit behind it."""
+    bracket = re.fullmatch(r"(.*?)\s*[(\[{]([^()\[\]{}]*)[)\]}]\s*", header)
+    if bracket:
+        return [(bracket[1], bracket[2])]
+    cuts = [found for found in re.finditer(r"[\s_\-.:,/]+", header)]
+    return [(header[: cut.start()], header[cut.start() :].lstrip(" _-.:,")) for cut in cuts if 0 < cut.start()]
+
+
+def _choose(sheet: Sheet, what: str, its: List[Tuple[int, Match]], found: Found) -> List[int]:
+    """Takes one of the columns that match a thing, and returns those that are left aside."""
+    strong = [place for place, match in its if not match.stands_in]
+    rivals = strong or [place for place, _ in its]
+    if what == "node" and len(rivals) > 1:
+        found.names = rivals
+        return [place for place, _ in its if place not in rivals]
+    if what in LABELS:
+        words = [folded(word) for word in COLUMNS[what]]
+        rivals.sort(
+            key=lambda place: words.index(folded(sheet.header[place])) if folded(sheet.header[place]) in words else 99
+        )
+    elif len(rivals) > 1:
+        names = " and ".join(repr(sheet.header[place]) for place in rivals)
+        raise TableFault(
+            f"{sheet.name}: the columns {names} both look like {called(what)}; say `--columns {what}=NAME` for the one "
+            "that counts, or give the table without the others"
+        )
+    place = rivals[0]
+    found.places[what] = place
+    match = dict(its)[place]
+    header = sheet.header[place]
+    if match.unit is not None:
+        found.units[what] = match.unit
+        sheet.notes.append(f"{sheet.name}: the column {header!r} is {called(what)}, in {match.unit.text}")
+    elif match.stands_in:
+        sheet.notes.append(f"{sheet.name}: the column {header!r} is taken as {called(what)}")
+    return [other for other, _ in its if other != place]
+
+
+CALLED = {
+    "node": "the name of the node",
+    "supply": "the supply",
+    "demand": "the demand",
+    "from": "the node that an arc leaves",
+    "to": "the node that an arc leads to",
+    "low": "the lower bound",
+    "capacity": "the capacity",
+    "cost": "the cost of a unit",
+    "x": "the place to the east",
+    "y": "the place to the north",
+    "name": "the name of the arc",
+}
+
+
+def called(what: str) -> str:
+    """A thing in words."""
+    return CALLED[what]
+
+
+# ---------------------------------------------------------------- columns that are not understood
+
+
+def _is_left_aside(sheet: Sheet, place: int, kinds: Sequence[str], taken: Collection[str]) -> bool:
+    """Whether a column that matches nothing is to be told as left aside; False where it is empty. Raises TableFault
+    where it looks like one that matters."""
+    header = sheet.header[place]
+    cells = {cell for cell in map(str, sheet.columns[place]) if not is_empty(cell)} - {"nan", "None", "<NA>", "NaT"}
+    name = folded(header)
+    if not name or name in HARMLESS:
+        return bool(cells)
+    # Where the ends of an arc and the name of a node are known, other columns may have words like theirs.
+    open_kinds = [what for what in kinds if what not in LABELS and not (what in taken and what in ENDS)]
+    why = _why_it_matters(name, header, len(cells), (kinds, open_kinds))
+    if why:
+        raise TableFault(
+            f"{sheet.name}: the column {header!r} is not understood: {why}; `--columns aside={quoted(header)}` leaves it "
+            "aside"
+        )
+    return bool(cells)
+
+
+def quoted(name: str) -> str:
+    """A name as a shell takes it."""
+    return name if re.fullmatch(r"[\w.-]+", name) else "'" + name.replace("'", "'\\''") + "'"
+
+
+def _why_it_matters(name: str, header: str, different: int, kinds: Tuple[Sequence[str], Sequence[str]]) -> str:
+    """Why a column may matter to the plan, in words; '' where nothing speaks for it. `kinds` are the things of the
+    table, and those that the column may be."""
+    of_table, open_kinds = kinds
+    tokens = {*name.split(), name, name.replace(" ", "")}
+    elsewhere = _of_other_table(tokens, of_table)
+    if elsewhere:
+        return elsewhere
+    if "from" in of_table and tokens & TWO_WAYS:
+        return "an arc leads from `from` to `to` alone; give the way back a row of its own"
+    if tokens & SWITCHES:
+        return "each row counts; give the table without those that do not"
+    if tokens & PARTS:
+        return "all rows are one problem; give those of one plan alone" if different > 1 else ""
+    near = _near(name, open_kinds)
+    if near:
+        return f"did you mean {near[0]!r}? `--columns {near[1]}={quoted(header)}` says so"
+    what = _telling(name, open_kinds)
+    return f"it looks like {called(what)}; `--columns {what}={quoted(header)}` says so" if what else ""
+
+
+def _of_other_table(tokens: Collection[str], kinds: Sequence[str]) -> str:
+    """Why a column matters that belongs in the other table."""
+    things = {what for token in tokens for what in _WORDS.get(token, ())}
+    if "from" in kinds and things & {"supply", "demand"}:
+        return "supplies and demands stand in the table of nodes, with a row for each node"
+    if "node" in kinds:
+        for what in ("low", "capacity", "cost"):
+            if what in things:
+                return f"{called(what)} belongs to an arc; a node that has one is parted in two, with an arc between"
+    return ""
+
+
+def _telling(name: str, kinds: Sequence[str]) -> Optional[str]:
+    """The thing that a name of several words, or a long word, may be, by a known word in it."""
+    joined = name.replace(" ", "")
+    for word, things in _TELLING.items():
+        if word in name.split() or len(word) >= 6 and word in joined:
+            for what in things:
+                if what in kinds:
+                    return what
+    return None
+
+
+def _near(name: str, kinds: Sequence[str]) -> Optional[Tuple[str, str]]:
+    """A known name that this one may be a slip of the pen for, and the thing that it stands for."""
+    best: Optional[Tuple[int, str, str]] = None
+    for word, things in _WORDS.items():
+        most = 0 if min(len(word), len(name)) < 4 else 1 if len(word) < 7 else 2
+        what = next((thing for thing in things if thing in kinds), None)
+        if what is not None and most and abs(len(word) - len(name)) <= most:
+            away = distance(name, word)
+            if away <= most and (best is None or away < best[0]):
+                best = away, word, what
+    return None if best is None else (best[1], best[2])
+
+
+def distance(one: str, other: str) -> int:
+    """How many letters have to be put in, left out, exchanged or swapped with the next to make one of the other.
+
+    >>> distance("capacty", "capacity"), distance("form", "from")
+    (1, 1)
+    """
+    before: List[int] = []
+    row = list(range(len(other) + 1))
+    for i, letter in enumerate(one, 1):
+        last, before, row = before, row, [i]
+        for j, their in enumerate(other, 1):
+            least = min(before[j] + 1, row[j - 1] + 1, before[j - 1] + (letter != their))
+            if i > 1 and j > 1 and letter == other[j - 2] and one[i - 2] == their:
+                least = min(least, last[j - 2] + 1)
+            row.append(least)
+    return row[-1]
+
+
+def compare_units(units: Mapping[str, Tuple[Unit, Sheet, str]]) -> None:
+    """Raises TableFault where amounts have different units, or costs are for another unit than that of the amounts."""
+    amounts = [(what, *units[what]) for what in ("supply", "demand", "low", "capacity") if what in units]
+    for (_, unit, sheet, header), (_, other, their_sheet, theirs) in zip(amounts, amounts[1:]):
+        if not unit.agrees(other):
+            raise TableFault(
+                f"{sheet.name}, column {header!r}, is in {unit.text}, and {their_sheet.name}, column {theirs!r}, in "
+                f"{other.text}: bring all amounts to one unit"
+            )
+    if "cost" in units:
+        unit, sheet, header = units["cost"]
+        for _, other, their_sheet, theirs in amounts:
+            if not unit.is_per(other):
+                raise TableFault(
+                    f"{sheet.name}, column {header!r}, is in {unit.text}, and {their_sheet.name}, column {theirs!r}, in "
+                    f"{other.text}: bring costs and amounts to one unit"
+                )

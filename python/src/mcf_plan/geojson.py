@@ -1,0 +1,150 @@
+"""Maps (GeoJSON): places from points, roads from lines, with where they stand for the picture."""
+
+from __future__ import annotations
+
+import json
+from decimal import Decimal
+from pathlib import Path
+from typing import Any, Dict, List, NamedTuple, Optional, Sequence, Tuple
+
+from .cells import TableFault
+from .columns import folded, match_of
+from .sheets import Sheet
+
+Point = Tuple[float, ...]
+
+
+class _Feature(NamedTuple):
+    """A feature of a map by its number, with its properties, and its first and last position."""
+
+    number: int
+    properties: Dict[str, Any]
+    first: Point
+    last: Point
+
+
+def read_map(path: Path) -> Tuple[Optional[Sheet], Optional[Sheet]]:
+    """The sheets of the points and of the lines of a FeatureCollection; None where there is none of them.
+
+    A line without the properties `from` and `to` leads from the point where it begins to the point where it ends, where
+    these are exactly there. Raises TableFault where it has no such points.
+    """
+    features = _features(path)
+    points: List[_Feature] = []
+    lines: List[_Feature] = []
+    others: Dict[str, int] = {}
+    for number, feature in enumerate(features, 1):
+        place = f"{path.name}, feature {number}"
+        geometry = (feature.get("geometry") if isinstance(feature, dict) else None) or {}
+        kind = geometry.get("type")
+        if kind not in ("Point", "LineString"):
+            others[str(kind)] = others.get(str(kind), 0) + 1
+            continue
+        ends = _positions(place, kind, geometry.get("coordinates"))
+        properties = dict(feature.get("properties") or {})
+        if "id" in feature and not any(match_of(name, ["node", "name"]) for name in properties):
+            properties["id"] = feature["id"]
+        (points if kind == "Point" else lines).append(_Feature(number, properties, ends[0], ends[-1]))
+    if "MultiLineString" in others or "MultiPoint" in others:
+        raise TableFault(f"{path.name}: there are features of several points or lines in one; part them in single ones")
+    nodes = _sheet(path.name, points, is_points=True) if points else None
+    arcs = _sheet(path.name, lines, is_points=False) if lines else None
+    if arcs is not None:
+        _add_ends(arcs, lines, points)
+    for kind, count in others.items():
+        told = (arcs or nodes or Sheet(path.name, [], [], [])).notes
+        told.append(f"{path.name}: {count} of its features {'is' if count == 1 else 'are'} a {kind}, and left aside")
+    if nodes is None and arcs is None:
+        raise TableFault(f"{path.name}: there are neither points nor lines")
+    return nodes, arcs
+
+
+def _features(path: Path) -> List[Any]:
+    """The features of the file. Raises TableFault where it is no FeatureCollection."""
+    try:
+        told = json.loads(path.read_bytes().decode("utf-8-sig"), parse_float=Decimal)
+    except UnicodeDecodeError:
+        raise TableFault(f"{path.name}: this is no UTF-8, as GeoJSON has to be") from None
+    except (json.JSONDecodeError, RecursionError) as error:
+        raise TableFault(f"{path.name}: this is no JSON: {error}") from None
+    if (
+        not isinstance(told, dict)
+        or told.get("type") != "FeatureCollection"
+        or not isinstance(told.get("features"), list)
+    ):
+        raise TableFault(f"{path.name}: this is JSON, and no FeatureCollection of points and lines (GeoJSON)")
+    features: List[Any] = told["features"]
+    return features
+
+
+def _positions(place: str, kind: str, coordinates: Any) -> List[Point]:
+    """The positions of a point or a line. Raises TableFault where they are none."""
+    positions = [coordinates] if kind == "Point" else coordinates
+    try:
+        found = [tuple(float(number) for number in position[:2]) for position in positions]
+    except (TypeError, ValueError):
+        found = []
+    if len(found) < (1 if kind == "Point" else 2) or any(len(position) != 2 for position in found):
+        raise TableFault(f"{place}: its coordinates are not those of a {kind}")
+    return found
+
+
+def _sheet(name: str, features: Sequence[_Feature], *, is_points: bool) -> Sheet:
+    """The sheet of the features' properties; points have x and y of their position."""
+    header: List[str] = []
+    for feature in features:
+        header += [key for key in feature.properties if key not in header]
+    columns: List[Sequence[Any]] = [[_cell(feature.properties.get(key)) for feature in features] for key in header]
+    missing = {}
+    for row, feature in enumerate(features):
+        lacking = frozenset(place for place, key in enumerate(header) if key not in feature.properties)
+        if lacking:
+            missing[row] = lacking
+    if is_points:
+        kept = [place for place, key in enumerate(header) if match_of(key, ["x", "y"]) is None]
+        places = {old: new for new, old in enumerate(kept)}
+        header, columns = [header[place] for place in kept], [columns[place] for place in kept]
+        missing = {row: frozenset(places[p] for p in lacking if p in places) for row, lacking in missing.items()}
+        header += ["x", "y"]
+        columns += [[feature.first[0] for feature in features], [feature.first[1] for feature in features]]
+    what = "points" if is_points else "lines"
+    return Sheet(f"{name}, {what}", header, columns, [feature.number for feature in features], "feature", "", missing)
+
+
+def _cell(value: Any) -> Any:
+    """A property as a cell: null is empty."""
+    if value is None:
+        return ""
+    return str(value) if isinstance(value, (dict, list)) else value
+
+
+def _add_ends(arcs: Sheet, lines: Sequence[_Feature], points: Sequence[_Feature]) -> None:
+    """Adds the columns `from` and `to` where no property says them. Raises TableFault where no point is at an end."""
+    if any(match_of(key, ["from", "to"]) for key in arcs.header):
+        return
+    names: Dict[Point, str] = {}
+    for point in points:
+        name = _name(point)
+        if name is not None:
+            if names.setdefault(point.first, name) != name:
+                raise TableFault(
+                    f"{arcs.name}: two points, {names[point.first]!r} and {name!r}, stand at one place, so the lines need "
+                    "properties 'from' and 'to'"
+                )
+    for what, ends in (("from", [line.first for line in lines]), ("to", [line.last for line in lines])):
+        for line, end in zip(lines, ends):
+            if end not in names:
+                raise TableFault(
+                    f"{arcs.name}, feature {line.number}: it has no property {what!r}, and no point with a name stands "
+                    f"exactly where it {'begins' if what == 'from' else 'ends'}, at {end[0]:g}, {end[1]:g}"
+                )
+        arcs.header.append(what)
+        arcs.columns.append([names[end] for end in ends])
+    arcs.notes.append(f"{arcs.name}: each line leads from the point where it begins to the point where it ends")
+
+
+def _name(point: _Feature) -> Optional[str]:
+    """The name of a point, by the first of its properties that is one."""
+    found = [(key, value) for key, value in point.properties.items() if match_of(key, ["node"]) and value is not None]
+    found.sort(key=lambda pair: folded(pair[0]) not in ("name", "nom", "nombre"))
+    return str(found[0][1]) if found else None

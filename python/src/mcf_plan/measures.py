@@ -1,0 +1,117 @@
+"""Units in the names of columns: `capacity (t)`, `cost_eur`, `cost [EUR/t]`, `Angebot (t/Woche)`."""
+
+from __future__ import annotations
+
+import re
+import unicodedata
+from typing import Dict, FrozenSet, NamedTuple, Optional
+
+_MONEY = "eur euro euros € usd dollar dollars $ us$ gbp pound pounds £ chf franken francs jpy yen ¥ pln czk sek nok dkk"
+_CENTS = "ct cent cents c"
+_SAME: Dict[str, str] = {
+    "t": "t to ton tons tonne tonnes tonnen tonelada toneladas tn",
+    "kg": "kg kilo kilos kilogram kilograms kilogramm",
+    "g": "g gram grams gramm",
+    "lb": "lb lbs pound pounds",
+    "l": "l liter litre liters litres litro litros",
+    "hl": "hl",
+    "m3": "m3 m³ cbm",
+    "unit": "unit units piece pieces pc pcs stk stück stueck stuck einheit einheiten ea each unite unites unidad unidades "
+    "ud uds pieza piezas",
+    "pallet": "pallet pallets palette palettes paletten pal pale pales",
+    "container": "container containers teu contenedor contenedores conteneur conteneurs",
+    "box": "box boxes kiste kisten caja cajas caisse caisses carton cartons",
+    "truck": "truck trucks lkw camion camions camiones",
+    "mw": "mw",
+    "mwh": "mwh",
+    "kwh": "kwh",
+    "gb": "gb",
+    "mbit": "mbit",
+    "person": "person persons people personen personnes personas",
+    "vehicle": "vehicle vehicles veh",
+}
+_SPANS: Dict[str, str] = {
+    "s": "s sec second seconds",
+    "hour": "h hr hour hours stunde stunden std heure heures hora horas",
+    "day": "d day days daily tag tage jour jours dia dias",
+    "week": "w week weeks weekly woche wochen semaine semaines semana semanas",
+    "month": "month months monthly monat monate mois mes meses",
+    "year": "y a year years yearly jahr jahre an ans ano anos",
+}
+_NUMBERS = frozenset("1 10 100 1000 10000 1000000 k thousand tausend mille mil mio million".split())
+_BETWEEN = frozenset("per pro je par por in en".split())
+
+
+def _table(words: Dict[str, str]) -> Dict[str, str]:
+    return {word: name for name, spelled in words.items() for word in spelled.split()}
+
+
+_AMOUNTS, _TIMES = _table(_SAME), _table(_SPANS)
+_COINS = frozenset((*_MONEY.split(), *_CENTS.split()))
+
+
+class Unit(NamedTuple):
+    """A unit as it stands, and what it is made of: what is counted or paid, for how much of what, and for what time."""
+
+    text: str
+    base: str
+    per: FrozenSet[str]
+    time: str
+
+    def agrees(self, other: Unit) -> bool:
+        """Whether two amounts may be in one unit: they count the same, and in the same time where both name one."""
+        return self.base == other.base and (not self.time or not other.time or self.time == other.time)
+
+    def is_per(self, amount: Unit) -> bool:
+        """Whether a cost may be for one unit of this amount."""
+        return not self.per or self.per == frozenset((amount.base,))
+
+
+def unit_of(text: str) -> Optional[Unit]:
+    """The unit that a text names; None where it is not one that is known, as for lengths: a cost for each kilometre is
+    not that of a unit.
+
+    >>> unit_of("EUR/t").per, unit_of("in t per week").time, unit_of("fixed"), unit_of("EUR/km")
+    (frozenset({'t'}), 'week', None, None)
+    """
+    bare = unicodedata.normalize("NFKD", text.casefold())
+    bare = "".join(c for c in bare if not unicodedata.combining(c)).replace("₂", "2")
+    words = [word for word in re.split(r"[\s_\-.,]+|(/)", bare) if word]
+    while words and words[0] in ("in", "en"):
+        words = words[1:]
+    if not words:
+        return None
+    base, time, per = "", "", []
+    scale = ""
+    is_behind = False
+    for word in words:
+        digits = re.fullmatch(r"(\d+)?(.*)", word)
+        assert digits is not None
+        if word == "/" or word in _BETWEEN:
+            is_behind = True
+        elif word in _NUMBERS and not base:
+            scale = word
+        elif word in _COINS or word in ("k€", "t€", "keur", "teur"):
+            if base or is_behind:
+                return None
+            base = word
+        elif word in _TIMES and is_behind:
+            time = _TIMES[word]
+        elif (digits[2] if digits[1] else word) in _AMOUNTS:
+            name = (digits[1] or "") + _AMOUNTS[digits[2] if digits[1] else word]
+            if base and is_behind:
+                per.append(name)
+            elif base or is_behind and not per and base:
+                return None
+            elif is_behind:
+                per.append(name)
+            else:
+                base = name
+        elif word in ("daily", "weekly", "monthly", "yearly"):
+            time = _TIMES[word]
+        else:
+            return None
+    if not base and not per and not time:
+        return None
+    text = re.sub(r"^(in|en)\s+", "", text.strip(" _-.:"), flags=re.IGNORECASE)
+    return Unit(text, scale + base, frozenset(per), time)

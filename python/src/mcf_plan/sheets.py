@@ -1,0 +1,228 @@
+"""Sheets: the cells of a text, a frame or a workbook, column by column, before anything is made of them."""
+
+from __future__ import annotations
+
+import csv
+import io
+import re
+from dataclasses import dataclass, field
+from pathlib import Path
+from typing import Any, Dict, FrozenSet, List, Optional, Sequence, Tuple
+
+from .cells import TableFault, is_empty, shown
+
+DELIMITERS = ",;\t|"
+WORKBOOKS = (".xlsx", ".xlsm")
+OTHER_SPREADSHEETS = (".xls", ".xlsb", ".ods", ".numbers")
+MAPS = (".geojson", ".json")
+
+
+@dataclass
+class Sheet:
+    """A table as it stands: the names of its columns, and the cells below them, column by column.
+
+    `name` is what messages call it. `lines` says where each row stands, as a number of lines, rows or features, by
+    `word`. `missing` has the places that a row lacks, by the number of the row from 0. `index` are the names that a
+    frame, or a first column without a name, has for its rows.
+    """
+
+    name: str
+    header: List[str]
+    columns: List[Sequence[Any]]
+    lines: Sequence[Any]
+    word: str = "line"
+    delimiter: str = ""
+    missing: Dict[int, FrozenSet[int]] = field(default_factory=dict)
+    index: Optional[Sequence[Any]] = None
+    index_name: str = ""
+    notes: List[str] = field(default_factory=list)
+
+    def place(self, row: int) -> str:
+        """Where a row stands, in words."""
+        return f"{self.word} {self.lines[row]}"
+
+    def fault(self, row: int, column: int, expected: str) -> TableFault:
+        """What is wrong with a cell."""
+        cell = shown(self.columns[column][row])
+        return TableFault(
+            f"{self.name}, {self.place(row)}, column {self.header[column]!r}: {cell} stands there; {expected}"
+        )
+
+    def its_columns(self) -> str:
+        """The names of the columns, for messages."""
+        return ", ".join(repr(header) for header in self.header if header) or "without a name"
+
+
+def sheet_of_rows(
+    name: str, rows: Sequence[Sequence[Any]], lines: Sequence[int], *, word: str = "row", delimiter: str = ""
+) -> Sheet:
+    """The sheet of rows of cells, of which the first that is not empty names the columns."""
+    filled = [number for number, row in enumerate(rows) if any(not is_empty(cell) for cell in row)]
+    if not filled:
+        raise TableFault(f"{name}: the table is empty: a row with the names of the columns comes first")
+    header = ["" if is_empty(cell) else str(cell).strip() for cell in rows[filled[0]]]
+    while header and not header[-1]:
+        header.pop()
+    body, width = filled[1:], len(header)
+    missing: Dict[int, FrozenSet[int]] = {}
+    kept: List[Sequence[Any]] = []
+    for number in body:
+        row = rows[number]
+        if len(row) != width:
+            row = _fitted(row, width, f"{name}, {word} {lines[number]}")
+            if len(rows[number]) < width:
+                missing[len(kept)] = frozenset(range(len(rows[number]), width))
+        kept.append(row)
+    columns: List[Sequence[Any]] = list(zip(*kept)) if kept else [[] for _ in header]
+    sheet = Sheet(name, header, columns, [lines[number] for number in body], word, delimiter, missing)
+    if header and not header[0] and len(header) > 1:
+        sheet.index, sheet.index_name = columns[0], "the first column, which has no name,"
+    return sheet
+
+
+def _fitted(row: Sequence[Any], width: int, place: str) -> Sequence[Any]:
+    """A row as wide as the header. Raises TableFault where cells stand beyond it."""
+    if any(not is_empty(cell) for cell in row[width:]):
+        raise TableFault(
+            f"{place}: {len(row)} fields stand under {width} columns; is there a comma in a number? Then put it "
+            "between quotes, or write a point"
+        )
+    return [*row, *[""] * (width - len(row))][:width]
+
+
+# ---------------------------------------------------------------- texts
+
+
+def read_text(path: Path, encoding: Optional[str] = None) -> Sheet:
+    """The sheet of a text whose fields are parted by commas, semicolons, tabs or upright strokes."""
+    text = _decoded(path.read_bytes(), path.name, encoding)
+    found = re.search(r"[^\r\n]*[^\s][^\r\n]*", text)
+    first = found[0] if found else ""
+    told = re.fullmatch(r"sep=(.)\s*", first, re.IGNORECASE)
+    if told:
+        delimiter = told[1]
+        text = re.sub(r"sep=.", "", text, count=1, flags=re.IGNORECASE)
+    else:
+        delimiter = _delimiter(first, path.name)
+    reader = csv.reader(io.StringIO(text, newline=""), delimiter=delimiter, skipinitialspace=True, strict=True)
+    rows: List[List[str]] = []
+    starts: List[int] = []
+    begins = 1
+    try:
+        for row in reader:
+            rows.append(row)
+            starts.append(begins)
+            begins = reader.line_num + 1
+    except csv.Error as error:
+        raise TableFault(f"{path.name}, line {begins}: {_csv_words(str(error))}") from None
+    sheet = sheet_of_rows(path.name, rows, starts, word="line", delimiter=delimiter)
+    if len(sheet.header) == 1 and re.search(r"\S\s+\S", first):
+        raise TableFault(
+            f"{path.name}: one column alone is there, {sheet.header[0]!r}; columns are parted by commas, semicolons, "
+            "tabs or upright strokes"
+        )
+    return sheet
+
+
+def _decoded(raw: bytes, name: str, encoding: Optional[str]) -> str:
+    """The text of a file. Raises TableFault where it is none."""
+    if raw[:2] == b"PK":
+        raise TableFault(f"{name}: this is a spreadsheet by another name; give it its ending .xlsx")
+    if raw[:2] in (b"\xff\xfe", b"\xfe\xff"):
+        encoding = "utf-16"
+    try:
+        text = raw.decode(encoding or "utf-8-sig")
+    except LookupError:
+        raise TableFault(f"{encoding!r} is the name of no encoding; for tables of Windows it is cp1252") from None
+    except UnicodeDecodeError as error:
+        line = len(re.findall(rb"\r\n|\r|\n", raw[: error.start])) + 1
+        if encoding:
+            raise TableFault(f"{name}, line {line}: a byte that is no {encoding}") from None
+        begin = re.split(rb"[\r\n]", raw[: error.start])[-1]
+        word = raw[error.start - len(begin) :].split(b"\n")[0].strip()[:40].decode("cp1252", "replace")
+        raise TableFault(
+            f"{name}, line {line}: a byte that is no UTF-8; save it as CSV in UTF-8, or say `--encoding cp1252` if "
+            f"{word!r} is what stands there"
+        ) from None
+    if "\0" in text:
+        line = len(re.findall(r"\r\n|\r|\n", text[: text.index("\0")])) + 1
+        raise TableFault(f"{name}, line {line}: a byte 0, which no table has")
+    return text
+
+
+def _delimiter(first: str, name: str) -> str:
+    """What parts the columns, by the line with their names."""
+    bare = re.sub(r'"[^"]*"', "", first)
+    counts = sorted(((bare.count(mark), mark) for mark in DELIMITERS), reverse=True)
+    if counts[0][0] and counts[0][0] == counts[1][0]:
+        raise TableFault(
+            f"{name}: the names of the columns are parted by {shown(counts[0][1])} and by {shown(counts[1][1])}; "
+            "part them by one of them"
+        )
+    return counts[0][1] if counts[0][0] else ","
+
+
+def _csv_words(error: str) -> str:
+    """An error of the reader of texts in a planner's words."""
+    if "unexpected end" in error:
+        return "a quote is opened here and not closed"
+    if "expected after" in error:
+        return "something stands behind a closing quote; within a quoted field a quote is written twice"
+    return error
+
+
+# ---------------------------------------------------------------- frames
+
+
+def sheet_of_frame(frame: Any) -> Sheet:
+    """The sheet of a pandas DataFrame; its index may have the names of the rows."""
+    header = [str(column).strip() for column in frame.columns]
+    columns: List[Sequence[Any]] = [frame.iloc[:, place].tolist() for place in range(len(header))]
+    lines = frame.index.tolist()
+    kept = [number for number, row in enumerate(zip(*columns)) if any(not is_empty(cell) for cell in row)]
+    if len(kept) != len(lines):
+        columns = [[column[number] for number in kept] for column in columns]
+        lines = [lines[number] for number in kept]
+    sheet = Sheet("frame", header, columns, [_row_label(line) for line in lines], "row")
+    index_name = frame.index.name
+    if getattr(frame.index, "nlevels", 1) > 1:
+        for level, name in enumerate(frame.index.names):
+            sheet.header.append(str(name if name is not None else ""))
+            sheet.columns.append([line[level] for line in lines])
+    elif index_name is not None:
+        sheet.header.append(str(index_name).strip())
+        sheet.columns.append(lines)
+    elif any(isinstance(line, str) for line in lines):
+        sheet.index, sheet.index_name = lines, "the index"
+    return sheet
+
+
+def _row_label(label: Any) -> str:
+    return str(label) if isinstance(label, int) else repr(label)
+
+
+# ---------------------------------------------------------------- which file
+
+
+def part_sheet(source: Any) -> Tuple[Path, Optional[str]]:
+    """A path, and the sheet that is named behind it, as in `book.xlsx:Orte`."""
+    found = re.fullmatch(r"(.+\.(?:xlsx|xlsm)):([^/\\]+)", str(source), re.IGNORECASE | re.DOTALL)
+    if found and not Path(source).exists():
+        return Path(found[1]), found[2]
+    return Path(source), None
+
+
+def check_ending(path: Path) -> None:
+    """Raises TableFault for a spreadsheet that is not read."""
+    if path.suffix.lower() in OTHER_SPREADSHEETS:
+        raise TableFault(f"{path.name}: files that end in {path.suffix} are not read; save it as .xlsx or as CSV")
+
+
+def is_table(name: str) -> bool:
+    """Whether a name on the command line is that of a table, and not of a text of the formats.
+
+    >>> is_table("roads.CSV"), is_table("book.xlsx:Orte"), is_table("problem.min")
+    (True, True, False)
+    """
+    path, _ = part_sheet(name)
+    return path.suffix.lower() in (".csv", ".tsv", *WORKBOOKS, *OTHER_SPREADSHEETS, *MAPS)

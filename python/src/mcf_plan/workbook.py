@@ -1,0 +1,344 @@
+"""Workbooks (.xlsx): sheets by their names, in and out, by the standard library alone.
+
+Cells are read as the file has them, so that errors, truth values, dates, and formulas without a kept value are told
+apart from numbers and from cells that are empty. A sheet is written into a workbook with all other parts of the file
+as they are, to the byte: charts, pictures and the values of formulas stay.
+"""
+
+from __future__ import annotations
+
+import datetime
+import os
+import posixpath
+import re
+import zipfile
+from pathlib import Path
+from typing import Any, Dict, Iterator, List, NamedTuple, Sequence, Tuple
+from xml.etree import ElementTree
+from xml.sax.saxutils import escape, quoteattr
+
+from .cells import NoValue, TableFault
+from .sheets import Sheet, sheet_of_rows
+
+WORKBOOK = "xl/workbook.xml"
+RELATIONS = "http://schemas.openxmlformats.org/officeDocument/2006/relationships"
+MAIN = "http://schemas.openxmlformats.org/spreadsheetml/2006/main"
+SHEET_TYPE = "application/vnd.openxmlformats-officedocument.spreadsheetml.worksheet+xml"
+BOOK_TYPE = "application/vnd.openxmlformats-officedocument.spreadsheetml.sheet.main+xml"
+DATE_FORMATS = frozenset((*range(14, 23), *range(27, 37), *range(45, 48), *range(50, 59)))
+"""The formats of dates and times that every workbook has, by their numbers."""
+DAY_0 = datetime.datetime(1899, 12, 30)
+HEAD = '<?xml version="1.0" encoding="UTF-8" standalone="yes"?>\n'
+
+
+class _Tab(NamedTuple):
+    """A sheet of a workbook: its name, and the part of the file that has its cells."""
+
+    name: str
+    part: str
+
+
+def sheet_names(path: Path) -> List[str]:
+    """The names of the sheets that have a cell, in their order. Raises TableFault where the file is no workbook."""
+    with _opened(path) as file:
+        return [tab.name for tab in _tabs(file, path) if _has_cells(file.read(tab.part))]
+
+
+def read_sheet(path: Path, name: str) -> Sheet:
+    """The cells of a sheet. Raises TableFault where there is no such sheet, or it can't be read."""
+    with _opened(path) as file:
+        tabs = _tabs(file, path)
+        found = [tab for tab in tabs if tab.name.casefold() == name.casefold()]
+        if not found:
+            raise TableFault(f"{path.name}: there is no sheet {name!r}; its sheets are {_listed(tabs)}")
+        reader = _Reader(file, path)
+        rows, lines = reader.rows(found[0].part)
+    title = path.name if len(tabs) == 1 else f"{path.name}, sheet {found[0].name!r}"
+    return sheet_of_rows(title, rows, lines)
+
+
+def _listed(tabs: Sequence[_Tab]) -> str:
+    return ", ".join(repr(tab.name) for tab in tabs)
+
+
+def _opened(path: Path) -> zipfile.ZipFile:
+    """The file as an archive, with the parts of a workbook."""
+    with open(path, "rb") as raw:
+        begin = raw.read(8)
+    if begin == b"\xd0\xcf\x11\xe0\xa1\xb1\x1a\xe1":
+        raise TableFault(f"{path.name}: this is an old workbook (.xls), or one with a password; save it as .xlsx")
+    try:
+        file = zipfile.ZipFile(path)
+    except zipfile.BadZipFile:
+        raise TableFault(f"{path.name}: this is no workbook, or it is damaged; save it as .xlsx again") from None
+    if WORKBOOK not in file.namelist():
+        file.close()
+        raise TableFault(f"{path.name}: this is no workbook of the kind .xlsx")
+    return file
+
+
+def _parsed(file: zipfile.ZipFile, part: str) -> ElementTree.Element:
+    try:
+        return ElementTree.fromstring(file.read(part))
+    except (ElementTree.ParseError, KeyError, zipfile.BadZipFile) as error:
+        raise TableFault(f"{Path(file.filename or '').name}: the part {part} can't be read: {error}") from None
+
+
+def _local(element: ElementTree.Element) -> str:
+    """The name of an element without its namespace, since there are two of the same meaning."""
+    return element.tag.rpartition("}")[2]
+
+
+def _has_cells(sheet: bytes) -> bool:
+    return re.search(rb"<(\w+:)?c[ >]", sheet) is not None
+
+
+def _relations(file: zipfile.ZipFile) -> Dict[str, Tuple[str, str]]:
+    """The parts that the workbook speaks of, by their keys: kind and place."""
+    found = {}
+    for each in _parsed(file, "xl/_rels/workbook.xml.rels"):
+        target = each.get("Target", "")
+        place = target[1:] if target.startswith("/") else posixpath.normpath(posixpath.join("xl", target))
+        found[each.get("Id", "")] = each.get("Type", "").rpartition("/")[2], place
+    return found
+
+
+def _tabs(file: zipfile.ZipFile, path: Path) -> List[_Tab]:
+    """The sheets of cells, in the order of the workbook."""
+    relations = _relations(file)
+    tabs = []
+    for sheet in _parsed(file, WORKBOOK).iter():
+        if _local(sheet) == "sheet":
+            key = next((value for name, value in sheet.attrib.items() if name.rpartition("}")[2] == "id"), "")
+            kind, part = relations.get(key, ("", ""))
+            if kind == "worksheet":
+                tabs.append(_Tab(sheet.get("name", ""), part))
+    if not tabs:
+        raise TableFault(f"{path.name}: there is no sheet with cells")
+    return tabs
+
+
+# ---------------------------------------------------------------- reading
+
+
+class _Reader:
+    """Reads the cells of sheets, with the texts and formats that the sheets of a workbook share."""
+
+    def __init__(self, file: zipfile.ZipFile, path: Path):
+        self.file, self.path = file, path
+        parts = dict(_relations(file).values())
+        self.texts = [_text_of(each) for each in self._elements(parts.get("sharedStrings"), "si")]
+        self.is_date = self._date_styles(parts.get("styles"))
+
+    def _elements(self, part: Any, name: str) -> Iterator[ElementTree.Element]:
+        if part is not None and part in self.file.namelist():
+            yield from (each for each in _parsed(self.file, part).iter() if _local(each) == name)
+
+    def _date_styles(self, part: Any) -> List[bool]:
+        """Whether the cells of a style are dates, by the number of the style."""
+        own = {
+            int(each.get("numFmtId", "0")): _is_date_format(each.get("formatCode", ""))
+            for each in self._elements(part, "numFmt")
+        }
+        return [
+            own.get(number, number in DATE_FORMATS)
+            for group in self._elements(part, "cellXfs")
+            for number in (int(each.get("numFmtId", "0")) for each in group)
+        ]
+
+    def rows(self, part: str) -> Tuple[List[List[Any]], List[int]]:
+        """The rows of a sheet, filled up to the same width, and their numbers."""
+        rows: List[Dict[int, Any]] = []
+        lines: List[int] = []
+        width = 0
+        try:
+            with self.file.open(part) as raw:
+                for _, element in ElementTree.iterparse(raw):
+                    if _local(element) == "row":
+                        cells = dict(self._cells(element))
+                        lines.append(int(element.get("r") or (lines[-1] + 1 if lines else 1)))
+                        rows.append(cells)
+                        width = max(width, *cells, -1) if cells else width
+                        element.clear()
+        except (ElementTree.ParseError, KeyError, ValueError, IndexError, zipfile.BadZipFile) as error:
+            raise TableFault(f"{self.path.name}: the part {part} can't be read: {error}") from None
+        return [[cells.get(place, "") for place in range(width + 1)] for cells in rows], lines
+
+    def _cells(self, row: ElementTree.Element) -> Iterator[Tuple[int, Any]]:
+        """The cells of a row by their places from 0."""
+        place = -1
+        for cell in row:
+            if _local(cell) == "c":
+                name = cell.get("r")
+                place = place + 1 if name is None else _place(name)
+                yield place, self._value(cell)
+
+    def _value(self, cell: ElementTree.Element) -> Any:
+        """The value of a cell: '' where it is empty, NoValue for a formula whose value was not kept."""
+        kind = cell.get("t", "n")
+        parts = {_local(each): each for each in cell}
+        text = parts["v"].text or "" if "v" in parts else ""
+        if kind == "inlineStr":
+            return _text_of(parts["is"]) if "is" in parts else ""
+        if "f" in parts and not text and not (kind == "str" and "v" in parts):
+            return NoValue(parts["f"].text or "")
+        if kind == "s":
+            return self.texts[int(text)] if text else ""
+        if kind in ("str", "e"):
+            return _unescaped(text)
+        if kind == "b":
+            return text.strip() in ("1", "true")
+        if kind == "d":
+            return datetime.datetime.fromisoformat(text)
+        if not text:
+            return ""
+        style = int(cell.get("s", "0"))
+        if style < len(self.is_date) and self.is_date[style]:
+            return _date(float(text))
+        return int(text) if re.fullmatch(r"-?\d{1,15}", text) else float(text)
+
+
+def _place(name: str) -> int:
+    """The place of a column from 0, by the name of a cell, as 1 for B7."""
+    place = 0
+    for letter in name:
+        if not letter.isalpha():
+            break
+        place = place * 26 + ord(letter.upper()) - 64
+    return place - 1
+
+
+def _text_of(element: ElementTree.Element) -> str:
+    """The text of a cell, whose letters may have different looks."""
+    runs = [element, *(each for each in element if _local(each) == "r")]
+    return _unescaped("".join(each.text or "" for run in runs for each in run if _local(each) == "t"))
+
+
+def _unescaped(text: str) -> str:
+    return re.sub(r"_x([0-9A-Fa-f]{4})_", lambda found: chr(int(found[1], 16)), text)
+
+
+def _is_date_format(code: str) -> bool:
+    """Whether a format of numbers shows a date or a time."""
+    bare = re.sub(r'"[^"]*"|\\.|\[[^\]]*\]|_.|\*.', "", code.split(";")[0])
+    return re.search(r"[dmyhs]", bare, re.IGNORECASE) is not None and "general" not in bare.lower()
+
+
+def _date(days: float) -> Any:
+    """The date of a number of days; the number where it is none."""
+    try:
+        return DAY_0 + datetime.timedelta(days=days)
+    except OverflowError:
+        return days
+
+
+# ---------------------------------------------------------------- writing
+
+Rows = Sequence[Sequence[Any]]
+"""Rows of texts and numbers; '' is an empty cell."""
+
+
+def write_workbook(path: Path, name: str, rows: Rows) -> None:
+    """Writes a workbook with one sheet."""
+    parts = {
+        "[Content_Types].xml": f'{HEAD}<Types xmlns="http://schemas.openxmlformats.org/package/2006/content-types">'
+        '<Default Extension="rels" ContentType="application/vnd.openxmlformats-package.relationships+xml"/>'
+        f'<Override PartName="/{WORKBOOK}" ContentType="{BOOK_TYPE}"/>'
+        f'<Override PartName="/xl/worksheets/sheet1.xml" ContentType="{SHEET_TYPE}"/></Types>',
+        "_rels/.rels": _relations_text([("rId1", "officeDocument", WORKBOOK)]),
+        WORKBOOK: f'{HEAD}<workbook xmlns="{MAIN}" xmlns:r="{RELATIONS}"><sheets>'
+        f'<sheet name={quoteattr(name)} sheetId="1" r:id="rId1"/></sheets></workbook>',
+        "xl/_rels/workbook.xml.rels": _relations_text([("rId1", "worksheet", "worksheets/sheet1.xml")]),
+        "xl/worksheets/sheet1.xml": _sheet_text(rows),
+    }
+    _replace(path, [(name, text.encode()) for name, text in parts.items()])
+
+
+def write_sheet(path: Path, name: str, rows: Rows) -> None:
+    """Writes one sheet of a workbook, and leaves all other parts of the file as they are; a sheet of this name is
+    replaced. Raises TableFault where that sheet has formulas of its own, or the name is not one of a sheet."""
+    if not re.fullmatch(r"[^\[\]:*?/\\']{1,31}", name):
+        raise TableFault(f"{name!r} is no name of a sheet: it has at most 31 letters, and none of [ ] : * ? / \\ '")
+    if not path.exists():
+        write_workbook(path, name, rows)
+        return
+    with _opened(path) as file:
+        parts = [(each, file.read(each)) for each in file.namelist()]
+        tabs = _tabs(file, path)
+    text = _sheet_text(rows).encode()
+    old = [tab.part for tab in tabs if tab.name.casefold() == name.casefold()]
+    if old:
+        if re.search(rb"<(\w+:)?f[ />]", dict(parts)[old[0]]):
+            raise TableFault(f"{path.name}: the sheet {name!r} has formulas, which would be lost; take another name")
+        _replace(path, [(each, text if each == old[0] else content) for each, content in parts])
+        return
+    _replace(path, _with_sheet(parts, name, text))
+
+
+def _with_sheet(parts: List[Tuple[str, bytes]], name: str, sheet: bytes) -> List[Tuple[str, bytes]]:
+    """The parts of a workbook with one sheet more."""
+    contents = dict(parts)
+    number = next(n for n in range(1, 100_000) if f"xl/worksheets/sheet{n}.xml" not in contents)
+    place = f"xl/worksheets/sheet{number}.xml"
+    keys = [int(key) for key in re.findall(rb'sheetId="(\d+)"', contents[WORKBOOK])]
+    key = f"mcfPlan{number}"
+    added = {
+        "[Content_Types].xml": f'<Override xmlns="http://schemas.openxmlformats.org/package/2006/content-types" '
+        f'PartName="/{place}" ContentType="{SHEET_TYPE}"/>',
+        "xl/_rels/workbook.xml.rels": '<Relationship xmlns="http://schemas.openxmlformats.org/package/2006/'
+        f'relationships" Id="{key}" Type="{RELATIONS}/worksheet" Target="/{place}"/>',
+        WORKBOOK: f'<sheet xmlns="{MAIN}" xmlns:r="{RELATIONS}" name={quoteattr(name)} '
+        f'sheetId="{max(keys, default=0) + 1}" r:id="{key}"/>',
+    }
+    ends = {"[Content_Types].xml": "Types", "xl/_rels/workbook.xml.rels": "Relationships", WORKBOOK: "sheets"}
+    for part, text in added.items():
+        found = re.search(rf"</(\w+:)?{ends[part]}\s*>".encode(), contents[part])
+        if not found:
+            raise TableFault(f"the part {part} of the workbook can't be added to; write to another file")
+        contents[part] = contents[part][: found.start()] + text.encode() + contents[part][found.start() :]
+    return [*contents.items(), (place, sheet)]
+
+
+def _relations_text(rows: Sequence[Tuple[str, str, str]]) -> str:
+    inner = "".join(f'<Relationship Id="{key}" Type="{RELATIONS}/{kind}" Target="{to}"/>' for key, kind, to in rows)
+    return f'{HEAD}<Relationships xmlns="http://schemas.openxmlformats.org/package/2006/relationships">{inner}</Relationships>'
+
+
+def _sheet_text(rows: Rows) -> str:
+    """A sheet as the part of a workbook."""
+    out = [f'{HEAD}<worksheet xmlns="{MAIN}"><sheetData>']
+    for number, row in enumerate(rows, 1):
+        cells = "".join(_cell_text(f"{_letters(place)}{number}", cell) for place, cell in enumerate(row) if cell != "")
+        out.append(f'<row r="{number}">{cells}</row>')
+    return "".join(out) + "</sheetData></worksheet>"
+
+
+def _letters(place: int) -> str:
+    """The name of a column, as AB for 27."""
+    return (_letters(place // 26 - 1) if place >= 26 else "") + chr(65 + place % 26)
+
+
+def _cell_text(name: str, cell: Any) -> str:
+    if isinstance(cell, str):
+        return f'<c r="{name}" t="inlineStr"><is><t xml:space="preserve">{escape(_escaped(cell))}</t></is></c>'
+    return f'<c r="{name}"><v>{cell!r}</v></c>'
+
+
+def _escaped(text: str) -> str:
+    """A text with what XML can't have by its number, as workbooks write it."""
+    text = re.sub(r"_(?=x[0-9A-Fa-f]{4}_)", "_x005F_", text)
+    return re.sub(
+        r"[^\t\n\x20-\ud7ff\ue000-\ufffd\U00010000-\U0010ffff]", lambda found: f"_x{ord(found[0]):04X}_", text
+    )
+
+
+def _replace(path: Path, parts: Sequence[Tuple[str, bytes]]) -> None:
+    """Writes the parts as a file that takes the place of the one that is there when it is whole."""
+    new = path.with_name(path.name + ".new")
+    try:
+        with zipfile.ZipFile(new, "w", zipfile.ZIP_DEFLATED) as file:
+            for name, content in parts:
+                file.writestr(zipfile.ZipInfo(name), content, zipfile.ZIP_DEFLATED)
+        os.replace(new, path)
+    finally:
+        new.unlink(missing_ok=True)
