@@ -151,10 +151,13 @@ _TELLING = {word: things for word, things in _WORDS.items() if " " not in word a
 _TELLING.update({"load": ["capacity"], "kosten": ["cost"], "fee": ["cost"], "toll": ["cost"], "bound": ["capacity"]})
 
 
-def find_columns(sheet: Sheet, kinds: Sequence[str], chosen: Mapping[str, Sequence[str]]) -> Found:
+def find_columns(
+    sheet: Sheet, kinds: Sequence[str], chosen: Mapping[str, Sequence[str]], *, unused: Collection[str] = ()
+) -> Found:
     """Which column holds which of the things `kinds`. Notes of what was chosen are added to the sheet.
 
-    `chosen` are names of columns that were said, for a thing or for 'aside'. Raises TableFault where a column that looks
+    `chosen` are names of columns that were said, for a thing or for 'aside'. Columns of things that are `unused` are left
+    aside. Raises TableFault where a column that looks
     like one that matters is not understood, and where two are the same thing.
     """
     found = Found()
@@ -166,15 +169,23 @@ def find_columns(sheet: Sheet, kinds: Sequence[str], chosen: Mapping[str, Sequen
         said = told.get(place)
         if said == "aside":
             continue
+        if said in unused:
+            aside.append(place)
+            continue
         match = match_of(header, kinds if said is None else [said])
         if said is not None:
             matches.setdefault(said, []).append((place, match or Match(said, None)))
         elif match is None:
             unknown.append(place)
-        elif match.what in told.values():
+        elif match.what in told.values() or match.what in unused:
             aside.append(place)
         else:
             matches.setdefault(match.what, []).append((place, match))
+    if not matches and not (sheet.index and "node" in kinds):
+        raise TableFault(
+            f"{sheet.name}: no column is understood; the names of the columns come first, and here {sheet.its_columns()} "
+            f"stand there; `--columns {kinds[0]}=NAME` names one that is called otherwise"
+        )
     for what, its in matches.items():
         aside += _choose(sheet, what, its, found)
     is_own = OWN <= set(map(folded, sheet.header))

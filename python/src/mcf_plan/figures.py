@@ -93,9 +93,15 @@ def _too_fine_costs(problem: Problem, rest_cost: Decimal, money: Scale) -> Beyon
         )
     finest, at = next((cost, words) for cost, words in costs if places_of([cost]) == money.places)
     places = next(p for p in range(money.places, -1, -1) if greatest * Decimal(10) ** p <= MOST_COST)
-    return BeyondLimits(
-        f"{at}: the cost {plain(finest)} is too fine beside {plain(greatest)} of {where}"
-        f"; the finest step that would do is {plain(Decimal(10) ** -places)}"
+    beside = "by itself" if at == where else f"beside {plain(greatest)} of {where}"
+    return BeyondLimits(f"{at}: the cost {plain(finest)} is too fine {beside}; {_finest_step(places)}")
+
+
+def _finest_step(places: int) -> str:
+    """What to do where numbers are too fine."""
+    return (
+        f"the finest step that would do is {plain(Decimal(10) ** -places)}: `--round {places}`, or in Python "
+        f"`decimals={places}`, rounds all numbers to it"
     )
 
 
@@ -118,10 +124,8 @@ def too_large(figures: Figures) -> BeyondLimits:
     if amounts.places and greatest * amounts.units > MOST_FLOW:
         finest, at = next((number, words) for number, words in rows if places_of([number]) == amounts.places)
         places = next((p for p in range(amounts.places, -1, -1) if greatest * Decimal(10) ** p <= MOST_FLOW), 0)
-        return BeyondLimits(
-            f"{at} {plain(finest)} is too fine beside {plain(greatest)} ({where}); the finest step that "
-            f"would do is {plain(Decimal(10) ** -places)}"
-        )
+        beside = "by itself" if finest == greatest else f"beside {plain(greatest)} ({where})"
+        return BeyondLimits(f"{at} {plain(finest)} is too fine {beside}; {_finest_step(places)}")
     if greatest * amounts.units > MOST_FLOW:
         return BeyondLimits(
             f"{where} {plain(greatest)} is too great: it takes arcs of {MOST_FLOW:,} each, and in all "

@@ -83,10 +83,13 @@ def sheet_of_rows(
 def _fitted(row: Sequence[Any], width: int, place: str) -> Sequence[Any]:
     """A row as wide as the header. Raises TableFault where cells stand beyond it."""
     if any(not is_empty(cell) for cell in row[width:]):
-        raise TableFault(
-            f"{place}: {len(row)} fields stand under {width} columns; is there a comma in a number? Then put it "
-            "between quotes, or write a point"
+        columns = "1 column" if width == 1 else f"{width} columns"
+        help_ = (
+            "is there a title above the table? Then take it out: the names of the columns come first"
+            if width == 1
+            else "is there a comma in a number? Then put it between quotes, or write a point"
         )
+        raise TableFault(f"{place}: {len(row)} fields stand under {columns}; {help_}")
     return [*row, *[""] * (width - len(row))][:width]
 
 

@@ -111,9 +111,9 @@ def read_tables(
     problem = Problem(kind, balance=balance, source=source, sink=sink)
     node_sheet, arc_sheet = _sheets(nodes, arcs, reading)
     _check_order(node_sheet, arc_sheet)
-    kinds = tuple(what for what in ARC_COLUMNS if not (kind == "max" and what == "cost"))
     _check_chosen(reading, node_sheet)
-    arc_table = _Table(arc_sheet, find_columns(arc_sheet, kinds, reading.columns), reading)
+    unused = ("cost",) if kind == "max" else ()
+    arc_table = _Table(arc_sheet, find_columns(arc_sheet, ARC_COLUMNS, reading.columns, unused=unused), reading)
     tails, heads = arc_table.names("from"), arc_table.names("to")
     ends = dict.fromkeys(end for pair in zip(tails, heads) for end in pair)
     node_table = None
