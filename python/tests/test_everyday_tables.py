@@ -82,5 +82,388 @@ class Texts(InFolder):
                         self.assertEqual(errors, "")
 
 
+NODES = [["name", "supply"], ["Kiel", 5], ["Berlin", -5]]
+HEAD = ["from", "to", "capacity", "cost"]
+
+
+def book(path, **sheets):
+    """Writes a workbook as openpyxl makes it: formulas have no values."""
+    import openpyxl
+
+    made = openpyxl.Workbook()
+    made.remove(made.active)
+    for name, rows in sheets.items():
+        sheet = made.create_sheet(name)
+        for row in rows:
+            sheet.append(row)
+    made.save(path)
+    return str(path)
+
+
+def keep_values(path, values):
+    """Puts the values of formulas beside them, as a spreadsheet program does when it saves: cell to (type, value)."""
+    with zipfile.ZipFile(path) as file:
+        parts = {name: file.read(name) for name in file.namelist()}
+    for name, text in parts.items():
+        if name.startswith("xl/worksheets/"):
+            for cell, (kind, value) in values.items():
+                text = re.sub(
+                    rf'<c r="{cell}"([^>]*)><f>(.*?)</f><v ?/?>(</v>)?</c>'.encode(),
+                    lambda found: b'<c r="%s" t="%s"><f>%s</f><v>%s</v></c>'
+                    % (cell.encode(), kind.encode(), found[2], value.encode()),
+                    text,
+                )
+            parts[name] = text
+    with zipfile.ZipFile(path, "w") as file:
+        for name, content in parts.items():
+            file.writestr(name, content)
+
+
+def needs(*names):
+    """Passes a test over where a library is missing."""
+    for name in names:
+        try:
+            __import__(name)
+        except ImportError:
+            return unittest.skip(f"{name} is not installed")
+    return lambda test: test
+
+
+class Workbooks(InFolder):
+    def told(self, *words):
+        status, out, errors = run(*words)
+        return f"{status}: {out.splitlines()[0] if out else ''}", errors
+
+    @needs("openpyxl")
+    def test_cells(self):
+        import datetime
+
+        for title, row, wanted in (
+            ("numbers", ["Kiel", "Berlin", 9, 2.5], "cost 12.5"),
+            ("an empty capacity", ["Kiel", "Berlin", None, 2.5], "cost 12.5"),
+            ("a computed price", ["Kiel", "Berlin", 9, 1 / 7], "beyond: --round"),
+            ("an error", ["Kiel", "Berlin", "#N/A", 2.5], "row 2, column 'capacity': '#N/A' stands there; .*an error"),
+            ("an error of a cost", ["Kiel", "Berlin", 9, "#DIV/0!"], "column 'cost': .* an error"),
+            ("n/a", ["Kiel", "Berlin", "n/a", 2.5], "'n/a' stands there"),
+            ("null", ["Kiel", "Berlin", 9, "null"], "'null' stands there"),
+            ("a truth value", ["Kiel", "Berlin", True, 2.5], "TRUE stands there; .* truth value"),
+            ("a truth value beside 1", ["Kiel", "Berlin", 1, True], "TRUE stands there; .* truth value"),
+            ("a truth value as a name", ["Kiel", False, 9, 2.5], "FALSE stands there; .* truth value"),
+            ("a formula", ["Kiel", "Berlin", "=4+5", 2.5], "'=4.5' stands there; .*a formula without a kept value"),
+            ("a formula of a cost", ["Kiel", "Berlin", 9, "=5/2"], "column 'cost': '=5/2' .* without a kept value"),
+            ("a formula of a name", ["Kiel", "=A2", 9, 2.5], "column 'to': '=A2' .* without a kept value"),
+            ("a date", ["Kiel", "Berlin", datetime.datetime(2026, 5, 3), 2.5], "'2026-05-03' stands there; .* a date"),
+            ("a time", ["Kiel", "Berlin", datetime.time(9, 30), 2.5], "column 'capacity': .* a date or a time"),
+            ("an empty cost", ["Kiel", "Berlin", 9, None], "row 2, column 'cost': .* the cost of a unit was expected"),
+            ("a number as a text", ["Kiel", "Berlin", "9", "2.5"], "cost 12.5"),
+            ("thousands in a text", ["Kiel", "Berlin", "1.250", 2.5], "is it 1.250 or 1250"),
+            ("a decimal comma in a text", ["Kiel", "Berlin", 9, "2,5"], "cost 12.5"),
+            ("no limit", ["Kiel", "Berlin", "∞", 2.5], "cost 12.5"),
+            ("a blank as a cost", ["Kiel", "Berlin", 9, " "], "the cost of a unit was expected"),
+        ):
+            with self.subTest(title):
+                path = book("book.xlsx", nodes=NODES, arcs=[HEAD, row])
+                status, out, errors = run(path)
+                self.assertEqual(status, 0 if wanted.startswith("cost") else 7 if "--round" in wanted else 3, errors)
+                self.assertRegex(out + errors, wanted.replace("beyond: ", "").replace("4+5", "4.5"))
+
+    @needs("openpyxl")
+    def test_formulas_with_kept_values(self):
+        arcs = [HEAD, ["Kiel", "=A2", "=4+5", "=5/2"], ["Kiel", "Berlin", '=IF(1,"","")', 9]]
+        for title, values, wanted in (
+            ("values", {"B2": ("str", "Berlin"), "C2": ("n", "9"), "D2": ("n", "2.5"), "C3": ("str", "")}, "cost 12.5"),
+            ("an error", {"B2": ("str", "Berlin"), "C2": ("e", "#N/A"), "D2": ("n", "2.5")}, "'#N/A' stands there"),
+            ("a truth value", {"B2": ("str", "Berlin"), "C2": ("b", "1"), "D2": ("n", "2.5")}, "TRUE stands there"),
+            (
+                "one of none",
+                {"B2": ("str", "Berlin"), "C2": ("n", "9"), "C3": ("str", "")},
+                "'=5/2' .* without a kept value",
+            ),
+        ):
+            with self.subTest(title):
+                path = book("book.xlsx", nodes=NODES, arcs=arcs)
+                keep_values(path, values)
+                _, out, errors = run(path)
+                self.assertRegex(out + errors, wanted)
+
+    @needs("openpyxl")
+    def test_sheets_by_name(self):
+        arcs = [HEAD, ["Kiel", "Berlin", 9, 2.5]]
+        rest = [["what", "sum"], ["all", 3]]
+        for title, sheets, words, wanted in (
+            ("English", {"Nodes": NODES, "Arcs": arcs}, ["b.xlsx"], "cost 12.5"),
+            ("German", {"Orte": NODES, "Straßen": arcs}, ["b.xlsx"], "cost 12.5"),
+            ("French", {"Lieux": NODES, "Arêtes": arcs}, ["b.xlsx"], "cost 12.5"),
+            ("Spanish", {"rutas": arcs, "lugares": NODES}, ["b.xlsx"], "cost 12.5"),
+            ("others", {"Sums": rest, "nodes": NODES, "arcs": arcs}, ["b.xlsx"], "'Sums' is left aside"),
+            ("said", {"A": NODES, "B": arcs}, ["b.xlsx:A", "b.xlsx:b"], "cost 12.5"),
+            ("unknown", {"A": NODES, "B": arcs}, ["b.xlsx"], "which of its sheets 'A', 'B' has the nodes"),
+            ("not there", {"A": NODES, "B": arcs}, ["b.xlsx:A", "b.xlsx:C"], "there is no sheet 'C'; .* 'A', 'B'"),
+            ("empty ones", {"nodes": NODES, "arcs": arcs, "Sheet3": []}, ["b.xlsx"], "cost 12.5"),
+            ("two of a name", {"nodes": NODES, "Orte": NODES, "arcs": arcs}, ["b.xlsx"], "which of its sheets"),
+            ("arcs alone", {"Sheet1": arcs}, ["b.xlsx"], "a cheapest plan wants supplies"),
+        ):
+            with self.subTest(title):
+                book("b.xlsx", **sheets)
+                _, out, errors = run(*words)
+                self.assertRegex(out + errors, wanted)
+
+    @needs("openpyxl")
+    def test_files_that_are_no_workbooks(self):
+        for name, content, wanted in (
+            ("a.xlsx", b"from,to\n", "this is no workbook"),
+            ("b.xlsx", b"\xd0\xcf\x11\xe0\xa1\xb1\x1a\xe1" + bytes(600), "an old workbook .* or one with a password"),
+            ("c.csv", b"PK\x03\x04", "a spreadsheet by another name"),
+            ("d.ods", b"PK\x03\x04", "files that end in .ods are not read"),
+            ("e.xls", b"", "files that end in .xls are not read"),
+        ):
+            Path(name).write_bytes(content)
+            with self.subTest(name):
+                status, _, errors = run(name)
+                self.assertEqual(status, 3)
+                self.assertRegex(errors, wanted)
+        with zipfile.ZipFile("f.xlsx", "w") as file:
+            file.writestr("word/document.xml", "<x/>")
+        self.assertRegex(run("f.xlsx")[2], "no workbook of the kind .xlsx")
+
+    @needs("openpyxl")
+    def test_a_plan_as_a_sheet(self):
+        import openpyxl
+
+        arcs = [HEAD, ["Kiel", "Berlin", "=4+5", "=5/2"]]
+        path = book("book.xlsx", nodes=NODES, arcs=arcs)
+        keep_values(path, {"C2": ("n", "9"), "D2": ("n", "2.5")})
+        with zipfile.ZipFile(path) as file:
+            before = {name: file.read(name) for name in file.namelist()}
+        self.assertEqual(self.told(path, "--table", "book.xlsx:plan"), ("0: cost 12.5", ""))
+        for _ in range(2):  # The second time the sheet is replaced.
+            _, errors = self.told(path, "--table", "book.xlsx:plan")
+            self.assertIn("the sheet 'plan' is left aside", errors)
+        with zipfile.ZipFile(path) as file:
+            after = {name: file.read(name) for name in file.namelist()}
+        kept = [name for name in before if before[name] == after[name]]
+        self.assertEqual(
+            set(before) - set(kept), {"[Content_Types].xml", "xl/workbook.xml", "xl/_rels/workbook.xml.rels"}
+        )
+        sheets = openpyxl.load_workbook(path)
+        self.assertEqual(sheets.sheetnames, ["nodes", "arcs", "plan"])
+        rows = list(sheets["plan"].values)
+        self.assertEqual(rows[0][:7], ("name", "from", "to", "low", "capacity", "cost", "flow"))
+        self.assertEqual(rows[1], (None, "Kiel", "Berlin", 0, 9, 2.5, 5, 12.5, "no", 0))
+        self.assertEqual(openpyxl.load_workbook(path, data_only=True)["arcs"]["D2"].value, 2.5)
+
+    @needs("openpyxl")
+    def test_tables_that_are_not_written(self):
+        path = book("book.xlsx", nodes=NODES, arcs=[HEAD, ["Kiel", "Berlin", 9, 2.5]])
+        before = Path(path).read_bytes()
+        for name, wanted in (
+            ("plan.txt", "a table is written as .csv, .tsv or .xlsx"),
+            ("plan", "a table is written as"),
+            ("plan.ods", "a table is written as"),
+            ("book.xlsx", "it has other sheets, 'nodes', 'arcs'; book.xlsx:plan writes a sheet and keeps them"),
+            ("book.xlsx:a/b", "a table is written as"),
+            ("book.xlsx:" + 32 * "a", "is no name of a sheet"),
+        ):
+            with self.subTest(name):
+                status, _, errors = run(path, "--table", name)
+                self.assertEqual(status, 3)
+                self.assertRegex(errors, wanted)
+        self.assertEqual(Path(path).read_bytes(), before)
+        self.assertEqual(sorted(each.name for each in Path().iterdir()), ["book.xlsx"])
+        self.assertEqual(self.told(path, "--table", "new.xlsx"), ("0: cost 12.5", ""))
+        self.assertEqual(self.told(path, "--table", "new.xlsx"), ("0: cost 12.5", ""))
+        import openpyxl
+
+        self.assertEqual(openpyxl.load_workbook("new.xlsx").sheetnames, ["plan"])
+
+
+class Frames(unittest.TestCase):
+    @needs("pandas")
+    def test_cells(self):
+        import numpy
+        import pandas
+
+        nodes = pandas.DataFrame(NODES[1:], columns=NODES[0])
+        for title, row, wanted in (
+            ("numbers", ["Kiel", "Berlin", 9, 2.5], 12.5),
+            ("of numpy", ["Kiel", "Berlin", numpy.int32(9), numpy.float64(2.5)], 12.5),
+            ("no capacity", ["Kiel", "Berlin", None, 2.5], 12.5),
+            ("nan", ["Kiel", "Berlin", float("nan"), 2.5], 12.5),
+            ("NA", ["Kiel", "Berlin", pandas.NA, 2.5], 12.5),
+            ("infinity", ["Kiel", "Berlin", float("inf"), 2.5], 12.5),
+            ("no cost", ["Kiel", "Berlin", 9, None], "row 0, column 'cost': .* the cost of a unit was expected"),
+            ("an infinite cost", ["Kiel", "Berlin", 9, float("inf")], "column 'cost': inf stands there"),
+            ("a truth value", ["Kiel", "Berlin", True, 2.5], "TRUE stands there; .* truth value"),
+            ("numpy's truth", ["Kiel", "Berlin", numpy.bool_(True), 2.5], "TRUE stands there; .* truth value"),
+            ("a truth as a cost", ["Kiel", "Berlin", 9, numpy.bool_(False)], "FALSE stands there; .* truth value"),
+            ("an error", ["Kiel", "Berlin", "#N/A", 2.5], "'#N/A' stands there; .*an error"),
+            ("n/a", ["Kiel", "Berlin", "n/a", 2.5], "'n/a' stands there"),
+            ("a date", ["Kiel", "Berlin", pandas.Timestamp("2026-05-03"), 2.5], "a date"),
+            ("a list", ["Kiel", "Berlin", [9], 2.5], "a number was expected"),
+            ("a Decimal", ["Kiel", "Berlin", 9, Decimal("2.5")], 12.5),
+            ("thousands in a text", ["Kiel", "Berlin", "1.250", 2.5], "is it 1.250 or 1250"),
+            ("no name", ["Kiel", None, 9, 2.5], "column 'to': None stands there; a name was expected"),
+        ):
+            frame = pandas.DataFrame([row], columns=HEAD, dtype=object)
+            with self.subTest(title):
+                if isinstance(wanted, str):
+                    with self.assertRaisesRegex(TableFault, wanted):
+                        read_tables(nodes, frame)
+                else:
+                    self.assertEqual(read_tables(nodes, frame).solve().cost, Decimal(str(wanted)))
+
+    @needs("pandas")
+    def test_names_in_an_index(self):
+        import pandas
+
+        arcs = pandas.DataFrame([["Kiel", "Berlin", 9, 2.5]], columns=HEAD)
+        for title, index, columns, wanted in (
+            ("named", pandas.Index(["Kiel", "Berlin"], name="town"), {"supply": [5, -5]}, "^$"),
+            ("without a name", ["Kiel", "Berlin"], {"supply": [5, -5]}, "the index is taken as the name of the node"),
+            ("numbers", [0, 1], {"supply": [5, -5]}, "!there is no column 'name'"),
+            ("other names", ["a", "b"], {"supply": [5, -5]}, "!there is no column 'name'"),
+            (
+                "an unknown name",
+                pandas.Index(["Kiel", "Berlin"], name="Dorf"),
+                {"supply": [5, -5]},
+                "!no column 'name'",
+            ),
+            ("both", ["a", "b"], {"name": ["Kiel", "Berlin"], "supply": [5, -5]}, "^$"),
+        ):
+            nodes = pandas.DataFrame(columns, index=index)
+            with self.subTest(title):
+                if wanted.startswith("!"):
+                    with self.assertRaisesRegex(TableFault, wanted[1:]):
+                        read_tables(nodes, arcs)
+                    continue
+                problem = read_tables(nodes, arcs)
+                self.assertEqual(problem.solve().cost, Decimal("12.5"))
+                self.assertRegex("\n".join(problem.notes), wanted)
+
+    @needs("pandas")
+    def test_what_python_says(self):
+        import pandas
+
+        nodes = pandas.DataFrame({"name": ["a", "b"], "supply": [0.1 + 0.2, -0.3]})
+        arcs = pandas.DataFrame({"from": ["a"], "to": ["b"], "Kapa": [1], "cost": [None]})
+        problem = read_tables(nodes, arcs, columns={"capacity": "Kapa"}, default_cost="0.5", decimals=6)
+        self.assertEqual(problem.solve().cost, Decimal("0.15"))
+        self.assertRegex(
+            "\n".join(problem.notes), "1 empty cost is 0.5\n1 number was rounded to 6 decimals, by at most"
+        )
+        for wrong in ({"columns": {"room": "Kapa"}}, {"decimal": ";"}, {"decimals": -1}, {"default_cost": "much"}):
+            with self.subTest(wrong), self.assertRaises(ValueError):
+                read_tables(nodes, arcs, **{"columns": {"capacity": "Kapa"}, "default_cost": 1, **wrong})
+
+
+def point(at, **properties):
+    return {"type": "Feature", "geometry": {"type": "Point", "coordinates": at}, "properties": properties}
+
+
+def line(*at, **properties):
+    return {"type": "Feature", "geometry": {"type": "LineString", "coordinates": at}, "properties": properties}
+
+
+class Maps(InFolder):
+    KIEL, BERLIN = point([10.1, 54.3], name="Kiel", supply=5), point([13.4, 52.5], name="Berlin", supply=-5)
+    ROAD = {"capacity": 9, "cost": 2.5}
+
+    def test_maps(self):
+        kiel, berlin, road = self.KIEL, self.BERLIN, self.ROAD
+        ends = [10.1, 54.3], [13.4, 52.5]
+        area = {"type": "Feature", "geometry": {"type": "Polygon", "coordinates": []}, "properties": {}}
+        part = {"type": "Feature", "geometry": {"type": "MultiLineString", "coordinates": []}, "properties": {}}
+        for title, features, wanted in (
+            ("names", [kiel, berlin, line([0, 0], [1, 1], **{"from": "Kiel", "to": "Berlin"}, **road)], "cost 12.5"),
+            ("ends", [line(*ends, **road), kiel, berlin], "the point where it begins to the point where it ends"),
+            ("a way round", [kiel, berlin, line(ends[0], [11, 53], ends[1], **road)], "cost 12.5"),
+            (
+                "not at the end",
+                [kiel, berlin, line(ends[0], [13.41, 52.5], **road)],
+                "feature 3: .* no point .* 13.41, 52.5",
+            ),
+            ("two at one place", [kiel, point(ends[0], name="Kiel 2"), line(*ends, **road)], "stand at one place"),
+            (
+                "German",
+                [
+                    point(ends[0], Ort="K", Angebot=5),
+                    point(ends[1], Ort="B", Bedarf=5),
+                    line(*ends, Kapazität=9, Kosten=2.5),
+                ],
+                "cost 12.5",
+            ),
+            ("no cost", [kiel, berlin, line(*ends, capacity=9)], "there is no column 'cost'"),
+            (
+                "one without cost",
+                [kiel, berlin, line(*ends, **road), line(*ends, capacity=9)],
+                "feature 4: it has no property 'cost'",
+            ),
+            ("no limit", [kiel, berlin, line(*ends, capacity=None, cost=2.5)], "cost 12.5"),
+            ("a place between", [kiel, berlin, point([1, 1], name="Ulm"), line(*ends, **road)], "cost 12.5"),
+            ("an area", [kiel, berlin, line(*ends, **road), area], "1 of its features is a Polygon, and left aside"),
+            ("several lines in one", [kiel, berlin, part], "part them in single ones"),
+            ("no lines", [kiel, berlin], "there is no line"),
+            ("an unknown property", [kiel, berlin, line(*ends, capacty=9, cost=2.5)], "did you mean 'capacity'"),
+            ("a truth value", [kiel, berlin, line(*ends, capacity=True, cost=2.5)], "TRUE stands there"),
+            ("no coordinates", [point([], name="Kiel"), line(*ends, **road)], "feature 1: its coordinates are not"),
+        ):
+            Path("map.geojson").write_text(json.dumps({"type": "FeatureCollection", "features": features}))
+            with self.subTest(title):
+                status, out, errors = run("map.geojson")
+                self.assertRegex(out + errors, wanted)
+                self.assertEqual(status, 0 if "cost 12.5" in out else 3)
+
+    def test_what_is_no_map(self):
+        for text, wanted in (
+            ("[1, 2", "no JSON"),
+            ("[]", "no FeatureCollection"),
+            ('{"type": "Feature"}', "no FeatureColl"),
+        ):
+            Path("map.json").write_text(text)
+            with self.subTest(text):
+                self.assertRegex(run("map.json")[2], wanted)
+
+    def test_places(self):
+        features = [self.KIEL, self.BERLIN, line([10.1, 54.3], [13.4, 52.5], **self.ROAD)]
+        Path("map.geojson").write_text(json.dumps({"type": "FeatureCollection", "features": features}))
+        problem = read_tables(None, "map.geojson")
+        self.assertEqual(problem.places, {"Kiel": (10.1, 54.3), "Berlin": (13.4, 52.5)})
+
+
+class Notes(InFolder):
+    def test_each_command_tells_them(self):
+        Path("nodes.csv").write_text("name,supply\nKiel,5\nBerlin,-5\n")
+        Path("arcs.csv").write_text("from,to,capacity (t),cost\nKiel,Berlin,9,2.5\n")
+        told = "the column 'capacity (t)' is the capacity, in t"
+        for command in ("plan", "explain", "ranges", "convert", "what-if"):
+            out, errors = io.StringIO(), io.StringIO()
+            with contextlib.redirect_stdout(out), contextlib.redirect_stderr(errors):
+                with open(os.devnull, encoding="utf-8") as nothing:
+                    before, sys.stdin = sys.stdin, nothing
+                    try:
+                        status = main([command, "nodes.csv", "arcs.csv"])
+                    finally:
+                        sys.stdin = before
+            with self.subTest(command):
+                self.assertEqual(status, 0, errors.getvalue())
+                self.assertEqual(errors.getvalue().count(told), 1, errors.getvalue())
+        status, out, _ = run("nodes.csv", "arcs.csv", "--json", "--report", "plan.html")
+        self.assertIn(f"arcs.csv: {told}", json.loads(out)["notes"])
+        self.assertIn("capacity (t)", Path("plan.html").read_text())
+
+    def test_command_lines_that_are_refused(self):
+        for words in (
+            ["--round", "x"],
+            ["--round", "31"],
+            ["--decimal", ";"],
+            ["--default-cost", "much"],
+            ["--columns", "capacity"],
+            ["--columns", "room=Kapa"],
+        ):
+            with self.subTest(words), self.assertRaises(SystemExit) as ended:
+                run("nodes.csv", "arcs.csv", *words)
+            self.assertEqual(ended.exception.code, 2)
+
+
 if __name__ == "__main__":
     sys.exit(unittest.main())

@@ -330,13 +330,14 @@ class _Table:
         names: Dict[Tuple[type, Any], str] = {}
         found = []
         for row, cell in enumerate(cells):
-            key = type(cell), cell
-            name = names.get(key)
-            if name is None:
-                try:
-                    name = names[key] = name_of(cell)
-                except CellFault as fault:
-                    raise self.sheet.fault(row, place, str(fault)) from None
+            try:
+                name = names.get((type(cell), cell))
+                if name is None:
+                    name = names[type(cell), cell] = name_of(cell)
+            except CellFault as fault:
+                raise self.sheet.fault(row, place, str(fault)) from None
+            except TypeError:
+                raise self.sheet.fault(row, place, "a name was expected") from None
             found.append(name)
         return found
 
@@ -386,13 +387,13 @@ class _Table:
     ) -> List[Decimal]:
         try:
             return [numbers[cell] for cell in cells]
-        except CellFault:
+        except (CellFault, TypeError):
             pass
         for row, cell in enumerate(cells):
             try:
                 numbers[cell]
-            except CellFault as fault:
-                expected = str(fault)
+            except (CellFault, TypeError) as fault:
+                expected = str(fault) if isinstance(fault, CellFault) else "a number was expected"
                 if what == "capacity" and isinstance(cell, str) and cell.strip().lower() in MISSING:
                     expected = (
                         "a number was expected: leave the cell empty where there is no limit, and write 0 where it is 0"
