@@ -755,17 +755,20 @@ class DimacsProblem:
 
     def text(self) -> str:
         """The problem as a text that `mcf` reads, where its numbers are within the limits."""
-        lines = [f"p {self.kind} {self.nodes} {len(self.arcs)}"]
+        pieces = [f"p {self.kind} {self.nodes} {len(self.arcs)}\n"]
         if self.kind == "min":
-            lines += [f"n {node} {supply}" for node, supply in sorted(self.supplies.items()) if supply]
-            lines += ["a %d %d %d %d %d" % arc for arc in self.arcs]
+            pieces += [f"n {node} {supply}\n" for node, supply in sorted(self.supplies.items()) if supply]
+            form = "a %d %d %d %d %d\n".__mod__
         elif self.kind == "max":
-            lines += [f"n {self.source} s", f"n {self.sink} t"]
-            lines += [f"a {tail} {head} {cap}" for tail, head, _, cap, _ in self.arcs]
+            pieces += [f"n {self.source} s\n", f"n {self.sink} t\n"]
+            form = "a %d %d %.0s%d%.0s\n".__mod__
         else:
-            lines += [f"n {node}" for node in sorted(self.supplies)]
-            lines += [f"a {tail} {head} {cost}" for tail, head, _, _, cost in self.arcs]
-        return "\n".join(lines) + "\n"
+            pieces += [f"n {node}\n" for node in sorted(self.supplies)]
+            form = "a %d %d %.0s%.0s%d\n".__mod__
+        # Some lines at a time, so that not all are there beside the text.
+        for at in range(0, len(self.arcs), 10_000):
+            pieces.append("".join(map(form, self.arcs[at : at + 10_000])))
+        return "".join(pieces)
 
 
 def parse_problem(text: Text) -> DimacsProblem:
@@ -824,29 +827,35 @@ def parse_answer(text: Text, *, with_ends: bool = True) -> Answer:
 
 def _quick_answer(raw: bytes, with_ends: bool) -> Optional[Answer]:
     """The answer, where the text is a flow in the very form that the program prints; else None."""
-    if not raw.startswith(b"s "):
+    if not raw.startswith(b"s ") or not raw.endswith(b"\n"):
         return None
-    cut_at = raw.find(b"\nv ")
-    head, tail = (raw, b"") if cut_at < 0 else (raw[:cut_at], raw[cut_at:])
-    words = head.split()
-    if (
-        len(words) % 4 != 2
-        or words[2::4].count(b"f") != len(words[2::4])
-        or head.count(b"\n") + 1 - head.endswith(b"\n") != 1 + len(words[2::4])
-    ):
-        return None
-    potentials: Optional[List[int]] = None
+    flows_at = raw.index(b"\n") + 1
+    labels_at = raw.find(b"\nv ") + 1 or len(raw)
     try:
-        if tail:
-            labels = tail.split()
-            if (
-                len(labels) % 3
-                or labels[::3].count(b"v") != len(labels) // 3
-                or list(map(int, labels[1::3])) != list(range(1, len(labels) // 3 + 1))
-            ):
-                return None
-            potentials = list(map(int, labels[2::3]))
-        ends = list(zip(map(int, words[3::4]), map(int, words[4::4]))) if with_ends else []
-        return Answer(value=int(words[1]), flows=list(map(int, words[5::4])), potentials=potentials, ends=ends)
+        value = int(raw[2:flows_at])
+        told = _columns(raw[flows_at:labels_at], b"f", (1, 2, 3) if with_ends else (3,))
+        labels = _columns(raw[labels_at:], b"v", (1, 2))
     except ValueError:
         return None
+    if told is None or labels is None or labels[0] != list(range(1, len(labels[0]) + 1)):
+        return None
+    ends = list(zip(told[0], told[1])) if with_ends else []
+    return Answer(value, flows=told[-1], potentials=labels[1] or None, ends=ends)
+
+
+def _columns(part: bytes, letter: bytes, places: Tuple[int, ...]) -> Optional[List[List[int]]]:
+    """The numbers at some places of lines that begin with a letter; None where a line is of another form. The lines are
+    taken some at a time, so that not all words of a long text are there at once."""
+    width = 4 if letter == b"f" else 3
+    columns: List[List[int]] = [[] for _ in places]
+    at = 0
+    while at < len(part):
+        end = part.find(b"\n", at + 65_536) + 1 or len(part)
+        words = part[at:end].split()
+        lines = part.count(b"\n", at, end)
+        if len(words) != width * lines or words[::width].count(letter) != lines:
+            return None
+        for column, place in zip(columns, places):
+            column += map(int, words[place::width])
+        at = end
+    return columns

@@ -6,7 +6,8 @@ import operator
 import re
 from decimal import Context, Decimal, InvalidOperation
 from fractions import Fraction
-from typing import TYPE_CHECKING, Dict, Iterable, List, NamedTuple, Optional, Tuple, Union
+from functools import lru_cache
+from typing import TYPE_CHECKING, Any, Dict, Iterable, List, NamedTuple, Optional, Tuple, Union
 
 from .dimacs import ARC_FIELDS, ProblemReader, Text, read_with
 
@@ -56,31 +57,46 @@ def exact(value: Number, what: str = "the number") -> Decimal:
     >>> exact(0.1), exact("2.50"), exact(-0.0)
     (Decimal('0.1'), Decimal('2.50'), Decimal('0'))
     """
-    kind = type(value)
-    if kind is int:
-        number = Decimal(value)  # type: ignore[arg-type]
-    else:
-        try:
-            if isinstance(value, (str, Decimal)):
-                number = Decimal(value)
-            elif isinstance(value, float):
-                number = Decimal(float.__repr__(value))
-            elif isinstance(value, Fraction):
-                number = _decimal_of(value)
-            elif hasattr(value, "__index__"):
-                number = Decimal(operator.index(value))
-            else:
-                number = Decimal(str(value))
-        except (InvalidOperation, ValueError):
-            raise ValueError(f"{what} is {value!r}, and has to be a decimal number") from None
-        if not number.is_finite():
-            raise ValueError(f"{what} is {value!r}, and has to be a finite number")
+    try:
+        return _of_text(value) if type(value) is str else _in_range(_of_number(value))
+    except _OutOfRange as reason:
+        raise ValueError(f"{what} is {value!r}, {reason}") from None
+    except (InvalidOperation, ValueError):
+        raise ValueError(f"{what} is {value!r}, and has to be a decimal number") from None
+
+
+class _OutOfRange(Exception):
+    """A number is not finite, or has too many digits; the message says which."""
+
+
+@lru_cache(maxsize=10_000)
+def _of_text(text: str) -> Decimal:
+    """The decimal of a text. Numbers of tables repeat, and then share their decimal."""
+    return _in_range(Decimal(text), is_short=len(text) <= 60)
+
+
+def _in_range(number: Decimal, *, is_short: bool = False) -> Decimal:
+    """The number, where it can be written out in 60 digits, as a short one can. Raises _OutOfRange elsewhere."""
+    if not number.is_finite():
+        raise _OutOfRange("and has to be a finite number")
     if not number:
         return ZERO
-    is_short = isinstance(value, str) and len(value) <= 60
     if not -60 <= number.adjusted() <= 60 or not is_short and len(number.as_tuple().digits) > 60:
-        raise ValueError(f"{what} is {value!r}, which has more than 60 digits")
+        raise _OutOfRange("which has more than 60 digits")
     return number
+
+
+def _of_number(value: Any) -> Decimal:
+    """The decimal of a number that is no plain text."""
+    if isinstance(value, (int, str, Decimal)):
+        return Decimal(value)
+    if isinstance(value, float):
+        return Decimal(float.__repr__(value))
+    if isinstance(value, Fraction):
+        return _decimal_of(value)
+    if hasattr(value, "__index__"):
+        return Decimal(operator.index(value))
+    return Decimal(str(value))
 
 
 def _decimal_of(fraction: Fraction) -> Decimal:
