@@ -20,6 +20,8 @@ Decimal('11.25')
 
 from __future__ import annotations
 
+from typing import TYPE_CHECKING, Any
+
 from .dimacs import Answer, DimacsProblem, Fault
 from .explain import explain
 from .plan import Disagreement, Infeasible, Plan
@@ -28,11 +30,16 @@ from .program import Program, ProgramFailed, Refused, TimeLimit
 from .rewrite import BeyondLimits, Meaningless, Unbounded
 from .session import EditRefused, Session
 
+if TYPE_CHECKING:
+    from .arrays import ArrayInfeasible, ArrayPlan, solve_arrays
+
 __version__ = "0.1.0"
 
 __all__ = [
     "Answer",
     "Arc",
+    "ArrayInfeasible",
+    "ArrayPlan",
     "BeyondLimits",
     "DimacsProblem",
     "Disagreement",
@@ -49,5 +56,15 @@ __all__ = [
     "TimeLimit",
     "Unbounded",
     "explain",
+    "solve_arrays",
     "__version__",
 ]
+
+
+def __getattr__(name: str) -> Any:
+    """The names of `arrays`, which is read when it is wanted first."""
+    if name not in ("ArrayInfeasible", "ArrayPlan", "solve_arrays"):
+        raise AttributeError(f"module {__name__!r} has no attribute {name!r}")
+    from . import arrays
+
+    return getattr(arrays, name)

@@ -14,76 +14,32 @@ v 2 0
 from __future__ import annotations
 
 import ctypes
-import ctypes.util
-import os
 import queue
 import threading
 import time
-from pathlib import Path
 from typing import Any, Callable, List, Optional, Tuple, TypeVar, cast
 
-from .dimacs import Text, as_bytes, find_fault, parse_problem
+from .calls import (
+    DONE,
+    FAULT,
+    MEMORY,
+    TOO_SHORT,
+    ArrayFault,
+    Arrays,
+    Handle,
+    TextAnswer,
+    TextFault,
+    View,
+    find_library,
+    load,
+)
+from .dimacs import Answer, Text, as_bytes, find_fault, parse_problem
 from .program import Dialogue, Program, ProgramFailed, Refused, TimeLimit, command_of
 
 Result = TypeVar("Result")
 
-DONE, FAULT, MEMORY, TOO_SHORT = 0, -5, -6, -7
 HEARD_WITHIN = 0.1
 """So many seconds pass at most until Ctrl-C is heard."""
-
-
-class _Handle(ctypes.Structure):
-    _fields_ = [("pointer", ctypes.c_void_p), ("is_open", ctypes.c_bool)]
-
-
-class _Fault(ctypes.Structure):
-    _fields_ = [("line", ctypes.c_uint64), ("number", ctypes.c_uint8)]
-
-
-class _View(ctypes.Structure):
-    _fields_ = [
-        ("worth_high", ctypes.c_int64),
-        ("worth_low", ctypes.c_uint64),
-        ("shortage", ctypes.c_int64),
-        ("past", ctypes.c_uint64),
-        ("future", ctypes.c_uint64),
-        ("nodes", ctypes.c_uint32),
-        ("arcs", ctypes.c_uint32),
-        ("feasible", ctypes.c_bool),
-    ]
-
-    def line(self) -> str:
-        """The `s` or `i` line."""
-        return f"s {self.worth_high * 2**64 + self.worth_low}" if self.feasible else f"i {self.shortage}"
-
-
-class _Answer(ctypes.Structure):
-    _fields_ = [
-        ("flow", ctypes.POINTER(ctypes.c_int64)),
-        ("flow_room", ctypes.c_size_t),
-        ("potentials", ctypes.POINTER(ctypes.c_int64)),
-        ("potentials_room", ctypes.c_size_t),
-        ("cut", ctypes.POINTER(ctypes.c_bool)),
-        ("cut_room", ctypes.c_size_t),
-        ("view", _View),
-        ("fault", _Fault),
-    ]
-
-
-def find_library(path: Optional[str] = None) -> str:
-    """The shared object: `path`, the variable MCF_LIBRARY, the repository's own, then `libmcf.so` as the system finds
-    it.
-
-    Raises ProgramFailed where there is none.
-    """
-    for chosen in (path, os.environ.get("MCF_LIBRARY")):
-        if chosen:
-            return chosen
-    built = Path(__file__).resolve().parents[3] / "crates" / "mcf_c" / "out" / "libmcf.so"
-    found = str(built) if built.exists() else ctypes.util.find_library("mcf")
-    if found is None:
-        raise ProgramFailed("the library libmcf.so was found neither in the variable MCF_LIBRARY nor by the system")
-    return found
 
 
 class Library(Program):
@@ -94,15 +50,14 @@ class Library(Program):
     """
 
     def __init__(self, library: Optional[str] = None, path: Optional[str] = None):
-        super().__init__(path)
-        self.library = find_library(library)
         try:
-            self.calls = ctypes.CDLL(self.library)
-            for name in ("solve", "open", "command", "undo", "redo", "look", "flow", "potentials", "cut"):
-                getattr(self.calls, f"mcf_{name}").restype = ctypes.c_int32
-            self.calls.mcf_close.restype = None
-        except (OSError, AttributeError) as error:
-            raise ProgramFailed(f"{self.library} could not be used: {error}") from error
+            super().__init__(path)
+        except ProgramFailed:
+            if path:
+                raise
+            self.path = "mcf"  # what says so where it is wanted to check
+        self.library = find_library(library)
+        self.calls = load(self.library)
 
     def solve(self, text: Text, *, time_limit: Optional[float] = None) -> str:
         """What `mcf solve --proof` prints for a problem text: a best flow with potentials, or a cut.
@@ -115,6 +70,17 @@ class Library(Program):
         finally:
             worker.end()
 
+    def solve_arrays(self, arrays: Arrays, *, time_limit: Optional[float] = None) -> Answer:
+        """The answer to a problem in arrays, without the ends of its arcs.
+
+        Raises TimeLimit after `time_limit` seconds, ProgramFailed otherwise, as where the arrays have a fault.
+        """
+        worker = _Worker()
+        try:
+            return worker.call(lambda: self._solve_arrays(arrays), time_limit)
+        finally:
+            worker.end()
+
     def session(
         self, text: Text, *, extra: Optional[int] = None, time_limit: Optional[float] = None
     ) -> LibraryDialogue:
@@ -124,21 +90,68 @@ class Library(Program):
         """
         return LibraryDialogue(self, text, extra=extra, time_limit=time_limit)
 
+    def _solve_arrays(self, arrays: Arrays) -> Answer:
+        handle, fault = Handle(), ArrayFault()
+        status = self.calls.mcf_open_arrays(
+            ctypes.byref(handle), ctypes.byref(arrays), ctypes.c_uint32(0), ctypes.byref(fault)
+        )
+        if status == FAULT:
+            where = f"node {fault.node}" if fault.node else f"arc {fault.arc}" if fault.arc else "their lengths"
+            raise ProgramFailed(f"the arrays have fault {fault.number}: {where}")
+        self._expect_done(status)
+        try:
+            return self.answer_of(handle)
+        finally:
+            self.calls.mcf_close(ctypes.byref(handle))
+
+    def look(self, handle: Handle) -> View:
+        """What is told of the moment of a session."""
+        view = View()
+        self._expect_done(self.calls.mcf_look(ctypes.byref(handle), ctypes.byref(view)))
+        return view
+
+    def answer_of(self, handle: Handle) -> Answer:
+        """The answer at the moment of a session, without the ends of its arcs."""
+        view = self.look(handle)
+        if not view.feasible:
+            marks = self._list_of(handle, "cut", ctypes.c_bool, view.nodes)
+            return Answer(shortage=view.shortage, cut=[node for node, inside in enumerate(marks, 1) if inside])
+        return Answer(
+            value=view.worth,
+            flows=self._list_of(handle, "flow", ctypes.c_int64, view.arcs),
+            potentials=self._list_of(handle, "potentials", ctypes.c_int64, view.nodes),
+        )
+
+    def _list_of(self, handle: Handle, what: str, kind: Any, length: int) -> List[Any]:
+        """A list of the moment of a session."""
+        # An array has one entry at least, since a pointer is never null.
+        entries = (kind * max(length, 1))()
+        call = getattr(self.calls, f"mcf_{what}")
+        self._expect_done(call(ctypes.byref(handle), entries, ctypes.c_size_t(length)))
+        return list(entries[:length])
+
+    @staticmethod
+    def _expect_done(status: int) -> None:
+        if status != DONE:
+            raise ProgramFailed("want of memory" if status == MEMORY else f"the library answered {status}")
+
     def _solve(self, text: bytes) -> str:
         arcs = nodes = 0
         while True:
             # An array has one entry at least, since a pointer is never null.
             flow, potentials = (ctypes.c_int64 * max(arcs, 1))(), (ctypes.c_int64 * max(nodes, 1))()
             cut = (ctypes.c_bool * max(nodes, 1))()
-            answer = _Answer(flow, arcs, potentials, nodes, cut, nodes)
+            answer = TextAnswer(flow, arcs, potentials, nodes, cut, nodes)
             status = self.calls.mcf_solve(text, ctypes.c_size_t(len(text)), ctypes.byref(answer))
             if status == TOO_SHORT:
                 arcs, nodes = answer.view.arcs, answer.view.nodes
-            elif status == DONE:
-                ends = ends_of(text) if answer.view.feasible else []
-                return solution(answer.view, ends, flow[:arcs], potentials[:nodes], cut[:nodes])
-            else:
+            elif status != DONE:
                 raise not_solved(status, answer.fault, text)
+            elif answer.view.feasible:
+                return Answer(answer.view.worth, None, flow[:arcs], potentials[:nodes], [], ends_of(text)).text()
+            else:
+                marked = [node for node, inside in enumerate(cut[:nodes], 1) if inside]
+                return Answer(shortage=answer.view.shortage, cut=marked).text()
 
 
 def ends_of(text: bytes) -> List[Tuple[int, int]]:
@@ -146,18 +159,7 @@ def ends_of(text: bytes) -> List[Tuple[int, int]]:
     return [(arc[0], arc[1]) for arc in parse_problem(text).arcs]
 
 
-def solution(view: _View, ends: List[Tuple[int, int]], flow: List[int], potentials: List[int], cut: List[bool]) -> str:
-    """A solution as `mcf solve --proof` prints it; without potentials, as `mcf solve` does."""
-    lines = [view.line()]
-    if view.feasible:
-        lines += [f"f {tail} {head} {units}" for (tail, head), units in zip(ends, flow)]
-        lines += [f"v {node} {potential}" for node, potential in enumerate(potentials, 1)]
-    else:
-        lines += [f"k {node}" for node, is_inside in enumerate(cut, 1) if is_inside]
-    return "\n".join(lines) + "\n"
-
-
-def not_solved(status: int, fault: _Fault, text: bytes) -> Exception:
+def not_solved(status: int, fault: TextFault, text: bytes) -> Exception:
     """What a call that answers `status` in place of DONE means."""
     if status == MEMORY:
         return ProgramFailed("want of memory")
@@ -223,7 +225,8 @@ class LibraryDialogue(Dialogue):
     def __init__(
         self, library: Library, text: Text, *, extra: Optional[int] = None, time_limit: Optional[float] = None
     ):
-        self._calls, self._handle, self._text = library.calls, _Handle(), as_bytes(text)
+        self._library, self._handle, self._text = library, Handle(), as_bytes(text)
+        self._calls = library.calls
         self._ends: List[Tuple[int, int]] = []
         self._group: Optional[List[List[str]]] = None  # the words of the lines of a group that is open
         self._worker: Optional[_Worker] = _Worker()
@@ -267,7 +270,7 @@ class LibraryDialogue(Dialogue):
     # -- on the thread of the session alone
 
     def _open(self, extra: int) -> str:
-        fault = _Fault()
+        fault = TextFault()
         status = self._calls.mcf_open(
             ctypes.byref(self._handle),
             self._text,
@@ -278,14 +281,7 @@ class LibraryDialogue(Dialogue):
         if status != DONE:
             raise not_solved(status, fault, self._text)
         self._ends = ends_of(self._text)
-        return self._look().line()
-
-    def _look(self) -> _View:
-        view = _View()
-        status = self._calls.mcf_look(ctypes.byref(self._handle), ctypes.byref(view))
-        if status != DONE:
-            raise ProgramFailed(f"the library answered {status}")
-        return view
+        return self._library.look(self._handle).line()
 
     def _ask(self, line: str, words: List[str]) -> List[str]:
         if not words:
@@ -308,26 +304,17 @@ class LibraryDialogue(Dialogue):
             self._group = None
         if status != DONE:
             return [f"r {status}"]
-        view = self._look()
+        view = self._library.look(self._handle)
         if words[0] in ("show", "proof"):
-            return self._solution(view, with_potentials=words[0] == "proof")
+            return self._solution(with_potentials=words[0] == "proof")
         added = [(int(tail), int(head)) for word, tail, head, *_ in (line for line in made if line[0] == "add")]
         if added:
             self._ends[view.arcs - len(added) :] = added
         return [view.line()]
 
-    def _solution(self, view: _View, *, with_potentials: bool) -> List[str]:
-        flow = (ctypes.c_int64 * max(view.arcs, 1))()
-        potentials = (ctypes.c_int64 * max(view.nodes, 1))()
-        cut = (ctypes.c_bool * max(view.nodes, 1))()
-        lists = (
-            [("flow", flow, view.arcs), ("potentials", potentials, view.nodes)]
-            if view.feasible
-            else [("cut", cut, view.nodes)]
-        )
-        for name, array, length in lists:
-            status = getattr(self._calls, f"mcf_{name}")(ctypes.byref(self._handle), array, ctypes.c_size_t(length))
-            if status != DONE:
-                raise ProgramFailed(f"the library answered {status}")
-        told = potentials[: view.nodes] if with_potentials else []
-        return solution(view, self._ends, flow[: view.arcs], told, cut[: view.nodes]).splitlines()
+    def _solution(self, *, with_potentials: bool) -> List[str]:
+        answer = self._library.answer_of(self._handle)
+        answer.ends = self._ends
+        if not with_potentials:
+            answer.potentials = None
+        return answer.text().splitlines()

@@ -9,7 +9,7 @@ from __future__ import annotations
 import operator
 from dataclasses import dataclass, field
 from decimal import Decimal
-from typing import TYPE_CHECKING, Dict, FrozenSet, Iterator, List, NamedTuple, Optional
+from typing import TYPE_CHECKING, Any, Dict, FrozenSet, Iterator, List, NamedTuple, Optional
 
 from .problem import WIDE, ZERO, plain, total_of
 from .units import Scale
@@ -84,6 +84,30 @@ class Plan:
     def is_full(self, arc: int) -> bool:
         """Whether the arc carries its capacity."""
         return self.flows[arc] == self.problem.arcs[arc].cap
+
+    def to_frame(self) -> Any:
+        """A frame of pandas with a row for each arc: `from`, `to`, `low`, `capacity`, `unit cost`, `flow`, `cost`, `is
+        full`, and where there are prices `one more costs`, the reduced cost.
+
+        The index, `arc`, has the names of the arcs where each has one of its own, else their numbers from 0. Numbers
+        are exact: whole ones int64, others float64 where each is printed as the very number, else `Decimal`; no
+        limit is infinite. Raises ImportError where pandas is not there.
+        """
+        from .frames import arc_frame
+
+        return arc_frame(self)
+
+    def nodes_to_frame(self) -> Any:
+        """A frame of pandas with a row for each node, under the index `node`: `supply`, `price` where there are prices,
+        and `kept` or `not met` where something is. Numbers are as in `to_frame`."""
+        from .frames import node_frame
+
+        return node_frame(self)
+
+    def _repr_html_(self) -> str:
+        from .notebook import plan_html
+
+        return plan_html(self)
 
     def verify(self) -> None:
         """Raises Disagreement unless the plan is legal, costs what it says, and its prices show that none is better.
@@ -241,6 +265,11 @@ class Infeasible:
         crossing = self.crossing()
         if self.shortage <= 0 or self.shortage not in (crossing.too_much, crossing.too_little):
             raise Disagreement(f"the cut of {len(self.cut)} nodes does not show a shortage of {plain(self.shortage)}")
+
+    def _repr_html_(self) -> str:
+        from .notebook import infeasible_html
+
+        return infeasible_html(self)
 
     def explain(self) -> str:
         """Why there is no plan, in words: see `explain`."""

@@ -7,7 +7,7 @@ import re
 from decimal import Context, Decimal, InvalidOperation
 from fractions import Fraction
 from functools import lru_cache
-from typing import TYPE_CHECKING, Any, Dict, Iterable, List, NamedTuple, Optional, Tuple, Union
+from typing import TYPE_CHECKING, Any, Callable, Dict, Iterable, List, NamedTuple, Optional, Tuple, Union
 
 from .dimacs import ARC_FIELDS, ProblemReader, Text, read_with
 
@@ -304,14 +304,30 @@ class Problem:
             problem.notes = reader.notes
         return problem
 
+    @classmethod
+    def from_frames(cls, nodes: Any, arcs: Any, **options: Any) -> Problem:
+        """The problem of two frames of pandas, or of one alone (`nodes` None): `tables.read_tables` says which columns
+        are taken, and what `options` there are.
+
+        Raises TableFault where a row or a column can't be read.
+        """
+        from .tables import read_tables
+
+        return read_tables(nodes, arcs, **options)
+
     def solve(
-        self, program: Optional[Program] = None, *, surplus: Surplus = "refuse", time_limit: Optional[float] = None
+        self,
+        program: Optional[Program] = None,
+        *,
+        surplus: Surplus = "refuse",
+        time_limit: Optional[float] = None,
+        progress: Optional[Callable[[str], None]] = None,
     ) -> Union[Plan, Infeasible]:
         """A best plan, or why there is none: checked by `mcf check` and by `verify` in the units of the tables.
 
         `surplus` says what becomes of supplies that do not add up to 0: 'refuse' (there is no plan), 'keep' (what is
         too much stays at its node, what is too little is not met, at no cost), or a number: the same, at this cost a
-        unit.
+        unit. `progress` is told in words what is done now.
         Raises Unbounded, BeyondLimits, Meaningless, TimeLimit, ProgramFailed, and Disagreement.
 
         >>> problem = Problem()
@@ -327,7 +343,7 @@ class Problem:
         """
         from .rewrite import Options, solve
 
-        return solve(self, Options(surplus), program, time_limit)
+        return solve(self, Options(surplus), program, time_limit, progress)
 
 
 def _called(which: Union[str, Tuple[str, str]]) -> str:
