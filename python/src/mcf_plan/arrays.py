@@ -13,19 +13,18 @@ not wanted, and results are lists.
 
 from __future__ import annotations
 
-import time
 from array import array
 from dataclasses import dataclass
 from operator import gt, index, mul
 from typing import Any, Callable, List, Optional, Sequence, Union
 
 from .calls import Arrays, pointer_to
+from .deadline import Deadline
 from .dimacs import MOST_ARCS, MOST_COST, MOST_FLOW, MOST_NODES, Answer, DimacsProblem, parse_answer
 from .errors import BeyondLimits
 from .library import Library
 from .plan import Disagreement
 from .program import Program, ProgramFailed
-from .rewrite import left
 
 Column = Any
 """A list of whole numbers, or an array of one dimension; of capacities also None and infinite ones, which are no
@@ -92,15 +91,15 @@ class ArrayProblem:
         there, else the program. Raises TimeLimit after `time_limit` seconds, Disagreement where the answer is found
         wrong, and ProgramFailed.
         """
-        deadline = None if time_limit is None else time.monotonic() + time_limit
         solver = solver or _usual_solver()
-        if isinstance(solver, Library):
-            answer = self._by_library(solver, time_limit)
-        else:
-            answer = parse_answer(solver.solve(self.text(), time_limit=time_limit), with_ends=False)
-        result = self._result(answer)
-        if check:
-            self._check(result, answer, solver, left(deadline))
+        with Deadline(time_limit) as deadline:
+            if isinstance(solver, Library):
+                answer = self._by_library(solver, deadline.left())
+            else:
+                answer = parse_answer(solver.solve(self.text(), time_limit=deadline.left()), with_ends=False)
+            result = self._result(answer)
+            if check:
+                self._check(result, answer, solver, deadline.left())
         return result
 
     def text(self) -> str:

@@ -21,6 +21,7 @@ from .plan import Disagreement, Infeasible, Plan
 from .printing import of_system, print_table, say, tell, visible
 from .problem import Problem, exact, plain
 from .program import Program, ProgramFailed, Refused, TimeLimit
+from .progress import Progress
 from .rewrite import BeyondLimits, CannotRewrite, Options, Surplus, Unbounded, rewrite, solve
 from .rounding import MOST_DECIMALS, round_problem
 from .session import Session
@@ -338,11 +339,14 @@ def _plan(options: argparse.Namespace) -> int:
 
     if options.table:
         check_output(options.table)
-    problem = _read(options)
-    too_large = not_drawn(problem)
-    if options.picture and too_large:
-        raise BeyondLimits(f"--picture: {too_large}")
-    result = problem.solve(surplus=options.surplus)
+    with Progress() as progress:
+        progress.now("reading the tables")
+        problem = _read(options)
+        progress.clear()
+        too_large = not_drawn(problem)
+        if options.picture and too_large:
+            raise BeyondLimits(f"--picture: {too_large}")
+        result = problem.solve(surplus=options.surplus, progress=progress.now)
     out = StringIO()
     if options.json:
         out.write(to_json(result))

@@ -6,7 +6,6 @@ numbers, so nothing is rounded.
 
 from __future__ import annotations
 
-import operator
 from dataclasses import dataclass, field
 from decimal import Decimal
 from typing import TYPE_CHECKING, Any, Dict, FrozenSet, Iterator, List, NamedTuple, Optional
@@ -16,6 +15,10 @@ from .units import Scale
 
 if TYPE_CHECKING:
     from .problem import Problem
+
+
+AT_A_TIME = 10_000
+"""So many arcs are verified at a time."""
 
 
 class Disagreement(Exception):
@@ -123,30 +126,27 @@ class Plan:
         """
         if len(self.flows) != len(self.problem.arcs):
             raise Disagreement(f"the plan has {len(self.flows)} flows for {len(self.problem.arcs)} arcs")
-        wholes = _Wholes.of(self)
-        self._verify_flows(wholes)
-        self._verify_prices(wholes)
-
-    def _verify_flows(self, wholes: _Wholes) -> None:
-        """The flow is within the bounds and balanced, and its cost is right."""
-        problem, amounts, money = self.problem, wholes.amounts, wholes.money
-        net = dict.fromkeys(problem.nodes, 0)
-        rows = zip(problem.arcs, wholes.flows, wholes.lows, wholes.caps)
-        for k, (arc, flow, low, cap) in enumerate(rows):
-            if flow < low or cap is not None and flow > cap:
-                raise Disagreement(f"arc {k + 1}, {arc.label}: the flow {plain(self.flows[k])} is outside its bounds")
-            if flow:
-                net[arc.tail] += flow
-                net[arc.head] -= flow
+        if self.prices is None or len(self.prices) != len(self.problem.nodes):
+            raise Disagreement("the plan has no prices, so nothing shows that it is best")
+        problem, arcs = self.problem, self.problem.arcs
+        rest = [*self.kept.values(), *self.not_met.values()]
+        amounts = Scale.of(
+            self.flows, (arc.low for arc in arcs), (arc.cap for arc in arcs), problem.nodes.values(), rest
+        )
+        money = Scale.of((arc.cost for arc in arcs), self.prices.values(), (self.rest_cost, self.rest_price))
+        prices = dict(zip(self.prices, money.wholes(self.prices.values())))
+        found = _Found.of(self, amounts, money, prices)
         if problem.kind == "max":
-            self._verify_value(net, amounts)
-            return
-        self._verify_balance(net, amounts)
-        cost = sum(map(operator.mul, wholes.flows, wholes.costs))
-        rest = sum(amounts.wholes([*self.kept.values(), *self.not_met.values()]))
-        cost += rest * money.whole(self.rest_cost or ZERO)
-        if WIDE.multiply(WIDE.multiply(self.cost, amounts.units), money.units) != cost:
-            raise Disagreement(f"the plan does not cost {plain(self.cost)}")
+            self._verify_value(found.net, amounts)
+        else:
+            self._verify_balance(found.net, amounts)
+            cost = found.cost + sum(amounts.wholes(rest)) * money.whole(self.rest_cost or ZERO)
+            if WIDE.multiply(WIDE.multiply(self.cost, amounts.units), money.units) != cost:
+                raise Disagreement(f"the plan does not cost {plain(self.cost)}")
+        if found.better is not None:
+            label = arcs[found.better].label
+            raise Disagreement(f"arc {found.better + 1}, {label}: with another flow the plan would be better")
+        self._verify_prices(money, prices)
 
     def _verify_value(self, net: Dict[str, int], scale: Scale) -> None:
         source, sink = self.problem.source or "", self.problem.sink or ""
@@ -183,17 +183,9 @@ class Plan:
                     f"{plain(Decimal(wanted) / scale.units)}"
                 )
 
-    def _verify_prices(self, wholes: _Wholes) -> None:
-        """Each arc carries its lower bound where a unit more would cost, and its capacity where it would save."""
-        problem, money = self.problem, wholes.money
-        price = dict(zip(self.prices or {}, wholes.prices))
-        if self.prices is None or len(price) != len(problem.nodes):
-            raise Disagreement("the plan has no prices, so nothing shows that it is best")
-        rows = zip(problem.arcs, wholes.costs, wholes.flows, wholes.lows, wholes.caps)
-        for k, (arc, cost, flow, low, cap) in enumerate(rows):
-            reduced = cost + price[arc.tail] - price[arc.head]
-            if reduced > 0 and flow != low or reduced < 0 and flow != cap:
-                raise Disagreement(f"arc {k + 1}, {arc.label}: with another flow the plan would be better")
+    def _verify_prices(self, money: Scale, price: Dict[str, int]) -> None:
+        """A maximum flow could not be greater, and no other amounts that are kept or not met would be better."""
+        problem = self.problem
         if problem.kind == "max":
             back = price[problem.sink or ""] - price[problem.source or ""] - int(money.units)
             if back < 0 or back > 0 and self.cost:
@@ -210,34 +202,38 @@ class Plan:
                 )
 
 
-class _Wholes(NamedTuple):
-    """The numbers of a plan and of its tables as whole numbers, in units of their own."""
+class _Found(NamedTuple):
+    """What is found of the arcs of a plan, in whole numbers: what leaves each node less what comes in, what the flows
+    cost, and the first arc (None: no arc) that does not carry its lower bound where a unit more would cost, or its
+    capacity where it would save."""
 
-    amounts: Scale
-    money: Scale
-    flows: List[int]
-    lows: List[int]
-    caps: List[Optional[int]]
-    costs: List[int]
-    prices: List[int]
+    net: Dict[str, int]
+    cost: int
+    better: Optional[int]
 
     @classmethod
-    def of(cls, plan: Plan) -> _Wholes:
-        """The numbers of a plan."""
-        arcs, prices = plan.problem.arcs, list((plan.prices or {}).values())
-        lows, caps, costs = [arc.low for arc in arcs], [arc.cap for arc in arcs], [arc.cost for arc in arcs]
-        rest = [*plan.kept.values(), *plan.not_met.values()]
-        amounts = Scale.of(plan.flows, lows, caps, plan.problem.nodes.values(), rest)
-        money = Scale.of(costs, prices, (plan.rest_cost, plan.rest_price))
-        return cls(
-            amounts,
-            money,
-            amounts.wholes(plan.flows),
-            amounts.wholes(lows),
-            amounts.wholes_or_none(caps),
-            money.wholes(costs),
-            money.wholes(prices),
-        )
+    def of(cls, plan: Plan, amounts: Scale, money: Scale, prices: Dict[str, int]) -> _Found:
+        """Raises Disagreement where a flow is outside its bounds. Some arcs are looked at at a time, so that not all
+        whole numbers are there at once."""
+        net, total, better = dict.fromkeys(plan.problem.nodes, 0), 0, None
+        for first in range(0, len(plan.flows), AT_A_TIME):
+            arcs = plan.problem.arcs[first : first + AT_A_TIME]
+            flows = amounts.wholes(plan.flows[first : first + AT_A_TIME])
+            lows = amounts.wholes(arc.low for arc in arcs)
+            caps = amounts.wholes_or_none(arc.cap for arc in arcs)
+            costs = money.wholes(arc.cost for arc in arcs)
+            for k, (arc, flow, low, cap, cost) in enumerate(zip(arcs, flows, lows, caps, costs), first):
+                if flow < low or cap is not None and flow > cap:
+                    told = plain(plan.flows[k])
+                    raise Disagreement(f"arc {k + 1}, {arc.label}: the flow {told} is outside its bounds")
+                reduced = cost + prices[arc.tail] - prices[arc.head]
+                if (reduced > 0 and flow != low or reduced < 0 and flow != cap) and better is None:
+                    better = k
+                if flow:
+                    net[arc.tail] += flow
+                    net[arc.head] -= flow
+                    total += flow * cost
+        return cls(net, total, better)
 
 
 @dataclass
