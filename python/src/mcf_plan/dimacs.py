@@ -234,6 +234,7 @@ class ProblemReader:
     def fail(
         self, number: int, expected: str, *, name: Optional[str] = None, value: Optional[str] = None, hint: str = ""
     ) -> _Found:
+        """The fault of the line that is read, to be raised."""
         return _Found(Fault(number, self.line, name, value, expected, hint))
 
     def number(self, name: str, word: bytes, least: int, most: int) -> int:
@@ -319,6 +320,7 @@ class ProblemReader:
         raise self.fail(3, f"`{form}` was expected, and this line has {given}", hint=hint)
 
     def read_problem_line(self, words: List[bytes]) -> None:
+        """Takes the fields of the problem line."""
         self.count("p", ("KIND", "NODES", "ARCS"), words)
         kind = as_str(words[0])
         if kind not in ARC_FIELDS:
@@ -340,6 +342,7 @@ class ProblemReader:
         self.problem_line = self.line
 
     def read_node_line(self, words: List[bytes]) -> None:
+        """Takes the fields of a node line."""
         self.count("n", NODE_FIELDS[self.kind], words)
         node = self.number("ID", words[0], 1, self.nodes)
         if self.kind == "min":
@@ -382,6 +385,7 @@ class ProblemReader:
             )
 
     def read_arc_line(self, words: List[bytes]) -> None:
+        """Takes the fields of an arc line."""
         self.count("a", ARC_FIELDS[self.kind], words)
         tail = self.number("SRC", words[0], 1, self.nodes)
         head = self.number("DST", words[1], 1, self.nodes)
@@ -461,6 +465,7 @@ class ProblemReader:
         return ""
 
     def read_line(self, raw: bytes) -> None:
+        """Takes the next line, without its line feed."""
         self.line += 1
         if len(raw) > LONGEST_LINE:
             hint = ""
@@ -535,6 +540,7 @@ class ProblemReader:
             raise self.fail(11, f"{when} the {what} has to be named", hint=f"Put `n ID {letter}` before the arcs.")
 
     def read_end(self) -> None:
+        """Takes the end of the text."""
         if not self.kind:
             raise self.fail(
                 14,
@@ -552,6 +558,7 @@ class ProblemReader:
             )
 
     def read(self, text: Text) -> DimacsProblem:
+        """The problem of a whole text."""
         for raw in _lines(as_bytes(text)):
             self.read_line(raw)
         self.read_end()

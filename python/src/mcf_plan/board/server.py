@@ -400,6 +400,7 @@ class Handler(BaseHTTPRequestHandler):
         """Keeps the terminal free for what the command itself says."""
 
     def do_GET(self) -> None:
+        """Answers a request for a page or for what is known."""
         path = self.path.split("?")[0]
         if not self._is_for_us():
             return
@@ -413,6 +414,7 @@ class Handler(BaseHTTPRequestHandler):
             self._refuse(404, "there is nothing here")
 
     def do_POST(self) -> None:
+        """Answers a request that changes something."""
         if not self._is_for_us() or not self._has_key():
             return
         if self.path != "/do":
