@@ -284,9 +284,11 @@ def _port(text: str) -> int:
     return int(text)
 
 
-def _read(options: argparse.Namespace) -> Problem:
+def _read(options: argparse.Namespace, progress: Optional[Progress] = None) -> Problem:
     """The problem of the tables, or of the text, that the command line names; its notes are told."""
     problem = _read_source(options)
+    if progress is not None:
+        progress.clear()
     for note in problem.notes:
         say(f"note: {note}", sys.stderr)
     return problem
@@ -341,8 +343,7 @@ def _plan(options: argparse.Namespace) -> int:
         check_output(options.table)
     with Progress() as progress:
         progress.now("reading the tables")
-        problem = _read(options)
-        progress.clear()
+        problem = _read(options, progress)
         too_large = not_drawn(problem)
         if options.picture and too_large:
             raise BeyondLimits(f"--picture: {too_large}")
