@@ -1,6 +1,8 @@
 """The board without a browser: what it answers, and whom it refuses."""
 
+import contextlib
 import http.client
+import io
 import json
 import re
 import signal
@@ -11,6 +13,7 @@ import threading
 import unittest
 from decimal import Decimal
 from pathlib import Path
+from unittest import mock
 
 from mcf_plan import Problem, Session
 from mcf_plan.board.server import MOST_BYTES, Board, BoardServer
@@ -168,6 +171,72 @@ class BoardTest(unittest.TestCase):
         with self.assertRaises(KeyError):
             self.board.export("../server.py")
 
+    def test_names_of_variants(self) -> None:
+        for name in ["", " ", "x" * 41, "\ud800", "a\x1bb", "\u202e"]:
+            with self.subTest(name=name):
+                state = self.board.do({"do": "mark", "name": name})
+                self.assertIn("a variant needs a name", state["error"])
+                self.assertEqual(state["variants"]["columns"], [])
+        self.assertIsNone(self.board.do({"do": "mark", "name": "Plan B, günstig"})["error"])
+
+    def test_changes_since_a_version(self) -> None:
+        """Whichever version a page has, what it is sent leads to the state as it stands, by rows that changed."""
+        pages = {0: (self.board.state()["arcs"], self.board.state()["nodes"])}
+        versions = {0: self.board.version}
+        requests = [
+            {"do": "edits", "edits": [{"edit": "cap", "arc": 0, "value": "2"}]},
+            {"do": "edits", "edits": [{"edit": "add", "tail": "south", "head": "east", "cap": "3", "cost": "1.5"}]},
+            {"do": "edits", "edits": [{"edit": "cost", "arc": 5, "value": "x"}]},
+            {"do": "mark", "name": "lane"},
+            {"do": "undo"},
+            {"do": "edits", "edits": [{"edit": "supply", "node": "east", "value": "-8.5"}]},
+            {"do": "undo"},
+            {"do": "edits", "edits": [{"edit": "add", "tail": "west", "head": "east", "cost": "7"}]},
+            {"do": "undo"},
+            {"do": "undo"},
+            {"do": "redo"},
+            {"do": "state"},
+        ]
+        for number, request in enumerate(requests, 1):
+            self.board.do(request)
+            whole = self.board.state()
+            for page, (arcs, nodes) in pages.items():
+                told = self.board.do({"do": "state", "since": versions[page]})
+                changes = told["changes"]
+                self.assertNotIn("arcs", told)
+                if versions[page] == self.board.version:
+                    self.assertEqual((changes["arcs"], changes["nodes"]), ([], []))
+                merged = dict(enumerate(arcs[: changes["arc_count"]]))
+                merged.update(changes["arcs"])
+                self.assertEqual([merged[index] for index in range(changes["arc_count"])], whole["arcs"])
+                self.assertEqual([dict(changes["nodes"]).get(i, row) for i, row in enumerate(nodes)], whole["nodes"])
+            pages[number], versions[number] = (whole["arcs"], whole["nodes"]), self.board.version
+        self.assertEqual(sorted(versions.values()), list(versions.values()))
+        for since in (0, -1, 10**9, "1", None, 2.5):
+            self.assertIn("arcs", self.board.do({"do": "state", "since": since}))
+
+    def test_refused_edit_asks_mcf_nothing(self) -> None:
+        self.board.state()
+        with mock.patch.object(Session, "plan", side_effect=AssertionError):
+            self.assertTrue(self.edit(edit="cost", arc=0, value="x")["error"])
+            self.board.do({"do": "mark", "name": "plain"})
+            self.board.do({"do": "state"})
+
+    def test_variant_without_a_plan(self) -> None:
+        """Its flows are not compared with those of others: else each arc would be told."""
+        self.board.do({"do": "mark", "name": "plain"})
+        self.edit(edit="supply", node="east", value="-8.5")
+        variants = self.board.do({"do": "mark", "name": "short"})["variants"]
+        self.assertEqual(variants["rows"], [["east", "supply", ["-7.5", "-8.5", "-8.5"]]])
+
+    def test_large_networks_have_no_map(self) -> None:
+        problem = towns()
+        for _ in range(3000):
+            problem.add_arc("south", "middle", cap=1, cost=9)
+        with Session(problem) as session:
+            self.assertIn("the network has 3,005 arcs", Board(session).state()["not_drawn"])
+        self.assertIsNone(self.board.state()["not_drawn"])
+
     def test_other_kinds(self) -> None:
         flow = Problem("max", source="a", sink="c")
         flow.add_arc("a", "b", cap=3)
@@ -281,6 +350,35 @@ class ServerTest(unittest.TestCase):
         with BoardServer(self.session) as other:
             self.assertNotEqual(self.server.key, other.key)
 
+    def test_version(self) -> None:
+        """What a tab asks for every second is for those alone who have the key, and takes no lock."""
+        for key, status in ((self.server.key, 200), ("wrong", 403), ("", 403)):
+            headers = {"Host": self.own["Host"], "X-Board-Key": key}
+            got, body, _ = self.request("GET", "/version", **{name: value for name, value in headers.items() if value})
+            self.assertEqual(got, status)
+        foreign = {"Host": self.own["Host"], "X-Board-Key": self.server.key, "Origin": "http://elsewhere.example"}
+        self.assertEqual(self.request("GET", "/version", **foreign)[0], 403)
+        with self.server.board._lock:
+            got, body, _ = self.request("GET", "/version", **{"Host": self.own["Host"], "X-Board-Key": self.server.key})
+        self.assertEqual(json.loads(body), {"version": self.server.board.version})
+
+    def test_names_that_are_no_text(self) -> None:
+        """A node of a table whose bytes are no UTF-8 comes through as it is."""
+        problem = towns()
+        problem.add_node("Ulm\udcfc")
+        with Session(problem) as session, BoardServer(session) as server:
+            threading.Thread(target=server.serve_forever, daemon=True).start()
+            connection = http.client.HTTPConnection("127.0.0.1", server.server_port, timeout=30)
+            own = {"Origin": f"http://{server.hosts[0]}", "X-Board-Key": server.key, "Content-Type": "application/json"}
+            connection.request("POST", "/do", b'{"do":"mark","name":"\\ud800"}', {**own, "Host": server.hosts[0]})
+            state = json.loads(connection.getresponse().read())
+            self.assertIn("nothing that can't be shown", state["error"])
+            self.assertEqual(state["nodes"][-1][0], "Ulm\udcfc")
+            connection.request("GET", "/export/report.html", headers={**own, "Host": server.hosts[0]})
+            self.assertEqual(connection.getresponse().status, 200)
+            connection.close()
+            server.shutdown()
+
     def test_host(self) -> None:
         port = self.server.server_port
         for host in [
@@ -336,6 +434,15 @@ class ServerTest(unittest.TestCase):
             self.assertEqual(self.request(method, "/do", **self.own)[0], 501)
         self.assertEqual(self.post(b"not json"), 400)
         self.assertEqual(self.post(b"[1]"), 400)
+        errors = io.StringIO()
+        with contextlib.redirect_stderr(errors):
+            for nested in (
+                b"[" * 500_000,
+                b'{"do":' * 100_000,
+                b'{"do":"state","x":' + b"[" * 90_000 + b"]" * 90_000 + b"}",
+            ):
+                self.assertEqual(self.post(nested), 400)
+        self.assertEqual(errors.getvalue(), "")
         self.assertEqual(self.post(b'{"do":"edits","edits":[7]}'), 400)
         self.assertEqual(self.post(Content_Type="text/plain"), 415)
         self.assertEqual(self.post(path="/other"), 404)

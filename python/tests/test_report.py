@@ -143,6 +143,21 @@ class ReportTest(unittest.TestCase):
             ]
             self.assertEqual(len(edges), len(result.problem.arcs))
 
+    def test_names_that_no_picture_may_have(self) -> None:
+        """XML has no control characters: a picture shows them by their numbers, and stays one that is read."""
+        problem = Problem()
+        problem.add_node("Ulm\x1b\udcfc", 1)
+        problem.add_node("Ulm\\u001b", -1)
+        problem.add_arc("Ulm\x1b\udcfc", "Ulm\\u001b", cost=2, name="\x07")
+        for graphviz in (None, False):
+            picture = report.svg_picture(problem.solve(), graphviz=graphviz)
+            xml.fromstring(picture)
+            self.assertIn("Ulm\\u001b\\udcfc", picture)
+        self.assertIn("Ulm\\u001b\\udcfc", report.html_text(problem.solve()))
+        alike = Problem()
+        alike.add_arc("a\x1b", "a\\u001b", cap=1)
+        self.assertEqual(report.svg_picture(alike.solve()).count("<circle"), 2)
+
     def test_layout(self) -> None:
         problem = towns()
         where = report.layout(problem)

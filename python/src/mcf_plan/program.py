@@ -15,10 +15,11 @@ import shutil
 import subprocess
 import tempfile
 import threading
-import time
+from collections import deque
 from pathlib import Path
-from typing import List, Optional, Tuple
+from typing import Deque, List, Optional, Tuple
 
+from .deadline import Deadline
 from .deadline import TimeLimit as TimeLimit
 from .dimacs import LONGEST_LINE, Fault, Text, as_bytes, as_str, find_answer_fault, find_fault
 from .signals import dying_with_us
@@ -184,7 +185,8 @@ class Dialogue:
     def __init__(
         self, program: Program, text: Text, *, extra: Optional[int] = None, time_limit: Optional[float] = None
     ):
-        self._unread = b""
+        self._lines: Deque[bytes] = deque()  # lines that were read, and not taken yet
+        self._unread = b""  # the beginning of the next one
         self._in_group = False
         with tempfile.NamedTemporaryFile(prefix="mcf-plan-", suffix=".problem") as file:
             file.write(as_bytes(text))
@@ -266,48 +268,56 @@ class Dialogue:
 
     def _exchange(self, text: bytes, awaited: List[bool], time_limit: Optional[float]) -> List[str]:
         """Sends the text and reads what is awaited; ends the process where that is interrupted."""
-        deadline = None if time_limit is None else time.monotonic() + time_limit
         unsent = memoryview(text)
         replies: List[str] = []
-        at = 0
+        answered = 0
         poll = select.poll()
         poll.register(self._output, select.POLLIN)
         try:
-            while True:
-                while at < len(awaited):
-                    line, found, rest = self._unread.partition(b"\n")
-                    if not found:
-                        break
-                    self._unread = rest
-                    if awaited[at] and line == b"r 2":
-                        at += 1
-                        continue
-                    replies.append(line.decode())
-                    at += not awaited[at]
-                if at == len(awaited) and not unsent:
-                    return replies
-                if unsent:
-                    poll.register(self._input, select.POLLOUT)
-                wait = None if deadline is None else max(0.0, deadline - time.monotonic()) * 1000
-                ready = dict(poll.poll(wait))
-                if not ready:
-                    assert time_limit is not None
-                    raise TimeLimit(time_limit)
-                if self._input in ready:
-                    try:
-                        unsent = unsent[os.write(self._input, unsent) :]
-                    except BrokenPipeError:
-                        unsent = unsent[:0]
-                    if not unsent:
-                        poll.unregister(self._input)
-                if self._output in ready:
-                    more = os.read(self._output, 1 << 20)
-                    if not more:
-                        raise _Ended(self._finished())
-                    self._unread += more
+            with Deadline(time_limit) as deadline:
+                while True:
+                    answered = self._take(replies, awaited, answered)
+                    if answered == len(awaited) and not unsent:
+                        return replies
+                    if unsent:
+                        poll.register(self._input, select.POLLOUT)
+                    left = deadline.left()
+                    ready = dict(poll.poll(None if left is None else left * 1000))
+                    if self._input in ready:
+                        unsent = self._write(unsent)
+                        if not unsent:
+                            poll.unregister(self._input)
+                    if self._output in ready:
+                        self._read()
         except BaseException:
             self.close()
             raise
+
+    def _take(self, replies: List[str], awaited: List[bool], answered: int) -> int:
+        """Takes lines that were read as replies, and returns how many of those awaited are there now."""
+        while self._lines and answered < len(awaited):
+            line = self._lines.popleft()
+            if awaited[answered] and line == b"r 2":
+                answered += 1
+                continue
+            replies.append(line.decode())
+            answered += not awaited[answered]
+        return answered
+
+    def _write(self, unsent: memoryview) -> memoryview:
+        """Writes what the pipe takes, and returns the rest; none where nobody reads it any more."""
+        try:
+            return unsent[os.write(self._input, unsent) :]
+        except BrokenPipeError:
+            return unsent[:0]
+
+    def _read(self) -> None:
+        """Reads what is there, line by line. Raises _Ended at its end."""
+        more = os.read(self._output, 1 << 20)
+        if not more:
+            raise _Ended(self._finished())
+        *lines, self._unread = (self._unread + more).split(b"\n")
+        self._lines.extend(lines)
 
     def _finished(self) -> subprocess.CompletedProcess[bytes]:
         """How the process ended, and what it said."""

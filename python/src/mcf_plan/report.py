@@ -67,6 +67,11 @@ def number(value: Optional[Decimal]) -> str:
     return "" if value is None else plain(value or ZERO)
 
 
+def _escape(text: str) -> str:
+    """Words as HTML and SVG have them; neither may have characters that control a terminal."""
+    return "\n".join(html.escape(visible(line)) for line in text.split("\n"))
+
+
 class Row(NamedTuple):
     """What a plan says of one arc, in the units of the tables."""
 
@@ -77,17 +82,27 @@ class Row(NamedTuple):
     full: bool
 
 
-def arc_rows(plan: Plan) -> Iterator[Row]:
-    """The arcs of a plan in their order, with what the tables of a report say of each.
+def savings(plan: Plan) -> list[Optional[Decimal]]:
+    """What one unit more of capacity saves at most, arc by arc, where that is above 0.
 
     A full arc whose reduced cost is below 0 saves at most as much with one unit more of capacity: the least cost is
     convex in a capacity, and the prices of a best plan bound it from below.
     """
-    for index, (arc, flow) in enumerate(zip(plan.problem.arcs, plan.flows)):
-        full, saving = plan.is_full(index), None
-        if full and plan.prices is not None and plan.problem.kind == "min" and plan.reduced_cost(index) < 0:
-            saving = -plan.reduced_cost(index)
-        yield Row(arc, flow, WIDE.multiply(flow, arc.cost), saving, full)
+    arcs = plan.problem.arcs
+    found: list[Optional[Decimal]] = [None] * len(arcs)
+    if plan.prices is not None and plan.problem.kind == "min":
+        for index, (arc, flow) in enumerate(zip(arcs, plan.flows)):
+            if arc.cap is not None and flow == arc.cap:
+                reduced = plan.reduced_cost(index)
+                if reduced < 0:
+                    found[index] = -reduced
+    return found
+
+
+def arc_rows(plan: Plan) -> Iterator[Row]:
+    """The arcs of a plan in their order, with what the tables of a report say of each."""
+    for arc, flow, saving in zip(plan.problem.arcs, plan.flows, savings(plan)):
+        yield Row(arc, flow, WIDE.multiply(flow, arc.cost) if flow else ZERO, saving, flow == arc.cap)
 
 
 # ---------------------------------------------------------------------------------------------------------------------
@@ -278,7 +293,7 @@ def _strokes(result: Result) -> Iterator[tuple[Arc, Optional[Decimal], str, floa
 
 def _dot_text(result: Result) -> str:
     def quoted(text: str) -> str:
-        return '"' + text.replace("\\", "\\\\").replace('"', '\\"') + '"'
+        return '"' + visible(text).replace("\\", "\\\\").replace('"', '\\"') + '"'
 
     problem, cut = result.problem, _cut(result)
     lines = [
@@ -301,9 +316,11 @@ def _dot_text(result: Result) -> str:
 
 
 def _by_graphviz(result: Result) -> Optional[str]:
-    """The picture as Graphviz draws it; None where it is not there, or does not come to an end in time."""
+    """The picture as Graphviz draws it; None where it is not there, does not come to an end in time, or would take
+    several nodes for one, whose names look the same."""
     program = shutil.which("dot")
-    if program is None:
+    names = result.problem.nodes
+    if program is None or len(set(map(visible, names))) < len(names):
         return None
     try:
         done = subprocess.run(
@@ -389,10 +406,10 @@ def _drawn_arcs(result: Result, where: Mapping[str, tuple[float, float]]) -> tup
         dashes = ' stroke-dasharray="5 5"' if flow is not None and not flow else ""
         lines.append(f'<path d="{path}" stroke="{colour}"')
         lines.append(f'  stroke-width="{width:.1f}"{dashes} marker-end="url(#head-{HEADS[colour]})">')
-        lines.append(f"  <title>{html.escape(f'{arc.tail} to {arc.head}: {text}')}</title></path>")
+        lines.append(f"  <title>{_escape(f'{arc.tail} to {arc.head}: {text}')}</title></path>")
         if few and text:
             fill = QUIET if colour == EMPTY else colour
-            labels.append(f'<text x="{x:.1f}" y="{y - 4:.1f}" fill="{fill}">{html.escape(text)}</text>')
+            labels.append(f'<text x="{x:.1f}" y="{y - 4:.1f}" fill="{fill}">{_escape(text)}</text>')
     return lines, labels
 
 
@@ -408,7 +425,7 @@ def _drawn_nodes(result: Result, where: Mapping[str, tuple[float, float]], right
         side = "above" if on_map or 0 < x < right else "left" if x <= 0 and right > 0 else "right"
         dx, dy, anchor = {"above": (0, -14, "middle"), "left": (-14, 5, "end"), "right": (14, 5, "start")}[side]
         names.append(f'<text x="{x + dx:.1f}" y="{y + dy:.1f}" text-anchor="{anchor}">')
-        names[-1] += html.escape(_node_label(problem, name)) + "</text>"
+        names[-1] += _escape(_node_label(problem, name)) + "</text>"
     return dots, names
 
 
@@ -458,7 +475,7 @@ def _flow_table(plan: Plan) -> Iterator[str]:
         yield '<table><tr><th class="name">Of</th><th class="name">To</th><th>Cost</th></tr>'
         for row in rows:
             if row.flow:
-                ends = "".join(f'<td class="name">{html.escape(end)}</td>' for end in (row.arc.tail, row.arc.head))
+                ends = "".join(f'<td class="name">{_escape(end)}</td>' for end in (row.arc.tail, row.arc.head))
                 yield f"<tr>{ends}<td>{number(row.arc.cost)}</td></tr>"
         yield "</table>"
         return
@@ -477,7 +494,7 @@ def _flow_table(plan: Plan) -> Iterator[str]:
         cells += [number(arc.cost), number(row.cost), number(row.saving)] * costs
         marked = row.full and bool(row.flow)
         yield f'<tr{" class=full" if marked else ""}>' + "".join(
-            f'<td class="name">{html.escape(word)}</td>' for word in words
+            f'<td class="name">{_escape(word)}</td>' for word in words
         ) + "".join(f"<td>{cell}</td>" for cell in cells) + f'<td class="mark">{"full" if marked else ""}</td></tr>'
     yield "</table>"
 
@@ -492,7 +509,7 @@ def _node_table(plan: Plan) -> Iterator[str]:
     for name, supply in problem.nodes.items():
         cells = [number(supply)] + ([number(left.get(name)) if left.get(name) else ""] if left else [])
         cells += [number(plan.prices[name])] if plan.prices else []
-        yield f'<tr><td class="name">{html.escape(name)}</td>' + "".join(f"<td>{cell}</td>" for cell in cells) + "</tr>"
+        yield f'<tr><td class="name">{_escape(name)}</td>' + "".join(f"<td>{cell}</td>" for cell in cells) + "</tr>"
     yield "</table>"
 
 
@@ -523,8 +540,8 @@ def html_text(result: Result, *, title: str = "Plan") -> str:
     out = [
         "<!doctype html>",
         '<html lang="en"><meta charset="utf-8"><meta name="viewport" content="width=device-width">',
-        f"<title>{html.escape(title)}</title><style>{STYLE}</style>",
-        f"<h1>{html.escape(title)}</h1>",
+        f"<title>{_escape(title)}</title><style>{STYLE}</style>",
+        f"<h1>{_escape(title)}</h1>",
     ]
     if isinstance(result, Plan):
         out.append(f'<p class="worth">{WORTH[problem.kind]}: {number(result.cost)}</p>')
@@ -535,15 +552,15 @@ def html_text(result: Result, *, title: str = "Plan") -> str:
         )
     else:
         out.append(f'<p class="worth">There is no plan: short by {number(result.shortage)}</p>')
-        out.append(f"<pre>{html.escape(explain(result))}</pre>")
+        out.append(f"<pre>{_escape(explain(result))}</pre>")
         out.append(
             "<p><code>mcf check</code> accepted the cut, and its shortage was found right in the units of the "
             "tables.</p>"
         )
     if isinstance(result, Plan) and problem.kind == "max":
-        out.append(f"<pre>{html.escape(limit_text(result))}</pre>")
+        out.append(f"<pre>{_escape(limit_text(result))}</pre>")
     for note in result.notes:
-        out.append(f"<p>{html.escape(note)}</p>")
+        out.append(f"<p>{_escape(note)}</p>")
     out.append("<h2>The network</h2>")
     too_large = not_drawn(problem)
     if too_large:

@@ -149,6 +149,7 @@ class Session:
         with Deadline(time_limit) as deadline:
             self._moments: List[_Moment] = [self._new_moment([], deadline)]
         self._now = 0
+        self._version = 0
 
     # ------------------------------------------------------------ the moment
 
@@ -181,6 +182,11 @@ class Session:
     def marks(self) -> List[str]:
         """The names of the marks, in the order of their moments."""
         return sorted(self._marks, key=lambda name: self._marks[name])
+
+    @property
+    def version(self) -> int:
+        """How often the moment has become another one: by an edit, a group, undo, redo or back."""
+        return self._version
 
     @property
     def position(self) -> int:
@@ -301,6 +307,7 @@ class Session:
                 dialogue = stretch.open(self._program, deadline)
                 dialogue.ask_all(["redo" if way > 0 else "undo"] * abs(way), time_limit=deadline.left())
             stretch.position = moment.position
+        self._version += self._now != target
         while self._now != target:
             forward = self._now < target
             here = self._moments[self._now + forward]
@@ -428,6 +435,7 @@ class Session:
         is_new = moment.stretch is not self._moments[self._now].stretch
         self._moments.append(moment)
         self._now += 1
+        self._version += 1
         if is_new:
             self._shut_others()
         return moment.cost

@@ -1,5 +1,6 @@
 "use strict";
-// The what-if page. The server holds the session; each answer is the whole state, and only what differs is drawn anew.
+// The what-if page. The server holds the session. Its first answer is the whole state, each later one has the rows that
+// changed since, and only what differs is drawn anew. Several tabs may show one session: each asks whether it changed.
 const by = (id) => document.getElementById(id);
 const key = decodeURIComponent(location.hash.slice(1));
 const SVG = "http://www.w3.org/2000/svg";
@@ -9,8 +10,12 @@ const [NAME, SUPPLY, X, Y, PRICE, REST] = [0, 1, 2, 3, 4, 5];
 const [TAIL, HEAD, LABEL, LOW, CAP, COST, FLOW, SAVES] = [0, 1, 2, 3, 4, 5, 6, 7];
 const FIELDS = { low: LOW, cap: CAP, cost: COST };
 const WORDS = { low: "lower bound", cap: "capacity", cost: "unit cost", supply: "supply" };
-// So many rows of a table are put in at once, and a table of no more has fields in all of them from the beginning.
+// So many rows of a table are made at once, and others when they are scrolled to.
 const AT_ONCE = 200;
+// So many names are offered where one is typed.
+const MOST_OFFERED = 200;
+// How often a tab asks whether another one has edited, in milliseconds.
+const LOOK_EVERY = 1000;
 // About how wide a letter of a node's name is on the map.
 const LETTER = 8.8;
 const EDITABLE = { min: ["low", "cap", "cost"], max: ["cap"], asn: ["cost"] };
@@ -20,10 +25,9 @@ let collecting = false;
 let pending = [];
 let chosen = -1;
 let queue = Promise.resolve();
-let arcRows = [];
-let nodeRows = [];
-let nearby = null;
-let attached = 0;
+let asking = 0;
+let arcs = null;
+let nodes = null;
 let view = { scale: 1, x: 0, y: 0 };
 
 const label = (arc) => arc[LABEL] || `${arc[TAIL]} to ${arc[HEAD]}`;
@@ -47,28 +51,70 @@ function ask(request) {
   return asked;
 }
 
+async function post(request) {
+  const since = state === null ? {} : { since: state.version };
+  return fetch("/do", {
+    method: "POST",
+    headers: { "X-Board-Key": key, "Content-Type": "application/json" },
+    body: JSON.stringify({ ...request, ...since }),
+  });
+}
+
 async function send(request) {
+  asking += 1;
   document.body.setAttribute("aria-busy", "true");
   try {
-    const reply = await fetch("/do", {
-      method: "POST",
-      headers: { "X-Board-Key": key, "Content-Type": "application/json" },
-      body: JSON.stringify(request),
-    });
+    const reply = await post(request);
     const said = await reply.json();
     if (!reply.ok) {
-      tell(said.error);
+      refused(said.error);
       return false;
     }
-    draw(said);
+    draw(merged(said));
     tell(said.error);
     return !said.error;
   } catch (error) {
     tell("No answer: does mcf-plan board still run? " + error.message);
     return false;
   } finally {
+    asking -= 1;
     document.body.removeAttribute("aria-busy");
   }
+}
+
+// Where the very first request is refused, the page has nothing to show but why.
+function refused(words) {
+  if (state === null) by("worth-words").textContent = "Nothing to show:";
+  tell(words);
+}
+
+// The state after one that the page has: rows that did not change are the same ones.
+function merged(said) {
+  if (said.arcs) return said;
+  const { arcs: changedArcs, nodes: changedNodes, arc_count: count } = said.changes;
+  const next = { ...said, arcs: state.arcs.slice(0, count), nodes: state.nodes.slice() };
+  for (const [index, row] of changedArcs) next.arcs[index] = row;
+  for (const [index, row] of changedNodes) next.nodes[index] = row;
+  return next;
+}
+
+// Asks whether another tab has edited, while nothing else is asked and the page is seen.
+async function look() {
+  if (state === null || asking > 0 || document.visibilityState !== "visible") return;
+  try {
+    const reply = await fetch("/version", { headers: { "X-Board-Key": key } });
+    const { version } = await reply.json();
+    if (reply.ok && version !== state.version && asking === 0 && (await ask({ do: "state" }))) {
+      tell("Another tab has edited: this is what stands now.", true);
+    }
+  } catch (error) {
+    tell("mcf-plan board has ended: nothing that is typed here is made any more.");
+  }
+}
+
+async function lookOn() {
+  await look();
+  setTimeout(lookOn, LOOK_EVERY);
 }
 
 // ---------------------------------------------------------------------------------------------------------------------
@@ -76,25 +122,25 @@ async function send(request) {
 
 function draw(next) {
   const isFirst = state === null;
-  const grew = isFirst || state.arcs.length !== next.arcs.length;
   const before = state;
   state = next;
   if (isFirst) {
     document.title = `${state.title}: what if?`;
-    buildNodes();
+    buildTables();
   }
-  if (grew) {
-    if (chosen >= state.arcs.length) chosen = -1;
-    buildArcs();
-    buildLines();
+  const hasOthers = !isFirst && before.arcs.some((arc, index) => !isSame(arc, state.arcs[index]));
+  if (hasOthers) {
+    arcs.clear();
+    chosen = -1;
   }
+  const grew = isFirst || hasOthers || before.arcs.length !== state.arcs.length;
+  if (grew) buildLines();
   drawWorth();
-  drawArcs(grew ? null : before);
-  drawNodes(isFirst ? null : before);
+  drawTables(before);
   drawVariants();
   if (isFirst) showWhole();
   else drawMap(grew);
-  if (arcRows[chosen]) point(chosen);
+  if (chosen >= 0) point(chosen);
   by("undo").disabled = !state.undo;
   by("redo").disabled = !state.redo;
   by("notes").textContent = state.notes.join(" ");
@@ -106,6 +152,10 @@ function draw(next) {
   by("cut-legend").hidden = state.cut === null;
   document.body.dataset.moment = String(Number(document.body.dataset.moment || 0) + 1);
 }
+
+// Whether it is the same arc, whatever its numbers are now: an added one may be taken back, and another one added.
+const isSame = (arc, other) =>
+  arc === other || (other !== undefined && [TAIL, HEAD, LABEL].every((part) => arc[part] === other[part]));
 
 function drawWorth() {
   const none = state.cost === null;
@@ -133,7 +183,76 @@ function field(what, index, words) {
   return input;
 }
 
-function buildArcs() {
+// A table whose rows are made when they are scrolled to: of 100,000 arcs only those near the window have elements.
+class LongTable {
+  // `makeRow` makes the row of an index: { line, inputs }, and `drawRow` shows in it what stands.
+  constructor(name, makeRow, drawRow) {
+    this.body = document.querySelector(`#${name} tbody`);
+    this.frame = by(`${name}-wide`);
+    this.makeRow = makeRow;
+    this.drawRow = drawRow;
+    this.rows = new Map();
+    this.found = [];
+    this.shown = 0;
+    this.frame.addEventListener("scroll", () => {
+      if (this.frame.scrollTop + 2 * this.frame.clientHeight > this.frame.scrollHeight) this.more();
+    });
+  }
+
+  // Shows the rows of these indices, in their order.
+  show(found) {
+    if (found.length === this.found.length && found.every((index, at) => index === this.found[at])) return;
+    const focus = this.body.contains(document.activeElement) ? document.activeElement : null;
+    this.found = found;
+    this.shown = 0;
+    this.body.replaceChildren();
+    this.more();
+    if (focus && focus.isConnected) focus.focus({ preventScroll: true });
+  }
+
+  // Puts more rows behind those that are shown, and those up to a place in any case.
+  more(place = 0) {
+    const end = Math.max(this.shown + AT_ONCE, place + 1);
+    const piece = this.found.slice(this.shown, end);
+    this.shown += piece.length;
+    this.body.append(...piece.map((index) => this.made(index).line));
+  }
+
+  clear() {
+    this.rows.clear();
+    this.show([]);
+  }
+
+  made(index) {
+    if (!this.rows.has(index)) {
+      this.rows.set(index, this.makeRow(index));
+      this.drawRow(index, this.rows.get(index));
+    }
+    return this.rows.get(index);
+  }
+
+  // The row of an index, in the table; null where the table does not show it.
+  reveal(index) {
+    const place = this.found.indexOf(index);
+    if (place < 0) return null;
+    if (place >= this.shown) this.more(place);
+    return this.rows.get(index);
+  }
+
+  // The index so many rows below another one.
+  beside(index, step) {
+    return this.found[this.found.indexOf(index) + step];
+  }
+
+  // Shows what stands in the rows that are made and have changed.
+  draw(before, now) {
+    for (const [index, row] of this.rows) {
+      if (!before || before[index] !== now[index]) this.drawRow(index, row);
+    }
+  }
+}
+
+function buildTables() {
   const kind = state.kind;
   const columns = kind === "min" ? ["low", "cap", "cost"] : EDITABLE[kind];
   const heads = { low: "At least", cap: "Capacity", cost: kind === "asn" ? "Cost" : "Unit cost" };
@@ -146,74 +265,56 @@ function buildArcs() {
   if (kind === "min") row.append(saves);
   row.append(make("th", "", "close"));
   document.querySelector("#arcs thead").replaceChildren(row);
-  const body = document.querySelector("#arcs tbody");
-  if (nearby) nearby.disconnect();
-  nearby = new IntersectionObserver((seen) => {
-    for (const entry of seen) if (entry.isIntersecting) furnish(Number(entry.target.dataset.index));
-  }, { root: by("arcs-wide"), rootMargin: "800px 0px" });
-  arcRows = state.arcs.map((arc, index) => {
-    const line = make("tr");
-    line.dataset.index = index;
-    const flow = make("td", undefined, "flow");
-    const cells = {};
-    const name = make("td", label(arc), "name");
-    if (arc[LABEL]) name.append(make("small", `${arc[TAIL]} to ${arc[HEAD]}`));
-    line.append(name, flow);
-    for (const what of columns) {
-      cells[what] = make("td", undefined, what);
-      line.append(cells[what]);
-    }
-    const saves = make("td", undefined, "saves");
-    if (kind === "min") line.append(saves);
-    const last = make("td");
-    const close = make("button", "\u00d7");
-    close.type = "button";
-    close.dataset.close = index;
-    close.title = `Close ${label(arc)}`;
-    close.setAttribute("aria-label", close.title);
-    last.append(close);
-    line.append(last);
-    line.classList.toggle("chosen", index === chosen);
-    return { line, flow, saves, cells, inputs: null };
-  });
-  body.replaceChildren();
-  attached = 0;
-  attach(AT_ONCE);
-  setTimeout(attachMore, 0, arcRows);
-  if (arcRows.length <= AT_ONCE) arcRows.forEach((each, index) => furnish(index));
-  else arcRows.forEach((each) => nearby.observe(each.line));
+  arcs = new LongTable("arcs", (index) => makeArcRow(index, columns), drawArcRow);
+  by("with-low").checked = state.arcs.some((arc) => arc[LOW] !== "0");
   by("with-low").parentElement.hidden = kind !== "min";
   by("only-full").parentElement.hidden = kind === "asn";
   document.querySelector("#add .add-cap").hidden = kind === "asn";
   document.querySelector("#add .add-cost").hidden = kind === "max";
+  const nodeHead = make("tr");
+  nodeHead.append(make("th", "Node", "name"), make("th", "Supply"));
+  nodeHead.append(make("th", "Kept or not met", "rest"), make("th", "Price"));
+  document.querySelector("#nodes thead").replaceChildren(nodeHead);
+  by("nodes-part").hidden = kind !== "min";
+  nodes = new LongTable("nodes", makeNodeRow, drawNodeRow);
+  offerNames("");
 }
 
-// Puts rows into the table, up to so many. A long table comes piece by piece, so that the page answers meanwhile.
-function attach(count) {
-  const piece = arcRows.slice(attached, count).map((each) => each.line);
-  document.querySelector("#arcs tbody").append(...piece);
-  attached += piece.length;
-}
-
-function attachMore(rows) {
-  if (rows !== arcRows || attached === rows.length) return;
-  attach(attached + AT_ONCE);
-  setTimeout(attachMore, 20, rows);
-}
-
-// Puts fields into a row. Of a long table only the rows near the window have them: thousands of fields take seconds.
-function furnish(index) {
-  const row = arcRows[index];
-  if (attached <= index) attach(index + 1);
-  if (row.inputs) return row.inputs;
-  row.inputs = {};
-  for (const [what, cell] of Object.entries(row.cells)) {
-    row.inputs[what] = field(what, index, label(state.arcs[index]));
-    cell.replaceChildren(row.inputs[what]);
-    show(row.inputs[what], state.arcs[index][FIELDS[what]], what, index);
+function makeArcRow(index, columns) {
+  const arc = state.arcs[index];
+  const line = make("tr");
+  const flow = make("td", undefined, "flow");
+  const saves = make("td", undefined, "saves");
+  const name = make("td", label(arc), "name");
+  if (arc[LABEL]) name.append(make("small", `${arc[TAIL]} to ${arc[HEAD]}`));
+  line.append(name, flow);
+  const inputs = {};
+  for (const what of columns) {
+    const cell = make("td", undefined, what);
+    inputs[what] = field(what, index, label(arc));
+    cell.append(inputs[what]);
+    line.append(cell);
   }
-  if (nearby) nearby.unobserve(row.line);
-  return row.inputs;
+  if (state.kind === "min") line.append(saves);
+  const last = make("td");
+  const close = make("button", "\u00d7");
+  close.type = "button";
+  close.dataset.close = index;
+  close.title = `Close ${label(arc)}`;
+  close.setAttribute("aria-label", close.title);
+  last.append(close);
+  line.append(last);
+  line.classList.toggle("chosen", index === chosen);
+  return { line, flow, saves, inputs };
+}
+
+function drawArcRow(index, row) {
+  const arc = state.arcs[index];
+  row.flow.textContent = flowWords(arc[FLOW]);
+  row.line.classList.toggle("full", isFull(arc));
+  if (isFull(arc)) row.flow.append(" ", make("span", "full", "mark"));
+  row.saves.textContent = arc[SAVES];
+  for (const [what, input] of Object.entries(row.inputs)) show(input, arc[FIELDS[what]], what, index);
 }
 
 function flowWords(flow) {
@@ -222,23 +323,31 @@ function flowWords(flow) {
   return flow === "0" ? "" : "yes";
 }
 
-function drawArcs(before) {
-  state.arcs.forEach((arc, index) => {
-    const row = arcRows[index];
-    const old = before && before.arcs[index];
-    if (!old || old[FLOW] !== arc[FLOW] || old[CAP] !== arc[CAP]) {
-      row.flow.textContent = flowWords(arc[FLOW]);
-      row.line.classList.toggle("full", isFull(arc));
-      if (isFull(arc)) row.flow.append(" ", make("span", "full", "mark"));
-    }
-    if (!old || old[SAVES] !== arc[SAVES]) row.saves.textContent = arc[SAVES];
-    for (const [what, cell] of Object.entries(row.cells)) {
-      const value = arc[FIELDS[what]];
-      if (row.inputs) show(row.inputs[what], value, what, index);
-      else if (!old || old[FIELDS[what]] !== value) cell.textContent = value ?? "no limit";
-    }
-  });
-  if (!before) by("with-low").checked = state.arcs.some((arc) => arc[LOW] !== "0");
+function makeNodeRow(index) {
+  const node = state.nodes[index];
+  const line = make("tr");
+  const cell = make("td");
+  const inputs = { supply: field("supply", index, node[NAME]) };
+  const [rest, price] = [make("td", undefined, "rest"), make("td", undefined, "price")];
+  cell.append(inputs.supply);
+  line.append(make("td", node[NAME], "name"), cell, rest, price);
+  return { line, inputs, rest, price };
+}
+
+function drawNodeRow(index, row) {
+  const node = state.nodes[index];
+  row.price.textContent = node[PRICE] ?? "";
+  row.rest.textContent = node[REST] ?? "";
+  row.line.classList.toggle("cut", cut.has(node[NAME]));
+  show(row.inputs.supply, node[SUPPLY], "supply", index);
+}
+
+function drawTables(before) {
+  const isSameCut = before && before.cut === null && state.cut === null;
+  cut = new Set(state.cut || []);
+  arcs.draw(before && before.arcs, state.arcs);
+  nodes.draw(isSameCut ? before.nodes : null, state.nodes);
+  by("nodes").classList.toggle("without-rest", !state.nodes.some((node) => node[REST] !== null));
   showLow();
   filter();
 }
@@ -254,73 +363,60 @@ function show(input, value, what, index) {
   if (!typed && !pending.some((edit) => edit.edit === what && (edit.arc ?? edit.at) === index)) input.value = text;
 }
 
-function buildNodes() {
-  const row = make("tr");
-  row.append(make("th", "Node", "name"), make("th", "Supply"));
-  row.append(make("th", "Kept or not met", "rest"), make("th", "Price"));
-  document.querySelector("#nodes thead").replaceChildren(row);
-  by("nodes-part").hidden = state.kind !== "min";
-  by("names").replaceChildren(...state.nodes.map((node) => {
+// Offers names of nodes where one is typed: of many those that have what is typed in them.
+function offerNames(typed) {
+  const wanted = typed.trim().toLowerCase();
+  const names = [];
+  for (const node of state.nodes) {
+    if (names.length === MOST_OFFERED) break;
+    if (node[NAME].toLowerCase().includes(wanted)) names.push(node[NAME]);
+  }
+  by("names").replaceChildren(...names.map((name) => {
     const option = document.createElement("option");
-    option.value = node[NAME];
+    option.value = name;
     return option;
   }));
-  nodeRows = state.nodes.map((node, index) => {
-    const line = make("tr");
-    const cell = make("td");
-    const input = field("supply", index, node[NAME]);
-    const [rest, price] = [make("td", undefined, "rest"), make("td", undefined, "price")];
-    cell.append(input);
-    line.append(make("td", node[NAME], "name"), cell, rest, price);
-    return { line, input, rest, price };
-  });
-  const shown = state.kind === "min" ? nodeRows.map((each) => each.line) : [];
-  document.querySelector("#nodes tbody").replaceChildren(...shown);
 }
 
-function drawNodes(before) {
-  const cut = new Set(state.cut || []);
-  const hasRest = state.nodes.some((node) => node[REST] !== null);
-  for (const cell of document.querySelectorAll("#nodes .rest")) cell.hidden = !hasRest;
-  state.nodes.forEach((node, index) => {
-    const row = nodeRows[index];
-    const old = before && before.nodes[index];
-    if (!old || old[PRICE] !== node[PRICE]) row.price.textContent = node[PRICE] === null ? "" : node[PRICE];
-    if (!old || old[REST] !== node[REST]) row.rest.textContent = node[REST] === null ? "" : node[REST];
-    row.line.classList.toggle("cut", cut.has(node[NAME]));
-    show(row.input, node[SUPPLY], "supply", index);
-  });
-}
-
+// Shows the rows that are looked for.
 function filter() {
   const wanted = by("find").value.trim().toLowerCase();
   const onlyFull = by("only-full").checked;
-  let count = 0;
-  if (wanted || onlyFull) attach(arcRows.length);
+  const found = [];
+  let full = 0;
   state.arcs.forEach((arc, index) => {
-    const words = `${arc[TAIL]} to ${arc[HEAD]} ${arc[LABEL] || ""}`.toLowerCase();
-    const hidden = (wanted !== "" && !words.includes(wanted)) || (onlyFull && !isFull(arc));
-    if (arcRows[index].line.hidden !== hidden) arcRows[index].line.hidden = hidden;
-    if (!hidden) count += 1;
+    const isIt = isFull(arc);
+    if (isIt) full += 1;
+    if (onlyFull && !isIt) return;
+    const words = wanted === "" ? "" : `${arc[TAIL]} to ${arc[HEAD]} ${arc[LABEL] || ""}`.toLowerCase();
+    if (words.includes(wanted)) found.push(index);
   });
-  const full = state.arcs.filter(isFull).length;
-  by("shown").textContent = `${count} of ${state.arcs.length} arcs${full ? `, ${full} full` : ""}`;
+  arcs.show(found);
+  const named = [];
+  state.nodes.forEach((node, index) => { if (node[NAME].toLowerCase().includes(wanted)) named.push(index); });
+  nodes.show(state.kind === "min" ? named : []);
+  const count = (number) => number.toLocaleString("en");
+  const shown = `${count(found.length)} of ${count(state.arcs.length)} arcs`;
+  by("shown").textContent = shown + (full ? `, ${count(full)} full` : "");
+  by("shown-nodes").textContent = `${count(named.length)} of ${count(state.nodes.length)} nodes`;
 }
 
-function choose(index, scroll) {
-  if (arcRows[chosen]) arcRows[chosen].line.classList.remove("chosen");
+// Chooses an arc: the map and the table point at it. Where it was chosen on the map, the table goes to it.
+function choose(index, goes) {
+  if (arcs.rows.has(chosen)) arcs.rows.get(chosen).line.classList.remove("chosen");
   chosen = index;
-  if (index >= 0) {
-    const line = arcRows[index].line;
-    attach(index + 1);
-    line.classList.add("chosen");
-    point(index);
-    if (scroll) {
-      line.hidden = false;
-      line.scrollIntoView({ block: "nearest" });
-      const input = Object.values(furnish(index)).find((each) => !each.disabled && each.offsetParent);
-      if (input) input.focus({ preventScroll: true });
-    }
+  if (goes && !arcs.found.includes(index)) {
+    by("find").value = "";
+    by("only-full").checked = false;
+    filter();
+  }
+  const row = goes ? arcs.reveal(index) : arcs.rows.get(index);
+  row.line.classList.add("chosen");
+  point(index);
+  if (goes) {
+    row.line.scrollIntoView({ block: "nearest" });
+    const input = Object.values(row.inputs).find((each) => !each.disabled && each.offsetParent);
+    if (input) input.focus({ preventScroll: true });
   }
   drawMap(false);
 }
@@ -387,7 +483,8 @@ function drawPending() {
 }
 
 function restore(edit) {
-  const input = edit.edit === "supply" ? nodeRows[edit.at].input : arcRows[edit.arc]?.inputs?.[edit.edit];
+  const table = edit.edit === "supply" ? nodes : arcs;
+  const input = table.rows.get(edit.at ?? edit.arc)?.inputs[edit.edit];
   if (!input) return;
   input.classList.remove("pending");
   input.value = input.dataset.stands;
@@ -416,15 +513,14 @@ function toggleGroup() {
   }
 }
 
+// Goes to the same field of the row above or below.
 function move(input, step) {
-  const rows = input.dataset.what === "supply" ? nodeRows : arcRows;
-  for (let at = Number(input.dataset.index) + step; rows[at]; at += step) {
-    if (rows[at].line.hidden) continue;
-    const next = input.dataset.what === "supply" ? rows[at].input : furnish(at)[input.dataset.what];
-    next.focus();
-    next.select();
-    return;
-  }
+  const table = input.dataset.what === "supply" ? nodes : arcs;
+  const index = table.beside(Number(input.dataset.index), step);
+  if (index === undefined) return;
+  const next = table.reveal(index).inputs[input.dataset.what];
+  next.focus();
+  next.select();
 }
 
 // ---------------------------------------------------------------------------------------------------------------------
@@ -485,8 +581,12 @@ const LOOKS = ["empty", "flow", "full"];
 let lines = [];
 let dots = [];
 let heads = {};
+let cut = new Set();
 
 function buildLines() {
+  by("map-part").classList.toggle("without-map", state.not_drawn !== null);
+  by("not-drawn").textContent = state.not_drawn === null ? "" : `No map: ${state.not_drawn}. Find shows what you seek.`;
+  if (state.not_drawn !== null) return;
   if (!heads.flow) {
     for (const name of LOOKS) {
       const head = document.createElementNS(SVG, "marker");
@@ -594,7 +694,7 @@ function curve(start, end, bend) {
 
 // Draws the map: where things stand only if they moved, and how the arcs look in any case.
 function drawMap(moved) {
-  if (!state) return;
+  if (!state || state.not_drawn !== null) return;
   if (moved || !room) {
     room = extent();
     const places = state.nodes.map(placeOf);
@@ -609,7 +709,6 @@ function drawMap(moved) {
       line.length = length;
     }
   }
-  const cut = new Set(state.cut || []);
   const most = Math.max(...state.arcs.map((arc) => Math.abs(Number(arc[FLOW] || 0))), 0) || 1;
   state.arcs.forEach((arc, index) => {
     const flow = Math.abs(Number(arc[FLOW] || 0));
@@ -678,7 +777,6 @@ function drawWords() {
     const at = lines[chosen].at[2];
     put(at.x, at.y - 5, arcWords(state.arcs[chosen]), 6.4, "middle", lines[chosen].look, true);
   }
-  const cut = new Set(state.cut || []);
   const weight = (node) => Math.abs(Number(node[SUPPLY])) + (cut.has(node[NAME]) ? 1e12 : 0);
   const order = state.nodes.map((node, index) => index);
   order.sort((a, b) => weight(state.nodes[b]) - weight(state.nodes[a]));
@@ -838,9 +936,12 @@ function listen() {
   by("group").addEventListener("click", toggleGroup);
   by("make").addEventListener("click", makeGroup);
   by("drop").addEventListener("click", () => { endGroup(); tell(""); });
-  by("find").addEventListener("input", filter);
-  by("only-full").addEventListener("change", filter);
+  by("find").addEventListener("input", () => { if (state) filter(); });
+  by("only-full").addEventListener("change", () => { if (state) filter(); });
   by("with-low").addEventListener("change", showLow);
+  for (const end of ["tail", "head"]) {
+    by("add").elements[end].addEventListener("input", (event) => offerNames(event.target.value));
+  }
   by("export").addEventListener("change", (event) => {
     const name = event.target.value;
     if (!name) return;
@@ -879,10 +980,15 @@ function listen() {
     event.preventDefault();
   });
   listenToMap();
+  // What is under the header is not seen: whatever is gone to stays below it.
+  new ResizeObserver(() => {
+    document.documentElement.style.setProperty("--header", `${document.querySelector("header").offsetHeight}px`);
+  }).observe(document.querySelector("header"));
+  document.addEventListener("visibilitychange", look);
 }
 
 listen();
-if (key) ask({ do: "state" });
+if (key) ask({ do: "state" }).then(lookOn);
 else {
   by("worth-words").textContent = "The key is missing:";
   tell("Open the whole address that mcf-plan board printed, with all that stands behind the #.");

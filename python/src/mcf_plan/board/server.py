@@ -21,9 +21,10 @@ from typing import Any, Callable, NamedTuple, Optional, TextIO, Union
 
 from ..explain import explain
 from ..plan import Disagreement, Infeasible, Plan
+from ..printing import visible
 from ..problem import Arc, exact
 from ..program import ProgramFailed, TimeLimit
-from ..report import arc_rows, html_text, layout, limit_text, number, to_csv, to_json
+from ..report import html_text, layout, limit_text, not_drawn, number, savings, to_csv, to_json
 from ..rewrite import BeyondLimits, Meaningless, Unbounded
 from ..session import EditRefused, Session
 
@@ -51,6 +52,9 @@ MOST_ROWS = 300
 REFUSALS = (EditRefused, KeyError, ValueError, Unbounded, BeyondLimits, Meaningless, TimeLimit)
 
 
+Result = Union[Plan, Infeasible]
+
+
 class Variant(NamedTuple):
     """A marked moment as the board remembers it, also where an edit has dropped the moment itself."""
 
@@ -66,6 +70,17 @@ def in_words(error: BaseException) -> str:
     return str(error.args[0]) if isinstance(error, KeyError) and error.args else str(error)
 
 
+def differing_arcs(one: Variant, other: Variant) -> set[int]:
+    """The numbers of the arcs in which two variants differ, be it by what goes along them in their plans."""
+    few, many = sorted((len(one.arcs), len(other.arcs)))
+    found = set(range(few, many))
+    if one.arcs != other.arcs:
+        found.update(index for index, (arc, beside) in enumerate(zip(one.arcs, other.arcs)) if arc != beside)
+    if one.flows is not None and other.flows is not None and one.flows != other.flows:
+        found.update(index for index, (flow, beside) in enumerate(zip(one.flows, other.flows)) if flow != beside)
+    return found
+
+
 def value_of(text: Any, what: str) -> Decimal:
     """The number that somebody typed. ValueError, with what to type instead, where it is none."""
     text = str(text).strip().replace("\N{MINUS SIGN}", "-")
@@ -78,27 +93,69 @@ def value_of(text: Any, what: str) -> Decimal:
     return exact(text, what)
 
 
+class Rows:
+    """Rows of a table of the page, each with the version of the state in which it changed last: a page that has an
+    older version is sent the rows that changed since.
+
+    A row is written as the page has it where the `key` that it is made of is another than before.
+    """
+
+    def __init__(self, written: Callable[[int, Any], list[Any]]):
+        self._written = written
+        self._keys: list[Any] = []
+        self._versions: list[int] = []
+        self.rows: list[list[Any]] = []
+
+    def update(self, keys: list[Any], version: int) -> None:
+        """Takes over the keys of all rows."""
+        for of_row in (self._keys, self._versions, self.rows):
+            del of_row[len(keys) :]
+        for index, (before, key) in enumerate(zip(self._keys, keys)):
+            if before != key:
+                self._keys[index], self._versions[index] = key, version
+                self.rows[index] = self._written(index, key)
+        for index in range(len(self._keys), len(keys)):
+            self._keys.append(keys[index])
+            self._versions.append(version)
+            self.rows.append(self._written(index, keys[index]))
+
+    def since(self, version: int) -> list[tuple[int, list[Any]]]:
+        """The rows that changed after a version, with their numbers."""
+        return [(index, self.rows[index]) for index, changed in enumerate(self._versions) if changed > version]
+
+
 class Board:
-    """A session with what the page shows of it. One request at a time: each call holds a lock."""
+    """A session with what the page shows of it. One request at a time: each call holds a lock.
+
+    `version` counts the states: a page that has another one than this is behind.
+    """
 
     def __init__(self, session: Session, title: str = "Plan"):
         self.session = session
         self.title = title
         self.variants: dict[str, Variant] = {}
+        self.version = 0
         self._lock = threading.Lock()
-        self._places = layout(session.problem)
+        self._not_drawn = not_drawn(session.problem)
+        self._places = {} if self._not_drawn else layout(session.problem)
         self._placed = bool(session.problem.places)
         self._first = session.cost
+        self._nodes, self._arcs = Rows(self._node_row), Rows(self._arc_row)
+        self._result: Optional[Result] = None
+        self._moment = -1
+        self._summary: dict[str, Any] = {}
 
     def state(self) -> dict[str, Any]:
         """All that the page shows, as JSON has it; numbers are texts, so that none is rounded."""
         with self._lock:
-            return self._state()
+            return self._state({})
 
     def do(self, request: dict[str, Any]) -> dict[str, Any]:
         """Makes one request of the page and answers the state after it, with `error` in words where it was refused.
 
         `do` is state, edits (`edits`: a list, made together), undo, redo, mark, back or forget (each with `name`).
+        Where the request names the version that the page has as `since`, `changes` stands in place of all arcs and
+        nodes: the rows that changed since then.
         """
         with self._lock:
             error = None
@@ -106,7 +163,7 @@ class Board:
                 self._make(request)
             except REFUSALS as refusal:
                 error = in_words(refusal)
-            state = self._state()
+            state = self._state(request)
             state["error"] = error
             return state
 
@@ -154,6 +211,7 @@ class Board:
             self._back(str(request.get("name", "")))
         elif what == "forget":
             self.variants.pop(str(request.get("name", "")), None)
+            self.version += 1
         elif what != "state":
             raise ValueError(f"there is no request {what}")
 
@@ -198,16 +256,17 @@ class Board:
         return Decimal(1) if self.session.problem.kind == "asn" else None
 
     def _mark(self, name: str) -> None:
-        if not name or len(name) > 40:
-            raise ValueError("a variant needs a name of at most 40 letters")
+        if not name or len(name) > 40 or visible(name) != name:
+            raise ValueError("a variant needs a name of at most 40 letters, and of nothing that can't be shown")
         if name not in self.variants and len(self.variants) == MOST_VARIANTS:
             raise ValueError(f"there are {MOST_VARIANTS} variants already: forget one first")
-        result = self.session.plan()
+        result = self._now()
         problem = self.session.problem
         try:
             self.session.mark(name)
         except EditRefused:
             pass  # The session has no mark left; the way back is made by edits then.
+        self.version += 1
         self.variants[name] = Variant(
             self.session.cost,
             self.session.shortage,
@@ -262,70 +321,96 @@ class Board:
         if old.cost != new.cost:
             session.set_cost(index, new.cost)
 
-    def _state(self) -> dict[str, Any]:
+    def _now(self) -> Result:
+        """The plan as it stands, or why there is none; asked for once at each moment of the session."""
+        if self._result is None or self._moment != self.session.version:
+            self._result = self.session.plan()
+            self._moment = self.session.version
+            self._renew(self._result)
+        return self._result
+
+    def _renew(self, result: Result) -> None:
+        """Takes over what another moment shows."""
         session, problem = self.session, self.session.problem
-        result: Union[Plan, Infeasible] = session.plan()
         plan = result if isinstance(result, Plan) else None
         none = result if isinstance(result, Infeasible) else None
-        flows = plan.flows if plan else None
+        self.version += 1
         prices = plan.prices if plan else None
         rest = {**plan.kept, **plan.not_met} if plan else {}
-        nodes = [
+        self._nodes.update(
             [
-                name,
-                number(supply),
-                *self._places.get(name, (0.0, 0.0)),
-                number(prices[name]) if prices else None,
-                number(rest.get(name)) if rest.get(name) else None,
-            ]
-            for name, supply in problem.nodes.items()
-        ]
-        saves = [row.saving for row in arc_rows(plan)] if plan else []
-        arcs = [
-            [
-                arc.tail,
-                arc.head,
-                arc.name,
-                number(arc.low),
-                None if arc.cap is None else number(arc.cap),
-                number(arc.cost),
-                number(flows[index]) if flows is not None else None,
-                number(saves[index]) if plan else "",
-            ]
-            for index, arc in enumerate(problem.arcs)
-        ]
-        return {
-            "title": self.title,
-            "kind": problem.kind,
-            "placed": self._placed,
-            "source": problem.source,
-            "sink": problem.sink,
+                (name, supply, prices[name] if prices else None, rest.get(name))
+                for name, supply in problem.nodes.items()
+            ],
+            self.version,
+        )
+        self._arcs.update(
+            list(zip(problem.arcs, plan.flows, savings(plan))) if plan else [(arc, None, None) for arc in problem.arcs],
+            self.version,
+        )
+        self._summary = {
             "cost": number(plan.cost) if plan else None,
-            "first": None if self._first is None else number(self._first),
             "shortage": number(none.shortage) if none else None,
             "why": explain(none) if none else None,
             "cut": sorted(none.cut) if none else None,
             "limit": limit_text(plan) if plan and problem.kind == "max" else None,
             "checked": result.checked,
             "notes": list(result.notes),
-            "nodes": nodes,
-            "arcs": arcs,
             "undo": session.can_undo,
             "redo": session.can_redo,
+        }
+
+    def _node_row(self, index: int, key: tuple[str, Decimal, Optional[Decimal], Optional[Decimal]]) -> list[Any]:
+        name, supply, price, rest = key
+        return [
+            name,
+            number(supply),
+            *self._places.get(name, (0.0, 0.0)),
+            None if price is None else number(price),
+            number(rest) if rest else None,
+        ]
+
+    def _arc_row(self, index: int, key: tuple[Arc, Optional[Decimal], Optional[Decimal]]) -> list[Any]:
+        arc, flow, saving = key
+        return [
+            arc.tail,
+            arc.head,
+            arc.name,
+            number(arc.low),
+            None if arc.cap is None else number(arc.cap),
+            number(arc.cost),
+            None if flow is None else number(flow),
+            number(saving),
+        ]
+
+    def _state(self, request: dict[str, Any]) -> dict[str, Any]:
+        """The state, or of the rows those that changed since the version that the page has."""
+        result, problem, since = self._now(), self.session.problem, request.get("since")
+        state = {
+            **self._summary,
+            "version": self.version,
+            "title": self.title,
+            "kind": problem.kind,
+            "placed": self._placed,
+            "not_drawn": self._not_drawn,
+            "source": problem.source,
+            "sink": problem.sink,
+            "first": None if self._first is None else number(self._first),
             "variants": self._variants(result),
             "error": None,
         }
+        if isinstance(since, int) and 0 < since <= self.version:
+            arcs, nodes = self._arcs.since(since), self._nodes.since(since)
+            state["changes"] = {"arcs": arcs, "nodes": nodes, "arc_count": len(self._arcs.rows)}
+        else:
+            state["arcs"], state["nodes"] = list(self._arcs.rows), list(self._nodes.rows)
+        return state
 
-    def _variants(self, result: Union[Plan, Infeasible]) -> dict[str, Any]:
+    def _variants(self, result: Result) -> dict[str, Any]:
         """The variants side by side with the moment: their worth, and each number by which any of them differs."""
         problem = self.session.problem
-        now = Variant(
-            self.session.cost,
-            self.session.shortage,
-            dict(problem.nodes),
-            list(problem.arcs),
-            result.flows if isinstance(result, Plan) else None,
-        )
+        flows = result.flows if isinstance(result, Plan) else None
+        now = Variant(self.session.cost, self.session.shortage, dict(problem.nodes), list(problem.arcs), flows)
         each = [*self.variants.values(), now]
         columns = [
             {
@@ -337,29 +422,35 @@ class Board:
             for name, variant in self.variants.items()
         ]
         rows: list[list[Any]] = []
-        if self.variants:
-            for index in range(max(len(variant.arcs) for variant in each)):
-                has = [variant.arcs[index] if index < len(variant.arcs) else None for variant in each]
-                label = next(arc.label for arc in has if arc is not None)
-                for what, values in (
-                    (
-                        "flow",
-                        [
-                            None if arc is None or variant.flows is None else variant.flows[index]
-                            for arc, variant in zip(has, each)
-                        ],
-                    ),
-                    ("at least", [None if arc is None else arc.low for arc in has]),
-                    ("capacity", [None if arc is None else arc.cap for arc in has]),
-                    ("unit cost", [None if arc is None else arc.cost for arc in has]),
-                ):
-                    if any(value != values[0] for value in values):
-                        rows.append([label, what, [self._shown(arc, value, what) for arc, value in zip(has, values)]])
+        for index in sorted(set().union(*(differing_arcs(variant, now) for variant in each))):
+            rows += self._compared(index, each)
+        if any(variant.supplies != now.supplies for variant in each):
             for node in problem.nodes:
                 supplies = [variant.supplies[node] for variant in each]
                 if any(supply != supplies[0] for supply in supplies):
                     rows.append([node, "supply", [number(supply) for supply in supplies]])
         return {"columns": columns, "rows": rows[:MOST_ROWS], "more": max(0, len(rows) - MOST_ROWS)}
+
+    def _compared(self, index: int, each: list[Variant]) -> list[list[Any]]:
+        """The numbers of an arc by which variants differ. A variant without a plan has no flow to differ by."""
+        has = [variant.arcs[index] if index < len(variant.arcs) else None for variant in each]
+        label = next(arc.label for arc in has if arc is not None)
+        flows = [
+            variant.flows[index] if arc is not None and variant.flows is not None else None
+            for arc, variant in zip(has, each)
+        ]
+        planned = [flow for flow in flows if flow is not None]
+        columns: list[tuple[str, list[Optional[Decimal]], bool]] = [
+            ("flow", flows, any(flow != planned[0] for flow in planned) or None in has)
+        ]
+        for what, field in (("at least", "low"), ("capacity", "cap"), ("unit cost", "cost")):
+            values = [None if arc is None else getattr(arc, field) for arc in has]
+            columns.append((what, values, any(value != values[0] for value in values)))
+        return [
+            [label, what, [self._shown(arc, value, what) for arc, value in zip(has, values)]]
+            for what, values, differs in columns
+            if differs
+        ]
 
     @staticmethod
     def _shown(arc: Optional[Arc], value: Optional[Decimal], what: str) -> str:
@@ -407,6 +498,9 @@ class Handler(BaseHTTPRequestHandler):
         if path in FILES:
             name, kind = FILES[path]
             self._answer(200, (FOLDER / name).read_bytes(), kind)
+        elif path == "/version":
+            if self._has_key():
+                self._answer_json({"version": self.server.board.version})
         elif path.startswith("/export/"):
             if self._has_key():
                 self._export(path[len("/export/") :])
@@ -431,18 +525,18 @@ class Handler(BaseHTTPRequestHandler):
             request = json.loads(self.rfile.read(int(length)))
             if not isinstance(request, dict):
                 raise ValueError
-        except ValueError:
+        except (ValueError, RecursionError):
             self._refuse(400, "a request is an object in JSON")
             return
         try:
             state = self.server.board.do(request)
-        except (Disagreement, ProgramFailed) as error:
+        except (Disagreement, ProgramFailed, TimeLimit) as error:
             self._refuse(500, in_words(error))
             return
         except (AttributeError, TypeError):
             self._refuse(400, "a request has other fields")
             return
-        self._answer(200, json.dumps(state, ensure_ascii=False, separators=(",", ":")).encode(), "application/json")
+        self._answer_json(state)
 
     def _is_for_us(self) -> bool:
         """Whether the request names this server, and comes from its own page or from no page at all."""
@@ -462,7 +556,8 @@ class Handler(BaseHTTPRequestHandler):
         given = self.headers.get("X-Board-Key", "")
         if hmac.compare_digest(given.encode("utf-8", "replace"), self.server.key.encode()):
             return True
-        self._refuse(403, "the key is missing: open the whole address that mcf-plan board printed")
+        what = "wrong" if given else "missing"
+        self._refuse(403, f"the key is {what}: open the whole address that mcf-plan board printed")
         return False
 
     def _export(self, name: str) -> None:
@@ -475,7 +570,7 @@ class Handler(BaseHTTPRequestHandler):
         else:
             self._answer(
                 200,
-                text.encode("utf-8", "surrogateescape"),
+                text.encode("utf-8", "backslashreplace"),
                 kind,
                 {"Content-Disposition": f'attachment; filename="{name}"'},
             )
@@ -484,6 +579,11 @@ class Handler(BaseHTTPRequestHandler):
         # What else stands in the connection was not read, so it ends here.
         self.close_connection = True
         self._answer(status, json.dumps({"error": words}).encode(), "application/json", {"Connection": "close"})
+
+    def _answer_json(self, said: dict[str, Any]) -> None:
+        # A name of bytes that are no UTF-8 has halves of characters, which JSON writes by their numbers.
+        text = json.dumps(said, ensure_ascii=False, separators=(",", ":"))
+        self._answer(200, text.encode("utf-8", "backslashreplace"), "application/json")
 
     def _answer(self, status: int, body: bytes, kind: str, more: Optional[dict[str, str]] = None) -> None:
         self.send_response(status)
