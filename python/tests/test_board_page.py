@@ -373,6 +373,8 @@ class PageTest(unittest.TestCase):
         self.open(towns())
         self.at("#find").send_keys("ferry")
         self.until(lambda: self.text("#shown").startswith("1 of 5"))
+        # The ends of what was found are found too, to have their supplies at hand.
+        self.assertEqual([cell.text for cell in self.all("#nodes tbody td.name")], ["north", "east"])
         self.at("#find").clear()
         self.at("#only-full").click()
         self.until(

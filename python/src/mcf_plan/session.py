@@ -406,6 +406,8 @@ class Session:
         for change in changes:
             if isinstance(change, _ArcChange):
                 arc = self._problem.arcs[change.number]
+                if arc.cap is not None and arc.cap < arc.low == ZERO:
+                    raise EditRefused(f"the capacity of {arc.label} would be {plain(arc.cap)}, below 0", 22)
                 if arc.cap is not None and arc.low > arc.cap:
                     raise EditRefused(
                         f"the lower bound of {arc.label} would be {plain(arc.low)}, above its capacity, "

@@ -143,7 +143,7 @@ function draw(next) {
   if (chosen >= 0) point(chosen);
   by("undo").disabled = !state.undo;
   by("redo").disabled = !state.redo;
-  by("notes").textContent = state.notes.join(" ");
+  by("notes").replaceChildren(...state.notes.map((note) => make("li", note)));
   const why = state.why ?? state.limit;
   by("why-part").hidden = why === null;
   by("why-part").classList.toggle("limit", state.why === null);
@@ -378,6 +378,14 @@ function offerNames(typed) {
   }));
 }
 
+// The nodes whose names are looked for, and the ends of the arcs that were found.
+function nodesOf(wanted, found) {
+  const endsOf = (index) => [state.arcs[index][TAIL], state.arcs[index][HEAD]];
+  const ends = new Set(wanted === "" ? [] : found.flatMap(endsOf));
+  const isIt = (node) => node[NAME].toLowerCase().includes(wanted) || ends.has(node[NAME]);
+  return state.nodes.flatMap((node, index) => (isIt(node) ? [index] : []));
+}
+
 // Shows the rows that are looked for.
 function filter() {
   const wanted = by("find").value.trim().toLowerCase();
@@ -392,8 +400,7 @@ function filter() {
     if (words.includes(wanted)) found.push(index);
   });
   arcs.show(found);
-  const named = [];
-  state.nodes.forEach((node, index) => { if (node[NAME].toLowerCase().includes(wanted)) named.push(index); });
+  const named = nodesOf(wanted, found);
   nodes.show(state.kind === "min" ? named : []);
   const count = (number) => number.toLocaleString("en");
   const shown = `${count(found.length)} of ${count(state.arcs.length)} arcs`;
@@ -584,7 +591,7 @@ let heads = {};
 let cut = new Set();
 
 function buildLines() {
-  by("map-part").classList.toggle("without-map", state.not_drawn !== null);
+  document.querySelector("main").classList.toggle("without-map", state.not_drawn !== null);
   by("not-drawn").textContent = state.not_drawn === null ? "" : `No map: ${state.not_drawn}. Find shows what you seek.`;
   if (state.not_drawn !== null) return;
   if (!heads.flow) {
