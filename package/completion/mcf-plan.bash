@@ -1,7 +1,8 @@
 # bash completion for mcf-plan: bash-completion reads it as completions/mcf-plan.
 _mcf_plan() {
     local word=${COMP_WORDS[COMP_CWORD]} before=${COMP_WORDS[COMP_CWORD - 1]} command="" words="" i
-    local tables="-h --help --kind --source --sink --surplus --balance --time-limit"
+    local tables="-h --help --kind --source --sink --surplus --balance --columns --decimal --default-cost --round"
+    tables+=" --encoding --time-limit"
     local commands="plan what-if board explain check faults convert ranges"
     for ((i = 1; i < COMP_CWORD; i++)); do
         if [[ " $commands " == *" ${COMP_WORDS[i]} "* ]]; then
@@ -13,6 +14,7 @@ _mcf_plan() {
     case $before in
     --kind) words="min max asn" ;;
     --surplus) words="refuse keep" ;;
+    --decimal) words=". ," ;;
     --from) words="mcf lemon glpk flows" ;;
     --balance)
         local IFS=$'\n'
@@ -20,7 +22,7 @@ _mcf_plan() {
         return
         ;;
     # These are for the user to say.
-    --source | --sink | --time-limit | --title | --port) return ;;
+    --source | --sink | --columns | --default-cost | --round | --encoding | --time-limit | --title | --port) return ;;
     esac
     if [ -n "$words" ]; then
         mapfile -t COMPREPLY < <(compgen -W "$words" -- "$word")

@@ -21,6 +21,11 @@ _mcf-plan() {
         '--sink[where a greatest flow ends]:node:'
         '--surplus[what becomes of supplies that do not add up to 0]:surplus:(refuse keep)'
         '--balance[how supplies are meant]:balance:(equal at\ least at\ most)'
+        '*--columns[what a column is by its name]:thing=name:'
+        '--decimal[the decimal sign of the tables]:sign:(. ,)'
+        '--default-cost[the cost of a unit where none stands]:cost:'
+        '--round[round all numbers to so many decimals]:decimals:'
+        '--encoding[the encoding of tables that are not UTF-8]:name:'
         '--time-limit[how long to wait]:seconds:'
         '*:table:_files'
     )

@@ -214,7 +214,10 @@ def _add_tables(parser: argparse.ArgumentParser) -> None:
         "aside=NAME leaves one aside; several are parted by commas",
     )
     parser.add_argument(
-        "--decimal", choices=[".", ","], help="the decimal sign of the tables, where they do not show which it is"
+        "--decimal",
+        metavar="SIGN",
+        choices=[".", ","],
+        help="the decimal sign of the tables, a point or a comma, where they do not show which it is",
     )
     parser.add_argument("--default-cost", metavar="COST", type=_number, help="the cost of a unit where none stands")
     parser.add_argument("--round", metavar="N", type=_places, help="round all numbers to N decimals")
