@@ -9,9 +9,9 @@ import ctypes
 import ctypes.util
 import os
 from array import array
-from pathlib import Path
 from typing import Any, Dict, Optional, Tuple, Type
 
+from .native import built
 from .program import ProgramFailed
 
 DONE, OTHER_LENGTH, FAULT, MEMORY, TOO_SHORT = 0, -3, -5, -6, -7
@@ -120,14 +120,7 @@ def find_library(path: Optional[str] = None) -> str:
     for chosen in (path, os.environ.get("MCF_LIBRARY")):
         if chosen:
             return chosen
-    here = Path(__file__).resolve()
-    for own in (
-        *(top / "crates" / "mcf_c" / "out" / "libmcf.so" for top in list(here.parents)[3:4]),
-        here.parent / "native" / "libmcf.so",
-    ):
-        if own.exists():
-            return str(own)
-    found = ctypes.util.find_library("mcf")
+    found = built("mcf_c", "libmcf.so") or ctypes.util.find_library("mcf")
     if found is None:
         raise ProgramFailed("the library libmcf.so was found neither in the variable MCF_LIBRARY nor by the system")
     return found

@@ -16,12 +16,12 @@ import subprocess
 import tempfile
 import threading
 from collections import deque
-from pathlib import Path
 from typing import Deque, List, Optional, Tuple
 
 from .deadline import Deadline
 from .deadline import TimeLimit as TimeLimit
 from .dimacs import LONGEST_LINE, Fault, Text, as_bytes, as_str, find_answer_fault, find_fault
+from .native import built
 from .signals import dying_with_us
 
 
@@ -57,7 +57,8 @@ def command_of(line: str) -> Tuple[str, List[str]]:
 
 
 def find_program(path: Optional[str] = None) -> str:
-    """The path of the program: `path`, the variable MCF, the repository's own build, then `mcf` on PATH.
+    """The path of the program: `path`, the variable MCF, the repository's own build, that of the package, then `mcf` on
+    PATH.
 
     Raises ProgramFailed where there is none.
     """
@@ -67,11 +68,7 @@ def find_program(path: Optional[str] = None) -> str:
             if found is None:
                 raise ProgramFailed(f"there is no program {chosen}")
             return found
-    for top in list(Path(__file__).resolve().parents)[3:4]:
-        built = top / "crates" / "mcf" / "out" / "mcf"
-        if os.access(built, os.X_OK):
-            return str(built)
-    found = shutil.which("mcf")
+    found = built("mcf", "mcf") or shutil.which("mcf")
     if found is None:
         raise ProgramFailed("the program mcf was found neither in the variable MCF nor on PATH: install or build it")
     return found
@@ -80,7 +77,7 @@ def find_program(path: Optional[str] = None) -> str:
 class Program:
     """The program mcf, where it was found.
 
-    `path` names it; without it the variable MCF does, then the repository's own build, then PATH.
+    `path` names it; without it, it is where `find_program` finds it.
     """
 
     def __init__(self, path: Optional[str] = None):
