@@ -12,7 +12,7 @@ import unicodedata
 from decimal import Decimal
 from typing import Any, Dict, Iterable, List, NamedTuple, Optional
 
-from .problem import exact, plain
+from .problem import ZERO, capacity, exact, plain
 
 
 class TableFault(ValueError):
@@ -43,6 +43,8 @@ NO_LIMIT = frozenset(
 
 MONEY = "€$£¥"
 _WELL_FORMED = re.compile(r"([+-]?)(\d[\d.,]*|[.,]\d+)([eE][+-]?\d{1,3})?", re.ASCII)
+_PLAIN_NAME = re.compile(r"[A-Z][a-z]{3,}( [A-Za-z0-9]+)*")
+_PLAIN_NUMBER = re.compile(r"[0-9]{1,30}")
 _JOINERS = "\u200c\u200d"
 
 
@@ -92,6 +94,8 @@ def name_of(cell: Any) -> str:
     >>> name_of(" New  York "), name_of(7.0), name_of("NA")
     ('New York', '7', 'NA')
     """
+    if type(cell) is str and _PLAIN_NAME.fullmatch(cell):
+        return str(cell)
     wrong = not_plain(cell)
     if wrong:
         raise CellFault(f"a name was expected, and this is {wrong}")
@@ -163,9 +167,10 @@ def decimal_sign(cells: Iterable[Any], *, point_is_usual: bool) -> Sign:
     >>> decimal_sign(["1.250", "2,5"], point_is_usual=False)
     Sign(mark=',', shown_by='2,5')
     """
-    marked = [cell.strip() for cell in cells if isinstance(cell, str) and ("," in cell or "." in cell)]
-    if point_is_usual and not any("," in cell or cell.count(".") > 1 for cell in marked):
+    texts = [cell for cell in cells if isinstance(cell, str)]
+    if point_is_usual and not any("," in cell or cell.count(".") > 1 for cell in texts):
         return Sign(".")
+    marked = [cell.strip() for cell in texts if "," in cell or "." in cell]
     showing: Dict[str, str] = {}
     unclear: List[str] = []
     for cell in marked:
@@ -183,28 +188,38 @@ def decimal_sign(cells: Iterable[Any], *, point_is_usual: bool) -> Sign:
     return Sign(".")
 
 
-class Numbers(Dict[Any, Decimal]):
-    """The numbers of cells, each of which is read once. Looking up raises CellFault where a cell holds none."""
+class Numbers(Dict[Any, Optional[Decimal]]):
+    """The numbers of cells, each of which is read once; None for a cell that is empty.
 
-    def __init__(self, sign: Sign):
+    Looking up raises CellFault where a cell holds none. With `has_limits` a cell that says that there is no limit is
+    None too.
+    """
+
+    def __init__(self, sign: Sign, *, has_limits: bool = False):
         super().__init__()
         self.sign = sign
+        self.has_limits = has_limits
         self.grouped: Dict[str, Decimal] = {}
-        """Cells that have a mark which another sign would make decimals."""
+        """Cells with a mark that parts thousands with one decimal sign, and decimals with the other."""
 
-    def __missing__(self, cell: Any) -> Decimal:
+    def __missing__(self, cell: Any) -> Optional[Decimal]:
         number = self[cell] = self._read(cell)
         return number
 
-    def _read(self, cell: Any) -> Decimal:
+    def _read(self, cell: Any) -> Optional[Decimal]:
         if isinstance(cell, str):
-            return self._read_text(cell.strip())
+            cell = cell.strip()
+            if not cell or self.has_limits and cell.lower() in NO_LIMIT:
+                return None
+            return Decimal(cell) or ZERO if _PLAIN_NUMBER.fullmatch(cell) else self._read_text(cell)
+        if is_empty(cell):
+            return None
         wrong = not_plain(cell)
         if wrong or isinstance(cell, (datetime.date, datetime.time, datetime.timedelta)):
             raise CellFault(f"a number was expected, and this is {wrong or 'a date or a time'}")
         try:
-            return exact(cell)
-        except ValueError:
+            return capacity(cell) if self.has_limits else exact(cell)
+        except (ValueError, TypeError):
             raise CellFault("a number was expected") from None
 
     def _read_text(self, cell: str) -> Decimal:
@@ -215,14 +230,13 @@ class Numbers(Dict[Any, Decimal]):
             if not re.fullmatch(rf"[+-]?\d{{1,3}}(\{thousands}\d{{3}})+(\{mark}\d*)?", cell, re.ASCII):
                 raise CellFault(f"a number was expected, and decimals are parted by {shown(mark)} here")
             text = cell.replace(thousands, "")
-        text = text.replace(mark, ".")
         try:
             if not found:
                 raise ValueError
-            number = exact(text)
+            number = exact(text.replace(mark, "."))
         except ValueError:
             raise CellFault("a number was expected" + number_hint(cell)) from None
-        if _decimal_mark(cell) is None:
+        if self.sign.shown_by and _decimal_mark(cell) is None:
             self.grouped[cell] = number
         return number
 

@@ -56,25 +56,19 @@ class Sheet:
 def sheet_of_rows(
     name: str, rows: Sequence[Sequence[Any]], lines: Sequence[int], *, word: str = "row", delimiter: str = ""
 ) -> Sheet:
-    """The sheet of rows of cells, of which the first that is not empty names the columns."""
-    filled = [number for number, row in enumerate(rows) if any(not is_empty(cell) for cell in row)]
-    if not filled:
+    """The sheet of rows of cells, none of them empty, of which the first names the columns."""
+    if not rows:
         raise TableFault(f"{name}: the table is empty: a row with the names of the columns comes first")
-    header = ["" if is_empty(cell) else str(cell).strip() for cell in rows[filled[0]]]
+    header = ["" if is_empty(cell) else str(cell).strip() for cell in rows[0]]
     while header and not header[-1]:
         header.pop()
-    body, width = filled[1:], len(header)
-    missing: Dict[int, FrozenSet[int]] = {}
-    kept: List[Sequence[Any]] = []
-    for number in body:
-        row = rows[number]
-        if len(row) != width:
-            row = _fitted(row, width, f"{name}, {word} {lines[number]}")
-            if len(rows[number]) < width:
-                missing[len(kept)] = frozenset(range(len(rows[number]), width))
-        kept.append(row)
+    width, missing = len(header), {}
+    kept = rows[1:]
+    if any(len(row) != width for row in kept):
+        missing = {row: frozenset(range(len(cells), width)) for row, cells in enumerate(kept) if len(cells) < width}
+        kept = [_fitted(row, width, f"{name}, {word} {line}") for row, line in zip(kept, lines[1:])]
     columns: List[Sequence[Any]] = list(zip(*kept)) if kept else [[] for _ in header]
-    sheet = Sheet(name, header, columns, [lines[number] for number in body], word, delimiter, missing)
+    sheet = Sheet(name, header, columns, lines[1:], word, delimiter, missing)
     if header and not header[0] and len(header) > 1:
         sheet.index, sheet.index_name = columns[0], "the first column, which has no name,"
     return sheet
@@ -82,6 +76,8 @@ def sheet_of_rows(
 
 def _fitted(row: Sequence[Any], width: int, place: str) -> Sequence[Any]:
     """A row as wide as the header. Raises TableFault where cells stand beyond it."""
+    if len(row) == width:
+        return row
     if any(not is_empty(cell) for cell in row[width:]):
         columns = "1 column" if width == 1 else f"{width} columns"
         help_ = (
@@ -107,17 +103,7 @@ def read_text(path: Path, encoding: Optional[str] = None) -> Sheet:
         text = re.sub(r"sep=.", "", text, count=1, flags=re.IGNORECASE)
     else:
         delimiter = _delimiter(first, path.name)
-    reader = csv.reader(io.StringIO(text, newline=""), delimiter=delimiter, skipinitialspace=True, strict=True)
-    rows: List[List[str]] = []
-    starts: List[int] = []
-    begins = 1
-    try:
-        for row in reader:
-            rows.append(row)
-            starts.append(begins)
-            begins = reader.line_num + 1
-    except csv.Error as error:
-        raise TableFault(f"{path.name}, line {begins}: {_csv_words(str(error))}") from None
+    rows, starts = _rows(text, path.name, delimiter)
     sheet = sheet_of_rows(path.name, rows, starts, word="line", delimiter=delimiter)
     if len(sheet.header) == 1 and re.search(r"\S\s+\S", first):
         raise TableFault(
@@ -125,6 +111,23 @@ def read_text(path: Path, encoding: Optional[str] = None) -> Sheet:
             "tabs or upright strokes"
         )
     return sheet
+
+
+def _rows(text: str, name: str, delimiter: str) -> Tuple[List[List[str]], List[int]]:
+    """The rows of a text that have a cell, and the lines where they begin."""
+    reader = csv.reader(io.StringIO(text, newline=""), delimiter=delimiter, skipinitialspace=True, strict=True)
+    rows: List[List[str]] = []
+    starts: List[int] = []
+    begins = 1
+    try:
+        for row in reader:
+            if any(row):
+                rows.append(row)
+                starts.append(begins)
+            begins = reader.line_num + 1
+    except csv.Error as error:
+        raise TableFault(f"{name}, line {begins}: {_csv_words(str(error))}") from None
+    return rows, starts
 
 
 def _decoded(raw: bytes, name: str, encoding: Optional[str]) -> str:

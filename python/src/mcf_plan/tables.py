@@ -10,12 +10,12 @@ import csv
 import re
 from dataclasses import dataclass, field
 from decimal import Decimal
+from itertools import chain
 from pathlib import Path
-from typing import TYPE_CHECKING, Any, Dict, Iterable, List, Mapping, Optional, Sequence, Tuple, Union
+from typing import TYPE_CHECKING, Any, Collection, Dict, Iterable, List, Mapping, Optional, Sequence, Tuple, Union
 
 from .cells import (
     MISSING,
-    NO_LIMIT,
     CellFault,
     Numbers,
     Sign,
@@ -30,7 +30,7 @@ from .cells import (
     shown,
 )
 from .columns import ARC_COLUMNS, COLUMNS, NODE_COLUMNS, Found, called, compare_units, find_columns, folded
-from .problem import ONE, WIDE, ZERO, Arc, Number, Problem, capacity, exact, plain
+from .problem import ONE, WIDE, ZERO, Arc, Number, Problem, exact, plain
 from .rounding import round_problem
 from .sheets import MAPS, WORKBOOKS, Sheet, check_ending, part_sheet, read_text, sheet_of_frame
 
@@ -115,7 +115,7 @@ def read_tables(
     unused = ("cost",) if kind == "max" else ()
     arc_table = _Table(arc_sheet, find_columns(arc_sheet, ARC_COLUMNS, reading.columns, unused=unused), reading)
     tails, heads = arc_table.names("from"), arc_table.names("to")
-    ends = dict.fromkeys(end for pair in zip(tails, heads) for end in pair)
+    ends = dict.fromkeys(chain.from_iterable(zip(tails, heads)))
     node_table = None
     if node_sheet is not None:
         found = find_columns(node_sheet, NODE_COLUMNS, reading.columns)
@@ -127,7 +127,7 @@ def read_tables(
     _read_arcs(problem, arc_table, tails, heads)
     for sheet in (node_sheet, arc_sheet):
         problem.notes += [] if sheet is None else sheet.notes
-    _check_sense(problem, node_table, arc_table)
+    _check_sense(problem, node_table, arc_table, ends)
     return problem if decimals is None else round_problem(problem, decimals)
 
 
@@ -270,6 +270,14 @@ def _no_column(sheet: Sheet, what: str) -> TableFault:
 # ---------------------------------------------------------------- cells
 
 
+class _Names(Dict[str, str]):
+    """The names in cells that are text, each of which is read once."""
+
+    def __missing__(self, cell: str) -> str:
+        name = self[cell] = name_of(cell)
+        return name
+
+
 class _Table:
     """The cells of a sheet as names and numbers. Each method takes a column at once, and raises TableFault by row and
     column."""
@@ -278,6 +286,7 @@ class _Table:
         self.sheet, self.found, self.reading = sheet, found, reading
         self._check_short_rows()
         self._numbers: Optional[Numbers] = None
+        self._names = _Names()
 
     def __len__(self) -> int:
         return len(self.sheet.lines)
@@ -327,18 +336,18 @@ class _Table:
     def names_of(self, place: int) -> List[str]:
         """The names in a column by its place; '' where a cell is empty."""
         cells = self.sheet.columns[place]
-        names: Dict[Tuple[type, Any], str] = {}
+        is_text = set(map(type, cells)) <= {str}
+        try:
+            if is_text:
+                return list(map(self._names.__getitem__, cells))
+        except CellFault:
+            pass
         found = []
         for row, cell in enumerate(cells):
             try:
-                name = names.get((type(cell), cell))
-                if name is None:
-                    name = names[type(cell), cell] = name_of(cell)
+                found.append(name_of(cell))
             except CellFault as fault:
                 raise self.sheet.fault(row, place, str(fault)) from None
-            except TypeError:
-                raise self.sheet.fault(row, place, "a name was expected") from None
-            found.append(name)
         return found
 
     # ------------------------------------------------------------ numbers
@@ -350,43 +359,28 @@ class _Table:
         """
         if not self.has(what):
             return [ZERO if default is None else default] * len(self)
-        numbers = self._reader()
-        cells = self._cells(what)
-        if default is None:
-            for row, cell in enumerate(cells):
-                if is_empty(cell):
-                    raise self.fault(
-                        row, what, f"{called(what)} was expected; `--default-cost 0` takes 0 for those that are empty"
-                    )
-        else:
-            cells = [default if is_empty(cell) else cell for cell in cells]
-        return self._looked_up(what, cells, numbers)
+        found = self._looked_up(what, self._reader())
+        if default is None and None in found:
+            expected = f"{called(what)} was expected; `--default-cost 0` takes 0 for those that are empty"
+            raise self.fault(found.index(None), what, expected)
+        return [default if number is None else number for number in found]  # type: ignore[misc]
 
     def limits(self, what: str) -> List[Optional[Decimal]]:
         """The capacities in a column; None where a cell is empty or says that there is no limit."""
         if not self.has(what):
             return [None] * len(self)
-        cells = self._cells(what)
-        bounded = [row for row, cell in enumerate(cells) if not _is_no_limit(cell)]
-        found: List[Optional[Decimal]] = [None] * len(cells)
-        numbers = self._looked_up(what, [cells[row] for row in bounded], self._reader(), bounded)
-        for row, number in zip(bounded, numbers):
-            found[row] = number
-        return found
+        limits = Numbers(self._reader().sign, has_limits=True)
+        limits.grouped = self._reader().grouped
+        return self._looked_up(what, limits)
 
-    def _cells(self, what: str) -> Sequence[Any]:
-        """The cells of a column of numbers, with truth values refused: they are equal to 0 and 1."""
+    def _looked_up(self, what: str, numbers: Numbers) -> List[Optional[Decimal]]:
+        """The numbers of a column's cells. Truth values are refused first: they are equal to 0 and 1."""
         cells = self.sheet.columns[self.found.places[what]]
         if any(each.__name__ in ("bool", "bool_") for each in set(map(type, cells))):
             row = next(row for row, cell in enumerate(cells) if is_truth(cell))
             raise self.fault(row, what, f"a number was expected, and this is {not_plain(cells[row])}")
-        return cells
-
-    def _looked_up(
-        self, what: str, cells: Sequence[Any], numbers: Numbers, rows: Optional[Sequence[int]] = None
-    ) -> List[Decimal]:
         try:
-            return [numbers[cell] for cell in cells]
+            return list(map(numbers.__getitem__, cells))
         except (CellFault, TypeError):
             pass
         for row, cell in enumerate(cells):
@@ -398,7 +392,7 @@ class _Table:
                     expected = (
                         "a number was expected: leave the cell empty where there is no limit, and write 0 where it is 0"
                     )
-                raise self.fault(row if rows is None else rows[row], what, expected) from None
+                raise self.fault(row, what, expected) from None
         raise AssertionError("a cell was refused, and now none is")
 
     def _reader(self) -> Numbers:
@@ -464,18 +458,6 @@ class _Table:
             sheet.notes.append(f"{sheet.name}: numbers have a decimal comma, as {shown(numbers.sign.shown_by)} shows")
 
 
-def _is_no_limit(cell: Any) -> bool:
-    """Whether a capacity is empty, or says that there is no limit."""
-    if isinstance(cell, str):
-        return not cell or cell.isspace() or cell.strip().lower() in NO_LIMIT
-    if is_empty(cell):
-        return True
-    try:
-        return capacity(cell) is None
-    except (ValueError, TypeError):
-        return False
-
-
 def _units(table: _Table) -> Dict[str, Any]:
     """The units of the columns of a table, as `compare_units` takes them."""
     sheet, found = table.sheet, table.found
@@ -512,8 +494,8 @@ def _read_nodes(problem: Problem, table: _Table) -> None:
 
 def _add_ends(problem: Problem, ends: Iterable[str], nodes: Optional[Sheet]) -> None:
     """Adds the nodes that the table of arcs alone has."""
-    listed = {_alike(name): name for name in problem.nodes}
     alone = [end for end in ends if end not in problem.nodes]
+    listed = {_alike(name): name for name in problem.nodes} if alone else {}
     for end in alone:
         other = listed.get(_alike(end))
         if other is not None:
@@ -537,22 +519,28 @@ def _read_arcs(problem: Problem, table: _Table, tails: Sequence[str], heads: Seq
     is_assignment = problem.kind == "asn"
     lows, caps = table.numbers("low"), table.limits("capacity")
     costs = _costs(problem.kind, table)
-    labels: List[str] = table.names_of(table.found.places["name"]) if table.has("name") else [""] * len(tails)
-    arcs = problem.arcs
-    for row, (tail, head, low, cap, cost, name) in enumerate(zip(tails, heads, lows, caps, costs, labels)):
-        if cap is None and is_assignment:
-            cap = ONE
-        if cap is not None and low > cap:
-            if table.has("capacity"):
-                raise table.fault(row, "capacity", limit_fault(cap, low))
-            raise table.fault(row, "low", "it is above the capacity, which is 1")
-        arcs.append(Arc(tail, head, low, cap, cost, name or None))
+    labels: List[Optional[str]] = [None] * len(tails)
+    if table.has("name"):
+        labels = [name or None for name in table.names_of(table.found.places["name"])]
+    if is_assignment:
+        caps = [ONE if cap is None else cap for cap in caps]
+    _check_bounds(table, lows, caps)
+    problem.arcs += map(Arc, tails, heads, lows, caps, costs, labels)
     if is_assignment:
         _take_sides(problem)
     elif not table.has("capacity"):
         table.sheet.notes.append(f"{table.sheet.name}: there is no column of capacities, so no arc has a limit")
     table.tell_sign()
-    _tell_twice(table, arcs)
+    _tell_twice(table, problem.arcs, (tails, heads))
+
+
+def _check_bounds(table: _Table, lows: Sequence[Decimal], caps: Sequence[Optional[Decimal]]) -> None:
+    """Raises TableFault where a lower bound is above a capacity."""
+    for row, (low, cap) in enumerate(zip(lows, caps)):
+        if cap is not None and low > cap:
+            if table.has("capacity"):
+                raise table.fault(row, "capacity", limit_fault(cap, low))
+            raise table.fault(row, "low", "it is above the capacity, which is 1")
 
 
 def _costs(kind: str, table: _Table) -> List[Decimal]:
@@ -591,9 +579,10 @@ def _take_sides(problem: Problem) -> None:
             raise TableFault(f"node {name!r} has neither an arc nor a supply that says on which side it is")
 
 
-def _tell_twice(table: _Table, arcs: Sequence[Arc]) -> None:
+def _tell_twice(table: _Table, arcs: Sequence[Arc], ends: Tuple[Sequence[str], Sequence[str]]) -> None:
     """Notes rows that say the same as one before: they may stand there by a slip, and both count."""
-    if len(set(arcs)) == len(arcs):
+    # Most tables have no two arcs between the same nodes, and numbers take less room than pairs.
+    if len(set(map(hash, zip(*ends)))) == len(arcs) or len(set(arcs)) == len(arcs):
         return
     seen: Dict[Arc, int] = {}
     twice = [(row, seen[arc]) for row, arc in enumerate(arcs) if seen.setdefault(arc, row) != row]
@@ -603,11 +592,11 @@ def _tell_twice(table: _Table, arcs: Sequence[Arc]) -> None:
     table.sheet.notes.append(f"{table.sheet.name}: {place(row)} says the same as {place(first)}{more}, and both count")
 
 
-def _check_sense(problem: Problem, nodes: Optional[_Table], arcs: _Table) -> None:
+def _check_sense(problem: Problem, nodes: Optional[_Table], arcs: _Table, ends: Collection[str]) -> None:
     """Raises TableFault where a cheapest plan is asked for and nothing has to flow since no supplies are there."""
     if problem.kind != "min" or any(problem.nodes.values()) or any(arc.low or arc.cost < 0 for arc in problem.arcs):
         if problem.kind == "min" and nodes is not None:
-            _tell_lonely(problem, nodes)
+            _tell_lonely(problem, nodes, ends)
         return
     if nodes is None:
         raise TableFault(
@@ -617,10 +606,9 @@ def _check_sense(problem: Problem, nodes: Optional[_Table], arcs: _Table) -> Non
     problem.notes.append(f"{nodes.sheet.name}: no node supplies or demands anything, so nothing has to flow")
 
 
-def _tell_lonely(problem: Problem, nodes: _Table) -> None:
+def _tell_lonely(problem: Problem, nodes: _Table, ends: Collection[str]) -> None:
     """Notes nodes that supply or demand something and have no arc."""
-    joined = {end for arc in problem.arcs for end in (arc.tail, arc.head)}
-    lonely = [name for name, supply in problem.nodes.items() if supply and name not in joined]
+    lonely = [name for name, supply in problem.nodes.items() if supply and name not in ends]
     if lonely:
         told = ", ".join(lonely[:5]) + (f" and {len(lonely) - 5} more" if len(lonely) > 5 else "")
         count = "1 node has" if len(lonely) == 1 else f"{len(lonely)} nodes have"

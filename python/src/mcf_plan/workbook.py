@@ -17,7 +17,7 @@ from typing import Any, Dict, Iterator, List, NamedTuple, Sequence, Tuple
 from xml.etree import ElementTree
 from xml.sax.saxutils import escape, quoteattr
 
-from .cells import NoValue, TableFault
+from .cells import NoValue, TableFault, is_empty
 from .sheets import Sheet, sheet_of_rows
 
 WORKBOOK = "xl/workbook.xml"
@@ -150,15 +150,17 @@ class _Reader:
         """The rows of a sheet, filled up to the same width, and their numbers."""
         rows: List[Dict[int, Any]] = []
         lines: List[int] = []
-        width = 0
+        width = number = 0
         try:
             with self.file.open(part) as raw:
                 for _, element in ElementTree.iterparse(raw):
                     if _local(element) == "row":
-                        cells = dict(self._cells(element))
-                        lines.append(int(element.get("r") or (lines[-1] + 1 if lines else 1)))
-                        rows.append(cells)
-                        width = max(width, *cells, -1) if cells else width
+                        cells = {place: cell for place, cell in self._cells(element) if not is_empty(cell)}
+                        number = int(element.get("r") or number + 1)
+                        if cells:
+                            lines.append(number)
+                            rows.append(cells)
+                            width = max(width, *cells)
                         element.clear()
         except (ElementTree.ParseError, KeyError, ValueError, IndexError, zipfile.BadZipFile) as error:
             raise TableFault(f"{self.path.name}: the part {part} can't be read: {error}") from None
