@@ -60,7 +60,7 @@ class InFolder(unittest.TestCase):
 class Texts(InFolder):
     def test_the_list(self):
         found = list(cases())
-        self.assertGreater(len(found), 90)
+        self.assertGreater(len(found), 130)
         self.assertEqual(len({title for title, _, _ in found}), len(found))
         for title, told, files in found:
             for name, content in files.items():
@@ -168,6 +168,37 @@ class Workbooks(InFolder):
                 self.assertRegex(out + errors, wanted.replace("beyond: ", "").replace("4+5", "4.5"))
 
     @needs("openpyxl")
+    def test_what_is_seen_and_what_is_not(self):
+        import openpyxl
+
+        for title, change, wanted in (
+            (
+                "a percentage",
+                lambda sheet: setattr(sheet["C2"], "number_format", "0.0%"),
+                "'900%' stands there; .*percent",
+            ),
+            ("a date", lambda sheet: setattr(sheet["C2"], "number_format", "dd/mm/yy"), "'1900-01-08' stands there"),
+            ("a currency", lambda sheet: setattr(sheet["D2"], "number_format", '#,##0.00 "days"'), "cost 12.5"),
+            ("a hidden row", lambda sheet: setattr(sheet.row_dimensions[2], "hidden", True), "1 hidden row counts as"),
+            (
+                "cells beside",
+                lambda sheet: sheet.cell(2, 7, "as of May"),
+                "cells beside the table, as on row 2, are left",
+            ),
+            ("a title", lambda sheet: sheet.insert_rows(1) or sheet.cell(1, 1, "Roads"), "no column is understood"),
+            ("merged cells", lambda sheet: sheet.append([None, "Berlin", 9, 1]), "row 3, column 'from': .* a name was"),
+            ("empty rows", lambda sheet: sheet.insert_rows(1, 3), "cost 12.5"),
+            ("a text below", lambda sheet: sheet.cell(5, 1, "Source: survey"), "row 5, column 'to': .* a name was"),
+        ):
+            path = book("book.xlsx", nodes=NODES, arcs=[HEAD, ["Kiel", "Berlin", 9, 2.5]])
+            made = openpyxl.load_workbook(path)
+            change(made["arcs"])
+            made.save(path)
+            with self.subTest(title):
+                _, out, errors = run(path)
+                self.assertRegex(out + errors, wanted)
+
+    @needs("openpyxl")
     def test_formulas_with_kept_values(self):
         arcs = [HEAD, ["Kiel", "=A2", "=4+5", "=5/2"], ["Kiel", "Berlin", '=IF(1,"","")', 9]]
         for title, values, wanted in (
@@ -256,20 +287,22 @@ class Workbooks(InFolder):
     def test_tables_that_are_not_written(self):
         path = book("book.xlsx", nodes=NODES, arcs=[HEAD, ["Kiel", "Berlin", 9, 2.5]])
         before = Path(path).read_bytes()
+        Path("other.xlsx").write_bytes(before)
         for name, wanted in (
             ("plan.txt", "a table is written as .csv, .tsv or .xlsx"),
             ("plan", "a table is written as"),
             ("plan.ods", "a table is written as"),
-            ("book.xlsx", "it has other sheets, 'nodes', 'arcs'; book.xlsx:plan writes a sheet and keeps them"),
+            ("other.xlsx", "it has other sheets, 'nodes', 'arcs'; other.xlsx:plan writes a sheet and keeps them"),
             ("book.xlsx:a/b", "a table is written as"),
             ("book.xlsx:" + 32 * "a", "is no name of a sheet"),
+            ("../" + Path().resolve().name + "/book.xlsx", "take the place of a table that is read"),
         ):
             with self.subTest(name):
                 status, _, errors = run(path, "--table", name)
                 self.assertEqual(status, 3)
                 self.assertRegex(errors, wanted)
         self.assertEqual(Path(path).read_bytes(), before)
-        self.assertEqual(sorted(each.name for each in Path().iterdir()), ["book.xlsx"])
+        self.assertEqual(sorted(each.name for each in Path().iterdir()), ["book.xlsx", "other.xlsx"])
         self.assertEqual(self.told(path, "--table", "new.xlsx"), ("0: cost 12.5", ""))
         self.assertEqual(self.told(path, "--table", "new.xlsx"), ("0: cost 12.5", ""))
         import openpyxl

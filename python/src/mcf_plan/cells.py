@@ -244,10 +244,12 @@ class Numbers(Dict[Any, Optional[Decimal]]):
 def number_hint(cell: str) -> str:
     """What to do about a cell that is no number, for the commonest mistakes."""
     lower = cell.lower()
+    if _WELL_FORMED.fullmatch(cell) and re.search("[eE]", cell):
+        return ", of at most 60 digits"
     if ERROR.fullmatch(cell):
         return ", and this is an error of the spreadsheet"
     if lower in MISSING:
-        return ": write 0, or a number, or leave the cell empty"
+        return ": write one in its place"
     if lower in YES_OR_NO:
         return ", and this is a truth value"
     if lower in NO_LIMIT:

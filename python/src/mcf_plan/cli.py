@@ -287,14 +287,17 @@ def _port(text: str) -> int:
     return int(text)
 
 
-def _read(options: argparse.Namespace, progress: Optional[Progress] = None) -> Problem:
+def _read(options: argparse.Namespace) -> Problem:
     """The problem of the tables, or of the text, that the command line names; its notes are told."""
     problem = _read_source(options)
-    if progress is not None:
-        progress.clear()
+    _tell_notes(problem)
+    return problem
+
+
+def _tell_notes(problem: Problem) -> None:
+    """Prints what was chosen for the user."""
     for note in problem.notes:
         say(f"note: {note}", sys.stderr)
-    return problem
 
 
 def _read_source(options: argparse.Namespace) -> Problem:
@@ -343,10 +346,12 @@ def _plan(options: argparse.Namespace) -> int:
     from .report import html_text, not_drawn, svg_picture, to_json
 
     if options.table:
-        check_output(options.table)
+        check_output(options.table, options.tables)
     with Progress() as progress:
         progress.now("reading the tables")
-        problem = _read(options, progress)
+        problem = _read_source(options)
+        progress.clear()
+        _tell_notes(problem)
         too_large = not_drawn(problem)
         if options.picture and too_large:
             raise BeyondLimits(f"--picture: {too_large}")

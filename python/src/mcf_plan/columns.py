@@ -22,6 +22,7 @@ COLUMNS: Dict[str, Tuple[str, ...]] = {
     + ("nom", "nœud", "noeud", "lieu", "ville", "entrepôt", "usine", "client")
     + ("nombre", "nodo", "lugar", "ciudad", "sitio", "almacén", "planta", "cliente"),
     "supply": ("supply", "supplies", "stock", "available", "amount", "offer", "production", "inventory")
+    + ("net supply",)
     + ("Angebot", "Bestand", "Vorrat", "Lagerbestand", "Produktion", "verfügbar")
     + ("offre", "disponible", "production", "approvisionnement")
     + ("oferta", "existencias", "suministro", "producción"),
@@ -41,11 +42,32 @@ COLUMNS: Dict[str, Tuple[str, ...]] = {
     + ("mindestens", "Untergrenze", "untere Grenze", "untere Schranke", "Mindestmenge")
     + ("au moins", "borne inférieure", "limite inférieure")
     + ("mínimo", "al menos", "cota inferior", "límite inferior"),
-    "capacity": ("capacity", "cap", "upper", "upper bound", "upper limit", "most", "max", "maximum", "limit", "at most")
+    "capacity": (
+        "capacity",
+        "cap",
+        "kap",
+        "upper",
+        "upper bound",
+        "upper limit",
+        "most",
+        "max",
+        "maximum",
+        "limit",
+        "at most",
+    )
     + ("max flow", "max capacity", "maximum capacity", "ub")
-    + ("Kapazität", "höchstens", "Obergrenze", "obere Grenze", "obere Schranke", "Höchstmenge")
-    + ("capacité", "au plus", "borne supérieure", "limite supérieure", "limite")
-    + ("capacidad", "máximo", "como máximo", "cota superior", "límite superior", "límite"),
+    + (
+        "Kapazität",
+        "max. Kapazität",
+        "maximale Kapazität",
+        "höchstens",
+        "Obergrenze",
+        "obere Grenze",
+        "obere Schranke",
+        "Höchstmenge",
+    )
+    + ("capacité", "capacité max", "capacité maximale", "au plus", "borne supérieure", "limite supérieure", "limite")
+    + ("capacidad", "capacidad máxima", "máximo", "como máximo", "cota superior", "límite superior", "límite"),
     "cost": ("cost", "costs", "unit cost", "unit costs", "cost per unit", "price", "unit price", "freight rate", "rate")
     + ("transport cost", "transport costs", "shipping cost", "tariff")
     + ("Kosten", "Stückkosten", "Kosten pro Stück", "Kosten pro Einheit", "Transportkosten", "Frachtkosten", "Preis")
@@ -90,6 +112,16 @@ SWITCHES = frozenset(
     "active inactive open closed enabled disabled blocked usable status aktiv inaktiv offen gesperrt geschlossen gultig "
     "actif ouvert ferme statut activo abierto cerrado estado".split()
 )
+LOSSES = frozenset(
+    "loss losses gain gains efficiency yield multiplier factor shrinkage verlust verluste wirkungsgrad faktor ausbeute "
+    "perte pertes rendement facteur perdida perdidas rendimiento eficiencia".split()
+)
+EXTRAS = (
+    "load fee toll charge surcharge penalty tax duty discount bonus bound maut gebuhr zuschlag rabatt zoll peage taxe remise "
+    "recargo peaje tasa descuento fijo fixkosten kosten"
+).split()
+"""Words that are no name of a column here, and speak of costs, or of bounds, in a longer one or alone."""
+
 OWN = frozenset(("flow", "total cost", "is full", "one more costs"))
 """Columns that tables of plans have, as `write_plan` writes them: left aside where all are there."""
 
@@ -148,7 +180,7 @@ def _words_of(table: Mapping[str, Sequence[str]]) -> Dict[str, List[str]]:
 _WORDS, _STAND_INS = _words_of(COLUMNS), _words_of(STAND_INS)
 # Single words that a longer name may not have without being looked at; short ones, such as `de` or `a`, are in many.
 _TELLING = {word: things for word, things in _WORDS.items() if " " not in word and len(word) >= 3}
-_TELLING.update({"load": ["capacity"], "kosten": ["cost"], "fee": ["cost"], "toll": ["cost"], "bound": ["capacity"]})
+_TELLING.update({word: ["capacity" if word in ("load", "bound") else "cost"] for word in EXTRAS})
 
 
 def find_columns(
@@ -272,7 +304,7 @@ def _choose(sheet: Sheet, what: str, its: List[Tuple[int, Match]], found: Found)
     header = sheet.header[place]
     if match.unit is not None:
         found.units[what] = match.unit
-        sheet.notes.append(f"{sheet.name}: the column {header!r} is {called(what)}, in {match.unit.text}")
+        sheet.notes.append(f"{sheet.name}: the column {header!r} is {called(what)}, {match.unit.told}")
     elif match.stands_in:
         sheet.notes.append(f"{sheet.name}: the column {header!r} is taken as {called(what)}")
     return [other for other, _ in its if other != place]
@@ -335,6 +367,8 @@ def _why_it_matters(name: str, header: str, different: int, kinds: Tuple[Sequenc
         return elsewhere
     if "from" in of_table and tokens & TWO_WAYS:
         return "an arc leads from `from` to `to` alone; give the way back a row of its own"
+    if "from" in of_table and tokens & LOSSES:
+        return "what enters an arc leaves it whole, nothing is lost or gained on the way"
     if tokens & SWITCHES:
         return "each row counts; give the table without those that do not"
     if tokens & PARTS:

@@ -58,6 +58,11 @@ class Unit(NamedTuple):
     per: FrozenSet[str]
     time: str
 
+    @property
+    def told(self) -> str:
+        """The unit in a sentence, as `in EUR` or `per t`."""
+        return f"in {self.text}" if self.base else self.text
+
     def agrees(self, other: Unit) -> bool:
         """Whether two amounts may be in one unit: they count the same, and in the same time where both name one."""
         return self.base == other.base and (not self.time or not other.time or self.time == other.time)

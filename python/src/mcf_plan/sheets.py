@@ -62,31 +62,41 @@ def sheet_of_rows(
     header = ["" if is_empty(cell) else str(cell).strip() for cell in rows[0]]
     while header and not header[-1]:
         header.pop()
-    width, missing = len(header), {}
-    kept = rows[1:]
+    sheet = Sheet(name, header, [], lines[1:], word, delimiter)
+    kept, width = rows[1:], len(header)
     if any(len(row) != width for row in kept):
-        missing = {row: frozenset(range(len(cells), width)) for row, cells in enumerate(kept) if len(cells) < width}
-        kept = [_fitted(row, width, f"{name}, {word} {line}") for row, line in zip(kept, lines[1:])]
-    columns: List[Sequence[Any]] = list(zip(*kept)) if kept else [[] for _ in header]
-    sheet = Sheet(name, header, columns, lines[1:], word, delimiter, missing)
+        kept = _fitted(sheet, kept)
+    sheet.columns = list(zip(*kept)) if kept else [[] for _ in header]
     if header and not header[0] and len(header) > 1:
-        sheet.index, sheet.index_name = columns[0], "the first column, which has no name,"
+        sheet.index, sheet.index_name = sheet.columns[0], "the first column, which has no name,"
     return sheet
 
 
-def _fitted(row: Sequence[Any], width: int, place: str) -> Sequence[Any]:
-    """A row as wide as the header. Raises TableFault where cells stand beyond it."""
-    if len(row) == width:
-        return row
-    if any(not is_empty(cell) for cell in row[width:]):
-        columns = "1 column" if width == 1 else f"{width} columns"
-        help_ = (
-            "is there a title above the table? Then take it out: the names of the columns come first"
-            if width == 1
-            else "is there a comma in a number? Then put it between quotes, or write a point"
-        )
-        raise TableFault(f"{place}: {len(row)} fields stand under {columns}; {help_}")
-    return [*row, *[""] * (width - len(row))][:width]
+def _fitted(sheet: Sheet, rows: Sequence[Sequence[Any]]) -> List[Sequence[Any]]:
+    """Rows as wide as the header; what a row lacks is noted in the sheet. In a spreadsheet cells beyond the header are
+    left aside. Raises TableFault where a text has them, or has rows of different widths beyond the header."""
+    width = len(sheet.header)
+    widest = max(map(len, rows))
+    fitted: List[Sequence[Any]] = []
+    is_told = False
+    for number, row in enumerate(rows):
+        beyond = row[width:]
+        is_filled = any(not is_empty(cell) for cell in beyond)
+        if sheet.word == "line" and beyond and (is_filled or len(row) != widest or len(rows[0]) != widest):
+            columns = "1 column" if width == 1 else f"{width} columns"
+            advice = (
+                "is there a title above the table? Then take it out: the names of the columns come first"
+                if width == 1
+                else "is there a comma in a number? Then put it between quotes, or write a point"
+            )
+            raise TableFault(f"{sheet.name}, {sheet.place(number)}: {len(row)} fields stand under {columns}; {advice}")
+        if is_filled and not is_told:
+            sheet.notes.append(f"{sheet.name}: cells beside the table, as on {sheet.place(number)}, are left aside")
+            is_told = True
+        if len(row) < width:
+            sheet.missing[number] = frozenset(range(len(row), width))
+        fitted.append([*row, *[""] * (width - len(row))][:width])
+    return fitted
 
 
 # ---------------------------------------------------------------- texts

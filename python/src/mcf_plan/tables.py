@@ -8,6 +8,7 @@ from __future__ import annotations
 
 import csv
 import re
+import unicodedata
 from dataclasses import dataclass, field
 from decimal import Decimal
 from itertools import chain
@@ -500,7 +501,8 @@ def _add_ends(problem: Problem, ends: Iterable[str], nodes: Optional[Sheet]) -> 
         other = listed.get(_alike(end))
         if other is not None:
             raise TableFault(
-                f"the table of arcs has a node {end!r}, and the table of nodes {other!r}: if they are one, write them alike"
+                f"the table of arcs has a node {end!r}, and the table of nodes {other!r}: if they are one, write them "
+                "alike; if they are two, list both in the table of nodes"
             )
         problem.nodes[end] = ZERO
     if nodes is not None and problem.kind != "asn" and alone:
@@ -510,8 +512,8 @@ def _add_ends(problem: Problem, ends: Iterable[str], nodes: Optional[Sheet]) -> 
 
 
 def _alike(name: str) -> str:
-    """A name without what is hard to see: letters' size, and marks and blanks between words."""
-    return re.sub(r"[\s\-_.]+", "", name.casefold()) or name
+    """A name without what is hard to see: letters' size, and what parts its words."""
+    return re.sub(r"[\W_]+", " ", unicodedata.normalize("NFKC", name).casefold()).strip() or name
 
 
 def _read_arcs(problem: Problem, table: _Table, tails: Sequence[str], heads: Sequence[str]) -> None:
@@ -642,10 +644,14 @@ def plan_rows(plan: Plan) -> List[Tuple[str, ...]]:
     return rows
 
 
-def check_output(path: Union[str, Path]) -> None:
+def check_output(path: Union[str, Path], inputs: Iterable[str] = ()) -> None:
     """Raises TableFault where a plan can't be written as a table of this name: its ending is unknown, or it is a
-    workbook with other sheets, which would be lost."""
+    workbook with other sheets, which would be lost, or one of the files `inputs`."""
     file, sheet = part_sheet(path)
+    if sheet is None and file.exists() and any(each != "-" and file.samefile(part_sheet(each)[0]) for each in inputs):
+        raise TableFault(
+            f"{file.name}: the plan would take the place of a table that is read; write it to another file"
+        )
     ending = file.suffix.lower()
     if ending not in (".csv", ".tsv", *WORKBOOKS):
         raise TableFault(f"{file.name}: a table is written as .csv, .tsv or .xlsx, or as a sheet by book.xlsx:SHEET")

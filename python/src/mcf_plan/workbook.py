@@ -27,6 +27,7 @@ SHEET_TYPE = "application/vnd.openxmlformats-officedocument.spreadsheetml.worksh
 BOOK_TYPE = "application/vnd.openxmlformats-officedocument.spreadsheetml.sheet.main+xml"
 DATE_FORMATS = frozenset((*range(14, 23), *range(27, 37), *range(45, 48), *range(50, 59)))
 """The formats of dates and times that every workbook has, by their numbers."""
+PERCENT_FORMATS = frozenset((9, 10))
 DAY_0 = datetime.datetime(1899, 12, 30)
 HEAD = '<?xml version="1.0" encoding="UTF-8" standalone="yes"?>\n'
 
@@ -54,7 +55,11 @@ def read_sheet(path: Path, name: str) -> Sheet:
         reader = _Reader(file, path)
         rows, lines = reader.rows(found[0].part)
     title = path.name if len(tabs) == 1 else f"{path.name}, sheet {found[0].name!r}"
-    return sheet_of_rows(title, rows, lines)
+    sheet = sheet_of_rows(title, rows, lines)
+    if reader.hidden:
+        count = "1 hidden row counts" if reader.hidden == 1 else f"{reader.hidden} hidden rows count"
+        sheet.notes.append(f"{title}: {count} as the others do")
+    return sheet
 
 
 def _listed(tabs: Sequence[_Tab]) -> str:
@@ -126,24 +131,24 @@ class _Reader:
 
     def __init__(self, file: zipfile.ZipFile, path: Path):
         self.file, self.path = file, path
+        self.hidden = 0
         parts = dict(_relations(file).values())
         self.texts = [_text_of(each) for each in self._elements(parts.get("sharedStrings"), "si")]
-        self.is_date = self._date_styles(parts.get("styles"))
+        self.looks = self._looks(parts.get("styles"))
 
     def _elements(self, part: Any, name: str) -> Iterator[ElementTree.Element]:
         if part is not None and part in self.file.namelist():
             yield from (each for each in _parsed(self.file, part).iter() if _local(each) == name)
 
-    def _date_styles(self, part: Any) -> List[bool]:
-        """Whether the cells of a style are dates, by the number of the style."""
+    def _looks(self, part: Any) -> List[str]:
+        """What the cells of a style are, by the number of the style: 'date', 'percent', or '' for a plain number."""
         own = {
-            int(each.get("numFmtId", "0")): _is_date_format(each.get("formatCode", ""))
+            int(each.get("numFmtId", "0")): _look_of(each.get("formatCode", ""))
             for each in self._elements(part, "numFmt")
         }
+        kept = {**dict.fromkeys(DATE_FORMATS, "date"), **dict.fromkeys(PERCENT_FORMATS, "percent"), **own}
         return [
-            own.get(number, number in DATE_FORMATS)
-            for group in self._elements(part, "cellXfs")
-            for number in (int(each.get("numFmtId", "0")) for each in group)
+            kept.get(int(each.get("numFmtId", "0")), "") for group in self._elements(part, "cellXfs") for each in group
         ]
 
     def rows(self, part: str) -> Tuple[List[List[Any]], List[int]]:
@@ -158,6 +163,7 @@ class _Reader:
                         cells = {place: cell for place, cell in self._cells(element) if not is_empty(cell)}
                         number = int(element.get("r") or number + 1)
                         if cells:
+                            self.hidden += element.get("hidden") in ("1", "true")
                             lines.append(number)
                             rows.append(cells)
                             width = max(width, *cells)
@@ -195,8 +201,9 @@ class _Reader:
         if not text:
             return ""
         style = int(cell.get("s", "0"))
-        if style < len(self.is_date) and self.is_date[style]:
-            return _date(float(text))
+        look = self.looks[style] if style < len(self.looks) else ""
+        if look:
+            return _date(float(text)) if look == "date" else f"{float(text) * 100:g}%"
         return int(text) if re.fullmatch(r"-?\d{1,15}", text) else float(text)
 
 
@@ -220,10 +227,12 @@ def _unescaped(text: str) -> str:
     return re.sub(r"_x([0-9A-Fa-f]{4})_", lambda found: chr(int(found[1], 16)), text)
 
 
-def _is_date_format(code: str) -> bool:
-    """Whether a format of numbers shows a date or a time."""
+def _look_of(code: str) -> str:
+    """What a format of numbers shows: 'date', 'percent', or '' for a plain number."""
     bare = re.sub(r'"[^"]*"|\\.|\[[^\]]*\]|_.|\*.', "", code.split(";")[0])
-    return re.search(r"[dmyhs]", bare, re.IGNORECASE) is not None and "general" not in bare.lower()
+    if "%" in bare:
+        return "percent"
+    return "date" if re.search(r"[dmyhs]", bare, re.IGNORECASE) and "general" not in bare.lower() else ""
 
 
 def _date(days: float) -> Any:
