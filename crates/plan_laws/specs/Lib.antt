@@ -1,0 +1,3 @@
+pub mod Stability
+pub mod Prices
+pub mod MinimumCut
