@@ -133,6 +133,117 @@ def wrong_claim(text):
     return wrong, len(quoted) + len(paths) + len(pairs) + len(names)
 
 
+# What CLAIM says in words of each field of the statement in engines/specs/Claim.antt.
+STATEMENT = {
+    "SolvesRightly": {
+        "problem": "For every *T*",
+        "problem_is": "that reads as a problem",
+        "moment": "there is an answered moment *m*",
+        "instance_is": "answered moment *m* of its instance",
+        "right": "there is an answered moment *m*",
+        "written_is": "the bytes written are the printing of *m*",
+    },
+    "BeginsRightly": {
+        "past": "no past",
+        "instance_is": "of the instance of *T*, with room for *N* more arcs",
+        "future": "no future and no marks",
+        "marks": "no future and no marks",
+        "right": "s₀ has an answered moment",
+    },
+    "ServesRightly": {
+        "problem": "For all byte strings *T* and *C*, all numbers *N*",
+        "problem_is": "if *T* reads as a problem",
+        "opening": "states s₀, .., sₖ",
+        "begins": "s₀ has an answered moment",
+        "replies": "replies r₁, .., rₖ",
+        "goes": "for each *i*, TurnStep(sᵢ₋₁, tᵢ, rᵢ, sᵢ), and each moment of sᵢ is answered",
+        "written_is": "the verdict line of s₀ and then the texts of r₁, .., rₖ, in order, and nothing else",
+    },
+    "JudgesRightly": {
+        "problem": "For all *T* and *A*",
+        "problem_is": "read as a problem and as an answer to it",
+        "answer": "For all *T* and *A*",
+        "answer_is": "read as a problem and as an answer to it",
+        "right": "`valid` is written if and only if",
+        "exact": "if and only if *A* is a legal flow with the ends of its arcs, its worth, and potentials that certify "
+        "it, or a breach",
+        "settles": "if `valid` is written, the flow of *A* is best, or no flow is legal",
+        "written_is": "`valid` is written if and only if",
+    },
+}
+
+
+def clause(function, name):
+    """The text of a clause of an engine's function, from its name to the next clause or the body."""
+    sources = sorted(TOP.glob("crates/engines/src/**/*.rt")) + sorted(TOP.glob("crates/checker/src/**/*.rt"))
+    heads = r"(?ms)^\s*(?:pub(?:\(\w+\))? )?fn " + function + r"\b(.*?)^\s*\{"
+    bodies = [body for source in sources for body in re.findall(heads, source.read_text())]
+    texts = [re.findall(rf"(?s)\bensures {name} \{{(.*?)(?=\n\s*(?:ensures|requires)\b|\Z)", body) for body in bodies]
+    return " ".join(text for each in texts for text in each)
+
+
+def wrong_statement(text):
+    """How the statement of CLAIM and that of the prover differ: fields of engines/specs/Claim.antt that no words of the
+    page say, or that are gone; a premise of `the_claim` that is no clause of those that the page names, or the reverse;
+    and a conclusion that Claim.antt does not define."""
+    page, wrong, count = re.sub(r"\s+", " ", text), [], 0
+    specs = (TOP / "crates/engines/specs/Claim.antt").read_text()
+    law = (TOP / "crates/engines/src/claim.rt").read_text()
+    for record, fields in STATEMENT.items():
+        body = re.search(rf"(?s)record {record}\b.*?where\n(.*?)(?:\n\n|\Z)", specs)
+        there = re.findall(r"(?m)^  pub (\w+) :", body.group(1)) if body else []
+        count += len(fields)
+        if there != list(fields):
+            wrong.append(f"{record} has the fields {there}; the words of CLAIM are known for {list(fields)}")
+        wrong += [f"CLAIM does not say {record}.{name}: {words}" for name, words in fields.items() if words not in page]
+    drawn = re.search(r"The law `the_claim` draws it from the clauses? (.*?), which also", page)
+    cited = re.findall(r"((?:`\w+`(?: and )?)+) of `(\w+)`", drawn.group(1) if drawn else "")
+    clauses = [clause(function, name) for names, function in cited for name in re.findall(NAME, names)]
+    heads = {text.split()[0] for text in clauses if text.strip()}
+    premises = set(re.findall(r"→ ([A-Z]\w+)", law)) - {"Written"}
+    concluded = set(re.findall(r"→ Written \((\w+)", law)) | set(re.findall(r"ensures \w+ \{ (\w+) \}", law))
+    count += len(heads) + len(premises) + len(concluded)
+    if not premises or premises != heads:
+        wrong.append(f"the_claim rests on {sorted(premises)}; the clauses that CLAIM names begin with {sorted(heads)}")
+    defined = set(DEFINITION.findall(specs))
+    wrong += [f"Claim.antt does not define {name}" for name in sorted(concluded - defined)]
+    return wrong, count
+
+
+def wrong_sums(text):
+    """Which functions have sums that may wrap and are not in the list of PROOFS, and which are there and have none."""
+    section = text.split("may sums wrap")[1].split("\nPromises")[0]
+    listed, found = set(), set()
+    for names, place in re.findall(r"((?:`\w+`,?\s+)+)in\s+`(\w+/src/[\w/]+\.rt)`", section):
+        listed |= {(place, name) for name in re.findall(NAME, names)}
+    for source in sorted((TOP / "crates").glob("*/src/**/*.rt")):
+        crate, file = source.relative_to(TOP / "crates").parts[0], source.relative_to(TOP / "crates")
+        for number, line in enumerate(source.read_text().splitlines(), 1):
+            if re.search(r"\b(wrapping|overflowing)_\w+\(", line):
+                found.add((str(file), function_at(crate, file.relative_to(crate), number)))
+    wrong = [f"PROOFS does not list {name} of {place}" for place, name in sorted(found - listed)]
+    wrong += [f"{name} of {place} has no sum that may wrap" for place, name in sorted(listed - found)]
+    return wrong, len(found)
+
+
+def wrong_laws(text):
+    """Which laws, functions with nothing to run, no item of PROOFS names; and which law of plans no must-fail edit
+    breaks, or none of the clauses that PROOFS names."""
+    wrong, cited, count = [], defaultdict(set), 0
+    for _, (crate, names, clauses, _) in promises(text):
+        for name in names:
+            cited[name] |= {crate}
+    for source in sorted((TOP / "crates").glob("*/src/**/*.rt")):
+        crate = source.relative_to(TOP / "crates").parts[0]
+        laws = re.findall(r"/// A law, with nothing to run(?:.*\n *///)*.*\n *pub fn (\w+)", source.read_text())
+        count += len(laws)
+        wrong += [f"PROOFS does not name the law {name} of {crate}" for name in laws if crate not in cited[name]]
+        if crate == "plan_laws":
+            edits = " ".join(edit.name for edit in (TOP / "crates" / crate / "must-fail").glob("*.edit"))
+            wrong += [f"no must-fail edit breaks {name}" for name in laws if f".{name}." not in edits]
+    return wrong, count
+
+
 def wrong_rows(readme, architecture):
     """Which crates have no row, or none of one line, in the table of README and the list of ARCHITECTURE; what these rows and
     the lists of ARCHITECTURE name and a crate has not; and which source does not say in its first line what it is."""
