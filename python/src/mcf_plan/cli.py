@@ -179,8 +179,8 @@ def _add_tables(parser: argparse.ArgumentParser) -> None:
         "tables",
         metavar="TABLE",
         nargs="+",
-        help="the tables of nodes and arcs (.csv, .tsv, .xlsx, or book.xlsx:SHEET), one workbook or map (.geojson) that "
-        "has both, that of arcs alone, or a problem text",
+        help="the tables of nodes and arcs (.csv, .tsv, .xlsx, or book.xlsx:SHEET), one workbook or map (.geojson) "
+        "that has both, that of arcs alone, or a problem text",
     )
     parser.add_argument(
         "--kind",
@@ -210,8 +210,8 @@ def _add_tables(parser: argparse.ArgumentParser) -> None:
         type=_named_columns,
         action="append",
         default=[],
-        help="the name of the column that holds node, supply, demand, x or y, or from, to, low, capacity, cost or name; "
-        "aside=NAME leaves one aside; several are parted by commas",
+        help="the name of the column that holds node, supply, demand, x or y, or from, to, low, capacity, cost or "
+        "name; aside=NAME leaves one aside; several are parted by commas",
     )
     parser.add_argument(
         "--decimal",

@@ -12,125 +12,22 @@ from dataclasses import dataclass, field
 from typing import Collection, Dict, List, Mapping, NamedTuple, Optional, Sequence, Tuple
 
 from .cells import TableFault, is_empty
-from .sheets import Sheet
 from .measures import Unit, unit_of
-
-COLUMNS: Dict[str, Tuple[str, ...]] = {
-    "node": ("name", "node", "id", "place", "town", "city", "site", "location", "person", "key", "plant", "customer")
-    + ("warehouse", "depot", "node name", "node id")
-    + ("Knoten", "Ort", "Stadt", "Standort", "Lager", "Werk", "Kunde", "Bezeichnung")
-    + ("nom", "nœud", "noeud", "lieu", "ville", "entrepôt", "usine", "client")
-    + ("nombre", "nodo", "lugar", "ciudad", "sitio", "almacén", "planta", "cliente"),
-    "supply": ("supply", "supplies", "stock", "available", "amount", "offer", "production", "inventory")
-    + ("net supply",)
-    + ("Angebot", "Bestand", "Vorrat", "Lagerbestand", "Produktion", "verfügbar")
-    + ("offre", "disponible", "production", "approvisionnement")
-    + ("oferta", "existencias", "suministro", "producción"),
-    "demand": ("demand", "demands", "need", "needs", "wanted", "orders", "order", "required", "consumption")
-    + ("Bedarf", "Nachfrage", "Bestellung", "Bestellungen", "Verbrauch")
-    + ("demande", "besoin", "besoins", "commande", "commandes", "consommation")
-    + ("demanda", "necesidad", "pedido", "pedidos", "consumo"),
-    "from": ("from", "tail", "source", "origin", "src", "start", "from node", "start node", "sender", "supplier")
-    + ("von", "ab", "Quelle", "Startort", "Herkunft", "Absender", "Lieferant")
-    + ("de", "depuis", "origine", "départ", "expéditeur")
-    + ("desde", "origen", "salida", "remitente"),
-    "to": ("to", "head", "target", "destination", "dst", "dest", "end", "to node", "end node", "receiver")
-    + ("nach", "bis", "zu", "Ziel", "Zielort", "Empfänger")
-    + ("vers", "à", "arrivée", "destinataire")
-    + ("hasta", "a", "destino", "hacia", "llegada", "destinatario"),
-    "low": ("low", "lower", "lower bound", "lower limit", "least", "min", "minimum", "at least", "min flow", "lb")
-    + ("mindestens", "Untergrenze", "untere Grenze", "untere Schranke", "Mindestmenge")
-    + ("au moins", "borne inférieure", "limite inférieure")
-    + ("mínimo", "al menos", "cota inferior", "límite inferior"),
-    "capacity": (
-        "capacity",
-        "cap",
-        "kap",
-        "upper",
-        "upper bound",
-        "upper limit",
-        "most",
-        "max",
-        "maximum",
-        "limit",
-        "at most",
-    )
-    + ("max flow", "max capacity", "maximum capacity", "ub")
-    + (
-        "Kapazität",
-        "max. Kapazität",
-        "maximale Kapazität",
-        "höchstens",
-        "Obergrenze",
-        "obere Grenze",
-        "obere Schranke",
-        "Höchstmenge",
-    )
-    + ("capacité", "capacité max", "capacité maximale", "au plus", "borne supérieure", "limite supérieure", "limite")
-    + ("capacidad", "capacidad máxima", "máximo", "como máximo", "cota superior", "límite superior", "límite"),
-    "cost": ("cost", "costs", "unit cost", "unit costs", "cost per unit", "price", "unit price", "freight rate", "rate")
-    + ("transport cost", "transport costs", "shipping cost", "tariff")
-    + ("Kosten", "Stückkosten", "Kosten pro Stück", "Kosten pro Einheit", "Transportkosten", "Frachtkosten", "Preis")
-    + ("coût", "coûts", "coût unitaire", "coût de transport", "prix", "tarif")
-    + ("costo", "coste", "costos", "costes", "costo unitario", "coste unitario", "precio", "tarifa"),
-    "x": ("x", "lon", "lng", "longitude", "east", "Längengrad", "longitud"),
-    "y": ("y", "lat", "latitude", "north", "Breitengrad", "latitud"),
-    "name": ("name", "arc", "road", "route", "link", "label", "id", "arc name", "Strecke", "Name", "nom", "nombre")
-    + ("ruta", "Kennung", "Bezeichnung"),
-}
-"""The names that a column may have, whatever the letters' size and accents. A unit may stand behind, as in
-`capacity (t)`, `cost_eur` or `cost [EUR/t]`."""
-
-STAND_INS: Dict[str, Tuple[str, ...]] = {
-    "cost": ("weight", "distance", "Entfernung", "Distanz", "distancia", "Gewicht", "poids", "peso")
-}
-"""Names of columns that are taken where no other column is that thing, which is told."""
-
-NODE_COLUMNS = ("node", "supply", "demand", "x", "y")
-ARC_COLUMNS = ("from", "to", "low", "capacity", "cost", "name")
-ENDS = ("node", "from", "to")
-LABELS = frozenset(("x", "y", "name"))
-"""What no plan depends on: where several columns match, the first word counts."""
-
-HARMLESS = frozenset(
-    (
-        "comment comments note notes remark remarks region country state county zone area group km miles code type class "
-        "mode carrier description owner contact color colour hours time duration length via zip postcode address speed lane"
-        " flow tariff zone sector"
-        " kommentar bemerkung bemerkungen anmerkung notiz land bundesland gebiet typ art gruppe plz adresse dauer zeit "
-        "lange farbe hinweis nr nummer"
-        " commentaire commentaires remarque remarques pays departement type duree temps adresse longueur numero"
-        " comentario comentarios observaciones nota notas pais provincia tipo grupo duracion tiempo direccion longitud"
-    ).split()
+from .sheets import Sheet
+from .vocabulary import (
+    COLUMNS,
+    COSTLY,
+    ENDS,
+    HARMLESS,
+    LABELS,
+    LIMITING,
+    LOSSES,
+    OWN,
+    PARTS,
+    STAND_INS,
+    SWITCHES,
+    TWO_WAYS,
 )
-"""Columns that are left aside without a look at the other words."""
-
-TWO_WAYS = frozenset(
-    "oneway both bothways bidirectional directed direction undirected twoway reverse richtung einbahn sens sentido".split()
-)
-SWITCHES = frozenset(
-    "active inactive open closed enabled disabled blocked usable status aktiv inaktiv offen gesperrt geschlossen gultig "
-    "actif ouvert ferme statut activo abierto cerrado estado".split()
-)
-LOSSES = frozenset(
-    "loss losses gain gains efficiency yield multiplier factor shrinkage verlust verluste wirkungsgrad faktor ausbeute "
-    "perte pertes rendement facteur perdida perdidas rendimiento eficiencia".split()
-)
-EXTRAS = (
-    "load fee toll charge surcharge penalty tax duty discount bonus bound maut gebuhr zuschlag rabatt zoll peage taxe remise "
-    "recargo peaje tasa descuento fijo fixkosten kosten"
-).split()
-"""Words that are no name of a column here, and speak of costs, or of bounds, in a longer one or alone."""
-
-OWN = frozenset(("flow", "total cost", "is full", "one more costs"))
-"""Columns that tables of plans have, as `write_plan` writes them: left aside where all are there."""
-
-PARTS = frozenset(
-    "product products commodity commodities good goods item items material article sku period periods day days week weeks "
-    "month date year scenario produkt ware material artikel tag woche monat datum jahr periode szenario produit article "
-    "jour semaine mois periode scenario producto articulo dia semana mes fecha ano periodo escenario".split()
-)
-"""Columns that part a table in several problems, where more than one thing stands in them."""
 
 
 class Match(NamedTuple):
@@ -178,9 +75,12 @@ def _words_of(table: Mapping[str, Sequence[str]]) -> Dict[str, List[str]]:
 
 
 _WORDS, _STAND_INS = _words_of(COLUMNS), _words_of(STAND_INS)
+_SPELLED = {word: word for word in _WORDS}
+_SPELLED.update((folded(name), name) for names in COLUMNS.values() for name in names)
 # Single words that a longer name may not have without being looked at; short ones, such as `de` or `a`, are in many.
 _TELLING = {word: things for word, things in _WORDS.items() if " " not in word and len(word) >= 3}
-_TELLING.update({word: ["capacity" if word in ("load", "bound") else "cost"] for word in EXTRAS})
+_TELLING.update({word: ["cost"] for word in COSTLY})
+_TELLING.update({word: ["capacity"] for word in LIMITING})
 
 
 def find_columns(
@@ -188,9 +88,9 @@ def find_columns(
 ) -> Found:
     """Which column holds which of the things `kinds`. Notes of what was chosen are added to the sheet.
 
-    `chosen` are names of columns that were said, for a thing or for 'aside'. Columns of things that are `unused` are left
-    aside. Raises TableFault where a column that looks
-    like one that matters is not understood, and where two are the same thing.
+    `chosen` are names of columns that were said, for a thing or for 'aside'. Columns of things that are `unused` are
+    left aside. Raises TableFault where a column that looks like one that matters is not understood, and where two are
+    the same thing.
     """
     found = Found()
     told = _told(sheet, kinds, chosen)
@@ -215,8 +115,8 @@ def find_columns(
             matches.setdefault(match.what, []).append((place, match))
     if not matches and not (sheet.index and "node" in kinds):
         raise TableFault(
-            f"{sheet.name}: no column is understood; the names of the columns come first, and here {sheet.its_columns()} "
-            f"stand there; `--columns {kinds[0]}=NAME` names one that is called otherwise"
+            f"{sheet.name}: no column is understood; the names of the columns come first, and here "
+            f"{sheet.its_columns()} stand there; `--columns {kinds[0]}=NAME` names one that is called otherwise"
         )
     for what, its in matches.items():
         aside += _choose(sheet, what, its, found)
@@ -346,8 +246,8 @@ def _is_left_aside(sheet: Sheet, place: int, kinds: Sequence[str], taken: Collec
     why = _why_it_matters(name, header, len(cells), (kinds, open_kinds))
     if why:
         raise TableFault(
-            f"{sheet.name}: the column {header!r} is not understood: {why}; `--columns aside={quoted(header)}` leaves it "
-            "aside"
+            f"{sheet.name}: the column {header!r} is not understood: {why}; `--columns aside={quoted(header)}` leaves "
+            "it aside"
         )
     return bool(cells)
 
@@ -373,7 +273,7 @@ def _why_it_matters(name: str, header: str, different: int, kinds: Tuple[Sequenc
         return "each row counts; give the table without those that do not"
     if tokens & PARTS:
         return "all rows are one problem; give those of one plan alone" if different > 1 else ""
-    near = _near(name, open_kinds)
+    near = _near(name, header, open_kinds)
     if near:
         return f"did you mean {near[0]!r}? `--columns {near[1]}={quoted(header)}` says so"
     what = _telling(name, open_kinds)
@@ -403,17 +303,24 @@ def _telling(name: str, kinds: Sequence[str]) -> Optional[str]:
     return None
 
 
-def _near(name: str, kinds: Sequence[str]) -> Optional[Tuple[str, str]]:
-    """A known name that this one may be a slip of the pen for, and the thing that it stands for."""
+def _near(name: str, header: str, kinds: Sequence[str]) -> Optional[Tuple[str, str]]:
+    """A known name that this one may be a slip of the pen for, or short for, and the thing that it stands for."""
     best: Optional[Tuple[int, str, str]] = None
+    shortest = 3 if header.rstrip().endswith(".") else 4
     for word, things in _WORDS.items():
-        most = 0 if min(len(word), len(name)) < 4 else 1 if len(word) < 7 else 2
         what = next((thing for thing in things if thing in kinds), None)
-        if what is not None and most and abs(len(word) - len(name)) <= most:
+        if what is None:
+            continue
+        most = 0 if min(len(word), len(name)) < 4 else 1 if len(word) < 7 else 2
+        if len(name) >= shortest and word.startswith(name) and " " not in word and len(word) <= len(name) + 5:
+            away = 1
+        elif most and abs(len(word) - len(name)) <= most:
             away = distance(name, word)
-            if away <= most and (best is None or away < best[0]):
-                best = away, word, what
-    return None if best is None else (best[1], best[2])
+        else:
+            continue
+        if away <= max(most, 1) and (best is None or away < best[0]):
+            best = away, word, what
+    return None if best is None else (_SPELLED[best[1]], best[2])
 
 
 def distance(one: str, other: str) -> int:
@@ -448,6 +355,6 @@ def compare_units(units: Mapping[str, Tuple[Unit, Sheet, str]]) -> None:
         for _, other, their_sheet, theirs in amounts:
             if not unit.is_per(other):
                 raise TableFault(
-                    f"{sheet.name}, column {header!r}, is in {unit.text}, and {their_sheet.name}, column {theirs!r}, in "
-                    f"{other.text}: bring costs and amounts to one unit"
+                    f"{sheet.name}, column {header!r}, is in {unit.text}, and {their_sheet.name}, column {theirs!r}, "
+                    f"in {other.text}: bring costs and amounts to one unit"
                 )

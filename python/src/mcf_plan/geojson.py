@@ -128,8 +128,8 @@ def _add_ends(arcs: Sheet, lines: Sequence[_Feature], points: Sequence[_Feature]
         if name is not None:
             if names.setdefault(point.first, name) != name:
                 raise TableFault(
-                    f"{arcs.name}: two points, {names[point.first]!r} and {name!r}, stand at one place, so the lines need "
-                    "properties 'from' and 'to'"
+                    f"{arcs.name}: two points, {names[point.first]!r} and {name!r}, stand at one place, so the lines "
+                    "need properties 'from' and 'to'"
                 )
     for what, ends in (("from", [line.first for line in lines]), ("to", [line.last for line in lines])):
         for line, end in zip(lines, ends):

@@ -16,8 +16,8 @@ _SAME: Dict[str, str] = {
     "l": "l liter litre liters litres litro litros",
     "hl": "hl",
     "m3": "m3 m³ cbm",
-    "unit": "unit units piece pieces pc pcs stk stück stueck stuck einheit einheiten ea each unite unites unidad unidades "
-    "ud uds pieza piezas",
+    "unit": "unit units piece pieces pc pcs stk stück stueck stuck einheit einheiten ea each unite unites unidad "
+    "unidades ud uds pieza piezas",
     "pallet": "pallet pallets palette palettes paletten pal pale pales",
     "container": "container containers teu contenedor contenedores conteneur conteneurs",
     "box": "box boxes kiste kisten caja cajas caisse caisses carton cartons",

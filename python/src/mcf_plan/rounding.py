@@ -1,4 +1,4 @@
-"""Rounding the numbers of a problem, where it was asked for, with a note of how many changed and by how much at most."""
+"""Rounding the numbers of a problem, where it was asked for, with a note of how many changed, and by how much."""
 
 from __future__ import annotations
 

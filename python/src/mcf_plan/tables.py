@@ -30,10 +30,12 @@ from .cells import (
     not_plain,
     shown,
 )
-from .columns import ARC_COLUMNS, COLUMNS, NODE_COLUMNS, Found, called, compare_units, find_columns, folded
+from .columns import Found, called, compare_units, find_columns, folded
 from .problem import ONE, WIDE, ZERO, Arc, Number, Problem, exact, plain
 from .rounding import round_problem
 from .sheets import MAPS, WORKBOOKS, Sheet, check_ending, part_sheet, read_text, sheet_of_frame
+
+from .vocabulary import ARC_COLUMNS, COLUMNS, NODE_COLUMNS
 
 if TYPE_CHECKING:
     from .plan import Plan
@@ -48,8 +50,8 @@ NODE_SHEETS = (
     "villes sites sommets nodos lugares ciudades sitios"
 ).split()
 ARC_SHEETS = (
-    "arcs arc edges roads links routes lanes connections kanten wege strecken strassen verbindungen arcs liaisons aretes "
-    "routes trajets arcos aristas rutas caminos carreteras enlaces"
+    "arcs arc edges roads links routes lanes connections kanten wege strecken strassen verbindungen arcs liaisons "
+    "aretes routes trajets arcos aristas rutas caminos carreteras enlaces"
 ).split()
 """The names that the sheets of a workbook may have, whatever the letters' size and accents."""
 
@@ -99,9 +101,9 @@ def read_tables(
     """The problem of two tables, or of one alone: a workbook or a map that has both, or the arcs.
 
     Nodes: columns `name` (or node, id, place, ..) and `supply`, or `demand`, or both. Arcs: `from`, `to`, `cost`, and
-    where there are such `low`, `capacity`, `name`; a capacity that is empty or `inf` is no limit. Columns `x` and `y` of
-    the nodes are places on a map. `COLUMNS` has all names of columns. In 'asn' a node without a supply is on the source
-    side where an arc leaves it, else on the sink side. In 'max' `source` and `sink` name these.
+    where there are such `low`, `capacity`, `name`; a capacity that is empty or `inf` is no limit. Columns `x` and `y`
+    of the nodes are places on a map. `COLUMNS` has all names of columns. In 'asn' a node without a supply is on the
+    source side where an arc leaves it, else on the sink side. In 'max' `source` and `sink` name these.
 
     `columns` names columns that have other names, `{"capacity": "Kapa", "aside": ["old cost"]}`; `decimal` is the
     decimal sign, '.' or ','; `default_cost` is the cost where none stands; `decimals` rounds all numbers to so many;
@@ -319,8 +321,8 @@ class _Table:
             width = len(sheet.header)
             raise TableFault(
                 f"{sheet.name}, {sheet.place(row)}: {width - len(places)} "
-                f"field{' stands' if width - len(places) == 1 else 's stand'} under {width} columns; an empty field needs "
-                "its separator too"
+                f"field{' stands' if width - len(places) == 1 else 's stand'} under {width} columns; an empty field "
+                "needs its separator too"
             )
 
     # ------------------------------------------------------------ names
@@ -419,21 +421,18 @@ class _Table:
         except Undecided as doubt:
             row, what = self._where(doubt.cell, columns)
             if doubt.other:
-                other, theirs = self._where(doubt.other, columns)
+                their_row, theirs = self._where(doubt.other, columns)
                 raise self.fault(
                     row,
                     what,
-                    f"that is a decimal point, and {shown(doubt.other)} ({sheet.place(other)}, column "
+                    f"that is a decimal point, and {shown(doubt.other)} ({sheet.place(their_row)}, column "
                     f"{sheet.header[self.found.places[theirs]]!r}) has a decimal comma: write all numbers alike",
                 ) from None
             mark = next(mark for mark in ".," if mark in doubt.cell)
+            other = Sign(mark).thousands
             few, many = doubt.cell.replace(",", "."), doubt.cell.replace(mark, "")
-            raise self.fault(
-                row,
-                what,
-                f"is it {few} or {many}? Say `--decimal {mark}` for the first, `--decimal {'.' if mark == ',' else ','}` "
-                "for the second",
-            ) from None
+            words = f"is it {few} or {many}? Say `--decimal {mark}` for the first, `--decimal {other}` for the second"
+            raise self.fault(row, what, words) from None
 
     def _where(self, cell: str, columns: Sequence[str]) -> Tuple[int, str]:
         """The row and the column of the first cell that is this text."""
@@ -451,8 +450,8 @@ class _Table:
         mark = {".": "point", ",": "comma"}[numbers.sign.mark]
         for cell, number in numbers.grouped.items():
             sheet.notes.append(
-                f"{sheet.name}: numbers have a decimal {mark}, as {shown(numbers.sign.shown_by)} shows, so {shown(cell)} "
-                f"is {plain(number)}"
+                f"{sheet.name}: numbers have a decimal {mark}, as {shown(numbers.sign.shown_by)} shows, so "
+                f"{shown(cell)} is {plain(number)}"
             )
             return
         if numbers.sign.mark == "," and sheet.delimiter == ",":
@@ -602,8 +601,8 @@ def _check_sense(problem: Problem, nodes: Optional[_Table], arcs: _Table, ends: 
         return
     if nodes is None:
         raise TableFault(
-            f"{arcs.sheet.name}: this is a table of arcs alone, and a cheapest plan wants supplies: give the table of nodes "
-            "before it (`--kind max` and `--kind asn` want none)"
+            f"{arcs.sheet.name}: this is a table of arcs alone, and a cheapest plan wants supplies: give the table of "
+            "nodes before it (`--kind max` and `--kind asn` want none)"
         )
     problem.notes.append(f"{nodes.sheet.name}: no node supplies or demands anything, so nothing has to flow")
 
@@ -661,14 +660,14 @@ def check_output(path: Union[str, Path], inputs: Iterable[str] = ()) -> None:
         others = [name for name in sheet_names(file) if name != "plan"]
         if others:
             raise TableFault(
-                f"{file.name}: it has other sheets, {', '.join(map(repr, others))}; {file.name}:plan writes a sheet and "
-                "keeps them"
+                f"{file.name}: it has other sheets, {', '.join(map(repr, others))}; {file.name}:plan writes a sheet "
+                "and keeps them"
             )
 
 
 def write_plan(plan: Plan, path: Union[str, Path]) -> None:
-    """Writes the arcs of a plan with their flows as a table: .csv, .tsv or .xlsx, or `book.xlsx:plan` for one sheet of a
-    workbook whose other sheets are kept. Raises TableFault for another ending."""
+    """Writes the arcs of a plan with their flows as a table: .csv, .tsv or .xlsx, or `book.xlsx:plan` for one sheet of
+    a workbook whose other sheets are kept. Raises TableFault for another ending."""
     check_output(path)
     path, sheet = part_sheet(path)
     rows = plan_rows(plan)

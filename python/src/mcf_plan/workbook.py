@@ -23,6 +23,7 @@ from .sheets import Sheet, sheet_of_rows
 WORKBOOK = "xl/workbook.xml"
 RELATIONS = "http://schemas.openxmlformats.org/officeDocument/2006/relationships"
 MAIN = "http://schemas.openxmlformats.org/spreadsheetml/2006/main"
+PACKAGE = "http://schemas.openxmlformats.org/package/2006"
 SHEET_TYPE = "application/vnd.openxmlformats-officedocument.spreadsheetml.worksheet+xml"
 BOOK_TYPE = "application/vnd.openxmlformats-officedocument.spreadsheetml.sheet.main+xml"
 DATE_FORMATS = frozenset((*range(14, 23), *range(27, 37), *range(45, 48), *range(50, 59)))
@@ -252,7 +253,7 @@ Rows = Sequence[Sequence[Any]]
 def write_workbook(path: Path, name: str, rows: Rows) -> None:
     """Writes a workbook with one sheet."""
     parts = {
-        "[Content_Types].xml": f'{HEAD}<Types xmlns="http://schemas.openxmlformats.org/package/2006/content-types">'
+        "[Content_Types].xml": f'{HEAD}<Types xmlns="{PACKAGE}/content-types">'
         '<Default Extension="rels" ContentType="application/vnd.openxmlformats-package.relationships+xml"/>'
         f'<Override PartName="/{WORKBOOK}" ContentType="{BOOK_TYPE}"/>'
         f'<Override PartName="/xl/worksheets/sheet1.xml" ContentType="{SHEET_TYPE}"/></Types>',
@@ -294,10 +295,10 @@ def _with_sheet(parts: List[Tuple[str, bytes]], name: str, sheet: bytes) -> List
     keys = [int(key) for key in re.findall(rb'sheetId="(\d+)"', contents[WORKBOOK])]
     key = f"mcfPlan{number}"
     added = {
-        "[Content_Types].xml": f'<Override xmlns="http://schemas.openxmlformats.org/package/2006/content-types" '
+        "[Content_Types].xml": f'<Override xmlns="{PACKAGE}/content-types" '
         f'PartName="/{place}" ContentType="{SHEET_TYPE}"/>',
-        "xl/_rels/workbook.xml.rels": '<Relationship xmlns="http://schemas.openxmlformats.org/package/2006/'
-        f'relationships" Id="{key}" Type="{RELATIONS}/worksheet" Target="/{place}"/>',
+        "xl/_rels/workbook.xml.rels": f'<Relationship xmlns="{PACKAGE}/relationships" Id="{key}" '
+        f'Type="{RELATIONS}/worksheet" Target="/{place}"/>',
         WORKBOOK: f'<sheet xmlns="{MAIN}" xmlns:r="{RELATIONS}" name={quoteattr(name)} '
         f'sheetId="{max(keys, default=0) + 1}" r:id="{key}"/>',
     }
@@ -312,7 +313,7 @@ def _with_sheet(parts: List[Tuple[str, bytes]], name: str, sheet: bytes) -> List
 
 def _relations_text(rows: Sequence[Tuple[str, str, str]]) -> str:
     inner = "".join(f'<Relationship Id="{key}" Type="{RELATIONS}/{kind}" Target="{to}"/>' for key, kind, to in rows)
-    return f'{HEAD}<Relationships xmlns="http://schemas.openxmlformats.org/package/2006/relationships">{inner}</Relationships>'
+    return f'{HEAD}<Relationships xmlns="{PACKAGE}/relationships">{inner}</Relationships>'
 
 
 def _sheet_text(rows: Rows) -> str:

@@ -1,0 +1,153 @@
+"""Words that planners write over the columns of their tables, in English, German, French and Spanish.
+
+The sets below `COLUMNS` hold words as `columns.folded` leaves them: in small letters, without accents.
+"""
+
+from __future__ import annotations
+
+from typing import Dict, Tuple
+
+COLUMNS: Dict[str, Tuple[str, ...]] = {
+    "node": ("name", "node", "id", "place", "town", "city", "site", "location", "person", "key", "plant", "customer")
+    + ("warehouse", "depot", "node name", "node id")
+    + ("Knoten", "Ort", "Stadt", "Standort", "Lager", "Werk", "Kunde", "Bezeichnung")
+    + ("nom", "nœud", "noeud", "lieu", "ville", "entrepôt", "usine", "client")
+    + ("nombre", "nodo", "lugar", "ciudad", "sitio", "almacén", "planta", "cliente"),
+    "supply": ("supply", "supplies", "stock", "available", "amount", "offer", "production", "inventory")
+    + ("net supply",)
+    + ("Angebot", "Bestand", "Vorrat", "Lagerbestand", "Produktion", "verfügbar")
+    + ("offre", "disponible", "production", "approvisionnement")
+    + ("oferta", "existencias", "suministro", "producción"),
+    "demand": ("demand", "demands", "need", "needs", "wanted", "orders", "order", "required", "consumption")
+    + ("Bedarf", "Nachfrage", "Bestellung", "Bestellungen", "Verbrauch")
+    + ("demande", "besoin", "besoins", "commande", "commandes", "consommation")
+    + ("demanda", "necesidad", "pedido", "pedidos", "consumo"),
+    "from": ("from", "tail", "source", "origin", "src", "start", "from node", "start node", "sender", "supplier")
+    + ("von", "ab", "Quelle", "Startort", "Herkunft", "Absender", "Lieferant")
+    + ("de", "depuis", "origine", "départ", "expéditeur")
+    + ("desde", "origen", "salida", "remitente"),
+    "to": ("to", "head", "target", "destination", "dst", "dest", "end", "to node", "end node", "receiver")
+    + ("nach", "bis", "zu", "Ziel", "Zielort", "Empfänger")
+    + ("vers", "à", "arrivée", "destinataire")
+    + ("hasta", "a", "destino", "hacia", "llegada", "destinatario"),
+    "low": ("low", "lower", "lower bound", "lower limit", "least", "min", "minimum", "at least", "min flow", "lb")
+    + ("mindestens", "Untergrenze", "untere Grenze", "untere Schranke", "Mindestmenge")
+    + ("au moins", "borne inférieure", "limite inférieure")
+    + ("mínimo", "al menos", "cota inferior", "límite inferior"),
+    "capacity": (
+        "capacity",
+        "cap",
+        "kap",
+        "upper",
+        "upper bound",
+        "upper limit",
+        "most",
+        "max",
+        "maximum",
+        "limit",
+        "at most",
+    )
+    + ("max flow", "max capacity", "maximum capacity", "ub")
+    + (
+        "Kapazität",
+        "max. Kapazität",
+        "maximale Kapazität",
+        "höchstens",
+        "Obergrenze",
+        "obere Grenze",
+        "obere Schranke",
+        "Höchstmenge",
+    )
+    + ("capacité", "capacité max", "capacité maximale", "au plus", "borne supérieure", "limite supérieure", "limite")
+    + ("capacidad", "capacidad máxima", "máximo", "como máximo", "cota superior", "límite superior", "límite"),
+    "cost": ("cost", "costs", "unit cost", "unit costs", "cost per unit", "price", "unit price", "freight rate", "rate")
+    + ("transport cost", "transport costs", "shipping cost", "tariff")
+    + ("Kosten", "Stückkosten", "Kosten pro Stück", "Kosten pro Einheit", "Transportkosten", "Frachtkosten", "Preis")
+    + ("coût", "coûts", "coût unitaire", "coût de transport", "prix", "tarif")
+    + ("costo", "coste", "costos", "costes", "costo unitario", "coste unitario", "precio", "tarifa"),
+    "x": ("x", "lon", "lng", "longitude", "east", "Längengrad", "longitud"),
+    "y": ("y", "lat", "latitude", "north", "Breitengrad", "latitud"),
+    "name": ("name", "arc", "road", "route", "link", "label", "id", "arc name", "Strecke", "Name", "nom", "nombre")
+    + ("ruta", "Kennung", "Bezeichnung"),
+}
+"""The names that a column may have, whatever the letters' size and accents. A unit may stand behind, as in
+`capacity (t)`, `cost_eur` or `cost [EUR/t]`."""
+
+STAND_INS: Dict[str, Tuple[str, ...]] = {
+    "cost": ("weight", "distance", "Entfernung", "Distanz", "distancia", "Gewicht", "poids", "peso")
+}
+"""Names of columns that are taken where no other column is that thing, which is told."""
+
+NODE_COLUMNS = ("node", "supply", "demand", "x", "y")
+ARC_COLUMNS = ("from", "to", "low", "capacity", "cost", "name")
+ENDS = ("node", "from", "to")
+LABELS = frozenset(("x", "y", "name"))
+"""What no plan depends on: where several columns match, the first word counts."""
+
+HARMLESS = frozenset(
+    (
+        "comment comments note notes remark remarks region country county state zone area sector group km miles "
+        "code type class mode carrier description owner contact color colour hours time duration length via zip "
+        "postcode address speed lane flow "
+        "kommentar bemerkung bemerkungen anmerkung notiz hinweis land bundesland gebiet typ art gruppe plz "
+        "adresse dauer zeit lange farbe nr nummer "
+        "commentaire commentaires remarque remarques pays departement type duree temps adresse longueur numero "
+        "comentario comentarios observaciones nota notas pais provincia tipo grupo duracion tiempo direccion "
+        "longitud "
+    ).split()
+)
+"""Columns that are left aside without a look at the words in their names."""
+
+TWO_WAYS = frozenset(
+    (
+        "oneway both bothways bidirectional directed direction undirected twoway reverse richtung einbahn sens "
+        "sentido "
+    ).split()
+)
+"""Columns that speak of the way back."""
+
+SWITCHES = frozenset(
+    (
+        "active inactive open closed enabled disabled blocked usable status "
+        "aktiv inaktiv offen gesperrt geschlossen gultig "
+        "actif ouvert ferme statut "
+        "activo abierto cerrado estado "
+    ).split()
+)
+"""Columns that speak of whether a row counts."""
+
+LOSSES = frozenset(
+    (
+        "loss losses gain gains efficiency yield multiplier factor shrinkage "
+        "verlust verluste wirkungsgrad faktor ausbeute "
+        "perte pertes rendement facteur "
+        "perdida perdidas rendimiento eficiencia "
+    ).split()
+)
+"""Columns that speak of what becomes less, or more, on the way."""
+
+PARTS = frozenset(
+    (
+        "unit units currency product products commodity commodities good goods item items material article sku "
+        "period periods day days week weeks month date year scenario "
+        "einheit einheiten wahrung produkt ware material artikel tag woche monat datum jahr periode szenario "
+        "unite devise produit article jour semaine mois periode scenario "
+        "unidad moneda producto articulo dia semana mes fecha ano periodo escenario "
+    ).split()
+)
+"""Columns that part a table in several problems, where more than one thing stands in them."""
+
+COSTLY = frozenset(
+    (
+        "fee toll charge surcharge penalty tax duty discount bonus "
+        "maut gebuhr zuschlag rabatt zoll kosten fixkosten "
+        "peage taxe remise recargo peaje tasa descuento fijo "
+    ).split()
+)
+"""Words that are no name of a column, and speak of a cost."""
+
+LIMITING = frozenset(("load bound ").split())
+"""Words that are no name of a column, and speak of a capacity."""
+
+OWN = frozenset(("flow", "total cost", "is full", "one more costs"))
+"""Columns that tables of plans have, as `write_plan` writes them: left aside where all are there."""
