@@ -331,6 +331,9 @@ class Command(unittest.TestCase):
             (("plan", "--time-limit", "-3"), "'-3' is no number of seconds above 0"),
             (("plan", "--time-limit", "nan"), "'nan' is no number of seconds above 0"),
             (("what-if", "--time-limit", "soon"), "'soon' is no number of seconds above 0"),
+            (("plan", "--picture", "a.png"), "'a.png' ends with .png, and a picture is SVG (.svg)"),
+            (("plan", "--report", "a.pdf"), "'a.pdf' ends with .pdf, and a report is a page of HTML (.html)"),
+            (("plan", "--reports", "a"), "unrecognized arguments: --reports a; `mcf-plan --help` tells more"),
             (("board", "--port", "99999"), "'99999' is no port"),
             (("board", "--port", "-1"), "'-1' is no port"),
             (("board", "--port", "http"), "'http' is no port"),
@@ -355,6 +358,21 @@ class Command(unittest.TestCase):
         self.assertIn("--picture: the network has 3,001 arcs, and a picture of more than 3,000 can't be read", errors)
         self.assertFalse((Path(self.folder.name) / "many.svg").exists())
         self.run_it("plan", nodes, arcs, "--report", "many.html")
+
+    def test_another_program_in_place_of_mcf(self):
+        for program, words in (
+            ("/bin/true", "/bin/true is not the program mcf"),
+            ("/nowhere/mcf", "there is no program"),
+        ):
+            done = subprocess.run(
+                [COMMAND, "plan", self.nodes, self.arcs],
+                env=dict(os.environ, MCF=program),
+                capture_output=True,
+                text=True,
+                check=False,
+            )
+            self.assertEqual((done.returncode, done.stdout), (4, ""))
+            self.assertIn(words, done.stderr)
 
     def test_no_memory(self):
         errors = io.StringIO()

@@ -96,6 +96,29 @@ class ReportTest(unittest.TestCase):
             tags.cells[row : row + 8], ["north & <sea>", "middle", "2", "2", "1.25", "2.5", "7.25", "full"]
         )
 
+    def test_notes_for_a_planner(self) -> None:
+        """What was taken for the user, and what it means for the plan; nothing of the text that the program reads."""
+        taken = [
+            "a.csv: the column 'weight' is left aside",
+            "amounts go in steps of 0.1, by the decimals in the tables: the plan sends multiples of it",
+            "1 arc has no capacity in the tables, and may carry any amount",
+        ]
+        problem = towns()
+        problem.notes.append(taken[0])
+        short = towns()
+        short.nodes["east"] = Decimal("-8.5")
+        short.notes.append(taken[0])
+        for result in (problem.solve(), short.solve()):
+            self.assertEqual(result.notes, taken)
+            self.assertEqual(json.loads(report.to_json(result))["notes"], taken)
+            text = report.html_text(result)
+            self.assertIn("<li>a.csv: the column &#x27;weight&#x27; is left aside</li><li>amounts go in steps", text)
+        large = Problem()
+        large.add_node("a", 3_000_000_000)
+        large.add_node("b", -3_000_000_000)
+        large.add_arc("a", "b", low=-5, cap=4_000_000_000, cost=1)
+        self.assertEqual(large.solve(surplus="keep").notes, [])
+
     def test_saving_is_a_bound(self) -> None:
         saving = next(row.saving for row in report.arc_rows(self.plan) if row.saving is not None)
         wider = towns()

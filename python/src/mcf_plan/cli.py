@@ -10,7 +10,7 @@ from contextlib import ExitStack
 from decimal import Decimal
 from io import StringIO
 from pathlib import Path
-from typing import Callable, Dict, List, Optional, Tuple
+from typing import Callable, Dict, List, NoReturn, Optional, Tuple
 
 from . import __version__
 from .conversation import Conversation
@@ -110,8 +110,16 @@ def _kept(error: Disagreement) -> str:
 # ---------------------------------------------------------------- the command line
 
 
+class _Parser(argparse.ArgumentParser):
+    """A parser whose refusals say where to read more."""
+
+    def error(self, message: str) -> NoReturn:
+        self.print_usage(sys.stderr)
+        sys.exit(_say(f"{message}; `{self.prog} --help` tells more", USAGE))
+
+
 def _parser() -> argparse.ArgumentParser:
-    parser = argparse.ArgumentParser(
+    parser = _Parser(
         prog="mcf-plan",
         description="Tables with names and decimals in, checked plans out.",
         epilog=STATUSES,
@@ -130,8 +138,8 @@ def _parser() -> argparse.ArgumentParser:
         return made
 
     plan = command("plan", _plan, "find a best plan, or say why there is none", tables=True)
-    plan.add_argument("--report", metavar="FILE", help="write a report with a picture (HTML)")
-    plan.add_argument("--picture", metavar="FILE", help="write the picture alone (SVG)")
+    plan.add_argument("--report", metavar="FILE", type=_page, help="write a report with a picture (.html)")
+    plan.add_argument("--picture", metavar="FILE", type=_picture, help="write the picture alone (.svg)")
     plan.add_argument(
         "--table", metavar="FILE", help="write the plan as a table (.csv, .tsv, .xlsx, or book.xlsx:SHEET)"
     )
@@ -278,6 +286,24 @@ def _seconds(text: str) -> float:
     return seconds
 
 
+def _page(text: str) -> str:
+    """What `--report` says."""
+    return _named(text, "a report is a page of HTML", (".html", ".htm"))
+
+
+def _picture(text: str) -> str:
+    """What `--picture` says."""
+    return _named(text, "a picture is SVG", (".svg",))
+
+
+def _named(text: str, words: str, endings: Tuple[str, ...]) -> str:
+    """A file's name that promises nothing else than what is written."""
+    ending = Path(text).suffix.lower()
+    if ending and ending not in endings:
+        raise argparse.ArgumentTypeError(f"'{text}' ends with {ending}, and {words} ({endings[0]})")
+    return text
+
+
 def _port(text: str) -> int:
     """What `--port` says."""
     if not (text.isascii() and text.isdigit() and int(text[:6]) <= MOST_PORT):
@@ -384,7 +410,7 @@ def _explain(options: argparse.Namespace) -> int:
     else:
         result = solve(problem, Options(options.surplus))
     if isinstance(result, Plan):
-        print(f"there is a plan, worth {plain(result.cost)}")
+        print(f"there is a plan: {'flow' if problem.kind == 'max' else 'cost'} {plain(result.cost)}")
         return 0
     words = explain(result)
     lift_alarm()
@@ -487,7 +513,7 @@ def _show_line(raw: bytes, line: int) -> None:
 def _convert(options: argparse.Namespace) -> int:
     problem = _read(options)
     rewriting = rewrite(problem, Options(options.surplus))
-    for note in rewriting.notes[len(problem.notes) :]:
+    for note in rewriting.notes:
         say(f"note: {note}", sys.stderr)
     lift_alarm()
     if options.output:

@@ -112,9 +112,12 @@ class Program:
             done = self._run(["check", *names], b"", time_limit)
         if done.returncode == 3:
             raise refusal(done, problem, answer)
+        verdict = as_str(done.stdout).strip()
         if done.returncode not in (0, 1):
             raise failure(done)
-        return as_str(done.stdout).strip()
+        if verdict not in ("valid", "not valid"):
+            raise ProgramFailed(f"{self.path} is not the program mcf: of an answer it says {verdict[:40]!r}")
+        return verdict
 
     def session(self, text: Text, *, extra: Optional[int] = None, time_limit: Optional[float] = None) -> Dialogue:
         """Starts a session on a problem text; `extra` says how many arcs can be added (1,000 without it).

@@ -559,8 +559,9 @@ def html_text(result: Result, *, title: str = "Plan") -> str:
         )
     if isinstance(result, Plan) and problem.kind == "max":
         out.append(f"<pre>{_escape(limit_text(result))}</pre>")
-    for note in result.notes:
-        out.append(f"<p>{_escape(note)}</p>")
+    if result.notes:
+        out.append("<p>What was taken for you:</p><ul>" + "".join(f"<li>{_escape(note)}</li>" for note in result.notes))
+        out.append("</ul>")
     out.append("<h2>The network</h2>")
     too_large = not_drawn(problem)
     if too_large:
