@@ -8,7 +8,7 @@ from pathlib import Path
 from typing import Any, Dict
 
 PAGE = Path(__file__).resolve().parents[2] / "docs" / "PYTHON.md"
-WANTED = {"networkx": "networkx", "scipy_like": "numpy"}
+WANTED = {"networkx": "networkx", "scipy_like": "numpy", "import numpy": "numpy", "pandas": "pandas"}
 
 
 class PythonPage(unittest.TestCase):
@@ -20,7 +20,9 @@ class PythonPage(unittest.TestCase):
             missing |= wanted
             if not wanted:
                 test = doctest.DocTestParser().get_doctest(block, names, f"block {number}", str(PAGE), 0)
-                runner = doctest.DocTestRunner(optionflags=doctest.IGNORE_EXCEPTION_DETAIL)
+                runner = doctest.DocTestRunner(
+                    optionflags=doctest.IGNORE_EXCEPTION_DETAIL | doctest.NORMALIZE_WHITESPACE
+                )
                 runner.run(test, clear_globs=False)
                 names.update(test.globs)
                 self.assertEqual(runner.summarize(verbose=False).failed, 0, block)

@@ -309,13 +309,15 @@ class Backend:
 
     def on_start_tests(self, items: List[Any]) -> None:
         """Lets networkx itself answer what its tests call and what is no flow, such as `is_connected`, by which they
-        look
-        at results: without this each such test would be passed over."""
-        from networkx.utils import backends
+        look at results: without this each such test would be passed over."""
+        import networkx as nx
+        from networkx.algorithms import flow
 
-        for name, function in backends._registered_algorithms.items():
-            if not hasattr(type(self), name):
-                setattr(self, name, plain(function))
+        for module in (flow, nx):
+            for name in dir(module):
+                function = getattr(module, name)
+                if hasattr(function, "orig_func") and not hasattr(type(self), name):
+                    setattr(self, name, plain(function))
 
     # -- least cost
 
@@ -458,7 +460,7 @@ class Backend:
     def gomory_hu_tree(
         self, G: Any, capacity: str = "capacity", flow_func: Any = None, *, time_limit: Optional[float] = None
     ) -> Any:
-        """The tree of minimum cuts of all pairs of nodes of an undirected graph; each of its cuts is proved."""
+        """The tree of minimum cuts of all pairs of nodes of an undirected graph; each of its cuts is checked."""
         from networkx.algorithms.flow.gomory_hu import gomory_hu_tree
 
         def answered(*arguments: Any, **options: Any) -> Any:

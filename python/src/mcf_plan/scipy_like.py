@@ -98,7 +98,6 @@ def maximum_flow(
     """
     import numpy as np
     from scipy.sparse import coo_matrix
-    from scipy.sparse.csgraph._flow import MaximumFlowResult
 
     check_graph(csgraph, source, sink, method)
     graph = csgraph.tocoo()
@@ -120,7 +119,16 @@ def maximum_flow(
     flows = np.array([int(flow) for flow in plan.flows], dtype=np.int64)
     both = (np.concatenate((tails, heads)), np.concatenate((heads, tails)))
     net = coo_matrix((np.concatenate((flows, -flows)), both), shape=(nodes, nodes)).tocsr()
-    return MaximumFlowResult(int(plan.cost), net.astype(np.int32))
+    return result_type()(int(plan.cost), net.astype(np.int32))
+
+
+def result_type() -> Any:
+    """The type of scipy's results, which has no public name: that of its answer to the smallest graph."""
+    import numpy as np
+    from scipy.sparse import csr_matrix
+    from scipy.sparse.csgraph import maximum_flow as answered
+
+    return type(answered(csr_matrix(np.zeros((2, 2), dtype=np.int32)), 0, 1))
 
 
 def check_graph(csgraph: Any, source: int, sink: int, method: str) -> None:

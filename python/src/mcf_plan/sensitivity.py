@@ -20,12 +20,13 @@ that one keeps its moment, and what it can undo and redo.
 
 from __future__ import annotations
 
-from collections import deque
 from decimal import Decimal
 from fractions import Fraction
-from typing import Any, Callable, Deque, Dict, FrozenSet, Iterable, List, NamedTuple, Optional, Set, Tuple, Union
+from typing import Any, Callable, Dict, Iterable, List, NamedTuple, Optional, Tuple, Union
 
-from .plan import Disagreement, Infeasible, Plan
+from .cuts import Cut as Cut
+from .cuts import minimum_cut as minimum_cut
+from .plan import Infeasible, Plan
 from .problem import ArcKey, Number, exact
 from .rewrite import BeyondLimits, Meaningless, Unbounded
 from .session import Session
@@ -46,16 +47,6 @@ class Ranges(NamedTuple):
     saves: Decimal
     least_cost: Optional[Decimal]
     greatest_cost: Optional[Decimal]
-
-
-class Cut(NamedTuple):
-    """A minimum cut: both sides, the numbers of the arcs that lead from the source's side to the sink's, and what these
-    can carry together."""
-
-    source_side: FrozenSet[str]
-    sink_side: FrozenSet[str]
-    arcs: List[int]
-    capacity: Decimal
 
 
 def one_unit_more(session: Session) -> List[Decimal]:
@@ -114,34 +105,6 @@ def curve(session: Session, what: What, values: Iterable[Number]) -> List[Tuple[
             points.append((value, set_number(beside, what, value)))
             beside.undo()
     return points
-
-
-def minimum_cut(plan: Plan) -> Cut:
-    """The minimum cut of a maximum flow that is nearest to its source. Its capacity is the flow, which proves both.
-
-    Raises Meaningless where the plan is no maximum flow.
-    """
-    problem = plan.problem
-    if problem.kind != "max" or problem.source is None:
-        raise Meaningless("a minimum cut is one of a maximum flow")
-    further: Dict[str, List[str]] = {}
-    for arc, flow in zip(problem.arcs, plan.flows):
-        if arc.cap is None or flow < arc.cap:
-            further.setdefault(arc.tail, []).append(arc.head)
-        if flow > arc.low:
-            further.setdefault(arc.head, []).append(arc.tail)
-    reached: Set[str] = {problem.source}
-    queue: Deque[str] = deque(reached)
-    while queue:
-        for node in further.get(queue.popleft(), ()):
-            if node not in reached:
-                reached.add(node)
-                queue.append(node)
-    crossing = [number for number, arc in enumerate(problem.arcs) if arc.tail in reached and arc.head not in reached]
-    capacity = sum((problem.arcs[number].cap or Decimal(0) for number in crossing), Decimal(0))
-    if capacity != plan.cost or problem.sink in reached:
-        raise Disagreement(f"the cut has capacity {capacity}, and the flow {plan.cost}")
-    return Cut(frozenset(reached), frozenset(problem.nodes) - reached, crossing, capacity)
 
 
 # ---- through a session beside
