@@ -30,7 +30,7 @@ MOST_EDITS = 1000
 MOST_MARKS = 16
 
 FAULTS: Dict[int, str] = {
-    1: "the line is longer than 1,024 bytes",
+    1: f"the line is longer than {LONGEST_LINE:,} bytes",
     2: "its first word is none of `p`, `n`, `a`",
     3: "wrong number of fields",
     4: "a field is not a number",
@@ -51,7 +51,7 @@ FAULTS: Dict[int, str] = {
 """What each fault of a problem text says."""
 
 ANSWER_FAULTS: Dict[int, str] = {
-    1: "the line is longer than 1,024 bytes",
+    1: f"the line is longer than {LONGEST_LINE:,} bytes",
     2: "its first word is none of `s`, `f`, `v`, `i`, `k`",
     3: "wrong number of fields",
     4: "a field is not a number",
@@ -62,7 +62,7 @@ ANSWER_FAULTS: Dict[int, str] = {
 """What each fault of an answer text says."""
 
 REFUSALS: Dict[int, str] = {
-    1: "its line is longer than 1,024 bytes",
+    1: f"its line is longer than {LONGEST_LINE:,} bytes",
     2: "its first word is no command",
     3: "it has the wrong number of fields",
     4: "a field is not a number",
@@ -78,9 +78,9 @@ REFUSALS: Dict[int, str] = {
     28: "no moment has this mark (`back`)",
     29: "`group`, `undo`, `redo`, `mark`, `back`, `show` or `proof` in a group; or `end` while no group is open",
     30: "there was not enough memory for this edit or group",
-    31: "the group has more than 1,000 edits",
+    31: f"the group has more than {MOST_EDITS:,} edits",
     32: "NAME is not a name",
-    33: "16 other names have marks (`mark`)",
+    33: f"{MOST_MARKS} other names have marks (`mark`)",
 }
 """Why a session refuses a command."""
 
@@ -190,7 +190,7 @@ def _number_hint(name: str, value: str, signed: bool) -> str:
     if re.fullmatch(r"[+-]?(inf|infinity|unlimited|none|null|na|nan|[*])", value, re.IGNORECASE):
         if name == "CAP":
             return (
-                "For no limit write 1000000000, which is as good where the supplies add up to no more and no circle of "
+                f"For no limit write {MOST_FLOW}, which is as good where the supplies add up to no more and no circle of "
                 "arcs costs less than 0; `mcf-plan convert` sees to it."
             )
         return "Write a number."
@@ -198,7 +198,7 @@ def _number_hint(name: str, value: str, signed: bool) -> str:
         if name == "LOW":
             return "A lower bound is never below 0: `mcf-plan convert` moves such bounds."
         if name == "CAP":
-            return "A capacity is never below 0: for no limit write 1000000000, for a closed arc 0."
+            return f"A capacity is never below 0: for no limit write {MOST_FLOW}, for a closed arc 0."
         return "It can't be below 0."
     if re.fullmatch(r"-?\d+", value):
         return "It has more than 18 digits."
@@ -264,7 +264,7 @@ class ProblemReader:
                     )
             elif name == "CAP":
                 hint = (
-                    "If it stands for no limit, write 1000000000, which is as good where the supplies add up to no "
+                    f"If it stands for no limit, write {MOST_FLOW}, which is as good where the supplies add up to no "
                     "more and no circle of arcs costs less than 0; `mcf-plan convert` sees to that."
                 )
             elif name in ("LOW", "FLOW"):
@@ -477,7 +477,9 @@ class ProblemReader:
                 hint = "This is no plain text: save it as UTF-8."
             elif raw.lstrip(b" \t\r").startswith(b"c"):
                 hint = "Break the comment into several lines, each beginning with c."
-            raise self.fail(1, f"the line has {_grouped(len(raw))} bytes, and at most 1,024 are taken", hint=hint)
+            raise self.fail(
+                1, f"the line has {_grouped(len(raw))} bytes, and at most {LONGEST_LINE:,} are taken", hint=hint
+            )
         words = [word for word in _BLANKS.split(raw) if word]
         if not words or words[0].startswith(b"c"):
             return
@@ -649,7 +651,7 @@ class _AnswerReader:
     def read_line(self, raw: bytes) -> None:
         self.line += 1
         if len(raw) > LONGEST_LINE:
-            raise self.fail(1, f"the line has {_grouped(len(raw))} bytes, and at most 1,024 are taken")
+            raise self.fail(1, f"the line has {_grouped(len(raw))} bytes, and at most {LONGEST_LINE:,} are taken")
         words = [word for word in _BLANKS.split(raw) if word]
         if not words or words[0].startswith(b"c"):
             return
@@ -759,6 +761,10 @@ class DimacsProblem:
     supplies: Dict[int, int] = field(default_factory=dict)
     source: Optional[int] = None
     sink: Optional[int] = None
+
+    def supply(self, node: int) -> int:
+        """What a node supplies, or demands where below 0: in `asn` each node that is not of the source side demands 1."""
+        return self.supplies.get(node, -1 if self.kind == "asn" else 0)
 
     def text(self) -> str:
         """The problem as a text that `mcf` reads, where its numbers are within the limits."""

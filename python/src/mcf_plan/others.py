@@ -108,7 +108,7 @@ def check_legal(problem: DimacsProblem, flows: List[int]) -> int:
         balance[tail] += flow
         balance[head] -= flow
     for node in range(1, problem.nodes + 1):
-        supply = problem.supplies.get(node, -1 if problem.kind == "asn" else 0)
+        supply = problem.supply(node)
         if balance[node] != supply and node not in (problem.source, problem.sink):
             raise NotAnAnswer(f"what leaves node {node} less what comes in is {balance[node]}, and has to be {supply}")
     return balance[problem.source] if problem.source is not None else 0
