@@ -80,7 +80,8 @@ class ArrayProblem:
             if len(getattr(self, what)) != arcs:
                 raise ValueError(f"{what} has {len(getattr(self, what))} entries, and tails has {arcs}")
         self._check_ranges()
-        self.text_caps = self._text_caps()
+        self._text_caps = self._limited_caps()
+        self._text_ends = numbered(self.tails), numbered(self.heads)
 
     def solve(
         self, *, check: bool = True, time_limit: Optional[float] = None, solver: Optional[Program] = None
@@ -104,13 +105,13 @@ class ArrayProblem:
 
     def text(self) -> str:
         """The problem as a text of the formats, in which node 1 is node 0 here."""
-        rows = zip(numbered(self.tails), numbered(self.heads), self.lows, self.text_caps, self.costs)
+        rows = zip(*self._text_ends, self.lows, self._text_caps, self.costs)
         supplies = {node: supply for node, supply in enumerate(self.supplies, 1) if supply}
         return DimacsProblem("min", len(self.supplies), list(rows), supplies).text()
 
     def _by_library(self, library: Library, time_limit: Optional[float]) -> Answer:
-        numbers = [array("q", column) for column in (self.supplies, self.lows, self.text_caps, self.costs)]
-        places = [array("I", numbered(column)) for column in (self.tails, self.heads)]
+        numbers = [array("q", column) for column in (self.supplies, self.lows, self._text_caps, self.costs)]
+        places = [array("I", column) for column in self._text_ends]
         supply, low, cap, cost = (pointer_to(column) for column in numbers)
         tail, head = (pointer_to(column) for column in places)
         return library.solve_arrays(Arrays(*supply, *tail, *head, *low, *cap, *cost), time_limit=time_limit)
@@ -133,7 +134,7 @@ class ArrayProblem:
 
     def _check(self, result: Result, answer: Answer, solver: Program, time_limit: Optional[float]) -> None:
         """Raises Disagreement, with both texts, where `mcf check` or `verify` finds the answer wrong."""
-        answer.ends = list(zip(numbered(self.tails), numbered(self.heads)))
+        answer.ends = list(zip(*self._text_ends))
         text, answer_text = self.text(), answer.text()
         verdict = solver.check(text, answer_text, time_limit=time_limit)
         if verdict != "valid":
@@ -162,7 +163,7 @@ class ArrayProblem:
             arc = next(arc for arc, (low, cap) in enumerate(zip(self.lows, caps)) if low > cap)
             raise ValueError(f"lower_bounds[{arc}] is {self.lows[arc]}, above its capacity, {caps[arc]}")
 
-    def _text_caps(self) -> List[int]:
+    def _limited_caps(self) -> List[int]:
         """The capacities within the formats' limits. An arc that may carry more gets what no best flow needs to fill.
 
         A best flow is made of paths from supplies to demands, and of circles that cost less than 0; where no arc
