@@ -11,7 +11,7 @@ from decimal import Decimal
 from pathlib import Path
 from typing import Dict, List, Optional, Sequence, Tuple
 
-from mcf_plan import Plan, Problem
+from mcf_plan import Infeasible, Plan, Problem
 from mcf_plan.tables import read_tables
 
 RECIPES = Path(__file__).resolve().parents[2] / "examples/recipes"
@@ -114,6 +114,17 @@ class Recipes(unittest.TestCase):
             for order in itertools.permutations(trips)
         )
         self.assertEqual(planned("timetable"), vehicles)
+
+    def test_the_most_that_gets_through(self) -> None:
+        """The narrowest of all sets of arcs without which nothing gets from Well to Town."""
+        widths = [
+            sum(int(row["capacity"]) for row in rows("pipes") if row["from"] in side and row["to"] not in side)
+            for count in range(3)
+            for side in map({"Well"}.union, itertools.combinations(["Hill", "Mill"], count))
+        ]
+        answer = read_tables(RECIPES / "pipes/nodes.csv", RECIPES / "pipes/arcs.csv").solve()
+        assert isinstance(answer, Infeasible)
+        self.assertEqual(9 - answer.shortage, min(widths))
 
     def test_the_shortest_way(self) -> None:
         """Each way from Home to Office, over the places between them in each order."""
