@@ -273,6 +273,14 @@ def wrong_rows(readme, architecture):
     return wrong, count
 
 
+def wrong_promise(readme, claim):
+    """Which sentences of README's promise, its quotation, are not those of CLAIM for planners, word for word."""
+    planner = re.sub(r"\s+", " ", claim.split("## For a planner")[1].split("\n## ")[0].replace("**", ""))
+    quoted = re.sub(r"\s+", " ", " ".join(re.findall(r"(?m)^> (.*)$", readme)))
+    sentences = [each.rstrip(".") for each in re.split(r"(?<=\.) ", quoted) if each]
+    return [f"CLAIM does not say: {each}" for each in sentences if each not in planner], len(sentences)
+
+
 def wrong_links(pages):
     """Which links of the pages lead to no file of the repository, or to no heading of it."""
     wrong, count = [], 0
