@@ -62,6 +62,8 @@ def sheet_of_rows(
     header = ["" if is_empty(cell) else str(cell).strip() for cell in rows[0]]
     while header and not header[-1]:
         header.pop()
+    if len(rows) == 1:
+        raise TableFault(f"{name}: the names of the columns stand there, and no row below them")
     sheet = Sheet(name, header, [], lines[1:], word, delimiter)
     kept, width = rows[1:], len(header)
     if any(len(row) != width for row in kept):

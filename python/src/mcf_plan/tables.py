@@ -35,7 +35,7 @@ from .problem import ONE, WIDE, ZERO, Arc, Number, Problem, exact, plain
 from .rounding import round_problem
 from .sheets import MAPS, WORKBOOKS, Sheet, check_ending, part_sheet, read_text, sheet_of_frame
 
-from .vocabulary import ARC_COLUMNS, COLUMNS, NODE_COLUMNS
+from .vocabulary import ARC_COLUMNS, COLUMNS, NODE_COLUMNS, SUMS
 
 if TYPE_CHECKING:
     from .plan import Plan
@@ -114,7 +114,7 @@ def read_tables(
     problem = Problem(kind, balance=balance, source=source, sink=sink)
     node_sheet, arc_sheet = _sheets(nodes, arcs, reading)
     _check_order(node_sheet, arc_sheet)
-    _check_chosen(reading, node_sheet)
+    _check_chosen(reading, node_sheet, arc_sheet)
     unused = ("cost",) if kind == "max" else ()
     arc_table = _Table(arc_sheet, find_columns(arc_sheet, ARC_COLUMNS, reading.columns, unused=unused), reading)
     tails, heads = arc_table.names("from"), arc_table.names("to")
@@ -125,7 +125,7 @@ def read_tables(
         node_table = _Table(node_sheet, found, reading)
         _find_names(node_table, ends)
         compare_units({**_units(node_table), **_units(arc_table)})
-        _read_nodes(problem, node_table)
+        _read_nodes(problem, node_table, ends)
     _add_ends(problem, ends, node_sheet)
     _read_arcs(problem, arc_table, tails, heads)
     for sheet in (node_sheet, arc_sheet):
@@ -219,11 +219,16 @@ def _check_order(nodes: Optional[Sheet], arcs: Sheet) -> None:
         )
 
 
-def _check_chosen(reading: _Reading, nodes: Optional[Sheet]) -> None:
-    """Raises TableFault where a column of nodes is named, and there is no table of nodes."""
+def _check_chosen(reading: _Reading, nodes: Optional[Sheet], arcs: Sheet) -> None:
+    """Raises TableFault where a column of nodes is named and there is no table of nodes, or a column is to be left aside
+    that no table has."""
     for what in reading.columns:
         if nodes is None and what in NODE_COLUMNS:
             raise TableFault(f"a column is named for {called(what)}, and there is no table of nodes")
+    there = {folded(header) for sheet in (nodes, arcs) if sheet is not None for header in sheet.header}
+    for name in reading.columns.get("aside", ()):
+        if folded(name) not in there:
+            raise TableFault(f"there is no column {name!r} to be left aside")
 
 
 def _find_names(table: _Table, ends: Iterable[str]) -> None:
@@ -467,7 +472,7 @@ def _units(table: _Table) -> Dict[str, Any]:
 # ---------------------------------------------------------------- rows
 
 
-def _read_nodes(problem: Problem, table: _Table) -> None:
+def _read_nodes(problem: Problem, table: _Table, ends: Collection[str]) -> None:
     """Adds the nodes of the table of nodes."""
     sheet = table.sheet
     if not table.has("supply") and not table.has("demand") and problem.kind == "min":
@@ -477,6 +482,8 @@ def _read_nodes(problem: Problem, table: _Table) -> None:
     for row, name in enumerate(names):
         if lines.setdefault(name, row) != row:
             raise table.fault(row, "node", f"it stands on {sheet.place(lines[name])} already")
+        if folded(name) in SUMS and name not in ends:
+            raise table.fault(row, "node", "this looks like a row of sums: give the table without it")
     supplies, demands = table.numbers("supply"), table.numbers("demand")
     if table.has("supply") and table.has("demand"):
         for row, demand in enumerate(demands):
@@ -608,12 +615,14 @@ def _check_sense(problem: Problem, nodes: Optional[_Table], arcs: _Table, ends: 
 
 
 def _tell_lonely(problem: Problem, nodes: _Table, ends: Collection[str]) -> None:
-    """Notes nodes that supply or demand something and have no arc."""
-    lonely = [name for name, supply in problem.nodes.items() if supply and name not in ends]
-    if lonely:
-        told = ", ".join(lonely[:5]) + (f" and {len(lonely) - 5} more" if len(lonely) > 5 else "")
-        count = "1 node has" if len(lonely) == 1 else f"{len(lonely)} nodes have"
-        problem.notes.append(f"{nodes.sheet.name}: {count} a supply or a demand and no arc: {told}")
+    """Notes nodes without an arc."""
+    lonely = [name for name in problem.nodes if name not in ends]
+    for has_supply, what in ((True, "a supply or a demand and no arc"), (False, "neither a supply nor an arc")):
+        names = [name for name in lonely if bool(problem.nodes[name]) == has_supply]
+        if names:
+            told = ", ".join(names[:5]) + (f" and {len(names) - 5} more" if len(names) > 5 else "")
+            count = "1 node has" if len(names) == 1 else f"{len(names)} nodes have"
+            problem.notes.append(f"{nodes.sheet.name}: {count} {what}: {told}")
 
 
 # ---------------------------------------------------------------- plans as tables

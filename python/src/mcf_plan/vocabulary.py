@@ -23,10 +23,12 @@ COLUMNS: Dict[str, Tuple[str, ...]] = {
     + ("demande", "besoin", "besoins", "commande", "commandes", "consommation")
     + ("demanda", "necesidad", "pedido", "pedidos", "consumo"),
     "from": ("from", "tail", "source", "origin", "src", "start", "from node", "start node", "sender", "supplier")
+    + ("source node", "from id", "source id", "origin id", "from name", "source name", "origin name", "from place")
     + ("von", "ab", "Quelle", "Startort", "Herkunft", "Absender", "Lieferant")
     + ("de", "depuis", "origine", "départ", "expéditeur")
     + ("desde", "origen", "salida", "remitente"),
     "to": ("to", "head", "target", "destination", "dst", "dest", "end", "to node", "end node", "receiver")
+    + ("target node", "to id", "target id", "destination id", "to name", "target name", "destination name", "to place")
     + ("nach", "bis", "zu", "Ziel", "Zielort", "Empfänger")
     + ("vers", "à", "arrivée", "destinataire")
     + ("hasta", "a", "destino", "hacia", "llegada", "destinatario"),
@@ -151,3 +153,6 @@ LIMITING = frozenset(("load bound ").split())
 
 OWN = frozenset(("flow", "total cost", "is full", "one more costs"))
 """Columns that tables of plans have, as `write_plan` writes them: left aside where all are there."""
+
+SUMS = frozenset("total totals sum sums summe gesamt insgesamt somme total suma".split())
+"""Names of rows that hold sums of the others."""
