@@ -465,24 +465,11 @@ class PageTest(unittest.TestCase):
         self.assertLess(opened, 15)
         self.assertLess(sorted(took)[2], 2000, took)
 
-    def took(self, label: str, *values: str) -> list:
-        """How many seconds the page takes from the Enter key to the drawn state, for each of these values."""
-        self.browser.execute_script(
-            """
-            const input = document.querySelector(`input[aria-label="${arguments[0]}"]`);
-            window.took = [];
-            new MutationObserver(() => requestAnimationFrame(() => window.took.push(performance.now() - window.began)))
-                .observe(document.body, { attributes: true, attributeFilter: ['data-moment'] });
-            input.addEventListener('change', () => { window.began = performance.now(); }, true);""",
-            label,
-        )
-        for value in values:
-            self.edit(label, value)
-        return self.until(
-            lambda: (lambda each: each if len(each) == len(values) else None)(
-                self.browser.execute_script("return window.took.map((each) => each / 1000)")
-            )
-        )
+    def worked(self) -> float:
+        """How many seconds of a processor the page and this process, which serves it, have worked."""
+        metrics = self.browser.execute_cdp_cmd("Performance.getMetrics", {})["metrics"]
+        page = next(metric["value"] for metric in metrics if metric["name"] == "TaskDuration")
+        return page + time.process_time()
 
     def test_100000_arcs(self) -> None:
         begin = time.monotonic()
@@ -498,13 +485,16 @@ class PageTest(unittest.TestCase):
         label = self.at("#arcs td.cap input").get_attribute("aria-label")
         number = int(self.at("#arcs td.cap input").get_attribute("data-index"))
         self.keep_picture("huge-1400")
-        took = self.took(label, "31", "32", "33")
+        # What mcf works is its own process, and not counted here.
+        self.browser.execute_cdp_cmd("Performance.enable", {"timeDomain": "threadTicks"})
+        took = []
+        for value in ("31", "32", "33"):
+            before = self.worked()
+            self.edit(label, value)
+            took.append(self.worked() - before)
+        self.browser.execute_cdp_cmd("Performance.disable", {})
         self.assertEqual(session.problem.arcs[number].cap, 33)
-        # What mcf itself takes for an edit and for telling the plan is no part of what the page takes.
-        begin = time.monotonic()
-        session.set_cap(number, 34)
-        session.proof()
-        beside = time.monotonic() - begin
+        self.assertLess(max(took), 2, took)
         self.resize(NARROW)
         self.until(lambda: self.browser.execute_script("return innerWidth") == NARROW[0])
         self.assertLessEqual(self.browser.execute_script("return document.documentElement.scrollWidth"), NARROW[0])
@@ -517,11 +507,9 @@ class PageTest(unittest.TestCase):
         self.until(lambda: len(self.all("#arcs tbody tr")) >= 400)
         if PICTURES:
             (Path(PICTURES) / "times-of-100000").write_text(
-                f"opened in {opened:.2f} s; edits in s: {[round(each, 2) for each in took]}; mcf and its text: {beside:.2f}\n"
+                f"opened in {opened:.2f} s; edits in seconds of a processor: {[round(each, 2) for each in took]}\n"
             )
-        # Wide limits: other suites run beside this one.
-        self.assertLess(opened, 60)
-        self.assertLess(sorted(took)[1] - beside, 6, took)
+        self.assertLess(opened, 60)  # A wide limit: other suites run beside this one.
 
     def test_two_tabs(self) -> None:
         server = self.open(towns())
