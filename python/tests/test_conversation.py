@@ -48,7 +48,10 @@ class Groups(unittest.TestCase):
             ("show", "a group is open, and show has to wait for its end"),
             ("write a.min", "a group is open, and write has to wait for its end"),
             ("nonsense", "there is no command nonsense; `help` tells them"),
-            ('cap "cheap 3', "No closing quotation"),
+            (
+                'cap "cheap 3',
+                "a quotation mark or a backslash stands alone; names with blanks stand in quotes",
+            ),
             ("end now", "end stands alone, and now stands behind it"),
         ):
             with self.subTest(refused):
@@ -88,9 +91,20 @@ class Words(unittest.TestCase):
     def test_what_is_not_understood(self) -> None:
         for line, reason in (
             ("undo 3", "undo stands alone, and 3 stands behind it"),
-            ("cap", "cap wants more words; `help` tells them"),
-            ("mark", "a name was expected, and nothing more"),
-            ("back", "the name of a mark was expected, and nothing more"),
+            ("cap", "cap wants an arc and a number; `help` tells more"),
+            ("cap cheap", "cap wants an arc and a number; `help` tells more"),
+            ("cap cheap 1,5", "1,5 is no number; write a point before the decimals, and nothing between thousands"),
+            ("cap cheep 1", "there is no arc cheep; did you mean cheap?"),
+            ("cap Cheap 1", "there is no arc Cheap; did you mean cheap?"),
+            ("cap road9 1", "there is no arc road9"),
+            ("cap a to b 1", "there are several arcs a to b: say which by its number: they are #1, #2"),
+            ("supply a", "supply wants a node and a number; `help` tells more"),
+            ("supply a b 1", "one name was expected, and 2 are there; names with blanks stand in quotes"),
+            ("add a", "add wants both ends, and then pairs as `capacity 5 cost 2`; `help` tells more"),
+            ("mark", "mark wants a name; `help` tells more"),
+            ("mark my plan", "one name was expected, and 2 are there; names with blanks stand in quotes"),
+            ("back", "back wants the name of a mark; `help` tells more"),
+            ("report", "report wants the name of a file; `help` tells more"),
         ):
             with self.subTest(line):
                 self.assertEqual(answers(line), [f"refused, nothing is changed: {reason}", "11 False"])

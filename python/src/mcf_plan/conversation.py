@@ -2,6 +2,7 @@
 
 from __future__ import annotations
 
+import difflib
 import shlex
 from contextlib import ExitStack, suppress
 from decimal import Decimal
@@ -30,8 +31,45 @@ An ARC is its name, its ends (FROM TO), or #3 for the third; names with blanks s
 Command = Callable[[List[str]], object]
 """What a command does with the words behind it."""
 
+MOST_ALIKE = 5000
+"""Among more names none that is alike is looked for: it takes seconds."""
+MOST_TOLD = 12
 ALONE = ("undo", "redo", "show", "why", "saves", "moments", "group", "end", "help")
 """Commands that take no words."""
+WANTED = {
+    **dict.fromkeys(("cap", "capacity", "low", "cost"), (2, "an arc and a number")),
+    "supply": (2, "a node and a number"),
+    "close": (1, "an arc"),
+    "add": (2, "both ends, and then pairs as `capacity 5 cost 2`"),
+    "back": (1, "the name of a mark"),
+    "mark": (1, "a name"),
+    **dict.fromkeys(("write", "proof", "report", "table"), (1, "the name of a file")),
+}
+"""How many words the other commands want at least, and what they are."""
+
+
+def words_of(line: str) -> List[str]:
+    """The words of a line; none of a remark. Raises EditRefused where a quotation mark is not closed."""
+    if line.lstrip().startswith("#"):
+        return []
+    try:
+        return shlex.split(line)
+    except ValueError:
+        raise EditRefused("a quotation mark or a backslash stands alone; names with blanks stand in quotes") from None
+
+
+def one(words: List[str]) -> str:
+    """The one word that is expected."""
+    if len(words) != 1:
+        raise EditRefused(f"one name was expected, and {len(words)} are there; names with blanks stand in quotes")
+    return words[0]
+
+
+def number(text: str) -> str:
+    """A number as it was typed. Raises EditRefused where it has a comma, which may be meant in two ways."""
+    if "," in text:
+        raise EditRefused(f"{text} is no number; write a point before the decimals, and nothing between thousands")
+    return text
 
 
 class Conversation:
@@ -46,29 +84,29 @@ class Conversation:
         self.before: Optional[Decimal] = None  # the cost where the group began
         self.refusal: Optional[str] = None  # why the group is refused whose lines are passed over
         self.edits: Dict[str, Command] = {
-            "cap": lambda words: session.set_cap(self.arc(words[:-1]), words[-1]),
-            "capacity": lambda words: session.set_cap(self.arc(words[:-1]), words[-1]),
-            "low": lambda words: session.set_low(self.arc(words[:-1]), words[-1]),
-            "cost": lambda words: session.set_cost(self.arc(words[:-1]), words[-1]),
-            "supply": lambda words: session.set_supply(self.node(words[:-1]), words[-1]),
+            "cap": lambda words: session.set_cap(self.arc(words[:-1]), number(words[-1])),
+            "capacity": lambda words: session.set_cap(self.arc(words[:-1]), number(words[-1])),
+            "low": lambda words: session.set_low(self.arc(words[:-1]), number(words[-1])),
+            "cost": lambda words: session.set_cost(self.arc(words[:-1]), number(words[-1])),
+            "supply": lambda words: session.set_supply(one(words[:-1]), number(words[-1])),
             "close": lambda words: session.close(self.arc(words)),
             "add": self.add,
         }
         self.steps: Dict[str, Command] = {
             "undo": lambda words: session.undo(),
             "redo": lambda words: session.redo(),
-            "back": lambda words: session.back(self.one(words, "the name of a mark")),
+            "back": lambda words: session.back(one(words)),
         }
         self.tells: Dict[str, Command] = {
             "show": lambda words: tell(session.plan(), self.out),
             "why": lambda words: self.why(),
             "saves": lambda words: self.saves(),
-            "mark": lambda words: self.mark(self.one(words, "a name")),
+            "mark": lambda words: self.mark(one(words)),
             "moments": lambda words: self.moments(),
-            "write": lambda words: self.write(self.one(words, "the name of a file"), session.text),
-            "proof": lambda words: self.write(self.one(words, "the name of a file"), session.proof),
-            "report": lambda words: self.report(self.one(words, "the name of a file")),
-            "table": lambda words: self.table(self.one(words, "the name of a file")),
+            "write": lambda words: self.write(one(words), session.text),
+            "proof": lambda words: self.write(one(words), session.proof),
+            "report": lambda words: self.report(one(words)),
+            "table": lambda words: self.table(one(words)),
             "group": lambda words: self.open_group(),
         }
         self.at_any_time: Dict[str, Command] = {
@@ -117,13 +155,13 @@ class Conversation:
         if self.refusal is not None:
             return self.pass_over(line)
         try:
-            words = [] if line.lstrip().startswith("#") else shlex.split(line)
+            words = words_of(line)
             if words:
-                self.do(words[0].lower(), words[1:])
+                self.do("help" if words[0] == "?" else words[0].lower(), words[1:])
         except (EditRefused, CannotRewrite, ValueError) as error:
             self.refuse(error, str(error))
         except KeyError as error:
-            self.refuse(error, str(error.args[0]))
+            self.refuse(error, str(error.args[0]) + self.meant(words[1:]))
         except TimeLimit as error:
             self.say(f"stopped, nothing is changed: {error}")
         except OSError as error:
@@ -136,6 +174,21 @@ class Conversation:
         self.leave_group(error)
         self.refusal = reason
         return self.say(f"refused: {reason}; the whole group is refused, and its lines up to `end` are passed over")
+
+    def meant(self, words: List[str]) -> str:
+        """What may have been meant by words that name nothing, or several arcs, in words."""
+        problem = self.session.problem
+        ends = tuple(word for word in words[:3] if word != "to")[:2]
+        several = [k for k, arc in enumerate(problem.arcs, 1) if (arc.tail, arc.head) == ends]
+        if len(several) > 1:
+            return ": they are " + ", ".join(f"#{k}" for k in several[:MOST_TOLD]) + ", .." * (len(several) > MOST_TOLD)
+        known = {*problem.nodes, *(arc.name for arc in problem.arcs if arc.name)}
+        spelled = {name.lower(): name for name in known} if len(known) <= MOST_ALIKE else {}
+        for word in words:
+            if word not in known:
+                for near in difflib.get_close_matches(word.lower(), spelled, 1):
+                    return f"; did you mean {spelled[near]}?"
+        return ""
 
     def pass_over(self, line: str) -> None:
         """Passes over a line of a refused group, up to its `end`."""
@@ -152,8 +205,9 @@ class Conversation:
             raise EditRefused(f"there is no command {word}; `help` tells them")
         if words and word in ALONE:
             raise EditRefused(f"{word} stands alone, and {' '.join(words)} stands behind it")
-        if not words and word in self.edits:
-            raise EditRefused(f"{word} wants more words; `help` tells them")
+        least, wanted = WANTED.get(word, (0, ""))
+        if len(words) < least:
+            raise EditRefused(f"{word} wants {wanted}; `help` tells more")
         if self.group is not None and word not in self.edits and word not in self.at_any_time:
             raise EditRefused(f"a group is open, and {word} has to wait for its end")
         if not does_step:
@@ -179,12 +233,6 @@ class Conversation:
             return f"{what} {plain(session.cost)}" + ("" if change is None else ", as before")
         return f"{what} {plain(session.cost)} ({change[1:] + ' less' if change[0] == '-' else change + ' more'})"
 
-    def one(self, words: List[str], what: str) -> str:
-        """The one word that is expected, which is `what`."""
-        if len(words) != 1:
-            raise EditRefused(f"{what} was expected, and nothing more")
-        return words[0]
-
     def arc(self, words: List[str]) -> ArcKey:
         """An arc by its name, `#K`, or its ends."""
         if len(words) == 1 and words[0].startswith("#") and words[0][1:].isdigit():
@@ -199,22 +247,18 @@ class Conversation:
             )
         return words[0]
 
-    def node(self, words: List[str]) -> str:
-        """A node by its name."""
-        return self.one(words, "a node and a number")
-
     def add(self, words: List[str]) -> None:
         """Adds an arc."""
         if len(words) > 2 and words[1] == "to":
             del words[1]
         if len(words) < 2 or len(words) % 2:
-            raise EditRefused("add wants both ends, and then pairs as `capacity 5 cost 2`")
+            raise EditRefused(f"add wants {WANTED['add'][1]}")
         known = {"capacity": "cap", "cap": "cap", "cost": "cost", "low": "low", "name": "name"}
         given: Dict[str, str] = {}
         for what, value in zip(words[2::2], words[3::2]):
             if what not in known:
                 raise EditRefused(f"{what} is none of capacity, cost, low and name")
-            given[known[what]] = value
+            given[known[what]] = value if what == "name" else number(value)
         self.session.add_arc(
             words[0],
             words[1],
