@@ -9,7 +9,7 @@ import tempfile
 import unittest
 from pathlib import Path
 
-from mcf_plan import dimacs
+from mcf_plan import dimacs, formats
 from mcf_plan.program import Program
 
 HERE = Path(__file__).resolve().parent
@@ -141,16 +141,16 @@ class OnePlaceForEachFact(unittest.TestCase):
         return {int(row.split("|")[1]): row.split("|")[2].strip() for row in rows}
 
     def test_faults(self):
-        self.assertEqual(self.table("| Fault | Of a problem text |"), dimacs.FAULTS)
+        self.assertEqual(self.table("| Fault | Of a problem text |"), formats.FAULTS)
 
     def test_answer_faults(self):
         told = self.table("| Fault | Of an answer text |")
         self.assertEqual(
-            {number: words.split(". Most often")[0] for number, words in told.items()}, dimacs.ANSWER_FAULTS
+            {number: words.split(". Most often")[0] for number, words in told.items()}, formats.ANSWER_FAULTS
         )
 
     def test_refusals(self):
-        self.assertEqual(self.table("| N | A command is refused because |"), dimacs.REFUSALS)
+        self.assertEqual(self.table("| N | A command is refused because |"), formats.REFUSALS)
 
     def test_program_knows_the_same_numbers(self):
         program = os.environ["MCF"]
@@ -161,7 +161,7 @@ class OnePlaceForEachFact(unittest.TestCase):
         if not told:
             self.skipTest("the program has no help")
         numbers = {int(number) for number in re.findall(r"(?:^|\s{2,})(\d+)\s+['\w]", told, re.MULTILINE)}
-        for number in {*dimacs.FAULTS, *dimacs.ANSWER_FAULTS, *dimacs.REFUSALS}:
+        for number in {*formats.FAULTS, *formats.ANSWER_FAULTS, *formats.REFUSALS}:
             self.assertIn(number, numbers)
 
 

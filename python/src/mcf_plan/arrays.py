@@ -20,8 +20,9 @@ from typing import Any, Callable, List, Optional, Sequence, Union
 
 from .calls import Arrays, pointer_to
 from .deadline import Deadline
-from .dimacs import MOST_ARCS, MOST_COST, MOST_FLOW, MOST_NODES, Answer, DimacsProblem, parse_answer
+from .dimacs import Answer, DimacsProblem, parse_answer
 from .errors import BeyondLimits
+from .formats import MOST_ARCS, MOST_COST, MOST_FLOW, MOST_NODES
 from .library import Library
 from .plan import Disagreement
 from .program import Program, ProgramFailed

@@ -5,9 +5,9 @@ from __future__ import annotations
 from dataclasses import replace
 from typing import TYPE_CHECKING, Any, Dict, Iterable, List, NamedTuple, Tuple
 
-from .dimacs import ArcRow
 from .errors import DoesNotFit
 from .figures import Bounds, is_large
+from .formats import ArcRow
 from .lines import ONE_LINE, Form, supply_parts
 from .meaning import check_arc, check_node
 from .problem import Arc

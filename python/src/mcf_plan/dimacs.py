@@ -4,85 +4,23 @@ from __future__ import annotations
 
 import re
 from dataclasses import dataclass, field
-from typing import Dict, List, Optional, Tuple, Union
+from typing import Dict, List, Optional, Tuple
 
-Text = Union[str, bytes]
-"""A text; bytes that are no UTF-8 are surrogates in a str."""
-
-
-def as_bytes(text: Text) -> bytes:
-    """The bytes of a text."""
-    return text if isinstance(text, bytes) else text.encode("utf-8", "surrogateescape")
-
-
-def as_str(text: Text) -> str:
-    """The text of bytes."""
-    return text if isinstance(text, str) else text.decode("utf-8", "surrogateescape")
-
-
-LONGEST_LINE = 1024
-MOST_NODES = 50_000
-MOST_ARCS = 100_000
-MOST_FLOW = 1_000_000_000
-MOST_COST = 1_000_000_000_000
-RETURN_CAPACITY = 100_000_000_000_000
-MOST_EDITS = 1000
-MOST_MARKS = 16
-
-FAULTS: Dict[int, str] = {
-    1: f"the line is longer than {LONGEST_LINE:,} bytes",
-    2: "its first word is none of `p`, `n`, `a`",
-    3: "wrong number of fields",
-    4: "a field is not a number",
-    5: "a number is out of range",
-    6: "a node or arc line before the problem line",
-    7: "a second problem line",
-    8: "unknown kind",
-    9: "a node line after an arc line",
-    10: "a node is named twice, or a second source or sink",
-    11: "an arc line, or the end of the text, while source or sink is missing (`max`)",
-    12: "more arc lines than ARCS",
-    13: "the text ends with fewer arc lines than ARCS",
-    14: "the text ends without a problem line",
-    15: "LOW is above CAP",
-    16: "an arc that does not lead from the source side to the sink side (`asn`)",
-    17: "the word of a node line is neither `s` nor `t` (`max`)",
-}
-"""What each fault of a problem text says."""
-
-ANSWER_FAULTS: Dict[int, str] = {
-    1: f"the line is longer than {LONGEST_LINE:,} bytes",
-    2: "its first word is none of `s`, `f`, `v`, `i`, `k`",
-    3: "wrong number of fields",
-    4: "a field is not a number",
-    5: "SRC, DST or ID is no node of the problem",
-    40: "a line out of order, one too many, a `v` line whose ID is not the next one, a `k` line whose ID does not "
-    "rise, or a text that ends too early (then with the number of lines as its line)",
-}
-"""What each fault of an answer text says."""
-
-REFUSALS: Dict[int, str] = {
-    1: f"its line is longer than {LONGEST_LINE:,} bytes",
-    2: "its first word is no command",
-    3: "it has the wrong number of fields",
-    4: "a field is not a number",
-    5: "V, LOW, CAP or COST is out of range",
-    20: "there is no such arc: K is 0, or above the number of arcs now",
-    21: "there is no such node: ID, SRC or DST is 0, or above NODES",
-    22: "the lower bound would be above the capacity",
-    23: "the command is not for this kind of problem",
-    24: "there is no room for another arc",
-    25: "there is nothing to undo",
-    26: "there is nothing to redo",
-    27: "the arc does not lead from the source side to the sink side (`asn`)",
-    28: "no moment has this mark (`back`)",
-    29: "`group`, `undo`, `redo`, `mark`, `back`, `show` or `proof` in a group; or `end` while no group is open",
-    30: "there was not enough memory for this edit or group",
-    31: f"the group has more than {MOST_EDITS:,} edits",
-    32: "NAME is not a name",
-    33: f"{MOST_MARKS} other names have marks (`mark`)",
-}
-"""Why a session refuses a command."""
+from .formats import (
+    ANSWER_FIELDS,
+    ARC_FIELDS,
+    LONGEST_LINE,
+    MOST_ARCS,
+    MOST_COST,
+    MOST_FLOW,
+    MOST_NODES,
+    NODE_FIELDS,
+    ArcRow,
+    Text,
+    as_bytes,
+    as_str,
+)
+from .hints import count_hint, first_word_hint, kind_hint, long_line_hint, number_hint, range_hint
 
 
 @dataclass(frozen=True)
@@ -129,16 +67,6 @@ _PLAIN = re.compile(rb"[0-9]{1,18}")
 _SIGNED = re.compile(rb"-?[0-9]{1,18}")
 _WORTH = re.compile(rb"-?[0-9]{1,30}")
 
-NODE_FIELDS = {"min": ("ID", "FLOW"), "max": ("ID", "s or t"), "asn": ("ID",)}
-ARC_FIELDS = {"min": ("SRC", "DST", "LOW", "CAP", "COST"), "max": ("SRC", "DST", "CAP"), "asn": ("SRC", "DST", "COST")}
-ANSWER_FIELDS = {
-    "s": ("VALUE",),
-    "f": ("SRC", "DST", "FLOW"),
-    "v": ("ID", "POTENTIAL"),
-    "i": ("SHORTAGE",),
-    "k": ("ID",),
-}
-
 
 def _lines(text: bytes) -> List[bytes]:
     """The pieces between line feeds; the last one counts where it has a byte."""
@@ -158,63 +86,6 @@ class _Found(Exception):
 
 def _grouped(number: int) -> str:
     return f"{number:,}"
-
-
-def _number_hint(name: str, value: str, signed: bool) -> str:
-    """What to do about a field that is no number, for the commonest mistakes."""
-    if re.fullmatch(r"[−–—﹣－]\d+", value):
-        return "The sign is a dash of typesetting: write a plain - in its place."
-    if re.fullmatch(r"[\d\s]+", value) and not value.isascii() or re.search(r"[\u00a0\u202f\u2009\ufeff]", value):
-        return "There is a blank in it that is no plain blank, as no-break ones of spreadsheets: take it out."
-    if re.fullmatch(r"[+]\d+", value):
-        return "Leave the + out."
-    if re.fullmatch(r"-?\d+[.]0*", value):
-        return "Write it without the point and the zeros."
-    if re.fullmatch(r"-?\d{1,3}([,.'_]\d{3})+", value):
-        return (
-            "Take the marks between the thousands out; if it is a fraction: there are none, so multiply all numbers of "
-            "its kind by the same power of ten."
-        )
-    if re.fullmatch(r"[+-]?\d*[.]\d+", value):
-        return (
-            "There are no fractions: multiply all numbers of its kind by the same power of ten, "
-            "or let `mcf-plan convert` do it."
-        )
-    if re.fullmatch(r"[+-]?\d*,\d+", value):
-        return (
-            "There are no fractions: multiply all numbers of its kind by the same power of ten; or write a point in "
-            "place of each decimal comma, and let `mcf-plan convert` multiply."
-        )
-    if re.fullmatch(r"[+-]?\d*[.]?\d+[eE][+-]?\d+", value):
-        return "Write the number out, without an exponent."
-    if re.fullmatch(r"[+-]?(inf|infinity|unlimited|none|null|na|nan|[*])", value, re.IGNORECASE):
-        if name == "CAP":
-            return (
-                f"For no limit write {MOST_FLOW}, which is as good where the supplies add up to no more and no circle of "
-                "arcs costs less than 0; `mcf-plan convert` sees to it."
-            )
-        return "Write a number."
-    if re.fullmatch(r"-\d{1,18}", value) and not signed:
-        if name == "LOW":
-            return "A lower bound is never below 0: `mcf-plan convert` moves such bounds."
-        if name == "CAP":
-            return f"A capacity is never below 0: for no limit write {MOST_FLOW}, for a closed arc 0."
-        return "It can't be below 0."
-    if re.fullmatch(r"-?\d+", value):
-        return "It has more than 18 digits."
-    if re.fullmatch(r"0[xX][0-9a-fA-F]+", value):
-        return "Write it in decimal digits."
-    if re.search(r"[,;]", value):
-        return "Fields are parted by blanks: put blanks where the commas and semicolons are."
-    if re.fullmatch(r"[\"'].*[\"']?|.*[\"']", value):
-        return "Take the quotes off."
-    if name in ("ID", "SRC", "DST"):
-        return (
-            "Nodes have numbers, from 1 to NODES. For names in their place make tables, which `mcf-plan plan` reads."
-            if re.search(r"[^\W\d]", value)
-            else ""
-        )
-    return ""
 
 
 class ProblemReader:
@@ -247,38 +118,24 @@ class ProblemReader:
                 "a whole number" if signed else "a whole number, 0 or more",
                 name=name,
                 value=value,
-                hint=_number_hint(name, value, signed),
+                hint=number_hint(name, value, signed),
             )
         number = int(word)
         if not least <= number <= most:
-            hint = ""
-            if name in ("ID", "SRC", "DST"):
-                hint = (
-                    "Nodes count from 1."
-                    if number == 0
-                    else f"The problem line {self.problem_line} says that there are {_grouped(self.nodes)} nodes."
-                )
-                if number > self.nodes and number <= self.wanted:
-                    hint += (
-                        f" Do NODES and ARCS stand there the wrong way round? It says {self.nodes} and {self.wanted}."
-                    )
-            elif name == "CAP":
-                hint = (
-                    f"If it stands for no limit, write {MOST_FLOW}, which is as good where the supplies add up to no "
-                    "more and no circle of arcs costs less than 0; `mcf-plan convert` sees to that."
-                )
-            elif name in ("LOW", "FLOW"):
-                hint = "Take a larger unit, or let `mcf-plan convert` part it."
-            elif name == "COST":
-                hint = "Take a larger unit of money for all costs."
-            elif name == "NODES":
-                hint = "There has to be a node." if number == 0 else "That is the largest problem that is taken."
-            elif name == "ARCS":
-                hint = "That is the largest problem that is taken."
+            hint = self._node_hint(number) if name in ("ID", "SRC", "DST") else range_hint(name, number)
             raise self.fail(
                 5, f"a number from {_grouped(least)} to {_grouped(most)}", name=name, value=as_str(word), hint=hint
             )
         return number
+
+    def _node_hint(self, number: int) -> str:
+        """What to do about a node that is not there."""
+        if number == 0:
+            return "Nodes count from 1."
+        hint = f"The problem line {self.problem_line} says that there are {_grouped(self.nodes)} nodes."
+        if number > self.nodes and number <= self.wanted:
+            hint += f" Do NODES and ARCS stand there the wrong way round? It says {self.nodes} and {self.wanted}."
+        return hint
 
     def count(self, what: str, names: Tuple[str, ...], words: List[bytes]) -> None:
         """Fails (3) unless there are as many fields as names."""
@@ -286,37 +143,7 @@ class ProblemReader:
             return
         form = " ".join((what, *names)) if what != "n" or self.kind != "max" else "n ID s` or `n ID t"
         given = "no field" if not words else "1 field" if len(words) == 1 else f"{len(words)} fields"
-        texts = [as_str(word) for word in words]
-        hint = ""
-        if any("," in word or ";" in word for word in texts):
-            hint = "Fields are parted by blanks: put blanks where the commas and semicolons are."
-        elif any(re.search("[\u00a0\u202f\u2009]", word) for word in texts):
-            hint = "There is a blank in it that is no plain blank, as no-break ones of spreadsheets: put plain ones."
-        elif len(words) > len(names) and re.match(r"[c#%/!]", texts[len(names)]):
-            hint = "A comment has a line of its own, which begins with c: take it off this line."
-        elif what == "p":
-            if len(words) == 2 and texts[0] in ARC_FIELDS:
-                hint = "Both numbers are needed: how many nodes, and how many arcs."
-            elif len(words) == 2:
-                hint = "The kind comes first: min, max or asn."
-        elif what == "a":
-            other = {"min": {3: "max` or `asn", 4: ""}, "max": {5: "min"}, "asn": {5: "min"}}[self.kind].get(len(words))
-            if self.kind == "min" and len(words) == 4:
-                hint = "Is the lower bound missing? Write 0 where there is none."
-            elif self.kind == "min" and len(words) == 2:
-                hint = "Lower bound, capacity and cost are missing."
-            elif other:
-                hint = f"This is how an arc of `{other}` is written: is the kind on line {self.problem_line} right?"
-            elif len(words) < len(names):
-                hint = "Missing: " + ", ".join(names[len(words) :]) + "."
-        elif what == "n" and self.kind == "asn":
-            hint = "In an assignment the nodes of the source side are named alone; each supplies 1."
-        elif what == "n" and len(words) == 1:
-            hint = (
-                "Missing: what the node supplies (below 0 what it demands)."
-                if self.kind == "min"
-                else "Missing: s for the source or t for the sink."
-            )
+        hint = count_hint(what, self.kind, names, [as_str(word) for word in words], self.problem_line)
         raise self.fail(3, f"`{form}` was expected, and this line has {given}", hint=hint)
 
     def read_problem_line(self, words: List[bytes]) -> None:
@@ -324,18 +151,7 @@ class ProblemReader:
         self.count("p", ("KIND", "NODES", "ARCS"), words)
         kind = as_str(words[0])
         if kind not in ARC_FIELDS:
-            hint = ""
-            if kind.lower() in ARC_FIELDS:
-                hint = f"Write it in small letters: {kind.lower()}."
-            elif re.match("mcf|min|cost|circ", kind.lower()):
-                hint = "A problem of least cost is min."
-            elif re.match("mf|max|flow", kind.lower()):
-                hint = "A maximum flow is max."
-            elif re.match("as|match|lap", kind.lower()):
-                hint = "An assignment is asn."
-            elif kind.lower() in ("sp", "edge", "col", "cnf", "ghct", "geom"):
-                hint = "That is another kind of file, which is no flow problem."
-            raise self.fail(8, "min, max or asn", name="KIND", value=kind, hint=hint)
+            raise self.fail(8, "min, max or asn", name="KIND", value=kind, hint=kind_hint(kind))
         self.nodes = self.number("NODES", words[1], 1, MOST_NODES)
         self.wanted = self.number("ARCS", words[2], 0, MOST_ARCS)
         self.kind = kind
@@ -426,59 +242,14 @@ class ProblemReader:
             16, f"the arc from {tail} to {head} does not lead from the source side to the sink side", hint=hint
         )
 
-    def first_word_hint(self, word: str, line: str) -> str:
-        """What to do about a line whose first word is unknown."""
-        if self.line == 1 and word.startswith("\ufeff"):
-            return "The file begins with a byte order mark: save it as UTF-8 without one."
-        if self.line == 1 and (
-            line.startswith("PK\x03")
-            or line.startswith("\x1f\udc8b")
-            or line.startswith("BZh")
-            or line.startswith("\udcfd7zXZ")
-            or line.startswith("(\udcb5/\udcfd")
-        ):
-            return "This is a packed file or a spreadsheet: unpack it, or save it as plain text."
-        if self.line == 1 and (word.startswith("\udcff\udcfe") or word.startswith("\udcfe\udcff") or "\0" in word):
-            return "This is UTF-16: save it as plain text (UTF-8)."
-        if re.match(r"[#%/;!*]", word):
-            return "A comment begins with c."
-        if re.match(r"[pna][,;]", word, re.IGNORECASE):
-            return "Fields are parted by blanks: put blanks where the commas and semicolons are."
-        if word in ("P", "N", "A", "C"):
-            return f"Write it as a small letter: {word.lower()}."
-        if word in ("s", "f", "v", "i", "k"):
-            return "Is this an answer in place of a problem?"
-        if word.lower() in ("arc", "e", "edge"):
-            return "An arc line begins with a."
-        if word.lower() in ("node", "nodes", "v"):
-            return "A node line begins with n."
-        if word.lower() in ("problem", "min", "max", "asn"):
-            return "The problem line is `p KIND NODES ARCS`."
-        if word in ("\x1a", "\x0c"):
-            return "A byte of control stands at the end of the file: take it out."
-        if not word.isascii() or not word.isprintable():
-            return "There is a character in it that is no plain letter."
-        if re.fullmatch(r"-?\d+", word):
-            return "An arc line begins with a, a node line with n."
-        if re.search(r"[,;]", line) and self.line == 1:
-            return "A table is read by `mcf-plan plan`, and not as a problem."
-        return ""
-
     def read_line(self, raw: bytes) -> None:
         """Takes the next line, without its line feed."""
         self.line += 1
         if len(raw) > LONGEST_LINE:
-            hint = ""
-            if raw.count(b"\r") > 1:
-                hint = "Its lines end with carriage returns alone: save the file with line feeds."
-            elif raw.startswith((b"PK\x03", b"\x1f\x8b")):
-                hint = "This is a packed file or a spreadsheet: unpack it, or save it as plain text."
-            elif b"\0" in raw:
-                hint = "This is no plain text: save it as UTF-8."
-            elif raw.lstrip(b" \t\r").startswith(b"c"):
-                hint = "Break the comment into several lines, each beginning with c."
             raise self.fail(
-                1, f"the line has {_grouped(len(raw))} bytes, and at most {LONGEST_LINE:,} are taken", hint=hint
+                1,
+                f"the line has {_grouped(len(raw))} bytes, and at most {LONGEST_LINE:,} are taken",
+                hint=long_line_hint(raw),
             )
         words = [word for word in _BLANKS.split(raw) if word]
         if not words or words[0].startswith(b"c"):
@@ -491,7 +262,7 @@ class ProblemReader:
                 "p, n, a, or c for a comment",
                 name="first word",
                 value=word,
-                hint=self.first_word_hint(word, as_str(raw)),
+                hint=first_word_hint(word, as_str(raw), is_first=self.line == 1),
             )
         if what == b"p":
             if self.kind:
@@ -608,7 +379,7 @@ class _AnswerReader:
                 "a whole number" if signed else "a whole number, 0 or more",
                 name=name,
                 value=value,
-                hint=_number_hint(name, value, signed),
+                hint=number_hint(name, value, signed),
             )
         number = int(word)
         if name in ("SRC", "DST", "ID") and self.problem is not None and not 1 <= number <= self.problem.nodes:
@@ -735,9 +506,6 @@ def find_answer_fault(problem: Text, answer: Text) -> Optional[Fault]:
     except _Found as found:
         return found.fault
     return None
-
-
-ArcRow = Tuple[int, int, int, int, int]
 
 
 @dataclass

@@ -5,8 +5,8 @@ from __future__ import annotations
 from decimal import Decimal
 from typing import List, Optional, Tuple
 
-from .dimacs import MOST_ARCS, MOST_COST, MOST_FLOW, MOST_NODES
 from .errors import BeyondLimits, DoesNotFit
+from .formats import MOST_ARCS, MOST_COST, MOST_FLOW, MOST_NODES
 from .meaning import Options, told
 from .problem import ZERO, Arc, Problem, plain
 from .units import Scale, places_of

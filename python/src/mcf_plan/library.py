@@ -33,7 +33,8 @@ from .calls import (
     find_library,
     load,
 )
-from .dimacs import Answer, Text, as_bytes, find_fault, parse_problem
+from .dimacs import Answer, find_fault, parse_problem
+from .formats import Text, as_bytes
 from .program import Dialogue, Program, ProgramFailed, Refused, TimeLimit, command_of
 
 Result = TypeVar("Result")

@@ -4,9 +4,10 @@ from __future__ import annotations
 
 from typing import Dict, List, Tuple
 
-from .dimacs import MOST_ARCS, MOST_FLOW, MOST_NODES, ArcRow, DimacsProblem
+from .dimacs import DimacsProblem
 from .errors import DoesNotFit
 from .figures import Bounds, Figures, is_large, too_large
+from .formats import MOST_ARCS, MOST_FLOW, MOST_NODES, ArcRow
 from .room import Room
 
 Form = Tuple[int, bool]

@@ -17,7 +17,8 @@ from __future__ import annotations
 from decimal import Decimal, InvalidOperation
 from typing import Dict, Iterator, List, NamedTuple, Optional, Tuple
 
-from .dimacs import RETURN_CAPACITY, Answer, DimacsProblem, Text, parse_answer, parse_problem
+from .dimacs import Answer, DimacsProblem, parse_answer, parse_problem
+from .formats import RETURN_CAPACITY, Text
 
 PROGRAMS = ("lemon", "glpk", "flows")
 """Whose answers are read: see docs/OTHERS.md."""

@@ -9,7 +9,8 @@ from fractions import Fraction
 from functools import lru_cache
 from typing import TYPE_CHECKING, Any, Callable, Dict, Iterable, List, NamedTuple, Optional, Tuple, Union
 
-from .dimacs import ARC_FIELDS, ProblemReader, Text, read_with
+from .dimacs import ProblemReader, read_with
+from .formats import ARC_FIELDS, Text
 
 if TYPE_CHECKING:
     from .plan import Infeasible, Plan

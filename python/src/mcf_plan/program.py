@@ -20,7 +20,8 @@ from typing import Deque, List, Optional, Tuple
 
 from .deadline import Deadline
 from .deadline import TimeLimit as TimeLimit
-from .dimacs import LONGEST_LINE, Fault, Text, as_bytes, as_str, find_answer_fault, find_fault
+from .dimacs import Fault, find_answer_fault, find_fault
+from .formats import LONGEST_LINE, Text, as_bytes, as_str
 from .native import built
 from .signals import dying_with_us
 

@@ -14,9 +14,10 @@ from typing import TYPE_CHECKING, Callable, Iterable, List, Optional, Tuple, Uni
 
 from .change import Change
 from .deadline import Deadline
-from .dimacs import MOST_FLOW, Answer, ArcRow, parse_answer
+from .dimacs import Answer, parse_answer
 from .errors import BeyondLimits, CannotRewrite, DoesNotFit, Meaningless, Unbounded
 from .figures import Figures
+from .formats import MOST_FLOW, ArcRow
 from .lines import Lines
 from .meaning import Options, Surplus, check_meaning, text_kind
 from .plan import Disagreement, Infeasible, Plan

@@ -12,9 +12,9 @@ from collections import deque
 from dataclasses import dataclass
 from typing import Dict, List, Optional, Tuple
 
-from .dimacs import MOST_FLOW
 from .errors import Unbounded
 from .figures import Figures
+from .formats import MOST_FLOW
 from .problem import plain, total_of
 
 

@@ -14,7 +14,8 @@ from decimal import Decimal
 from typing import TYPE_CHECKING, Any, Dict, Iterator, List, NamedTuple, Optional, Tuple, Union
 
 from .deadline import Deadline
-from .dimacs import MOST_ARCS, MOST_EDITS, REFUSALS, Answer, parse_answer
+from .dimacs import Answer, parse_answer
+from .formats import MOST_ARCS, MOST_EDITS, REFUSALS
 from .plan import Infeasible, Plan
 from .problem import ZERO, Arc, ArcKey, Number, Problem, capacity, exact, plain
 from .program import Dialogue, Program
