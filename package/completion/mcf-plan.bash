@@ -3,7 +3,7 @@ _mcf_plan() {
     local word=${COMP_WORDS[COMP_CWORD]} before=${COMP_WORDS[COMP_CWORD - 1]} command="" words="" i
     local tables="-h --help --kind --source --sink --surplus --balance --columns --decimal --default-cost --round"
     tables+=" --encoding --time-limit"
-    local commands="plan what-if board explain check faults convert ranges"
+    local commands="plan what-if board explain check faults convert ranges sweep"
     for ((i = 1; i < COMP_CWORD; i++)); do
         if [[ " $commands " == *" ${COMP_WORDS[i]} "* ]]; then
             command=${COMP_WORDS[i]}
@@ -15,14 +15,15 @@ _mcf_plan() {
     --kind) words="min max asn" ;;
     --surplus) words="refuse keep" ;;
     --decimal) words=". ," ;;
-    --from) words="mcf lemon glpk flows" ;;
+    --from) [ "$command" = sweep ] && return || words="mcf lemon glpk flows" ;;
     --balance)
         local IFS=$'\n'
         mapfile -t COMPREPLY < <(compgen -W $'equal\nat\\ least\nat\\ most' -- "$word")
         return
         ;;
     # These are for the user to say.
-    --source | --sink | --columns | --default-cost | --round | --encoding | --time-limit | --title | --port) return ;;
+    --source | --sink | --columns | --default-cost | --round | --encoding | --time-limit | --title | --port | \
+        --only | --beside | --cap | --low | --cost | --supply | --to | --step | --values) return ;;
     esac
     if [ -n "$words" ]; then
         mapfile -t COMPREPLY < <(compgen -W "$words" -- "$word")
@@ -37,7 +38,10 @@ _mcf_plan() {
     check) words="-h --help --from" ;;
     faults) words="-h --help" ;;
     convert) words="$tables -o --output" ;;
-    ranges) words=$tables ;;
+    ranges) words="$tables --only --supplies --beside" ;;
+    sweep)
+        words="$tables --cap --low --cost --supply --beside --from --to --step --values --chart --table --json"
+        ;;
     esac
     case $command,$word in
     ,* | *,-*) mapfile -t COMPREPLY < <(compgen -W "$words" -- "$word") ;;

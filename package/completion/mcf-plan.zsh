@@ -12,6 +12,7 @@ _mcf-plan() {
         'faults:say what is wrong with a problem text'
         'convert:write tables as a text that mcf reads'
         'ranges:say what one unit more saves'
+        'sweep:say what a plan costs over values of a number'
     )
     local -a help=('(- *)'{-h,--help}'[print help]')
     local -a tables=(
@@ -48,7 +49,18 @@ _mcf-plan() {
                     ;;
                 faults) _arguments $help ':problem:_files' ':answer:_files' ;;
                 convert) _arguments $tables {-o,--output}'[write to a file]:file:_files' ;;
-                ranges) _arguments $tables ;;
+                ranges)
+                    _arguments $tables '*--only[tell of this arc alone]:arc:' \
+                        '--supplies[tell of nodes in place of arcs]' '--beside[which node changes the other way]:node:'
+                    ;;
+                sweep)
+                    _arguments $tables '--cap[the capacity of an arc]:arc:' '--low[the lower bound of an arc]:arc:' \
+                        '--cost[the cost of an arc]:arc:' '--supply[the supply of a node]:node:' \
+                        '--beside[which node changes the other way]:node:' '--from[the first value]:value:' \
+                        '--to[the last value]:value:' '--step[from value to value]:value:' \
+                        '--values[these values in place of a row]:values:' '--chart[write a chart]:file:_files' \
+                        '--table[write a table]:file:_files' '--json[print it as JSON]'
+                    ;;
             esac
             ;;
     esac

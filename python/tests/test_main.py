@@ -4,6 +4,7 @@ import contextlib
 import io
 import json
 import os
+import re
 import signal
 import socket
 import stat
@@ -14,6 +15,7 @@ import time
 import unittest
 from pathlib import Path
 from unittest import mock
+from xml.etree import ElementTree
 
 from limits import HEARD
 
@@ -170,7 +172,68 @@ class Command(unittest.TestCase):
     def test_ranges(self):
         out, _ = self.run_it("ranges", self.nodes, self.arcs)
         self.assertIn("one more saves", out)
-        self.assertRegex(out, r"Kiel +Ulm +road +2 +2\.75 +1\.25 +any +4\n")
+        self.assertRegex(out, r"Kiel +Ulm +road +2 +2\.75 +1\.25 +any +4 +2 +2 +2\n")
+        out, _ = self.run_it("ranges", self.nodes, self.arcs, "--only", "Kiel Bonn", "--only", "road", "--only", "#2")
+        self.assertEqual(re.findall(r"^Kiel +(\w+)", out, re.M), ["Bonn", "Ulm", "Ulm"])
+        for wrong, words in (("#99", "there is no arc"), ("Kiel Ulm", "several arcs"), ("'", "No closing quotation")):
+            _, errors = self.run_it("ranges", self.nodes, self.arcs, "--only", wrong, status=3)
+            self.assertIn(words, errors)
+
+    def test_ranges_of_supplies(self):
+        out, _ = self.run_it("ranges", self.nodes, self.arcs, "--supplies", "--beside", "Kiel")
+        self.assertRegex(out, r"node +supply +one more costs +one less costs\nKiel +\S+ +0 +0\n")
+        _, errors = self.run_it("ranges", self.nodes, self.arcs, "--supplies", status=3)
+        self.assertIn("say at which node", errors)
+        _, errors = self.run_it("ranges", self.nodes, self.arcs, "--supplies", "--beside", "Rom", status=3)
+        self.assertIn("there is no node Rom", errors)
+
+    def test_ranges_of_other_kinds(self):
+        pairs = self.file("pairs.csv", "from,to,cost\nAnn,early,3\nAnn,late,5\nBob,early,2\nBob,late,9\n")
+        out, _ = self.run_it("ranges", pairs, "--kind", "asn")
+        self.assertRegex(out, r"^cost 7\nfrom +to +name +flow +cost +best from +to\n(.*\n){4}$")
+        pipes = self.file("pipes.csv", "from,to,capacity\na,b,1.5\nb,c,4\n")
+        out, _ = self.run_it("ranges", pipes, "--kind", "max", "--source", "a", "--sink", "c")
+        self.assertRegex(
+            out, r"^flow 1\.5\nfrom.* one more adds +capacity +best from +to\na +b +1\.5 +1 +1\.5 +1\.5 +1\.5\n"
+        )
+        short = self.file("short.min", "p min 2 1\nn 1 5\nn 2 -5\na 1 2 0 3 1\n")
+        out, _ = self.run_it("ranges", short, status=1)
+        self.assertIn("There is no plan", out)
+
+    def test_sweep(self):
+        folder = Path(self.folder.name)
+        chart, table = str(folder / "chart.svg"), str(folder / "sweep.csv")
+        asked = ("sweep", self.nodes, self.arcs, "--cap", "road", "--from", "0", "--to", "3")
+        out, _ = self.run_it(*asked, "--chart", chart, "--table", table)
+        told = re.findall(r"^ +(\d) +(\S+)", out, re.M)
+        for value, cost in told:
+            other = self.file("other.csv", ARCS.replace("Kiel,Ulm,2,", f"Kiel,Ulm,{value},"))
+            self.assertTrue(self.run_it("plan", self.nodes, other)[0].startswith(f"cost {cost}\n"))
+        self.assertEqual([value for value, _ in told], ["0", "1", "2", "3"])
+        self.assertIn("cost over the capacity of road\n", out)
+        rows = Path(table).read_text().splitlines()
+        self.assertEqual((rows[0], len(rows)), ("value,cost,short by", 5))
+        self.assertEqual([tuple(row.split(",")[:2]) for row in rows[1:]], told)
+        ElementTree.parse(chart)
+        points = json.loads(self.run_it(*asked, "--json")[0])["points"]
+        self.assertEqual([(point["value"], point["cost"]) for point in points], told)
+        out, _ = self.run_it("sweep", self.nodes, self.arcs, "--supply", "Kiel", "--values", "1", status=1)
+        self.assertIn("no plan", out)
+
+    def test_sweep_refused(self):
+        for words, status in (
+            ((), 2),
+            (("--cap", "road"), 3),
+            (("--cap", "road", "--from", "0", "--to", "3", "--step", "0"), 3),
+            (("--cap", "road", "--values", "1", "--to", "3"), 3),
+            (("--cap", "road", "--values", "much"), 2),
+            (("--cap", "nowhere", "--values", "1"), 3),
+            (("--cap", "road", "--cost", "road", "--values", "1"), 2),
+            (("--supply", "Rom", "--values", "1"), 3),
+            (("--cap", "road", "--values", "1", "--table", "sweep.txt"), 3),
+        ):
+            with self.subTest(words):
+                self.run_it("sweep", self.nodes, self.arcs, *words, status=status)
 
     def test_what_if(self):
         commands = self.file(
@@ -382,7 +445,7 @@ class Command(unittest.TestCase):
 
     def test_help_and_version(self):
         out, _ = self.run_it("--help")
-        for word in ("plan", "what-if", "board", "explain", "check", "faults", "convert", "ranges"):
+        for word in ("plan", "what-if", "board", "explain", "check", "faults", "convert", "ranges", "sweep"):
             self.assertIn(word, out)
         self.assertRegex(self.run_it("--version")[0], r"^mcf-plan \d")
 

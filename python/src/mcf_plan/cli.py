@@ -19,10 +19,11 @@ from .dimacs import find_answer_fault, find_fault, parse_answer, parse_problem
 from .explain import explain
 from .formats import as_str
 from .plan import Disagreement, Infeasible, Plan
-from .printing import of_system, print_table, say, tell, visible
+from .printing import of_system, say, tell, visible
 from .problem import Problem, exact, plain
 from .program import Program, ProgramFailed, Refused, TimeLimit
 from .progress import Progress
+from .questions import add_ranges, add_sweep, run_ranges, run_sweep
 from .rewrite import BeyondLimits, CannotRewrite, Options, Surplus, Unbounded, rewrite, solve
 from .rounding import MOST_DECIMALS, round_problem
 from .session import Session
@@ -179,7 +180,11 @@ def _parser() -> argparse.ArgumentParser:
     )
     convert.add_argument("-o", "--output", metavar="FILE", help="write to a file in place of the output")
 
-    command("ranges", _ranges, "say what one unit more saves, and within which costs the plan stays best", tables=True)
+    ranges = command(
+        "ranges", _ranges, "say what one unit more saves, and within which costs the plan stays best", tables=True
+    )
+    add_ranges(ranges)
+    add_sweep(command("sweep", _sweep, "say what a plan costs at each of several values of one number", tables=True))
     return parser
 
 
@@ -366,7 +371,7 @@ def _read_problem_text(name: str) -> Problem:
         raise TableFault(refused.fault.words("the problem" if name == "-" else name)) from None
 
 
-# ---------------------------------------------------------------- plan, explain, ranges
+# ---------------------------------------------------------------- plan, explain, ranges, sweep
 
 
 def _plan(options: argparse.Namespace) -> int:
@@ -420,33 +425,11 @@ def _explain(options: argparse.Namespace) -> int:
 
 
 def _ranges(options: argparse.Namespace) -> int:
-    from .sensitivity import ranges
+    return 0 if run_ranges(options, _read(options)) else NO_PLAN
 
-    problem = _read(options)
-    with Session(problem, surplus=options.surplus, time_limit=options.time_limit) as session:
-        result = session.plan(True)
-        if isinstance(result, Infeasible):
-            say(result.explain(), sys.stdout)
-            return NO_PLAN
-        print(f"{'flow' if problem.kind == 'max' else 'cost'} {plain(result.cost)}")
-        more = "one more adds" if problem.kind == "max" else "one more saves"
-        rows = [["from", "to", "name", "flow", more, "cost", "best from", "to"]]
-        for row in ranges(session):
-            arc = problem.arcs[row.arc]
-            rows.append(
-                [
-                    str(arc.tail),
-                    str(arc.head),
-                    arc.name or "",
-                    plain(result.flows[row.arc]),
-                    plain(row.saves),
-                    plain(arc.cost),
-                    "any" if row.least_cost is None else plain(row.least_cost),
-                    "any" if row.greatest_cost is None else plain(row.greatest_cost),
-                ]
-            )
-        print_table(rows, 3, sys.stdout)
-    return 0
+
+def _sweep(options: argparse.Namespace) -> int:
+    return 0 if run_sweep(options, _read(options)) else NO_PLAN
 
 
 # ---------------------------------------------------------------- texts

@@ -1,8 +1,10 @@
-"""What a plan depends on: what one unit more saves, the range of a cost within which the plan stays best, a curve of
-the cost over one number, and the minimum cut of a maximum flow.
+"""What a plan depends on: what one unit more saves, within which costs and capacities the plan stays best, what one unit
+more or less of a supply costs, and the minimum cut of a maximum flow.
 
-All of it is exact, and found by solving anew through one session of its own beside the session that is asked about:
-that one keeps its moment, and what it can undo and redo.
+All of it is exact, and found by shortest ways over the residual network of the plan, from the prices that come with it
+and show that it is best; nothing is solved anew. Only where amounts have decimals, a whole unit is more than the least
+step: what it saves or costs is then found by solving anew, of those arcs and nodes where a step saves or costs
+something, through a session of its own beside the one that is asked about.
 
 >>> from mcf_plan import Problem, Session
 >>> problem = Problem()
@@ -12,203 +14,213 @@ that one keeps its moment, and what it can undo and redo.
 >>> with Session(problem) as session:
 ...     one_unit_more(session)
 ...     cost_range(session, road)
-...     curve(session, ("cap", road), [0, 4])
+...     supply_prices(session, "depot")[1].one_less
 [Decimal('1.25'), Decimal('0')]
 (None, Decimal('3.75'))
-[(Decimal('0'), Decimal('15')), (Decimal('4'), Decimal('10'))]
+Decimal('3.75')
 """
 
 from __future__ import annotations
 
 from decimal import Decimal
-from fractions import Fraction
-from typing import Any, Callable, Dict, Iterable, List, NamedTuple, Optional, Tuple, Union
+from typing import Iterable, List, NamedTuple, Optional, Tuple
 
 from .cuts import Cut as Cut
 from .cuts import minimum_cut as minimum_cut
 from .plan import Infeasible, Plan
-from .problem import ArcKey, Number, exact
-from .rewrite import BeyondLimits, Meaningless, Unbounded
+from .problem import WIDE, ZERO, ArcKey
+from .ranging import Ends, Step, adding_arcs, first_prices, no_step
+from .residual import Residual
+from .rewrite import Meaningless
 from .session import Session
+from .sweep import What, set_number
 
 Limits = Tuple[Optional[Decimal], Optional[Decimal]]
 """The least and the greatest value; None where there is no end."""
 
-What = Tuple[Any, ...]
-"""A number of a problem: ('cap', arc), ('low', arc), ('cost', arc) or ('supply', node); or ('supply', node, other),
-where the supply of the node `other` changes by as much the other way."""
-
 
 class Ranges(NamedTuple):
-    """An arc's sensitivity: what one unit more of capacity saves (0 in `asn`), and the range of its cost (no ends in
-    `max`). `arc` is its number."""
+    """An arc's sensitivity. `arc` is its number.
+
+    `saves` is what one unit more of its capacity saves (0 in `asn`); in `max` how much more flows. Between `least_cost`
+    and `greatest_cost` the plan as it stands stays best, the other numbers as they are (no ends in `max`). Between
+    `least_cap`, which is what the arc carries, and `greatest_cap` it does likewise (no ends in `asn`); beyond that, more
+    capacity makes another plan better. None is no end.
+    """
 
     arc: int
     saves: Decimal
     least_cost: Optional[Decimal]
     greatest_cost: Optional[Decimal]
+    least_cap: Optional[Decimal]
+    greatest_cap: Optional[Decimal]
 
 
-def one_unit_more(session: Session) -> List[Decimal]:
+class SupplyPrice(NamedTuple):
+    """What one unit more of supply at a node costs, and one unit less, which is one more of demand; below 0 it saves.
+
+    None where there would be no plan.
+    """
+
+    node: str
+    one_more: Optional[Decimal]
+    one_less: Optional[Decimal]
+
+
+def one_unit_more(session: Session, step: Step = no_step) -> List[Decimal]:
     """For each arc what one unit more of its capacity saves; in `max` how much more flows.
 
     Where there is no plan: how much less is missing then. Raises Meaningless for `asn`, which has no capacities.
     """
-    if session.problem.kind == "asn":
+    problem = session.problem
+    if problem.kind == "asn":
         raise Meaningless("an assignment has no capacities")
     answer = session.plan()
-    with session.beside() as beside:
-        return [saved(beside, answer, arc) for arc in range(len(session.problem.arcs))]
+    if isinstance(answer, Infeasible):
+        return _lessened(session, answer, step)
+    arcs = list(range(len(problem.arcs)))
+    residual = Residual(answer)
+    return _savings(session, residual, arcs, _first_savings(answer, residual, arcs, step), step)
 
 
 def cost_range(session: Session, arc: ArcKey) -> Limits:
-    """Between which costs of an arc the plan as it stands stays best, the other costs as they are.
+    """Between which costs of an arc the plan as it stands stays best, the other numbers as they are.
 
     Raises Meaningless for `max`, which has no costs, and where there is no plan.
     """
-    place, plan = session.problem.find_arc(arc), standing_plan(session)
-    with session.beside() as beside:
-        grid = steps_and_reach(plan)
-        return end_of_range(beside, plan, place, -1, grid), end_of_range(beside, plan, place, 1, grid)
-
-
-def ranges(session: Session) -> List[Ranges]:
-    """Both for each arc, through one session. Raises Meaningless where there is no plan."""
-    kind, plan = session.problem.kind, session.plan()
-    if isinstance(plan, Infeasible):
-        raise Meaningless("there is no plan, so it has no ranges")
-    grid = steps_and_reach(plan)
-    with session.beside() as beside:
-        return [
-            Ranges(
-                arc,
-                Decimal(0) if kind == "asn" else saved(beside, plan, arc),
-                *(
-                    (None, None)
-                    if kind == "max"
-                    else (end_of_range(beside, plan, arc, -1, grid), end_of_range(beside, plan, arc, 1, grid))
-                ),
-            )
-            for arc in range(len(session.problem.arcs))
-        ]
-
-
-def curve(session: Session, what: What, values: Iterable[Number]) -> List[Tuple[Decimal, Optional[Decimal]]]:
-    """For each value of one number of the problem the cost of a best plan (in `max` the flow); None where there is
-    none.
-
-    Raises Unbounded, BeyondLimits, EditRefused, KeyError or ValueError where a value can't be set.
-    """
-    points: List[Tuple[Decimal, Optional[Decimal]]] = []
-    with session.beside() as beside:
-        for value in map(exact, values):
-            points.append((value, set_number(beside, what, value)))
-            beside.undo()
-    return points
-
-
-# ---- through a session beside
-
-
-def standing_plan(session: Session) -> Plan:
-    """The plan as it stands. Raises Meaningless where there is none, or no costs."""
     if session.problem.kind == "max":
         raise Meaningless("a maximum flow has no costs")
-    plan = session.plan()
+    found = ranges(session, [arc])[0]
+    return found.least_cost, found.greatest_cost
+
+
+def ranges(session: Session, only: Optional[Iterable[ArcKey]] = None, step: Step = no_step) -> List[Ranges]:
+    """The sensitivity of all arcs, or of those in `only`.
+
+    `step` is told how much of how much is done. Raises Meaningless where there is no plan, KeyError where an arc is
+    unknown.
+    """
+    problem, plan = session.problem, session.plan()
+    arcs = list(range(len(problem.arcs))) if only is None else [problem.find_arc(arc) for arc in only]
     if isinstance(plan, Infeasible):
         raise Meaningless("there is no plan, so it has no ranges")
-    return plan
+    residual = Residual(plan)
+    if problem.kind == "max":
+        limits: List[Limits] = [(None, None)] * len(arcs)
+        firsts = _first_savings(plan, residual, arcs, step)
+    else:
+        ends = Ends(residual, arcs, step=step)
+        price = residual.price_or_none
+        limits = [(price(ends.least_cost(arc)), price(ends.greatest_cost(arc))) for arc in arcs]
+        firsts = [ends.saving(arc) for arc in arcs]
+    if problem.kind == "asn":
+        return [Ranges(arc, ZERO, *costs, None, None) for arc, costs in zip(arcs, limits)]
+    savings = _savings(session, residual, arcs, firsts, step)
+    return [
+        Ranges(arc, saves, *costs, plan.flows[arc], problem.arcs[arc].cap if first else None)
+        for arc, saves, costs, first in zip(arcs, savings, limits, firsts)
+    ]
 
 
-def saved(beside: Session, answer: Union[Plan, Infeasible], arc: int) -> Decimal:
-    """What one unit more of capacity saves on an arc. Only arcs that the proof of the answer leans on are asked about:
-    for others the same proof holds with more capacity."""
-    row = answer.problem.arcs[arc]
-    if row.cap is None:
-        return Decimal(0)
-    if isinstance(answer, Plan):
-        if answer.prices is not None and answer.reduced_cost(arc) >= 0:
-            return Decimal(0)
-        before, after = answer.cost, beside.set_cap(arc, row.cap + 1)
-        assert after is not None
-        beside.undo()
-        return after - before if answer.problem.kind == "max" else before - after
-    if (row.tail in answer.cut) == (row.head in answer.cut):
-        return Decimal(0)
-    beside.set_cap(arc, row.cap + 1)
-    left = beside.shortage
-    beside.undo()
-    return answer.shortage - (left or Decimal(0))
+def supply_prices(session: Session, beside: Optional[str] = None, step: Step = no_step) -> List[SupplyPrice]:
+    """For each node what one unit more of supply there costs, and one unit less.
 
-
-def end_of_range(beside: Session, plan: Plan, arc: int, side: int, grid: Tuple[Decimal, int]) -> Optional[Decimal]:
-    """The end of an arc's range of costs on the side of lower (-1) or higher (1) ones; None where there is none.
-
-    By how much the plan is dearer than a best one grows with the distance from the end, and grows the faster the
-    further. From a cost beyond the end, each step goes to where the line through two neighbouring points of this curve
-    meets 0, which is never before the end. Ends are sums of costs, and have no more decimals than these.
+    The supply of the node `beside` changes by as much the other way, so that all supplies add up to 0 as before. Where
+    what is too much or too little is kept or not met, it is left out: that takes up the change, and no other supply
+    changes. Raises KeyError where there is no such node; Meaningless where there is no plan, for kinds other than `min`,
+    and where `beside` is missing or too many.
     """
-    row = plan.problem.arcs[arc]
-    if plan.flows[arc] == (row.low if side > 0 else row.cap):
-        return None
-    step, distance = grid
-    has_end = False
-    beside.mark("as it stands")
-    try:
-        while True:
-            at = row.cost + side * distance * step
-            try:
-                far = dearer(beside, plan, arc, at)
-                near = dearer(beside, plan, arc, at - side * step) if far else far
-            except Unbounded as unbounded:
-                # The end is not beyond the cost by which this circle costs nothing.
-                others = (plan.problem.arcs[other].cost for other in unbounded.arcs if other != arc)
-                distance, has_end = int((-sum(others, Decimal(0)) - row.cost) * side / step), True
-                continue
-            except BeyondLimits:
-                distance //= 2
-                continue
-            if far == 0:
-                return at if has_end else None
-            if near == 0:
-                return at - side * step
-            distance, has_end = distance - 1 - int(near / (far - near)), True
-    finally:
-        beside.back("as it stands")
+    problem, plan = session.problem, session.plan()
+    if problem.kind != "min":
+        raise Meaningless(f"a problem of kind '{problem.kind}' has no supplies to change")
+    if isinstance(plan, Infeasible):
+        raise Meaningless("there is no plan, so its supplies have no prices")
+    if beside is not None and beside not in problem.nodes:
+        raise KeyError(f"there is no node {beside}")
+    residual = Residual(plan)
+    if residual.has_rest and beside is not None:
+        raise Meaningless(f"what is kept or not met takes up each change, so the supply of {beside} can't do so too")
+    if not residual.has_rest and beside is None:
+        raise Meaningless("all supplies together have to be 0: say at which node the supply changes the other way")
+    prices = list(first_prices(plan, residual, residual.rest if beside is None else residual.numbers[beside]))
+    if residual.amounts == 1:
+        price = residual.price_or_none
+        return [SupplyPrice(name, price(more), price(less)) for name, (more, less) in zip(problem.nodes, prices)]
+    return _whole_prices(session, beside, prices, step)
 
 
-def dearer(beside: Session, plan: Plan, arc: int, cost: Decimal) -> Fraction:
-    """By how much the plan is dearer than a best one where an arc has this cost, which it keeps."""
-    best = beside.set_cost(arc, cost)
-    assert best is not None
-    row, flow = plan.problem.arcs[arc], Fraction(plan.flows[arc])
-    return Fraction(plan.cost) + (Fraction(cost) - Fraction(row.cost)) * flow - Fraction(best)
+# ---------------------------------------------------------------- what one unit more saves
 
 
-def steps_and_reach(plan: Plan) -> Tuple[Decimal, int]:
-    """The last decimal place of the costs, and how many of these an end may be away from a cost at most."""
-    costs = [arc.cost for arc in plan.problem.arcs] + [plan.rest_cost or Decimal(0)] * 2
-    places = max(max(0, -int(cost.normalize().as_tuple().exponent)) for cost in costs)
-    step = Decimal(1).scaleb(-places)
-    return step, int(2 * sum((abs(cost) for cost in costs), Decimal(0)) / step) + 1
+def _first_savings(plan: Plan, residual: Residual, arcs: List[int], step: Step) -> List[int]:
+    """What the least step more of capacity saves, or adds, on each of these arcs, in the residual network's units."""
+    if plan.problem.kind == "max":
+        adds = adding_arcs(plan, residual)
+        return [int(adds[arc]) for arc in arcs]
+    ends = Ends(residual, arcs, with_costs=False, step=step)
+    return [ends.saving(arc) for arc in arcs]
 
 
-def set_number(beside: Session, what: What, value: Decimal) -> Optional[Decimal]:
-    """Sets one number of a session, as one step, and answers the cost then."""
-    if what[0] == "supply" and len(what) == 3:
-        node, other = what[1:]
-        nodes = beside.problem.nodes
-        left = nodes[other] - (value - nodes[node])
-        with beside.group():
-            beside.set_supply(node, value)
-            beside.set_supply(other, left)
-        return beside.cost
-    edits: Dict[str, Callable[[Any, Decimal], Optional[Decimal]]] = {
-        "cap": beside.set_cap,
-        "low": beside.set_low,
-        "cost": beside.set_cost,
-        "supply": beside.set_supply,
-    }
-    if what[0] not in edits or len(what) != 2:
-        raise ValueError(f"{what!r} is no number of a problem: say 'cap', 'low', 'cost' or 'supply', and where")
-    return edits[what[0]](what[1], value)
+def _savings(session: Session, residual: Residual, arcs: List[int], firsts: List[int], step: Step) -> List[Decimal]:
+    """What a whole unit more of capacity saves, or adds, where the least step more saves so much."""
+    is_max = session.problem.kind == "max"
+    if residual.amounts == 1:
+        return [Decimal(first) if is_max else residual.price(first) for first in firsts]
+    found = [ZERO] * len(arcs)
+    asked = [place for place, first in enumerate(firsts) if first]
+    before = session.cost
+    assert before is not None
+    with session.beside() as beside:
+        for done, place in enumerate(asked):
+            step(done, len(asked))
+            cap = session.problem.arcs[arcs[place]].cap
+            assert cap is not None
+            after = beside.set_cap(arcs[place], WIDE.add(cap, Decimal(1)))
+            assert after is not None
+            found[place] = WIDE.subtract(after, before) if is_max else WIDE.subtract(before, after)
+            beside.undo()
+    return found
+
+
+def _lessened(session: Session, answer: Infeasible, step: Step) -> List[Decimal]:
+    """How much less is missing with one unit more of capacity on each arc. Only arcs over the border of the cut are
+    asked about: for others the same cut holds with more capacity."""
+    arcs = answer.problem.arcs
+    found = [ZERO] * len(arcs)
+    asked = [
+        number
+        for number, arc in enumerate(arcs)
+        if arc.cap is not None and (arc.tail in answer.cut) != (arc.head in answer.cut)
+    ]
+    with session.beside() as beside:
+        for done, number in enumerate(asked):
+            step(done, len(asked))
+            beside.set_cap(number, WIDE.add(arcs[number].cap or ZERO, Decimal(1)))
+            found[number] = WIDE.subtract(answer.shortage, beside.shortage or ZERO)
+            beside.undo()
+    return found
+
+
+# ---------------------------------------------------------------- what one unit more of supply costs
+
+
+def _whole_prices(
+    session: Session, beside: Optional[str], firsts: List[Tuple[Optional[int], Optional[int]]], step: Step
+) -> List[SupplyPrice]:
+    """What a whole unit more of supply costs, and one less; None where not even the least step has a plan."""
+    problem, before = session.problem, session.cost
+    assert before is not None
+    prices: List[SupplyPrice] = []
+    with session.beside() as other:
+        for done, (name, first) in enumerate(zip(problem.nodes, firsts)):
+            step(done, len(firsts))
+            found: List[Optional[Decimal]] = []
+            for by, price in zip((Decimal(1), Decimal(-1)), first):
+                after = None if price is None else before
+                if price is not None and name != beside:
+                    what: What = ("supply", name) if beside is None else ("supply", name, beside)
+                    after = set_number(other, what, WIDE.add(problem.nodes[name], by))
+                    other.undo()
+                found.append(None if after is None else WIDE.subtract(after, before))
+            prices.append(SupplyPrice(name, found[0], found[1]))
+    return prices

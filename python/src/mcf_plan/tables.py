@@ -675,20 +675,27 @@ def check_output(path: Union[str, Path], inputs: Iterable[str] = ()) -> None:
 
 
 def write_plan(plan: Plan, path: Union[str, Path]) -> None:
-    """Writes the arcs of a plan with their flows as a table: .csv, .tsv or .xlsx, or `book.xlsx:plan` for one sheet of
-    a workbook whose other sheets are kept. Raises TableFault for another ending."""
+    """Writes the arcs of a plan with their flows as a table: .csv, .tsv or .xlsx, or `book.xlsx:plan` for one sheet of a
+    workbook whose other sheets are kept. Raises TableFault for another ending."""
+    write_table(path, PLAN_COLUMNS, plan_rows(plan), sheet="plan", texts=3)
+
+
+def write_table(
+    path: Union[str, Path], columns: Sequence[str], rows: Iterable[Sequence[str]], *, sheet: str, texts: int = 0
+) -> None:
+    """Writes rows as a table: .csv, .tsv or .xlsx, or `book.xlsx:SHEET`, without which the sheet is called `sheet`. In a
+    workbook the cells behind the first `texts` are numbers. Raises TableFault for another ending."""
     check_output(path)
-    path, sheet = part_sheet(path)
-    rows = plan_rows(plan)
+    path, named = part_sheet(path)
     if path.suffix.lower() in WORKBOOKS:
         from .workbook import write_sheet
 
-        numbers = [[_cell(cell) if place > 2 else cell for place, cell in enumerate(row)] for row in rows]
-        write_sheet(path, sheet or "plan", [PLAN_COLUMNS, *numbers])
+        numbers = [[_cell(cell) if place >= texts else cell for place, cell in enumerate(row)] for row in rows]
+        write_sheet(path, named or sheet, [columns, *numbers])
         return
     with open(path, "w", newline="", encoding="utf-8") as file:
         writer = csv.writer(file, delimiter="\t" if path.suffix.lower() == ".tsv" else ",", lineterminator="\n")
-        writer.writerow(PLAN_COLUMNS)
+        writer.writerow(columns)
         writer.writerows(rows)
 
 

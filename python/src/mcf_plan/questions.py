@@ -1,0 +1,261 @@
+"""The commands `ranges` and `sweep`: what a plan depends on, and one number over several values."""
+
+from __future__ import annotations
+
+import argparse
+import json
+import shlex
+import sys
+from decimal import Decimal
+from pathlib import Path
+from typing import Any, Dict, List, Optional, Tuple
+
+from .deadline import lift_alarm
+from .plan import Infeasible, Plan
+from .printing import print_table, say
+from .problem import WIDE, Problem, exact, plain
+from .progress import Progress
+from .sensitivity import Ranges, ranges, supply_prices
+from .session import Session
+from .sweep import Point, What, points, row_of_values
+from .tables import check_output, write_table
+
+OF_ARC = {"cap": "capacity", "low": "lower bound", "cost": "cost"}
+
+
+def arc_of(problem: Problem, words: str) -> int:
+    """The number of the arc that words name: its name, `TAIL to HEAD`, its two ends, or #K for the K-th.
+
+    Raises ValueError where there is none, or more than one.
+
+    >>> problem = Problem()
+    >>> problem.add_arc("Bad Aibling", "Ulm", name="B 10")
+    0
+    >>> [arc_of(problem, words) for words in ("B 10", "Bad Aibling to Ulm", "'Bad Aibling' Ulm", "#1")]
+    [0, 0, 0, 0]
+    """
+    try:
+        try:
+            return problem.find_arc(words)
+        except KeyError:
+            parts = shlex.split(words)
+            if len(parts) == 1 and parts[0].startswith("#") and parts[0][1:].isdecimal():
+                return problem.find_arc(int(parts[0][1:]) - 1)
+            if len(parts) == 3 and parts[1] == "to":
+                del parts[1]
+            if len(parts) == 2:
+                return problem.find_arc((parts[0], parts[1]))
+            if len(parts) == 1:
+                return problem.find_arc(parts[0])
+            raise
+    except KeyError as error:
+        raise ValueError(error.args[0]) from None
+
+
+def node_of(problem: Problem, name: str) -> str:
+    """The node of a name. Raises ValueError where there is none."""
+    if name not in problem.nodes:
+        raise ValueError(f"there is no node {name}")
+    return name
+
+
+# ---------------------------------------------------------------- ranges
+
+
+def add_ranges(parser: argparse.ArgumentParser) -> None:
+    """The options of `ranges`."""
+    parser.add_argument(
+        "--only",
+        metavar="ARC",
+        action="append",
+        help="tell of this arc alone: its name, its two ends, or #K for the K-th; may be given several times",
+    )
+    parser.add_argument(
+        "--supplies",
+        action="store_true",
+        help="tell of nodes in place of arcs: what one unit more of supply costs, and one unit less",
+    )
+    parser.add_argument(
+        "--beside", metavar="NODE", help="with --supplies: the node whose supply changes as much the other way"
+    )
+
+
+def run_ranges(options: argparse.Namespace, problem: Problem) -> bool:
+    """Runs `ranges`; whether there is a plan."""
+    with Session(problem, surplus=options.surplus) as session, Progress() as progress:
+
+        def step(done: int, total: int) -> None:
+            progress.now(f"looking for the ranges: {done:,} of {total:,}")
+
+        progress.now("checking the plan")
+        plan = session.plan(True)
+        if isinstance(plan, Infeasible):
+            rows, texts = [], 0
+        elif options.supplies:
+            beside = None if options.beside is None else node_of(problem, options.beside)
+            rows, texts = _supply_rows(problem, supply_prices(session, beside, step)), 1
+        else:
+            only = None if options.only is None else [arc_of(problem, words) for words in options.only]
+            rows, texts = _range_rows(plan, ranges(session, only, step)), 3
+    lift_alarm()
+    if isinstance(plan, Infeasible):
+        say(plan.explain(), sys.stdout)
+        return False
+    print(f"{'flow' if problem.kind == 'max' else 'cost'} {plain(plan.cost)}")
+    print_table(rows, texts, sys.stdout)
+    return True
+
+
+def _range_rows(plan: Plan, told: List[Ranges]) -> List[List[str]]:
+    """The table of arcs; without what has no meaning in the kind of the problem."""
+    kind = plan.problem.kind
+    heads = ["from", "to", "name", "flow"]
+    if kind != "asn":
+        heads.append("one more adds" if kind == "max" else "one more saves")
+    if kind != "max":
+        heads += ["cost", "best from", "to"]
+    if kind != "asn":
+        heads += ["capacity", "best from", "to"]
+    rows = [heads]
+    for found in told:
+        arc = plan.problem.arcs[found.arc]
+        row = [arc.tail, arc.head, arc.name or "", plain(plan.flows[found.arc])]
+        if kind != "asn":
+            row.append(plain(found.saves))
+        if kind != "max":
+            row += [plain(arc.cost), _end(found.least_cost), _end(found.greatest_cost)]
+        if kind != "asn":
+            row += [_end(arc.cap), _end(found.least_cap), _end(found.greatest_cap)]
+        rows.append(row)
+    return rows
+
+
+def _end(number: Optional[Decimal]) -> str:
+    """An end of a range."""
+    return "any" if number is None else plain(number)
+
+
+def _supply_rows(problem: Problem, told: List[Any]) -> List[List[str]]:
+    """The table of nodes."""
+    rows = [["node", "supply", "one more costs", "one less costs"]]
+    for found in told:
+        prices = ["no plan" if price is None else plain(price) for price in (found.one_more, found.one_less)]
+        rows.append([found.node, plain(problem.nodes[found.node]), *prices])
+    return rows
+
+
+# ---------------------------------------------------------------- sweep
+
+
+def add_sweep(parser: argparse.ArgumentParser) -> None:
+    """The options of `sweep`."""
+    what = parser.add_mutually_exclusive_group(required=True)
+    for name, words in OF_ARC.items():
+        what.add_argument(f"--{name}", metavar="ARC", help=f"the {words} of an arc: its name, its two ends, or #K")
+    what.add_argument("--supply", metavar="NODE", help="the supply of a node")
+    parser.add_argument(
+        "--beside", metavar="NODE", help="with --supply: the node whose supply changes as much the other way"
+    )
+    parser.add_argument("--from", dest="first", metavar="VALUE", type=_value, help="the first value")
+    parser.add_argument("--to", dest="last", metavar="VALUE", type=_value, help="the last value")
+    parser.add_argument("--step", metavar="VALUE", type=_value, default=Decimal(1), help="from value to value (1)")
+    parser.add_argument(
+        "--values", metavar="V,V,..", type=_values, help="these values in place of a row (--values=-1,2 below 0)"
+    )
+    parser.add_argument("--chart", metavar="FILE", help="write a chart (SVG)")
+    parser.add_argument("--table", metavar="FILE", help="write the values as a table (.csv, .tsv, .xlsx)")
+    parser.add_argument("--json", action="store_true", help="print them as JSON")
+
+
+def _value(text: str) -> Decimal:
+    """A value of the command line."""
+    try:
+        return exact(text)
+    except ValueError:
+        raise argparse.ArgumentTypeError(f"'{text}' is no number") from None
+
+
+def _values(text: str) -> List[Decimal]:
+    """Values that commas part."""
+    return [_value(part.strip()) for part in text.split(",")]
+
+
+def asked_values(options: argparse.Namespace) -> List[Decimal]:
+    """The values that the command line asks for. Raises ValueError where it does not say which."""
+    if options.values is not None:
+        if options.first is not None or options.last is not None:
+            raise ValueError("say --values, or --from and --to")
+        return list(options.values)
+    if options.first is None or options.last is None:
+        raise ValueError("the values are missing: say --from and --to, or --values")
+    return row_of_values(options.first, options.last, options.step)
+
+
+def asked_number(options: argparse.Namespace, problem: Problem) -> Tuple[What, str, Optional[Decimal]]:
+    """The number that the command line asks about, in words too, and its present value."""
+    if options.supply is not None:
+        node = node_of(problem, options.supply)
+        what: What = ("supply", node)
+        if options.beside is not None:
+            what = ("supply", node, node_of(problem, options.beside))
+        return what, f"supply of {node}", problem.nodes[node]
+    name = next(name for name in OF_ARC if getattr(options, name) is not None)
+    number = arc_of(problem, getattr(options, name))
+    arc = problem.arcs[number]
+    return (name, number), f"{OF_ARC[name]} of {arc.label}", getattr(arc, name)
+
+
+def run_sweep(options: argparse.Namespace, problem: Problem) -> bool:
+    """Runs `sweep`; whether any of the values has a plan."""
+    if options.table:
+        check_output(options.table)
+    values = asked_values(options)
+    what, words, now = asked_number(options, problem)
+    with Session(problem, surplus=options.surplus) as session, Progress() as progress:
+        found: List[Point] = []
+        for point in points(session, what, values):
+            found.append(point)
+            progress.now(f"{len(found):,} of {len(values):,} values")
+    lift_alarm()
+    worth = "flow" if problem.kind == "max" else "cost"
+    if options.json:
+        print(_json(problem, words, found))
+    else:
+        say(f"{worth} over the {words}", sys.stdout)
+        print_table(_sweep_rows(worth, found), 0, sys.stdout)
+    if options.table:
+        rows = [[plain(point.value), *("" if n is None else plain(n) for n in point[1:])] for point in found]
+        write_table(options.table, ["value", worth, "short by"], rows, sheet="sweep")
+    if options.chart:
+        from .chart import svg_chart
+
+        title = f"{worth.capitalize()} over the {words}"
+        text = svg_chart(found, title=title, across=words, up=worth, now=now)
+        Path(options.chart).write_text(text, encoding="utf-8", errors="backslashreplace")
+    return any(point.cost is not None for point in found)
+
+
+def _sweep_rows(worth: str, found: List[Point]) -> List[List[str]]:
+    """The table of values, with by how much each is worth more than the one before."""
+    rows = [["value", worth, "change"] + ["short by"] * any(point.cost is None for point in found)]
+    before: Optional[Decimal] = None
+    for point in found:
+        change = None if before is None or point.cost is None else WIDE.subtract(point.cost, before)
+        cells = [point.cost, change, point.shortage]
+        row = [plain(point.value), *("" if cell is None else plain(cell) for cell in cells)][: len(rows[0])]
+        rows.append([row[0], "no plan", *row[2:]] if point.cost is None else row)
+        before = point.cost
+    return rows
+
+
+def _json(problem: Problem, words: str, found: List[Point]) -> str:
+    """The values as JSON; numbers are texts, so that no program rounds them."""
+
+    def text(number: Optional[Decimal]) -> Optional[str]:
+        return None if number is None else plain(number)
+
+    told: Dict[str, Any] = {"kind": problem.kind, "number": words, "notes": list(problem.notes)}
+    told["points"] = [
+        {"value": text(point.value), "cost": text(point.cost), "shortage": text(point.shortage)} for point in found
+    ]
+    return json.dumps(told, ensure_ascii=False, indent=1)
