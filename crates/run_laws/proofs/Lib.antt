@@ -6,4 +6,5 @@ mod Pieces
 mod Showing
 mod Running
 mod Undoing
+mod Returning
 mod Turning

@@ -1,4 +1,4 @@
--- As many undos as accepted changes lead back to the moment that stood before, and it shows the same.
+-- As many undos as accepted changes, or redos as undos, lead back to the moment that stood before, and it shows the same.
 use Rattle.std.proofs.Common.{◌≡◌, ◌≢◌, ℕ, zero, suc, ◌+◌, ◌<◌, ◌≤◌, Bool, true, false, List, [], ◌∷◌, ◌++◌, length, Ok, Err, Result, Option, Some, None, inl, inr, length-append, refl, sym, ap, subst, ◌∙◌, arith}
 use Rattle.std.specs.Prelude.{⊤, ◌⊎◌, MatchResult}
 use Rattle.dimacs_io.specs.Line.{refusal_line}
@@ -13,22 +13,22 @@ use Rattle.dimacs_text.specs.Turns.{Turn, OfLine, OfGroup}
 use Rattle.network.specs.Edited.{edited, edited_all}
 use Rattle.network.specs.Instance.{Instance, kind_of}
 use Rattle.flow_solver.specs.Moment.{Moment}
-use Rattle.history.specs.Boards.{Timeline, Advances, StepsBack}
+use Rattle.history.specs.Boards.{Timeline, Advances, StepsBack, StepsForward}
 use Rattle.history.specs.Repeated.{Repeated}
-use Rattle.history.proofs.Repeating.{new_steps_undone}
+use Rattle.history.proofs.Repeating.{new_steps_undone, steps_redone}
 use Rattle.session.specs.declared.refusal.StepRefusal.TheVariants as refusal
 use Rattle.session.specs.Refusal.{number_of as step_number}
 use Rattle.session.specs.Step.{Reply, Refuses, SessionState, IsRefused, IsShown, IsApplied, StepBy, StepOfEdits, TurnStep}
 use Rattle.engines.specs.Printing.{reply_text, solution}
 use Rattle.engines.specs.Run.{Run}
-use Rattle.run_laws.specs.Undone.{AllTurns, IsChange, IsEditCommand, IsShow, IsUndo, NoneRefuses, shown_by}
+use Rattle.run_laws.specs.Undone.{AllTurns, IsChange, IsEditCommand, IsRedo, IsShow, IsUndo, NoneRefuses, shown_by}
 
 -- ---- runs over one list of turns and then another
 
-abbrev Splits : SessionState → List Turn → List (List ℕ) → List Turn → List (List ℕ) → SessionState → Type 0
+abbrev pub Splits : SessionState → List Turn → List (List ℕ) → List Turn → List (List ℕ) → SessionState → Type 0
 Splits old turns texts more others new = (mid : SessionState) × Run old turns texts mid × Run mid more others new
 
-split : (old new : SessionState) (turns more : List Turn) (texts others : List (List ℕ)) → length texts ≡ length turns → Run old (turns ++ more) (texts ++ others) new
+pub split : (old new : SessionState) (turns more : List Turn) (texts others : List (List ℕ)) → length texts ≡ length turns → Run old (turns ++ more) (texts ++ others) new
     → Splits old turns texts more others new
 split old new [] more [] others count run = (old, refl, run)
 split old new [] more (text ∷ texts) others count run = absurd (omega (arith, count))
@@ -39,7 +39,7 @@ split old new (turn ∷ turns) more (text ∷ texts) others count run =
 
 -- ---- accepted changes
 
-abbrev Accepts : Reply → Type 0
+abbrev pub Accepts : Reply → Type 0
 Accepts reply = (number : ℕ) → reply ≢ Refuses number
 
 edit_step : (tested : Result Instance ℕ) (edit : Edit) (old new : SessionState) (reply : Reply) → Accepts reply
@@ -73,7 +73,7 @@ change_step (OfLine line) old new reply is accepts step =
 change_step (OfGroup lines) old new reply is accepts step =
     let group = gathered (kind_of old.moments.present.instance.demand) 0 lines in group_step (edited_all old.moments.present.instance group.edits) group old new reply accepts step
 
-accepts_by : (text : List ℕ) (reply : Reply) (m : Moment) → text ≡ reply_text reply m → ((number : ℕ) → text ≢ refusal_line number) → Accepts reply
+pub accepts_by : (text : List ℕ) (reply : Reply) (m : Moment) → text ≡ reply_text reply m → ((number : ℕ) → text ≢ refusal_line number) → Accepts reply
 accepts_by text reply m is never number e = never number (is ∙ ap (λ (r : Reply). reply_text r m) e)
 
 changes : (old new : SessionState) (turns : List Turn) (texts : List (List ℕ)) → AllTurns IsChange turns → NoneRefuses texts → Run old turns texts new
@@ -133,7 +133,7 @@ show_step proof (OfLine line) old new reply is step =
     (subst (λ (q : Result Command ℕ). MatchResult q (λ c. StepBy c old reply new) (λ number. IsRefused number old reply new)) (is (kind_of old.moments.present.instance.demand)) step)
 show_step proof (OfGroup lines) old new reply is step = absurd is
 
-text_shown : (proof : Bool) (turn : Turn) (old new : SessionState) (reply : Reply) (text : List ℕ) → IsShow proof turn → TurnStep old turn reply new → text ≡ reply_text reply new.moments.present
+pub text_shown : (proof : Bool) (turn : Turn) (old new : SessionState) (reply : Reply) (text : List ℕ) → IsShow proof turn → TurnStep old turn reply new → text ≡ reply_text reply new.moments.present
     → (new ≡ old) × (text ≡ solution proof old.moments.present)
 text_shown proof turn old new reply text is step told =
     let shown = show_step proof turn old new reply is step in (
@@ -157,3 +157,67 @@ shows_the_same proof old new first last edits backs shown again told taken shows
     (subst (λ (n : ℕ). Repeated StepsBack n parts.0.moments ends.0.moments) as_many back) in
     let final = text_shown proof last ends.0 ends.2.0 ends.2.1 again shows_again ends.2.2 ends.2.3 in
     final.1 ∙ ap (solution proof) (same.1 ∙ ap (λ (s : SessionState). s.moments.present) start.0) ∙ sym start.1
+
+-- ---- redos
+
+told_undo : (turn : Turn) (old new : SessionState) (reply : Reply) → IsUndo turn → Accepts reply → TurnStep old turn reply new → StepsBack old.moments new.moments
+told_undo (OfLine line) old new reply is accepts step =
+    by (subst (λ (q : Result Command ℕ). MatchResult q (λ c. StepBy c old reply new) (λ number. IsRefused number old reply new)) (is (kind_of old.moments.present.instance.demand)) step)
+  where
+    by : StepBy commands.Undo old reply new → StepsBack old.moments new.moments
+    by (inl undone) = undone.back
+    by (inr none) = absurd (accepts (step_number refusal.NothingToUndo) none.1.reply_is)
+told_undo (OfGroup lines) old new reply is accepts step = absurd is
+
+told_undos : (old new : SessionState) (turns : List Turn) (texts : List (List ℕ)) → AllTurns IsUndo turns → NoneRefuses texts → Run old turns texts new → Repeated StepsBack (length turns) old.moments new.moments
+told_undos old new [] [] are none run = ap (λ (s : SessionState). s.moments) run
+told_undos old new [] (text ∷ texts) are none run = absurd run
+told_undos old new (turn ∷ turns) [] are none run = absurd run
+told_undos old new (turn ∷ turns) (text ∷ texts) are none run = (
+  run.0.moments,
+  told_undo turn old run.0 run.1 are.0 (accepts_by text run.1 run.0.moments.present run.3 none.0) run.2,
+  told_undos run.0 new turns texts are.1 none.1 run.4,
+)
+
+-- each undo is one moment more to redo
+receded : (n : ℕ) (old new : Timeline Moment) → Repeated StepsBack n old new → length new.future ≡ length old.future + n
+receded zero old new same = omega (arith, ap (λ (t : Timeline Moment). length t.future) same)
+receded (suc n) old new more = omega (arith, receded n more.0 new more.2, ap length more.1.future)
+
+redo_step : (turn : Turn) (old new : SessionState) (reply : Reply) → IsRedo turn → 0 < length old.moments.future → TurnStep old turn reply new → StepsForward old.moments new.moments
+redo_step (OfLine line) old new reply is there step =
+    by (subst (λ (q : Result Command ℕ). MatchResult q (λ c. StepBy c old reply new) (λ number. IsRefused number old reply new)) (is (kind_of old.moments.present.instance.demand)) step)
+  where
+    by : StepBy commands.Redo old reply new → StepsForward old.moments new.moments
+    by (inl redone) = redone.forward
+    by (inr none) = absurd (omega (arith, there, ap length none.0))
+redo_step (OfGroup lines) old new reply is there step = absurd is
+
+redos : (old new : SessionState) (turns : List Turn) (texts : List (List ℕ)) → AllTurns IsRedo turns → length turns ≤ length old.moments.future → Run old turns texts new
+    → Repeated StepsForward (length turns) old.moments new.moments
+redos old new [] [] are there run = ap (λ (s : SessionState). s.moments) run
+redos old new [] (text ∷ texts) are there run = absurd run
+redos old new (turn ∷ turns) [] are there run = absurd run
+redos old new (turn ∷ turns) (text ∷ texts) are there run =
+    let forward = redo_step turn old run.0 run.1 are.0 (omega (arith, there)) run.2 in (
+      run.0.moments,
+      forward,
+      redos run.0 new turns texts are.1 (omega (arith, there, ap length forward.future)) run.4,
+    )
+
+pub redone_shows_the_same : (proof : Bool) (old new : SessionState) (first last : Turn) (backs forths : List Turn) (shown again : List ℕ) (told taken : List (List ℕ))
+    → IsShow proof first → AllTurns IsUndo backs → AllTurns IsRedo forths → IsShow proof last
+    → length told ≡ length backs → length forths ≡ length backs → length taken ≡ length forths → NoneRefuses told
+    → Run old (first ∷ backs ++ forths ++ last ∷ []) (shown ∷ told ++ taken ++ again ∷ []) new → again ≡ shown
+redone_shows_the_same proof old new first last backs forths shown again told taken shows undo redo shows_again count as_many taken_count none run =
+    let start = text_shown proof first old run.0 run.1 shown shows run.2 run.3 in
+    let ends = split run.0 new (backs ++ forths) (last ∷ []) (told ++ taken) (again ∷ [])
+    (omega (arith, length-append told taken, length-append backs forths, count, taken_count)) run.4 in
+    let parts = split run.0 ends.0 backs forths told taken count ends.1 in
+    let back = told_undos run.0 parts.0 backs told undo none parts.1 in
+    let more = receded (length backs) run.0.moments parts.0.moments back in
+    let forward = redos parts.0 ends.0 forths taken redo (omega (arith, more, as_many)) parts.2 in
+    let same = steps_redone (length backs) run.0.moments parts.0.moments ends.0.moments back
+    (subst (λ (n : ℕ). Repeated StepsForward n parts.0.moments ends.0.moments) as_many forward) in
+    let final = text_shown proof last ends.0 ends.2.0 ends.2.1 again shows_again ends.2.2 ends.2.3 in
+    final.1 ∙ ap (λ (t : Timeline Moment). solution proof t.present) (same ∙ ap (λ (s : SessionState). s.moments) start.0) ∙ sym start.1

@@ -1,4 +1,5 @@
 pub mod Alike
 pub mod Texts
 pub mod Undone
+pub mod Returned
 pub mod Cutting

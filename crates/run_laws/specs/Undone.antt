@@ -1,4 +1,4 @@
--- The turns of a text that make a change, and those that take one back or show the moment.
+-- The turns of a text that make a change, and those that take one back, make it again or show the moment.
 use Rattle.std.specs.Prelude.{◌≡◌, ◌≢◌, ℕ, ⊤, Bool, true, false, List, [], ◌∷◌, Ok, MatchResult}
 use Rattle.dimacs_io.specs.Line.{refusal_line}
 use Rattle.dimacs_text.specs.declared.command.Command.{Command}
@@ -19,6 +19,10 @@ IsChange (OfGroup lines) = ⊤
 abbrev pub IsUndo : Turn → Type 0
 IsUndo (OfLine line) = (kind : Kind) → command kind line ≡ Ok commands.Undo
 IsUndo (OfGroup lines) = ⊥
+
+abbrev pub IsRedo : Turn → Type 0
+IsRedo (OfLine line) = (kind : Kind) → command kind line ≡ Ok commands.Redo
+IsRedo (OfGroup lines) = ⊥
 
 -- the commands that show the present moment: `show`, or `proof`
 abbrev pub shown_by : Bool → Command

@@ -1,11 +1,11 @@
 -- Marks of different names, no more than may be.
-use Rattle.std.proofs.Common.{◌≡◌, ◌≢◌, ℕ, suc, ◌<◌, ◌≤◌, inl, inr, Bool, true, false, if◌then◌else◌, ◌||◌, nat_lt, Option, Some, List, [], ◌∷◌, length, refl, sym, ap, ◌∙◌, arith, length-append}
+use Rattle.std.proofs.Common.{◌≡◌, ◌≢◌, ℕ, suc, ◌<◌, ◌≤◌, inl, inr, Bool, true, false, if◌then◌else◌, ◌||◌, nat_lt, Option, None, Some, List, [], ◌∷◌, length, refl, sym, ap, ◌∙◌, arith, length-append}
 use Rattle.std.specs.List.{All, AllPairs}
 use Rattle.std.specs.Cmp.Lexicographic.{pointwise, same_text, other_text}
 use Rattle.std.specs.Prelude.{nat_eq, nat_le}
-use Rattle.std.proofs.lemmas.Bool.{cases_lt, ltb-true}
+use Rattle.std.proofs.lemmas.Bool.{cases_lt, leb-true, ltb-true}
 use Rattle.std.proofs.lemmas.List.{length-set}
-use Rattle.std.proofs.lemmas.List.Elements.{All-weaker}
+use Rattle.std.proofs.lemmas.List.Elements.{All-head, All-tail, All-weaker}
 use Rattle.std.proofs.lemmas.List.Kept.{AllPairs-cons, AllPairs-filter}
 use Rattle.session.specs.declared.marks.Mark.{Mark}
 use Rattle.session.specs.declared.marks.TheConstants.{MARK_LIMIT}
@@ -103,3 +103,37 @@ kept_few marks last are = record {
   apart = AllPairs-filter HaveTwoNames (λ mark. nat_le mark.moment last) marks are.apart;
   few = omega (arith, length-up_to last marks, are.few);
 }
+
+-- no other mark has the name
+none_other : (mark : Mark) (marks : List Mark) (name : List ℕ) → All (HaveTwoNames mark) marks → has_name mark name ≡ true → marked marks name ≡ None
+none_other mark [] name apart is = refl
+none_other mark (next ∷ marks) name apart is =
+    let mine : mark.name ≡ name = same_text mark.name name (sym is) in
+    let theirs : has_name next name ≡ false = other_name next.name name (pointwise nat_eq next.name name) refl (λ e. All-head (HaveTwoNames mark) next marks apart (mine ∙ sym e)) in
+    rw theirs (none_other mark marks name (All-tail (HaveTwoNames mark) next marks apart) is)
+
+-- a mark that is kept stood there before, on a moment that stays
+module _ (mark : Mark) (marks rest : List Mark) (name : List ℕ) (last i : ℕ) (apart : AllPairs HaveTwoNames (mark ∷ marks)) (later : marked rest name ≡ Some i → (marked marks name ≡ Some i) × (i ≤ last)) where
+  kept_first : (b : Bool) → has_name mark name ≡ b → mark.moment ≤ last → (if b then Some mark.moment else marked rest name) ≡ Some i → ((if b then Some mark.moment else marked marks name) ≡ Some i) × (i ≤ last)
+  kept_first true is below found = (found, let same : mark.moment ≡ i = cc in omega (arith, below, same))
+  kept_first false is below found = later found
+
+  dropped_first : (b : Bool) → has_name mark name ≡ b → marked rest name ≡ Some i → ((if b then Some mark.moment else marked marks name) ≡ Some i) × (i ≤ last)
+  dropped_first true is found =
+      let there = (later found).0 in
+      let none = none_other mark marks name (first_apart mark marks apart) is in
+      absurd cc
+  dropped_first false is found = later found
+
+  kept_by : (a : Bool) → nat_le mark.moment last ≡ a → marked (if a then mark ∷ rest else rest) name ≡ Some i → (marked (mark ∷ marks) name ≡ Some i) × (i ≤ last)
+  kept_by true below found = kept_first (has_name mark name) refl (leb-true mark.moment last below) found
+  kept_by false above found = dropped_first (has_name mark name) refl found
+
+pub kept_where : (marks : List Mark) (name : List ℕ) (last i : ℕ) → AreMarks marks → marked (up_to last marks) name ≡ Some i → (marked marks name ≡ Some i) × (i ≤ last)
+kept_where marks name last i are = by marks are.apart
+  where
+    by : (marks : List Mark) → AllPairs HaveTwoNames marks → marked (up_to last marks) name ≡ Some i → (marked marks name ≡ Some i) × (i ≤ last)
+    by [] apart found =
+        let no : ◌≡◌ {A = Option ℕ} None (Some i) = found in
+        absurd cc
+    by (mark ∷ marks) apart found = kept_by mark marks (up_to last marks) name last i apart (by marks (rest_apart mark marks apart)) (nat_le mark.moment last) refl found

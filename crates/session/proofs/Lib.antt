@@ -18,6 +18,6 @@ mod Placing
 mod Marking
 mod Marked
 mod Moves
-mod Apart
+pub mod Apart
 mod Stepping
 mod Turning
