@@ -228,9 +228,9 @@ def wrong_sums(text):
 
 def wrong_laws(text):
     """Which laws, functions with nothing to run, no item of PROOFS names; and which law of plans no must-fail edit
-    breaks, or none of the clauses that PROOFS names."""
+    breaks."""
     wrong, cited, count = [], defaultdict(set), 0
-    for _, (crate, names, clauses, _) in promises(text):
+    for _, (crate, names, _, _) in promises(text):
         for name in names:
             cited[name] |= {crate}
     for source in sorted((TOP / "crates").glob("*/src/**/*.rt")):
