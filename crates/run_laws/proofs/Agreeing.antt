@@ -65,12 +65,12 @@ as_good_both (Terminals source sink) a b h k = both_ways a b k h
 as_good_both (Sides marks) a b h k = both_ways a b h k
 
 -- the room for arcs is no matter of legal flows
-to_room : (I : Instance) (room : ℕ) (D : Demand) (flow : List ℤ) → IsLegalBy D I flow → IsLegalBy D (record I { room = room }) flow
+pub to_room : (I : Instance) (room : ℕ) (D : Demand) (flow : List ℤ) → IsLegalBy D I flow → IsLegalBy D (record I { room = room }) flow
 to_room I room (Supplies s) flow legal = legal
 to_room I room (Terminals source sink) flow legal = legal
 to_room I room (Sides marks) flow legal = legal
 
-from_room : (I : Instance) (room : ℕ) (D : Demand) (flow : List ℤ) → IsLegalBy D (record I { room = room }) flow → IsLegalBy D I flow
+pub from_room : (I : Instance) (room : ℕ) (D : Demand) (flow : List ℤ) → IsLegalBy D (record I { room = room }) flow → IsLegalBy D I flow
 from_room I room (Supplies s) flow legal = legal
 from_room I room (Terminals source sink) flow legal = legal
 from_room I room (Sides marks) flow legal = legal

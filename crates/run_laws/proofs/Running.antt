@@ -5,7 +5,7 @@ use Rattle.std.specs.List.{AllZip, concat}
 use Rattle.dimacs_io.specs.Line.{refusal_line}
 use Rattle.dimacs_lines.specs.Lines.{lines_of}
 use Rattle.dimacs_lines.specs.declared.fault.TextFault.{TextFault}
-use Rattle.dimacs_text.specs.Reading.{ProblemValue}
+use Rattle.dimacs_text.specs.Reading.{ProblemValue, reads}
 use Rattle.dimacs_text.specs.Turns.{Turn}
 use Rattle.network.specs.Instance.{Instance, first}
 use Rattle.flow_solver.specs.Moment.{Moment}
@@ -21,12 +21,12 @@ use Rattle.engines.specs.Printing.{reply_text, outcome_line, solution}
 use Rattle.engines.specs.Run.{Run}
 use Rattle.engines.specs.Session.{PrintsRun, SessionWrites}
 use Rattle.engines.specs.Solve.{Prints, end_by}
-use Rattle.run_laws.specs.Alike.{AreAlike, StatesAlike}
+use Rattle.run_laws.specs.Alike.{AreAlike, HasOneBest, StatesAlike}
 use Rattle.run_laws.specs.Texts.{DifferInFlows, TellsNoWantOfMemory}
 use Rattle.run_laws.proofs.Agreeing.{same_verdict}
 use Rattle.run_laws.proofs.Stepping.{turns_alike}
 use Rattle.run_laws.proofs.Pieces.{same_by, together, all_together}
-use Rattle.run_laws.proofs.Showing.{begins, shown_alike}
+use Rattle.run_laws.proofs.Showing.{begins, shown_alike, shown_the_same}
 
 verdict_is : (a b : Moment) → AreAlike a b → b.verdict ≡ a.verdict
 verdict_is a b alike = same_verdict a b a.instance.room alike.instance alike.one alike.other
@@ -123,6 +123,17 @@ solves_alike proof end other_end text given other_given written other a b =
       subst (λ (x : List ℕ). DifferInFlows x other) (sym a.written_is) (subst (λ (y : List ℕ). DifferInFlows (solution proof m) y) (sym b.written_is)
           (shown_alike proof m n n.instance.room room a.solves.settled.answered b.solves.settled.answered)),
     )
+
+pub solves_same : (proof : Bool) (end other_end : End) (text given other_given written other : List ℕ) (problem : ProblemValue) → reads text ≡ Ok problem → HasOneBest (first problem 0)
+    → Prints end proof text given written → Prints other_end proof text other_given other → other ≡ written
+solves_same proof end other_end text given other_given written other problem read unique a b =
+    let one = one_problem text given other_given a.solves.problem b.solves.problem a.solves.problem_read b.solves.problem_read in
+    let m = a.moment in
+    let n = b.moment in
+    let room = other_room a.solves.problem b.solves.problem 0 m.instance n.instance one a.solves.settled.instance_is b.solves.settled.instance_is in
+    let its : problem ≡ a.solves.problem = ok_same problem a.solves.problem (sym read ∙ a.solves.problem_read.problem_is) in
+    let here : HasOneBest m.instance = subst HasOneBest (ap (λ (p : ProblemValue). first p 0) its ∙ sym a.solves.settled.instance_is) unique in
+    b.written_is ∙ shown_the_same proof m n n.instance.room room a.solves.settled.answered b.solves.settled.answered here ∙ sym a.written_is
 
 module _ (proof : Bool) (end : End) (extra : ℕ) (text given other_given written : List ℕ) (problem : ProblemValue) (opening : SessionState)
     (a : Prints end proof text given written) (read : IsProblemText text other_given problem) (opens : Opens problem extra opening) where

@@ -1,8 +1,9 @@
 //! What of a run its texts determine.
 
 ghost use Rattle.std.specs.Prelude.{◌≡◌, ◌≢◌, ◌++◌, ℕ, Bool, List, Ok};
-ghost use Rattle.dimacs_text.specs.Reading.{ProblemValue};
+ghost use Rattle.dimacs_text.specs.Reading.{ProblemValue, reads};
 ghost use Rattle.dimacs_text.specs.Turns.{Turn};
+ghost use Rattle.network.specs.Instance.{first};
 ghost use Rattle.flow_solver.specs.Moment.{Moment};
 ghost use Rattle.flow_solver.specs.Answer.{IsAnswered};
 ghost use Rattle.session.specs.declared.refusal.StepRefusal.TheVariants as refusal;
@@ -15,14 +16,17 @@ ghost use Rattle.engines.specs.Opening.{Opens};
 ghost use Rattle.engines.specs.Printing.{outcome_line, solution};
 ghost use Rattle.engines.specs.Session.{SessionWrites};
 ghost use Rattle.engines.specs.Solve.{Prints};
-ghost use Rattle.run_laws.specs.Alike.{StatesAlike};
+ghost use Rattle.run_laws.specs.Alike.{HasOneBest, StatesAlike};
 ghost use Rattle.run_laws.specs.Texts.{DifferInFlows, TellsNoWantOfMemory};
 
 /// A law, with nothing to run: two moments that answer one instance, whatever its room for arcs, show the same bytes but for
-/// the numbers of `f` lines, whether edits led there or the instance was solved anew.
+/// the numbers of `f` lines, whether edits led there or the instance was solved anew; where no two flows are best, they show
+/// the same bytes.
 pub fn moments_show_the_same()
-    ensures { (proof : Bool) (a b : Moment) (room : ℕ) → b.instance ≡ record a.instance { room = room } → IsAnswered a → IsAnswered b
+    ensures alike { (proof : Bool) (a b : Moment) (room : ℕ) → b.instance ≡ record a.instance { room = room } → IsAnswered a → IsAnswered b
         → DifferInFlows (solution proof a) (solution proof b) }
+    ensures same { (proof : Bool) (a b : Moment) (room : ℕ) → b.instance ≡ record a.instance { room = room } → IsAnswered a → IsAnswered b
+        → HasOneBest a.instance → solution proof b ≡ solution proof a }
 {}
 
 /// A law, with nothing to run: sessions that differ in flows alone take each turn alike, and reply alike, but where memory
@@ -43,10 +47,12 @@ pub fn same_texts_give_the_same_bytes()
 {}
 
 /// A law, with nothing to run: two solutions of one problem text are the same bytes but for the numbers of `f` lines, and
-/// end alike.
+/// end alike; where no two flows are best, they are the same bytes.
 pub fn solves_agree()
-    ensures { (proof : Bool) (end other_end : End) (text given other_given written other : List ℕ)
+    ensures alike { (proof : Bool) (end other_end : End) (text given other_given written other : List ℕ)
         → Prints end proof text given written → Prints other_end proof text other_given other → (other_end ≡ end) × DifferInFlows written other }
+    ensures same { (proof : Bool) (end other_end : End) (text given other_given written other : List ℕ) (problem : ProblemValue) → reads text ≡ Ok problem → HasOneBest (first problem 0)
+        → Prints end proof text given written → Prints other_end proof text other_given other → other ≡ written }
 {}
 
 /// A law, with nothing to run: what `solve` writes of a problem text, a session that is opened on it tells: its first line
