@@ -67,7 +67,7 @@ def _words_of(table: Mapping[str, Sequence[str]]) -> Dict[str, List[str]]:
             spelled = name
             for letter, pair in (("ä", "ae"), ("ö", "oe"), ("ü", "ue")):
                 spelled = spelled.replace(letter, pair)
-            for word in {folded(name), folded(spelled)}:
+            for word in dict.fromkeys((folded(name), folded(spelled))):
                 found.setdefault(word, [])
                 if what not in found[word]:
                     found[word].append(what)
@@ -75,8 +75,7 @@ def _words_of(table: Mapping[str, Sequence[str]]) -> Dict[str, List[str]]:
 
 
 _WORDS, _STAND_INS = _words_of(COLUMNS), _words_of(STAND_INS)
-_SPELLED = {word: word for word in _WORDS}
-_SPELLED.update((folded(name), name) for names in COLUMNS.values() for name in names)
+_SPELLED = {folded(name): name for names in COLUMNS.values() for name in names}
 # Single words that a longer name may not have without being looked at; short ones, such as `de` or `a`, are in many.
 _TELLING = {word: things for word, things in _WORDS.items() if " " not in word and len(word) >= 3}
 _TELLING.update({word: ["cost"] for word in COSTLY})
@@ -320,7 +319,7 @@ def _near(name: str, header: str, kinds: Sequence[str]) -> Optional[Tuple[str, s
             continue
         if away <= max(most, 1) and (best is None or away < best[0]):
             best = away, word, what
-    return None if best is None else (_SPELLED[best[1]], best[2])
+    return None if best is None else (_SPELLED.get(best[1], best[1]), best[2])
 
 
 def distance(one: str, other: str) -> int:
