@@ -127,6 +127,15 @@ class Joined:
         for row in self.entering:
             row.sort()
 
+        self._lengths: Dict[int, Dict[int, int]] = {}
+
+    def lengths(self, node: int) -> Dict[int, int]:
+        """The lengths of the ways out of a node by where they lead, to be looked up."""
+        found = self._lengths.get(node)
+        if found is None:
+            found = self._lengths[node] = {other: reduced for reduced, other in reversed(self.leaving[node])}
+        return found
+
     def within(self, start: int, end: int) -> Optional[int]:
         """How far a tree is from another one that is joined to it, where that comes first; None otherwise."""
         is_joined = self.node[start] == self.node[end] and self.is_second[end] and not self.is_second[start]
@@ -234,7 +243,7 @@ class Meeting:
         if row:
             heappush(self.heap, (distance + row[0][0], tree, 0))
         if len(row) > MOST_AHEAD:
-            self.hubs.append((distance, {other: reduced for reduced, other in reversed(row)}))
+            self.hubs.append((distance, self.ways.lengths(tree)))
             return
         seen = self.seen
         for reduced, other in row:

@@ -83,10 +83,6 @@ class Residual:
         """Whether an arc can carry less."""
         return self.spare[arc] != 0
 
-    def is_free(self, arc: int) -> bool:
-        """Whether the flow of an arc can change both ways."""
-        return self.room[arc] != 0 and self.spare[arc] != 0
-
     def arcs(self) -> Iterator[ResidualArc]:
         """All residual arcs."""
         for arc, (tail, head, reduced) in enumerate(zip(self.tails, self.heads, self.reduced)):
@@ -127,7 +123,6 @@ class Forest:
         for root in range(count):
             if self.tree[root] < 0:
                 self._grow(root, beside)
-        self.place_count = count
 
     def _grow(self, root: int, beside: List[List[Tuple[int, int]]]) -> None:
         """Adds the tree of a root."""
@@ -151,12 +146,3 @@ class Forest:
                 sizes[parent[node]] += sizes[node]
         for node in order[begin:]:
             sizes[node] += self.first[node]
-
-    def is_below(self, node: int, top: int) -> bool:
-        """Whether a node is `top`, or below it in the same tree."""
-        return self.first[top] <= self.first[node] < self.last[top]
-
-    def size(self, tree: int) -> int:
-        """How many nodes a tree has."""
-        begin, end = self.span[tree]
-        return end - begin
