@@ -137,6 +137,11 @@ class ReportTest(unittest.TestCase):
         text = report.html_text(pipes().solve())
         self.assertIn("Most that can be sent: 2", text)
         self.assertIn("  tower to town: 2\n", text.replace("</pre>", "\n"))
+        wide = Problem("max", source="well", sink="town")
+        for _ in range(15):
+            wide.add_arc("well", "town", cap=1)
+        self.assertEqual(len(report.limit_text(wide.solve()).splitlines()), 14)
+        self.assertTrue(report.limit_text(wide.solve()).endswith("\n  and 3 others"))
         dry = pipes()
         dry.arcs.pop()
         self.assertIn("No way leads from well to town.", report.html_text(dry.solve()))

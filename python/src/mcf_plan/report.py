@@ -20,7 +20,7 @@ from decimal import Decimal
 from pathlib import Path
 from typing import Any, Iterator, Mapping, NamedTuple, Optional, Union
 
-from .explain import explain
+from .explain import MOST_TOLD, explain
 from .plan import Infeasible, Plan
 from .printing import visible
 from .problem import WIDE, ZERO, Arc, Problem, plain
@@ -514,7 +514,7 @@ def _node_table(plan: Plan) -> Iterator[str]:
 
 
 def limit_text(plan: Plan) -> str:
-    """Why no more can be sent in a maximum flow: the arcs of a minimum cut, in words.
+    """Why no more can be sent in a maximum flow: the arcs of a minimum cut, in words, of many the first ones.
 
     >>> from mcf_plan import Problem
     >>> problem = Problem("max", source="well", sink="town")
@@ -530,7 +530,9 @@ def limit_text(plan: Plan) -> str:
     if not any(arc.cap for arc in arcs):
         return f"No way leads from {source} to {sink}."
     lines = [f"All that goes from {source} to {sink} has to go along these arcs, and they are full:"]
-    return "\n".join(lines + [f"  {arc.label}: {number(arc.cap)}" for arc in arcs if arc.cap])
+    full = [f"  {arc.label}: {number(arc.cap)}" for arc in arcs if arc.cap]
+    others = [f"  and {len(full) - MOST_TOLD:,} others"] if len(full) > MOST_TOLD else []
+    return "\n".join(lines + full[:MOST_TOLD] + others)
 
 
 def html_text(result: Result, *, title: str = "Plan") -> str:
