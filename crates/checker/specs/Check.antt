@@ -120,6 +120,22 @@ abbrev pub ValidSettles : End → Option (List ℕ) → Option (List ℕ) → Ty
 ValidSettles end problem_known answer_known =
     IfSome problem_known (λ problem_text. IfSome answer_known (λ answer_text. end ≡ Valid → AreSettled problem_text answer_text))
 
+-- ---- which texts were read to their ends
+
+-- by how a run ends: the problem, unless a fault of it was found, a read of it failed or memory was refused
+abbrev pub problem_whole : End → Bool
+problem_whole (Refused the.Problem number line) = false
+problem_whole (ReadFailed the.Problem) = false
+problem_whole Memory = false
+problem_whole _ = true
+
+-- the answer, where it is judged
+abbrev pub answer_whole : End → Bool
+answer_whole Valid = true
+answer_whole NotValid = true
+answer_whole WriteFailed = true
+answer_whole _ = false
+
 -- ---- how many calls failed on each device
 
 abbrev pub problem_failures : End → ℕ

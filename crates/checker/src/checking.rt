@@ -1,8 +1,9 @@
 //! Checks an answer to a problem, and writes whether it is right.
 ghost use Rattle.std.specs.Prelude.{◌≡◌, ◌-◌, ◌^◌, ◌<◌, ◌↔◌, true, IfOk, IsTrue, length};
-ghost use Rattle.dimacs_io.specs.Device.{CountsFailure, CountsFlush, EndsBy, Fails, RisesBy, Writes};
+ghost use Rattle.dimacs_io.specs.Device.{CountsFailure, CountsFlush, EndsBy, Fails, RisesBy, Writes, text_over};
 ghost use Rattle.dimacs_io.specs.declared.device.LastCall.TheVariants as last;
-ghost use Rattle.checker.specs.Check.{CheckOnDevices, NamesEnds, NameEnds, IsRight, Settles, ValidSettles, answer_failures, flow_of_lines, flushes_by, last_by, marks_of, problem_failures, verdict_line, write_failures};
+ghost use Rattle.checker.specs.Reading.{SourceIsRead};
+ghost use Rattle.checker.specs.Check.{CheckOnDevices, NamesEnds, NameEnds, IsRight, Settles, ValidSettles, answer_failures, answer_whole, flow_of_lines, flushes_by, last_by, marks_of, problem_failures, problem_whole, verdict_line, write_failures};
 
 use crate::end::{End, Text};
 use crate::read::{read_answer, read_problem};
@@ -27,10 +28,16 @@ pub fn check<P: Source, A: Source, O: Sink>(
 
     // `valid` is written exactly where the answer is right, and no end comes without its cause.
     ensures check { CheckOnDevices result
-        (P.remaining problem.old) (P.most_left problem.old - P.most_left problem.new)
-        (A.remaining answer.old) (A.most_left answer.old - A.most_left answer.new)
+        (text_over P.remaining P.given problem.old problem.new) (P.most_left problem.old - P.most_left problem.new)
+        (text_over A.remaining A.given answer.old answer.new) (A.most_left answer.old - A.most_left answer.new)
         (O.contents out.old) (O.contents out.new) }
-    ensures best { ValidSettles result (P.remaining problem.old) (A.remaining answer.old) }
+    ensures best { ValidSettles result
+        (text_over P.remaining P.given problem.old problem.new)
+        (text_over A.remaining A.given answer.old answer.new) }
+
+    // What a source gave before stays, and each text was read to its end where it was used.
+    ensures problem_read { SourceIsRead (problem_whole result) P.given P.ended problem.old problem.new }
+    ensures answer_read { SourceIsRead (answer_whole result) A.given A.ended answer.old answer.new }
 
     // The end tells of each call that failed.
     ensures problem_failed { Fails (problem_failures result) P.failures problem.old problem.new }

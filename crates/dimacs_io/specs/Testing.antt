@@ -3,14 +3,16 @@ use Rattle.std.specs.Prelude.{ℕ, Bool, ◌-◌, List, Option}
 use Rattle.std.specs.Option.{option_map}
 use Rattle.dimacs_io.specs.declared.device.LastCall.{LastCall}
 
--- a source over a list: what it still gives, how much at most in one call, for how many more calls it does so
--- (none: for all), how many have failed, and whether the last did
+-- a source over a list: what it still gives and what it has given, how much at most in one call, for how many more calls
+-- it does so (none: for all), how many have failed, whether the last did, and whether it came to the end
 pub record Scripted : Type 0 where
   pub rest : List ℕ
+  pub given : List ℕ
   pub most : ℕ
   pub good_calls : Option ℕ
   pub failures : ℕ
   pub last_failed : Bool
+  pub ended : Bool
 
 -- a sink over a list, in the same words, how many flushes went well, and what the last call did
 pub record Padded : Type 0 where

@@ -2,7 +2,7 @@
 ghost use Rattle.std.specs.Prelude.{◌≡◌, ℕ, Bool, ◌-◌, ◌^◌, ◌<◌, List, Option, IfOk, is_err, length};
 ghost use Rattle.std.specs.Io.{ReadsAtMost, WritesAtMost};
 ghost use Rattle.std.specs.Io.KnownBytes.{Keeps, ReadConsumes, WriteAppends};
-ghost use Rattle.dimacs_io.specs.Device.{CountsFailure, CountsFlush, EndsBy, LowersByCount};
+ghost use Rattle.dimacs_io.specs.Device.{CountsFailure, CountsFlush, EndsBy, Logs, LowersByCount, ReachesEnd};
 ghost use Rattle.dimacs_io.specs.declared.device.LastCall.{LastCall};
 ghost use Rattle.dimacs_io.specs.declared.device.LastCall.TheVariants as last;
 
@@ -32,6 +32,9 @@ pub trait Source {
     /// The bytes that it still gives, where it tells them.
     ghost remaining: { Self → Option (List ℕ) };
 
+    /// The bytes that it has given: all that its reads have put into pieces, in order.
+    ghost given: { Self → List ℕ };
+
     /// How many bytes it can still give at most.
     ghost most_left: { Self → ℕ };
 
@@ -41,15 +44,20 @@ pub trait Source {
     /// Whether its last call failed.
     ghost last_failed: { Self → Bool };
 
+    /// Whether its last call came to the end of its bytes: it gave none, although there was room.
+    ghost ended: { Self → Bool };
+
     /// Puts bytes at the start of `piece`, and says how many: one at least, unless `piece` is empty or the end is
     /// reached. Fails with `Broken`, having given nothing.
     fn read(&mut self, piece: &mut [u8]) -> Result<usize, Broken>
         requires { failures self.old < 2 ^ 64 - 1 }
         ensures bound { ReadsAtMost result piece.new }
         ensures bytes { ReadConsumes (remaining self.old) (remaining self.new) result piece.new }
+        ensures given { Logs result (given self.old) (given self.new) piece.new }
         ensures left { LowersByCount result (most_left self.old) (most_left self.new) }
         ensures failed { CountsFailure result (failures self.old) (failures self.new) }
-        ensures last { last_failed self.new ≡ is_err result };
+        ensures last { last_failed self.new ≡ is_err result }
+        ensures ended { ReachesEnd result piece.new (ended self.new) };
 }
 
 /// Takes bytes. A failed call, and any `flush`, leaves what it holds.

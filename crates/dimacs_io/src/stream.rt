@@ -7,6 +7,7 @@ ghost use Rattle.dimacs_io.specs.declared.device.LastCall.TheVariants as last;
 mod buffered;
 
 use crate::device::{Broken, LastCall, Sink, Source};
+use crate::log::{Log, Piece};
 pub use buffered::BufferedSink;
 use std::io;
 use std::io::{ErrorKind, Read, Write};
@@ -65,8 +66,10 @@ fn some_taken(piece: &[u8], answer: io::Result<usize>) -> io::Result<usize>
 pub struct ReadSource<R: Read> {
     inner: R,
     left: u64,
+    given: Log,
     failures: u64,
     last_failed: bool,
+    ended: bool,
 }
 
 impl<R: Read> ReadSource<R> {
@@ -74,15 +77,19 @@ impl<R: Read> ReadSource<R> {
     pub fn new(inner: R) -> ReadSource<R>
         ensures bytes { ⟦<ReadSource<R> as Source>⟧.remaining result
             ≡ option_map (take (2 ^ 63)) (R.remaining inner) }
+        ensures given { ⟦<ReadSource<R> as Source>⟧.given result ≡ [] }
         ensures left { ⟦<ReadSource<R> as Source>⟧.most_left result ≡ 2 ^ 63 }
         ensures failures { ⟦<ReadSource<R> as Source>⟧.failures result ≡ 0 }
         ensures last { ⟦<ReadSource<R> as Source>⟧.last_failed result ≡ false }
+        ensures ended { ⟦<ReadSource<R> as Source>⟧.ended result ≡ false }
     {
         ReadSource {
             inner,
             left: MOST_BYTES,
+            given: Log::new(),
             failures: 0,
             last_failed: false,
+            ended: false,
         }
     }
 }
@@ -90,18 +97,25 @@ impl<R: Read> ReadSource<R> {
 impl<R: Read> Source for ReadSource<R> {
     ghost remaining = { λ s. option_map (take s.left) (R.remaining s.inner) };
 
+    ghost given = { λ s. s.given.bytes };
+
     ghost most_left = { λ s. s.left };
 
     ghost failures = { λ s. s.failures };
 
     ghost last_failed = { λ s. s.last_failed };
 
+    ghost ended = { λ s. s.ended };
+
     fn read(&mut self, piece: &mut [u8]) -> Result<usize, Broken> {
         let most = self.left.min(piece.len() as u64) as usize;
         let answer = self.inner.read(&mut piece[..most]);
         self.last_failed = answer.is_err();
+        self.ended = false;
         let n = counted(&mut self.failures, answer)?;
+        self.ended = n == 0 && !piece.is_empty();
         self.left -= n as u64;
+        self.given = self.given.then(&Piece { bytes: &piece[..n] });
         Ok(n)
     }
 }

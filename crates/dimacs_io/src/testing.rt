@@ -2,11 +2,12 @@
 ghost use Rattle.std.specs.Prelude.{◌≡◌, ℕ, ◌-◌, ◌^◌, ◌≤◌, ◌<◌, ◌↔◌, ◌⊎◌, length, min, [], Some, false, is_err, IsTrue, IsErr, IfOk};
 ghost use Rattle.std.specs.Io.{ReadsAtMost, WritesAtMost};
 ghost use Rattle.std.specs.Io.KnownBytes.{Keeps, ReadConsumes, WriteAppends};
-ghost use Rattle.dimacs_io.specs.Device.{CountsFailure, CountsFlush, EndsBy, LowersByCount};
+ghost use Rattle.dimacs_io.specs.Device.{CountsFailure, CountsFlush, EndsBy, Logs, LowersByCount, ReachesEnd};
 ghost use Rattle.dimacs_io.specs.declared.device.LastCall.TheVariants as last;
 ghost use Rattle.dimacs_io.specs.Testing.{one_less};
 
 use crate::device::{Broken, LastCall, Sink, Source};
+use crate::log::{Log, Piece};
 use std::marker::Model;
 
 /// How many more calls go well, where there is an end to that.
@@ -45,10 +46,12 @@ impl Patience {
 #[derive(Drop)]
 pub struct Script<'a> {
     rest: &'a [u8],
+    given: Log,
     most: usize,
     patience: Patience,
     failures: u64,
     last_failed: bool,
+    ended: bool,
 }
 
 impl<'a> Model for Script<'a> {
@@ -57,7 +60,7 @@ impl<'a> Model for Script<'a> {
 
     ghost Value = { Scripted };
 
-    ghost view = { λ s. record { rest = s.rest.now; most = s.most; good_calls = s.patience.good_calls; failures = s.failures; last_failed = s.last_failed } };
+    ghost view = { λ s. record { rest = s.rest.now; given = s.given.bytes; most = s.most; good_calls = s.patience.good_calls; failures = s.failures; last_failed = s.last_failed; ended = s.ended } };
 
     ghost invariant = { λ s. 0 < s.most };
 }
@@ -68,18 +71,22 @@ impl<'a> Script<'a> {
     pub fn new(bytes: &'a [u8], most: usize, fails: Option<u64>) -> Script<'a>
         requires { 0 < most }
         ensures bytes { ⟦<Script<'a> as Source>⟧.remaining result ≡ Some bytes.now }
+        ensures given { ⟦<Script<'a> as Source>⟧.given result ≡ [] }
         ensures left { ⟦<Script<'a> as Source>⟧.most_left result ≡ length bytes.now }
         ensures failures { ⟦<Script<'a> as Source>⟧.failures result ≡ 0 }
         ensures last { ⟦<Script<'a> as Source>⟧.last_failed result ≡ false }
+        ensures ended { ⟦<Script<'a> as Source>⟧.ended result ≡ false }
         ensures most { result.most ≡ most }
         ensures good_calls { result.good_calls ≡ one_less fails }
     {
         Script {
             rest: bytes,
+            given: Log::new(),
             most,
             patience: Patience::new(fails),
             failures: 0,
             last_failed: false,
+            ended: false,
         }
     }
 }
@@ -87,11 +94,15 @@ impl<'a> Script<'a> {
 impl Source for Script<'_> {
     ghost remaining = { λ s. Some s.rest };
 
+    ghost given = { λ s. s.given };
+
     ghost most_left = { λ s. length s.rest };
 
     ghost failures = { λ s. s.failures };
 
     ghost last_failed = { λ s. s.last_failed };
+
+    ghost ended = { λ s. s.ended };
 
     /// Gives as much as the piece, the script's choice and what is left allow; fails exactly where the good calls are
     /// used up.
@@ -99,23 +110,28 @@ impl Source for Script<'_> {
         requires { self.old.failures < 2 ^ 64 - 1 }
         ensures bound { ReadsAtMost result piece.new }
         ensures bytes { ReadConsumes (Some self.old.rest) (Some self.new.rest) result piece.new }
+        ensures given { Logs result self.old.given self.new.given piece.new }
         ensures left { LowersByCount result (length self.old.rest) (length self.new.rest) }
         ensures failed { CountsFailure result self.old.failures self.new.failures }
         ensures last { self.new.last_failed ≡ is_err result }
+        ensures ended { ReachesEnd result piece.new self.new.ended }
         ensures fails { IsErr result ↔ (self.old.good_calls ≡ Some 0) }
         ensures count { IfOk result (λ n. n ≡ min (min self.old.most (length piece.old)) (length self.old.rest)) }
         ensures good_calls { self.new.good_calls ≡ one_less self.old.good_calls }
         ensures most { self.new.most ≡ self.old.most }
     {
         self.last_failed = self.patience.is_over();
+        self.ended = false;
         if self.last_failed {
             self.failures += 1;
             return Err(Broken);
         }
         let n = self.most.min(piece.len()).min(self.rest.len());
+        self.ended = n == 0 && !piece.is_empty();
         let all = self.rest;
         piece[..n].copy_from_slice(&all[..n]);
         self.rest = &all[n..];
+        self.given = self.given.then(&Piece { bytes: &piece[..n] });
         Ok(n)
     }
 }

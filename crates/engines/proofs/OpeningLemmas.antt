@@ -1,5 +1,5 @@
 -- What a run that ends without a session has counted.
-use Rattle.std.proofs.Common.{◌≡◌, ℕ, ◌+◌, arith, List, Option, inl, inr, refl}
+use Rattle.std.proofs.Common.{◌≡◌, ℕ, Bool, false, ◌+◌, arith, List, Option, inl, inr, refl}
 use Rattle.dimacs_lines.specs.declared.fault.TextFault.TheVariants as text_fault
 use Rattle.checker.specs.declared.end.Text.TheVariants as the
 use Rattle.checker.specs.declared.end.End.{End}
@@ -10,7 +10,7 @@ use Rattle.dimacs_io.specs.Device.{RisesBy}
 use Rattle.checker.specs.Check.{flushes_by, last_by, write_failures}
 use Rattle.checker.specs.Reading.{end_of}
 use Rattle.engines.specs.Opening.{IsNotOpened}
-use Rattle.engines.specs.Session.{command_failures}
+use Rattle.engines.specs.Session.{command_failures, commands_whole}
 use Rattle.engines.proofs.FlushLemmas.{RisesBy-none}
 
 unread_writes : (e : ReadError) → write_failures (end_of the.Problem e) ≡ 0
@@ -32,6 +32,16 @@ unopened_writes known count end failures (inr memory) = rw memory (omega arith)
 pub unopened_commands : (known : Option (List ℕ)) (count : ℕ) (end : End) (failures : ℕ) → IsNotOpened known count end → failures ≡ failures + command_failures end
 unopened_commands known count end failures (inl ends) = rw ends.1 (omega (arith, unread_commands ends.0))
 unopened_commands known count end failures (inr memory) = rw memory (omega arith)
+
+unread_whole : (e : ReadError) → commands_whole (end_of the.Problem e) ≡ false
+unread_whole (read_error.Text text_fault.Memory) = refl
+unread_whole (read_error.Text (text_fault.Fault number line)) = refl
+unread_whole read_error.Source = refl
+
+-- the commands were not read to their end
+pub unopened_whole : (known : Option (List ℕ)) (count : ℕ) (end : End) → IsNotOpened known count end → commands_whole end ≡ false
+unopened_whole known count end (inl ends) = rw ends.1 (unread_whole ends.0)
+unopened_whole known count end (inr memory) = rw memory refl
 
 unread_flushes : (e : ReadError) → flushes_by (end_of the.Problem e) ≡ 0
 unread_flushes (read_error.Text text_fault.Memory) = refl

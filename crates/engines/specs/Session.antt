@@ -1,5 +1,5 @@
 -- What a session writes.
-use Rattle.std.specs.Prelude.{◌≡◌, ℕ, ◌+◌, List, [], ◌++◌, take, ◌⊎◌, Option, None, Some, Err, IfSome}
+use Rattle.std.specs.Prelude.{◌≡◌, ℕ, Bool, true, false, ◌+◌, List, [], ◌++◌, take, ◌⊎◌, Option, None, Some, Err, IfSome}
 use Rattle.dimacs_io.specs.Device.{IsBeginning, RisesBy}
 use Rattle.dimacs_lines.specs.declared.fault.TextFault.TheVariants.{Fault}
 use Rattle.dimacs_lines.specs.Lines.{Line, parts_of, lines_of}
@@ -74,6 +74,11 @@ SessionFlushes _ commands given old new = new ≡ old
 -- the same of a source that tells its bytes
 abbrev pub FlushesOnDevices : End → Option (List ℕ) → ℕ → ℕ → ℕ → Type 0
 FlushesOnDevices end commands_known commands_count old new = IfSome commands_known (λ commands. SessionFlushes end commands (take commands_count commands) old new)
+
+-- whether the commands were read to their end, by how the session ends
+abbrev pub commands_whole : End → Bool
+commands_whole Ended = true
+commands_whole _ = false
 
 -- how many reads of the commands failed
 abbrev pub command_failures : End → ℕ

@@ -2,16 +2,16 @@
 ghost use Rattle.std.specs.Prelude.{◌≡◌, ℕ, ◌+◌, ◌-◌, ◌^◌, ◌<◌, true, is_err, List, ◌++◌};
 ghost use Rattle.std.specs.Io.{ReadsAtMost};
 ghost use Rattle.std.specs.Io.KnownBytes.{ReadConsumes};
-ghost use Rattle.dimacs_io.specs.Device.{CountsFailure, CountsFlush, EndsBy, Fails, LowersByCount, Writes};
+ghost use Rattle.dimacs_io.specs.Device.{CountsFailure, CountsFlush, EndsBy, Fails, Logs, LowersByCount, ReachesEnd, Writes, text_over};
 ghost use Rattle.dimacs_io.specs.declared.device.LastCall.{LastCall};
 ghost use Rattle.dimacs_io.specs.declared.device.LastCall.TheVariants as last;
 ghost use Rattle.session.specs.Session.{present};
 ghost use Rattle.session.specs.Step.{SessionState, state_of};
-ghost use Rattle.checker.specs.Check.{last_by, problem_failures, write_failures};
+ghost use Rattle.checker.specs.Check.{last_by, problem_failures, problem_whole, write_failures};
 ghost use Rattle.engines.specs.Printing.{outcome};
-ghost use Rattle.checker.specs.Reading.{SourceGives};
+ghost use Rattle.checker.specs.Reading.{SourceGives, SourceIsRead};
 ghost use Rattle.engines.specs.Serving.{CommandsEnd, Finishes, GoesOn, Output, Stands, StaysPassedOn, output_of};
-ghost use Rattle.engines.specs.Session.{FlushesOnDevices, SessionOnDevices, command_failures};
+ghost use Rattle.engines.specs.Session.{FlushesOnDevices, SessionOnDevices, command_failures, commands_whole};
 
 use crate::opening::open_text;
 use crate::reply::serve_line;
@@ -46,9 +46,13 @@ pub fn run_session<P: Source, C: Source, O: Sink>(
 
     // A run's printing is written, or its beginning at a failed call, and no end lacks its cause.
     ensures session { SessionOnDevices result extra
-        (P.remaining problem.old) (P.most_left problem.old - P.most_left problem.new)
-        (C.remaining script.old) (C.most_left script.old - C.most_left script.new)
+        (text_over P.remaining P.given problem.old problem.new) (P.most_left problem.old - P.most_left problem.new)
+        (text_over C.remaining C.given script.old script.new) (C.most_left script.old - C.most_left script.new)
         (O.contents out.old) (O.contents out.new) }
+
+    // What a source gave before stays, and each text was read to its end where it was used.
+    ensures problem_read { SourceIsRead (problem_whole result) P.given P.ended problem.old problem.new }
+    ensures script_read { SourceIsRead (commands_whole result) C.given C.ended script.old script.new }
 
     // The end tells of each call that failed.
     ensures problem_failed { Fails (problem_failures result) P.failures problem.old problem.new }
@@ -60,7 +64,7 @@ pub fn run_session<P: Source, C: Source, O: Sink>(
     ensures problem_last { problem_failures result ≡ 1 → P.last_failed problem.new ≡ true }
     ensures script_last { command_failures result ≡ 1 → C.last_failed script.new ≡ true }
     ensures out_flushed { FlushesOnDevices result
-        (C.remaining script.old) (C.most_left script.old - C.most_left script.new)
+        (text_over C.remaining C.given script.old script.new) (C.most_left script.old - C.most_left script.new)
         (O.flushes out.old) (O.flushes out.new) }
     ensures out_last { O.last_call out.new ≡ last_by result (O.last_call out.old) }
 {
@@ -82,9 +86,13 @@ pub fn run_session_in<A: Allocator + Copy, P: Source, C: Source, O: Sink>(
 
     // A run's printing is written, or its beginning at a failed call, and no end lacks its cause.
     ensures session { SessionOnDevices result extra
-        (P.remaining problem.old) (P.most_left problem.old - P.most_left problem.new)
-        (C.remaining script.old) (C.most_left script.old - C.most_left script.new)
+        (text_over P.remaining P.given problem.old problem.new) (P.most_left problem.old - P.most_left problem.new)
+        (text_over C.remaining C.given script.old script.new) (C.most_left script.old - C.most_left script.new)
         (O.contents out.old) (O.contents out.new) }
+
+    // What a source gave before stays, and each text was read to its end where it was used.
+    ensures problem_read { SourceIsRead (problem_whole result) P.given P.ended problem.old problem.new }
+    ensures script_read { SourceIsRead (commands_whole result) C.given C.ended script.old script.new }
 
     // The end tells of each call that failed.
     ensures problem_failed { Fails (problem_failures result) P.failures problem.old problem.new }
@@ -96,7 +104,7 @@ pub fn run_session_in<A: Allocator + Copy, P: Source, C: Source, O: Sink>(
     ensures problem_last { problem_failures result ≡ 1 → P.last_failed problem.new ≡ true }
     ensures script_last { command_failures result ≡ 1 → C.last_failed script.new ≡ true }
     ensures out_flushed { FlushesOnDevices result
-        (C.remaining script.old) (C.most_left script.old - C.most_left script.new)
+        (text_over C.remaining C.given script.old script.new) (C.most_left script.old - C.most_left script.new)
         (O.flushes out.old) (O.flushes out.new) }
     ensures out_last { O.last_call out.new ≡ last_by result (O.last_call out.old) }
 {
@@ -145,9 +153,10 @@ fn serve_commands<A: Allocator + Copy, C: Source, O: Sink>(
     requires out { O.failures out.old < 2 ^ 64 - 1 }
     requires passed_on { O.last_call out.old ≡ last.Flush }
     ensures served { (given : List ℕ)
-        × SourceGives C.remaining C.most_left script.old script.new given
+        × SourceGives C.remaining C.given C.most_left script.old script.new given
         × CommandsEnd result (state_of session.old) given (C.remaining script.new)
         (output_of O.contents O.flushes out.old) (output_of O.contents O.flushes out.new) }
+    ensures script_read { SourceIsRead (commands_whole result) C.given C.ended script.old script.new }
     ensures no_problem { problem_failures result ≡ 0 }
     ensures script_failed { Fails (command_failures result) C.failures script.old script.new }
     ensures out_failed { Fails (write_failures result) O.failures out.old out.new }
@@ -183,9 +192,11 @@ fn read_on<C: Source, O: Sink>(
     requires passed_on { O.last_call _replies.now ≡ last.Flush }
     ensures bound { ReadsAtMost result piece.new }
     ensures bytes { ReadConsumes (C.remaining script.old) (C.remaining script.new) result piece.new }
+    ensures given { Logs result (C.given script.old) (C.given script.new) piece.new }
     ensures left { LowersByCount result (C.most_left script.old) (C.most_left script.new) }
     ensures failed { CountsFailure result (C.failures script.old) (C.failures script.new) }
     ensures last { C.last_failed script.new ≡ is_err result }
+    ensures ended { ReachesEnd result piece.new (C.ended script.new) }
 {
     script.read(piece)
 }

@@ -1,8 +1,9 @@
 //! Solves a problem, and writes the solution.
 ghost use Rattle.std.specs.Prelude.{◌≡◌, ◌-◌, ◌^◌, ◌<◌, true};
-ghost use Rattle.dimacs_io.specs.Device.{CountsFailure, CountsFlush, EndsBy, Fails, RisesBy, Writes};
+ghost use Rattle.dimacs_io.specs.Device.{CountsFailure, CountsFlush, EndsBy, Fails, RisesBy, Writes, text_over};
 ghost use Rattle.dimacs_io.specs.declared.device.LastCall.TheVariants as last;
-ghost use Rattle.checker.specs.Check.{flushes_by, last_by, problem_failures, write_failures};
+ghost use Rattle.checker.specs.Check.{flushes_by, last_by, problem_failures, problem_whole, write_failures};
+ghost use Rattle.checker.specs.Reading.{SourceIsRead};
 ghost use Rattle.session.specs.Session.{present};
 ghost use Rattle.engines.specs.Printing.{solution};
 ghost use Rattle.engines.specs.Solve.{SolveOnDevices, end_by};
@@ -26,8 +27,11 @@ pub fn solve<P: Source, O: Sink>(alloc: Global, input: &mut P, out: &mut O, proo
 
     // What is written is the printing of what is settled, and no end comes without its cause.
     ensures solve { SolveOnDevices result proof
-        (P.remaining input.old) (P.most_left input.old - P.most_left input.new)
+        (text_over P.remaining P.given input.old input.new) (P.most_left input.old - P.most_left input.new)
         (O.contents out.old) (O.contents out.new) }
+
+    // What the source gave before stays, and the text was read to its end where it was used.
+    ensures input_read { SourceIsRead (problem_whole result) P.given P.ended input.old input.new }
 
     // The end tells of each call that failed.
     ensures input_failed { Fails (problem_failures result) P.failures input.old input.new }

@@ -1,5 +1,7 @@
 use Rattle.std.proofs.Common.{Ok, Err, ap, length, rules}
 use Rattle.checker.proofs.CheckLemmas.{AreJudged, CheckOnDevices-problem, CheckOnDevices-answer, CheckOnDevices-stopped, ReadsKnown-sized}
+use Rattle.checker.specs.Check.{answer_whole, problem_whole}
+use Rattle.checker.proofs.SourceLemmas.{IsRead-answer, IsRead-no_answer, IsRead-problem, IsRead-whole}
 use Rattle.checker.proofs.checking.check.Goals as goal
 
 pub returns-in-Err-clause-check : goal.returns-in-Err-clause-check
@@ -22,3 +24,18 @@ returns-in-Err-is_right-clause-check g c = search rules
 
 pub returns-in-Err-is_right-clause-out_failed : goal.returns-in-Err-is_right-clause-out_failed
 returns-in-Err-is_right-clause-out_failed g c = search rules
+
+-- ---- which texts were read to their ends
+
+pub returns-in-Err-clause-problem_read : goal.returns-in-Err-clause-problem_read
+returns-in-Err-clause-problem_read g c = rw c.end.ensures (IsRead-problem c.in-Err.error _ _ _ c.in-Err.ensures.grows)
+
+pub returns-in-Err-clause-answer_read : goal.returns-in-Err-clause-answer_read
+returns-in-Err-clause-answer_read g c = rw c.end.ensures (IsRead-no_answer c.in-Err.error _ _)
+
+pub returns-in-Err-read_answer-clause-problem_read : goal.returns-in-Err-read_answer-clause-problem_read
+returns-in-Err-read_answer-clause-problem_read g c = IsRead-whole _ _ _ _ c.in-Ok.ensures.grows
+
+pub returns-in-Err-read_answer-clause-answer_read : goal.returns-in-Err-read_answer-clause-answer_read
+returns-in-Err-read_answer-clause-answer_read g c =
+    rw c.end-in-Err-read_answer.ensures (IsRead-answer c.in-Err-read_answer.error _ _ _ c.in-Err-read_answer.ensures.grows)

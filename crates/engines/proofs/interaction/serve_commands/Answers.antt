@@ -1,11 +1,11 @@
-use Rattle.std.proofs.Common.{[], ◌++◌, take, inl, inr, refl, ◌∙◌, arith, rules}
-use Rattle.checker.proofs.SourceLemmas.{Gives-nil, Gives-more, Gives-none}
+use Rattle.std.proofs.Common.{[], ◌++◌, take, true, inl, inr, refl, ◌∙◌, arith, rules}
+use Rattle.checker.proofs.SourceLemmas.{GivesAndLogs-nil, GivesAndLogs-more, GivesAndLogs-none}
 use Rattle.engines.proofs.RunLemmas.{Stands-begin, Stopped-from_err, Stands-from_ok, failed_from_err, passed_on_from_ok, same_from_ok}
 use Rattle.engines.proofs.interaction.serve_commands.Goals as goal
 
 pub pieces-init : goal.pieces-init
 pieces-init g c = record {
-  so_far = ([], Gives-nil _ _, rw (c.new-cutter.ensures) (Stands-begin _ _));
+  so_far = ([], GivesAndLogs-nil _ _ _, rw (c.new-cutter.ensures) (Stands-begin _ _));
   script_failures = refl;
   out_failures = refl;
   passed_on = c.requires.passed_on;
@@ -16,7 +16,7 @@ returns-then-is_err-clause-served g c =
     let so_far = c.pieces.invariant.so_far in
     let piece = take c.in-Ok.count c.read_on.new.piece in (
       so_far.0 ++ piece,
-      Gives-more _ _ _ so_far.0 c.read_on.new.piece c.in-Ok.count _ _ _ so_far.1 c.in-Ok.ensures.bytes.0 (search rules) c.in-Ok.ensures.left,
+      GivesAndLogs-more _ _ _ so_far.0 c.read_on.new.piece c.in-Ok.count _ _ _ _ _ _ so_far.1 c.in-Ok.ensures.bytes.0 (search rules) c.in-Ok.ensures.left c.in-Ok.ensures.given,
       inl (Stopped-from_err c.serve_piece.result _ _ _ _ _ _ _ (search rules) (c.serve_piece.ensures.goes_on _ _ _ so_far.2)),
     )
 
@@ -27,7 +27,7 @@ pieces-preserved g c =
     record {
       so_far = (
         so_far.0 ++ piece,
-        Gives-more _ _ _ so_far.0 c.read_on.new.piece c.in-Ok.count _ _ _ so_far.1 c.in-Ok.ensures.bytes.0 (search rules) c.in-Ok.ensures.left,
+        GivesAndLogs-more _ _ _ so_far.0 c.read_on.new.piece c.in-Ok.count _ _ _ _ _ _ so_far.1 c.in-Ok.ensures.bytes.0 (search rules) c.in-Ok.ensures.left c.in-Ok.ensures.given,
         Stands-from_ok c.serve_piece.result _ _ _ _ _ _ _ (search rules) (c.serve_piece.ensures.goes_on _ _ _ so_far.2),
       );
       script_failures = search rules;
@@ -39,7 +39,7 @@ pub returns-in-Ok-serve_rest-clause-served : goal.returns-in-Ok-serve_rest-claus
 returns-in-Ok-serve_rest-clause-served g c =
     let so_far = c.pieces.invariant.so_far in (
       so_far.0,
-      Gives-none _ _ _ so_far.0 c.read_on.new.piece c.in-Ok-eq0.field-0 _ _ _ so_far.1 c.in-Ok-eq0.ensures.bytes.0 (omega arith) c.in-Ok-eq0.ensures.left,
+      GivesAndLogs-none _ _ _ so_far.0 c.read_on.new.piece c.in-Ok-eq0.field-0 _ _ _ _ _ _ so_far.1 c.in-Ok-eq0.ensures.bytes.0 (omega arith) c.in-Ok-eq0.ensures.left c.in-Ok-eq0.ensures.given,
       (c.in-Ok-eq0.ensures.bytes.1 (omega arith) (search rules), _, c.in-Ok-serve_rest.ensures.rest _ _ _ so_far.2),
     )
 
@@ -47,7 +47,7 @@ pub returns-in-Err-serve_rest-clause-served : goal.returns-in-Err-serve_rest-cla
 returns-in-Err-serve_rest-clause-served g c =
     let so_far = c.pieces.invariant.so_far in (
       so_far.0,
-      Gives-none _ _ _ so_far.0 c.read_on.new.piece c.in-Ok-eq0.field-0 _ _ _ so_far.1 c.in-Ok-eq0.ensures.bytes.0 (omega arith) c.in-Ok-eq0.ensures.left,
+      GivesAndLogs-none _ _ _ so_far.0 c.read_on.new.piece c.in-Ok-eq0.field-0 _ _ _ _ _ _ so_far.1 c.in-Ok-eq0.ensures.bytes.0 (omega arith) c.in-Ok-eq0.ensures.left c.in-Ok-eq0.ensures.given,
       inr (c.in-Ok-eq0.ensures.bytes.1 (omega arith) (search rules), c.in-Err-serve_rest.ensures.rest _ _ _ so_far.2),
     )
 
@@ -56,3 +56,25 @@ returns-in-Err-clause-served g c = search rules
 
 pub returns-then-is_err-clause-out_last : goal.returns-then-is_err-clause-out_last
 returns-then-is_err-clause-out_last g c before = failed_from_err c.serve_piece.result _ _ (search rules) c.serve_piece.ensures.passed_on
+
+-- ---- what was given before stays, and the end was reached where the commands ended
+
+pub returns-then-is_err-clause-script_read : goal.returns-then-is_err-clause-script_read
+returns-then-is_err-clause-script_read g c =
+    let served = returns-then-is_err-clause-served g c in
+    record { grows = (served.0, served.1.log); ends = λ all. absurd cc }
+
+pub returns-in-Ok-serve_rest-clause-script_read : goal.returns-in-Ok-serve_rest-clause-script_read
+returns-in-Ok-serve_rest-clause-script_read g c =
+    let served = returns-in-Ok-serve_rest-clause-served g c in
+    record { grows = (served.0, served.1.log); ends = λ all. c.in-Ok-eq0.ensures.ended.1 (omega arith, search rules) }
+
+pub returns-in-Err-serve_rest-clause-script_read : goal.returns-in-Err-serve_rest-clause-script_read
+returns-in-Err-serve_rest-clause-script_read g c =
+    let served = returns-in-Err-serve_rest-clause-served g c in
+    record { grows = (served.0, served.1.log); ends = λ all. absurd cc }
+
+pub returns-in-Err-clause-script_read : goal.returns-in-Err-clause-script_read
+returns-in-Err-clause-script_read g c =
+    let served = returns-in-Err-clause-served g c in
+    record { grows = (served.0, served.1.log); ends = λ all. absurd cc }

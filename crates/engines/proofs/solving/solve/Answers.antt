@@ -1,4 +1,5 @@
 use Rattle.std.proofs.Common.{◌∙◌}
+use Rattle.checker.proofs.SourceLemmas.{IsRead-whole}
 use Rattle.engines.proofs.OpeningLemmas.{unopened_flushes, unopened_last, unopened_writes}
 use Rattle.engines.proofs.SolveLemmas.{SolveOnDevices-unopened, SolveOnDevices-stopped, SolveOnDevices-solved, no_problem_failed, written_count, written_flushed, written_last}
 use Rattle.engines.proofs.solving.solve.Goals as goal
@@ -37,3 +38,12 @@ returns-in-Ok-tell_solution-clause-out_last g c = rw c.end_by-end.ensures (c.in-
 
 pub returns-in-Ok-tell_solution-clause-input_last : goal.returns-in-Ok-tell_solution-clause-input_last
 returns-in-Ok-tell_solution-clause-input_last g c failed = no_problem_failed c.verdict.result (rw c.end_by-end.ensures at failed)
+
+pub returns-in-Err-clause-input_read : goal.returns-in-Err-clause-input_read
+returns-in-Err-clause-input_read g c = c.in-Err.ensures.input_read
+
+pub returns-in-Err-tell_solution-clause-input_read : goal.returns-in-Err-tell_solution-clause-input_read
+returns-in-Err-tell_solution-clause-input_read g c = IsRead-whole _ _ _ _ c.in-Ok.ensures.input_read
+
+pub returns-in-Ok-tell_solution-clause-input_read : goal.returns-in-Ok-tell_solution-clause-input_read
+returns-in-Ok-tell_solution-clause-input_read g c = IsRead-whole _ _ _ _ c.in-Ok.ensures.input_read
