@@ -59,6 +59,8 @@ class Tables(unittest.TestCase):
             "name,supply,x,y\nKiel,5,10.1,54.3\nBerlin,-5,,\n", "from,to,cost,name\nKiel,Ulm,1,A7\nUlm,Berlin,1,\n"
         )
         self.assertEqual(problem.places, {"Kiel": (10.1, 54.3)})
+        german = self.read("Ort;Angebot;x;y\nKiel;1,5;10.135;54.323\nUlm;-1,5;9,5;\n", "von;nach;Kosten\nKiel;Ulm;1\n")
+        self.assertEqual(german.places, {"Kiel": (10.135, 54.323)})
         self.assertEqual([arc.name for arc in problem.arcs], ["A7", None])
         self.assertIn("1 node stands in the table of arcs alone", problem.notes[0])
 

@@ -241,6 +241,17 @@ class Numbers(Dict[Any, Optional[Decimal]]):
         return number
 
 
+class Coordinates(Numbers):
+    """Where places are on a map. There are no thousands, so either mark parts decimals: they often come from elsewhere
+    than the other numbers of a table."""
+
+    def __init__(self) -> None:
+        super().__init__(Sign("."))
+
+    def _read(self, cell: Any) -> Optional[Decimal]:
+        return super()._read(cell.replace(",", ".") if isinstance(cell, str) else cell)
+
+
 def number_hint(cell: str) -> str:
     """What to do about a cell that is no number, for the commonest mistakes."""
     lower = cell.lower()

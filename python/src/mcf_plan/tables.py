@@ -18,6 +18,7 @@ from typing import TYPE_CHECKING, Any, Collection, Dict, Iterable, List, Mapping
 from .cells import (
     MISSING,
     CellFault,
+    Coordinates,
     Numbers,
     Sign,
     TableFault,
@@ -54,6 +55,8 @@ ARC_SHEETS = (
     "aretes routes trajets arcos aristas rutas caminos carreteras enlaces"
 ).split()
 """The names that the sheets of a workbook may have, whatever the letters' size and accents."""
+
+PLACES = ("x", "y")
 
 
 @dataclass(frozen=True)
@@ -367,7 +370,7 @@ class _Table:
         """
         if not self.has(what):
             return [ZERO if default is None else default] * len(self)
-        found = self._looked_up(what, self._reader())
+        found = self._looked_up(what, Coordinates() if what in PLACES else self._reader())
         if default is None and None in found:
             expected = f"{called(what)} was expected; `--default-cost 0` takes 0 for those that are empty"
             raise self.fault(found.index(None), what, expected)
@@ -412,15 +415,20 @@ class _Table:
                 self._numbers = Numbers(self._decimal_sign())
         return self._numbers
 
+    def _texts(self, columns: Iterable[str]) -> Iterable[str]:
+        """The different texts in some columns."""
+        cells: Dict[str, None] = {}
+        for what in columns:
+            if self.has(what):
+                column = self.sheet.columns[self.found.places[what]]
+                cells.update(dict.fromkeys(cell for cell in column if isinstance(cell, str)))
+        return cells
+
     def _decimal_sign(self) -> Sign:
         """The decimal sign of the table. Raises TableFault where nothing shows which it is."""
         sheet = self.sheet
-        columns = [what for what in self.found.places if what not in ("node", "from", "to", "name")]
-        cells: Dict[str, None] = {}
-        for what in columns:
-            cells.update(
-                dict.fromkeys(cell for cell in sheet.columns[self.found.places[what]] if isinstance(cell, str))
-            )
+        columns = [what for what in self.found.places if what not in ("node", "from", "to", "name", *PLACES)]
+        cells = self._texts(columns)
         try:
             return decimal_sign(cells, point_is_usual=sheet.delimiter == ",")
         except Undecided as doubt:
