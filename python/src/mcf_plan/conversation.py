@@ -9,6 +9,7 @@ from decimal import Decimal
 from pathlib import Path
 from typing import Callable, Dict, List, Optional, TextIO
 
+from .explain import MOST_TOLD
 from .plan import Infeasible
 from .printing import of_system, print_table, say, tell
 from .problem import ArcKey, plain, total_of
@@ -33,7 +34,6 @@ Command = Callable[[List[str]], object]
 
 MOST_ALIKE = 5000
 """Among more names none that is alike is looked for: it takes seconds."""
-MOST_TOLD = 12
 ALONE = ("undo", "redo", "show", "why", "saves", "moments", "group", "end", "help")
 """Commands that take no words."""
 WANTED = {
