@@ -462,7 +462,7 @@ class PageTest(unittest.TestCase):
         self.assertLessEqual(self.browser.execute_script("return document.documentElement.scrollWidth"), NARROW[0])
         self.keep_picture("large-400")
         # Wide limits: other suites run beside this one.
-        self.assertLess(opened, 15)
+        self.assertLess(opened, 60)
         self.assertLess(sorted(took)[2], 2000, took)
 
     def worked(self) -> float:
@@ -613,6 +613,7 @@ class PageTest(unittest.TestCase):
             self.all("#arcs button[data-close]")[row].location_once_scrolled_into_view
 
     def test_no_request_to_another_host(self) -> None:
+        self.browser.get("about:blank")  # The page of the test before asks no more.
         self.browser.get_log("performance")
         self.browser.get_log("browser")
         server = self.open(towns())
