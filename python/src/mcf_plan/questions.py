@@ -93,10 +93,10 @@ def run_ranges(options: argparse.Namespace, problem: Problem) -> bool:
             rows, texts = [], 0
         elif options.supplies:
             beside = None if options.beside is None else node_of(problem, options.beside)
-            rows, texts = _supply_rows(problem, supply_prices(session, beside, step)), 1
+            rows, texts = _supply_rows(problem, supply_prices(session, beside, step=step, plan=plan)), 1
         else:
             only = None if options.only is None else [arc_of(problem, words) for words in options.only]
-            rows, texts = _range_rows(plan, ranges(session, only, step)), 3
+            rows, texts = _range_rows(plan, ranges(session, only, step=step, plan=plan)), 3
     lift_alarm()
     if isinstance(plan, Infeasible):
         say(plan.explain(), sys.stdout)

@@ -23,7 +23,7 @@ Decimal('3.75')
 from __future__ import annotations
 
 from decimal import Decimal
-from typing import Iterable, List, NamedTuple, Optional, Tuple
+from typing import Iterable, List, NamedTuple, Optional, Tuple, Union
 
 from .cuts import Cut as Cut
 from .cuts import minimum_cut as minimum_cut
@@ -94,13 +94,19 @@ def cost_range(session: Session, arc: ArcKey) -> Limits:
     return found.least_cost, found.greatest_cost
 
 
-def ranges(session: Session, only: Optional[Iterable[ArcKey]] = None, step: Step = no_step) -> List[Ranges]:
+def ranges(
+    session: Session,
+    only: Optional[Iterable[ArcKey]] = None,
+    *,
+    step: Step = no_step,
+    plan: Union[Plan, Infeasible, None] = None,
+) -> List[Ranges]:
     """The sensitivity of all arcs, or of those in `only`.
 
-    `step` is told how much of how much is done. Raises Meaningless where there is no plan, KeyError where an arc is
-    unknown.
+    `step` is told how much of how much is done. `plan` is the session's plan as it stands, where it is there already.
+    Raises Meaningless where there is no plan, KeyError where an arc is unknown.
     """
-    problem, plan = session.problem, session.plan()
+    problem, plan = session.problem, plan or session.plan()
     arcs = list(range(len(problem.arcs))) if only is None else [problem.find_arc(arc) for arc in only]
     if isinstance(plan, Infeasible):
         raise Meaningless("there is no plan, so it has no ranges")
@@ -122,15 +128,21 @@ def ranges(session: Session, only: Optional[Iterable[ArcKey]] = None, step: Step
     ]
 
 
-def supply_prices(session: Session, beside: Optional[str] = None, step: Step = no_step) -> List[SupplyPrice]:
+def supply_prices(
+    session: Session,
+    beside: Optional[str] = None,
+    *,
+    step: Step = no_step,
+    plan: Union[Plan, Infeasible, None] = None,
+) -> List[SupplyPrice]:
     """For each node what one unit more of supply there costs, and one unit less.
 
     The supply of the node `beside` changes by as much the other way, so that all supplies add up to 0 as before. Where
     what is too much or too little is kept or not met, it is left out: that takes up the change, and no other supply
-    changes. Raises KeyError where there is no such node; Meaningless where there is no plan, for kinds other than `min`,
-    and where `beside` is missing or too many.
+    changes. `step` and `plan` are as in `ranges`. Raises KeyError where there is no such node; Meaningless where there
+    is no plan, for kinds other than `min`, and where `beside` is missing or too many.
     """
-    problem, plan = session.problem, session.plan()
+    problem, plan = session.problem, plan or session.plan()
     if problem.kind != "min":
         raise Meaningless(f"a problem of kind '{problem.kind}' has no supplies to change")
     if isinstance(plan, Infeasible):
