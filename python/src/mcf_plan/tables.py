@@ -9,82 +9,24 @@ from __future__ import annotations
 import csv
 import re
 import unicodedata
-from dataclasses import dataclass, field
 from decimal import Decimal
 from itertools import chain
 from pathlib import Path
 from typing import TYPE_CHECKING, Any, Collection, Dict, Iterable, List, Mapping, Optional, Sequence, Tuple, Union
 
-from .cells import (
-    MISSING,
-    CellFault,
-    Coordinates,
-    Numbers,
-    Sign,
-    TableFault,
-    Undecided,
-    decimal_sign,
-    is_empty,
-    is_truth,
-    limit_fault,
-    name_of,
-    not_plain,
-    shown,
-)
-from .columns import Found, called, compare_units, find_columns, folded
+from .cells import TableFault, is_empty, limit_fault, name_of
+from .columns import called, compare_units, find_columns, folded
 from .problem import ONE, WIDE, ZERO, Arc, Number, Problem, exact, plain
+from .reading import Reading, Table, no_column
 from .rounding import round_problem
-from .sheets import MAPS, WORKBOOKS, Sheet, check_ending, part_sheet, read_text, sheet_of_frame
-
+from .sheets import WORKBOOKS, Sheet, part_sheet
+from .sources import Source, find_sheets
 from .vocabulary import ARC_COLUMNS, COLUMNS, NODE_COLUMNS, SUMS
 
 if TYPE_CHECKING:
     from .plan import Plan
 
 __all__ = ["COLUMNS", "PLAN_COLUMNS", "Source", "TableFault", "plan_rows", "read_tables", "write_plan"]
-
-Source = Union[str, Path, Any]
-"""A path of a .csv, .tsv, .xlsx or .geojson file, of a sheet as `book.xlsx:Orte`, or a pandas DataFrame."""
-
-NODE_SHEETS = (
-    "nodes node places place towns cities sites locations supplies knoten orte ort standorte stadte nœuds noeuds lieux "
-    "villes sites sommets nodos lugares ciudades sitios"
-).split()
-ARC_SHEETS = (
-    "arcs arc edges roads links routes lanes connections kanten wege strecken strassen verbindungen arcs liaisons "
-    "aretes routes trajets arcos aristas rutas caminos carreteras enlaces"
-).split()
-"""The names that the sheets of a workbook may have, whatever the letters' size and accents."""
-
-PLACES = ("x", "y")
-
-
-@dataclass(frozen=True)
-class _Reading:
-    """How the tables are to be read: see `read_tables`."""
-
-    columns: Dict[str, List[str]] = field(default_factory=dict)
-    decimal: Optional[str] = None
-    default_cost: Optional[Decimal] = None
-    encoding: Optional[str] = None
-
-    @classmethod
-    def of(
-        cls,
-        columns: Optional[Mapping[str, Union[str, Sequence[str]]]],
-        decimal: Optional[str],
-        default_cost: Optional[Number],
-        encoding: Optional[str],
-    ) -> _Reading:
-        """The same from what a caller says. Raises ValueError where that has no meaning."""
-        named = {what: [names] if isinstance(names, str) else list(names) for what, names in (columns or {}).items()}
-        for what in named:
-            if what not in COLUMNS and what != "aside":
-                raise ValueError(f"there is no column {what!r} to name; there are {', '.join(COLUMNS)} and aside")
-        if decimal not in (None, ".", ","):
-            raise ValueError(f"the decimal sign is {decimal!r}, and has to be '.' or ','")
-        cost = None if default_cost is None else exact(default_cost, "the default cost")
-        return cls(named, decimal, cost, encoding)
 
 
 def read_tables(
@@ -113,19 +55,19 @@ def read_tables(
     `encoding` is that of texts that are not UTF-8. `notes` of the problem say what was chosen.
     Raises TableFault where a table is not understood, OSError where a file can't be read.
     """
-    reading = _Reading.of(columns, decimal, default_cost, encoding)
+    reading = Reading.of(columns, decimal, default_cost, encoding)
     problem = Problem(kind, balance=balance, source=source, sink=sink)
-    node_sheet, arc_sheet = _sheets(nodes, arcs, reading)
+    node_sheet, arc_sheet = find_sheets(nodes, arcs, reading.encoding)
     _check_order(node_sheet, arc_sheet)
     _check_chosen(reading, node_sheet, arc_sheet)
     unused = ("cost",) if kind == "max" else ()
-    arc_table = _Table(arc_sheet, find_columns(arc_sheet, ARC_COLUMNS, reading.columns, unused=unused), reading)
+    arc_table = Table(arc_sheet, find_columns(arc_sheet, ARC_COLUMNS, reading.columns, unused=unused), reading)
     tails, heads = arc_table.names("from"), arc_table.names("to")
     ends = dict.fromkeys(chain.from_iterable(zip(tails, heads)))
     node_table = None
     if node_sheet is not None:
         found = find_columns(node_sheet, NODE_COLUMNS, reading.columns)
-        node_table = _Table(node_sheet, found, reading)
+        node_table = Table(node_sheet, found, reading)
         _find_names(node_table, ends)
         compare_units({**_units(node_table), **_units(arc_table)})
         _read_nodes(problem, node_table, ends)
@@ -137,78 +79,7 @@ def read_tables(
     return problem if decimals is None else round_problem(problem, decimals)
 
 
-# ---------------------------------------------------------------- which sheets
-
-
-def _sheets(nodes: Optional[Source], arcs: Source, reading: _Reading) -> Tuple[Optional[Sheet], Sheet]:
-    """The sheets of nodes and arcs; one file may have both."""
-    if nodes is None and isinstance(arcs, (str, Path)):
-        path, name = part_sheet(arcs)
-        if path.suffix.lower() in MAPS:
-            from .geojson import read_map
-
-            points, lines = read_map(path)
-            if lines is None:
-                raise TableFault(f"{path.name}: there is no line, and roads are lines")
-            return points, lines
-        if path.suffix.lower() in WORKBOOKS and name is None:
-            return _both_of_workbook(path)
-    return None if nodes is None else _sheet(nodes, NODE_SHEETS, reading), _sheet(arcs, ARC_SHEETS, reading)
-
-
-def _sheet(source: Source, names: Sequence[str], reading: _Reading) -> Sheet:
-    """The sheet of one source; of a workbook of several the one that has one of these names."""
-    if not isinstance(source, (str, Path)):
-        return sheet_of_frame(source)
-    path, name = part_sheet(source)
-    check_ending(path)
-    if path.suffix.lower() in MAPS:
-        from .geojson import read_map
-
-        points, lines = read_map(path)
-        sheet = points if names is NODE_SHEETS else lines
-        if sheet is None:
-            raise TableFault(f"{path.name}: there is no {'point' if names is NODE_SHEETS else 'line'}")
-        return sheet
-    if path.suffix.lower() not in WORKBOOKS:
-        return read_text(path, reading.encoding)
-    from .workbook import read_sheet, sheet_names
-
-    if name is None:
-        there = sheet_names(path)
-        fitting = [each for each in there if folded(each) in names] if len(there) > 1 else there
-        if len(fitting) != 1:
-            raise TableFault(_which_sheet(path, there))
-        name = fitting[0]
-    return read_sheet(path, name)
-
-
-def _both_of_workbook(path: Path) -> Tuple[Optional[Sheet], Sheet]:
-    """The sheets of nodes and of arcs of one workbook; a workbook of one sheet has the arcs."""
-    from .workbook import read_sheet, sheet_names
-
-    there = sheet_names(path)
-    if len(there) == 1:
-        return None, read_sheet(path, there[0])
-    nodes = [each for each in there if folded(each) in NODE_SHEETS]
-    arcs = [each for each in there if folded(each) in ARC_SHEETS]
-    if len(nodes) != 1 or len(arcs) != 1 or nodes == arcs:
-        raise TableFault(_which_sheet(path, there))
-    sheets = read_sheet(path, nodes[0]), read_sheet(path, arcs[0])
-    rest = [repr(each) for each in there if each not in (nodes[0], arcs[0])]
-    if rest:
-        words = f"the sheet {rest[0]} is" if len(rest) == 1 else f"the sheets {', '.join(rest)} are"
-        sheets[1].notes.append(f"{path.name}: {words} left aside")
-    return sheets
-
-
-def _which_sheet(path: Path, there: Sequence[str]) -> str:
-    if not there:
-        return f"{path.name}: all its sheets are empty"
-    return (
-        f"{path.name}: which of its sheets {', '.join(map(repr, there))} has the nodes, and which the arcs? Call them "
-        f"nodes and arcs, or write {path.name}:SHEET for each"
-    )
+# ---------------------------------------------------------------- which columns
 
 
 def _check_order(nodes: Optional[Sheet], arcs: Sheet) -> None:
@@ -222,7 +93,7 @@ def _check_order(nodes: Optional[Sheet], arcs: Sheet) -> None:
         )
 
 
-def _check_chosen(reading: _Reading, nodes: Optional[Sheet], arcs: Sheet) -> None:
+def _check_chosen(reading: Reading, nodes: Optional[Sheet], arcs: Sheet) -> None:
     """Raises TableFault where a column of nodes is named and there is no table of nodes, or a column is to be left aside
     that no table has."""
     for what in reading.columns:
@@ -234,7 +105,7 @@ def _check_chosen(reading: _Reading, nodes: Optional[Sheet], arcs: Sheet) -> Non
             raise TableFault(f"there is no column {name!r} to be left aside")
 
 
-def _find_names(table: _Table, ends: Iterable[str]) -> None:
+def _find_names(table: Table, ends: Iterable[str]) -> None:
     """Finds where the names of the nodes stand: of several columns, or of an index without a name, what the arcs use.
 
     Raises TableFault where none is one of them.
@@ -267,211 +138,10 @@ def _find_names(table: _Table, ends: Iterable[str]) -> None:
         )
         sheet.notes.append(f"{sheet.name}: {sheet.index_name} is taken as {called('node')}")
         return
-    raise _no_column(sheet, "node")
+    raise no_column(sheet, "node")
 
 
-def _no_column(sheet: Sheet, what: str) -> TableFault:
-    """There is no column that holds this."""
-    return TableFault(
-        f"{sheet.name}: there is no column {COLUMNS[what][0]!r} (nor {', '.join(COLUMNS[what][1:6])}, ..); its columns "
-        f"are {sheet.its_columns()}; `--columns {what}=NAME` names it"
-    )
-
-
-# ---------------------------------------------------------------- cells
-
-
-class _Names(Dict[str, str]):
-    """The names in cells that are text, each of which is read once."""
-
-    def __missing__(self, cell: str) -> str:
-        name = self[cell] = name_of(cell)
-        return name
-
-
-class _Table:
-    """The cells of a sheet as names and numbers. Each method takes a column at once, and raises TableFault by row and
-    column."""
-
-    def __init__(self, sheet: Sheet, found: Found, reading: _Reading):
-        self.sheet, self.found, self.reading = sheet, found, reading
-        self._check_short_rows()
-        self._numbers: Optional[Numbers] = None
-        self._names = _Names()
-
-    def __len__(self) -> int:
-        return len(self.sheet.lines)
-
-    def has(self, what: str) -> bool:
-        """Whether there is a column for this."""
-        return what in self.found.places
-
-    def fault(self, row: int, what: str, expected: str) -> TableFault:
-        """What is wrong with a cell."""
-        return self.sheet.fault(row, self.found.places[what], expected)
-
-    def _check_short_rows(self) -> None:
-        """Raises TableFault where a row has not all the cells that count."""
-        sheet = self.sheet
-        by_place = {place: what for what, place in self.found.places.items()}
-        for row, places in sheet.missing.items():
-            lacking = {by_place[place] for place in places if place in by_place}
-            if sheet.word == "feature":
-                lacking -= {"supply", "demand", "low", "name"}
-            if self.reading.default_cost is not None:
-                lacking.discard("cost")
-            if not lacking:
-                continue
-            if sheet.word == "feature":
-                what = next(what for what in by_place.values() if what in lacking)
-                header = sheet.header[self.found.places[what]]
-                raise TableFault(f"{sheet.name}, {sheet.place(row)}: it has no property {header!r}; null is empty")
-            width = len(sheet.header)
-            raise TableFault(
-                f"{sheet.name}, {sheet.place(row)}: {width - len(places)} "
-                f"field{' stands' if width - len(places) == 1 else 's stand'} under {width} columns; an empty field "
-                "needs its separator too"
-            )
-
-    # ------------------------------------------------------------ names
-
-    def names(self, what: str) -> List[str]:
-        """The names in a column that has to be there, none of them empty."""
-        if not self.has(what):
-            raise _no_column(self.sheet, what)
-        names = self.names_of(self.found.places[what])
-        if "" in names:
-            raise self.fault(names.index(""), what, "a name was expected")
-        return names
-
-    def names_of(self, place: int) -> List[str]:
-        """The names in a column by its place; '' where a cell is empty."""
-        cells = self.sheet.columns[place]
-        is_text = set(map(type, cells)) <= {str}
-        try:
-            if is_text:
-                return list(map(self._names.__getitem__, cells))
-        except CellFault:
-            pass
-        found = []
-        for row, cell in enumerate(cells):
-            try:
-                found.append(name_of(cell))
-            except CellFault as fault:
-                raise self.sheet.fault(row, place, str(fault)) from None
-        return found
-
-    # ------------------------------------------------------------ numbers
-
-    def numbers(self, what: str, default: Optional[Decimal] = ZERO) -> List[Decimal]:
-        """The numbers in a column; the default where a cell is empty, or there is no such column.
-
-        Raises TableFault where a cell is empty and there is no default.
-        """
-        if not self.has(what):
-            return [ZERO if default is None else default] * len(self)
-        found = self._looked_up(what, Coordinates() if what in PLACES else self._reader())
-        if default is None and None in found:
-            expected = f"{called(what)} was expected; `--default-cost 0` takes 0 for those that are empty"
-            raise self.fault(found.index(None), what, expected)
-        return [default if number is None else number for number in found]  # type: ignore[misc]
-
-    def limits(self, what: str) -> List[Optional[Decimal]]:
-        """The capacities in a column; None where a cell is empty or says that there is no limit."""
-        if not self.has(what):
-            return [None] * len(self)
-        limits = Numbers(self._reader().sign, has_limits=True)
-        limits.grouped = self._reader().grouped
-        return self._looked_up(what, limits)
-
-    def _looked_up(self, what: str, numbers: Numbers) -> List[Optional[Decimal]]:
-        """The numbers of a column's cells. Truth values are refused first: they are equal to 0 and 1."""
-        cells = self.sheet.columns[self.found.places[what]]
-        if any(each.__name__ in ("bool", "bool_") for each in set(map(type, cells))):
-            row = next(row for row, cell in enumerate(cells) if is_truth(cell))
-            raise self.fault(row, what, f"a number was expected, and this is {not_plain(cells[row])}")
-        try:
-            return list(map(numbers.__getitem__, cells))
-        except (CellFault, TypeError):
-            pass
-        for row, cell in enumerate(cells):
-            try:
-                numbers[cell]
-            except (CellFault, TypeError) as fault:
-                expected = str(fault) if isinstance(fault, CellFault) else "a number was expected"
-                if what == "capacity" and isinstance(cell, str) and cell.strip().lower() in MISSING:
-                    expected = (
-                        "a number was expected: leave the cell empty where there is no limit, and write 0 where it is 0"
-                    )
-                raise self.fault(row, what, expected) from None
-        raise AssertionError("a cell was refused, and now none is")
-
-    def _reader(self) -> Numbers:
-        """What reads the numbers of the table, by its decimal sign."""
-        if self._numbers is None:
-            if self.reading.decimal is not None:
-                self._numbers = Numbers(Sign(self.reading.decimal))
-            else:
-                self._numbers = Numbers(self._decimal_sign())
-        return self._numbers
-
-    def _texts(self, columns: Iterable[str]) -> Iterable[str]:
-        """The different texts in some columns."""
-        cells: Dict[str, None] = {}
-        for what in columns:
-            if self.has(what):
-                column = self.sheet.columns[self.found.places[what]]
-                cells.update(dict.fromkeys(cell for cell in column if isinstance(cell, str)))
-        return cells
-
-    def _decimal_sign(self) -> Sign:
-        """The decimal sign of the table. Raises TableFault where nothing shows which it is."""
-        sheet = self.sheet
-        columns = [what for what in self.found.places if what not in ("node", "from", "to", "name", *PLACES)]
-        cells = self._texts(columns)
-        try:
-            return decimal_sign(cells, point_is_usual=sheet.delimiter == ",")
-        except Undecided as doubt:
-            row, what = self._where(doubt.cell, columns)
-            if doubt.other:
-                their_row, theirs = self._where(doubt.other, columns)
-                raise self.fault(
-                    row,
-                    what,
-                    f"that is a decimal point, and {shown(doubt.other)} ({sheet.place(their_row)}, column "
-                    f"{sheet.header[self.found.places[theirs]]!r}) has a decimal comma: write all numbers alike",
-                ) from None
-            mark = next(mark for mark in ".," if mark in doubt.cell)
-            other = Sign(mark).thousands
-            few, many = doubt.cell.replace(",", "."), doubt.cell.replace(mark, "")
-            words = f"is it {few} or {many}? Say `--decimal {mark}` for the first, `--decimal {other}` for the second"
-            raise self.fault(row, what, words) from None
-
-    def _where(self, cell: str, columns: Sequence[str]) -> Tuple[int, str]:
-        """The row and the column of the first cell that is this text."""
-        for what in columns:
-            for row, each in enumerate(self.sheet.columns[self.found.places[what]]):
-                if isinstance(each, str) and each.strip() == cell:
-                    return row, what
-        raise AssertionError(f"no cell is {cell!r}")
-
-    def tell_sign(self) -> None:
-        """Notes how numbers were read that might have been read otherwise."""
-        numbers, sheet = self._numbers, self.sheet
-        if numbers is None or not numbers.sign.shown_by:
-            return
-        mark = {".": "point", ",": "comma"}[numbers.sign.mark]
-        for cell, number in numbers.grouped.items():
-            sheet.notes.append(
-                f"{sheet.name}: numbers have a decimal {mark}, as {shown(numbers.sign.shown_by)} shows, so "
-                f"{shown(cell)} is {plain(number)}"
-            )
-            return
-        if numbers.sign.mark == "," and sheet.delimiter == ",":
-            sheet.notes.append(f"{sheet.name}: numbers have a decimal comma, as {shown(numbers.sign.shown_by)} shows")
-
-
-def _units(table: _Table) -> Dict[str, Any]:
+def _units(table: Table) -> Dict[str, Any]:
     """The units of the columns of a table, as `compare_units` takes them."""
     sheet, found = table.sheet, table.found
     return {what: (unit, sheet, sheet.header[found.places[what]]) for what, unit in found.units.items()}
@@ -480,11 +150,11 @@ def _units(table: _Table) -> Dict[str, Any]:
 # ---------------------------------------------------------------- rows
 
 
-def _read_nodes(problem: Problem, table: _Table, ends: Collection[str]) -> None:
+def _read_nodes(problem: Problem, table: Table, ends: Collection[str]) -> None:
     """Adds the nodes of the table of nodes."""
     sheet = table.sheet
     if not table.has("supply") and not table.has("demand") and problem.kind == "min":
-        raise _no_column(sheet, "supply")
+        raise no_column(sheet, "supply")
     names = table.names("node")
     lines: Dict[str, int] = {}
     for row, name in enumerate(names):
@@ -530,7 +200,7 @@ def _alike(name: str) -> str:
     return re.sub(r"[\W_]+", " ", unicodedata.normalize("NFKC", name).casefold()).strip() or name
 
 
-def _read_arcs(problem: Problem, table: _Table, tails: Sequence[str], heads: Sequence[str]) -> None:
+def _read_arcs(problem: Problem, table: Table, tails: Sequence[str], heads: Sequence[str]) -> None:
     """Adds the arcs, and puts the nodes of an assignment on their sides."""
     is_assignment = problem.kind == "asn"
     lows, caps = table.numbers("low"), table.limits("capacity")
@@ -550,7 +220,7 @@ def _read_arcs(problem: Problem, table: _Table, tails: Sequence[str], heads: Seq
     _tell_twice(table, problem.arcs, (tails, heads))
 
 
-def _check_bounds(table: _Table, lows: Sequence[Decimal], caps: Sequence[Optional[Decimal]]) -> None:
+def _check_bounds(table: Table, lows: Sequence[Decimal], caps: Sequence[Optional[Decimal]]) -> None:
     """Raises TableFault where a lower bound is above a capacity."""
     for row, (low, cap) in enumerate(zip(lows, caps)):
         if cap is not None and low > cap:
@@ -559,7 +229,7 @@ def _check_bounds(table: _Table, lows: Sequence[Decimal], caps: Sequence[Optiona
             raise table.fault(row, "low", "it is above the capacity, which is 1")
 
 
-def _costs(kind: str, table: _Table) -> List[Decimal]:
+def _costs(kind: str, table: Table) -> List[Decimal]:
     """What a unit costs on each arc."""
     if kind == "max":
         return [ZERO] * len(table)
@@ -595,7 +265,7 @@ def _take_sides(problem: Problem) -> None:
             raise TableFault(f"node {name!r} has neither an arc nor a supply that says on which side it is")
 
 
-def _tell_twice(table: _Table, arcs: Sequence[Arc], ends: Tuple[Sequence[str], Sequence[str]]) -> None:
+def _tell_twice(table: Table, arcs: Sequence[Arc], ends: Tuple[Sequence[str], Sequence[str]]) -> None:
     """Notes rows that say the same as one before: they may stand there by a slip, and both count."""
     # Most tables have no two arcs between the same nodes, and numbers take less room than pairs.
     if len(set(map(hash, zip(*ends)))) == len(arcs) or len(set(arcs)) == len(arcs):
@@ -608,7 +278,7 @@ def _tell_twice(table: _Table, arcs: Sequence[Arc], ends: Tuple[Sequence[str], S
     table.sheet.notes.append(f"{table.sheet.name}: {place(row)} says the same as {place(first)}{more}, and both count")
 
 
-def _check_sense(problem: Problem, nodes: Optional[_Table], arcs: _Table, ends: Collection[str]) -> None:
+def _check_sense(problem: Problem, nodes: Optional[Table], arcs: Table, ends: Collection[str]) -> None:
     """Raises TableFault where a cheapest plan is asked for and nothing has to flow since no supplies are there."""
     if problem.kind != "min" or any(problem.nodes.values()) or any(arc.low or arc.cost < 0 for arc in problem.arcs):
         if problem.kind == "min" and nodes is not None:
@@ -622,7 +292,7 @@ def _check_sense(problem: Problem, nodes: Optional[_Table], arcs: _Table, ends: 
     problem.notes.append(f"{nodes.sheet.name}: no node supplies or demands anything, so nothing has to flow")
 
 
-def _tell_lonely(problem: Problem, nodes: _Table, ends: Collection[str]) -> None:
+def _tell_lonely(problem: Problem, nodes: Table, ends: Collection[str]) -> None:
     """Notes nodes without an arc."""
     lonely = [name for name in problem.nodes if name not in ends]
     for has_supply, what in ((True, "a supply or a demand and no arc"), (False, "neither a supply nor an arc")):

@@ -1,0 +1,254 @@
+"""The columns of a sheet as names and numbers, each with its faults by row and column."""
+
+from __future__ import annotations
+
+from dataclasses import dataclass, field
+from decimal import Decimal
+from typing import Dict, Iterable, List, Mapping, Optional, Sequence, Tuple, Union
+
+from .cells import (
+    MISSING,
+    CellFault,
+    Coordinates,
+    Numbers,
+    Sign,
+    TableFault,
+    Undecided,
+    decimal_sign,
+    is_truth,
+    name_of,
+    not_plain,
+    shown,
+)
+from .columns import Found, called
+from .problem import ZERO, Number, exact, plain
+from .sheets import Sheet
+from .vocabulary import COLUMNS
+
+PLACES = ("x", "y")
+
+
+@dataclass(frozen=True)
+class Reading:
+    """How the tables are to be read: see `read_tables`."""
+
+    columns: Dict[str, List[str]] = field(default_factory=dict)
+    decimal: Optional[str] = None
+    default_cost: Optional[Decimal] = None
+    encoding: Optional[str] = None
+
+    @classmethod
+    def of(
+        cls,
+        columns: Optional[Mapping[str, Union[str, Sequence[str]]]],
+        decimal: Optional[str],
+        default_cost: Optional[Number],
+        encoding: Optional[str],
+    ) -> Reading:
+        """The same from what a caller says. Raises ValueError where that has no meaning."""
+        named = {what: [names] if isinstance(names, str) else list(names) for what, names in (columns or {}).items()}
+        for what in named:
+            if what not in COLUMNS and what != "aside":
+                raise ValueError(f"there is no column {what!r} to name; there are {', '.join(COLUMNS)} and aside")
+        if decimal not in (None, ".", ","):
+            raise ValueError(f"the decimal sign is {decimal!r}, and has to be '.' or ','")
+        cost = None if default_cost is None else exact(default_cost, "the default cost")
+        return cls(named, decimal, cost, encoding)
+
+
+def no_column(sheet: Sheet, what: str) -> TableFault:
+    """There is no column that holds this."""
+    return TableFault(
+        f"{sheet.name}: there is no column {COLUMNS[what][0]!r} (nor {', '.join(COLUMNS[what][1:6])}, ..); its columns "
+        f"are {sheet.its_columns()}; `--columns {what}=NAME` names it"
+    )
+
+
+class _Names(Dict[str, str]):
+    """The names in cells that are text, each of which is read once."""
+
+    def __missing__(self, cell: str) -> str:
+        name = self[cell] = name_of(cell)
+        return name
+
+
+class Table:
+    """The cells of a sheet as names and numbers. Each method takes a column at once, and raises TableFault by row and
+    column."""
+
+    def __init__(self, sheet: Sheet, found: Found, reading: Reading):
+        self.sheet, self.found, self.reading = sheet, found, reading
+        self._check_short_rows()
+        self._numbers: Optional[Numbers] = None
+        self._names = _Names()
+
+    def __len__(self) -> int:
+        return len(self.sheet.lines)
+
+    def has(self, what: str) -> bool:
+        """Whether there is a column for this."""
+        return what in self.found.places
+
+    def fault(self, row: int, what: str, expected: str) -> TableFault:
+        """What is wrong with a cell."""
+        return self.sheet.fault(row, self.found.places[what], expected)
+
+    def _check_short_rows(self) -> None:
+        """Raises TableFault where a row has not all the cells that count."""
+        sheet = self.sheet
+        by_place = {place: what for what, place in self.found.places.items()}
+        for row, places in sheet.missing.items():
+            lacking = {by_place[place] for place in places if place in by_place}
+            if sheet.word == "feature":
+                lacking -= {"supply", "demand", "low", "name"}
+            if self.reading.default_cost is not None:
+                lacking.discard("cost")
+            if not lacking:
+                continue
+            if sheet.word == "feature":
+                what = next(what for what in by_place.values() if what in lacking)
+                header = sheet.header[self.found.places[what]]
+                raise TableFault(f"{sheet.name}, {sheet.place(row)}: it has no property {header!r}; null is empty")
+            width = len(sheet.header)
+            raise TableFault(
+                f"{sheet.name}, {sheet.place(row)}: {width - len(places)} "
+                f"field{' stands' if width - len(places) == 1 else 's stand'} under {width} columns; an empty field "
+                "needs its separator too"
+            )
+
+    # ------------------------------------------------------------ names
+
+    def names(self, what: str) -> List[str]:
+        """The names in a column that has to be there, none of them empty."""
+        if not self.has(what):
+            raise no_column(self.sheet, what)
+        names = self.names_of(self.found.places[what])
+        if "" in names:
+            raise self.fault(names.index(""), what, "a name was expected")
+        return names
+
+    def names_of(self, place: int) -> List[str]:
+        """The names in a column by its place; '' where a cell is empty."""
+        cells = self.sheet.columns[place]
+        is_text = set(map(type, cells)) <= {str}
+        try:
+            if is_text:
+                return list(map(self._names.__getitem__, cells))
+        except CellFault:
+            pass
+        found = []
+        for row, cell in enumerate(cells):
+            try:
+                found.append(name_of(cell))
+            except CellFault as fault:
+                raise self.sheet.fault(row, place, str(fault)) from None
+        return found
+
+    # ------------------------------------------------------------ numbers
+
+    def numbers(self, what: str, default: Optional[Decimal] = ZERO) -> List[Decimal]:
+        """The numbers in a column; the default where a cell is empty, or there is no such column.
+
+        Raises TableFault where a cell is empty and there is no default.
+        """
+        if not self.has(what):
+            return [ZERO if default is None else default] * len(self)
+        found = self._looked_up(what, Coordinates() if what in PLACES else self._reader())
+        if default is None and None in found:
+            expected = f"{called(what)} was expected; `--default-cost 0` takes 0 for those that are empty"
+            raise self.fault(found.index(None), what, expected)
+        return [default if number is None else number for number in found]  # type: ignore[misc]
+
+    def limits(self, what: str) -> List[Optional[Decimal]]:
+        """The capacities in a column; None where a cell is empty or says that there is no limit."""
+        if not self.has(what):
+            return [None] * len(self)
+        limits = Numbers(self._reader().sign, has_limits=True)
+        limits.grouped = self._reader().grouped
+        return self._looked_up(what, limits)
+
+    def _looked_up(self, what: str, numbers: Numbers) -> List[Optional[Decimal]]:
+        """The numbers of a column's cells. Truth values are refused first: they are equal to 0 and 1."""
+        cells = self.sheet.columns[self.found.places[what]]
+        if any(each.__name__ in ("bool", "bool_") for each in set(map(type, cells))):
+            row = next(row for row, cell in enumerate(cells) if is_truth(cell))
+            raise self.fault(row, what, f"a number was expected, and this is {not_plain(cells[row])}")
+        try:
+            return list(map(numbers.__getitem__, cells))
+        except (CellFault, TypeError):
+            pass
+        for row, cell in enumerate(cells):
+            try:
+                numbers[cell]
+            except (CellFault, TypeError) as fault:
+                expected = str(fault) if isinstance(fault, CellFault) else "a number was expected"
+                if what == "capacity" and isinstance(cell, str) and cell.strip().lower() in MISSING:
+                    expected = (
+                        "a number was expected: leave the cell empty where there is no limit, and write 0 where it is 0"
+                    )
+                raise self.fault(row, what, expected) from None
+        raise AssertionError("a cell was refused, and now none is")
+
+    def _reader(self) -> Numbers:
+        """What reads the numbers of the table, by its decimal sign."""
+        if self._numbers is None:
+            if self.reading.decimal is not None:
+                self._numbers = Numbers(Sign(self.reading.decimal))
+            else:
+                self._numbers = Numbers(self._decimal_sign())
+        return self._numbers
+
+    def _texts(self, columns: Iterable[str]) -> Iterable[str]:
+        """The different texts in some columns."""
+        cells: Dict[str, None] = {}
+        for what in columns:
+            if self.has(what):
+                column = self.sheet.columns[self.found.places[what]]
+                cells.update(dict.fromkeys(cell for cell in column if isinstance(cell, str)))
+        return cells
+
+    def _decimal_sign(self) -> Sign:
+        """The decimal sign of the table. Raises TableFault where nothing shows which it is."""
+        sheet = self.sheet
+        columns = [what for what in self.found.places if what not in ("node", "from", "to", "name", *PLACES)]
+        cells = self._texts(columns)
+        try:
+            return decimal_sign(cells, point_is_usual=sheet.delimiter == ",")
+        except Undecided as doubt:
+            row, what = self._where(doubt.cell, columns)
+            if doubt.other:
+                their_row, theirs = self._where(doubt.other, columns)
+                raise self.fault(
+                    row,
+                    what,
+                    f"that is a decimal point, and {shown(doubt.other)} ({sheet.place(their_row)}, column "
+                    f"{sheet.header[self.found.places[theirs]]!r}) has a decimal comma: write all numbers alike",
+                ) from None
+            mark = next(mark for mark in ".," if mark in doubt.cell)
+            other = Sign(mark).thousands
+            few, many = doubt.cell.replace(",", "."), doubt.cell.replace(mark, "")
+            words = f"is it {few} or {many}? Say `--decimal {mark}` for the first, `--decimal {other}` for the second"
+            raise self.fault(row, what, words) from None
+
+    def _where(self, cell: str, columns: Sequence[str]) -> Tuple[int, str]:
+        """The row and the column of the first cell that is this text."""
+        for what in columns:
+            for row, each in enumerate(self.sheet.columns[self.found.places[what]]):
+                if isinstance(each, str) and each.strip() == cell:
+                    return row, what
+        raise AssertionError(f"no cell is {cell!r}")
+
+    def tell_sign(self) -> None:
+        """Notes how numbers were read that might have been read otherwise."""
+        numbers, sheet = self._numbers, self.sheet
+        if numbers is None or not numbers.sign.shown_by:
+            return
+        mark = {".": "point", ",": "comma"}[numbers.sign.mark]
+        for cell, number in numbers.grouped.items():
+            sheet.notes.append(
+                f"{sheet.name}: numbers have a decimal {mark}, as {shown(numbers.sign.shown_by)} shows, so "
+                f"{shown(cell)} is {plain(number)}"
+            )
+            return
+        if numbers.sign.mark == "," and sheet.delimiter == ",":
+            sheet.notes.append(f"{sheet.name}: numbers have a decimal comma, as {shown(numbers.sign.shown_by)} shows")
