@@ -401,7 +401,7 @@ class Wave:
         self.ways = around.trees.leaving if is_forward else around.trees.entering
         self.settled: Dict[int, int] = {}
         self.own = own
-        # Keys of three kinds: the next way of a tree (tree, at), of a node (-2, node, at), of places (-1, place, ..).
+        # After the key: the next way of a tree (tree, at), that of a node (-2, at, node), or of places (-1, place, ..).
         self.heap: List[Tuple[int, ...]] = []
         for begin, end in parts:
             self._add_places(begin, end)
@@ -417,30 +417,47 @@ class Wave:
 
     def grow(self) -> Optional[int]:
         """Takes the next way; the tree that it settles, or None where it leads to one that is settled."""
-        key, kind, *rest = heappop(self.heap)
-        if kind == -1:
-            place, begin, end = rest
-            node, at = self.order[place], 0
-            self._add_places(begin, place)
-            self._add_places(place + 1, end)
+        entry = heappop(self.heap)
+        key, kind = entry[0], entry[1]
+        if kind >= 0:
+            row = self.ways[kind]
         elif kind == -2:
-            node, at = rest
+            row = self.rows[entry[3]]
         else:
-            at = rest[0]
-        row = self.ways[kind] if kind >= 0 else self.rows[node]
-        other = row[at][1]
-        at += 1
-        if at < len(row):
-            if kind >= 0:
-                heappush(self.heap, (self.settled[kind] + row[at][0], kind, at))
-            else:
-                heappush(self.heap, (row[at][0], -2, node, at))
+            return self._grow_from_places(entry)
+        other = self._take(row, entry)
         if other in self.settled or other == self.own:
             return None
-        self.settled[other] = key
-        if self.ways[other]:
-            heappush(self.heap, (key + self.ways[other][0][0], other, 0))
+        self._settle(other, key)
         return other
+
+    def _grow_from_places(self, entry: Tuple[int, ...]) -> Optional[int]:
+        """The same, where the next way is the first one of a node among those at some places."""
+        key, _, place, begin, end = entry
+        self._add_places(begin, place)
+        self._add_places(place + 1, end)
+        node = self.order[place]
+        other = self._take(self.rows[node], (key, -2, 0, node))
+        if other in self.settled or other == self.own:
+            return None
+        self._settle(other, key)
+        return other
+
+    def _take(self, row: List[Way], entry: Tuple[int, ...]) -> int:
+        """Where the way of a row leads; the next one that leads elsewhere is due later."""
+        at, settled, own = entry[2], self.settled, self.own
+        reduced, other = row[at]
+        at += 1
+        while at < len(row) and (row[at][1] in settled or row[at][1] == own):
+            at += 1
+        if at < len(row):
+            heappush(self.heap, (entry[0] - reduced + row[at][0], entry[1], at, *entry[3:]))
+        return other
+
+    def _settle(self, tree: int, key: int) -> None:
+        self.settled[tree] = key
+        if self.ways[tree]:
+            heappush(self.heap, (key + self.ways[tree][0][0], tree, 0))
 
 
 class Around:
