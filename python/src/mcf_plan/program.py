@@ -2,8 +2,8 @@
 
 A process that is started here does not hear the terminal's Ctrl-C itself. Python hears it, at once also while the
 program works, ends the process, and raises KeyboardInterrupt; a time limit is heard in the same way and raises
-TimeLimit. Where Python itself is killed, the system kills the process; only a session that another thread than the main
-one has started ends at the end of its input, once it has answered what it was asked last.
+TimeLimit. Where the command mcf-plan is killed, the system kills the process; only a session that another thread than the
+main one has started, or that is used from Python, ends at the end of its input, once it has answered what it was asked.
 """
 
 from __future__ import annotations
@@ -130,7 +130,7 @@ class Program:
     def start(self, words: List[str], *, outlives_thread: bool = False) -> subprocess.Popen[bytes]:
         """Starts the program with these arguments over pipes, in a process group that Ctrl-C does not reach.
 
-        It is killed where this thread ends, unless it may outlive the thread.
+        In a command it is killed where this thread ends, unless it may outlive the thread.
         """
         try:
             return subprocess.Popen(

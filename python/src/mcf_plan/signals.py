@@ -11,6 +11,7 @@ from types import FrameType
 from typing import Callable, Iterator, Optional
 
 ENDING = (signal.SIGTERM, signal.SIGHUP)
+_commands = 0  # of how many blocks of `hearing` this is the inside
 
 
 class Terminated(BaseException):
@@ -32,13 +33,16 @@ def hearing() -> Iterator[None]:
     def end(number: int, frame: Optional[FrameType]) -> None:
         raise Terminated(number)
 
+    global _commands
     before = {number: signal.getsignal(number) for number in (*ENDING, signal.SIGINT)}
     for number, handler in before.items():
         if handler != signal.SIG_IGN:
             signal.signal(number, signal.default_int_handler if number == signal.SIGINT else end)
+    _commands += 1
     try:
         yield
     finally:
+        _commands -= 1
         for number, handler in before.items():
             signal.signal(number, handler)
 
@@ -49,8 +53,13 @@ def die_of(number: int) -> None:
     os.kill(os.getpid(), number)
 
 
-def dying_with_us() -> Callable[[], None]:
-    """What a process that is started runs first, so that it is killed where this thread ends, however that is."""
+def dying_with_us() -> Optional[Callable[[], None]]:
+    """What a process that a command starts runs first, so that it is killed where this thread ends, however that is.
+
+    None outside of a command: a start takes milliseconds longer by it, which add up where Python calls often.
+    """
+    if not _commands:
+        return None
     parent, system, request = os.getpid(), ctypes.PyDLL(None), 1  # PR_SET_PDEATHSIG of <sys/prctl.h>
 
     def set_up() -> None:
