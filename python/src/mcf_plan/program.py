@@ -2,8 +2,9 @@
 
 A process that is started here does not hear the terminal's Ctrl-C itself. Python hears it, at once also while the
 program works, ends the process, and raises KeyboardInterrupt; a time limit is heard in the same way and raises
-TimeLimit. Where the command mcf-plan is killed, the system kills the process; only a session that another thread than the
-main one has started, or that is used from Python, ends at the end of its input, once it has answered what it was asked.
+TimeLimit. Where the command mcf-plan is killed, the system kills the process; only a session that another thread than
+the main one has started, or that is used from Python, ends at the end of its input, once it has answered what it was
+asked.
 """
 
 from __future__ import annotations

@@ -47,7 +47,8 @@ HALO = 'stroke="white" stroke-width="4" paint-order="stroke"'
 STYLE = """body{font:16px/1.45 system-ui,sans-serif;color:#1c2127;max-width:62rem;margin:2rem auto;padding:0 1rem}
 h1{font-size:1.5rem}h2{font-size:1.15rem;margin-top:2rem}
 table{border-collapse:collapse;font-variant-numeric:tabular-nums}
-th,td{padding:.2rem .7rem;text-align:right;border-bottom:1px solid #dde1e6}th{font-weight:600;vertical-align:bottom;min-width:4.5rem}
+th,td{padding:.2rem .7rem;text-align:right;border-bottom:1px solid #dde1e6}
+th{font-weight:600;vertical-align:bottom;min-width:4.5rem}
 .name{text-align:left}.full td{background:#fdeee6}.mark{color:#9a3412;font-weight:600}
 .worth{font-size:1.6rem;font-weight:700}.wide{overflow-x:auto}
 .picture{overflow:auto;max-height:88vh;margin-top:.5rem;border:1px solid #dde1e6}.picture svg{display:block;margin:auto}
