@@ -1,6 +1,7 @@
 """Tables as planners have them: each is planned as they would expect, or refused with words that help."""
 
 import contextlib
+import csv
 import io
 import json
 import os
@@ -308,6 +309,90 @@ class Workbooks(InFolder):
         import openpyxl
 
         self.assertEqual(openpyxl.load_workbook("new.xlsx").sheetnames, ["plan"])
+
+
+ODD = (
+    [
+        "",
+        "NA",
+        "N/A",
+        "n/a",
+        "null",
+        "None",
+        "nan",
+        "#N/A",
+        "#REF!",
+        "#WERT!",
+        "#NULL!",
+        "#####",
+        "Err:502",
+        "TRUE",
+        "yes",
+    ]
+    + [
+        "-",
+        "–",
+        "--",
+        "?",
+        "inf",
+        "∞",
+        "unlimited",
+        "1e5",
+        "1E+05",
+        "+5",
+        "-5",
+        "5-",
+        "(5)",
+        "5%",
+        "€5",
+        "5 t",
+        "1 000",
+    ]
+    + ["1'000", "1_000", "0x10", "٣", "½", "1/2", "5.", ".5", "0.5", "1,5", "1,250", "2026-01-01", "12:30", "=A1", "'5"]
+    + [" 7 ", "007"]
+)
+
+
+class Alike(InFolder):
+    """The same texts in the cells of each format are read alike, or refused alike."""
+
+    @needs("pandas")
+    @needs("openpyxl")
+    def test_odd_cells(self):
+        for place, what in enumerate(HEAD):
+            for cell in ODD:
+                row = ["Kiel", "Berlin", "9", "2"]
+                row[place] = cell
+                with self.subTest(f"{what} {cell!r}"):
+                    self.assertEqual(len({self.outcome(source) for source in self.sources(row)}), 1)
+
+    @staticmethod
+    def outcome(source):
+        """The one arc that is read, or that it is refused."""
+        Path("nodes.csv").write_text("name,supply\nKiel,1\nBerlin,-1\n")
+        try:
+            return str(read_tables("nodes.csv", source).arcs)
+        except TableFault:
+            return "refused"
+
+    @staticmethod
+    def sources(row):
+        """Tables of this row in each format."""
+        import openpyxl
+        import pandas
+
+        for name, delimiter in (("arcs.csv", ","), ("arcs.tsv", "\t")):
+            with open(name, "w", newline="", encoding="utf-8") as file:
+                csv.writer(file, delimiter=delimiter).writerows([HEAD, row])
+            yield name
+        made = openpyxl.Workbook()
+        made.active.append(HEAD)
+        for column, cell in enumerate(row, 1):
+            if cell:
+                made.active.cell(2, column, cell).data_type = "s"
+        made.save("arcs.xlsx")
+        yield "arcs.xlsx"
+        yield pandas.DataFrame([row], columns=HEAD)
 
 
 class Frames(unittest.TestCase):
