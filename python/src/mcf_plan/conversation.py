@@ -98,7 +98,7 @@ class Conversation:
             "back": lambda words: session.back(one(words)),
         }
         self.tells: Dict[str, Command] = {
-            "show": lambda words: tell(session.plan(), self.out),
+            "show": lambda words: tell(session.plan(check=True), self.out),
             "why": lambda words: self.why(),
             "saves": lambda words: self.saves(),
             "mark": lambda words: self.mark(one(words)),
@@ -292,7 +292,7 @@ class Conversation:
 
     def why(self) -> None:
         """Says why there is no plan."""
-        result = self.session.plan()
+        result = self.session.plan(check=True)
         self.say(result.explain() if isinstance(result, Infeasible) else "there is a plan")
 
     def saves(self) -> None:
@@ -327,12 +327,12 @@ class Conversation:
         """Writes the report to a file."""
         from .report import html_report
 
-        html_report(self.session.plan(), name)
+        html_report(self.session.plan(check=True), name)
         self.say(f"written to {name}")
 
     def table(self, name: str) -> None:
         """Writes the plan as a table to a file, where there is one."""
-        result = self.session.plan()
+        result = self.session.plan(check=True)
         if isinstance(result, Infeasible):
             return self.say("there is no plan to write")
         write_plan(result, name)
