@@ -1,5 +1,5 @@
 //! Where the texts of a task come from.
-ghost use Rattle.std.specs.Prelude.{◌≡◌, ℕ, List, Option, IfOk};
+ghost use Rattle.std.specs.Prelude.{◌≡◌, ℕ, List, [], Option, IfOk};
 
 use dimacs_io::Source;
 use std::io;
@@ -21,10 +21,12 @@ pub trait Texts {
     /// Opens the file of this name for reading.
     fn open(&self, path: &str) -> io::Result<Self::File>
         ensures bytes { IfOk result (λ opened. Self.File.remaining opened ≡ file self.now path.now) }
+        ensures given { IfOk result (λ opened. Self.File.given opened ≡ []) }
         ensures failures { IfOk result (λ opened. Self.File.failures opened ≡ 0) };
 
     /// The standard input.
     fn input(&self) -> Self::Input
         ensures bytes { Self.Input.remaining result ≡ typed self.now }
+        ensures given { Self.Input.given result ≡ [] }
         ensures failures { Self.Input.failures result ≡ 0 };
 }
