@@ -1,9 +1,9 @@
 -- What the getters of a parse say of its rows.
-use Rattle.std.proofs.Common.{◌≡◌, ℕ, Bool, true, false, List, length, Option, None, Some, Result, Ok, Err, refl, sym, ap, ap₂, ◌∙◌, arith}
-use Rattle.std.specs.Prelude.{option_map, unwrap_or, codes, ◌↔◌, Box}
+use Rattle.std.proofs.Common.{◌≡◌, ◌==◌, ℕ, Bool, true, false, List, [], ◌∷◌, drop, length, Option, None, Some, Result, Ok, Err, refl, sym, ap, ap₂, ◌∙◌, arith}
+use Rattle.std.specs.Prelude.{cond, option_map, slice_index, unwrap_or, codes, ◌↔◌, Box}
 use Rattle.std.specs.Box.{box_value}
-use Rattle.std.specs.Str.Parse.{ParsesBool, ParsesUnsigned}
-use Rattle.clap.specs.Words.{App, Row, Text, ReadsOne, TriesOne, is_simple, subcommand_of, subcommand_rows}
+use Rattle.std.specs.Str.Parse.{IsNumeral, ParsesBool, ParsesUnsigned, digits_value, without_leading_plus}
+use Rattle.clap.specs.Words.{App, Row, Text, ReadsOne, is_simple, subcommand_of, subcommand_rows}
 use Rattle.clap.specs.declared.parser.matches.SubCommand.{SubCommand}
 use Rattle.clap.specs.declared.parser.matches.ArgMatches.TheViews.{out-SubCommand}
 use Rattle.clap.proofs.OnLiterals.{clap_on_literals}
@@ -36,17 +36,24 @@ flag_is gives (Some text) (Some true) set says none value e = (λ on. ap (λ t. 
 flag_is gives (Some text) (Some false) set says none value e =
     (λ on. cc, λ on. absurd (false_text_differs (sym (says text (Ok false) (value text refl)) ∙ some_same text (codes "true") on)))
 
--- the number of an option, or 1,000
-pub extra_is : {E : Type 0} (gives : List ℕ → Result ℕ E → Type 0) (said : Option Text) (read : Option ℕ) (extra : ℕ)
-    → (said ≡ None → ◌≡◌ {A = Result (Option ℕ) E} (Ok read) (Ok None))
-    → ((text : List ℕ) → said ≡ Some text → TriesOne gives text (Ok read)) → extra ≡ unwrap_or read 1000
-    → ((text : List ℕ) (n : ℕ) → gives text (Ok n) → ParsesUnsigned {E = Unit {0}} 32 10 text (Ok n)) → IsExtra said extra
-extra_is gives None read extra none value e says =
-    let same = none refl in
-    let left_out : read ≡ None = cc in
-    rw left_out at e
-extra_is gives (Some text) None extra none value e says = absurd (value text refl)
-extra_is gives (Some text) (Some n) extra none value e says = rw e (says text n (value text refl))
+drop_none : (word : Text) → drop 0 word ≡ word
+drop_none [] = refl
+drop_none (byte ∷ word) = refl
+
+-- without the option there is room for 1,000 arcs more
+pub extra_is_left_out : (said : Option Text) → said ≡ None → IsExtra said 1000
+extra_is_left_out None none = refl
+extra_is_left_out (Some word) none = absurd cc
+
+-- a word that is read as a number and has no plus before it is digits alone
+pub extra_is_said : (said : Option Text) (word : Text) (extra : ℕ) → said ≡ Some word → ParsesUnsigned {E = Unit {0}} 32 10 word (Ok extra)
+    → false ≡ (slice_index word 0 == 43) → IsExtra said extra
+extra_is_said None word extra is parses unsigned = absurd cc
+extra_is_said (Some said) word extra is parses unsigned =
+    let same : without_leading_plus word ≡ word = ap (λ b. drop (cond b 1 0) word) (sym unsigned) ∙ drop_none word in
+    let read : IsNumeral 10 (without_leading_plus word) × (extra ≡ digits_value 10 (without_leading_plus word)) = (parses.0.0, parses.1) in
+    let digits : IsNumeral 10 word × (extra ≡ digits_value 10 word) = rw same at read in
+    rw (some_same said word is) digits
 
 -- the subcommand that was used, by its name and its rows
 module _ {Z : Type 0} where

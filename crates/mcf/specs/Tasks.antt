@@ -1,6 +1,6 @@
 -- The commands of the program, and the task that the matches of a command line name.
-use Rattle.std.specs.Prelude.{◌≡◌, ◌↔◌, ℕ, pos, true, List, Option, Some, Ok, MatchOption, codes, option_map}
-use Rattle.std.specs.Str.Parse.{ParsesUnsigned}
+use Rattle.std.specs.Prelude.{◌≡◌, ◌↔◌, ℕ, pos, true, List, Option, Some, MatchOption, codes, option_map}
+use Rattle.std.specs.Str.Parse.{IsNumeral, digits_value}
 use Rattle.clap.specs.Simple.{on_top}
 use Rattle.clap.specs.Words.{App, Row, Rule, Text, first_of, one_of, new_app, new_rule, subcommand_of, with_rule, with_subcommand}
 use Rattle.clap.specs.declared.builder.ArgAction.TheVariants.{Set, SetTrue}
@@ -48,15 +48,15 @@ program = with_subcommand (with_subcommand (with_subcommand named solve_command.
 abbrev pub command_of : List Text → Option (Text × List Row)
 command_of words = subcommand_of program words
 
--- the number that a text says, and 1,000 where there is none
+-- the number that a word of digits alone says, and 1,000 where there is none
 abbrev pub IsExtra : Option Text → ℕ → Type 0
-IsExtra said extra = MatchOption said (extra ≡ 1000) (λ text. ParsesUnsigned {E = Unit {0}} 32 10 text (Ok extra))
+IsExtra said extra = MatchOption said (extra ≡ 1000) (λ word. IsNumeral 10 word × (extra ≡ digits_value 10 word))
 
 -- the name and the matches of a command say this task
 abbrev pub Names : Option (Text × List Row) → Task → Type 0
 Names used (Solve proof file) = (rows : List Row) × (used ≡ Some (codes "solve", rows))
     × ((proof ≡ true) ↔ (one_of (codes "proof") rows ≡ Some (codes "true"))) × (option_map (λ f. f.now) file ≡ first_of (codes "file") rows)
 Names used (Session problem extra) = (rows : List Row) × (used ≡ Some (codes "session", rows))
-    × (first_of (codes "problem") rows ≡ Some problem.now) × IsExtra (one_of (codes "extra") rows) extra
+    × (first_of (codes "problem") rows ≡ Some problem.now) × IsExtra (first_of (codes "extra") rows) extra
 Names used (Check problem answer) = (rows : List Row) × (used ≡ Some (codes "check", rows))
     × (first_of (codes "problem") rows ≡ Some problem.now) × (first_of (codes "answer") rows ≡ Some answer.now)

@@ -52,6 +52,8 @@ pub enum Usage {
     Words(Error),
     /// Words without a part that `clap` was told to ask for.
     Missing,
+    /// A number of arcs with a sign.
+    Signed,
 }
 
 impl From<Error> for Usage {

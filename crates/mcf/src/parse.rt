@@ -1,7 +1,7 @@
 //! The task that a command line names.
 ghost use Rattle.std.specs.Prelude.{◌≡◌, IfOk, Some, codes, map, string_bytes};
-ghost use Rattle.clap.specs.Words.{found_of, rows_of};
-ghost use Rattle.mcf.specs.Tasks.{Names, command_of};
+ghost use Rattle.clap.specs.Words.{first_of, found_of, rows_of};
+ghost use Rattle.mcf.specs.Tasks.{IsExtra, Names, command_of};
 
 use crate::command_line::{DEFAULT_EXTRA, Task, Usage};
 use crate::commands::program;
@@ -41,13 +41,24 @@ fn session_task<'a>(found: &ArgMatches<'a>) -> Result<Task<'a>, Usage>
     let Some(problem) = found.get_str("problem") else {
         return Err(Usage::Missing);
     };
-    let Ok(extra) = found.try_get_one::<u32>("extra") else {
-        return Err(Usage::Missing);
+    let extra = extra(found)?;
+    Ok(Task::Session { problem, extra })
+}
+
+/// For how many arcs more the word of `--extra` asks for room, in digits alone as in a text: `clap` takes a sign too.
+fn extra(found: &ArgMatches<'_>) -> Result<u32, Usage>
+    ensures { IfOk result (IsExtra (first_of (codes "extra") (rows_of (found_of found.now)))) }
+{
+    let Some(word) = found.get_str("extra") else {
+        return Ok(DEFAULT_EXTRA);
     };
-    Ok(Task::Session {
-        problem,
-        extra: extra.unwrap_or(DEFAULT_EXTRA),
-    })
+    if word.starts_with('+') {
+        return Err(Usage::Signed);
+    }
+    match word.parse::<u32>() {
+        Ok(extra) => Ok(extra),
+        Err(_) => Err(Usage::Signed),
+    }
 }
 
 /// The task of `check`, by its matches.
