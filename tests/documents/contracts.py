@@ -196,7 +196,7 @@ def wrong_statement(text):
         if there != list(fields):
             wrong.append(f"{record} has the fields {there}; the words of CLAIM are known for {list(fields)}")
         wrong += [f"CLAIM does not say {record}.{name}: {words}" for name, words in fields.items() if words not in page]
-    drawn = re.search(r"The law `the_claim` draws it from the clauses? (.*?), which also", page)
+    drawn = re.search(r"The law `the_claim` draws it from the clauses? (.*?);", page)
     cited = re.findall(r"((?:`\w+`(?: and )?)+) of `(\w+)`", drawn.group(1) if drawn else "")
     clauses = [clause(function, name) for names, function in cited for name in re.findall(NAME, names)]
     heads = {text.split()[0] for text in clauses if text.strip()}
