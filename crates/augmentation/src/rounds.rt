@@ -65,6 +65,7 @@ fn search_on(
         excess.entries(),
         &mut scratch.potentials,
         &mut scratch.predecessors,
+        &mut scratch.queue,
     )
 }
 
@@ -97,5 +98,6 @@ fn push_to(
         flow.entries(),
         &mut scratch.potentials,
         &mut scratch.predecessors,
+        &mut scratch.queue,
     );
 }

@@ -15,6 +15,7 @@ use crate::excess::Excess;
 use crate::marked::Marked;
 use crate::potentials::renew;
 use crate::side::mark_side;
+use containers::Queue;
 use proposals::Wanted;
 use relaxation::both;
 use residual_graph::{Graph, Side};
@@ -28,6 +29,8 @@ use tracked::Tracked;
 pub struct Scratch {
     /// How the last search came to each node.
     pub(crate) predecessors: Vec<Predecessor>,
+    /// The nodes to which a search may come next.
+    pub(crate) queue: Queue,
     /// Potentials while flow is pushed.
     pub(crate) potentials: Vec<i64>,
     /// The labels that were tested last, and what changed since.
@@ -65,16 +68,18 @@ impl Scratch {
         ensures lost { IfOk result (λ s. s.held.is_lost ≡ true) }
     {
         let predecessors = vec![in alloc; Predecessor::open(); entries as usize];
+        let queue = Queue::new(alloc, entries);
         let potentials = vec![in alloc; 0; entries as usize];
         let tree = Tree::new(alloc, entries as usize, arcs / 2);
         let marked = Marked::new(alloc, entries as usize);
         let attempt = Attempt::new(alloc, entries as usize, arcs / 2);
-        let ((predecessors, potentials), (tree, (marked, attempt))) = both(
-            both(predecessors, potentials),
+        let ((predecessors, (queue, potentials)), (tree, (marked, attempt))) = both(
+            both(predecessors, both(queue, potentials)),
             both(tree, both(marked, attempt)),
         )?;
         Ok(Scratch {
             predecessors,
+            queue,
             potentials,
             tree,
             marked,
@@ -188,6 +193,7 @@ impl Scratch {
             flow.entries(),
             &mut self.potentials,
             &mut self.predecessors,
+            &mut self.queue,
         );
     }
 }

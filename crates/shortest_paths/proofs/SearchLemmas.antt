@@ -1,21 +1,15 @@
 -- How searches between potentials go on: potentials are shifted, and a node is come to.
-use Rattle.std.proofs.Common.{◌≡◌, ◌∙◌, ℕ, ◌+◌, ◌*◌, ◌/◌, ◌%◌, ◌<◌, ◌≤◌, ◌⊎◌, ℤ, pos, neg_ℤ, ◌+ℤ◌, ◌≤ℤ◌, List, length, refl, sym, ap, subst, inl, inr, arith, cond, slice_set}
-use Rattle.std.specs.Prelude.{Bool, true, false, Option, Some, None, MatchOption}
-use Rattle.std.proofs.lemmas.Int.{ints}
+use Rattle.std.proofs.Common.{◌≡◌, ◌∙◌, ℕ, ◌+◌, ◌/◌, ◌<◌, ◌⊎◌, ℤ, pos, List, length, refl, sym, ap, subst, inl, inr, arith, cond, slice_set}
+use Rattle.std.specs.Prelude.{Bool, true, false}
 use Rattle.std.proofs.lemmas.Bool.{cases_eq, cases_lt, false≢true}
 use Rattle.std.proofs.lemmas.List.{get_or-set_same, get_or-set_other, get_or_past, length-set}
 use Rattle.std.proofs.lemmas.List.Sums.{count_by-le-length, sum_by-set}
 use Rattle.dimacs_text.specs.declared.problem.ArcRow.{ArcRow}
-use Rattle.residual_graph.specs.declared.residual.Way.{Way}
-use Rattle.residual_graph.specs.declared.residual.Way.TheVariants.{Forward, Backward}
-use Rattle.residual_graph.specs.Limits.{potential_floor}
-use Rattle.residual_graph.specs.Residual.{IsReducedCostOptimal, NoneBelow, end_at, number_at, row_at, start_at}
+use Rattle.residual_graph.specs.Residual.{start_at}
 use Rattle.residual_graph.specs.Walk.{end_way}
-use Rattle.residual_graph.proofs.RowLemmas.{end_of-in, start_of-in}
 use Rattle.shortest_paths.specs.declared.predecessor.Predecessor.{Predecessor}
-use Rattle.shortest_paths.specs.declared.search.Crossing.{Crossing}
 use Rattle.shortest_paths.specs.Predecessor.{arc_to, open_node, predecessor_at, reduced_at, root_node, way_to}
-use Rattle.shortest_paths.specs.Search.{AreShifted, Crosses, IsCameBy, IsNearest, IsNearestBelow, IsNearestOf, IsOpen, IsReached, IsSearch, NoneCrosses, open_count}
+use Rattle.shortest_paths.specs.Search.{IsCameBy, IsOpen, IsReached, IsSearch, open_count}
 
 pub open_or_reached : (t : List Predecessor) (v : ℕ) → v < length t → IsOpen t v ⊎ IsReached t v
 open_or_reached t v lt = either (predecessor_at t v).is_open refl
@@ -108,103 +102,3 @@ module _ (arcs : List ArcRow) (x p : List ℤ) (t : List Predecessor) (v : ℕ) 
       paths = all_reached t v e node was_open now_reached (λ n r. 0 < r.rank → IsCameBy arcs x after n (r.end / 2) (end_way r.end)) (λ n was deep. came_before n (search.paths n was deep) was) (λ deep. (came deep).0);
       tight = all_reached t v e node was_open now_reached (λ n r. 0 < r.rank → reduced_at arcs p (r.end / 2) (end_way r.end) ≡ pos 0) search.tight (λ deep. (came deep).1);
     }
-
--- ---- potentials are shifted
-
-module _ (arcs : List ArcRow) (x p q : List ℤ) (t : List Predecessor) (fall rise : ℤ)
-    (certified : IsReducedCostOptimal arcs x p) (sized : length t ≡ length p) (shifted : AreShifted p q t fall rise)
-  where
-    -- where open nodes rise beside the others by no more than any reduced cost that crosses, none falls below 0
-    pub none_below_shifted : pos 0 ≤ℤ (fall +ℤ rise) → ((k : ℕ) (way : Way) → Crosses arcs x t k way → (fall +ℤ rise) ≤ℤ reduced_at arcs p k way) → NoneBelow arcs x q
-    none_below_shifted apart near k way residual =
-        let row = certified.flow.rows k residual.is_arc in
-        let before = certified.none_below k way residual in
-        let start = start_at arcs k way in
-        let end = end_at arcs k way in
-        let end_kind = open_or_reached t end (rw sized (end_of-in (length p) (row_at arcs k) way row)) in
-        elim (open_or_reached t start (rw sized (start_of-in (length p) (row_at arcs k) way row))) [
-          | inl start_open ↦ elim end_kind [
-            | inl end_open ↦ omega (arith, ints, before, shifted.at_open start start_open, shifted.at_open end end_open)
-            | inr end_reached ↦ omega (arith, ints, before, apart, shifted.at_open start start_open, shifted.at_reached end end_reached)
-          ]
-          | inr start_reached ↦ elim end_kind [
-            | inl end_open ↦ omega (arith, ints, near k way (record { residual = residual; from = start_reached; to = end_open }), shifted.at_reached start start_reached, shifted.at_open end end_open)
-            | inr end_reached ↦ omega (arith, ints, before, shifted.at_reached start start_reached, shifted.at_reached end end_reached)
-          ]
-        ]
-
-    -- each potential changed by one of the two numbers, or is that of no node
-    pub changed_by : (v : ℕ) → IsReached t v ⊎ IsOpen t v ⊎ (number_at q v ≡ pos 0)
-    changed_by v = elim (cases_lt v (length t)) [
-      | inr past ↦ inr (inr (get_or_past q v (pos 0) (omega (arith, past, sized, shifted.same_length))))
-      | inl lt ↦ elim (open_or_reached t v lt) [
-        | inl is_open ↦ inr (inl is_open)
-        | inr is_reached ↦ inl is_reached
-      ]
-    ]
-
-    -- the paths cost nothing still
-    pub search_shifted : IsSearch arcs x p t → IsSearch arcs x q t
-    search_shifted search = record {
-      sized = search.sized ∙ sym shifted.same_length;
-      ranked = search.ranked;
-      paths = search.paths;
-      tight = λ v is_reached deep.
-          (let by = search.paths v is_reached deep in
-          omega (arith, ints, search.tight v is_reached deep, shifted.at_reached _ by.reached, shifted.at_reached (end_at arcs (arc_to t v) (way_to t v)) (subst (IsReached t) (sym by.ends) is_reached)));
-    }
-
-    pub certified_shifted : NoneBelow arcs x q → ((v : ℕ) → number_at q v ≤ℤ pos 0) → ((v : ℕ) → neg_ℤ (pos potential_floor) ≤ℤ number_at q v) → IsReducedCostOptimal arcs x q
-    certified_shifted none high low = record {
-      flow = rw shifted.same_length certified.flow;
-      potentials = record { sized = refl; at_most_0 = high; at_least = low };
-      none_below = none;
-    }
-
--- ---- the nearest of the residual arcs that cross
-
-module _ (arcs : List ArcRow) (x p : List ℤ) (t : List Predecessor) where
-  abbrev CrossesAt : ℕ → Type 0
-  CrossesAt e = Crosses arcs x t (e / 2) (end_way e)
-
-  abbrev cost_from : ℕ → ℤ
-  cost_from e = reduced_at arcs p (e / 2) (end_way e)
-
-  pub nearest_more : (ends : ℕ) (c : Crossing) → CrossesAt c.end → c.cost ≡ cost_from c.end → ((e : ℕ) → e < ends → CrossesAt e → c.cost ≤ℤ cost_from e) → (CrossesAt ends → c.cost ≤ℤ cost_from ends) → IsNearestBelow arcs x p t (ends + 1) c
-  nearest_more ends c crosses cost_is before here = record {
-    crosses = crosses;
-    cost_is = cost_is;
-    none_nearer = λ e lt at. elim (cases_eq e ends) [
-      | inl same ↦ subst (λ (n : ℕ). c.cost ≤ℤ cost_from n) (sym same) (here (subst CrossesAt same at))
-      | inr other ↦ before e (omega (arith, lt, other)) at
-    ];
-  }
-
-  pub none_more : (ends : ℕ) (found : Option Crossing) → IsNearestOf arcs x p t ends found → (CrossesAt ends → ⊥) → IsNearestOf arcs x p t (ends + 1) found
-  none_more ends None none here = λ e lt at. elim (cases_eq e ends) [
-    | inl same ↦ here (subst CrossesAt same at)
-    | inr other ↦ none e (omega (arith, lt, other)) at
-  ]
-  none_more ends (Some c) is here = nearest_more ends c is.crosses is.cost_is is.none_nearer (λ at. absurd (here at))
-
-  -- each residual arc leaves at an end
-  end_from : (k : ℕ) (way : Way) → (e : ℕ) × (e / 2 ≡ k) × (end_way e ≡ way) × (e ≤ 2 * k + 1)
-  end_from k Forward =
-      let even : (2 * k) % 2 ≡ 0 = omega arith in
-      (2 * k, omega arith, rw even refl, omega arith)
-  end_from k Backward =
-      let odd : (2 * k + 1) % 2 ≡ 1 = omega arith in
-      (2 * k + 1, omega arith, rw odd refl, omega arith)
-
-  all_ends : (P : ℕ → Way → Type 0) → ((e : ℕ) → e < 2 * length arcs → P (e / 2) (end_way e)) → (k : ℕ) (way : Way) → k < length arcs → P k way
-  all_ends P each k way lt =
-      let e = end_from k way in
-      subst (λ (w : Way). P k w) e.2 (subst (λ (n : ℕ). P n (end_way e.0)) e.1 (each e.0 (omega (arith, e.3, lt))))
-
-  pub nearest_of_all : (found : Option Crossing) → IsNearestOf arcs x p t (2 * length arcs) found → MatchOption found (NoneCrosses arcs x t) (IsNearest arcs x p t)
-  nearest_of_all None none = λ k way at. all_ends (λ n w. Crosses arcs x t n w → ⊥) none k way at.residual.is_arc at
-  nearest_of_all (Some c) is = record {
-    crosses = is.crosses;
-    cost_is = is.cost_is;
-    none_nearer = λ k way at. all_ends (λ n w. Crosses arcs x t n w → c.cost ≤ℤ reduced_at arcs p n w) is.none_nearer k way at.residual.is_arc at;
-  }

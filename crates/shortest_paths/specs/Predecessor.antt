@@ -1,6 +1,6 @@
 -- How a search came to nodes, or how nodes got labels: by the residual arc from a node of lower rank
 -- (Ahuja, Magnanti, Orlin, "Network Flows": shortest path trees, predecessor indices).
-use Rattle.std.specs.Prelude.{◌≡◌, ℕ, ◌<◌, ◌/◌, ℤ, pos, ◌-ℤ◌, ◌+ℤ◌, ◌<ℤ◌, ◌⊎◌, List, length, slice_index_or, true, false}
+use Rattle.std.specs.Prelude.{◌≡◌, ℕ, ◌<◌, ◌/◌, ℤ, pos, neg_ℤ, ◌-ℤ◌, ◌+ℤ◌, ◌<ℤ◌, ◌≤ℤ◌, ◌⊎◌, List, length, slice_index_or, true, false}
 use Rattle.dimacs_text.specs.declared.problem.ArcRow.{ArcRow}
 use Rattle.residual_graph.specs.declared.residual.ResidualArc.{ResidualArc}
 use Rattle.residual_graph.specs.declared.residual.Way.{Way}
@@ -32,6 +32,11 @@ arc_to t v = (predecessor_at t v).end / 2
 
 abbrev pub way_to : List Predecessor → ℕ → Way
 way_to t v = end_way (predecessor_at t v).end
+
+-- each number lies between -bound and bound
+pub record AreBounded (bound : ℕ) (p : List ℤ) : Type 0 where
+  pub at_most : (v : ℕ) → number_at p v ≤ℤ pos bound
+  pub at_least : (v : ℕ) → neg_ℤ (pos bound) ≤ℤ number_at p v
 
 -- the cost of a residual arc less what the potentials pay for it
 abbrev pub reduced_by : ArcRow → List ℤ → Way → ℤ

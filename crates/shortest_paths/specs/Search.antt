@@ -1,15 +1,15 @@
--- A search along residual arcs that cost nothing, while potentials fall or rise until one leads on
--- (Ahuja, Magnanti, Orlin, "Network Flows": primal-dual algorithm).
-use Rattle.std.specs.Prelude.{◌≡◌, ℕ, ◌+◌, ◌*◌, ◌/◌, ◌<◌, ℤ, pos, neg_ℤ, ◌-ℤ◌, ◌+ℤ◌, ◌<ℤ◌, ◌≤ℤ◌, List, length, Bool, true, false, Option, MatchOption}
+-- Searches in order of distance, from settled nodes along residual arcs to the nearest open one
+-- (Ahuja, Magnanti, Orlin, "Network Flows": Dijkstra's algorithm, successive shortest paths).
+use Rattle.std.specs.Prelude.{◌≡◌, ℕ, ◌+◌, ◌*◌, ◌/◌, ◌<◌, ◌⊎◌, ℤ, pos, neg_ℤ, ◌-ℤ◌, ◌<ℤ◌, ◌≤ℤ◌, List, length, Bool, true, false, Option, MatchOption}
 use Rattle.std.specs.List.{count_by}
+use Rattle.containers.specs.declared.queue.Waiting.{Waiting}
+use Rattle.containers.specs.Queue.{IsIn, QueueView, entry_at, key_at}
 use Rattle.dimacs_text.specs.declared.problem.ArcRow.{ArcRow}
 use Rattle.residual_graph.specs.declared.residual.Way.{Way}
 use Rattle.residual_graph.specs.Limits.{cost_limit}
 use Rattle.residual_graph.specs.Residual.{IsResidual, end_at, number_at, start_at}
 use Rattle.residual_graph.specs.Walk.{end_way}
-use Rattle.shortest_paths.specs.Limits.{label_floor}
 use Rattle.shortest_paths.specs.declared.predecessor.Predecessor.{Predecessor}
-use Rattle.shortest_paths.specs.declared.search.Crossing.{Crossing}
 use Rattle.shortest_paths.specs.Predecessor.{arc_to, predecessor_at, rank_at, reduced_at, way_to}
 
 -- the search came to node v, or v is open
@@ -58,43 +58,42 @@ pub record Crosses (arcs : List ArcRow) (x : List ℤ) (t : List Predecessor) (k
 abbrev pub NoneCrosses : List ArcRow → List ℤ → List Predecessor → Type 0
 NoneCrosses arcs x t = (k : ℕ) (way : Way) → Crosses arcs x t k way → ⊥
 
--- of the residual arcs that cross, this one has the least reduced cost
-pub record IsNearest (arcs : List ArcRow) (x p : List ℤ) (t : List Predecessor) (c : Crossing) : Type 0 where
-  pub crosses : Crosses arcs x t (c.end / 2) (end_way c.end)
-  pub cost_is : c.cost ≡ reduced_at arcs p (c.end / 2) (end_way c.end)
-  pub none_nearer : (k : ℕ) (way : Way) → Crosses arcs x t k way → c.cost ≤ℤ reduced_at arcs p k way
+-- ---- the nodes that wait
 
--- it is found, or there is none that crosses
-abbrev pub IsNearestFound : List ArcRow → List ℤ → List ℤ → List Predecessor → Option Crossing → Type 0
-IsNearestFound arcs x p t found = MatchOption found (NoneCrosses arcs x t) (IsNearest arcs x p t)
+-- a node waits by a residual arc that leads from a node that the search reached, at what it costs
+pub record IsAlong (arcs : List ArcRow) (x p : List ℤ) (t : List Predecessor) (w : Waiting) (v : ℕ) : Type 0 where
+  pub crosses : Crosses arcs x t (w.end / 2) (end_way w.end)
+  pub ends : end_at arcs (w.end / 2) (end_way w.end) ≡ v
+  pub key_is : w.key ≡ reduced_at arcs p (w.end / 2) (end_way w.end)
 
--- no residual arc that crosses has a lower reduced cost
-abbrev pub AllCostAtLeast : List ArcRow → List ℤ → List ℤ → List Predecessor → ℤ → Type 0
-AllCostAtLeast arcs x p t least = (k : ℕ) (way : Way) → Crosses arcs x t k way → least ≤ℤ reduced_at arcs p k way
+-- the node to which a residual arc leads waits, for no more than that costs
+abbrev pub IsServed : List ArcRow → List ℤ → QueueView → ℕ → Way → Type 0
+IsServed arcs p q k way = IsIn q (end_at arcs k way) × (key_at q.entries (end_at arcs k way) ≤ℤ reduced_at arcs p k way)
 
--- the nearest that crosses is found, at no more than `most`, or none costs less than that
-abbrev pub IsWithinFound : List ArcRow → List ℤ → List ℤ → List Predecessor → ℤ → Option Crossing → Type 0
-IsWithinFound arcs x p t most found = MatchOption found (AllCostAtLeast arcs x p t most) (λ c. IsNearest arcs x p t c × (c.cost ≤ℤ most))
+-- so it is of each residual arc that leads from a node that the search reached to an open one
+abbrev pub AreServed : List ArcRow → List ℤ → List ℤ → List Predecessor → QueueView → Type 0
+AreServed arcs x p t q = (k : ℕ) (way : Way) → Crosses arcs x t k way → IsServed arcs p q k way
 
--- this one has the least reduced cost of those that leave at the first ends, so many
-pub record IsNearestBelow (arcs : List ArcRow) (x p : List ℤ) (t : List Predecessor) (ends : ℕ) (c : Crossing) : Type 0 where
-  pub crosses : Crosses arcs x t (c.end / 2) (end_way c.end)
-  pub cost_is : c.cost ≡ reduced_at arcs p (c.end / 2) (end_way c.end)
-  pub none_nearer : (e : ℕ) → e < ends → Crosses arcs x t (e / 2) (end_way e) → c.cost ≤ℤ reduced_at arcs p (e / 2) (end_way e)
+-- so it is of those from this node
+abbrev pub AreServedFrom : List ArcRow → List ℤ → List ℤ → List Predecessor → QueueView → ℕ → Type 0
+AreServedFrom arcs x p t q v = (k : ℕ) (way : Way) → start_at arcs k way ≡ v → Crosses arcs x t k way → IsServed arcs p q k way
 
-abbrev pub IsNearestOf : List ArcRow → List ℤ → List ℤ → List Predecessor → ℕ → Option Crossing → Type 0
-IsNearestOf arcs x p t ends found = MatchOption found ((e : ℕ) → e < ends → Crosses arcs x t (e / 2) (end_way e) → ⊥) (IsNearestBelow arcs x p t ends)
+-- the nodes that waited wait, for no more; others wait by residual arcs
+pub record HaveJoined (arcs : List ArcRow) (x p : List ℤ) (t : List Predecessor) (q r : QueueView) : Type 0 where
+  pub sized : length r.entries ≡ length q.entries
+  pub kept : (v : ℕ) → IsIn q v → IsIn r v × (key_at r.entries v ≤ℤ key_at q.entries v)
+  pub entries : (v : ℕ) → IsIn r v → (IsIn q v × (entry_at r.entries v ≡ entry_at q.entries v)) ⊎ IsAlong arcs x p t (entry_at r.entries v) v
 
--- a potential that rises where its node is open, and falls where the search reached it
-abbrev pub shifted_by : Bool → ℤ → ℤ → ℤ → ℤ
-shifted_by true potential fall rise = potential +ℤ rise
-shifted_by false potential fall rise = potential -ℤ fall
+-- a potential that falls unless its node is open
+abbrev pub lowered_by : Bool → ℤ → ℤ → ℤ
+lowered_by true potential fall = potential
+lowered_by false potential fall = potential -ℤ fall
 
--- the potentials p become q: those of nodes that the search reached fall, and those of open nodes rise, all alike
-pub record AreShifted (p q : List ℤ) (t : List Predecessor) (fall rise : ℤ) : Type 0 where
+-- the potentials p become q: those of the nodes that the search reached fall, all alike
+pub record AreLowered (p q : List ℤ) (t : List Predecessor) (fall : ℤ) : Type 0 where
   pub same_length : length q ≡ length p
   pub at_reached : (v : ℕ) → IsReached t v → number_at q v ≡ number_at p v -ℤ fall
-  pub at_open : (v : ℕ) → IsOpen t v → number_at q v ≡ number_at p v +ℤ rise
+  pub at_open : (v : ℕ) → IsOpen t v → number_at q v ≡ number_at p v
 
 -- ---- the search from the nodes in excess
 
@@ -103,15 +102,6 @@ pub record IsFromExcess (excess : List ℤ) (t : List Predecessor) : Type 0 wher
   pub sources : (v : ℕ) → pos 0 <ℤ number_at excess v → IsReached t v
   pub roots : (v : ℕ) → IsReached t v → rank_at t v ≡ 0 → pos 0 <ℤ number_at excess v
   pub no_deficit : (v : ℕ) → IsReached t v → pos 0 ≤ℤ number_at excess v
-
--- potentials began in the range of labels; those of the nodes that the search reached fell since, all alike
-pub record HaveFallen (p : List ℤ) (t : List Predecessor) : Type 0 where
-  pub fallen : ℤ
-  pub not_below_0 : pos 0 ≤ℤ fallen
-  pub enough : fallen ≤ℤ pos (2 * label_floor)
-  pub at_least : (v : ℕ) → (neg_ℤ (pos label_floor) -ℤ fallen) ≤ℤ number_at p v
-  pub at_open : (v : ℕ) → IsOpen t v → neg_ℤ (pos label_floor) ≤ℤ number_at p v
-  pub at_reached : (v : ℕ) → IsReached t v → number_at p v ≤ℤ (pos (cost_limit * rank_at t v) -ℤ fallen)
 
 -- it came to a node in deficit, from a node in excess
 pub record HasFound (arcs : List ArcRow) (x p excess : List ℤ) (t : List Predecessor) (target : ℕ) : Type 0 where
@@ -132,16 +122,13 @@ IsDeficitFound arcs x p excess t found = MatchOption found (IsExhausted arcs x e
 
 -- ---- the search for the greatest potentials
 
+-- each node waits for as much as its potential lies below 0
+pub record AreOffered (p : List ℤ) (q : QueueView) : Type 0 where
+  pub sized : length q.entries ≡ length p
+  pub all : (v : ℕ) → v < length p → IsIn q v
+  pub keys : (v : ℕ) → IsIn q v → key_at q.entries v ≡ neg_ℤ (number_at p v)
+
 -- the nodes at which it began have potential 0, and none falls by more than a path can cost
 pub record AreRaised (p : List ℤ) (t : List Predecessor) : Type 0 where
   pub roots : (v : ℕ) → IsReached t v → rank_at t v ≡ 0 → number_at p v ≡ pos 0
   pub at_least : (v : ℕ) → IsReached t v → neg_ℤ (pos (cost_limit * rank_at t v)) ≤ℤ number_at p v
-
--- of the open nodes below i, if there are any, this one has the greatest potential
-pub record IsHighestOpen (p : List ℤ) (t : List Predecessor) (i b : ℕ) : Type 0 where
-  pub below : b < i
-  pub is_open : IsOpen t b
-  pub highest : (v : ℕ) → v < i → IsOpen t v → number_at p v ≤ℤ number_at p b
-
-abbrev pub IsHighestFound : List ℤ → List Predecessor → ℕ → Option ℕ → Type 0
-IsHighestFound p t i found = MatchOption found ((v : ℕ) → v < i → IsOpen t v → ⊥) (IsHighestOpen p t i)

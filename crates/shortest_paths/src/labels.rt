@@ -1,66 +1,60 @@
 //! The greatest potentials that certify a flow: the shortest labels of all nodes.
 
-ghost use Rattle.std.specs.Prelude.{◌≡◌, ◌+◌, ◌<◌, length};
-ghost use Rattle.residual_graph.specs.Residual.{AreGreatest, ArePotentials, IsReducedCostOptimal};
+ghost use Rattle.std.specs.Prelude.{◌≡◌, ◌/◌, ◌<◌, ◌+ℤ◌, ◌<ℤ◌, ◌≤ℤ◌, FitsSigned, List, ℤ, length, pos, slice_set};
+ghost use Rattle.std.specs.Int.{w64};
+ghost use Rattle.residual_graph.specs.Limits.{entry_limit, potential_floor};
+ghost use Rattle.residual_graph.specs.Residual.{AreGreatest, ArePotentials, IsPseudoflow, IsReducedCostOptimal, number_at, start_at};
 ghost use Rattle.shortest_paths.specs.Limits.{label_floor};
-ghost use Rattle.shortest_paths.specs.Search.{IsHighestFound, IsWithinFound};
+ghost use Rattle.residual_graph.specs.Walk.{end_way};
+ghost use Rattle.shortest_paths.specs.Predecessor.{rank_at, root_node};
+ghost use Rattle.shortest_paths.specs.Search.{AreOffered, come_from};
 
 use crate::predecessor::Predecessor;
-use crate::search::{Crossing, come_along, nearest_crossing, shift_apart};
+use crate::search::{come_along, offer_from, raise};
+use containers::{Queue, Waiting};
 use residual_graph::Graph;
 
-/// The one of two open nodes, where there are two, with the greater potential: the one at hand, and node `v` if it is open.
-fn higher(
-    potentials: &[i64],
-    predecessors: &[Predecessor],
-    highest: Option<usize>,
-    v: usize,
-) -> Option<usize>
-    requires sized { length predecessors.now ≡ length potentials.now }
-    requires node { v < length potentials.now }
-    requires highest { IsHighestFound potentials.now predecessors.now v highest }
-    ensures { IsHighestFound potentials.now predecessors.now (v + 1) result }
+/// Has each node wait for as much as its potential lies below 0.
+fn offer_all(potentials: &[i64], queue: &mut Queue)
+    requires sized { length queue.old.entries ≡ length potentials.now }
+    requires potentials { ArePotentials (length potentials.now) potential_floor potentials.now }
+    ensures { AreOffered potentials.now queue.new }
 {
-    if !predecessors[v].is_open {
-        return highest;
-    }
-    match highest {
-        Some(u) if potentials[u] >= potentials[v] => highest,
-        _ => Some(v),
-    }
-}
-
-/// An open node of the greatest potential, where there is one.
-fn highest_open(potentials: &[i64], predecessors: &[Predecessor]) -> Option<usize>
-    requires sized { length predecessors.now ≡ length potentials.now }
-    ensures { IsHighestFound potentials.now predecessors.now (length potentials.now) result }
-{
-    let mut highest = None;
+    queue.clear();
     for v in 0..potentials.len() {
-        highest = higher(potentials, predecessors, highest, v);
+        let waiting = Waiting {
+            key: -potentials[v],
+            end: 0,
+        };
+        queue.offer(v, waiting);
     }
-    highest
 }
 
-/// Of the residual arcs that lead from nodes that are not open to open ones, one of the least reduced cost, where that is at
-/// most `rise`.
-fn crossing_within(
+/// Raises the potential of a node by the key with which it waited: to 0, or until the residual arc by which it waited costs
+/// nothing.
+fn settle(
     graph: &Graph,
-    flow: &[i64],
-    potentials: &[i64],
-    predecessors: &[Predecessor],
-    rise: i64,
-) -> Option<Crossing>
-    requires certified { IsReducedCostOptimal graph.now.rows flow.now potentials.now }
-    requires sized { length predecessors.now ≡ length potentials.now }
-    ensures { IsWithinFound graph.now.rows flow.now potentials.now predecessors.now rise result }
+    potentials: &mut [i64],
+    predecessors: &mut [Predecessor],
+    node: usize,
+    waiting: Waiting,
+)
+    requires flow { (x : List ℤ) × IsPseudoflow (length predecessors.old) graph.now.rows x }
+    requires sized { length predecessors.old ≡ length potentials.old }
+    requires node { node < length potentials.old }
+    requires fits { FitsSigned w64 (number_at potentials.old node +ℤ waiting.key) }
+    requires end { (number_at potentials.old node +ℤ waiting.key) <ℤ pos 0 → waiting.end / 2 < length graph.now.rows }
+    requires low { (number_at potentials.old node +ℤ waiting.key) <ℤ pos 0 → rank_at predecessors.old (start_at graph.now.rows (waiting.end / 2) (end_way waiting.end)) < entry_limit }
+    ensures raised { potentials.new ≡ slice_set potentials.old node (number_at potentials.old node +ℤ waiting.key) }
+    ensures root { pos 0 ≤ℤ (number_at potentials.old node +ℤ waiting.key) → predecessors.new ≡ slice_set predecessors.old node root_node }
+    ensures along { (number_at potentials.old node +ℤ waiting.key) <ℤ pos 0 → predecessors.new ≡ slice_set predecessors.old node (come_from graph.now.rows predecessors.old waiting.end) }
 {
-    let crossing = nearest_crossing(graph, flow, potentials, predecessors)?;
-    if crossing.cost <= rise {
-        Some(crossing)
-    } else {
-        None
+    raise(potentials, node, waiting);
+    if potentials[node] < 0 {
+        come_along(graph, predecessors, node, waiting.end);
+        return;
     }
+    predecessors[node] = Predecessor::root();
 }
 
 /// Raises potentials that certify a flow until they are the greatest that do: those of open nodes rise together until one
@@ -71,25 +65,21 @@ pub fn search_labels(
     flow: &[i64],
     potentials: &mut [i64],
     predecessors: &mut [Predecessor],
+    queue: &mut Queue,
 )
     requires certified { IsReducedCostOptimal graph.now.rows flow.now potentials.old }
     requires sized { length predecessors.old ≡ length potentials.old }
+    requires queue_sized { length queue.old.entries ≡ length potentials.old }
     ensures certified { IsReducedCostOptimal graph.now.rows flow.now potentials.new }
     ensures within { ArePotentials (length potentials.new) label_floor potentials.new }
     ensures greatest { AreGreatest graph.now.rows flow.now potentials.new }
+    ensures queue_sized { length queue.new.entries ≡ length queue.old.entries }
 {
     predecessors.fill(Predecessor::open());
-    while let Some(root) = highest_open(potentials, predecessors) {
-        let rise = -potentials[root];
-        match crossing_within(graph, flow, potentials, predecessors, rise) {
-            Some(crossing) => {
-                shift_apart(potentials, predecessors, 0, crossing.cost);
-                come_along(graph, predecessors, crossing.end);
-            }
-            None => {
-                shift_apart(potentials, predecessors, 0, rise);
-                predecessors[root] = Predecessor::root();
-            }
-        }
+    offer_all(potentials, queue);
+    while let Some(node) = queue.take_first() {
+        let waiting = queue.entry(node);
+        settle(graph, potentials, predecessors, node, waiting);
+        offer_from(graph, flow, potentials, predecessors, queue, node);
     }
 }

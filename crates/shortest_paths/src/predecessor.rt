@@ -4,7 +4,7 @@ ghost use Rattle.std.specs.Prelude.{◌≡◌, ◌<◌, IsTrue, length};
 ghost use Rattle.shortest_paths.specs.Limits.{label_floor};
 ghost use Rattle.residual_graph.specs.Limits.{potential_floor};
 ghost use Rattle.residual_graph.specs.Residual.{AreGreatest, ArePotentials, IsPseudoflow, IsRow, IsWithinRow};
-ghost use Rattle.shortest_paths.specs.Predecessor.{AllTraced, ComesAlong, IsTracedAt, arc_from, open_node, reduced_by, root_node};
+ghost use Rattle.shortest_paths.specs.Predecessor.{AllTraced, AreBounded, ComesAlong, IsTracedAt, arc_from, open_node, reduced_by, root_node};
 
 use dimacs_text::ArcRow;
 use residual_graph::{Graph, ResidualArc, Way};
@@ -130,7 +130,7 @@ fn comes_along(
 /// The cost of a residual arc less what the labels of its ends pay for it.
 pub fn reduced_cost(row: &ArcRow, labels: &[i64], way: Way) -> i64
     requires row { IsRow (length labels.now) row.now }
-    requires labels { ArePotentials (length labels.now) potential_floor labels.now }
+    requires labels { AreBounded potential_floor labels.now }
     ensures { result ≡ reduced_by row.now labels.now way }
 {
     let start = way.start(row) as usize;

@@ -1,26 +1,23 @@
-//! Searches along residual arcs that cost nothing, while potentials fall or rise until one leads on: the primal-dual
-//! algorithm (Ahuja, Magnanti, Orlin, "Network Flows") in its plainest form, in which each step looks at all arcs. Quick
-//! methods propose what these searches find, and what they propose is tested; so hardly any is made.
+//! Dijkstra's algorithm over reduced costs, from the nodes in excess to the nearest one in deficit (Ahuja, Magnanti, Orlin,
+//! "Network Flows": successive shortest paths). The next node comes from a heap, and the arcs that are looked at are those
+//! at the nodes that the search comes to.
+//!
+//! A node waits once a residual arc leads to it from a settled one. Its key is how far it is from the nodes in excess:
+//! potentials of settled nodes are raised by that, so it is the reduced cost of this residual arc.
 
-ghost use Rattle.std.specs.Prelude.{◌≡◌, ℕ, ◌+◌, ◌*◌, ◌/◌, ◌<◌, pos, neg_ℤ, ◌≤ℤ◌, ℤ, List, IsTrue, ◌↔◌, false, length, slice_set};
-ghost use Rattle.residual_graph.specs.Limits.{cost_limit, entry_limit, potential_floor};
-ghost use Rattle.residual_graph.specs.Residual.{ArePotentials, IsPseudoflow, IsReducedCostOptimal, end_at, start_at};
+ghost use Rattle.std.specs.Prelude.{◌≡◌, ℕ, ◌+◌, ◌*◌, ◌/◌, ◌<◌, pos, neg_ℤ, ◌+ℤ◌, ◌≤ℤ◌, ℤ, FitsSigned, List, IsTrue, ◌↔◌, length, slice_set};
+ghost use Rattle.std.specs.Int.{w64};
+ghost use Rattle.residual_graph.specs.Limits.{entry_limit, potential_floor};
+ghost use Rattle.residual_graph.specs.Residual.{ArePotentials, IsPseudoflow, IsReducedCostOptimal, number_at, start_at};
 ghost use Rattle.residual_graph.specs.Walk.{end_way};
+ghost use Rattle.residual_graph.specs.declared.residual.Way.{Way};
 ghost use Rattle.shortest_paths.specs.Limits.{label_floor};
-ghost use Rattle.shortest_paths.specs.Predecessor.{rank_at};
-ghost use Rattle.shortest_paths.specs.Search.{AreShifted, Crosses, IsDeficitFound, IsFromExcess, IsNearestFound, IsNearestOf, come_from, shifted_by};
+ghost use Rattle.shortest_paths.specs.Predecessor.{AreBounded, rank_at};
+ghost use Rattle.shortest_paths.specs.Search.{AreLowered, AreServed, AreServedFrom, Crosses, HaveJoined, IsDeficitFound, IsFromExcess, IsServed, come_from, lowered_by};
 
 use crate::predecessor::{Predecessor, leaving, reduced_cost};
+use containers::{Queue, Waiting};
 use residual_graph::Graph;
-
-/// A residual arc from a node that the search reached to an open one.
-#[derive(Clone, Copy)]
-pub(crate) struct Crossing {
-    /// The end of an arc at which it leaves.
-    pub end: u32,
-    /// Its reduced cost.
-    pub cost: i64,
-}
 
 /// Whether the residual arc that leaves at an end is there, and leads from a node that the search reached to an open one.
 fn crosses(graph: &Graph, flow: &[i64], predecessors: &[Predecessor], end: u32) -> bool
@@ -34,99 +31,151 @@ fn crosses(graph: &Graph, flow: &[i64], predecessors: &[Predecessor], end: u32) 
     !predecessors[start].is_open && predecessors[far].is_open && graph.has_room(flow, arc)
 }
 
-/// The nearer of two residual arcs that cross, where there are two: the one at hand, and the one that leaves at an end.
-fn nearer(
+/// Has the node wait to which the residual arc leads that leaves at an end, where that is there and crosses.
+fn offer(
     graph: &Graph,
     flow: &[i64],
     potentials: &[i64],
     predecessors: &[Predecessor],
-    nearest: Option<Crossing>,
+    queue: &mut Queue,
     end: u32,
-) -> Option<Crossing>
-    requires certified { IsReducedCostOptimal graph.now.rows flow.now potentials.now }
+)
+    requires flow { IsPseudoflow (length potentials.now) graph.now.rows flow.now }
+    requires bounded { AreBounded potential_floor potentials.now }
     requires sized { length predecessors.now ≡ length potentials.now }
+    requires queue_sized { length queue.old.entries ≡ length potentials.now }
     requires end { end / 2 < length graph.now.rows }
-    requires nearest { IsNearestOf graph.now.rows flow.now potentials.now predecessors.now end nearest }
-    ensures { IsNearestOf graph.now.rows flow.now potentials.now predecessors.now (end + 1) result }
+    ensures grown { HaveJoined graph.now.rows flow.now potentials.now predecessors.now queue.old queue.new }
+    ensures served { Crosses graph.now.rows flow.now predecessors.now (end / 2) (end_way end) → IsServed graph.now.rows potentials.now queue.new (end / 2) (end_way end) }
 {
     if !crosses(graph, flow, predecessors, end) {
-        return nearest;
+        return;
     }
     let arc = leaving(end);
-    let cost = reduced_cost(&graph.row(arc.arc as usize), potentials, arc.way);
-    match nearest {
-        Some(crossing) if crossing.cost <= cost => nearest,
-        _ => Some(Crossing { end, cost }),
-    }
+    let far = graph.end(arc.arc as usize, arc.way);
+    let key = reduced_cost(&graph.row(arc.arc as usize), potentials, arc.way);
+    queue.offer(far, Waiting { key, end });
 }
 
-/// Of the residual arcs that lead from nodes that the search reached to open ones, one of the least reduced cost.
-pub(crate) fn nearest_crossing(
+/// The same for both residual arcs along an arc.
+fn offer_over(
     graph: &Graph,
     flow: &[i64],
     potentials: &[i64],
     predecessors: &[Predecessor],
-) -> Option<Crossing>
-    requires certified { IsReducedCostOptimal graph.now.rows flow.now potentials.now }
-    requires sized { length predecessors.now ≡ length potentials.now }
-    ensures { IsNearestFound graph.now.rows flow.now potentials.now predecessors.now result }
-{
-    let mut nearest = None;
-    for end in 0..2 * graph.rows().len() {
-        nearest = nearer(graph, flow, potentials, predecessors, nearest, end as u32);
-    }
-    nearest
-}
-
-/// A potential less `fall` where the search reached its node, and with `rise` more where it is open.
-fn shifted(potential: i64, predecessor: Predecessor, fall: i64, rise: i64) -> i64
-    requires potential { (neg_ℤ (pos potential_floor) ≤ℤ potential) × (potential ≤ℤ pos 0) }
-    requires fall { (pos 0 ≤ℤ fall) × (fall ≤ℤ pos (potential_floor + cost_limit)) }
-    requires rise { (pos 0 ≤ℤ rise) × (rise ≤ℤ pos (potential_floor + cost_limit)) }
-    ensures { result ≡ shifted_by predecessor.is_open potential fall rise }
-{
-    if predecessor.is_open {
-        potential + rise
-    } else {
-        potential - fall
-    }
-}
-
-/// Lowers the potentials of the nodes that the search reached by `fall`, and raises those of open nodes by `rise`.
-pub(crate) fn shift_apart(
-    potentials: &mut [i64],
-    predecessors: &[Predecessor],
-    fall: i64,
-    rise: i64,
+    queue: &mut Queue,
+    arc: u32,
 )
-    requires sized { length predecessors.now ≡ length potentials.old }
-    requires potentials { ArePotentials (length potentials.old) potential_floor potentials.old }
-    requires fall { (pos 0 ≤ℤ fall) × (fall ≤ℤ pos (potential_floor + cost_limit)) }
-    requires rise { (pos 0 ≤ℤ rise) × (rise ≤ℤ pos (potential_floor + cost_limit)) }
-    ensures { AreShifted potentials.old potentials.new predecessors.now fall rise }
+    requires flow { IsPseudoflow (length potentials.now) graph.now.rows flow.now }
+    requires bounded { AreBounded potential_floor potentials.now }
+    requires sized { length predecessors.now ≡ length potentials.now }
+    requires queue_sized { length queue.old.entries ≡ length potentials.now }
+    requires arc { arc < length graph.now.rows }
+    ensures grown { HaveJoined graph.now.rows flow.now potentials.now predecessors.now queue.old queue.new }
+    ensures served { (way : Way) → Crosses graph.now.rows flow.now predecessors.now arc way → IsServed graph.now.rows potentials.now queue.new arc way }
 {
-    for v in 0..potentials.len() {
-        potentials[v] = shifted(potentials[v], predecessors[v], fall, rise);
+    let tail = 2 * arc;
+    let head = 2 * arc + 1;
+    offer(graph, flow, potentials, predecessors, queue, tail);
+    offer(graph, flow, potentials, predecessors, queue, head);
+}
+
+/// The same for all residual arcs that leave a node, where the search reached it.
+pub(crate) fn offer_from(
+    graph: &Graph,
+    flow: &[i64],
+    potentials: &[i64],
+    predecessors: &[Predecessor],
+    queue: &mut Queue,
+    node: usize,
+)
+    requires flow { IsPseudoflow (length potentials.now) graph.now.rows flow.now }
+    requires bounded { AreBounded potential_floor potentials.now }
+    requires sized { length predecessors.now ≡ length potentials.now }
+    requires queue_sized { length queue.old.entries ≡ length potentials.now }
+    requires node { node < length potentials.now }
+    ensures grown { HaveJoined graph.now.rows flow.now potentials.now predecessors.now queue.old queue.new }
+    ensures served { AreServedFrom graph.now.rows flow.now potentials.now predecessors.now queue.new node }
+{
+    if predecessors[node].is_open {
+        return;
+    }
+    let mut current = graph.first_end(node as u32);
+    while let Some(end) = current {
+        offer_over(graph, flow, potentials, predecessors, queue, end / 2);
+        current = graph.next_end(end);
     }
 }
 
-/// Comes to the open node to which the residual arc leads that leaves at an end, and gives that node.
-pub(crate) fn come_along(graph: &Graph, predecessors: &mut [Predecessor], end: u32) -> usize
+/// The same for all residual arcs that leave nodes that the search reached.
+fn offer_from_all(
+    graph: &Graph,
+    flow: &[i64],
+    potentials: &[i64],
+    predecessors: &[Predecessor],
+    queue: &mut Queue,
+)
+    requires flow { IsPseudoflow (length potentials.now) graph.now.rows flow.now }
+    requires bounded { AreBounded potential_floor potentials.now }
+    requires sized { length predecessors.now ≡ length potentials.now }
+    requires queue_sized { length queue.old.entries ≡ length potentials.now }
+    ensures grown { HaveJoined graph.now.rows flow.now potentials.now predecessors.now queue.old queue.new }
+    ensures served { AreServed graph.now.rows flow.now potentials.now predecessors.now queue.new }
+{
+    for v in 0..predecessors.len() {
+        offer_from(graph, flow, potentials, predecessors, queue, v);
+    }
+}
+
+/// Raises the potential of a node by the key with which it waited.
+pub(crate) fn raise(potentials: &mut [i64], node: usize, waiting: Waiting)
+    requires node { node < length potentials.old }
+    requires fits { FitsSigned w64 (number_at potentials.old node +ℤ waiting.key) }
+    ensures { potentials.new ≡ slice_set potentials.old node (number_at potentials.old node +ℤ waiting.key) }
+{
+    potentials[node] += waiting.key;
+}
+
+/// Comes to a node along the residual arc that leaves at an end.
+pub(crate) fn come_along(graph: &Graph, predecessors: &mut [Predecessor], node: usize, end: u32)
     requires flow { (x : List ℤ) × IsPseudoflow (length predecessors.old) graph.now.rows x }
+    requires node { node < length predecessors.old }
     requires end { end / 2 < length graph.now.rows }
     requires low { rank_at predecessors.old (start_at graph.now.rows (end / 2) (end_way end)) < entry_limit }
-    ensures node { result ≡ end_at graph.now.rows (end / 2) (end_way end) }
-    ensures came { predecessors.new ≡ slice_set predecessors.old result (come_from graph.now.rows predecessors.old end) }
+    ensures { predecessors.new ≡ slice_set predecessors.old node (come_from graph.now.rows predecessors.old end) }
 {
     let arc = leaving(end);
     let start = graph.start(arc.arc as usize, arc.way);
-    let node = graph.end(arc.arc as usize, arc.way);
     predecessors[node] = Predecessor {
         end,
         rank: predecessors[start].rank + 1,
         is_open: false,
     };
-    node
+}
+
+/// A potential less `fall`, unless its node is open.
+fn lowered(potential: i64, predecessor: Predecessor, fall: i64) -> i64
+    requires low { (neg_ℤ (pos potential_floor) ≤ℤ potential) × (potential ≤ℤ pos potential_floor) }
+    requires fall { (pos 0 ≤ℤ fall) × (fall ≤ℤ pos potential_floor) }
+    ensures { result ≡ lowered_by predecessor.is_open potential fall }
+{
+    if predecessor.is_open {
+        potential
+    } else {
+        potential - fall
+    }
+}
+
+/// Lowers the potentials of the nodes that the search reached by `fall`.
+fn lower_reached(potentials: &mut [i64], predecessors: &[Predecessor], fall: i64)
+    requires sized { length predecessors.now ≡ length potentials.old }
+    requires bounded { AreBounded potential_floor potentials.old }
+    requires fall { (pos 0 ≤ℤ fall) × (fall ≤ℤ pos potential_floor) }
+    ensures { AreLowered potentials.old potentials.new predecessors.now fall }
+{
+    for v in 0..potentials.len() {
+        potentials[v] = lowered(potentials[v], predecessors[v], fall);
+    }
 }
 
 /// Begins a search at the nodes in excess.
@@ -152,21 +201,32 @@ pub fn find_deficit(
     excess: &[i64],
     potentials: &mut [i64],
     predecessors: &mut [Predecessor],
+    queue: &mut Queue,
 ) -> Option<usize>
     requires certified { IsReducedCostOptimal graph.now.rows flow.now potentials.old }
     requires in_range { ArePotentials (length potentials.old) label_floor potentials.old }
     requires excess_in { length excess.now ≡ length potentials.old }
     requires sized { length predecessors.old ≡ length potentials.old }
+    requires queue_sized { length queue.old.entries ≡ length potentials.old }
     ensures certified { IsReducedCostOptimal graph.now.rows flow.now potentials.new }
     ensures found { IsDeficitFound graph.now.rows flow.now potentials.new excess.now predecessors.new result }
+    ensures queue_sized { length queue.new.entries ≡ length queue.old.entries }
 {
     begin_in_excess(excess, predecessors);
-    while let Some(crossing) = nearest_crossing(graph, flow, potentials, predecessors) {
-        shift_apart(potentials, predecessors, crossing.cost, 0);
-        let node = come_along(graph, predecessors, crossing.end);
+    queue.clear();
+    offer_from_all(graph, flow, potentials, predecessors, queue);
+    let mut distance = 0;
+    while let Some(node) = queue.take_first() {
+        let waiting = queue.entry(node);
+        distance = waiting.key;
+        raise(potentials, node, waiting);
+        come_along(graph, predecessors, node, waiting.end);
         if excess[node] < 0 {
+            lower_reached(potentials, predecessors, distance);
             return Some(node);
         }
+        offer_from(graph, flow, potentials, predecessors, queue, node);
     }
+    lower_reached(potentials, predecessors, distance);
     None
 }

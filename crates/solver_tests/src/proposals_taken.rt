@@ -46,7 +46,8 @@ type Outcome = (
 /// What is proposed, or nothing where the solver is to propose, and what comes of it.
 type Step = (Option<Proposed>, Outcome);
 
-/// What is proposed of `TIES`, and what comes of it.
+/// What is proposed of `TIES`, and what comes of it. A search comes to node 3 by the third arc first, and the other way is no
+/// nearer.
 static PROPOSALS: [(Proposed, Outcome); 19] = [
     // The one way, the other, both.
     (
@@ -91,7 +92,7 @@ static PROPOSALS: [(Proposed, Outcome); 19] = [
             &[(0, 1), (1, 1), (2, 1), (3, 5), (4, 4)],
             &[0, -2, -1, 0, 0],
         ),
-        (None, 1, &[2, 2, 0, 0, 0], &[0; 5], Some(4)),
+        (None, 1, &[0, 0, 2, 0, 0], &[0; 5], Some(4)),
     ),
     // A potential off by one: other potentials certify the flow.
     (
@@ -101,15 +102,15 @@ static PROPOSALS: [(Proposed, Outcome); 19] = [
     // A node to which more comes than goes on, one from which more goes than comes, one that gives more than it has.
     (
         (&[(0, 2), (1, 1)], &[0, -2, -1, 0, 0]),
-        (None, 1, &[2, 2, 0, 0, 0], &[0; 5], Some(4)),
+        (None, 1, &[0, 0, 2, 0, 0], &[0; 5], Some(4)),
     ),
     (
         (&[(1, 1), (2, 1)], &[0, -2, -1, 0, 0]),
-        (None, 1, &[2, 2, 0, 0, 0], &[0; 5], Some(4)),
+        (None, 1, &[0, 0, 2, 0, 0], &[0; 5], Some(4)),
     ),
     (
         (&[(0, 2), (1, 2), (2, 1)], &[0, -2, -1, 0, 0]),
-        (None, 1, &[2, 2, 0, 0, 0], &[0; 5], Some(4)),
+        (None, 1, &[0, 0, 2, 0, 0], &[0; 5], Some(4)),
     ),
     // Flows out of their bounds: each arc gets what fits.
     (
@@ -139,15 +140,15 @@ static PROPOSALS: [(Proposed, Outcome); 19] = [
     // A node that is not there.
     (
         (&[(2, 2)], &[0, -2, -1, 0, 0, 0]),
-        (None, 1, &[2, 2, 0, 0, 0], &[0; 5], Some(4)),
+        (None, 1, &[0, 0, 2, 0, 0], &[0; 5], Some(4)),
     ),
     // Nothing.
     (
         (&[], &[0; 5]),
-        (Some(0), 1, &[2, 2, 0, 0, 0], &[0; 5], Some(4)),
+        (Some(0), 1, &[0, 0, 2, 0, 0], &[0; 5], Some(4)),
     ),
     // Too short.
-    ((&[], &[]), (None, 1, &[2, 2, 0, 0, 0], &[0; 5], Some(4))),
+    ((&[], &[]), (None, 1, &[0, 0, 2, 0, 0], &[0; 5], Some(4))),
 ];
 
 /// What is proposed where something stays: a problem, its excesses, and what comes of it.

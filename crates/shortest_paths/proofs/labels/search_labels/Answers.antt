@@ -1,100 +1,145 @@
-use Rattle.std.proofs.Common.{◌≡◌, ◌∙◌, ◌+◌, ◌/◌, ◌-ℤ◌, ◌≤ℤ◌, ℕ, ℤ, pos, neg_ℤ, ap, arith, slice_set, subst, sym, w64, to_z, of_z, SFits}
+use Rattle.std.proofs.Common.{◌≡◌, ◌∙◌, ◌/◌, ◌<◌, ◌+ℤ◌, ℕ, ℤ, List, pos, ap, arith, inl, inr, length, refl, rules, slice_set, subst, sym}
 use Rattle.std.specs.Prelude.{false}
-use Rattle.std.proofs.lemmas.Int.{ints, to_z-of_z}
-use Rattle.residual_graph.specs.Limits.{potential_floor}
-use Rattle.residual_graph.specs.Residual.{number_at, start_at}
+use Rattle.std.proofs.lemmas.Int.{ints}
+use Rattle.containers.specs.declared.queue.Waiting.{Waiting}
+use Rattle.containers.specs.Queue.{entry_at, key_at}
+use Rattle.residual_graph.specs.Limits.{entry_limit, potential_floor}
+use Rattle.residual_graph.specs.Residual.{ArePotentials, number_at, start_at}
 use Rattle.residual_graph.specs.Walk.{end_way}
 use Rattle.shortest_paths.specs.declared.predecessor.Predecessor.{Predecessor}
-use Rattle.shortest_paths.specs.Predecessor.{rank_at}
-use Rattle.shortest_paths.specs.Search.{AllCostAtLeast, AreRaised, AreShifted, IsSearch, open_count}
-use Rattle.shortest_paths.proofs.StepLemmas.{after, certified_raised, cost_in, fewer, greatest_raised, raised_after, raised_root, rank_fits, search_after, search_root, within_raised}
-use Rattle.shortest_paths.proofs.SearchLemmas.{open_in}
+use Rattle.shortest_paths.specs.Predecessor.{rank_at, root_node}
+use Rattle.shortest_paths.specs.Search.{AreRaised, AreServedFrom, HaveJoined, IsOpen, IsSearch, come_from, open_count}
+use Rattle.shortest_paths.proofs.StepLemmas.{HaveJoined-refl, IsRising, IsUnderway, below_or_not, bounded_rising, certified_raised, fewer, greatest_raised, later_rising, of_tables, potential_in, raised_along, raised_root, rank_fits, rising_after, rising_first, root_or_along, search_along, search_root, underway_after, underway_rising, was_waiting, within_raised}
 use Rattle.shortest_paths.proofs.labels.search_labels.Goals as goal
-use Rattle.shortest_paths.proofs.labels.search_labels.Goals.{After-come_along}
+use Rattle.shortest_paths.proofs.labels.search_labels.Goals.{After-settle}
 
-pub shift_apart-requires-clause-rise : goal.shift_apart-requires-clause-rise
-shift_apart-requires-clause-rise c =
-    let inv = c.loop-root.invariant in
-    let at = c.in-Some-crossing_within.crossing in
-    let cost = cost_in _ _ _ _ inv.certified inv.search at c.in-Some-crossing_within.ensures.0 in
-    let fits : SFits w64 at.cost = omega (arith, ints, cost) in
-    rw (to_z-of_z w64 at.cost fits) cost
-
-pub come_along-requires-clause-low : goal.come_along-requires-clause-low
-come_along-requires-clause-low c =
-    let inv = c.loop-root.invariant in
-    rank_fits _ _ _ _ inv.certified inv.search c.in-Some-crossing_within.crossing c.in-Some-crossing_within.ensures.0
-
--- the tables after a residual arc was gone along
-after_is : (c : After-come_along) → c.come_along.new.predecessors ≡ after c.args.graph.now.rows c.args.flow.now c.loop-root.potentials c.loop-root.predecessors c.loop-root.invariant.certified c.loop-root.invariant.search c.in-Some-crossing_within.crossing c.in-Some-crossing_within.ensures.0
-after_is c =
-    let at = c.in-Some-crossing_within.crossing in
-    let came : Predecessor = record { end = at.end; rank = rank_at c.loop-root.predecessors (start_at c.args.graph.now.rows (at.end / 2) (end_way at.end)) + 1; is_open = false } in
-    c.come_along.ensures.came ∙ ap (λ (n : ℕ). slice_set c.loop-root.predecessors n came) c.come_along.ensures.node
-
--- a potential, turned, as words hold it
-turned : (z : ℤ) → neg_ℤ (pos potential_floor) ≤ℤ z → z ≤ℤ pos 0 → to_z w64 (of_z w64 (pos 0 -ℤ to_z w64 (of_z w64 z))) ≡ pos 0 -ℤ z
-turned z low high =
-    let fits : SFits w64 z = omega (arith, ints, low, high) in
-    let turned_fits : SFits w64 (pos 0 -ℤ z) = omega (arith, ints, low, high) in
-    ap (λ (n : ℤ). to_z w64 (of_z w64 (pos 0 -ℤ n))) (to_z-of_z w64 z fits) ∙ to_z-of_z w64 (pos 0 -ℤ z) turned_fits
-
-pub loop-root-smaller-in-Some-crossing_within : goal.loop-root-smaller-in-Some-crossing_within
-loop-root-smaller-in-Some-crossing_within c =
-    let inv = c.loop-root.invariant in
-    let less = fewer _ _ _ _ inv.certified inv.search c.in-Some-crossing_within.crossing c.in-Some-crossing_within.ensures.0 in
-    omega (arith, less, ap open_count (after_is (goal.at.loop-root-smaller-in-Some-crossing_within c).After-come_along))
-
-pub loop-root-preserved-in-Some-crossing_within : goal.loop-root-preserved-in-Some-crossing_within
-loop-root-preserved-in-Some-crossing_within c =
-    let inv = c.loop-root.invariant in
+pub loop-node-init : goal.loop-node-init
+loop-node-init c =
     let rows = c.args.graph.now.rows in
-    let x = c.args.flow.now in
-    let p = c.loop-root.potentials in
-    let q = c.shift_apart.new.potentials in
-    let t = c.loop-root.predecessors in
-    let at = c.in-Some-crossing_within.crossing in
-    let nearest = c.in-Some-crossing_within.ensures.0 in
-    let cost = cost_in rows x p t inv.certified inv.search at nearest in
-    let fits : SFits w64 at.cost = omega (arith, ints, cost) in
-    let shifted : AreShifted p q t (pos 0) at.cost = subst (AreShifted p q t (pos 0)) (to_z-of_z w64 at.cost fits) c.shift_apart.ensures in
-    let after = after_is (goal.at.loop-root-preserved-in-Some-crossing_within c).After-come_along in
-    let top = number_at p c.in-Some.root in
-    let rise_is = turned top (inv.certified.potentials.at_least c.in-Some.root) (inv.certified.potentials.at_most_0 c.in-Some.root) in
-    let low : at.cost ≤ℤ (pos 0 -ℤ top) = subst (λ (n : ℤ). at.cost ≤ℤ n) rise_is c.in-Some-crossing_within.ensures.1 in
+    let t = c.fill.new.self in
+    let sized : length t ≡ length c.args.potentials.now = search rules in
+    let all_open : (v : ℕ) → v < length t → IsOpen t v = search rules in
     record {
-      certified = certified_raised rows x p t inv.certified inv.search q at.cost shifted cost.0 (λ v is_open. omega (arith, ints, low, c.in-Some.ensures.highest v (rw (← inv.search.sized) (open_in t v is_open)) is_open)) nearest.none_nearer;
-      search = subst (IsSearch rows x q) (sym after) (search_after rows x p t inv.certified inv.search at nearest q (pos 0) at.cost shifted (omega (arith, ints)));
-      raised = subst (AreRaised q) (sym after) (raised_after rows x p t inv.certified inv.search at nearest q shifted inv.raised);
+      distance = pos 0;
+      underway = underway_rising rows c.args.flow.now c.args.potentials.now t c.offer_all.new.queue c.requires.certified sized all_open c.offer_all.ensures;
+      rising = rising_first rows c.args.flow.now c.args.potentials.now t c.offer_all.new.queue c.requires.certified sized all_open c.offer_all.ensures;
     }
 
-pub loop-root-preserved : goal.loop-root-preserved
-loop-root-preserved c =
-    let inv = c.loop-root.invariant in
+pub settle-requires-clause-fits : goal.settle-requires-clause-fits
+settle-requires-clause-fits c =
+    let inv = c.loop-node.invariant in
+    let taken = c.in-Some.ensures.first in
+    let same = ap (λ (w : Waiting). w.key) (was_waiting _ _ c.in-Some.node _ taken c.entry-waiting.ensures) in
+    omega (arith, ints, potential_in _ _ _ _ _ _ _ _ inv.underway taken inv.rising, same)
+
+pub settle-requires-clause-end : goal.settle-requires-clause-end
+settle-requires-clause-end c = λ below.
+    (let inv = c.loop-node.invariant in
+    let taken = c.in-Some.ensures.first in
+    let waiting = was_waiting _ _ c.in-Some.node _ taken c.entry-waiting.ensures in
+    let along = root_or_along _ _ _ _ _ _ _ _ inv.underway taken inv.rising (omega (arith, ints, below, ap (λ (w : Waiting). w.key) waiting)) in
+    subst (λ (w : Waiting). w.end / 2 < length c.args.graph.now.rows) (sym waiting) along.crosses.residual.is_arc)
+
+pub settle-requires-clause-low : goal.settle-requires-clause-low
+settle-requires-clause-low c = λ below.
+    (let inv = c.loop-node.invariant in
+    let taken = c.in-Some.ensures.first in
+    let waiting = was_waiting _ _ c.in-Some.node _ taken c.entry-waiting.ensures in
+    let along = root_or_along _ _ _ _ _ _ _ _ inv.underway taken inv.rising (omega (arith, ints, below, ap (λ (w : Waiting). w.key) waiting)) in
+    subst (λ (w : Waiting). rank_at c.loop-node.predecessors (start_at c.args.graph.now.rows (w.end / 2) (end_way w.end)) < entry_limit) (sym waiting)
+    (rank_fits _ _ _ _ _ _ _ _ inv.underway taken along))
+
+potentials_are : (c : After-settle) → c.settle.new.potentials ≡ slice_set c.loop-node.potentials c.in-Some.node (number_at c.loop-node.potentials c.in-Some.node +ℤ key_at c.loop-node.queue.entries c.in-Some.node)
+potentials_are c = c.settle.ensures.raised ∙ ap (λ (w : Waiting). slice_set c.loop-node.potentials c.in-Some.node (number_at c.loop-node.potentials c.in-Some.node +ℤ w.key)) (was_waiting _ _ c.in-Some.node _ c.in-Some.ensures.first c.entry-waiting.ensures)
+
+-- how the node was settled: as a root, or along a residual arc
+record IsSettled (c : After-settle) : Type 0 where
+  by : Predecessor
+  closed : by.is_open ≡ false
+  predecessors_are : c.settle.new.predecessors ≡ slice_set c.loop-node.predecessors c.in-Some.node by
+  search : IsSearch c.args.graph.now.rows c.args.flow.now (slice_set c.loop-node.potentials c.in-Some.node (number_at c.loop-node.potentials c.in-Some.node +ℤ key_at c.loop-node.queue.entries c.in-Some.node)) (slice_set c.loop-node.predecessors c.in-Some.node by)
+  raised : AreRaised (slice_set c.loop-node.potentials c.in-Some.node (number_at c.loop-node.potentials c.in-Some.node +ℤ key_at c.loop-node.queue.entries c.in-Some.node)) (slice_set c.loop-node.predecessors c.in-Some.node by)
+
+is_settled : (c : After-settle) → IsSettled c
+is_settled c =
+    let inv = c.loop-node.invariant in
+    let taken = c.in-Some.ensures.first in
+    let waiting = was_waiting _ _ c.in-Some.node _ taken c.entry-waiting.ensures in
+    let same = ap (λ (w : Waiting). w.key) waiting in
+    elim (below_or_not (number_at c.loop-node.potentials c.in-Some.node +ℤ c.entry-waiting.result.key)) [
+      | inl below ↦
+          (let along = root_or_along _ _ _ _ _ _ _ _ inv.underway taken inv.rising (omega (arith, ints, below, same)) in
+          record {
+            by = come_from c.args.graph.now.rows c.loop-node.predecessors (entry_at c.loop-node.queue.entries c.in-Some.node).end;
+            closed = refl;
+            predecessors_are = c.settle.ensures.along below ∙ ap (λ (w : Waiting). slice_set c.loop-node.predecessors c.in-Some.node (come_from c.args.graph.now.rows c.loop-node.predecessors w.end)) waiting;
+            search = search_along _ _ _ _ _ _ _ _ inv.underway taken along;
+            raised = raised_along _ _ _ _ _ _ _ _ inv.underway taken inv.rising along;
+          })
+      | inr high ↦ record {
+        by = root_node;
+        closed = refl;
+        predecessors_are = c.settle.ensures.root high;
+        search = search_root _ _ _ _ _ _ _ _ inv.underway taken inv.rising;
+        raised = raised_root _ _ _ _ _ _ _ _ inv.underway taken inv.rising (omega (arith, ints, high, same));
+      }
+    ]
+
+potentials_in : (c : After-settle) → ArePotentials (length c.settle.new.potentials) potential_floor c.settle.new.potentials
+potentials_in c =
+    let taken = c.in-Some.ensures.first in
+    let inv = c.loop-node.invariant in
+    let settled = is_settled c in
+    let r = c.take_first.new.self in
+    subst (λ (p : List ℤ). ArePotentials (length p) potential_floor p) (sym (potentials_are c))
+    (rising_after _ _ _ _ _ _ _ _ inv.underway taken inv.rising settled.by settled.closed r (HaveJoined-refl _ _ _ _ r) settled.raised).potentials
+
+pub offer_from-requires-clause-bounded : goal.offer_from-requires-clause-bounded
+offer_from-requires-clause-bounded c = bounded_rising _ (potentials_in (goal.at.offer_from-requires-clause-bounded c).After-settle)
+
+pub loop-node-smaller : goal.loop-node-smaller
+loop-node-smaller c =
+    let s = (goal.at.loop-node-smaller c).After-settle in
+    let taken = c.in-Some.ensures.first in
+    let inv = c.loop-node.invariant in
+    let settled = is_settled s in
+    let later = later_rising _ _ _ _ _ _ _ _ inv.underway taken inv.rising in
+    omega (arith, fewer _ _ _ _ _ _ _ _ inv.underway taken settled.by settled.closed later, ap open_count settled.predecessors_are)
+
+pub loop-node-preserved : goal.loop-node-preserved
+loop-node-preserved c =
+    let s = (goal.at.loop-node-preserved c).After-settle in
+    let taken = c.in-Some.ensures.first in
+    let inv = c.loop-node.invariant in
     let rows = c.args.graph.now.rows in
     let x = c.args.flow.now in
-    let p = c.loop-root.potentials in
-    let q = c.shift_apart-in-None.new.potentials in
-    let t = c.loop-root.predecessors in
-    let root = c.in-Some.root in
-    let top = number_at p root in
-    let rise_is = turned top (inv.certified.potentials.at_least root) (inv.certified.potentials.at_most_0 root) in
-    let shifted : AreShifted p q t (pos 0) (pos 0 -ℤ top) = subst (AreShifted p q t (pos 0)) rise_is c.shift_apart-in-None.ensures in
-    let near : AllCostAtLeast rows x p t (pos 0 -ℤ top) = subst (AllCostAtLeast rows x p t) rise_is c.in-None.ensures in
-    let at_0 : number_at q root ≡ pos 0 = omega (arith, ints, shifted.at_open root c.in-Some.ensures.is_open) in
+    let r = c.take_first.new.self in
+    let queue = c.offer_from.new.queue in
+    let v = c.in-Some.node in
+    let key = key_at c.loop-node.queue.entries v in
+    let settled = is_settled s in
+    let later = later_rising _ _ _ _ _ _ _ _ inv.underway taken inv.rising in
+    let grown = of_tables (λ (p : List ℤ) (t : List Predecessor). HaveJoined rows x p t r queue) (sym (potentials_are s)) (sym settled.predecessors_are) c.offer_from.ensures.grown in
+    let served = of_tables (λ (p : List ℤ) (t : List Predecessor). AreServedFrom rows x p t queue v) (sym (potentials_are s)) (sym settled.predecessors_are) c.offer_from.ensures.served in
     record {
-      certified = certified_raised rows x p t inv.certified inv.search q (pos 0 -ℤ top) shifted (omega (arith, ints, inv.certified.potentials.at_most_0 root))
-          (λ v is_open. omega (arith, ints, c.in-Some.ensures.highest v (rw (← inv.search.sized) (open_in t v is_open)) is_open)) near;
-      search = subst (λ (r : Predecessor). IsSearch rows x q (slice_set t root r)) (sym c.root.ensures) (search_root rows x p t inv.certified inv.search root c.in-Some.ensures.is_open q (pos 0 -ℤ top) shifted at_0);
-      raised = subst (λ (r : Predecessor). AreRaised q (slice_set t root r)) (sym c.root.ensures) (raised_root rows x p t inv.certified inv.search root c.in-Some.ensures.is_open q (pos 0 -ℤ top) shifted at_0 inv.raised);
+      distance = key;
+      underway = of_tables (λ (p : List ℤ) (t : List Predecessor). IsUnderway rows x p t queue key) (potentials_are s) settled.predecessors_are
+          (underway_after _ _ _ _ _ _ _ _ inv.underway taken settled.by settled.closed later settled.search queue grown served);
+      rising = of_tables (λ (p : List ℤ) (t : List Predecessor). IsRising rows x p t queue key) (potentials_are s) settled.predecessors_are
+          (rising_after _ _ _ _ _ _ _ _ inv.underway taken inv.rising settled.by settled.closed queue grown settled.raised);
     }
+
+pub returns-clause-certified : goal.returns-clause-certified
+returns-clause-certified c =
+    let inv = c.loop-node.invariant in
+    certified_raised _ _ _ _ _ _ inv.underway inv.rising c.in_default.ensures.first
 
 pub returns-clause-within : goal.returns-clause-within
 returns-clause-within c =
-    let inv = c.loop-root.invariant in
-    within_raised _ _ _ _ inv.certified inv.search inv.raised c.in_default.ensures
+    let inv = c.loop-node.invariant in
+    within_raised _ _ _ _ _ _ inv.underway inv.rising c.in_default.ensures.first
 
 pub returns-clause-greatest : goal.returns-clause-greatest
 returns-clause-greatest c =
-    let inv = c.loop-root.invariant in
-    greatest_raised _ _ _ _ inv.certified inv.search inv.raised c.in_default.ensures
+    let inv = c.loop-node.invariant in
+    greatest_raised _ _ _ _ _ _ inv.underway inv.rising c.in_default.ensures.first

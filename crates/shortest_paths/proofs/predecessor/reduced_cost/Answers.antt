@@ -7,10 +7,10 @@ pub overflow_sub-result : goal.overflow_sub-result
 overflow_sub-result c =
     let bounds = cost_of-bounds _ c.args.row.now c.args.way c.requires.row in
     let p = c.requires.labels in
-    omega (arith, ints, bounds, p.at_least c.start-start.result, p.at_most_0 c.start-start.result, p.at_least c.end-end.result, p.at_most_0 c.end-end.result)
+    omega (arith, ints, bounds, p.at_least c.start-start.result, p.at_most c.start-start.result, p.at_least c.end-end.result, p.at_most c.end-end.result)
 
 pub returns : goal.returns
 returns c =
     let bounds = cost_of-bounds _ c.args.row.now c.args.way c.requires.row in
     let p = c.requires.labels in
-    rw (← c.start-start.ensures, ← c.end-end.ensures) (omega (arith, ints, bounds, p.at_least c.start-start.result, p.at_most_0 c.start-start.result, p.at_least c.end-end.result, p.at_most_0 c.end-end.result))
+    rw (← c.start-start.ensures, ← c.end-end.ensures) (omega (arith, ints, bounds, p.at_least c.start-start.result, p.at_most c.start-start.result, p.at_least c.end-end.result, p.at_most c.end-end.result))

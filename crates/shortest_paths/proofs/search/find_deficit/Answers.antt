@@ -1,86 +1,191 @@
-use Rattle.std.proofs.Common.{◌≡◌, ◌∙◌, ◌+◌, ◌/◌, ◌≤ℤ◌, ℕ, ℤ, List, pos, ap, arith, rules, slice_set, subst, sym, w64, SFits}
-use Rattle.std.specs.Prelude.{◌<ℤ◌, false}
+use Rattle.std.proofs.Common.{◌≡◌, ◌∙◌, ◌/◌, ◌<◌, ◌≤ℤ◌, ◌+ℤ◌, ℕ, ℤ, List, ◌*◌, pos, ap, arith, length, refl, rules, slice_set, subst, sym, w64, SFits, to_z, of_z}
+use Rattle.std.specs.Prelude.{◌<ℤ◌}
 use Rattle.std.proofs.lemmas.Int.{ints, to_z-of_z}
-use Rattle.residual_graph.specs.Residual.{IsReducedCostOptimal, end_at, number_at, start_at}
+use Rattle.containers.specs.declared.queue.Waiting.{Waiting}
+use Rattle.containers.specs.Queue.{entry_at, key_at}
+use Rattle.residual_graph.specs.Limits.{entry_limit, potential_floor}
+use Rattle.residual_graph.specs.Residual.{IsPseudoflow, NoneBelowBy, number_at, start_at}
 use Rattle.residual_graph.specs.Walk.{end_way}
+use Rattle.shortest_paths.specs.Limits.{label_floor}
 use Rattle.shortest_paths.specs.declared.predecessor.Predecessor.{Predecessor}
 use Rattle.shortest_paths.specs.Predecessor.{rank_at}
-use Rattle.shortest_paths.specs.Search.{AreShifted, HaveFallen, HasFound, IsFromExcess, IsSearch}
-use Rattle.shortest_paths.proofs.StepLemmas.{certified_fallen, cost_in, fallen_after, found_after, from_after, search_after, search_first}
+use Rattle.shortest_paths.specs.Search.{AreLowered, AreServedFrom, HasFound, HaveJoined, IsFromExcess, IsSearch, come_from, open_count}
+use Rattle.shortest_paths.proofs.StepLemmas.{AreAlong, IsClimbing, IsUnderway, along_after, was_waiting, along_first, bounded_climbing, certified_lowered, climbing_after, climbing_first, fewer, found_after, from_after, key_enough, later_along, node_in, none_below_after, of_tables, rank_fits, risen, search_along, search_lowered, underway_after, underway_first}
 use Rattle.shortest_paths.proofs.search.find_deficit.Goals as goal
-use Rattle.shortest_paths.proofs.search.find_deficit.Goals.{After-come_along-node}
+use Rattle.shortest_paths.proofs.search.find_deficit.Goals.{After-come_along}
 
-pub loop-crossing-init : goal.loop-crossing-init
-loop-crossing-init c = record {
-  certified = c.requires.certified;
-  search = search_first _ _ _ _ (search rules) c.begin_in_excess.ensures.flat;
-  from = c.begin_in_excess.ensures.from;
-  fallen = record {
-    fallen = pos 0;
-    not_below_0 = omega (arith, ints);
-    enough = omega (arith, ints);
-    at_least = λ v. omega (arith, ints, c.requires.in_range.at_least v);
-    at_open = λ v is_open. c.requires.in_range.at_least v;
-    at_reached = λ v reached. omega (arith, ints, c.begin_in_excess.ensures.flat v, c.requires.certified.potentials.at_most_0 v);
-  };
-}
-
-pub shift_apart-requires-clause-fall : goal.shift_apart-requires-clause-fall
-shift_apart-requires-clause-fall c =
-    let inv = c.loop-crossing.invariant in
-    let cost = cost_in _ _ _ _ inv.certified inv.search c.in-Some.crossing c.in-Some.ensures in
-    let fits : SFits w64 c.in-Some.crossing.cost = omega (arith, ints, cost) in
-    rw (to_z-of_z w64 c.in-Some.crossing.cost fits) cost
-
--- what stands after a step
-record IsStepped (c : After-come_along-node) : Type 0 where
-  certified : IsReducedCostOptimal c.args.graph.now.rows c.args.flow.now c.shift_apart.new.potentials
-  search : IsSearch c.args.graph.now.rows c.args.flow.now c.shift_apart.new.potentials c.come_along-node.new.predecessors
-  fallen : HaveFallen c.shift_apart.new.potentials c.come_along-node.new.predecessors
-  from : pos 0 ≤ℤ number_at c.args.excess.now c.come_along-node.result → IsFromExcess c.args.excess.now c.come_along-node.new.predecessors
-  found : number_at c.args.excess.now c.come_along-node.result <ℤ pos 0 → HasFound c.args.graph.now.rows c.args.flow.now c.shift_apart.new.potentials c.args.excess.now c.come_along-node.new.predecessors c.come_along-node.result
-
-is_stepped : (c : After-come_along-node) → IsStepped c
-is_stepped c =
-    let inv = c.loop-crossing.invariant in
+pub loop-node-init : goal.loop-node-init
+loop-node-init c =
     let rows = c.args.graph.now.rows in
-    let x = c.args.flow.now in
-    let p = c.loop-crossing.potentials in
-    let q = c.shift_apart.new.potentials in
-    let t = c.loop-crossing.predecessors in
-    let e = c.args.excess.now in
-    let at = c.in-Some.crossing in
-    let start = start_at rows (at.end / 2) (end_way at.end) in
-    let node = end_at rows (at.end / 2) (end_way at.end) in
-    let came : Predecessor = record { end = at.end; rank = rank_at t start + 1; is_open = false } in
-    let cost = cost_in rows x p t inv.certified inv.search at c.in-Some.ensures in
-    let fits : SFits w64 at.cost = omega (arith, ints, cost) in
-    let shifted : AreShifted p q t at.cost (pos 0) = subst (λ (n : ℤ). AreShifted p q t n (pos 0)) (to_z-of_z w64 at.cost fits) c.shift_apart.ensures in
-    let node_is : c.come_along-node.result ≡ node = c.come_along-node.ensures.node in
-    let after_is : c.come_along-node.new.predecessors ≡ slice_set t node came = c.come_along-node.ensures.came ∙ ap (λ (n : ℕ). slice_set t n came) node_is in
-    let searched = search_after rows x p t inv.certified inv.search at c.in-Some.ensures q at.cost (pos 0) shifted (omega (arith, ints)) in
+    let t = c.begin_in_excess.new.predecessors in
+    let sized : length t ≡ length c.args.potentials.now = search rules in
+    let as_many : length c.clear.new.self.entries ≡ length c.args.potentials.now = search rules in
     record {
-      certified = certified_fallen rows x p t inv.certified inv.search at c.in-Some.ensures q shifted inv.fallen;
-      search = subst (IsSearch rows x q) (sym after_is) searched;
-      fallen = subst (HaveFallen q) (sym after_is) (fallen_after rows x p t inv.certified inv.search at c.in-Some.ensures q shifted inv.fallen);
-      from = λ here. subst (IsFromExcess e) (sym after_is) (from_after rows x p t inv.certified inv.search at c.in-Some.ensures e inv.from (rw (← node_is) here));
-      found = λ deficit. subst (λ (n : ℕ). HasFound rows x q e c.come_along-node.new.predecessors n) (sym node_is)
-          (subst (λ (u : List Predecessor). HasFound rows x q e u node) (sym after_is)
-          (found_after rows x p t inv.certified inv.search at c.in-Some.ensures e inv.from q searched (rw (← node_is) deficit)));
+      underway = underway_first rows c.args.flow.now c.args.potentials.now t _ _ c.requires.certified sized c.begin_in_excess.ensures.flat as_many c.clear.ensures.none c.offer_from_all.ensures.grown c.offer_from_all.ensures.served;
+      along = along_first rows c.args.flow.now c.args.potentials.now t _ _ c.requires.certified sized c.begin_in_excess.ensures.flat as_many c.clear.ensures.none c.offer_from_all.ensures.grown;
+      climbing = climbing_first c.args.potentials.now t c.requires.in_range;
+      from = c.begin_in_excess.ensures.from;
     }
 
+pub offer_from_all-requires-clause-bounded : goal.offer_from_all-requires-clause-bounded
+offer_from_all-requires-clause-bounded c = record {
+  at_most = λ v. omega (arith, ints, c.requires.in_range.at_most_0 v);
+  at_least = λ v. omega (arith, ints, c.requires.in_range.at_least v);
+}
+
+-- the key, as words hold it
+key_is : (w : Waiting) (key : ℤ) → w.key ≡ key → (pos 0 ≤ℤ key) × (key ≤ℤ pos potential_floor) → to_z w64 (of_z w64 w.key) ≡ key
+key_is w key same enough =
+    let fits : SFits w64 w.key = omega (arith, ints, enough, same) in
+    to_z-of_z w64 w.key fits ∙ same
+
+enough : {key : ℤ} → (pos 0 ≤ℤ key) × (key ≤ℤ pos (2 * label_floor)) → (pos 0 ≤ℤ key) × (key ≤ℤ pos potential_floor)
+enough {key} is = (is.0, omega (arith, ints, is.1))
+
+pub raise-requires-clause-fits : goal.raise-requires-clause-fits
+raise-requires-clause-fits c =
+    let inv = c.loop-node.invariant in
+    let taken = c.in-Some.ensures.first in
+    let v = c.in-Some.node in
+    let same = ap (λ (w : Waiting). w.key) (was_waiting _ _ v _ taken c.entry-waiting.ensures) in
+    let key = key_enough _ _ _ _ _ _ _ v inv.underway taken (inv.along v taken.was) inv.climbing in
+    omega (arith, ints, key, same, inv.climbing.at_least v, inv.climbing.at_open v (inv.underway.opens v taken.was))
+
+pub come_along-requires-clause-low : goal.come_along-requires-clause-low
+come_along-requires-clause-low c =
+    let inv = c.loop-node.invariant in
+    let taken = c.in-Some.ensures.first in
+    let v = c.in-Some.node in
+    subst (λ (w : Waiting). rank_at c.loop-node.predecessors (start_at c.args.graph.now.rows (w.end / 2) (end_way w.end)) < entry_limit) (sym (was_waiting _ _ v _ taken c.entry-waiting.ensures))
+    (rank_fits _ _ _ _ _ _ _ v inv.underway taken (inv.along v taken.was))
+
+pub come_along-requires-clause-end : goal.come_along-requires-clause-end
+come_along-requires-clause-end c =
+    let inv = c.loop-node.invariant in
+    let taken = c.in-Some.ensures.first in
+    let v = c.in-Some.node in
+    subst (λ (w : Waiting). w.end / 2 < length c.args.graph.now.rows) (sym (was_waiting _ _ v _ taken c.entry-waiting.ensures)) (inv.along v taken.was).crosses.residual.is_arc
+
+-- the tables after a step
+potentials_are : (c : After-come_along) → c.raise.new.potentials ≡ slice_set c.loop-node.potentials c.in-Some.node (number_at c.loop-node.potentials c.in-Some.node +ℤ key_at c.loop-node.queue.entries c.in-Some.node)
+potentials_are c = c.raise.ensures ∙ ap (λ (w : Waiting). slice_set c.loop-node.potentials c.in-Some.node (number_at c.loop-node.potentials c.in-Some.node +ℤ w.key)) (was_waiting _ _ c.in-Some.node _ c.in-Some.ensures.first c.entry-waiting.ensures)
+
+predecessors_are : (c : After-come_along) → c.come_along.new.predecessors ≡ slice_set c.loop-node.predecessors c.in-Some.node (come_from c.args.graph.now.rows c.loop-node.predecessors (entry_at c.loop-node.queue.entries c.in-Some.node).end)
+predecessors_are c = c.come_along.ensures ∙ ap (λ (w : Waiting). slice_set c.loop-node.predecessors c.in-Some.node (come_from c.args.graph.now.rows c.loop-node.predecessors w.end)) (was_waiting _ _ c.in-Some.node _ c.in-Some.ensures.first c.entry-waiting.ensures)
+
+-- what stands after a step
+record IsStepped (c : After-come_along) : Type 0 where
+  flow : IsPseudoflow (length c.raise.new.potentials) c.args.graph.now.rows c.args.flow.now
+  search : IsSearch c.args.graph.now.rows c.args.flow.now c.raise.new.potentials c.come_along.new.predecessors
+  none_below : NoneBelowBy c.args.graph.now.rows c.args.flow.now (risen c.raise.new.potentials c.come_along.new.predecessors (key_at c.loop-node.queue.entries c.in-Some.node))
+  climbing : IsClimbing c.raise.new.potentials c.come_along.new.predecessors (key_at c.loop-node.queue.entries c.in-Some.node)
+  enough : (pos 0 ≤ℤ key_at c.loop-node.queue.entries c.in-Some.node) × (key_at c.loop-node.queue.entries c.in-Some.node ≤ℤ pos potential_floor)
+  word : to_z w64 (of_z w64 c.entry-waiting.result.key) ≡ key_at c.loop-node.queue.entries c.in-Some.node
+
+is_stepped : (c : After-come_along) → IsStepped c
+is_stepped c =
+    let inv = c.loop-node.invariant in
+    let taken = c.in-Some.ensures.first in
+    let along = inv.along c.in-Some.node taken.was in
+    let is_enough = enough (key_enough _ _ _ _ _ _ _ _ inv.underway taken along inv.climbing) in
+    let rows = c.args.graph.now.rows in
+    let x = c.args.flow.now in
+    let key = key_at c.loop-node.queue.entries c.in-Some.node in
+    let later = later_along _ _ _ _ _ _ _ _ inv.underway taken along in
+    record {
+      flow = subst (λ (n : ℕ). IsPseudoflow n rows x) (sym c.raise.auto.potentials) inv.underway.flow;
+      search = of_tables (IsSearch rows x) (potentials_are c) (predecessors_are c) (search_along _ _ _ _ _ _ _ _ inv.underway taken along);
+      none_below = of_tables (λ (p : List ℤ) (t : List Predecessor). NoneBelowBy rows x (risen p t key)) (potentials_are c) (predecessors_are c) (none_below_after _ _ _ _ _ _ _ _ inv.underway taken _ refl later);
+      climbing = of_tables (λ (p : List ℤ) (t : List Predecessor). IsClimbing p t key) (potentials_are c) (predecessors_are c) (climbing_after _ _ _ _ _ _ _ _ inv.underway taken along inv.climbing);
+      enough = is_enough;
+      word = key_is c.entry-waiting.result key (ap (λ (w : Waiting). w.key) (was_waiting _ _ c.in-Some.node _ taken c.entry-waiting.ensures)) is_enough;
+    }
+
+pub lower_reached-requires-clause-bounded : goal.lower_reached-requires-clause-bounded
+lower_reached-requires-clause-bounded c =
+    let stepped = is_stepped (goal.at.lower_reached-requires-clause-bounded c).After-come_along in
+    bounded_climbing _ _ _ stepped.search.sized stepped.climbing
+
+pub lower_reached-requires-clause-fall : goal.lower_reached-requires-clause-fall
+lower_reached-requires-clause-fall c =
+    let stepped = is_stepped (goal.at.lower_reached-requires-clause-fall c).After-come_along in
+    subst (λ (n : ℤ). (pos 0 ≤ℤ n) × (n ≤ℤ pos potential_floor)) (sym stepped.word) stepped.enough
+
 pub returns-then-excess-node-lt0-clause-certified : goal.returns-then-excess-node-lt0-clause-certified
-returns-then-excess-node-lt0-clause-certified c = (is_stepped (goal.at.returns-then-excess-node-lt0-clause-certified c).After-come_along-node).certified
+returns-then-excess-node-lt0-clause-certified c =
+    let s = (goal.at.returns-then-excess-node-lt0-clause-certified c).After-come_along in
+    let stepped = is_stepped s in
+    let lowered : AreLowered c.raise.new.potentials c.lower_reached.new.potentials c.come_along.new.predecessors (key_at c.loop-node.queue.entries c.in-Some.node) = subst (AreLowered c.raise.new.potentials c.lower_reached.new.potentials c.come_along.new.predecessors) stepped.word c.lower_reached.ensures in
+    certified_lowered _ _ _ _ _ stepped.flow stepped.search stepped.none_below stepped.climbing c.lower_reached.new.potentials lowered
 
 pub returns-then-excess-node-lt0-clause-found : goal.returns-then-excess-node-lt0-clause-found
-returns-then-excess-node-lt0-clause-found c = (is_stepped (goal.at.returns-then-excess-node-lt0-clause-found c).After-come_along-node).found (search rules)
+returns-then-excess-node-lt0-clause-found c =
+    let s = (goal.at.returns-then-excess-node-lt0-clause-found c).After-come_along in
+    let taken = c.in-Some.ensures.first in
+    let along = c.loop-node.invariant.along c.in-Some.node taken.was in
+    let inv = c.loop-node.invariant in
+    let rows = c.args.graph.now.rows in
+    let x = c.args.flow.now in
+    let q = c.lower_reached.new.potentials in
+    let stepped = is_stepped s in
+    let lowered : AreLowered c.raise.new.potentials q c.come_along.new.predecessors (key_at c.loop-node.queue.entries c.in-Some.node) = subst (AreLowered c.raise.new.potentials q c.come_along.new.predecessors) stepped.word c.lower_reached.ensures in
+    let searched = search_lowered _ _ _ _ _ stepped.flow stepped.search stepped.none_below stepped.climbing q lowered in
+    let deficit : number_at c.args.excess.now c.in-Some.node <ℤ pos 0 = search rules in
+    subst (λ (t : List Predecessor). HasFound rows x q c.args.excess.now t c.in-Some.node) (sym (predecessors_are s))
+    (found_after rows c.args.excess.now c.loop-node.predecessors c.in-Some.node _ (node_in _ _ _ _ _ _ _ _ inv.underway taken) (inv.underway.opens c.in-Some.node taken.was) inv.from x q (subst (IsSearch rows x q) (predecessors_are s) searched) deficit)
 
-pub loop-crossing-preserved : goal.loop-crossing-preserved
-loop-crossing-preserved c =
-    let stepped = is_stepped (goal.at.loop-crossing-preserved c).After-come_along-node in
+pub offer_from-requires-clause-bounded : goal.offer_from-requires-clause-bounded
+offer_from-requires-clause-bounded c =
+    let stepped = is_stepped (goal.at.offer_from-requires-clause-bounded c).After-come_along in
+    bounded_climbing _ _ _ stepped.search.sized stepped.climbing
+
+pub offer_from-requires-clause-flow : goal.offer_from-requires-clause-flow
+offer_from-requires-clause-flow c = (is_stepped (goal.at.offer_from-requires-clause-flow c).After-come_along).flow
+
+pub loop-node-smaller : goal.loop-node-smaller
+loop-node-smaller c =
+    let s = (goal.at.loop-node-smaller c).After-come_along in
+    let taken = c.in-Some.ensures.first in
+    let along = c.loop-node.invariant.along c.in-Some.node taken.was in
+    let inv = c.loop-node.invariant in
+    let later = later_along _ _ _ _ _ _ _ _ inv.underway taken along in
+    let less = fewer _ _ _ _ _ _ _ _ inv.underway taken (come_from c.args.graph.now.rows c.loop-node.predecessors (entry_at c.loop-node.queue.entries c.in-Some.node).end) refl later in
+    omega (arith, less, ap open_count (predecessors_are s))
+
+pub loop-node-preserved : goal.loop-node-preserved
+loop-node-preserved c =
+    let here : pos 0 ≤ℤ number_at c.args.excess.now c.in-Some.node = search rules in
+    let s = (goal.at.loop-node-preserved c).After-come_along in
+    let taken = c.in-Some.ensures.first in
+    let along = c.loop-node.invariant.along c.in-Some.node taken.was in
+    let inv = c.loop-node.invariant in
+    let rows = c.args.graph.now.rows in
+    let x = c.args.flow.now in
+    let r = c.take_first.new.self in
+    let queue = c.offer_from.new.queue in
+    let v = c.in-Some.node in
+    let later = later_along _ _ _ _ _ _ _ _ inv.underway taken along in
+    let grown = of_tables (λ (p : List ℤ) (t : List Predecessor). HaveJoined rows x p t r queue) (sym (potentials_are s)) (sym (predecessors_are s)) c.offer_from.ensures.grown in
+    let served = of_tables (λ (p : List ℤ) (t : List Predecessor). AreServedFrom rows x p t queue v) (sym (potentials_are s)) (sym (predecessors_are s)) c.offer_from.ensures.served in
+    let searched = search_along _ _ _ _ _ _ _ _ inv.underway taken along in
     record {
-      certified = stepped.certified;
-      search = stepped.search;
-      from = stepped.from (search rules);
-      fallen = stepped.fallen;
+      underway = subst (IsUnderway rows x c.raise.new.potentials c.come_along.new.predecessors queue) (sym (is_stepped s).word)
+          (of_tables (λ (p : List ℤ) (t : List Predecessor). IsUnderway rows x p t queue (key_at c.loop-node.queue.entries v)) (potentials_are s) (predecessors_are s) (underway_after _ _ _ _ _ _ _ _ inv.underway taken _ refl later searched queue grown served));
+      along = of_tables (λ (p : List ℤ) (t : List Predecessor). AreAlong rows x p t queue) (potentials_are s) (predecessors_are s) (along_after _ _ _ _ _ _ _ _ inv.underway taken _ refl later searched queue grown served inv.along);
+      climbing = subst (IsClimbing c.raise.new.potentials c.come_along.new.predecessors) (sym (is_stepped s).word) (is_stepped s).climbing;
+      from = subst (IsFromExcess c.args.excess.now) (sym (predecessors_are s)) (from_after rows c.args.excess.now c.loop-node.predecessors v _ (node_in _ _ _ _ _ _ _ _ inv.underway taken) (inv.underway.opens v taken.was) inv.from here);
+    }
+
+pub returns-clause-certified : goal.returns-clause-certified
+returns-clause-certified c =
+    let inv = c.loop-node.invariant in
+    certified_lowered _ _ _ _ _ inv.underway.flow inv.underway.search inv.underway.none_below inv.climbing _ c.lower_reached-2.ensures
+
+pub returns-clause-found : goal.returns-clause-found
+returns-clause-found c =
+    let inv = c.loop-node.invariant in
+    record {
+      sized = omega (arith, inv.underway.search.sized, c.loop-node.auto.potentials, c.requires.excess_in);
+      from = inv.from;
+      none_crosses = λ k way at. c.in_default.ensures.first _ (inv.underway.served k way at).0;
     }

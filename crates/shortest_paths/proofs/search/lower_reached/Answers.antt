@@ -3,8 +3,8 @@ use Rattle.std.proofs.lemmas.Bool.{cases_eq}
 use Rattle.std.proofs.lemmas.List.{get_or-set_other, get_or-set_same}
 use Rattle.residual_graph.specs.Residual.{number_at}
 use Rattle.shortest_paths.specs.Predecessor.{predecessor_at}
-use Rattle.shortest_paths.specs.Search.{shifted_by}
-use Rattle.shortest_paths.proofs.search.shift_apart.Goals as goal
+use Rattle.shortest_paths.specs.Search.{lowered_by}
+use Rattle.shortest_paths.proofs.search.lower_reached.Goals as goal
 
 pub loop-v-preserved : goal.loop-v-preserved
 loop-v-preserved c =
@@ -13,13 +13,12 @@ loop-v-preserved c =
     let v = c.loop-v.v in
     let t = c.args.predecessors.now in
     let fall = to_z w64 (of_z w64 c.args.fall) in
-    let rise = to_z w64 (of_z w64 c.args.rise) in
-    let value = to_z w64 (of_z w64 c.shifted.result) in
+    let value = to_z w64 (of_z w64 c.lowered.result) in
     let v_in : v < length q = omega arith in
-    let value_is : value ≡ shifted_by (predecessor_at t v).is_open (number_at p v) fall rise = search rules in
+    let value_is : value ≡ lowered_by (predecessor_at t v).is_open (number_at p v) fall = search rules in
     record {
       done = λ w lt. (elim (cases_eq w v) [
-        | inl same ↦ subst (λ i. number_at (slice_set q v value) i ≡ shifted_by (predecessor_at t i).is_open (number_at p i) fall rise) (sym same) (get_or-set_same q v value (pos 0) v_in ∙ value_is)
+        | inl same ↦ subst (λ i. number_at (slice_set q v value) i ≡ lowered_by (predecessor_at t i).is_open (number_at p i) fall) (sym same) (get_or-set_same q v value (pos 0) v_in ∙ value_is)
         | inr other ↦ get_or-set_other q v w value (pos 0) other ∙ c.loop-v.invariant.done w (omega (arith, lt, other))
       ]);
       rest = λ w le. get_or-set_other q v w value (pos 0) (λ e. omega (arith, le, e)) ∙ c.loop-v.invariant.rest w (omega (arith, le));
