@@ -3,12 +3,12 @@
 from __future__ import annotations
 
 from dataclasses import replace
-from typing import TYPE_CHECKING, Any, Dict, Iterable, List, NamedTuple, Tuple
+from typing import TYPE_CHECKING, Any, Dict, Iterable, List, NamedTuple
 
 from .errors import DoesNotFit
 from .figures import Bounds, is_large
 from .formats import ArcRow
-from .lines import ONE_LINE, Form, supply_parts
+from .lines import Form, supply_parts
 from .meaning import check_arc, check_node
 from .problem import Arc
 from .room import find_room, room_of_the_next

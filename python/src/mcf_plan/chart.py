@@ -6,7 +6,7 @@ import html
 import math
 from decimal import Decimal
 from fractions import Fraction
-from typing import Iterator, List, NamedTuple, Optional, Sequence, Tuple
+from typing import Iterator, List, NamedTuple, Optional, Sequence
 
 from .problem import WIDE, ZERO, plain
 from .report import FLOW, FULL, HALO, INK, QUIET

@@ -15,10 +15,10 @@ from typing import Callable, Dict, List, NoReturn, Optional, Tuple
 from . import __version__
 from .conversation import Conversation
 from .deadline import alarm, lift_alarm
-from .dimacs import find_answer_fault, find_fault, parse_answer, parse_problem
+from .dimacs import find_answer_fault, find_fault, parse_problem
 from .explain import explain
 from .formats import as_str
-from .plan import Disagreement, Infeasible, Plan
+from .plan import Disagreement, Plan
 from .printing import of_system, say, tell, visible
 from .problem import Problem, exact, plain
 from .program import Program, ProgramFailed, Refused, TimeLimit

@@ -3,10 +3,10 @@
 from __future__ import annotations
 
 from decimal import Decimal
-from typing import TYPE_CHECKING, Iterable, List, Optional
+from typing import TYPE_CHECKING, List, Optional
 
 from .plan import Crossing, RestArc
-from .problem import ZERO, Arc, plain, total_of
+from .problem import Arc, plain, total_of
 
 if TYPE_CHECKING:
     from .plan import Infeasible

@@ -3,7 +3,7 @@
 from __future__ import annotations
 
 from decimal import Decimal
-from typing import List, Optional, Tuple
+from typing import Optional, Tuple
 
 from .errors import BeyondLimits, DoesNotFit
 from .formats import MOST_ARCS, MOST_COST, MOST_FLOW, MOST_NODES

@@ -7,14 +7,13 @@ A session of the program that was interrupted is started again when it is wanted
 
 from __future__ import annotations
 
-import re
 from contextlib import contextmanager
 from dataclasses import dataclass, field
 from decimal import Decimal
 from typing import TYPE_CHECKING, Any, Dict, Iterator, List, NamedTuple, Optional, Tuple, Union
 
 from .deadline import Deadline
-from .dimacs import Answer, parse_answer
+from .dimacs import parse_answer
 from .formats import MOST_ARCS, MOST_EDITS, REFUSALS
 from .plan import Infeasible, Plan
 from .problem import ZERO, Arc, ArcKey, Number, Problem, capacity, exact, plain
