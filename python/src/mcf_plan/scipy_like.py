@@ -12,6 +12,7 @@ floats by their `repr`.
 
 from __future__ import annotations
 
+import sys
 from typing import Any, List, Optional, Tuple
 
 from .plan import Infeasible, Plan
@@ -20,6 +21,9 @@ from .program import Program
 
 METHODS = ("dinic", "edmonds_karp")
 """scipy's methods of `maximum_flow`. Which of them is asked for makes no difference here."""
+
+SCIPYS_OWN = getattr(sys.modules.get("scipy.sparse.csgraph"), "maximum_flow", None)
+"""scipy's own `maximum_flow`, if it was there before this module: who puts ours in its place has imported both."""
 
 
 def linear_sum_assignment(
@@ -128,7 +132,7 @@ def result_type() -> Any:
     from scipy.sparse import csr_matrix
     from scipy.sparse.csgraph import maximum_flow as answered
 
-    return type(answered(csr_matrix(np.zeros((2, 2), dtype=np.int32)), 0, 1))
+    return type((SCIPYS_OWN or answered)(csr_matrix(np.zeros((2, 2), dtype=np.int32)), 0, 1))
 
 
 def check_graph(csgraph: Any, source: int, sink: int, method: str) -> None:
