@@ -171,8 +171,8 @@ impl<T: LineTaker> TextReader<T> {
     }
 }
 
-/// A law, with nothing to run, for any rule and any end of the lines: a fault is decided by a text exactly where each
-/// text is read as it that goes on from there, and none is by the empty text. A line's length is no matter of the two.
+/// A law, with nothing to run, for any rule and any end of the lines that never answer that a line is too long: a text
+/// decides a fault exactly if every text that continues it is read as that fault. The empty text decides none.
 pub fn decided_for_any_rule<A>()
     ensures nothing { (rule : Rule) → decided rule [] ≡ None }
     ensures always { (rule : Rule) (ends : List Line → Result A TextFault) (text more : List ℕ) (fault : TextFault)

@@ -80,8 +80,8 @@ impl AnswerReader {
     }
 }
 
-/// A law, with nothing to run: a fault is decided by a text exactly where each text has it that goes on from there, as
-/// an answer to a problem with so many nodes and arcs, and none is by the empty text.
+/// A law, with nothing to run: a text decides a fault, as an answer to a problem with so many nodes and arcs, exactly
+/// if every text that continues it has that fault. The empty text decides none.
 pub fn answer_decided_for_all()
     ensures nothing { (nodes arcs : ℕ) → decided (answer_rule nodes arcs) [] ≡ None }
     ensures always { (nodes arcs : ℕ) (text more : List ℕ) (fault : TextFault)

@@ -72,8 +72,8 @@ impl ProblemReader {
     }
 }
 
-/// A law, with nothing to run: a fault is decided by a text exactly where each text has it that goes on from there, and
-/// none is by the empty text.
+/// A law, with nothing to run: a text decides a fault exactly if every text that continues it has that fault. The empty
+/// text decides none.
 pub fn decided_for_all()
     ensures nothing { decided problem_rule [] ≡ None }
     ensures always { (text more : List ℕ) (fault : TextFault)

@@ -30,7 +30,8 @@ impl Plan {
 
 /// An allocator that serves as many growths as it was told, refuses as many after those, and then serves all.
 ///
-/// It is lent, as `&Refusing<B>`, so that a test can give it another plan while collections hold it.
+/// It is lent, as `&Refusing<B>`, so that a test can give it another plan while collections hold it. Its methods have
+/// no clause of the plan, since no clause can say what a cell holds.
 #[derive(Drop)]
 pub struct Refusing<B: Allocator> {
     inner: B,
