@@ -8,8 +8,8 @@ ghost use Rattle.augmentation.specs.Attempt.{IsAttemptFor};
 
 use crate::draft::Draft;
 use crate::excess::Excess;
+use containers::both;
 use proposals::{Aim, Proposals, Wanted};
-use relaxation::both;
 use residual_graph::Graph;
 use std::alloc::{AllocError, Global};
 

@@ -6,7 +6,7 @@ ghost use Rattle.augmentation.specs.Exchange.{IsJournalFor};
 ghost use Rattle.tracked.specs.Journal.{IsJournal};
 
 use crate::order::Order;
-use relaxation::both;
+use containers::both;
 use std::alloc::{AllocError, Global};
 use tracked::Journal;
 

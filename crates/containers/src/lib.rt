@@ -1,6 +1,16 @@
-//! Containers of nodes, for tables with one entry a node.
+//! Containers of nodes and of other places of tables, and tables that are made together.
 #![tactic(auto)]
 
+mod heap;
+mod nodes;
+mod noted;
+mod pairs;
+mod places;
 mod queue;
 
+pub use heap::{Entry, Heap};
+pub use nodes::Nodes;
+pub use noted::Noted;
+pub use pairs::both;
+pub use places::Places;
 pub use queue::{Queue, Waiting};

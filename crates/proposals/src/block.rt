@@ -6,7 +6,8 @@ use crate::look::Step;
 use crate::record::State;
 use crate::records::Records;
 use crate::search::Search;
-use relaxation::{Nodes, Proposal, seen};
+use containers::Nodes;
+use relaxation::{Proposal, seen};
 
 impl Search {
     /// Lowers the potentials of the nodes that were settled, so that the paths to them are tight, and pushes from nodes in

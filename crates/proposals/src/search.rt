@@ -6,10 +6,11 @@ ghost use Rattle.relaxation.specs.Links.{LeadTo};
 use crate::record::State;
 use crate::records::Records;
 use crate::walk::Walk;
-use relaxation::{Link, Nodes, Proposal, both, seen};
+use containers::{Heap, Nodes, both};
+use relaxation::{Link, Proposal, seen};
 use std::alloc::{AllocError, Global};
 use std::marker::Model;
-use two_sided::{Heap, NO_PLACE};
+use two_sided::NO_PLACE;
 
 /// By so much further a path reaches over an arc that searches do not use: further than any that is known. Added to its
 /// length it takes the place of a test, which processors often foretell wrongly: with the test, proposals of plans and

@@ -5,8 +5,9 @@ ghost use Rattle.std.specs.Prelude.{◌≡◌, ◌<◌, ◌^◌, ◌*◌, IfOk, 
 use crate::search::Search;
 use crate::solving::{Fuel, solve, solve_greatest};
 use crate::wanted::{Change, Wanted};
+use containers::{Noted, both};
 use dimacs_text::ArcRow;
-use relaxation::{Arc, Noted, Proposal, Ring, Sets, both};
+use relaxation::{Arc, Proposal, Ring, Sets};
 use std::alloc::{AllocError, Global};
 use std::marker::Model;
 use two_sided::{Between, Halt, Readings};

@@ -1,16 +1,16 @@
 //! A step at a set of nodes.
 
 ghost use Rattle.std.specs.Prelude.{◌≡◌, ◌<◌, ◌^◌, ℕ, IfSome, length};
-ghost use Rattle.relaxation.specs.Nodes.{AreNodes};
+ghost use Rattle.containers.specs.Nodes.{AreNodes};
 ghost use Rattle.relaxation.specs.Grow.{MetIn};
 
 use crate::candidates::{Candidate, Candidates};
-use crate::places::Places;
 use crate::proposal::Proposal;
 use crate::reach::Reach;
 use crate::ring::Ring;
 use crate::sets::Sets;
 use crate::step::{fill_below, wake};
+use containers::Places;
 
 /// Why a set grows no more.
 enum Growth {

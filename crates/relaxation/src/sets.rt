@@ -3,8 +3,8 @@
 ghost use Rattle.std.specs.Prelude.{◌≡◌, ◌<◌, ◌^◌, IfOk};
 
 use crate::candidates::Candidates;
-use crate::places::Places;
 use crate::reach::Reach;
+use containers::Places;
 use std::alloc::{AllocError, Global};
 
 /// What a step writes down of a set: the tight residual arcs out of its first node, the others, and the nodes that it

@@ -4,10 +4,10 @@ ghost use Rattle.std.specs.Prelude.{◌≡◌, ◌<◌, ◌^◌, ℕ, length};
 
 use crate::candidates::{Candidate, Candidates};
 use crate::grow::grow;
-use crate::places::Places;
 use crate::proposal::Proposal;
 use crate::ring::Ring;
 use crate::sets::Sets;
+use containers::Places;
 
 /// Brings a node towards balance that is in excess on this side. Where its tight residual arcs cannot carry what lies there,
 /// it fills them and lowers its potential to where the next ones can; then it grows a set from the node.

@@ -17,12 +17,11 @@ use crate::forest::Forest;
 use crate::links::Links;
 use crate::predecessor::Predecessor;
 use crate::rooms::Rooms;
-use relaxation::both;
+use containers::{Heap, both};
 use residual_graph::{End, Graph, Residual, ResidualArc, Walk, Way};
 use std::alloc::{AllocError, Global};
 use std::marker::Model;
 use tracked::{Touched, Tracked};
-use two_sided::Heap;
 
 /// The label of a node that is loose: any other is lower.
 const FAR: i64 = i64::MAX;

@@ -5,7 +5,8 @@ ghost use Rattle.std.specs.Prelude.{◌≡◌, ◌<◌, ◌^◌, ℕ, IfOk, IfSo
 use crate::free::FreeEnds;
 use crate::front::{Front, Meeting};
 use crate::length::FAR;
-use relaxation::{Nodes, Noted, Places, Proposal, both};
+use containers::{Nodes, Noted, Places, both};
+use relaxation::Proposal;
 use std::alloc::{AllocError, Global};
 use std::marker::Model;
 

@@ -5,10 +5,10 @@ ghost use Rattle.relaxation.specs.Limits.{IsWithin, rest_limit};
 ghost use Rattle.two_sided.specs.Keys.{key_limit};
 
 use crate::free::{FreeEnd, FreeEnds};
-use crate::heap::Heap;
 use crate::late::Late;
 use crate::length::{FAR, NO_PLACE};
-use relaxation::{Nodes, Places, Proposal, both};
+use containers::{Heap, Nodes, Places, both};
+use relaxation::Proposal;
 use std::alloc::{AllocError, Global};
 use std::marker::Model;
 

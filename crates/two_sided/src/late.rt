@@ -1,10 +1,9 @@
 //! Nodes that are looked at late, as a rule never.
 
 ghost use Rattle.std.specs.Prelude.{◌≡◌, ◌<◌, ◌^◌, IfOk, IfSome, IsTrue};
-ghost use Rattle.two_sided.specs.Entries.{AreEntries};
+ghost use Rattle.containers.specs.Entries.{AreEntries};
 
-use crate::heap::{Entry, Heap};
-use relaxation::both;
+use containers::{Entry, Heap, both};
 use std::alloc::{AllocError, Global};
 use std::marker::Model;
 
@@ -20,7 +19,7 @@ pub(crate) struct Late {
 
 impl Model for Late {
     ghost use Rattle.std.specs.Prelude.{ℕ};
-    ghost use Rattle.two_sided.specs.Entries.{AreEntries};
+    ghost use Rattle.containers.specs.Entries.{AreEntries};
 
     ghost Value = { ℕ };
 

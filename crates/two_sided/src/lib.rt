@@ -7,10 +7,8 @@
 mod between;
 mod free;
 mod front;
-mod heap;
 mod late;
 mod length;
 
 pub use between::{Between, Halt, Readings};
-pub use heap::Heap;
 pub use length::{FAR, NO_PLACE};
