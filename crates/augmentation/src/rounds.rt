@@ -1,6 +1,6 @@
 //! Searches and pushes in turn, until no node in excess reaches a node in deficit.
 
-ghost use Rattle.std.specs.Prelude.{◌≡◌, length, MatchOption};
+ghost use Rattle.std.specs.Prelude.{◌≡◌, IsTrue, length, MatchOption};
 ghost use Rattle.augmentation.specs.Cut.{IsParted};
 ghost use Rattle.augmentation.specs.Pseudoflow.{IsCertifiedPseudoflow, IsReady};
 ghost use Rattle.augmentation.specs.Push.{ArePushes};
@@ -11,7 +11,7 @@ use crate::augment::augment;
 use crate::excess::Excess;
 use crate::scratch::Scratch;
 use residual_graph::Graph;
-use shortest_paths::{find_deficit, search_labels};
+use shortest_paths::find_deficit;
 use tracked::Tracked;
 
 /// Searches from all nodes in excess for a node in deficit, pushes along the path to it, and again, until no node in excess
@@ -31,12 +31,27 @@ pub fn finish(
     ensures parted { IsParted graph.now.rows flow.new.entries excess.new }
     ensures held { scratch.new.held ≡ scratch.old.held }
 {
+    if is_parted(graph, flow.entries(), excess, scratch) {
+        return 0;
+    }
     let mut pushes = 0;
     while let Some(target) = search_on(graph, flow, excess, scratch) {
         push_to(graph, flow, excess, scratch, target);
         pushes += 1;
     }
     pushes
+}
+
+/// Whether no node in excess reaches a node in deficit, by one look.
+fn is_parted(graph: &Graph, flow: &[i64], excess: &Excess, scratch: &mut Scratch) -> bool
+    requires ready { IsReady graph.now flow.now scratch.old.potentials excess.now }
+    ensures same { scratch.new ≡ record scratch.old { marks = scratch.new.marks } }
+    ensures parted { IsTrue result → IsParted graph.now.rows flow.now excess.now }
+{
+    if !excess.has_both() {
+        return true;
+    }
+    scratch.is_parted(graph, flow, excess)
 }
 
 /// Searches from the nodes in excess for a node in deficit, where there are both; nothing where no node in excess reaches a
@@ -56,9 +71,6 @@ fn search_on(
     if !excess.has_both() {
         return None;
     }
-    if scratch.is_parted(graph, flow.entries(), excess) {
-        return None;
-    }
     find_deficit(
         graph,
         flow.entries(),
@@ -69,8 +81,8 @@ fn search_on(
     )
 }
 
-/// Pushes along the path by which a search came to a node in deficit; the potentials become the greatest that certify the
-/// flow.
+/// Pushes along the path by which a search came to a node in deficit; the potentials end in the range with which a search
+/// begins.
 #[inline(never)] // a name of its own in the program: `bench/count` counts its calls
 fn push_to(
     graph: &Graph,
@@ -93,11 +105,5 @@ fn push_to(
         &scratch.predecessors,
         target,
     );
-    search_labels(
-        graph,
-        flow.entries(),
-        &mut scratch.potentials,
-        &mut scratch.predecessors,
-        &mut scratch.queue,
-    );
+    scratch.bring_in_range(graph, flow.entries());
 }

@@ -6,11 +6,13 @@ ghost use Rattle.residual_graph.specs.Limits.{row_limit};
 ghost use Rattle.residual_graph.specs.Residual.{IsPseudoflow, IsReducedCostOptimal};
 ghost use Rattle.residual_graph.specs.declared.side.Side.TheVariants.{Ahead};
 ghost use Rattle.shortest_paths.specs.Tree.{AreArcsNoted, StaysHeld};
+ghost use Rattle.augmentation.specs.Certificate.{AreInRange};
 ghost use Rattle.augmentation.specs.Cut.{IsParted, IsSide};
 ghost use Rattle.augmentation.specs.Held.{IsHeldIn};
 ghost use Rattle.augmentation.specs.Settle.{AreShortest};
 
 use crate::attempt::Attempt;
+use crate::certificate::are_in_range;
 use crate::excess::Excess;
 use crate::marked::Marked;
 use crate::potentials::renew;
@@ -190,6 +192,28 @@ impl Scratch {
         search_labels(
             graph,
             flow.entries(),
+            &mut self.potentials,
+            &mut self.predecessors,
+            &mut self.queue,
+        );
+    }
+
+    /// Makes potentials that certify a flow the greatest that do, where one of them left the range with which a search
+    /// begins: so seldom that no search waits for it.
+    pub(crate) fn bring_in_range(&mut self, graph: &Graph, flow: &[i64])
+        requires graph { HasEntries (length self.old.potentials) graph.now }
+        requires certified { IsReducedCostOptimal graph.now.rows flow.now self.old.potentials }
+        ensures sized { length self.new.potentials ≡ length self.old.potentials }
+        ensures held { self.new.held ≡ self.old.held }
+        ensures certified { IsReducedCostOptimal graph.now.rows flow.now self.new.potentials }
+        ensures in_range { AreInRange self.new.potentials }
+    {
+        if are_in_range(&self.potentials) {
+            return;
+        }
+        search_labels(
+            graph,
+            flow,
             &mut self.potentials,
             &mut self.predecessors,
             &mut self.queue,

@@ -1,4 +1,6 @@
-use Rattle.std.proofs.Common.{◌<◌, ◌∙◌, ◌+◌, ◌^◌, length, arith, refl, rules}
+use Rattle.std.proofs.Common.{◌<◌, ◌∙◌, ◌+◌, ◌^◌, length, arith, refl, rules, sym, subst}
+use Rattle.augmentation.specs.Pseudoflow.{IsReady}
+use Rattle.augmentation.specs.ScratchView.{ScratchView}
 use Rattle.augmentation.proofs.SettleLemmas.{ArePushes-more, ArePushes-none, left-small}
 use Rattle.tracked.proofs.TrackedLemmas.{IsWritten-same, IsWritten-trans}
 use Rattle.augmentation.proofs.rounds.finish.Goals as goal
@@ -6,7 +8,7 @@ use Rattle.augmentation.proofs.rounds.finish.Goals as goal
 pub loop-target-init : goal.loop-target-init
 loop-target-init c = record {
   flow_written = IsWritten-same _;
-  ready = c.requires.ready;
+  ready = subst (λ (s : ScratchView). IsReady c.args.graph.now c.args.flow.now.entries s.potentials c.args.excess.now) (sym c.is_parted.ensures.same) c.requires.ready;
   held = refl;
   pushed = ArePushes-none _ _ _;
 }

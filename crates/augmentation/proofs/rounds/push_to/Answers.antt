@@ -10,7 +10,7 @@ use Rattle.augmentation.specs.Push.{AreSmall, ArePushes, IsAugmented, root_to}
 use Rattle.augmentation.specs.ScratchView.{ScratchView}
 use Rattle.augmentation.proofs.SettleLemmas.{certified_after, moved_on, one_pushed, root_in_excess}
 use Rattle.augmentation.proofs.rounds.push_to.Goals as goal
-use Rattle.augmentation.proofs.rounds.push_to.Goals.{After-augment, After-search_labels}
+use Rattle.augmentation.proofs.rounds.push_to.Goals.{After-augment}
 
 pub augment-requires-clause-some_excess : goal.augment-requires-clause-some_excess
 augment-requires-clause-some_excess c =
@@ -48,17 +48,13 @@ is_pushed c =
       pushed = one_pushed rows x p e s t state.certified c.requires.found y f state.small state.excess_in step;
     }
 
-pub search_labels-requires-clause-certified : goal.search_labels-requires-clause-certified
-search_labels-requires-clause-certified c =
-    let a = (goal.at.search_labels-requires-clause-certified c).After-augment in
-    subst (λ (x : List ℤ). IsReducedCostOptimal c.args.graph.now.rows x c.deref_mut-2.result.now) (sym c.entries.ensures)
-    (subst (IsReducedCostOptimal c.args.graph.now.rows c.augment.new.flow.entries) (sym (c.deref_mut-2.ensures.value ∙ ap (λ (v : ScratchView). v.potentials) c.scratch.view_is)) (is_pushed a).certified)
+pub bring_in_range-requires-clause-certified : goal.bring_in_range-requires-clause-certified
+bring_in_range-requires-clause-certified c =
+    let a = (goal.at.bring_in_range-requires-clause-certified c).After-augment in
+    subst (λ (x : List ℤ). IsReducedCostOptimal c.args.graph.now.rows x c.args.scratch.now.potentials) (sym c.entries.ensures) (is_pushed a).certified
 
 excess_is : (c : After-augment) → (with_items c.excess.inside.entries c.augment.new.excess).items ≡ c.augment.new.excess
 excess_is c = with_items_is c.excess.inside.entries c.augment.new.excess (c.augment.auto.excess ∙ c.deref_mut.ensures.len)
-
-potentials_are : (c : After-search_labels) → (with_items c.scratch.inside.potentials c.search_labels.new.potentials).items ≡ c.search_labels.new.potentials
-potentials_are c = with_items_is c.scratch.inside.potentials c.search_labels.new.potentials (c.search_labels.auto.potentials ∙ c.deref_mut-2.ensures.len)
 
 pub invariant_of-excess : goal.invariant_of-excess
 invariant_of-excess c =
@@ -80,11 +76,10 @@ returns-clause-pushed c =
 pub returns-clause-ready : goal.returns-clause-ready
 returns-clause-ready c =
     let a = (goal.at.returns-clause-ready c).After-augment in
-    let s = (goal.at.returns-clause-ready c).After-search_labels in
-    let q = c.search_labels.new.potentials in
+    let q = c.bring_in_range.new.self.potentials in
     let pushed = is_pushed a in
-    let same : length q ≡ length c.args.scratch.now.potentials = c.search_labels.auto.potentials ∙ ap length (c.deref_mut-2.ensures.value ∙ ap (λ (v : ScratchView). v.potentials) c.scratch.view_is) in
-    let certified : IsReducedCostOptimal c.args.graph.now.rows c.augment.new.flow.entries q = subst (λ (x : List ℤ). IsReducedCostOptimal c.args.graph.now.rows x q) c.entries.ensures c.search_labels.ensures.certified in
+    let same : length q ≡ length c.args.scratch.now.potentials = c.bring_in_range.ensures.sized in
+    let certified : IsReducedCostOptimal c.args.graph.now.rows c.augment.new.flow.entries q = subst (λ (x : List ℤ). IsReducedCostOptimal c.args.graph.now.rows x q) c.entries.ensures c.bring_in_range.ensures.certified in
     let ready : IsReady c.args.graph.now c.augment.new.flow.entries q c.augment.new.excess = record {
       state = record {
         graph = subst (λ (n : ℕ). HasEntries n c.args.graph.now) (sym same) c.requires.state.graph;
@@ -92,7 +87,6 @@ returns-clause-ready c =
         excess_in = pushed.sized ∙ sym same;
         small = pushed.small;
       };
-      in_range = c.search_labels.ensures.within;
+      in_range = c.bring_in_range.ensures.in_range;
     } in
-    subst (λ (p : List ℤ). IsReady c.args.graph.now c.augment.new.flow.entries p (with_items c.excess.inside.entries c.augment.new.excess).items) (sym (potentials_are s))
-    (subst (IsReady c.args.graph.now c.augment.new.flow.entries q) (sym (excess_is a)) ready)
+    subst (IsReady c.args.graph.now c.augment.new.flow.entries q) (sym (excess_is a)) ready
