@@ -73,8 +73,9 @@ impl Attempt {
             self.proposals.forget_nodes();
             self.proposals
                 .catch_up(graph.rows(), flow, &self.wanted.changes);
+            let aim = aim_of(graph);
             self.proposals
-                .propose_near(graph.rows(), flow, excess, potentials, &[]);
+                .propose_near(graph.rows(), flow, excess, potentials, &[], aim);
             self.proposals.write(graph.rows(), flow, &mut self.wanted);
         }
     }
@@ -100,6 +101,7 @@ impl Attempt {
             excess.entries(),
             potentials,
             excess.unbalanced.places(),
+            aim_of(graph),
         );
         self.proposals
             .write_changes(graph.rows(), flow, &mut self.wanted);
@@ -143,13 +145,18 @@ impl Attempt {
         requires excess { length excess.now ≡ length potentials.now }
         ensures { IsAttemptFor (length potentials.now) self.new }
     {
-        let aim = if graph.first_row() > 0 {
-            Aim::GreatestFlow
-        } else {
-            Aim::LeastCost
-        };
+        let aim = aim_of(graph);
         self.proposals
             .propose(graph.rows(), flow, excess, potentials, aim);
         self.proposals.write(graph.rows(), flow, &mut self.wanted);
+    }
+}
+
+/// What proposals are to reach.
+fn aim_of(graph: &Graph) -> Aim {
+    if graph.first_row() > 0 {
+        Aim::GreatestFlow
+    } else {
+        Aim::LeastCost
     }
 }

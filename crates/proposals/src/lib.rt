@@ -11,6 +11,7 @@
 #![tactic(auto)]
 
 mod block;
+mod greatest;
 mod home;
 mod look;
 mod record;

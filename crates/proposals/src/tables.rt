@@ -2,8 +2,9 @@
 
 ghost use Rattle.std.specs.Prelude.{◌≡◌, ◌<◌, ◌^◌, ◌*◌, IfOk, length};
 
+use crate::greatest::{Roots, solve_from};
 use crate::search::Search;
-use crate::solving::{Fuel, solve, solve_greatest};
+use crate::solving::{Fuel, solve};
 use crate::wanted::{Change, Wanted};
 use containers::{Noted, both};
 use dimacs_text::ArcRow;
@@ -26,6 +27,11 @@ const FEWER: usize = 4;
 
 /// More arcs than one in so many are many: those that a proposal changed are not noted then.
 const MANY: usize = 16;
+
+/// A solve for least cost, most of which is relaxation that settles no node, counts as searches that settle each node once for
+/// so many nodes, at least: the more nodes there are, the more often each is gone over. With 20 times among 50,000 nodes the
+/// slowest edit of a transport took half as long again.
+const NODES_A_READING: u64 = 250;
 
 /// How the arcs of a proposal stand to those of the flow.
 #[derive(Clone, Copy, PartialEq, Eq)]
@@ -52,10 +58,12 @@ pub struct Proposals {
     standing: Standing,
     /// Of how many rows the proposal is.
     rows: usize,
-    /// The first arc in the proposal: from afar a greatest flow has no return arc.
-    first: usize,
+    /// What the return arc is to carry, where the proposal has it closed: so it has while a greatest flow is looked for.
+    returned: Option<i64>,
     /// Whether the potentials keep step too, but at the nodes that the proposal has noted.
     keeps_nodes: bool,
+    /// How often the last searches from afar settled each node.
+    settled: u64,
     /// Nothing was proposed yet.
     fresh: bool,
 }
@@ -100,8 +108,9 @@ impl Proposals {
             noted,
             standing: Standing::Apart,
             rows: 0,
-            first: 0,
+            returned: None,
             keeps_nodes: false,
+            settled: 0,
             fresh: true,
         })
     }
@@ -137,12 +146,19 @@ impl Proposals {
         self.fresh = false;
         self.standing = Standing::Apart;
         self.rows = rows.len();
-        self.first = match aim {
-            Aim::LeastCost => 0,
-            Aim::GreatestFlow => 1,
-        };
         self.proposal.load_nodes(excess, potentials);
-        load_arcs(&mut self.proposal, rows, flow, self.first);
+        load_arcs(&mut self.proposal, rows, flow);
+        self.returned = None;
+        self.solve(rows, flow, excess, aim);
+    }
+
+    /// Leads the proposal on towards the aim, and looks at all nodes for that.
+    fn solve(&mut self, rows: &[ArcRow], flow: &[i64], excess: &[i64], aim: Aim)
+        requires flow { length flow.now ≡ length rows.now }
+        requires excess { length excess.now ≡ self.old }
+        ensures { self.new ≡ self.old }
+    {
+        self.search.forget_counts();
         match aim {
             Aim::LeastCost => solve(
                 &mut self.proposal,
@@ -152,13 +168,39 @@ impl Proposals {
                 excess,
                 Fuel::USUAL,
             ),
-            Aim::GreatestFlow => solve_greatest(&mut self.proposal, &mut self.search),
+            Aim::GreatestFlow => self.solve_greatest(rows, flow),
         }
+        self.settled = self.search.counts().settled / (self.entries() as u64).max(1);
+    }
+
+    /// Leads the proposal on to a greatest flow, while the return arc, which is the first one, is closed: what goes back over
+    /// it is what then stays away from the source.
+    fn solve_greatest(&mut self, rows: &[ArcRow], flow: &[i64])
+        requires flow { length flow.now ≡ length rows.now }
+        ensures { self.new ≡ self.old }
+    {
+        let Some(row) = rows.first() else {
+            return;
+        };
+        let (source, sink) = (row.head as usize, row.tail as usize);
+        if source >= self.proposal.entries() || sink >= self.proposal.entries() {
+            return;
+        }
+        let stands = flow_of(&self.proposal, 0, row, flow[0]);
+        let _closed = self.proposal.renew(0, &closed(row, stands));
+        let roots = Roots { source, sink };
+        let more = row.cap.saturating_sub(stands);
+        solve_from(&mut self.proposal, &mut self.search, roots, more);
+        let rest = self.proposal.rest(source);
+        self.proposal.set_rest(source, 0);
+        self.proposal.set_rest(sink, 0);
+        self.returned = Some(row.cap.saturating_sub(rest));
+        self.keeps_nodes = false;
     }
 
     /// Leads a flow on to one of least cost, where it is likely that few nodes are out of balance: by searches from
-    /// both sides, and where these take long by relaxation too. The return arc is an arc as others are, so that a
-    /// greatest flow is one of least cost. Potentials are those of the last call but at the nodes that were noted since, and
+    /// both sides, and where these take long as from afar. In searches from both sides the return arc is an arc as others are,
+    /// so that a greatest flow is one of least cost; it has room there for a part of what a group may ask of it. Potentials are those of the last call but at the nodes that were noted since, and
     /// no other node than these is out of balance; where `forget_nodes` was called since, all nodes are looked at.
     #[inline(never)] // a name of its own in the program: `bench/count` counts its calls
     pub fn propose_near(
@@ -168,6 +210,7 @@ impl Proposals {
         excess: &[i64],
         potentials: &[i64],
         unbalanced: &[u32],
+        aim: Aim,
     )
         requires flow { length flow.now ≡ length rows.now }
         requires excess { length excess.now ≡ self.old }
@@ -176,28 +219,43 @@ impl Proposals {
     {
         self.fresh = false;
         self.take_over(rows, flow, excess, potentials, unbalanced);
-        if self.push_near() == Halt::Spent {
+        let halt = self.push_near(aim);
+        let lacks_room = aim == Aim::GreatestFlow && self.lacks_room(rows, flow);
+        if halt == Halt::Spent || lacks_room {
             self.standing = Standing::Apart;
-            solve(
-                &mut self.proposal,
-                &mut self.ring,
-                &mut self.sets,
-                &mut self.search,
-                excess,
-                Fuel::USUAL,
-            );
+            self.solve(rows, flow, excess, aim);
         }
     }
 
+    /// Whether the return arc, which is the first one, lacks room in the proposal that it has.
+    fn lacks_room(&self, rows: &[ArcRow], flow: &[i64]) -> bool
+        requires flow { length flow.now ≡ length rows.now }
+    {
+        let Some(row) = rows.first() else {
+            return false;
+        };
+        let Some(link) = self.proposal.link(self.proposal.tail_of(0)) else {
+            return false;
+        };
+        let stands = flow_of(&self.proposal, 0, row, flow[0]);
+        link.room::<true>() == 0 && stands < row.cap
+            || link.room::<false>() == 0 && stands > row.low
+    }
+
     /// Pushes by searches from both sides, where what these know is of the same nodes.
-    fn push_near(&mut self) -> Halt
+    fn push_near(&mut self, aim: Aim) -> Halt
         ensures { self.new ≡ self.old }
     {
         if self.between.entries() != self.proposal.entries() {
             return Halt::Spent;
         }
+        let settled = match aim {
+            Aim::LeastCost => self.settled.max(self.entries() as u64 / NODES_A_READING),
+            Aim::GreatestFlow => self.settled,
+        };
+        let readings = Readings::beside(settled);
         self.between
-            .push_between(&mut self.proposal, &mut self.noted, Readings::USUAL)
+            .push_between(&mut self.proposal, &mut self.noted, readings)
     }
 
     /// Notes that these arcs may have got another row or another flow. Many are not noted where a proposal was adopted: as a
@@ -237,8 +295,11 @@ impl Proposals {
         if self.standing != Standing::Adopted || self.rows != rows.len() {
             return;
         }
-        complete_arcs(&mut self.proposal, rows, flow, self.first);
-        self.first = 0;
+        tell_arcs(&mut self.proposal, rows.len());
+        if self.returned.is_some() && !rows.is_empty() {
+            let _opened = self.proposal.renew(0, &arc_of(&rows[0], flow[0]));
+        }
+        self.returned = None;
         self.standing = Standing::InStep;
         for change in changes {
             self.catch_up_at(rows, flow, change.arc as usize);
@@ -313,14 +374,16 @@ impl Proposals {
                 &self.noted,
                 rows,
                 flow,
+                self.rows,
             )
         {
+            self.rows = rows.len();
             self.take_over_nodes(excess, potentials, unbalanced);
         } else {
-            self.first = 0;
+            self.returned = None;
             self.proposal.tell_arcs();
             self.proposal.load_nodes(excess, potentials);
-            load_arcs(&mut self.proposal, rows, flow, 0);
+            load_arcs(&mut self.proposal, rows, flow);
             self.between.load(&self.proposal);
             self.list_roots();
             self.noted.open();
@@ -362,9 +425,11 @@ impl Proposals {
         }
     }
 
-    /// Whether the proposal keeps step with these rows, and few of them were noted.
+    /// Whether the proposal keeps step with these rows, and maybe others that followed them, and few of them were noted.
     fn keeps_step(&self, rows: &[ArcRow]) -> bool {
-        self.is_in_step(rows) && self.noted.listed().len() <= rows.len() / FEWER
+        self.standing == Standing::InStep
+            && self.rows >= rows.len()
+            && self.noted.listed().len() <= rows.len() / FEWER
     }
 
     /// Whether the proposal keeps step with these rows.
@@ -381,16 +446,18 @@ impl Proposals {
     /// Writes down which arcs are to have another flow.
     pub fn write_changes(&self, rows: &[ArcRow], flow: &[i64], wanted: &mut Wanted) {
         wanted.changes.clear();
-        if self.first > 0 && !rows.is_empty() && !flow.is_empty() {
-            let row = &rows[0];
-            if let Some(rest) = self.proposal.rests().get(row.head as usize) {
-                let _back = wanted.lead_back(flow[0], *rest, (row.low, row.cap));
+        let mut first = 0;
+        if let Some(returned) = self.returned {
+            if !rows.is_empty() && !flow.is_empty() {
+                let goal = returned.max(rows[0].low).min(rows[0].cap);
+                let _listed = wanted.list(0, flow[0], goal);
             }
+            first = 1;
         }
         let _whole = if self.is_in_step(rows) {
             write_noted(wanted, &self.proposal, rows, flow, &self.noted)
         } else {
-            write_flow(wanted, &self.proposal, rows, flow, self.first)
+            write_flow(wanted, &self.proposal, rows, flow, first)
         };
     }
 }
@@ -411,9 +478,18 @@ fn arc_of(row: &ArcRow, flow: i64) -> Arc
     }
 }
 
-/// Takes over the rows and the flow of the arcs from one on.
+/// An arc of such a row that carries so much and has no room.
+fn closed(row: &ArcRow, flow: i64) -> Arc {
+    Arc {
+        low: flow,
+        cap: flow,
+        ..arc_of(row, flow)
+    }
+}
+
+/// Takes over the rows and the flow of the arcs.
 #[inline(never)] // a name of its own in the program: `bench/count` counts its calls
-fn load_arcs(proposal: &mut Proposal, rows: &[ArcRow], flow: &[i64], first: usize)
+fn load_arcs(proposal: &mut Proposal, rows: &[ArcRow], flow: &[i64])
     requires { length flow.now ≡ length rows.now }
     ensures { proposal.new ≡ proposal.old }
 {
@@ -423,22 +499,18 @@ fn load_arcs(proposal: &mut Proposal, rows: &[ArcRow], flow: &[i64], first: usiz
     }
     proposal.make_room();
     let arcs = rows.len().min(proposal.arcs());
-    for j in first..arcs {
-        let k = arcs - 1 - (j - first);
+    for j in 0..arcs {
+        let k = arcs - 1 - j;
         proposal.enter(k, &arc_of(&rows[k], flow[k]));
     }
 }
 
-/// Enters the arcs before the first one that was loaded, and writes down of which arc each end is.
-fn complete_arcs(proposal: &mut Proposal, rows: &[ArcRow], flow: &[i64], first: usize)
-    requires { length flow.now ≡ length rows.now }
+/// Writes down of which arc each end is.
+fn tell_arcs(proposal: &mut Proposal, arcs: usize)
     ensures { proposal.new ≡ proposal.old }
 {
     proposal.tell_arcs();
-    for k in 0..first.min(rows.len()) {
-        proposal.enter(k, &arc_of(&rows[k], flow[k]));
-    }
-    for k in 0..rows.len() {
+    for k in 0..arcs {
         proposal.tell_arc(k);
     }
 }
@@ -450,13 +522,15 @@ fn note_each(noted: &mut Noted, places: &[u32]) {
     }
 }
 
-/// Takes over the rows and the flow of the noted arcs, and says whether all could be.
+/// Takes over the rows and the flow of the noted arcs, and closes those that followed these rows before, when there were so
+/// many; says whether all could be.
 fn renew_all(
     proposal: &mut Proposal,
     between: &mut Between,
     noted: &Noted,
     rows: &[ArcRow],
     flow: &[i64],
+    before: usize,
 ) -> bool
     requires { length flow.now ≡ length rows.now }
     ensures { proposal.new ≡ proposal.old }
@@ -464,14 +538,44 @@ fn renew_all(
     if between.entries() != proposal.entries() {
         return false;
     }
+    for k in rows.len()..before {
+        if !close(proposal, k) {
+            return false;
+        }
+        between.renew(proposal, k);
+    }
     for k in noted.listed() {
         let k = *k as usize;
-        if k >= rows.len() || !proposal.renew(k, &arc_of(&rows[k], flow[k])) {
+        if k >= rows.len() {
+            continue;
+        }
+        if !proposal.renew(k, &arc_of(&rows[k], flow[k])) {
             return false;
         }
         between.renew(proposal, k);
     }
     true
+}
+
+/// Closes an arc that is entered, and says whether it is: so it can stay where it is when its row is gone.
+fn close(proposal: &mut Proposal, k: usize) -> bool
+    ensures { proposal.new ≡ proposal.old }
+{
+    let Some(near) = proposal.link(proposal.tail_of(k)) else {
+        return false;
+    };
+    let Some(far) = proposal.link(near.opposite) else {
+        return false;
+    };
+    let closed = Arc {
+        tail: far.other,
+        head: near.other,
+        low: 0,
+        cap: 0,
+        cost: 0,
+        flow: 0,
+    };
+    proposal.renew(k, &closed)
 }
 
 /// The greatest of these potentials, or 0 if that is greater.

@@ -57,10 +57,4 @@ impl Wanted {
             })
             .ok()
     }
-
-    /// Wants as much less of the return arc, which is the first one, as still lies at its head.
-    pub(crate) fn lead_back(&mut self, standing: i64, rest: i64, bounds: (i64, i64)) -> Option<()> {
-        let goal = standing.saturating_sub(rest).max(bounds.0).min(bounds.1);
-        self.list(0, standing, goal)
-    }
 }

@@ -22,12 +22,15 @@ pub struct Readings {
 }
 
 impl Readings {
-    /// What served best in sessions.
-    pub const USUAL: Readings = Readings {
-        of_first: 1,
-        of_many: 9,
-        of_few: 200,
-    };
+    /// What served best in sessions. While few nodes are out of balance, searches may read as much as searches from afar that
+    /// settle each node so often: these are the other way to go on.
+    pub fn beside(settled: u64) -> Readings {
+        Readings {
+            of_first: 1,
+            of_many: 9,
+            of_few: settled.max(LEAST_OF_FEW).min(MOST_OF_FEW),
+        }
+    }
 
     /// How many ends are read at most, of so many, until one node more than these of all is in balance.
     fn most(self, ends: u64, passed: usize, roots: usize) -> u64 {
@@ -37,6 +40,16 @@ impl Readings {
             .saturating_add(each.saturating_mul(passed as u64))
     }
 }
+
+/// So often all ends are read at most while few nodes are out of balance, where a solve takes little: with 200 edits of a
+/// maximum flow took up to five times as long as to solve it anew.
+const LEAST_OF_FEW: u64 = 20;
+
+/// So often they are where it takes much.
+const MOST_OF_FEW: u64 = 200;
+
+/// To push along an arc of a path takes as long as to read so many ends.
+const READS_OF_ARC: u64 = 8;
 
 /// More nodes than these are many.
 const MANY: usize = 16;
@@ -270,9 +283,13 @@ impl Between {
         ahead.saturating_add(self.behind.settled().listed().len())
     }
 
-    /// How many ends the last search read.
+    /// How many ends the last search read, with as many for the path as these would take.
     fn reads(&self) -> u64 {
-        self.ahead.reads().saturating_add(self.behind.reads())
+        let ahead = self.path_ahead.listed().len() as u64;
+        let behind = self.path_behind.listed().len() as u64;
+        let walked = READS_OF_ARC.saturating_mul(ahead.saturating_add(behind));
+        let read = self.ahead.reads().saturating_add(self.behind.reads());
+        read.saturating_add(walked)
     }
 
     /// Lists the nodes out of balance.
@@ -351,6 +368,8 @@ impl Between {
         ensures kept { self.new ≡ self.old }
         ensures node { IfSome result (λ meeting. meeting.node < self.old) }
     {
+        self.path_ahead.clear();
+        self.path_behind.clear();
         let meeting = meet(
             &mut self.ahead,
             &mut self.behind,

@@ -3,3 +3,6 @@ use Rattle.proposals.proofs.tables.renew_all.Given as goal
 
 abbrev pub invariant-loop-k : goal.invariant-loop-k
 invariant-loop-k l = record { proposal : l.proposal ≡ l.initial.proposal; between : l.between ≡ l.initial.between }
+
+abbrev pub invariant-loop-k-2 : goal.invariant-loop-k-2
+invariant-loop-k-2 l = record { proposal : l.proposal ≡ l.initial.proposal; between : l.between ≡ l.initial.between }
