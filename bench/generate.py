@@ -2,6 +2,7 @@
 """Writes a network problem in a DIMACS format, the same for the same arguments, and with a legal flow."""
 
 import argparse
+import math
 import os
 import random
 import sys
@@ -186,6 +187,34 @@ def stairs(_, nodes, _arcs):
     return problem.lines()
 
 
+def slope(draw, nodes, _arcs):
+    """A grid whose arcs cost less than nothing and lead right or down, so that there are no circles; little is shipped."""
+    width = math.isqrt(nodes)
+    problem = MinProblem(width * width)
+    for node in range(1, width * width + 1):
+        if node % width:
+            problem.add(node, node + 1, 0, draw.randint(3, 1_000_000), -draw.randint(0, 1))
+        if node + width <= width * width:
+            problem.add(node, node + width, 0, draw.randint(3, 1_000_000), -draw.randint(0, 1))
+    problem.ship(1, width * width, 3)
+    return problem.lines()
+
+
+def stars(draw, nodes, arcs):
+    """Arcs of capacity 1 and distinct costs between two nodes, each of which has many others beside it at no cost."""
+    leaves = (nodes - 2) // 2
+    costs = list(range(1, max(2, arcs - 2 * leaves)))
+    draw.shuffle(costs)
+    problem = MinProblem(2 * leaves + 2)
+    for cost in costs:
+        problem.ship(1, 2, 1)
+        problem.add(1, 2, 0, 1, cost)
+    for leaf in range(3, leaves + 3):
+        problem.add(1, leaf, 0, len(costs), 0)
+        problem.add(leaf + leaves, 2, 0, len(costs), 0)
+    return problem.lines()
+
+
 def max_lines(nodes, source, sink, arcs):
     """The lines of a maximum flow problem."""
     yield f"p max {nodes} {len(arcs)}"
@@ -227,6 +256,9 @@ SETS = {
         "ladder-turned": turned(ladder),
         "stairs": stairs,
         "stairs-turned": turned(stairs),
+        "slope": slope,
+        "stars": stars,
+        "stars-turned": turned(stars),
     },
 }
 SHAPES = {name: shape for shapes in SETS.values() for name, shape in shapes.items()}
