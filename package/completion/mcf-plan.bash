@@ -38,7 +38,7 @@ _mcf_plan() {
     check) words="-h --help --from" ;;
     faults) words="-h --help" ;;
     convert) words="$tables -o --output" ;;
-    ranges) words="$tables --only --supplies --beside" ;;
+    ranges) words="$tables --only --supplies --beside --json" ;;
     sweep)
         words="$tables --cap --low --cost --supply --beside --from --to --step --values --chart --table --json"
         ;;

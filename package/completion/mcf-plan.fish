@@ -29,7 +29,7 @@ complete -c mcf-plan -n $tables -l time-limit -x -d "How long to wait, in second
 complete -c mcf-plan -n "__fish_seen_subcommand_from plan" -l report -r -F -d "Write a report with a picture"
 complete -c mcf-plan -n "__fish_seen_subcommand_from plan" -l picture -r -F -d "Write the picture alone"
 complete -c mcf-plan -n "__fish_seen_subcommand_from plan sweep" -l table -r -F -d "Write a table"
-complete -c mcf-plan -n "__fish_seen_subcommand_from plan sweep" -l json -d "Print it as JSON"
+complete -c mcf-plan -n "__fish_seen_subcommand_from plan ranges sweep" -l json -d "Print it as JSON"
 complete -c mcf-plan -n "__fish_seen_subcommand_from plan board" -l title -x -d "The title"
 complete -c mcf-plan -n "__fish_seen_subcommand_from what-if" -l commands -r -F -d "Read commands from a file"
 complete -c mcf-plan -n "__fish_seen_subcommand_from board" -l port -x -d "The port"

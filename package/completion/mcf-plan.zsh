@@ -51,7 +51,8 @@ _mcf-plan() {
                 convert) _arguments $tables {-o,--output}'[write to a file]:file:_files' ;;
                 ranges)
                     _arguments $tables '*--only[tell of this arc alone]:arc:' \
-                        '--supplies[tell of nodes in place of arcs]' '--beside[which node changes the other way]:node:'
+                        '--supplies[tell of nodes in place of arcs]' '--beside[which node changes the other way]:node:' \
+                        '--json[print it as JSON]'
                     ;;
                 sweep)
                     _arguments $tables '--cap[the capacity of an arc]:arc:' '--low[the lower bound of an arc]:arc:' \

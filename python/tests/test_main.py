@@ -200,6 +200,31 @@ class Command(unittest.TestCase):
         out, _ = self.run_it("ranges", short, status=1)
         self.assertIn("There is no plan", out)
 
+    def test_ranges_as_json(self):
+        """The same figures as in the tables, with what has no meaning in a kind left out."""
+        told = json.loads(self.run_it("ranges", self.nodes, self.arcs, "--only", "road", "--json")[0])
+        self.assertEqual((told["kind"], told["feasible"]), ("min", True))
+        (road,) = told["arcs"]
+        self.assertEqual(list(road.values())[:5], ["Kiel", "Ulm", "road", "2", "2.75"])
+        self.assertEqual([road[end] for end in ("unit_cost", "least_cost", "greatest_cost")], ["1.25", None, "4"])
+        self.assertEqual([road[end] for end in ("capacity", "least_capacity", "greatest_capacity")], ["2", "2", "2"])
+        told = json.loads(self.run_it("ranges", self.nodes, self.arcs, "--supplies", "--beside", "Kiel", "--json")[0])
+        self.assertEqual([told["nodes"][0][field] for field in ("node", "one_more_costs")], ["Kiel", "0"])
+        self.assertNotIn("arcs", told)
+        pairs = self.file("pairs.csv", "from,to,cost\nAnn,early,3\nBob,early,2\nBob,late,9\n")
+        told = json.loads(self.run_it("ranges", pairs, "--kind", "asn", "--json")[0])
+        self.assertEqual(
+            told["arcs"][1],
+            {"from": "Bob", "to": "early", "name": None, "flow": "0"}
+            | {"unit_cost": "2", "least_cost": None, "greatest_cost": None},
+        )
+        pipes = self.file("pipes.csv", "from,to,capacity\na,b,1.5\nb,c,4\n")
+        told = json.loads(self.run_it("ranges", pipes, "--kind", "max", "--source", "a", "--sink", "c", "--json")[0])
+        self.assertEqual((told["cost"], told["arcs"][0]["one_more_adds"]), ("1.5", "1"))
+        short = self.file("short.min", "p min 2 1\nn 1 5\nn 2 -5\na 1 2 0 3 1\n")
+        told = json.loads(self.run_it("ranges", short, "--json", status=1)[0])
+        self.assertEqual((told["feasible"], told["shortage"]), (False, "2"))
+
     def test_sweep(self):
         folder = Path(self.folder.name)
         chart, table = str(folder / "chart.svg"), str(folder / "sweep.csv")

@@ -21,6 +21,7 @@ from mcf_plan import (  # noqa: E402
     Problem,
     Session,
     Unbounded,
+    around,
     detours,
     ranging,
     residual,
@@ -251,6 +252,51 @@ class Sensitivity(unittest.TestCase):
         finally:
             detours.LEAST_BALL, detours.MOST_AHEAD = before
 
+    def test_free_arcs_together(self) -> None:
+        """The same where the ways around all free arcs of a tree are looked for together, and where this ends early."""
+        draws = random.Random(13)
+        before = ranging.MANY, around.AT_ONCE, around.MOST_STATES
+        try:
+            for case in range(4 * DRAWN):
+                ranging.MANY, around.AT_ONCE = draws.choice([1, 1, 2, 3]), draws.choice([1, 2, 16])
+                around.MOST_STATES = draws.choice([1, 2, 100, 100])
+                problem, surplus = of_any_kind(draws, draws.choice([0, 0, 3, 4, 5]))
+                self.compare(problem, surplus)
+        finally:
+            ranging.MANY, around.AT_ONCE, around.MOST_STATES = before
+
+    def test_large_tree(self) -> None:
+        """A network with large trees of free arcs: their ways around found together are those found one by one."""
+        draws = random.Random(14)
+        decided = none = 0
+        for size in (20, 60, 150):
+            problem = Problem()
+            names = [f"n{number}" for number in range(size)]
+            for name in names:
+                problem.add_node(name)
+            for _ in range(3 * size):
+                tail, head = draws.sample(names, 2)
+                arc = problem.arcs[problem.add_arc(tail, head, cap=draws.randint(2, 9), cost=draws.randint(1, 30))]
+                flow = draws.randint(0, int(arc.cap or 0)) if draws.random() < 0.3 else 0
+                problem.nodes[tail] += flow
+                problem.nodes[head] -= flow
+            plan = problem.solve()
+            assert isinstance(plan, Plan)
+            trees = Trees(Residual(plan))
+            forest, ways = trees.forest, detours.Around(trees)
+            for begin, end in forest.span:
+                nodes = [node for node in forest.order[begin:end] if forest.parent[node] >= 0]
+                for is_out in (True, False) if nodes else ():
+                    one_by_one = {node: ways.detour(node, is_out) for node in nodes}
+                    self.assertEqual(around.Search(ways, nodes, is_out).run(), one_by_one)
+                    chosen = draws.sample(nodes, draws.randint(1, len(nodes)))
+                    told = around.Search(ways, chosen, is_out).run()
+                    self.assertEqual(told, {node: one_by_one[node] for node in chosen})
+                    decided += len(nodes)
+                    none += list(one_by_one.values()).count(None)
+        print(f"ways around free arcs found together: {decided}, none around {none}")
+        self.assertGreater(decided, 100)
+
     def test_only_some(self) -> None:
         draws = random.Random(8)
         for _ in range(20):
@@ -415,7 +461,7 @@ class Sensitivity(unittest.TestCase):
             self.assertEqual(session.cost, before)
 
     def test_examples(self) -> None:
-        for module in (sensitivity, residual, detours, ranging):
+        for module in (sensitivity, residual, detours, around, ranging):
             self.assertEqual(doctest.testmod(module).failed, 0)
 
 

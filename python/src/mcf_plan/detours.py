@@ -16,7 +16,7 @@ from __future__ import annotations
 
 from array import array
 from heapq import heappop, heappush, heapreplace
-from typing import Callable, Dict, Iterable, List, NamedTuple, Optional, Sequence, Tuple
+from typing import Callable, Dict, Iterable, List, NamedTuple, Optional, Sequence, Tuple, Union
 
 from .residual import Forest, Residual, ResidualArc
 
@@ -497,11 +497,11 @@ class Around:
         for tail, head, reduced, _ in self.trees.inner:
             for node, other, nexts, covered in ((tail, head, next_out, self.out_of), (head, tail, next_in, self.into)):
                 place = first[other]
-                node = _uncovered(nexts, node)
+                node = uncovered(nexts, node)
                 while not first[node] <= place < last[node]:
                     covered[node] = reduced
                     nexts[node] = parent[node]
-                    node = _uncovered(nexts, node)
+                    node = uncovered(nexts, node)
 
     def detour(self, node: int, is_out: bool) -> Optional[int]:
         """The shortest way from the part of a tree below a free arc, whose lower end is `node`, to the rest (or back),
@@ -548,7 +548,7 @@ class Around:
         return found
 
 
-def _uncovered(nexts: List[int], node: int) -> int:
+def uncovered(nexts: Union[List[int], Dict[int, int]], node: int) -> int:
     """The nearest node from `node` upwards whose arc to its parent is not covered; shortens the way there."""
     while nexts[node] != node:
         nexts[node] = nexts[nexts[node]]

@@ -15,7 +15,8 @@ from .plan import Infeasible, Plan
 from .printing import print_table, say
 from .problem import WIDE, Problem, exact, plain
 from .progress import Progress
-from .sensitivity import Ranges, ranges, supply_prices
+from .report import json_text, to_json
+from .sensitivity import Ranges, SupplyPrice, ranges, supply_prices
 from .session import Session
 from .sweep import Point, What, points, row_of_values
 from .tables import check_output, write_table
@@ -78,6 +79,7 @@ def add_ranges(parser: argparse.ArgumentParser) -> None:
     parser.add_argument(
         "--beside", metavar="NODE", help="with --supplies: the node whose supply changes as much the other way"
     )
+    parser.add_argument("--json", action="store_true", help="print them as JSON")
 
 
 def run_ranges(options: argparse.Namespace, problem: Problem) -> bool:
@@ -89,21 +91,75 @@ def run_ranges(options: argparse.Namespace, problem: Problem) -> bool:
 
         progress.now("checking the plan")
         plan = session.plan(True)
-        if isinstance(plan, Infeasible):
-            rows, texts = [], 0
-        elif options.supplies:
+        arcs: List[Ranges] = []
+        nodes: List[SupplyPrice] = []
+        if isinstance(plan, Plan) and options.supplies:
             beside = None if options.beside is None else node_of(problem, options.beside)
-            rows, texts = _supply_rows(problem, supply_prices(session, beside, step=step, plan=plan)), 1
-        else:
+            nodes = supply_prices(session, beside, step=step, plan=plan)
+        elif isinstance(plan, Plan):
             only = None if options.only is None else [arc_of(problem, words) for words in options.only]
-            rows, texts = _range_rows(plan, ranges(session, only, step=step, plan=plan)), 3
+            arcs = ranges(session, only, step=step, plan=plan)
     lift_alarm()
     if isinstance(plan, Infeasible):
-        say(plan.explain(), sys.stdout)
+        if options.json:
+            sys.stdout.write(to_json(plan))
+        else:
+            say(plan.explain(), sys.stdout)
         return False
+    if options.json:
+        sys.stdout.write(_ranges_json(plan, arcs, nodes if options.supplies else None))
+        return True
     print(f"{'flow' if problem.kind == 'max' else 'cost'} {plain(plan.cost)}")
-    print_table(rows, texts, sys.stdout)
+    if options.supplies:
+        print_table(_supply_rows(problem, nodes), 1, sys.stdout)
+    else:
+        print_table(_range_rows(plan, arcs), 3, sys.stdout)
     return True
+
+
+def _ranges_json(plan: Plan, arcs: List[Ranges], nodes: Optional[List[SupplyPrice]]) -> str:
+    """The figures as JSON: those of nodes where they are given, else those of arcs; numbers are texts.
+
+    A node: node, supply, one_more_costs, one_less_costs; null where there would be no plan. An arc: from, to, name,
+    flow, one_more_saves (in `max` one_more_adds), unit_cost, least_cost, greatest_cost, capacity, least_capacity,
+    greatest_capacity; null is no end, and what has no meaning in the kind of the problem is left out.
+    """
+    problem = plan.problem
+    told: Dict[str, Any] = {"kind": problem.kind, "feasible": True, "cost": plain(plan.cost)}
+    if nodes is not None:
+        told["nodes"] = [
+            {
+                "node": found.node,
+                "supply": plain(problem.nodes[found.node]),
+                "one_more_costs": _text(found.one_more),
+                "one_less_costs": _text(found.one_less),
+            }
+            for found in nodes
+        ]
+    else:
+        told["arcs"] = [_range_fields(plan, found) for found in arcs]
+    told["notes"] = list(plan.notes)
+    return json_text(told)
+
+
+def _range_fields(plan: Plan, found: Ranges) -> Dict[str, Optional[str]]:
+    """What is told of an arc; without what has no meaning in the kind of the problem."""
+    arc, kind = plan.problem.arcs[found.arc], plan.problem.kind
+    fields = {"from": arc.tail, "to": arc.head, "name": arc.name, "flow": plain(plan.flows[found.arc])}
+    if kind != "asn":
+        fields["one_more_adds" if kind == "max" else "one_more_saves"] = plain(found.saves)
+    if kind != "max":
+        fields["unit_cost"] = plain(arc.cost)
+        fields.update(least_cost=_text(found.least_cost), greatest_cost=_text(found.greatest_cost))
+    if kind != "asn":
+        fields["capacity"] = _text(arc.cap)
+        fields.update(least_capacity=_text(found.least_cap), greatest_capacity=_text(found.greatest_cap))
+    return fields
+
+
+def _text(number: Optional[Decimal]) -> Optional[str]:
+    """A number as JSON has it here: a text, so that no program rounds it."""
+    return None if number is None else plain(number)
 
 
 def _range_rows(plan: Plan, told: List[Ranges]) -> List[List[str]]:
@@ -135,7 +191,7 @@ def _end(number: Optional[Decimal]) -> str:
     return "any" if number is None else plain(number)
 
 
-def _supply_rows(problem: Problem, told: List[Any]) -> List[List[str]]:
+def _supply_rows(problem: Problem, told: List[SupplyPrice]) -> List[List[str]]:
     """The table of nodes."""
     rows = [["node", "supply", "one more costs", "one less costs"]]
     for found in told:
@@ -249,13 +305,9 @@ def _sweep_rows(worth: str, found: List[Point]) -> List[List[str]]:
 
 
 def _json(problem: Problem, words: str, found: List[Point]) -> str:
-    """The values as JSON; numbers are texts, so that no program rounds them."""
-
-    def text(number: Optional[Decimal]) -> Optional[str]:
-        return None if number is None else plain(number)
-
+    """The values as JSON."""
     told: Dict[str, Any] = {"kind": problem.kind, "number": words, "notes": list(problem.notes)}
     told["points"] = [
-        {"value": text(point.value), "cost": text(point.cost), "shortage": text(point.shortage)} for point in found
+        {"value": _text(point.value), "cost": _text(point.cost), "shortage": _text(point.shortage)} for point in found
     ]
     return json.dumps(told, ensure_ascii=False, indent=1)

@@ -12,9 +12,13 @@ from __future__ import annotations
 from collections import deque
 from typing import Callable, Deque, Dict, Iterable, Iterator, List, Optional, Set, Tuple
 
+from .around import Search
 from .detours import Around, Ball, Trees, Wanted, ball_around, distances_between
 from .plan import Plan, rest_arcs
 from .residual import Residual
+
+MANY = 32
+"""The ways around so many free arcs of a tree are looked for together."""
 
 Step = Callable[[int, int], None]
 """Is told how much of how much is done; what it raises ends the work."""
@@ -31,10 +35,10 @@ class Ends:
         self.residual = residual
         self.trees = Trees(residual)
         self._wanted: Wanted = {}
-        self._free: List[int] = []
+        self._free: Dict[int, List[int]] = {}
         for arc in arcs:
             self._want(arc, with_costs)
-        total = sum(map(len, self._wanted.values())) + len(self._free)
+        total = sum(map(len, (*self._wanted.values(), *self._free.values())))
         done = 0
 
         def count(more: int) -> None:
@@ -45,11 +49,14 @@ class Ends:
         self._between = distances_between(self.trees, self._wanted, count)
         self._detours: Dict[Tuple[int, bool], Optional[int]] = {}
         around = Around(self.trees) if self._free else None
-        for node in self._free:
+        for nodes in self._free.values():
             assert around is not None
             for is_out in (True, False):
-                self._detours[node, is_out] = around.detour(node, is_out)
-            count(1)
+                together = Search(around, nodes, is_out).run() if len(nodes) >= MANY else {}
+                for node in nodes:
+                    known = node in together
+                    self._detours[node, is_out] = together[node] if known else around.detour(node, is_out)
+            count(len(nodes))
 
     def _want(self, arc: int, with_costs: bool) -> None:
         """Notes which ways are wanted for an arc."""
@@ -58,7 +65,7 @@ class Ends:
         if begin == end:
             node = self._lower_end(arc)
             if node is not None and with_costs:
-                self._free.append(node)
+                self._free.setdefault(begin, []).append(node)
         elif residual.can_rise(arc):
             if with_costs:
                 self._wanted.setdefault(end, {})[begin] = None

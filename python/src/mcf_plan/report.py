@@ -638,12 +638,17 @@ def to_json(result: Result) -> str:
         for name, rest in (("kept", result.kept), ("not_met", result.not_met)):
             told[name] = {node: number(amount) for node, amount in rest.items()}
     told["notes"] = list(result.notes)
-    fields = [f" {_ENCODE(key)}: {_lines(value)}" for key, value in told.items()]
-    text = "{\n" + ",\n".join(fields) + "\n}\n"
-    return "\n".join(line if line.isprintable() else _escaped(line) for line in text.split("\n"))
+    return json_text(told)
 
 
 _ENCODE = json.JSONEncoder(ensure_ascii=False).encode
+
+
+def json_text(told: Mapping[str, Any]) -> str:
+    """JSON with each field on a line of its own, and each member of a list of arcs or nodes."""
+    fields = [f" {_ENCODE(key)}: {_lines(value)}" for key, value in told.items()]
+    text = "{\n" + ",\n".join(fields) + "\n}\n"
+    return "\n".join(line if line.isprintable() else _escaped(line) for line in text.split("\n"))
 
 
 def _lines(value: Any) -> str:

@@ -101,7 +101,7 @@ class Residual:
 
 
 class Forest:
-    """Spanning trees of the free arcs; a node without one is a tree of its own.
+    """Spanning trees of the free arcs; a node without one is a tree of its own. Below an arc is at most half of a tree.
 
     `tree` is the number of each node's tree. `order` are the nodes, tree by tree, each before those below it; those
     below a node, and itself, are at the places `first[node]` up to `last[node]`. `parent` is the node above, `above` the
@@ -125,6 +125,18 @@ class Forest:
                 self._grow(root, beside)
 
     def _grow(self, root: int, beside: List[List[Tuple[int, int]]]) -> None:
+        """Adds the tree of a node, with its middle for a root."""
+        begin = len(self.order)
+        self._add(root, beside)
+        nodes = self.order[begin:]
+        middle = next(node for node in reversed(nodes) if 2 * (self.last[node] - self.first[node]) > len(nodes))
+        if middle != root:
+            del self.order[begin:], self.span[-1]
+            for node in nodes:
+                self.tree[node], self.last[node] = -1, 0
+            self._add(middle, beside)
+
+    def _add(self, root: int, beside: List[List[Tuple[int, int]]]) -> None:
         """Adds the tree of a root."""
         number, begin = len(self.span), len(self.order)
         tree, parent, order = self.tree, self.parent, self.order
