@@ -47,7 +47,9 @@ class Mistakes(unittest.TestCase):
                 self.assertIsNotNone(fault)
                 self.assertEqual((fault.line, fault.number), (line, number))
                 self.assertIn(words, fault.words())
-                self.assertIn(f"line {line}", fault.words("file"))
+                # An empty text has no line to point at, so the words tell of the file.
+                place = f"file, line {line}" if line else "file: There is nothing in it."
+                self.assertTrue(fault.words("file").startswith(place), fault.words("file"))
 
     def test_program_tells_the_same_line_and_number(self):
         for name, _, _, _, text in mistakes():

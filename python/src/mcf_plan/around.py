@@ -14,7 +14,7 @@ from __future__ import annotations
 from heapq import heapify, heappop, heappush, heapreplace
 from typing import Callable, Dict, List, Optional, Sequence, Tuple
 
-from .detours import Around, Crossing, Way, uncovered
+from .detours import Around, Crossing, Way, take_way, uncovered
 
 AT_ONCE = 16
 """So many ways of a row are looked at together; those behind them when the first of them is due."""
@@ -46,16 +46,8 @@ class Home:
         """Finds more trees, until there are so many, or the wanted one is known."""
         heap, known, ways = self._heap, self.known, self._ways
         while heap and len(known) < most and wanted not in known:
-            key, tree, at = heap[0]
-            row = ways[tree]
-            reduced, other = row[at]
-            at += 1
-            while at < len(row) and row[at][1] in known:
-                at += 1
-            if at < len(row):
-                heapreplace(heap, (key - reduced + row[at][0], tree, at))
-            else:
-                heappop(heap)
+            key = heap[0][0]
+            tree, other = take_way(heap, ways, known)
             if other not in known:
                 known[other] = key
                 self.ends[other] = self._direct(other) if tree == self._own else self.ends[tree]

@@ -181,25 +181,33 @@ def strong_components(leaving: List[List[Way]]) -> List[int]:
     return component
 
 
+def take_way(heap: List[Tuple[int, int, int]], ways: List[List[Way]], known: Dict[int, int]) -> Tuple[int, int]:
+    """Takes the way that is due: the tree that it comes from, and the one that it leads to. The next way of that tree
+    that leads to none of those that are known is due later."""
+    key, tree, at = heap[0]
+    row = ways[tree]
+    reduced, other = row[at]
+    at += 1
+    while at < len(row) and row[at][1] in known:
+        at += 1
+    if at < len(row):
+        heapreplace(heap, (key - reduced + row[at][0], tree, at))
+    else:
+        heappop(heap)
+    return tree, other
+
+
 def ball_around(start: int, ways: List[List[Way]], most: int) -> Ball:
     """The ball of so many trees from which, by `ways`, one is reached, or that it reaches."""
     settled = {start: 0}
     heap = [(ways[start][0][0], start, 0)] if ways[start] else []
     radius = None
     while heap:
-        key, tree, at = heap[0]
+        key = heap[0][0]
         if len(settled) >= most:
             radius = key
             break
-        row = ways[tree]
-        reduced, other = row[at]
-        at += 1
-        while at < len(row) and row[at][1] in settled:
-            at += 1
-        if at < len(row):
-            heapreplace(heap, (key - reduced + row[at][0], tree, at))
-        else:
-            heappop(heap)
+        _, other = take_way(heap, ways, settled)
         if other not in settled:
             settled[other] = key
             row = ways[other]
@@ -255,18 +263,10 @@ class Meeting:
         """Settles trees, up to so many in all, or up to this distance."""
         ways, settled, heap = self.ways.leaving, self.settled, self.heap
         while heap and len(settled) < most:
-            key, tree, at = heap[0]
+            key = heap[0][0]
             if limit is not None and key >= limit:
                 break
-            row = ways[tree]
-            reduced, other = row[at]
-            at += 1
-            while at < len(row) and row[at][1] in settled:
-                at += 1
-            if at < len(row):
-                heapreplace(heap, (key - reduced + row[at][0], tree, at))
-            else:
-                heappop(heap)
+            _, other = take_way(heap, ways, settled)
             if other not in settled:
                 settled[other] = key
                 self._go_on(other, key)

@@ -43,11 +43,14 @@ class Fault:
         return self.words()
 
     def words(self, name: str = "") -> str:
-        """The fault as one line for people, after the name of the file where one is given.
+        """The fault as one line for people, after the name of the file where one is given. Of an empty text neither
+        line nor number is told.
 
         >>> Fault(4, 3, "CAP", "1.5", "a whole number", "There are no fractions.").words("roads.min")
         "roads.min, line 3, CAP: '1.5' stands where a whole number was expected. There are no fractions. (fault 4)"
         """
+        if not self.line:
+            return f"{name + ': ' if name else ''}{self.expected[:1].upper()}{self.expected[1:]}. {self.hint}"
         place = ", ".join(([name] if name else []) + [f"line {self.line}"] + ([self.field] if self.field else []))
         if self.value is None:
             said = self.expected[:1].upper() + self.expected[1:]
@@ -315,11 +318,10 @@ class ProblemReader:
     def read_end(self) -> None:
         """Takes the end of the text."""
         if not self.kind:
-            raise self.fail(
-                14,
-                "the text ends without a problem line" if self.line else "the text is empty",
-                hint="Put `p KIND NODES ARCS` first, with kind min, max or asn.",
-            )
+            first = "`p KIND NODES ARCS` first, with kind min, max or asn."
+            if not self.line:
+                raise self.fail(14, "there is nothing in it", hint=f"Is it the right file? A problem has {first}")
+            raise self.fail(14, "the text ends without a problem line", hint=f"Put {first}")
         if self.kind == "max":
             self.both_ends("the text ends, and")
         if len(self.arcs) < self.wanted:

@@ -3,7 +3,7 @@
 from __future__ import annotations
 
 from decimal import Decimal
-from typing import Iterable, List, Optional
+from typing import Iterable, List, Optional, cast
 
 from .errors import DoesNotFit
 from .problem import ONE, WIDE, ZERO
@@ -51,21 +51,10 @@ class Scale:
 
     def wholes(self, numbers: Iterable[Decimal]) -> List[int]:
         """The numbers in small units. Raises DoesNotFit where one is no whole number of them."""
-        multiply, units = WIDE.multiply, self.units
-        results = []
-        for number in numbers:
-            if number:
-                product = multiply(number, units)
-                result = int(product)
-                if result != product:
-                    raise DoesNotFit
-                results.append(result)
-            else:
-                results.append(0)
-        return results
+        return cast(List[int], self.wholes_or_none(numbers))
 
     def wholes_or_none(self, numbers: Iterable[Optional[Decimal]]) -> List[Optional[int]]:
-        """The same; None stays None."""
+        """The numbers in small units; None stays None. Raises DoesNotFit as `wholes` does."""
         multiply, units = WIDE.multiply, self.units
         results: List[Optional[int]] = []
         for number in numbers:
