@@ -279,6 +279,10 @@ def number_hint(cell: str) -> str:
         return ": leave the currency out; it can stand in the name of the column, as in 'cost (EUR)'"
     if re.fullmatch(r"\d{1,4}[-/.]\d{1,2}[-/.]\d{1,4}", cell):
         return ", and this looks like a date"
+    if re.fullmatch(r"[+-]?[\d.,]+\s*(?:(?i:k|mio|mill|tsd)\.?|M)", cell):
+        return ": write the number out, thousands and millions too"
+    if re.match(r"0x|[+-]?[\d.,]+(\s*[½¼¾⅓⅔]|[_²³])", lower):
+        return ""
     if re.match(r"[+-]?[\d.,]+\s*[^\W\d]", cell):
         return ": leave the unit out; it can stand in the name of the column, as in 'capacity (t)'"
     return ""

@@ -18,6 +18,7 @@ from .vocabulary import (
     COLUMNS,
     COSTLY,
     ENDS,
+    FIXED,
     HARMLESS,
     LABELS,
     LIMITING,
@@ -268,6 +269,8 @@ def _why_it_matters(name: str, header: str, different: int, kinds: Tuple[Sequenc
         return "an arc leads from `from` to `to` alone; give the way back a row of its own"
     if "from" in of_table and tokens & LOSSES:
         return "what enters an arc leaves it whole, nothing is lost or gained on the way"
+    if "cost" in of_table and tokens & FIXED:
+        return "what is paid once, however much flows, can't be said: a cost is that of a unit"
     if tokens & SWITCHES:
         return "each row counts; give the table without those that do not"
     if tokens & PARTS:

@@ -23,7 +23,7 @@ from .cells import (
 from .columns import Found, called
 from .problem import ZERO, Number, exact, plain
 from .sheets import Sheet
-from .vocabulary import COLUMNS
+from .vocabulary import COLUMNS, DITTO
 
 PLACES = ("x", "y")
 
@@ -125,6 +125,8 @@ class Table:
         names = self.names_of(self.found.places[what])
         if "" in names:
             raise self.fault(names.index(""), what, "a name was expected")
+        for mark in DITTO.intersection(names):
+            raise self.fault(names.index(mark), what, "this looks like `as above`: write the name itself")
         return names
 
     def names_of(self, place: int) -> List[str]:

@@ -87,7 +87,8 @@ def savings(plan: Plan) -> list[Optional[Decimal]]:
     """What one unit more of capacity saves at most, arc by arc, where that is above 0.
 
     A full arc whose reduced cost is below 0 saves at most as much with one unit more of capacity: the least cost is
-    convex in a capacity, and the prices of a best plan bound it from below.
+    convex in a capacity, and the prices of a best plan bound it from below. `sensitivity.one_unit_more` tells it exactly,
+    by searches that a report need not wait for.
     """
     arcs = plan.problem.arcs
     found: list[Optional[Decimal]] = [None] * len(arcs)

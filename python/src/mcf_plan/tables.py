@@ -28,6 +28,8 @@ if TYPE_CHECKING:
 
 __all__ = ["COLUMNS", "PLAN_COLUMNS", "Source", "TableFault", "plan_rows", "read_tables", "write_plan"]
 
+ROW_OF_SUMS = "this looks like a row of sums: give the table without it"
+
 
 def read_tables(
     nodes: Optional[Source],
@@ -71,6 +73,9 @@ def read_tables(
         _find_names(node_table, ends)
         compare_units({**_units(node_table), **_units(arc_table)})
         _read_nodes(problem, node_table, ends)
+        for name in ends:
+            if name not in problem.nodes and folded(name) in SUMS and name in tails:
+                raise arc_table.fault(tails.index(name), "from", ROW_OF_SUMS)
     _add_ends(problem, ends, node_sheet)
     _read_arcs(problem, arc_table, tails, heads)
     for sheet in (node_sheet, arc_sheet):
@@ -161,7 +166,7 @@ def _read_nodes(problem: Problem, table: Table, ends: Collection[str]) -> None:
         if lines.setdefault(name, row) != row:
             raise table.fault(row, "node", f"it stands on {sheet.place(lines[name])} already")
         if folded(name) in SUMS and name not in ends:
-            raise table.fault(row, "node", "this looks like a row of sums: give the table without it")
+            raise table.fault(row, "node", ROW_OF_SUMS)
     supplies, demands = table.numbers("supply"), table.numbers("demand")
     if table.has("supply") and table.has("demand"):
         for row, demand in enumerate(demands):

@@ -154,5 +154,11 @@ LIMITING = frozenset(("load bound ").split())
 OWN = frozenset(("flow", "total cost", "is full", "one more costs"))
 """Columns that tables of plans have, as `write_plan` writes them: left aside where all are there."""
 
+FIXED = frozenset("fixed fix setup fixkosten fixe fixes fixo fijo fija fijos".split())
+"""Columns that speak of what is paid once, however much flows."""
+
+DITTO = frozenset(('"', "''", "\u2033", "\u3003", "\u201c", "\u201d", "dito", "ditto", "idem"))
+"""What stands in a cell for the name above it."""
+
 SUMS = frozenset("total totals sum sums summe gesamt insgesamt somme total suma".split())
 """Names of rows that hold sums of the others."""
