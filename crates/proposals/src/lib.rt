@@ -19,6 +19,7 @@ mod records;
 mod scaling;
 mod search;
 mod solving;
+mod start;
 mod tables;
 mod walk;
 mod wanted;

@@ -39,7 +39,7 @@ pub fn scale(proposal: &mut Proposal, search: &mut Search, fuel: Fuel)
 }
 
 /// The room that an arc needs in the first stage: 1 where no stages are worth while.
-fn first_least(proposal: &Proposal) -> u32 {
+pub fn first_least(proposal: &Proposal) -> u32 {
     let mut least: u32 = 1;
     for _ in 1..STAGES {
         let next = least.saturating_mul(2);
@@ -84,7 +84,7 @@ fn leaves_open(proposal: &Proposal, least: i64) -> bool {
 }
 
 /// Lets searches use residual arcs of so much room, and fills those of a negative reduced cost.
-fn begin_stage(proposal: &mut Proposal, least: u32)
+pub fn begin_stage(proposal: &mut Proposal, least: u32)
     ensures { proposal.new ≡ proposal.old }
 {
     proposal.set_least(least);

@@ -42,7 +42,7 @@ pub struct Search {
     pub(crate) records: Records,
     heap: Heap,
     /// Nodes whose key is that of the node taken out of the heap last.
-    queue: Nodes,
+    pub(crate) queue: Nodes,
     /// The nodes that are settled, in order.
     pub(crate) settled: Nodes,
     /// The nodes to which a path was found.
@@ -241,7 +241,7 @@ impl Search {
     }
 
     /// Forgets the search before.
-    fn forget(&mut self)
+    pub(crate) fn forget(&mut self)
         ensures { self.new ≡ self.old }
     {
         forget_all(&mut self.records, &self.touched);

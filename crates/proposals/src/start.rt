@@ -1,0 +1,230 @@
+//! Potentials to begin with, where the best flow is near to none.
+
+ghost use Rattle.std.specs.Prelude.{◌≡◌, ◌<◌, ◌^◌, ℕ};
+
+use crate::records::Records;
+use crate::scaling::begin_stage;
+use crate::search::Search;
+use containers::Nodes;
+use relaxation::Proposal;
+
+/// How often potentials are lowered along all arcs at most. With the nodes in order, networks without circles take two
+/// passes.
+const PASSES: usize = 12;
+
+/// Each pass has to lower fewer potentials than the one before, at most so many in sixteen: circles of negative cost go on
+/// as they began.
+const FEWER: usize = 15;
+
+impl Search {
+    /// Empties the arcs of negative cost where potentials can be lowered until no arc has a negative reduced cost, as where
+    /// no circle of arcs costs less than nothing; otherwise leaves all as it was. A grid of negative costs without circles
+    /// took a hundred times as long where it began with these arcs full.
+    pub fn start_empty(&mut self, proposal: &mut Proposal)
+        requires { proposal.old ≡ self.old }
+        ensures kept { self.new ≡ self.old }
+        ensures proposal { proposal.new ≡ proposal.old }
+    {
+        if has_potentials(proposal) || !empty_all(proposal) {
+            return;
+        }
+        self.put_in_order(proposal);
+        if !lower_in_turn(&self.settled, proposal) {
+            raise_all(proposal);
+            begin_stage(proposal, 1);
+        }
+    }
+
+    /// Lists the nodes, each behind those from which arcs lead to it; those on circles of arcs and behind them come last.
+    fn put_in_order(&mut self, proposal: &Proposal)
+        requires { proposal.now ≡ self.old }
+        ensures { self.new ≡ self.old }
+    {
+        self.forget();
+        count_all(&mut self.records, &mut self.queue, proposal);
+        for _ in 0..self.entries() {
+            if !self.list_next(proposal) {
+                break;
+            }
+        }
+        list_others(&self.records, &mut self.settled);
+    }
+
+    /// Lists the node that comes next, and says whether one waited.
+    fn list_next(&mut self, proposal: &Proposal) -> bool
+        requires { proposal.now ≡ self.old }
+        ensures { self.new ≡ self.old }
+    {
+        let Some(u) = self.queue.take() else {
+            return false;
+        };
+        self.settled.add(u);
+        pass(&mut self.records, &mut self.queue, proposal, u);
+        true
+    }
+}
+
+/// Whether a potential is not 0.
+fn has_potentials(proposal: &Proposal) -> bool {
+    for potential in proposal.potentials() {
+        if *potential != 0 {
+            return true;
+        }
+    }
+    false
+}
+
+/// Takes the flow of each arc of negative cost back to its lower bound, but of arcs from a node to itself; says whether it
+/// took any.
+fn empty_all(proposal: &mut Proposal) -> bool
+    ensures { proposal.new ≡ proposal.old }
+{
+    let mut some = false;
+    for k in 0..proposal.ends() / 2 {
+        let tail = proposal.tail_of(k);
+        let Some(link) = proposal.link(tail) else {
+            continue;
+        };
+        let Some(opposite) = proposal.link(link.opposite) else {
+            continue;
+        };
+        let flow = link.room::<false>();
+        if link.cost < 0 && flow > 0 && link.other != opposite.other {
+            proposal.push::<false>(tail, flow);
+            some = true;
+        }
+    }
+    some
+}
+
+/// Counts at each node the residual arcs that lead to it, and lets those wait to which none leads.
+fn count_all(records: &mut Records, queue: &mut Nodes, proposal: &Proposal)
+    requires queue { queue.old ≡ records.old }
+    requires proposal { proposal.now ≡ records.old }
+    requires few { records.old < 2 ^ 31 }
+    ensures records { records.new ≡ records.old }
+    ensures queue { queue.new ≡ queue.old }
+{
+    for v in 0..records.entries() {
+        let count = arcs_to(proposal, v);
+        records.set_current(v, count);
+        if count == 0 {
+            queue.add(v);
+        }
+    }
+}
+
+/// How many residual arcs lead to a node from others.
+fn arcs_to(proposal: &Proposal, v: usize) -> u32
+    requires { v < proposal.now }
+{
+    let mut count: u32 = 0;
+    for link in proposal.ends_at(v).links {
+        if link.room::<false>() > 0 && link.other as usize != v {
+            count = count.saturating_add(1);
+        }
+    }
+    count
+}
+
+/// Counts the residual arcs from a node no more, and lets the nodes wait to which no other one leads.
+fn pass(records: &mut Records, queue: &mut Nodes, proposal: &Proposal, u: usize)
+    requires queue { queue.old ≡ records.old }
+    requires proposal { proposal.now ≡ records.old }
+    requires few { records.old < 2 ^ 31 }
+    requires node { u < records.old }
+    ensures records { records.new ≡ records.old }
+    ensures queue { queue.new ≡ queue.old }
+{
+    for link in proposal.ends_at(u).links {
+        let v = link.other as usize;
+        if link.room::<true>() <= 0 || v == u {
+            continue;
+        }
+        let count = records.get(v).current.saturating_sub(1);
+        records.set_current(v, count);
+        if count == 0 {
+            queue.add(v);
+        }
+    }
+}
+
+/// Lists the nodes to which arcs still lead.
+fn list_others(records: &Records, order: &mut Nodes)
+    requires order { order.old ≡ records.now }
+    requires few { records.now < 2 ^ 31 }
+    ensures { order.new ≡ order.old }
+{
+    for v in 0..records.entries() {
+        if records.get(v).current > 0 {
+            order.add(v);
+        }
+    }
+}
+
+/// Lowers potentials along the residual arcs, node by node in this order, until none has a negative reduced cost; says
+/// whether it came to that soon.
+fn lower_in_turn(order: &Nodes, proposal: &mut Proposal) -> bool
+    requires { order.now ≡ proposal.old }
+    ensures { proposal.new ≡ proposal.old }
+{
+    let mut before = usize::MAX;
+    for _ in 0..PASSES {
+        let lowered = lower_once(order, proposal);
+        if lowered == 0 {
+            return true;
+        }
+        if lowered > before / 16 * FEWER {
+            return false;
+        }
+        before = lowered;
+    }
+    false
+}
+
+/// Does so once, and gives how often a potential was lowered.
+fn lower_once(order: &Nodes, proposal: &mut Proposal) -> usize
+    requires { order.now ≡ proposal.old }
+    ensures { proposal.new ≡ proposal.old }
+{
+    let mut lowered: usize = 0;
+    for v in order.listed() {
+        let more = lower_beyond(proposal, *v as usize);
+        lowered = lowered.saturating_add(more);
+    }
+    lowered
+}
+
+/// Lowers the potentials of the nodes to which residual arcs of a negative reduced cost lead from a node, and gives how many.
+fn lower_beyond(proposal: &mut Proposal, v: usize) -> usize
+    requires { v < proposal.old }
+    ensures { proposal.new ≡ proposal.old }
+{
+    let potential = proposal.potential(v);
+    let first = proposal.ends_at(v).first;
+    let mut lowered: usize = 0;
+    for k in 0..proposal.ends_at(v).links.len() {
+        let place = first.saturating_add(k as u32);
+        let Some(link) = proposal.link(place) else {
+            break;
+        };
+        let reduced_cost = proposal.reduced_cost::<true>(potential, &link);
+        if reduced_cost < 0 && link.room::<true>() > 0 && link.other as usize != v {
+            let _within = proposal.lower::<true>(link.other as usize, -reduced_cost);
+            lowered = lowered.saturating_add(1);
+        }
+    }
+    lowered
+}
+
+/// Makes the potentials below 0 that.
+fn raise_all(proposal: &mut Proposal)
+    ensures { proposal.new ≡ proposal.old }
+{
+    for v in 0..proposal.entries() {
+        let potential = proposal.potential(v);
+        if potential < 0 {
+            let _raised = proposal.lower::<false>(v, -potential);
+        }
+    }
+}
