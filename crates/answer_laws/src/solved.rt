@@ -13,8 +13,8 @@ ghost use Rattle.engines.specs.Printing.{solution};
 ghost use Rattle.engines.specs.Solve.{Prints};
 ghost use Rattle.answer_laws.specs.Ends.{IsValidOrFailed};
 
-/// A law, with nothing to run: what is printed of a moment that answers a problem, with its proof, is read as an answer that
-/// is right. The room for arcs more is no matter of it.
+/// A law, with nothing to run: what is printed of a moment that answers a problem, with its proof, is read as an answer
+/// that is right, whatever room there is for more arcs.
 pub fn shown_answers_are_right()
     ensures { (problem : ProblemValue) (m : Moment) (room : ℕ) → m.instance ≡ record (first problem 0) { room = room } → IsAnswered m
         → (answer : Answer) × (answers problem.nodes (length problem.arcs) (solution true m) ≡ Ok answer) × IsRight problem answer }

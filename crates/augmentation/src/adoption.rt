@@ -179,7 +179,7 @@ fn take_proposed(
     }
 }
 
-/// Pushes as a proposal has it, the first time and where there are nodes of both kinds.
+/// Pushes as a proposal has it: the first time, and then where there are nodes in excess and nodes in deficit.
 fn push_proposed(
     graph: &Graph,
     flow: &mut Tracked<i64>,
@@ -225,8 +225,9 @@ fn push_from_afar(
     pushed.count + more
 }
 
-/// Pushes flow until no node in excess reaches a node in deficit, and counts the pushes. The first time, and where there are
-/// nodes of both kinds, a proposal is made and tried; where it left something to push, another one from afar.
+/// Pushes flow until no node in excess reaches a node in deficit, and counts the pushes. The first time, and then where
+/// there are nodes in excess and nodes in deficit, a proposal is made and tried; if it left something to push, another
+/// one from afar, which looks at all nodes.
 pub fn push_all(
     graph: &Graph,
     flow: &mut Tracked<i64>,

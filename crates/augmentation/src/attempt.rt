@@ -107,7 +107,7 @@ impl Attempt {
             .write_changes(graph.rows(), flow, &mut self.wanted);
     }
 
-    /// Takes over what the next proposal near an edit would else take over.
+    /// Takes over now what the next proposal near an edit would have to take over.
     pub(crate) fn prepare(
         &mut self,
         graph: &Graph,

@@ -99,8 +99,8 @@ impl Cut {
     }
 }
 
-/// Marks the set that tells why some supply is left over or some demand is not met, first in the scratch, where that does not
-/// have the marks of the nodes in excess, and of all that they reach, already. Where no node is out of balance, none is marked.
+/// Marks the set that tells why some supply is left over or some demand is not met; where no node is out of balance,
+/// none. It is marked in the scratch first, unless all that the nodes in excess reach is marked there already.
 pub fn mark_cut(
     graph: &Graph,
     flow: &Tracked<i64>,

@@ -14,7 +14,7 @@ use std::marker::Model;
 use std::mem::swap;
 use tracked::Touched;
 
-/// The most places on the list for which it is not searched for balanced nodes.
+/// Up to so many places, balanced nodes are left on the list.
 const FEW_PLACES: usize = 64;
 
 /// The excess of each node: what lies in excess is above 0, what lies in deficit below. Each node out of balance is

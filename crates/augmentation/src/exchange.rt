@@ -136,7 +136,7 @@ fn rise(graph: &Graph, flow: &[i64], journal: &Journal, ranks: &[u32]) -> bool
     true
 }
 
-/// How much a node gave: nothing is told where its excess or deficit did not come nearer to 0.
+/// How much a node gave; none where its excess or deficit did not come nearer to 0.
 fn given(before: i64, after: i64) -> Option<u64>
     ensures { IfSome result (λ n. IsNearer before after × (n + positive_part after ≡ positive_part before)) }
 {

@@ -24,7 +24,7 @@ use shortest_paths::Tree;
 use std::alloc::{AllocError, Global};
 use tracked::{Touched, Tracked};
 
-/// Where more nodes than one in so many may have another potential, all are compared: so they are gone over in order.
+/// Where more than one node in so many may have another potential, all are compared: in order, which is quicker.
 const MOST_APART: usize = 8;
 
 /// The nodes whose potential may be another than the label that a tree holds.
@@ -181,8 +181,8 @@ fn raise_near(
     true
 }
 
-/// Does beforehand what the first proposal near an edit would do at all nodes and arcs, where some proposal was made: brings
-/// the tables of its searches in step, and has the tree hold the labels of the flow.
+/// Gets ready for edits, where some proposal was made, so that the first one need not go over all nodes and arcs:
+/// brings the tables of its searches in step, and has the tree hold the labels of the flow.
 pub fn prepare(
     graph: &Graph,
     flow: &Tracked<i64>,
@@ -253,8 +253,9 @@ fn push_proposed_near(
     Some(count)
 }
 
-/// Pushes so where there are nodes of both kinds, and counts the pushes; the potentials become the greatest that certify the
-/// flow. Nothing where the tree of labels does not find these, or where nothing was proposed yet.
+/// Pushes so where there are nodes in excess and nodes in deficit, and counts the pushes; the potentials become the
+/// greatest that certify the flow. None where the tree of labels does not find these, or where nothing was proposed
+/// yet.
 pub fn push_near(
     graph: &Graph,
     flow: &mut Tracked<i64>,

@@ -263,8 +263,8 @@ impl Order {
         self.len == 0
     }
 
-    /// One step of the walk: back along a change to a node without a rank; round a circle, which is taken off; or, where
-    /// nothing comes to the last node any more, off that node, which gets its rank.
+    /// One step of the walk: back along a change to a node without a rank; or, where that is on the walk, the circle is
+    /// taken off; or, where nothing comes to the last node any more, the walk leaves that node, which gets its rank.
     fn step(&mut self, graph: &Graph, flow: &[i64], changes: &mut [Change]) -> bool
         ensures { self.new ≡ self.old }
     {

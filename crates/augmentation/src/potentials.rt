@@ -17,7 +17,7 @@ use residual_graph::{Graph, Residual};
 use shortest_paths::Tree;
 use tracked::Tracked;
 
-/// Where more nodes than one in so many were hung anew, labels are tested at all.
+/// Where more than one node in so many was hung anew, the labels of all nodes are tested.
 const MOST_REHUNG: usize = 16;
 
 /// Makes a table the same as these numbers.

@@ -59,7 +59,7 @@ impl Model for Scratch {
 }
 
 impl Scratch {
-    /// Tables for so many entries, and for the flows of half as many arcs as `arcs` says.
+    /// Tables for so many entries, and for arcs with `arcs` ends together, two an arc.
     ///
     /// # Errors
     /// Memory for a table was refused.

@@ -26,7 +26,7 @@ pub fn check<P: Source, A: Source, O: Sink>(
     requires answer { A.failures answer.old < 2 ^ 64 - 1 }
     requires out { O.failures out.old < 2 ^ 64 - 1 }
 
-    // `valid` is written exactly where the answer is right, and no end comes without its cause.
+    // `valid` is written exactly where the answer is right, and each end but that of memory has its cause.
     ensures check { CheckOnDevices result
         (text_over P.remaining P.given problem.old problem.new) (P.most_left problem.old - P.most_left problem.new)
         (text_over A.remaining A.given answer.old answer.new) (A.most_left answer.old - A.most_left answer.new)

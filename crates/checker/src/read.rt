@@ -14,7 +14,7 @@ use dimacs_text::{
 };
 use std::alloc::Global;
 
-/// How many bytes one read takes at most.
+/// How many bytes one read takes at most. They are on the stack, so that reading cannot fail for want of memory.
 const PIECE: usize = 32_768;
 
 /// Why a text was not read.

@@ -4,8 +4,8 @@ use crate::places::Places;
 use std::alloc::{AllocError, Global};
 use std::marker::Model;
 
-/// Arcs, or nodes, in the order in which they were first noted, of so many that have a number: another one is not listed,
-/// and none before the list is opened, so that its room is not touched. It is seen as of how many arcs it can be.
+/// Arcs, or nodes, in the order in which they were first noted, each once. Their numbers are below a limit, as which
+/// the list is seen; until it is opened the limit is 0, nothing is listed, and its room is not touched.
 #[derive(Drop)]
 pub struct Noted {
     marks: Vec<bool>,

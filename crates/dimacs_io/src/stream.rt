@@ -30,7 +30,7 @@ fn counted<T>(failures: &mut u64, answer: io::Result<T>) -> Result<T, Broken>
     }
 }
 
-/// What a call on a sink did that would do this.
+/// What a call on a sink did: this if it went well, or else it failed.
 fn last_of<T>(answer: &Result<T, Broken>, done: LastCall) -> LastCall
     ensures { EndsBy answer.now done result }
 {

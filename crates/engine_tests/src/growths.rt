@@ -9,9 +9,9 @@ use refusing::Refusing;
 /// More growths than any commands below take.
 const MOST: u64 = 99;
 
-/// A session of which the growths of an edit or of a group are refused: what brings it to the moment before, the same
-/// and the edit, and these and what goes back to the future that the edit would have dropped. Then what is written where
-/// the edit is refused.
+/// A session in which the growths of an edit or of a group are refused: the commands up to the moment before; these and
+/// the edit; and these and what goes on to the future, which is still there. Then the replies where the edit is
+/// refused.
 #[derive(Clone, Copy)]
 struct Case {
     before: &'static [u8],

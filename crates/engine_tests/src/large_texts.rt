@@ -10,7 +10,7 @@ use std::io::Write;
 use std::process::Abort;
 use std::test::Fail;
 
-/// Adds the lines of a row, which is how often they stand in a text, one after the other, and the lines.
+/// Adds the lines of a row, which begins with how often they stand in the text.
 fn add_row(rt: &impl Abort, alloc: Global, text: &mut Vec<u8>, row: &str) -> Result<(), Fail> {
     let (count, lines) = row.split_once(' ').expect(rt, row);
     let lines = text_of(rt, alloc, lines);

@@ -23,7 +23,7 @@ use dimacs_text::{Group, LineCutter};
 use session::Session;
 use std::alloc::{Allocator, Global};
 
-/// How many bytes of the commands one read takes at most.
+/// How many bytes of the commands one read takes at most. They are on the stack, as those of texts are.
 const PIECE: usize = 4_096;
 
 /// Runs a session on a problem text, with room for `extra` arcs more: writes what is told of the problem, and then the
@@ -44,7 +44,7 @@ pub fn run_session<P: Source, C: Source, O: Sink>(
     requires script { C.failures script.old < 2 ^ 64 - 1 }
     requires out { O.failures out.old < 2 ^ 64 - 1 }
 
-    // A run's printing is written, or its beginning at a failed call, and no end lacks its cause.
+    // A run's printing is written, or its beginning at a failed call, and each end but that of memory has its cause.
     ensures session { SessionOnDevices result extra
         (text_over P.remaining P.given problem.old problem.new) (P.most_left problem.old - P.most_left problem.new)
         (text_over C.remaining C.given script.old script.new) (C.most_left script.old - C.most_left script.new)
@@ -84,7 +84,7 @@ pub fn run_session_in<A: Allocator + Copy, P: Source, C: Source, O: Sink>(
     requires script { C.failures script.old < 2 ^ 64 - 1 }
     requires out { O.failures out.old < 2 ^ 64 - 1 }
 
-    // A run's printing is written, or its beginning at a failed call, and no end lacks its cause.
+    // A run's printing is written, or its beginning at a failed call, and each end but that of memory has its cause.
     ensures session { SessionOnDevices result extra
         (text_over P.remaining P.given problem.old problem.new) (P.most_left problem.old - P.most_left problem.new)
         (text_over C.remaining C.given script.old script.new) (C.most_left script.old - C.most_left script.new)

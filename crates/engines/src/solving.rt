@@ -25,7 +25,7 @@ pub fn solve<P: Source, O: Sink>(alloc: Global, input: &mut P, out: &mut O, proo
     requires input { P.failures input.old < 2 ^ 64 - 1 }
     requires out { O.failures out.old < 2 ^ 64 - 1 }
 
-    // What is written is the printing of what is settled, and no end comes without its cause.
+    // What is written is the printing of what is settled, and each end but that of memory has its cause.
     ensures solve { SolveOnDevices result proof
         (text_over P.remaining P.given input.old input.new) (P.most_left input.old - P.most_left input.new)
         (O.contents out.old) (O.contents out.new) }

@@ -50,7 +50,7 @@ impl Balance {
     }
 }
 
-/// Adds to the entry of a node what `after` exceeds `before` by, as where its supply goes from the one to the other.
+/// Adds `after` less `before` to the entry of a node, as where its supply changes so.
 pub fn add_difference(excess: &mut Excess, v: usize, before: i64, after: i64)
     requires { v < length excess.old }
     ensures { IsRaised v before after excess.old excess.new }

@@ -118,8 +118,8 @@ impl Search {
         }
     }
 
-    /// Leaves a node from which a walk does not get on, and gives the node before it; the node itself where the walk began
-    /// there and goes on.
+    /// Steps back from a node from which the walk gets no further, and gives the node before it; where the walk began
+    /// there, the node itself if it got a new level.
     fn turn_back<const AHEAD: bool>(
         &mut self,
         proposal: &mut Proposal,

@@ -5,9 +5,9 @@
 //! few nodes are out of balance, a search from both sides at once finds one path after the other. What stays out of
 //! balance goes home: back to where it lay at the start.
 //!
-//! Proved is that each call returns, that no index, sum or cast leaves its range, and that the tables keep their sizes.
-//! Nothing is proved of what is proposed: who takes a proposal up tests whether its potentials certify its flow. After
-//! `new` no call can fail for lack of memory, since its type has no such answer; that none is taken is not proved.
+//! Proved is that no index, sum or cast leaves its range, and that the tables keep their sizes. Nothing is proved of
+//! what is proposed: who takes a proposal up tests whether its potentials certify its flow. After `new` no call can
+//! fail for lack of memory, since its type has no such answer; that none is taken is not proved.
 #![tactic(auto)]
 
 mod block;

@@ -12,9 +12,9 @@ use std::alloc::{AllocError, Global};
 use std::marker::Model;
 use two_sided::NO_PLACE;
 
-/// By so much further a path reaches over an arc that searches do not use: further than any that is known. Added to its
-/// length it takes the place of a test, which processors often foretell wrongly: with the test, proposals of plans and
-/// infeasible networks took up to a tenth longer.
+/// What an arc that searches do not use adds to the length of a path, so that it is longer than any that is known. A
+/// test in its place is one that processors often predict wrongly: with it, proposals of plans and infeasible networks
+/// took up to a tenth longer.
 const BARRED: i64 = 4_200_000_000_000_000_000;
 
 /// What was done.

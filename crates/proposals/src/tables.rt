@@ -22,10 +22,10 @@ pub enum Aim {
     GreatestFlow,
 }
 
-/// Where more than one in so many arcs was noted, all are taken over anew: so they are gone over in order.
+/// Where more than one arc in so many was noted, all are taken over anew: in order, which is quicker.
 const FEWER: usize = 4;
 
-/// More arcs than one in so many are many: those that a proposal changed are not noted then.
+/// More than one arc in so many are many: after an adoption these are not noted.
 const MANY: usize = 16;
 
 /// A solve for least cost, most of which is relaxation that settles no node, counts as searches that settle each node once for
@@ -258,8 +258,8 @@ impl Proposals {
             .push_between(&mut self.proposal, &mut self.noted, readings)
     }
 
-    /// Notes that these arcs may have got another row or another flow. Many are not noted where a proposal was adopted: as a
-    /// rule it was that which changed them.
+    /// Notes that these arcs may have got another row or another flow. If a proposal was adopted and they are many,
+    /// none is noted: mostly the proposal changed them, so it has them already.
     pub fn note_all(&mut self, places: &[u32])
         ensures { self.new ≡ self.old }
     {
@@ -286,8 +286,8 @@ impl Proposals {
         self.standing = Standing::Apart;
     }
 
-    /// Brings the proposal in step with the flow where it was adopted: these are the changes that were made, and so all arcs
-    /// of which not all that was wanted was.
+    /// Brings the proposal in step with the flow where it was adopted. The flow can be another than the proposed one
+    /// only at an arc of the changes: what went round in circles was left out.
     pub fn catch_up(&mut self, rows: &[ArcRow], flow: &[i64], changes: &[Change])
         requires { length flow.now ≡ length rows.now }
         ensures { self.new ≡ self.old }
@@ -342,8 +342,8 @@ impl Proposals {
         self.proposal.potentials()
     }
 
-    /// The greatest of them, or 0 if that is greater: of the nodes alone that were moved, where these are few. All were at most
-    /// 0 before.
+    /// The greatest of them, or 0 if that is greater. Where few nodes were moved, these alone are looked at, since all
+    /// were at most 0 before.
     pub fn greatest(&self) -> i64 {
         let potentials = self.proposal.potentials();
         match self.proposal.moved() {

@@ -1,4 +1,5 @@
-//! Laws of whole runs: what the texts determine of the bytes that are written, what undo, redo and `back` show, and what the turns of a text are.
+//! Laws of whole runs: what the texts determine of the bytes that are written, what undo, redo and `back` show, and
+//! what the turns of a text are.
 #![tactic(auto)]
 
 mod answers;

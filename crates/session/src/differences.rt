@@ -7,8 +7,8 @@ ghost use Rattle.session.specs.Places.{AreFound, DifferAt};
 
 use std::alloc::{AllocError, Allocator};
 
-/// The numbers, counted from 1 and rising, at which the lists differ, with the old values. The indices name them all, and
-/// maybe others, each once; that of the lists' first values is `first`.
+/// The numbers, counted from 1 and rising, at which the lists differ, with the old values. The indices name them all,
+/// and maybe others, each once; `first` is the index of the lists' first values.
 ///
 /// # Errors
 /// Memory for a list was refused. Each list takes its memory at once.

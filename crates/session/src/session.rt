@@ -91,8 +91,7 @@ impl<A: Allocator + Copy> Session<A> {
         })
     }
 
-    /// Does beforehand what the first edit would else do at all nodes and arcs, so that it is answered as later ones are. The
-    /// session stays as it is.
+    /// Gets ready for edits, so that the first one need not go over all nodes and arcs. The session stays as it is.
     pub fn prepare(&mut self)
         ensures { self.new ≡ self.old }
     {

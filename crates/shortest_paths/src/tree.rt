@@ -26,10 +26,10 @@ use tracked::{Touched, Tracked};
 /// The label of a node that is loose: any other is lower.
 const FAR: i64 = i64::MAX;
 
-/// How often, counted over all nodes, a node is settled at most.
+/// At most so many times as many nodes are settled as there are nodes, some of them again.
 const MOST_SETTLED: usize = 4;
 
-/// Where more arcs than one in so many would have to be noted, all labels are tested.
+/// Where more than one arc in so many would have to be noted, all labels are tested.
 const MOST_NOTED: usize = 16;
 
 /// The most arcs for whose notes there is room.
@@ -224,8 +224,8 @@ impl Tree {
         self.beside.note(head);
     }
 
-    /// Notes all these arcs so. Where nothing is held, and nothing was noted since, many are not noted: as a rule the labels were
-    /// found since these changed.
+    /// Notes all these arcs so. If nothing is held, and nothing was noted since, many are not noted: mostly the labels
+    /// were found after these arcs changed.
     pub fn note_all(&mut self, graph: &Graph, places: &[u32])
         ensures labels { self.new.labels ≡ self.old.labels }
         ensures predecessors { self.new.predecessors ≡ self.old.predecessors }

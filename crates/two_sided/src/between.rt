@@ -15,7 +15,7 @@ use std::marker::Model;
 pub struct Readings {
     /// Where many nodes are out of balance, before the first of them is in balance.
     pub of_first: u64,
-    /// Besides, for all of many nodes together: where they take longer, relaxation serves them better.
+    /// And for all of them together, where they are many: if they take longer, relaxation serves them better.
     pub of_many: u64,
     /// While few nodes are out of balance.
     pub of_few: u64,

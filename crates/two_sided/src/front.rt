@@ -112,11 +112,12 @@ pub struct Front {
     beyond: Vec<i64>,
     /// The nodes of which `beyond` may hold another number than 0, some of them twice.
     margins: Nodes,
-    /// Settled nodes whose other ends lead on far only: they are read when the search has come half so far, as a rule never.
+    /// Settled nodes whose other ends all lead far: these are read once the search has come half as far, which is
+    /// seldom.
     late: Late,
     /// The nodes that are settled, in order.
     settled: Nodes,
-    /// Of how many settled nodes the free ends were read, but for those that come next of the last one.
+    /// Of how many settled nodes the free ends were read; at the last one some may be left, from `free_end` on.
     spread: usize,
     /// The free end that is read next, if there are some left of a node.
     free_end: u32,
@@ -356,8 +357,9 @@ impl Front {
         }
     }
 
-    /// Puts off reading the other ends at a node, if they lead on far only, and says whether it did. The search has then to
-    /// come half so far: two nodes put off, one a side, are no nearer to each other than both sides have come together.
+    /// Puts off reading the other ends at a node, if all lead far, and says whether it did. They are read once the
+    /// search has come half as far: two nodes put off, one a side, are no nearer to each other than both sides have
+    /// come together.
     #[inline(always)]
     fn is_put_off(&mut self, u: usize) -> bool
         requires { u < self.old }
@@ -447,7 +449,8 @@ impl Front {
         meeting
     }
 
-    /// Goes over a free end to a node, which is settled so, unless it is already or lies no nearer than the way across is long.
+    /// Settles the node at a free end, as far off as the search has come: not where it is settled already, or where a
+    /// path across is known that is no longer than that.
     #[inline(always)]
     fn spread_to(&mut self, end: &FreeEnd, other: &Front, meeting: Meeting) -> Meeting
         requires { other.now ≡ self.old }
@@ -548,7 +551,7 @@ impl Front {
         meeting.or_over(v, label.key, other.key(v))
     }
 
-    /// Lines a node up to be read, of which the best path had this length before.
+    /// Lines a node up by its new key; `known` is the length of the best path to it before.
     #[inline(always)]
     fn line_up(&mut self, v: usize, key: i64, known: i64)
         requires { v < self.old }

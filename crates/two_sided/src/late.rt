@@ -1,4 +1,4 @@
-//! Nodes that are looked at late, as a rule never.
+//! Nodes that are looked at late, and mostly never.
 
 ghost use Rattle.std.specs.Prelude.{◌≡◌, ◌<◌, ◌^◌, IfOk, IfSome, IsTrue};
 ghost use Rattle.containers.specs.Entries.{AreEntries};

@@ -251,8 +251,8 @@ impl Tables {
         }
     }
 
-    /// Does beforehand what the first change would else do at all nodes and arcs: keeps what stands there, and brings the
-    /// tables of the searches in step with it.
+    /// Gets ready for changes, so that the first one need not go over all nodes and arcs: takes a snapshot, and brings
+    /// the tables of the searches in step with it.
     pub fn prepare(&mut self)
         requires { IsCertifiedMoment self.old.moment }
         ensures moment { self.new.moment ≡ self.old.moment }

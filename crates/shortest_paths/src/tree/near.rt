@@ -8,16 +8,17 @@ use super::{FAR, Tree, after, arc_of, end_of, entry};
 use crate::predecessor::Predecessor;
 use residual_graph::{End, Residual, ResidualArc, Walk, Way};
 
-/// So few nodes are loose while one that lost its predecessor is hung on another node first, at the same label.
+/// While fewer nodes are loose, one that lost its predecessor is hung on another node at the same label, if there is
+/// one.
 const FEW_LOOSE: usize = 64;
 
-/// Where more nodes than one in so many are loose, or are settled, the whole tree is mended.
+/// Where more than one node in so many is loose, or is settled, the whole tree is mended.
 const MOST_LOOSE: usize = 8;
 
 /// Once one node in so many is loose, or settled, it is asked whether many nodes moved.
 const SOME_LOOSE: usize = 64;
 
-/// Where more nodes than one in so many moved, the whole tree is mended.
+/// Where more than one node in so many moved, the whole tree is mended.
 const MOST_MOVED: usize = 8;
 
 impl Tree {

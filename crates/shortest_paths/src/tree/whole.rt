@@ -9,15 +9,16 @@ use super::{FAR, Tree, after, arc_of, end_of, entry};
 use crate::predecessor::{Predecessor, leaving};
 use residual_graph::{End, Residual, ResidualArc, Walk, Way};
 
-/// Where more nodes than one in so many are left that were not reached, others are looked for by which they can be.
+/// Where more than one node in so many was not reached, residual arcs from nodes that were are looked for.
 const MOST_LEFT: usize = 4;
 
 /// How often the arcs that changed are gone over at most.
 const MOST_ROUNDS: usize = 8;
 
 impl Tree {
-    /// Makes the labels the potentials, the greatest of which becomes 0, and mends the tree for these: what hangs together still
-    /// is hung on as a block, and only what cannot be hung on so gets other labels. Says whether all labels may be right now.
+    /// Makes the labels the potentials, shifted so that the greatest is 0, and mends the tree for these. What still
+    /// hangs together is hung on as a block; only nodes that cannot be hung on so get other labels. Says whether all
+    /// labels may be right now.
     pub(super) fn mend_whole(&mut self, residual: Residual<'_>, written: &[u32]) -> bool
         requires sized { IsTreeOf residual self.old }
         ensures sized { IsTreeOf residual.entry self.new }
