@@ -1,13 +1,19 @@
 -- What the getters of a parse say of its rows.
-use Rattle.std.proofs.Common.{◌≡◌, ◌==◌, ℕ, Bool, true, false, List, [], ◌∷◌, drop, length, Option, None, Some, Result, Ok, Err, refl, sym, ap, ap₂, ◌∙◌, arith}
-use Rattle.std.specs.Prelude.{cond, option_map, slice_index, unwrap_or, codes, ◌↔◌, Box}
+use Rattle.std.proofs.Common.{◌≡◌, ◌==◌, ℕ, ◌<◌, ◌≤◌, ◌^◌, Bool, true, false, List, [], ◌∷◌, drop, length, Option, None, Some, Result, Ok, Err, refl, sym, ap, ap₂, subst, ◌∙◌, ◌⊎◌, inl, inr, arith}
+use Rattle.std.specs.Prelude.{cond, option_map, slice_index, unwrap_or, codes, ◌↔◌, Box, IfOk, IfErr}
 use Rattle.std.specs.Box.{box_value}
 use Rattle.std.specs.Str.Parse.{IsNumeral, ParsesBool, ParsesUnsigned, digits_value, without_leading_plus}
-use Rattle.clap.specs.Words.{App, Row, Text, ReadsOne, is_simple, subcommand_of, subcommand_rows}
+use Rattle.std.proofs.lemmas.Bool.{false≢true, ne_eqb}
+use Rattle.std.proofs.lemmas.Str.Parse.{digit_from_value}
+use Rattle.clap.specs.Words.{App, Row, Text, ReadsOne, first_of, is_simple, subcommand_of, subcommand_rows}
 use Rattle.clap.specs.declared.parser.matches.SubCommand.{SubCommand}
 use Rattle.clap.specs.declared.parser.matches.ArgMatches.TheViews.{out-SubCommand}
 use Rattle.clap.proofs.OnLiterals.{clap_on_literals}
-use Rattle.mcf.specs.Tasks.{IsExtra, program}
+use Rattle.dimacs_lines.specs.declared.numbers.TheConstants.{DIGIT_LIMIT}
+use Rattle.mcf.specs.declared.command_line.Task.{Task}
+use Rattle.mcf.specs.declared.command_line.Task.TheVariants.{Solve, Session, Check}
+use Rattle.mcf.specs.declared.command_line.Usage.{Usage}
+use Rattle.mcf.specs.Tasks.{IsExtra, IsRefusal, Names, NamesOrNone, command_of, program}
 
 pub program_is_simple : is_simple program ≡ true
 unfolding clap_on_literals
@@ -45,15 +51,52 @@ pub extra_is_left_out : (said : Option Text) → said ≡ None → IsExtra said 
 extra_is_left_out None none = refl
 extra_is_left_out (Some word) none = absurd cc
 
--- a word that is read as a number and has no plus before it is digits alone
+-- a word that is read as a number, has no plus before it and is short is a number as in a text
 pub extra_is_said : (said : Option Text) (word : Text) (extra : ℕ) → said ≡ Some word → ParsesUnsigned {E = Unit {0}} 32 10 word (Ok extra)
-    → false ≡ (slice_index word 0 == 43) → IsExtra said extra
-extra_is_said None word extra is parses unsigned = absurd cc
-extra_is_said (Some said) word extra is parses unsigned =
+    → false ≡ (slice_index word 0 == 43) → length word ≤ DIGIT_LIMIT → extra ≤ 100000 → IsExtra said extra
+extra_is_said None word extra is parses unsigned short below = absurd cc
+extra_is_said (Some said) word extra is parses unsigned short below =
     let same : without_leading_plus word ≡ word = ap (λ b. drop (cond b 1 0) word) (sym unsigned) ∙ drop_none word in
-    let read : IsNumeral 10 (without_leading_plus word) × (extra ≡ digits_value 10 (without_leading_plus word)) = (parses.0.0, parses.1) in
-    let digits : IsNumeral 10 word × (extra ≡ digits_value 10 word) = rw same at read in
-    rw (some_same said word is) digits
+    let numeral : IsNumeral 10 word = rw same at parses.0.0 in
+    let value : extra ≡ digits_value 10 word = rw same at parses.1 in
+    let says : IsNumeral 10 word × (length word ≤ DIGIT_LIMIT) × (extra ≤ 100000) × (extra ≡ digits_value 10 word) = (numeral, short, below, value) in
+    rw (some_same said word is) says
+
+-- a numeral begins with a digit
+no_plus : (word : Text) → IsNumeral 10 word → (slice_index word 0 == 43) ≡ false
+no_plus [] is = refl
+no_plus (byte ∷ word) is = ne_eqb byte 43 (λ e. omega (arith, digit_from_value byte is.1.0))
+
+numeral_whole : (word : Text) → IsNumeral 10 word → without_leading_plus word ≡ word
+numeral_whole word is = ap (λ b. drop (cond b 1 0) word) (no_plus word is) ∙ drop_none word
+
+-- what is refused is no number as in a text
+module _ (word : Text) (extra : ℕ) where
+  said_by : (said : Option Text) → said ≡ Some word → IsExtra said extra → IsNumeral 10 word × (length word ≤ DIGIT_LIMIT) × (extra ≤ 100000) × (extra ≡ digits_value 10 word)
+  said_by None is says = absurd cc
+  said_by (Some said) is says = rw (← some_same said word is) says
+
+  pub none_unread : (said : Option Text) → said ≡ Some word → (IsNumeral 10 (without_leading_plus word) × (digits_value 10 (without_leading_plus word) < 2 ^ 32) → ⊥) → IsExtra said extra → ⊥
+  none_unread said is unread says =
+      let by = said_by said is says in
+      let same = numeral_whole word by.0 in
+      let below : digits_value 10 word < 2 ^ 32 = omega (arith, by.2, by.3) in
+      unread (rw same by.0, rw same below)
+
+  pub none_signed : (said : Option Text) → said ≡ Some word → true ≡ (slice_index word 0 == 43) → IsExtra said extra → ⊥
+  none_signed said is signed says =
+      let by = said_by said is says in
+      false≢true (sym (no_plus word by.0) ∙ sym signed)
+
+  pub none_long : (said : Option Text) → said ≡ Some word → DIGIT_LIMIT < length word → IsExtra said extra → ⊥
+  none_long said is long says = let by = said_by said is says in omega (arith, by.1, long)
+
+  pub none_above : (said : Option Text) (read : ℕ) → said ≡ Some word → read ≡ digits_value 10 (without_leading_plus word) → 100000 < read → IsExtra said extra → ⊥
+  none_above said read is value above says =
+      let by = said_by said is says in
+      let same = numeral_whole word by.0 in
+      let value' : read ≡ digits_value 10 word = rw same at value in
+      omega (arith, by.2, by.3, value', above)
 
 -- the subcommand that was used, by its name and its rows
 module _ {Z : Type 0} where
@@ -68,3 +111,81 @@ module _ {Z : Type 0} where
       → Some rows ≡ option_map (λ p. p.1) (subcommand_rows used) → name ≡ want → subcommand_of program words ≡ Some (want, rows)
   used_in app words used name want rows same whole named has is =
       ap (λ a. subcommand_of a words) (sym same) ∙ sym whole ∙ used_is used name rows named has ∙ ap (λ n. Some (n, rows)) is
+
+  -- and where none was, the program has none
+  pub none_used : (app : App) (words : List Text) (used : Option (Box SubCommand Z)) → app ≡ program
+      → subcommand_rows used ≡ subcommand_of app words → None ≡ option_map (λ p. p.1) (subcommand_rows used) → subcommand_of program words ≡ None
+  none_used app words used same whole none = ap (λ a. subcommand_of a words) (sym same) ∙ sym whole ∙ none_of (subcommand_rows used) none
+    where
+      none_of : (o : Option (Text × List Row)) → None ≡ option_map (λ p. p.1) o → o ≡ None
+      none_of None e = refl
+      none_of (Some p) e = absurd cc
+
+-- ---- what says no task
+
+some_pair : (a b : Text × List Row) → Some a ≡ Some b → a ≡ b
+some_pair a b e = cc
+
+solve_or_session : codes "session" ≡ codes "solve" → ⊥
+solve_or_session e =
+    let letter : ◌≡◌ {A = ℕ} 101 111 = ap (λ (t : Text). slice_index t 1) e in
+    omega arith
+
+solve_or_check : codes "check" ≡ codes "solve" → ⊥
+solve_or_check e =
+    let letter : ◌≡◌ {A = ℕ} 104 111 = ap (λ (t : Text). slice_index t 1) e in
+    omega arith
+
+session_or_check : codes "session" ≡ codes "check" → ⊥
+session_or_check e =
+    let letter : ◌≡◌ {A = ℕ} 101 104 = ap (λ (t : Text). slice_index t 1) e in
+    omega arith
+
+pub none_names_none : (used : Option (Text × List Row)) (task : Task) → used ≡ None → Names used task → ⊥
+none_names_none used (Solve proof file) none named = absurd cc
+none_names_none used (Session problem extra) none named = absurd cc
+none_names_none used (Check problem answer) none named = absurd cc
+
+-- another command says none
+pub other_names_none : (name : Text) (rows : List Row) (task : Task) → (name ≡ codes "solve" → ⊥) → (name ≡ codes "session" → ⊥) → (name ≡ codes "check" → ⊥) → Names (Some (name, rows)) task → ⊥
+other_names_none name rows (Solve proof file) solve session check named = solve (ap (λ (p : Text × List Row). p.0) (some_pair (name, rows) _ named.1))
+other_names_none name rows (Session problem extra) solve session check named = session (ap (λ (p : Text × List Row). p.0) (some_pair (name, rows) _ named.1))
+other_names_none name rows (Check problem answer) solve session check named = check (ap (λ (p : Text × List Row). p.0) (some_pair (name, rows) _ named.1))
+
+module _ (rows : List Row) where
+  pub session_without_problem : (task : Task) → first_of (codes "problem") rows ≡ None → Names (Some (codes "session", rows)) task → ⊥
+  session_without_problem (Solve proof file) none named = solve_or_session (ap (λ (p : Text × List Row). p.0) (some_pair (codes "session", rows) _ named.1))
+  session_without_problem (Session problem extra) none named =
+      let same : rows ≡ named.0 = ap (λ (p : Text × List Row). p.1) (some_pair (codes "session", rows) _ named.1) in
+      let there : first_of (codes "problem") rows ≡ Some problem.now = ap (first_of (codes "problem")) same ∙ named.2 in
+      cc
+  session_without_problem (Check problem answer) none named = session_or_check (ap (λ (p : Text × List Row). p.0) (some_pair (codes "session", rows) _ named.1))
+
+  pub session_without_number : (task : Task) → ((extra : ℕ) → IsExtra (first_of (codes "extra") rows) extra → ⊥) → Names (Some (codes "session", rows)) task → ⊥
+  session_without_number (Solve proof file) none named = solve_or_session (ap (λ (p : Text × List Row). p.0) (some_pair (codes "session", rows) _ named.1))
+  session_without_number (Session problem extra) none named =
+      let same : rows ≡ named.0 = ap (λ (p : Text × List Row). p.1) (some_pair (codes "session", rows) _ named.1) in
+      none extra (subst (λ (said : List Row). IsExtra (first_of (codes "extra") said) extra) (sym same) named.3)
+  session_without_number (Check problem answer) none named = session_or_check (ap (λ (p : Text × List Row). p.0) (some_pair (codes "session", rows) _ named.1))
+
+  pub check_without : (task : Task) → (first_of (codes "problem") rows ≡ None) ⊎ (first_of (codes "answer") rows ≡ None) → Names (Some (codes "check", rows)) task → ⊥
+  check_without (Solve proof file) none named = solve_or_check (ap (λ (p : Text × List Row). p.0) (some_pair (codes "check", rows) _ named.1))
+  check_without (Session problem extra) none named = session_or_check (sym (ap (λ (p : Text × List Row). p.0) (some_pair (codes "check", rows) _ named.1)))
+  check_without (Check problem answer) none named =
+      let same : rows ≡ named.0 = ap (λ (p : Text × List Row). p.1) (some_pair (codes "check", rows) _ named.1) in
+      let first : first_of (codes "problem") rows ≡ Some problem.now = ap (first_of (codes "problem")) same ∙ named.2 in
+      let second : first_of (codes "answer") rows ≡ Some answer.now = ap (first_of (codes "answer")) same ∙ named.3 in
+      elim none [
+        | inl left_out ↦ absurd cc
+        | inr left_out ↦ absurd cc
+      ]
+
+-- ---- what a command answers, as what the program does
+
+pub named_by : (used : Option (Text × List Row)) (answer : Result Task Usage) → NamesOrNone used answer → IfOk answer (Names used)
+named_by used (Ok task) is = is
+named_by used (Err usage) is = tt
+
+pub refused_by : (words : List Text) (used : Option (Text × List Row)) (answer : Result Task Usage) → command_of words ≡ used → NamesOrNone used answer → IfErr answer (IsRefusal words)
+refused_by words used (Ok task) same is = tt
+refused_by words used (Err usage) same is = λ took task named. absurd (is task (subst (λ (u : Option (Text × List Row)). Names u task) same named))

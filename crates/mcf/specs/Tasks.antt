@@ -1,12 +1,16 @@
 -- The commands of the program, and the task that the matches of a command line name.
-use Rattle.std.specs.Prelude.{◌≡◌, ◌↔◌, ℕ, pos, true, List, Option, Some, MatchOption, codes, option_map}
+use Rattle.std.specs.Prelude.{◌≡◌, ◌↔◌, ◌≤◌, ℕ, pos, true, List, Option, Some, MatchOption, MatchResult, Result, codes, length, option_map}
 use Rattle.std.specs.Str.Parse.{IsNumeral, digits_value}
 use Rattle.clap.specs.Simple.{on_top}
-use Rattle.clap.specs.Words.{App, Row, Rule, Text, first_of, one_of, new_app, new_rule, subcommand_of, with_rule, with_subcommand}
+use Rattle.clap.specs.Words.{App, Row, Rule, Text, first_of, kind_of, one_of, new_app, new_rule, subcommand_of, takes, with_rule, with_subcommand}
 use Rattle.clap.specs.declared.builder.ArgAction.TheVariants.{Set, SetTrue}
 use Rattle.clap.specs.declared.builder.value_parser.ValueParser.TheVariants as parser
+use Rattle.clap.specs.declared.error.kind.ErrorKind.TheVariants.{OutOfMemory}
+use Rattle.dimacs_lines.specs.declared.numbers.TheConstants.{DIGIT_LIMIT}
 use Rattle.mcf.specs.declared.command_line.Task.{Task}
 use Rattle.mcf.specs.declared.command_line.Task.TheVariants.{Solve, Session, Check}
+use Rattle.mcf.specs.declared.command_line.Usage.{Usage}
+use Rattle.mcf.specs.declared.command_line.Usage.TheVariants.{Words}
 
 -- `--proof`
 abbrev pub proof_rule : Rule
@@ -48,9 +52,9 @@ program = with_subcommand (with_subcommand (with_subcommand named solve_command.
 abbrev pub command_of : List Text → Option (Text × List Row)
 command_of words = subcommand_of program words
 
--- the number that a word of digits alone says, and 1,000 where there is none
+-- the number that a word says as in a text, by 1 to 18 digits, and 1,000 where there is none
 abbrev pub IsExtra : Option Text → ℕ → Type 0
-IsExtra said extra = MatchOption said (extra ≡ 1000) (λ word. IsNumeral 10 word × (extra ≡ digits_value 10 word))
+IsExtra said extra = MatchOption said (extra ≡ 1000) (λ word. IsNumeral 10 word × (length word ≤ DIGIT_LIMIT) × (extra ≤ 100000) × (extra ≡ digits_value 10 word))
 
 -- the name and the matches of a command say this task
 abbrev pub Names : Option (Text × List Row) → Task → Type 0
@@ -60,3 +64,15 @@ Names used (Session problem extra) = (rows : List Row) × (used ≡ Some (codes 
     × (first_of (codes "problem") rows ≡ Some problem.now) × IsExtra (first_of (codes "extra") rows) extra
 Names used (Check problem answer) = (rows : List Row) × (used ≡ Some (codes "check", rows))
     × (first_of (codes "problem") rows ≡ Some problem.now) × (first_of (codes "answer") rows ≡ Some answer.now)
+
+-- a task that these say, or that they say none
+abbrev pub NamesOrNone : Option (Text × List Row) → Result Task Usage → Type 0
+NamesOrNone used answer = MatchResult answer (Names used) (λ _. (task : Task) → Names used task → ⊥)
+
+abbrev pub IsWantOfMemory : Usage → Type 0
+IsWantOfMemory (Words error) = kind_of error ≡ OutOfMemory
+IsWantOfMemory _ = ⊥
+
+-- words that `clap` takes, and that name a task, are refused only where memory is
+abbrev pub IsRefusal : List Text → Usage → Type 0
+IsRefusal words usage = takes program words ≡ true → (task : Task) → Names (command_of words) task → IsWantOfMemory usage

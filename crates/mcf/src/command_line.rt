@@ -2,6 +2,8 @@
 
 ghost use Rattle.std.specs.Prelude.{◌≡◌};
 ghost use Rattle.mcf.specs.Performing.{answer_file, problem_file};
+ghost use Rattle.mcf.specs.Tasks.{IsWantOfMemory};
+ghost use Rattle.mcf.specs.declared.command_line.Usage.TheVariants as usage;
 
 use clap::Error;
 use std::alloc::AllocError;
@@ -52,17 +54,21 @@ pub enum Usage {
     Words(Error),
     /// Words without a part that `clap` was told to ask for.
     Missing,
-    /// A number of arcs with a sign.
-    Signed,
+    /// A number of arcs that is none in a text: with a sign, or with too many digits.
+    NotANumber,
 }
 
 impl From<Error> for Usage {
+    ghost from_gives = { λ error made. made ≡ usage.Words error };
+
     fn from(error: Error) -> Usage {
         Usage::Words(error)
     }
 }
 
 impl From<AllocError> for Usage {
+    ghost from_gives = { λ _ made. IsWantOfMemory made };
+
     fn from(error: AllocError) -> Usage {
         Usage::Words(Error::from(error))
     }
