@@ -4,13 +4,16 @@ use Rattle.std.proofs.lemmas.List.{take_at}
 use Rattle.std.specs.Io.KnownBytes.{Appends, Consumes, IsAtEnd}
 use Rattle.std.proofs.KnownBytes.{Consumes-nil, Consumes-trans}
 use Rattle.dimacs_lines.specs.declared.fault.TextFault.{TextFault}
+use Rattle.dimacs_text.specs.Reading.{ProblemValue}
 use Rattle.dimacs_lines.specs.declared.fault.TextFault.TheVariants as text_fault
 use Rattle.checker.specs.declared.read.ReadError.{ReadError}
 use Rattle.checker.specs.declared.read.ReadError.TheVariants as read_error
-use Rattle.checker.specs.Check.{answer_whole, problem_whole}
+use Rattle.checker.specs.Check.{answer_whole, problem_failures, problem_whole}
+use Rattle.checker.specs.Devices.{UsesSource}
 use Rattle.checker.specs.declared.end.Text.TheVariants as the
-use Rattle.checker.specs.Reading.{Gives, GivesAndLogs, IsRead, ReadsKnown, ReadsText, ReadsWhole, end_of, reads_all}
+use Rattle.checker.specs.Reading.{CountsRead, FailsLastRead, Gives, GivesAndLogs, IsRead, ReadsKnown, ReadsText, ReadsWhole, end_of, reads_all}
 use Rattle.dimacs_io.specs.Device.{text_of}
+use Rattle.dimacs_io.specs.declared.device.Source as source
 use Rattle.std.proofs.Math.Seq.{drop-append_seam}
 
 pub Gives-nil : (known : Option (List ℕ)) (left : ℕ) → Gives known known [] left left
@@ -169,3 +172,36 @@ IsRead-answer read_error.Source old new ended read = read
 pub appended : (held written : List ℕ) (after : Option (List ℕ)) → Appends (Some held) after written → after ≡ Some (held ++ written)
 appended held written None more = absurd more
 appended held written (Some all) more = ap (λ l. Some l) more
+
+-- ---- what a run did to a source
+
+module _ {S : Type 0} (device : source.Ghosts S) where
+  -- a text that was read to its end, of which no read failed
+  pub UsesSource-whole : (whole : Bool) (failures : ℕ) (old new : S) → failures ≡ 0 → UsesSource device true 0 old new → UsesSource device whole failures old new
+  UsesSource-whole whole failures old new none used = record {
+    read = IsRead-whole whole _ _ _ used.read;
+    failed = omega (arith, none, used.failed);
+    last = λ one. absurd (omega (arith, none, one));
+  }
+
+  -- no call was made
+  pub UsesSource-none : (whole : Bool) (failures : ℕ) (old : S) → whole ≡ false → failures ≡ 0 → UsesSource device whole failures old old
+  UsesSource-none whole failures old unread none = record {
+    read = IsRead-none whole _ _ unread;
+    failed = omega (arith, none);
+    last = λ one. absurd (omega (arith, none, one));
+  }
+
+  -- the problem was read
+  pub UsesSource-read : (old new : S) → IsRead true (device.given old) (device.given new) (device.ended new) → device.failures new ≡ device.failures old → UsesSource device true 0 old new
+  UsesSource-read old new read same = record { read = read; failed = omega (arith, same); last = λ one. absurd (omega (arith, one)) }
+
+  -- the reading of the problem ended the run
+  pub UsesSource-problem : (e : ReadError) (old new : S) → IsRead false (device.given old) (device.given new) (device.ended new)
+      → CountsRead {X = ProblemValue} (Err e) (device.failures old) (device.failures new) → FailsLastRead {X = ProblemValue} (Err e) (device.last_failed new)
+      → UsesSource device (problem_whole (end_of the.Problem e)) (problem_failures (end_of the.Problem e)) old new
+  UsesSource-problem (read_error.Text text_fault.Memory) old new read counts last =
+      record { read = read; failed = omega (arith, counts); last = λ one. absurd (omega (arith, one)) }
+  UsesSource-problem (read_error.Text (text_fault.Fault number line)) old new read counts last =
+      record { read = read; failed = omega (arith, counts); last = λ one. absurd (omega (arith, one)) }
+  UsesSource-problem read_error.Source old new read counts last = record { read = read; failed = counts; last = λ one. last }

@@ -1,3 +1,4 @@
 pub mod End
 pub mod Reading
 pub mod Check
+pub mod Devices

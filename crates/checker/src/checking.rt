@@ -1,7 +1,7 @@
 //! Checks an answer to a problem, and writes whether it is right.
 ghost use Rattle.std.specs.Prelude.{◌≡◌, ◌-◌, ◌^◌, ◌<◌, ◌↔◌, true, IfOk, IsTrue, length};
-ghost use Rattle.dimacs_io.specs.Device.{CountsFailure, CountsFlush, EndsBy, Fails, RisesBy, Writes, text_over};
-ghost use Rattle.dimacs_io.specs.declared.device.LastCall.TheVariants as last;
+ghost use Rattle.dimacs_io.specs.Calls.{PassesText};
+ghost use Rattle.dimacs_io.specs.Device.{Fails, RisesBy, text_over};
 ghost use Rattle.checker.specs.Reading.{SourceIsRead};
 ghost use Rattle.checker.specs.Check.{CheckOnDevices, NamesEnds, NameEnds, IsRight, Settles, ValidSettles, answer_failures, answer_whole, flow_of_lines, flushes_by, last_by, marks_of, problem_failures, problem_whole, verdict_line, write_failures};
 
@@ -28,8 +28,10 @@ pub fn check<P: Source, A: Source, O: Sink>(
 
     // `valid` is written exactly where the answer is right, and each end but that of memory has its cause.
     ensures check { CheckOnDevices result
-        (text_over P.remaining P.given problem.old problem.new) (P.most_left problem.old - P.most_left problem.new)
-        (text_over A.remaining A.given answer.old answer.new) (A.most_left answer.old - A.most_left answer.new)
+        (text_over P.remaining P.given problem.old problem.new)
+        (P.most_left problem.old - P.most_left problem.new)
+        (text_over A.remaining A.given answer.old answer.new)
+        (A.most_left answer.old - A.most_left answer.new)
         (O.contents out.old) (O.contents out.new) }
     ensures best { ValidSettles result
         (text_over P.remaining P.given problem.old problem.new)
@@ -72,10 +74,7 @@ pub fn check<P: Source, A: Source, O: Sink>(
 /// Writes the verdict, and passes it on.
 fn write_verdict<O: Sink>(right: bool, out: &mut O) -> Result<(), Broken>
     requires { O.failures out.old < 2 ^ 64 - 1 }
-    ensures bytes { Writes O.contents result out.old out.new (verdict_line right) }
-    ensures failed { CountsFailure result (O.failures out.old) (O.failures out.new) }
-    ensures flushed { CountsFlush result (O.flushes out.old) (O.flushes out.new) }
-    ensures last { EndsBy result last.Flush (O.last_call out.new) }
+    ensures { PassesText O.Sink result out.old out.new (verdict_line right) }
 {
     let line = if right {
         b"valid\n".as_slice()

@@ -1,6 +1,6 @@
 //! How a run ends, and what is told of it.
 ghost use Rattle.std.specs.Prelude.{◌≡◌, ◌-◌, ◌^◌, ◌<◌};
-ghost use Rattle.dimacs_io.specs.Device.{CountsFailure, FailsLast, Writes};
+ghost use Rattle.dimacs_io.specs.Calls.{WritesText};
 ghost use Rattle.checker.specs.End.{status_of, told, text_name};
 
 use dimacs_io::{Broken, Line, Sink, write_all};
@@ -69,10 +69,7 @@ impl End {
     /// Writes the line that is told on the standard error, if there is one. It cannot fail for want of memory.
     pub fn tell<E: Sink>(&self, err: &mut E) -> Result<(), Broken>
         requires { E.failures err.old < 2 ^ 64 - 1 }
-        ensures bytes { Writes E.contents result err.old err.new (told self.now) }
-        ensures failed { CountsFailure result (E.failures err.old) (E.failures err.new) }
-        ensures flushed { E.flushes err.new ≡ E.flushes err.old }
-        ensures last { FailsLast result (E.last_call err.new) }
+        ensures { WritesText E.Sink result err.old err.new (told self.now) }
     {
         write_all(err, self.line().as_bytes())
     }

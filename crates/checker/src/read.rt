@@ -72,9 +72,11 @@ pub fn read_problem<P: Source>(alloc: Global, problem: &mut P) -> Result<Problem
     requires { P.failures problem.old < 2 ^ 64 - 1 }
     ensures read { (given : List ℕ)
         × SourceGives P.remaining P.given P.most_left problem.old problem.new given
-        × ReadsText (decided problem_rule) reads result given (P.remaining problem.new) (P.ended problem.new) }
+        × ReadsText (decided problem_rule) reads result given
+        (P.remaining problem.new) (P.ended problem.new) }
     ensures known { ReadsKnown (decided problem_rule) reads result
-        (text_over P.remaining P.given problem.old problem.new) (P.most_left problem.old - P.most_left problem.new) }
+        (text_over P.remaining P.given problem.old problem.new)
+        (P.most_left problem.old - P.most_left problem.new) }
     ensures grows { SourceIsRead (reads_all result) P.given P.ended problem.old problem.new }
     ensures failed { CountsRead result (P.failures problem.old) (P.failures problem.new) }
     ensures last { FailsLastRead result (P.last_failed problem.new) }
@@ -103,9 +105,11 @@ pub fn read_answer<A: Source>(
     requires { A.failures answer.old < 2 ^ 64 - 1 }
     ensures read { (given : List ℕ)
         × SourceGives A.remaining A.given A.most_left answer.old answer.new given
-        × ReadsText (decided (answer_rule nodes arcs)) (answers nodes arcs) result given (A.remaining answer.new) (A.ended answer.new) }
+        × ReadsText (decided (answer_rule nodes arcs)) (answers nodes arcs) result given
+        (A.remaining answer.new) (A.ended answer.new) }
     ensures known { ReadsKnown (decided (answer_rule nodes arcs)) (answers nodes arcs) result
-        (text_over A.remaining A.given answer.old answer.new) (A.most_left answer.old - A.most_left answer.new) }
+        (text_over A.remaining A.given answer.old answer.new)
+        (A.most_left answer.old - A.most_left answer.new) }
     ensures grows { SourceIsRead (reads_all result) A.given A.ended answer.old answer.new }
     ensures failed { CountsRead result (A.failures answer.old) (A.failures answer.new) }
     ensures last { FailsLastRead result (A.last_failed answer.new) }

@@ -1,7 +1,7 @@
 //! Writers of one line each: the lines of a solution in the DIMACS formats for network flows, and the refusal line of a
 //! session. Each is written whole or given up at the first failed call, and none can fail for want of memory.
-ghost use Rattle.std.specs.Prelude.{◌≡◌, ◌-◌, ◌^◌, ◌<◌};
-ghost use Rattle.dimacs_io.specs.Device.{CountsFailure, FailsLast, Writes};
+ghost use Rattle.std.specs.Prelude.{◌-◌, ◌^◌, ◌<◌};
+ghost use Rattle.dimacs_io.specs.Calls.{WritesText};
 ghost use Rattle.dimacs_io.specs.Line.{value_line, flow_line, potential_line, shortage_line, cut_line, refusal_line};
 
 use crate::device::{Broken, Sink};
@@ -13,10 +13,7 @@ use crate::line::Line;
 /// after a failure, and `flush` is not called. The other writers fail in the same way.
 pub fn write_all<O: Sink>(out: &mut O, bytes: &[u8]) -> Result<(), Broken>
     requires { O.failures out.old < 2 ^ 64 - 1 }
-    ensures bytes { Writes O.contents result out.old out.new bytes.now }
-    ensures failed { CountsFailure result (O.failures out.old) (O.failures out.new) }
-    ensures flushed { O.flushes out.new ≡ O.flushes out.old }
-    ensures last { FailsLast result (O.last_call out.new) }
+    ensures { WritesText O.Sink result out.old out.new bytes.now }
 {
     let mut done = 0;
     while done < bytes.len() {
@@ -28,10 +25,7 @@ pub fn write_all<O: Sink>(out: &mut O, bytes: &[u8]) -> Result<(), Broken>
 /// Writes the solution line `s VALUE`: the worth of a flow.
 pub fn write_s<O: Sink>(out: &mut O, value: i128) -> Result<(), Broken>
     requires { O.failures out.old < 2 ^ 64 - 1 }
-    ensures bytes { Writes O.contents result out.old out.new (value_line value) }
-    ensures failed { CountsFailure result (O.failures out.old) (O.failures out.new) }
-    ensures flushed { O.flushes out.new ≡ O.flushes out.old }
-    ensures last { FailsLast result (O.last_call out.new) }
+    ensures { WritesText O.Sink result out.old out.new (value_line value) }
 {
     let mut line = Line::new();
     line.push_text(b"s ");
@@ -43,10 +37,7 @@ pub fn write_s<O: Sink>(out: &mut O, value: i128) -> Result<(), Broken>
 /// Writes the flow line `f SRC DST FLOW`: the flow of an arc from node `tail` to node `head`.
 pub fn write_f<O: Sink>(out: &mut O, tail: u32, head: u32, flow: i64) -> Result<(), Broken>
     requires { O.failures out.old < 2 ^ 64 - 1 }
-    ensures bytes { Writes O.contents result out.old out.new (flow_line tail head flow) }
-    ensures failed { CountsFailure result (O.failures out.old) (O.failures out.new) }
-    ensures flushed { O.flushes out.new ≡ O.flushes out.old }
-    ensures last { FailsLast result (O.last_call out.new) }
+    ensures { WritesText O.Sink result out.old out.new (flow_line tail head flow) }
 {
     let mut line = Line::new();
     line.push_text(b"f ");
@@ -62,10 +53,7 @@ pub fn write_f<O: Sink>(out: &mut O, tail: u32, head: u32, flow: i64) -> Result<
 /// Writes `v ID POTENTIAL`: the potential of node `id`.
 pub fn write_v<O: Sink>(out: &mut O, id: u32, potential: i64) -> Result<(), Broken>
     requires { O.failures out.old < 2 ^ 64 - 1 }
-    ensures bytes { Writes O.contents result out.old out.new (potential_line id potential) }
-    ensures failed { CountsFailure result (O.failures out.old) (O.failures out.new) }
-    ensures flushed { O.flushes out.new ≡ O.flushes out.old }
-    ensures last { FailsLast result (O.last_call out.new) }
+    ensures { WritesText O.Sink result out.old out.new (potential_line id potential) }
 {
     let mut line = Line::new();
     line.push_text(b"v ");
@@ -79,10 +67,7 @@ pub fn write_v<O: Sink>(out: &mut O, id: u32, potential: i64) -> Result<(), Brok
 /// Writes `i SHORTAGE`: no flow exists, and a cut falls short by this much.
 pub fn write_i<O: Sink>(out: &mut O, shortage: i64) -> Result<(), Broken>
     requires { O.failures out.old < 2 ^ 64 - 1 }
-    ensures bytes { Writes O.contents result out.old out.new (shortage_line shortage) }
-    ensures failed { CountsFailure result (O.failures out.old) (O.failures out.new) }
-    ensures flushed { O.flushes out.new ≡ O.flushes out.old }
-    ensures last { FailsLast result (O.last_call out.new) }
+    ensures { WritesText O.Sink result out.old out.new (shortage_line shortage) }
 {
     let mut line = Line::new();
     line.push_text(b"i ");
@@ -94,10 +79,7 @@ pub fn write_i<O: Sink>(out: &mut O, shortage: i64) -> Result<(), Broken>
 /// Writes `k ID`: node `id` is in the cut.
 pub fn write_k<O: Sink>(out: &mut O, id: u32) -> Result<(), Broken>
     requires { O.failures out.old < 2 ^ 64 - 1 }
-    ensures bytes { Writes O.contents result out.old out.new (cut_line id) }
-    ensures failed { CountsFailure result (O.failures out.old) (O.failures out.new) }
-    ensures flushed { O.flushes out.new ≡ O.flushes out.old }
-    ensures last { FailsLast result (O.last_call out.new) }
+    ensures { WritesText O.Sink result out.old out.new (cut_line id) }
 {
     let mut line = Line::new();
     line.push_text(b"k ");
@@ -109,10 +91,7 @@ pub fn write_k<O: Sink>(out: &mut O, id: u32) -> Result<(), Broken>
 /// Writes `r N`: a command was refused for the reason of this number.
 pub fn write_r<O: Sink>(out: &mut O, number: u8) -> Result<(), Broken>
     requires { O.failures out.old < 2 ^ 64 - 1 }
-    ensures bytes { Writes O.contents result out.old out.new (refusal_line number) }
-    ensures failed { CountsFailure result (O.failures out.old) (O.failures out.new) }
-    ensures flushed { O.flushes out.new ≡ O.flushes out.old }
-    ensures last { FailsLast result (O.last_call out.new) }
+    ensures { WritesText O.Sink result out.old out.new (refusal_line number) }
 {
     let mut line = Line::new();
     line.push_text(b"r ");

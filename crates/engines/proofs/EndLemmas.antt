@@ -1,5 +1,5 @@
 -- How runs end where no call fails and memory is found.
-use Rattle.std.proofs.Common.{◌≡◌, ◌≢◌, ℕ, Bool, List, length, Option, Some, Result, Ok, Err, inl, inr, refl, sym, ◌∙◌}
+use Rattle.std.proofs.Common.{◌≡◌, ◌≢◌, ℕ, Bool, List, length, Option, Some, Result, Ok, Err, inl, inr, refl}
 use Rattle.std.specs.Prelude.{◌⊎◌}
 use Rattle.dimacs_lines.specs.declared.fault.TextFault.{TextFault}
 use Rattle.dimacs_lines.specs.declared.fault.TextFault.TheVariants.{Fault}

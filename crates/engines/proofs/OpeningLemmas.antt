@@ -1,5 +1,5 @@
 -- What a run that ends without a session has counted.
-use Rattle.std.proofs.Common.{◌≡◌, ℕ, Bool, false, ◌+◌, arith, List, Option, inl, inr, refl}
+use Rattle.std.proofs.Common.{◌≡◌, ℕ, false, arith, List, Option, inl, inr, refl}
 use Rattle.dimacs_lines.specs.declared.fault.TextFault.TheVariants as text_fault
 use Rattle.checker.specs.declared.end.Text.TheVariants as the
 use Rattle.checker.specs.declared.end.End.{End}
@@ -8,7 +8,9 @@ use Rattle.checker.specs.declared.read.ReadError.TheVariants as read_error
 use Rattle.dimacs_io.specs.declared.device.LastCall.{LastCall}
 use Rattle.dimacs_io.specs.Device.{RisesBy}
 use Rattle.checker.specs.Check.{flushes_by, last_by, write_failures}
+use Rattle.checker.specs.Devices.{UsesSink}
 use Rattle.checker.specs.Reading.{end_of}
+use Rattle.dimacs_io.specs.declared.device.Sink as sink
 use Rattle.engines.specs.Opening.{IsNotOpened}
 use Rattle.engines.specs.Session.{command_failures, commands_whole}
 use Rattle.engines.proofs.FlushLemmas.{RisesBy-none}
@@ -24,14 +26,14 @@ unread_commands (read_error.Text (text_fault.Fault number line)) = refl
 unread_commands read_error.Source = refl
 
 -- nothing was written that could have failed
-pub unopened_writes : (known : Option (List ℕ)) (count : ℕ) (end : End) (failures : ℕ) → IsNotOpened known count end → failures ≡ failures + write_failures end
-unopened_writes known count end failures (inl ends) = rw ends.1 (omega (arith, unread_writes ends.0))
-unopened_writes known count end failures (inr memory) = rw memory (omega arith)
+pub unopened_writes : (known : Option (List ℕ)) (count : ℕ) (end : End) → IsNotOpened known count end → write_failures end ≡ 0
+unopened_writes known count end (inl ends) = rw ends.1 (unread_writes ends.0)
+unopened_writes known count end (inr memory) = rw memory refl
 
 -- no command was read
-pub unopened_commands : (known : Option (List ℕ)) (count : ℕ) (end : End) (failures : ℕ) → IsNotOpened known count end → failures ≡ failures + command_failures end
-unopened_commands known count end failures (inl ends) = rw ends.1 (omega (arith, unread_commands ends.0))
-unopened_commands known count end failures (inr memory) = rw memory (omega arith)
+pub unopened_commands : (known : Option (List ℕ)) (count : ℕ) (end : End) → IsNotOpened known count end → command_failures end ≡ 0
+unopened_commands known count end (inl ends) = rw ends.1 (unread_commands ends.0)
+unopened_commands known count end (inr memory) = rw memory refl
 
 unread_whole : (e : ReadError) → commands_whole (end_of the.Problem e) ≡ false
 unread_whole (read_error.Text text_fault.Memory) = refl
@@ -63,5 +65,9 @@ pub unopened_last : (known : Option (List ℕ)) (count : ℕ) (end : End) (befor
 unopened_last known count end before (inl ends) = rw ends.1 (unread_last ends.0 before)
 unopened_last known count end before (inr memory) = rw memory refl
 
-pub none_counted : {P : Type 0} (n failures : ℕ) → failures ≡ failures + n → n ≡ 1 → P
-none_counted n failures none one = absurd (omega (arith, none, one))
+-- the sink is as it was
+pub unopened_sink : {O : Type 0} (device : sink.Ghosts O) (known : Option (List ℕ)) (count : ℕ) (end : End) (out : O) → IsNotOpened known count end → UsesSink device end out out
+unopened_sink device known count end out ends = record {
+  failed = omega (arith, unopened_writes known count end ends);
+  last = unopened_last known count end (device.last_call out) ends;
+}

@@ -95,6 +95,6 @@ written_last (verdict.Best worth) before = refl
 written_last (verdict.Infeasible shortage) before = refl
 
 -- and the problem was read
-pub no_problem_failed : {P : Type 0} (v : Verdict) → problem_failures (end_by v) ≡ 1 → P
-no_problem_failed (verdict.Best worth) one = absurd (omega (arith, one))
-no_problem_failed (verdict.Infeasible shortage) one = absurd (omega (arith, one))
+pub no_problem_failed : (v : Verdict) → problem_failures (end_by v) ≡ 0
+no_problem_failed (verdict.Best worth) = refl
+no_problem_failed (verdict.Infeasible shortage) = refl

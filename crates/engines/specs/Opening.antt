@@ -1,5 +1,7 @@
 -- How a run opens its session.
-use Rattle.std.specs.Prelude.{◌≡◌, ℕ, List, [], ◌⊎◌, Option, Ok, Err}
+use Rattle.std.specs.Prelude.{◌≡◌, ℕ, ◌-◌, true, List, [], ◌⊎◌, Option, Ok, Err}
+use Rattle.dimacs_io.specs.Device.{text_over}
+use Rattle.dimacs_io.specs.declared.device.Source as source
 use Rattle.dimacs_lines.specs.Stream.{decided}
 use Rattle.dimacs_text.specs.Reading.{ProblemValue, problem_rule, reads}
 use Rattle.network.specs.Instance.{first}
@@ -8,6 +10,8 @@ use Rattle.checker.specs.declared.end.Text.TheVariants as the
 use Rattle.checker.specs.declared.end.End.{End}
 use Rattle.checker.specs.declared.end.End.TheVariants.{Memory}
 use Rattle.checker.specs.declared.read.ReadError.{ReadError}
+use Rattle.checker.specs.Check.{problem_failures, problem_whole}
+use Rattle.checker.specs.Devices.{UsesSource}
 use Rattle.checker.specs.Reading.{ReadsKnown, end_of}
 use Rattle.engines.specs.Solve.{IsSettled}
 
@@ -28,3 +32,13 @@ pub record IsOpened (known : Option (List ℕ)) (count extra : ℕ) (opening : S
 abbrev pub IsNotOpened : Option (List ℕ) → ℕ → End → Type 0
 IsNotOpened known count end =
     ((error : ReadError) × (end ≡ end_of the.Problem error) × ReadsKnown (decided problem_rule) reads (Err error) known count) ⊎ (end ≡ Memory)
+
+-- the session that was opened on what a source gave, all of which was read
+pub record OpensOn {P : Type 0} (device : source.Ghosts P) (old new : P) (extra : ℕ) (opening : SessionState) : Type 0 where
+  pub opened : IsOpened (text_over device.remaining device.given old new) (device.most_left old - device.most_left new) extra opening
+  pub source : UsesSource device true 0 old new
+
+-- the run ended without a session on what a source gave
+pub record EndsUnopened {P : Type 0} (device : source.Ghosts P) (old new : P) (end : End) : Type 0 where
+  pub ended : IsNotOpened (text_over device.remaining device.given old new) (device.most_left old - device.most_left new) end
+  pub source : UsesSource device (problem_whole end) (problem_failures end) old new

@@ -1,15 +1,19 @@
 -- What a session has done at each of its calls, over what has come so far of its commands.
-use Rattle.std.specs.Prelude.{◌≡◌, ℕ, ◌+◌, List, length, ◌⊎◌, Option, Result, MatchResult, OnOk}
+use Rattle.std.specs.Prelude.{◌≡◌, ℕ, ◌+◌, List, ◌++◌, length, ◌⊎◌, Option, Result, MatchResult, OnOk}
+use Rattle.std.specs.Borrow.{Bor}
 use Rattle.std.specs.Io.KnownBytes.{Appends, IsAtEnd}
-use Rattle.dimacs_io.specs.Device.{IsBeginning, AppendsBeginning, RisesBy, WritesUpTo}
+use Rattle.dimacs_io.specs.Device.{IsBeginning, AppendsBeginning, CountsFailure, RisesBy, WritesUpTo}
 use Rattle.dimacs_io.specs.declared.device.LastCall.{LastCall}
 use Rattle.dimacs_io.specs.declared.device.LastCall.TheVariants as last
+use Rattle.dimacs_io.specs.declared.device.Sink as sink
+use Rattle.dimacs_io.specs.declared.device.Source as source
 use Rattle.dimacs_lines.specs.Cut.{Cut, HoldsRest}
 use Rattle.dimacs_text.specs.Group.{Gathered}
 use Rattle.dimacs_lines.specs.Lines.{Line, parts_of, lines_of}
 use Rattle.dimacs_text.specs.Turns.{Turn}
 use Rattle.session.specs.Step.{SessionState}
-use Rattle.session.specs.Turns.{gathered_in, turns_by}
+use Rattle.session.specs.Turns.{IsPassedAs, gathered_in, turns_by}
+use Rattle.checker.specs.Reading.{SourceGives}
 use Rattle.checker.specs.declared.end.Text.TheVariants as the
 use Rattle.checker.specs.declared.end.End.{End}
 use Rattle.checker.specs.declared.end.End.TheVariants.{Ended, ReadFailed, WriteFailed}
@@ -20,8 +24,8 @@ pub record Output : Type 0 where
   pub contents : Option (List ℕ)
   pub flushes : ℕ
 
-abbrev pub output_of : {S : Type 0} → (S → Option (List ℕ)) → (S → ℕ) → S → Output
-output_of contents flushes sink = record { contents = contents sink; flushes = flushes sink }
+abbrev pub output_of : {O : Type 0} → sink.Ghosts O → O → Output
+output_of device out = record { contents = device.contents out; flushes = device.flushes out }
 
 -- after the lines of the group that stands open, the turn that a line makes whole is answered by one step
 abbrev pub AnswersLine : SessionState → Option (List Line) → Line → List ℕ → SessionState → Type 0
@@ -39,9 +43,20 @@ pub record ServesLine {E : Type 0} (result : Result (Unit {0}) E) (old : Session
   pub flushed : FlushesTurns result (turns_by opened line).whole before.flushes after.flushes
   pub holds : OnOk result (group ≡ gathered_in new (turns_by opened line).opened)
 
+-- the line that is passed is served, whichever it is, where the group that stood open held these lines
+abbrev pub ServesPassed : {E : Type 0} → Result (Unit {0}) E → Option (Bor (List ℕ)) → SessionState → Option Gathered → Output → SessionState → Option Gathered → Output → Type 0
+ServesPassed result passed old group before new group' after =
+    (line : Line) → IsPassedAs passed line → (opened : Option (List Line)) → group ≡ gathered_in old opened
+    → ServesLine result old opened line new group' before after
+
 -- where all that was written before is passed on, so is what was written now; or the last call is the one that failed
 abbrev pub StaysPassedOn : {E : Type 0} → Result (Unit {0}) E → LastCall → LastCall → Type 0
 StaysPassedOn result before now = MatchResult result (λ _. before ≡ last.Flush → now ≡ last.Flush) (λ _. now ≡ last.Failure)
+
+-- the same of a sink, which counts a failed call
+pub record LeavesPassedOn {O E : Type 0} (device : sink.Ghosts O) (result : Result (Unit {0}) E) (old new : O) : Type 0 where
+  pub failed : CountsFailure result (device.failures old) (device.failures new)
+  pub stays : StaysPassedOn result (device.last_call old) (device.last_call new)
 
 -- the answers to these lines were written, each followed by a flush, and led from the opening to this moment
 pub record Answered (opening : SessionState) (lines : List Line) (last : SessionState) (before after : Output) : Type 0 where
@@ -78,6 +93,28 @@ abbrev pub Finishes : {E : Type 0} → Result (Unit {0}) E → SessionState → 
 Finishes result opening given present before now =
     MatchResult result (λ _. Answered opening (lines_of given) present before now) (λ _. Stopped opening (lines_of given) before now)
 
+-- where a session stands in its commands: its state, the group that stands open, the cutter, and what its sink tells
+pub record Place : Type 0 where
+  pub state : SessionState
+  pub group : Option Gathered
+  pub cutter : Cut
+  pub output : Output
+
+abbrev pub place : SessionState → Option Gathered → Cut → Output → Place
+place state group cutter output = record { state = state; group = group; cutter = cutter; output = output }
+
+-- a piece more of the commands was taken, whatever came before it
+abbrev pub TakesPiece : {E : Type 0} → Result (Unit {0}) E → List ℕ → Place → Place → Type 0
+TakesPiece result piece old new =
+    (opening : SessionState) (given : List ℕ) (before : Output) → Stands opening given old.state old.group old.cutter before old.output
+    → GoesOn result opening (given ++ piece) new.state new.group new.cutter before new.output
+
+-- what stands after the last line feed was taken, whatever came before it
+abbrev pub TakesRest : {E : Type 0} → Result (Unit {0}) E → Place → SessionState → Output → Type 0
+TakesRest result old new after =
+    (opening : SessionState) (given : List ℕ) (before : Output) → Stands opening given old.state old.group old.cutter before old.output
+    → Finishes result opening given new before after
+
 -- how the commands end, of which `given` has come and `rest` is known to be left
 abbrev pub CommandsEnd : End → SessionState → List ℕ → Option (List ℕ) → Output → Output → Type 0
 CommandsEnd Ended opening given rest before now = IsAtEnd rest × (last : SessionState) × Answered opening (lines_of given) last before now
@@ -85,3 +122,9 @@ CommandsEnd (ReadFailed the.Commands) opening given rest before now = (last : Se
 CommandsEnd WriteFailed opening given rest before now =
     Stopped opening (parts_of given).ended before now ⊎ (IsAtEnd rest × Stopped opening (lines_of given) before now)
 CommandsEnd _ opening given rest before now = ⊥
+
+-- the commands that a source gave were served to this end
+abbrev pub ServesCommands : {C O : Type 0} → source.Ghosts C → sink.Ghosts O → End → SessionState → C → C → O → O → Type 0
+ServesCommands script out end opening old new before after =
+    (given : List ℕ) × SourceGives script.remaining script.given script.most_left old new given
+    × CommandsEnd end opening given (script.remaining new) (output_of out before) (output_of out after)

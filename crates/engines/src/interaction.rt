@@ -1,17 +1,16 @@
 //! Runs a session: reads its problem, and then its commands, each turn of which is answered before the next.
-ghost use Rattle.std.specs.Prelude.{◌≡◌, ℕ, ◌+◌, ◌-◌, ◌^◌, ◌<◌, true, is_err, List, ◌++◌};
-ghost use Rattle.std.specs.Io.{ReadsAtMost};
-ghost use Rattle.std.specs.Io.KnownBytes.{ReadConsumes};
-ghost use Rattle.dimacs_io.specs.Device.{CountsFailure, CountsFlush, EndsBy, Fails, Logs, LowersByCount, ReachesEnd, Writes, text_over};
+ghost use Rattle.std.specs.Prelude.{◌≡◌, ◌-◌, ◌^◌, ◌<◌};
+ghost use Rattle.dimacs_io.specs.Calls.{PassesText, ReadsPiece};
+ghost use Rattle.dimacs_io.specs.Device.{Fails, text_over};
 ghost use Rattle.dimacs_io.specs.declared.device.LastCall.{LastCall};
 ghost use Rattle.dimacs_io.specs.declared.device.LastCall.TheVariants as last;
 ghost use Rattle.session.specs.Session.{present};
-ghost use Rattle.session.specs.Step.{SessionState, state_of};
+ghost use Rattle.session.specs.Step.{state_of};
 ghost use Rattle.checker.specs.Check.{last_by, problem_failures, problem_whole, write_failures};
+ghost use Rattle.checker.specs.Devices.{UsesSink, UsesSource};
 ghost use Rattle.engines.specs.Printing.{outcome};
-ghost use Rattle.checker.specs.Reading.{SourceGives, SourceIsRead};
-ghost use Rattle.engines.specs.Serving.{CommandsEnd, Finishes, GoesOn, Output, Stands, StaysPassedOn, output_of};
-ghost use Rattle.engines.specs.Session.{FlushesOnDevices, SessionOnDevices, command_failures, commands_whole};
+ghost use Rattle.engines.specs.Serving.{LeavesPassedOn, ServesCommands, TakesPiece, TakesRest, output_of, place};
+ghost use Rattle.engines.specs.Session.{FlushesOnDevices, RunsSession, SessionOnDevices, command_failures, commands_whole};
 
 use crate::opening::open_text;
 use crate::reply::serve_line;
@@ -46,27 +45,23 @@ pub fn run_session<P: Source, C: Source, O: Sink>(
 
     // A run's printing is written, or its beginning at a failed call, and each end but that of memory has its cause.
     ensures session { SessionOnDevices result extra
-        (text_over P.remaining P.given problem.old problem.new) (P.most_left problem.old - P.most_left problem.new)
-        (text_over C.remaining C.given script.old script.new) (C.most_left script.old - C.most_left script.new)
+        (text_over P.remaining P.given problem.old problem.new)
+        (P.most_left problem.old - P.most_left problem.new)
+        (text_over C.remaining C.given script.old script.new)
+        (C.most_left script.old - C.most_left script.new)
         (O.contents out.old) (O.contents out.new) }
 
-    // What a source gave before stays, and each text was read to its end where it was used.
-    ensures problem_read { SourceIsRead (problem_whole result) P.given P.ended problem.old problem.new }
-    ensures script_read { SourceIsRead (commands_whole result) C.given C.ended script.old script.new }
-
-    // The end tells of each call that failed.
-    ensures problem_failed { Fails (problem_failures result) P.failures problem.old problem.new }
-    ensures script_failed { Fails (command_failures result) C.failures script.old script.new }
-    ensures out_failed { Fails (write_failures result) O.failures out.old out.new }
-
-    // A call that failed was the last on its device, and what is written is passed on: by one flush
-    // after what is told of the opening, and one after each reply.
-    ensures problem_last { problem_failures result ≡ 1 → P.last_failed problem.new ≡ true }
-    ensures script_last { command_failures result ≡ 1 → C.last_failed script.new ≡ true }
+    // Each text was read to its end where it was used. The end tells of each call that failed, which
+    // was the last on its device. One flush passes on what is told of the opening, and one each reply.
+    ensures problem { UsesSource P.Source (problem_whole result) (problem_failures result)
+        problem.old problem.new }
+    ensures script { UsesSource C.Source (commands_whole result) (command_failures result)
+        script.old script.new }
+    ensures out { UsesSink O.Sink result out.old out.new }
     ensures out_flushed { FlushesOnDevices result
-        (text_over C.remaining C.given script.old script.new) (C.most_left script.old - C.most_left script.new)
+        (text_over C.remaining C.given script.old script.new)
+        (C.most_left script.old - C.most_left script.new)
         (O.flushes out.old) (O.flushes out.new) }
-    ensures out_last { O.last_call out.new ≡ last_by result (O.last_call out.old) }
 {
     run_session_in(alloc, alloc, problem, script, out, extra)
 }
@@ -83,30 +78,8 @@ pub fn run_session_in<A: Allocator + Copy, P: Source, C: Source, O: Sink>(
     requires problem { P.failures problem.old < 2 ^ 64 - 1 }
     requires script { C.failures script.old < 2 ^ 64 - 1 }
     requires out { O.failures out.old < 2 ^ 64 - 1 }
-
-    // A run's printing is written, or its beginning at a failed call, and each end but that of memory has its cause.
-    ensures session { SessionOnDevices result extra
-        (text_over P.remaining P.given problem.old problem.new) (P.most_left problem.old - P.most_left problem.new)
-        (text_over C.remaining C.given script.old script.new) (C.most_left script.old - C.most_left script.new)
-        (O.contents out.old) (O.contents out.new) }
-
-    // What a source gave before stays, and each text was read to its end where it was used.
-    ensures problem_read { SourceIsRead (problem_whole result) P.given P.ended problem.old problem.new }
-    ensures script_read { SourceIsRead (commands_whole result) C.given C.ended script.old script.new }
-
-    // The end tells of each call that failed.
-    ensures problem_failed { Fails (problem_failures result) P.failures problem.old problem.new }
-    ensures script_failed { Fails (command_failures result) C.failures script.old script.new }
-    ensures out_failed { Fails (write_failures result) O.failures out.old out.new }
-
-    // A call that failed was the last on its device, and what is written is passed on: by one flush
-    // after what is told of the opening, and one after each reply.
-    ensures problem_last { problem_failures result ≡ 1 → P.last_failed problem.new ≡ true }
-    ensures script_last { command_failures result ≡ 1 → C.last_failed script.new ≡ true }
-    ensures out_flushed { FlushesOnDevices result
-        (text_over C.remaining C.given script.old script.new) (C.most_left script.old - C.most_left script.new)
-        (O.flushes out.old) (O.flushes out.new) }
-    ensures out_last { O.last_call out.new ≡ last_by result (O.last_call out.old) }
+    ensures { RunsSession P.Source C.Source O.Sink result extra
+        problem.old problem.new script.old script.new out.old out.new }
 {
     let mut session = match open_text(alloc, steps, problem, extra) {
         Ok(session) => session,
@@ -134,10 +107,7 @@ fn tell_opening<A: Allocator + Copy, O: Sink>(
     out: &mut O,
 ) -> Result<(), Broken>
     requires { O.failures out.old < 2 ^ 64 - 1 }
-    ensures bytes { Writes O.contents result out.old out.new (outcome (present session.now)) }
-    ensures failed { CountsFailure result (O.failures out.old) (O.failures out.new) }
-    ensures flushed { CountsFlush result (O.flushes out.old) (O.flushes out.new) }
-    ensures last { EndsBy result last.Flush (O.last_call out.new) }
+    ensures { PassesText O.Sink result out.old out.new (outcome (present session.now)) }
 {
     write_outcome(session, out)?;
     out.flush()
@@ -152,15 +122,12 @@ fn serve_commands<A: Allocator + Copy, C: Source, O: Sink>(
     requires script { C.failures script.old < 2 ^ 64 - 1 }
     requires out { O.failures out.old < 2 ^ 64 - 1 }
     requires passed_on { O.last_call out.old ≡ last.Flush }
-    ensures served { (given : List ℕ)
-        × SourceGives C.remaining C.given C.most_left script.old script.new given
-        × CommandsEnd result (state_of session.old) given (C.remaining script.new)
-        (output_of O.contents O.flushes out.old) (output_of O.contents O.flushes out.new) }
-    ensures script_read { SourceIsRead (commands_whole result) C.given C.ended script.old script.new }
+    ensures served { ServesCommands C.Source O.Sink result (state_of session.old)
+        script.old script.new out.old out.new }
+    ensures script { UsesSource C.Source (commands_whole result) (command_failures result)
+        script.old script.new }
     ensures no_problem { problem_failures result ≡ 0 }
-    ensures script_failed { Fails (command_failures result) C.failures script.old script.new }
     ensures out_failed { Fails (write_failures result) O.failures out.old out.new }
-    ensures script_last { command_failures result ≡ 1 → C.last_failed script.new ≡ true }
     ensures out_last { (before : LastCall) → O.last_call out.new ≡ last_by result before }
 {
     let mut group = None;
@@ -190,13 +157,7 @@ fn read_on<C: Source, O: Sink>(
 ) -> Result<usize, Broken>
     requires script { C.failures script.old < 2 ^ 64 - 1 }
     requires passed_on { O.last_call _replies.now ≡ last.Flush }
-    ensures bound { ReadsAtMost result piece.new }
-    ensures bytes { ReadConsumes (C.remaining script.old) (C.remaining script.new) result piece.new }
-    ensures given { Logs result (C.given script.old) (C.given script.new) piece.new }
-    ensures left { LowersByCount result (C.most_left script.old) (C.most_left script.new) }
-    ensures failed { CountsFailure result (C.failures script.old) (C.failures script.new) }
-    ensures last { C.last_failed script.new ≡ is_err result }
-    ensures ended { ReachesEnd result piece.new (C.ended script.new) }
+    ensures { ReadsPiece C.Source result script.old script.new piece.new }
 {
     script.read(piece)
 }
@@ -210,13 +171,10 @@ fn serve_piece<A: Allocator + Copy, O: Sink>(
     out: &mut O,
 ) -> Result<(), Broken>
     requires { O.failures out.old < 2 ^ 64 - 1 }
-    ensures goes_on { (opening : SessionState) (given : List ℕ) (before : Output)
-        → Stands opening given (state_of session.old) group.old cutter.old before
-        (output_of O.contents O.flushes out.old)
-        → GoesOn result opening (given ++ piece.now) (state_of session.new) group.new cutter.new
-        before (output_of O.contents O.flushes out.new) }
-    ensures failed { CountsFailure result (O.failures out.old) (O.failures out.new) }
-    ensures passed_on { StaysPassedOn result (O.last_call out.old) (O.last_call out.new) }
+    ensures goes_on { TakesPiece result piece.now
+        (place (state_of session.old) group.old cutter.old (output_of O.Sink out.old))
+        (place (state_of session.new) group.new cutter.new (output_of O.Sink out.new)) }
+    ensures passed_on { LeavesPassedOn O.Sink result out.old out.new }
 {
     ended_lines_stay();
     let mut at = 0;
@@ -239,13 +197,10 @@ fn serve_rest<A: Allocator + Copy, O: Sink>(
     out: &mut O,
 ) -> Result<(), Broken>
     requires { O.failures out.old < 2 ^ 64 - 1 }
-    ensures rest { (opening : SessionState) (given : List ℕ) (before : Output)
-        → Stands opening given (state_of session.old) group.old cutter.now before
-        (output_of O.contents O.flushes out.old)
-        → Finishes result opening given (state_of session.new)
-        before (output_of O.contents O.flushes out.new) }
-    ensures failed { CountsFailure result (O.failures out.old) (O.failures out.new) }
-    ensures passed_on { StaysPassedOn result (O.last_call out.old) (O.last_call out.new) }
+    ensures rest { TakesRest result
+        (place (state_of session.old) group.old cutter.now (output_of O.Sink out.old))
+        (state_of session.new) (output_of O.Sink out.new) }
+    ensures passed_on { LeavesPassedOn O.Sink result out.old out.new }
 {
     if cutter.begun() {
         serve_line(session, group, cutter.line(), out)

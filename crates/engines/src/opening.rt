@@ -1,10 +1,7 @@
 //! Opens the session of a run: reads its problem, and solves it.
-ghost use Rattle.std.specs.Prelude.{◌≡◌, ℕ, ◌+◌, ◌-◌, ◌^◌, ◌<◌, true, IfErr, IfOk, MatchResult};
-ghost use Rattle.dimacs_io.specs.Device.{Fails, text_over};
-ghost use Rattle.checker.specs.Check.{problem_failures, problem_whole};
-ghost use Rattle.checker.specs.Reading.{SourceIsRead};
+ghost use Rattle.std.specs.Prelude.{◌-◌, ◌^◌, ◌<◌, IfErr, IfOk};
 ghost use Rattle.session.specs.Step.{state_of};
-ghost use Rattle.engines.specs.Opening.{IsNotOpened, IsOpened};
+ghost use Rattle.engines.specs.Opening.{EndsUnopened, OpensOn};
 
 use checker::{End, Text, read_problem};
 use dimacs_io::Source;
@@ -23,17 +20,8 @@ pub(crate) fn open_text<A: Allocator + Copy, P: Source>(
     extra: u32,
 ) -> Result<Session<A>, End>
     requires { P.failures input.old < 2 ^ 64 - 1 }
-    ensures opened { IfOk result (λ s. IsOpened
-        (text_over P.remaining P.given input.old input.new) (P.most_left input.old - P.most_left input.new)
-        extra (state_of s)) }
-    ensures ended { IfErr result (IsNotOpened
-        (text_over P.remaining P.given input.old input.new) (P.most_left input.old - P.most_left input.new)) }
-    ensures input_read { MatchResult result
-        (λ _. SourceIsRead true P.given P.ended input.old input.new)
-        (λ end. SourceIsRead (problem_whole end) P.given P.ended input.old input.new) }
-    ensures read { IfOk result (λ _. P.failures input.new ≡ P.failures input.old) }
-    ensures failed { IfErr result (λ end. Fails (problem_failures end) P.failures input.old input.new) }
-    ensures last { IfErr result (λ end. problem_failures end ≡ 1 → P.last_failed input.new ≡ true) }
+    ensures opened { IfOk result (λ s. OpensOn P.Source input.old input.new extra (state_of s)) }
+    ensures ended { IfErr result (λ end. EndsUnopened P.Source input.old input.new end) }
 {
     let problem = match read_problem(alloc, input) {
         Ok(problem) => problem,

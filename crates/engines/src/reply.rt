@@ -1,14 +1,11 @@
 //! Answers the turns of a command text, each by one step of the session and its reply.
-ghost use Rattle.std.specs.Prelude.{◌≡◌, ◌-◌, ◌^◌, ◌<◌, List, Option};
-ghost use Rattle.dimacs_io.specs.Device.{CountsFailure, CountsFlush, EndsBy, FailsLast, Writes};
-ghost use Rattle.dimacs_io.specs.declared.device.LastCall.TheVariants as last;
-ghost use Rattle.dimacs_lines.specs.Lines.{Line};
+ghost use Rattle.std.specs.Prelude.{◌-◌, ◌^◌, ◌<◌};
+ghost use Rattle.dimacs_io.specs.Calls.{PassesText, WritesText};
 ghost use Rattle.session.specs.Reply.{reply_of};
 ghost use Rattle.session.specs.Session.{present};
 ghost use Rattle.session.specs.Step.{state_of};
-ghost use Rattle.session.specs.Turns.{gathered_in, IsPassedAs};
 ghost use Rattle.engines.specs.Printing.{reply_text};
-ghost use Rattle.engines.specs.Serving.{ServesLine, StaysPassedOn, output_of};
+ghost use Rattle.engines.specs.Serving.{LeavesPassedOn, ServesPassed, output_of};
 
 use crate::solution::{write_outcome, write_solution};
 use dimacs_io::{Broken, Sink, write_r};
@@ -25,12 +22,10 @@ pub fn serve_line<A: Allocator + Copy, O: Sink>(
     out: &mut O,
 ) -> Result<(), Broken>
     requires { O.failures out.old < 2 ^ 64 - 1 }
-    ensures served { (whole : Line) → IsPassedAs line.entry whole
-        → (opened : Option (List Line)) → group.old ≡ gathered_in (state_of session.old) opened
-        → ServesLine result (state_of session.old) opened whole (state_of session.new) group.new
-        (output_of O.contents O.flushes out.old) (output_of O.contents O.flushes out.new) }
-    ensures failed { CountsFailure result (O.failures out.old) (O.failures out.new) }
-    ensures passed_on { StaysPassedOn result (O.last_call out.old) (O.last_call out.new) }
+    ensures served { ServesPassed result line.entry
+        (state_of session.old) group.old (output_of O.Sink out.old)
+        (state_of session.new) group.new (output_of O.Sink out.new) }
+    ensures passed_on { LeavesPassedOn O.Sink result out.old out.new }
 {
     match session.take_line(group, line) {
         None => Ok(()),
@@ -45,10 +40,8 @@ fn send_reply<A: Allocator + Copy, O: Sink>(
     out: &mut O,
 ) -> Result<(), Broken>
     requires { O.failures out.old < 2 ^ 64 - 1 }
-    ensures bytes { Writes O.contents result out.old out.new (reply_text (reply_of reply) (present session.now)) }
-    ensures failed { CountsFailure result (O.failures out.old) (O.failures out.new) }
-    ensures flushed { CountsFlush result (O.flushes out.old) (O.flushes out.new) }
-    ensures last { EndsBy result last.Flush (O.last_call out.new) }
+    ensures { PassesText O.Sink result out.old out.new
+        (reply_text (reply_of reply) (present session.now)) }
 {
     write_reply(session, reply, out)?;
     out.flush()
@@ -61,10 +54,8 @@ fn write_reply<A: Allocator + Copy, O: Sink>(
     out: &mut O,
 ) -> Result<(), Broken>
     requires { O.failures out.old < 2 ^ 64 - 1 }
-    ensures bytes { Writes O.contents result out.old out.new (reply_text (reply_of reply) (present session.now)) }
-    ensures failed { CountsFailure result (O.failures out.old) (O.failures out.new) }
-    ensures flushed { O.flushes out.new ≡ O.flushes out.old }
-    ensures last { FailsLast result (O.last_call out.new) }
+    ensures { WritesText O.Sink result out.old out.new
+        (reply_text (reply_of reply) (present session.now)) }
 {
     match reply {
         Ok(Reply::Verdict) => write_outcome(session, out),

@@ -1,7 +1,7 @@
 //! Writes what is told of the present moment of a session.
-ghost use Rattle.std.specs.Prelude.{◌≡◌, ◌-◌, ◌^◌, ◌<◌, ◌≤◌, [], length, if◌then◌else◌};
+ghost use Rattle.std.specs.Prelude.{◌≡◌, ◌-◌, ◌^◌, ◌<◌, [], length, if◌then◌else◌};
 ghost use Rattle.dimacs_io.specs.Line.{cut_line, potential_line};
-ghost use Rattle.dimacs_io.specs.Device.{CountsFailure, FailsLast, Writes};
+ghost use Rattle.dimacs_io.specs.Calls.{WritesText};
 ghost use Rattle.engines.specs.Printing.{best_text, cut_lines, flow_line_of, flow_lines, outcome, potential_lines, solution, breach_text};
 ghost use Rattle.session.specs.Session.{present};
 
@@ -18,10 +18,7 @@ pub fn write_outcome<A: Allocator + Copy, O: Sink>(
     out: &mut O,
 ) -> Result<(), Broken>
     requires { O.failures out.old < 2 ^ 64 - 1 }
-    ensures bytes { Writes O.contents result out.old out.new (outcome (present session.now)) }
-    ensures failed { CountsFailure result (O.failures out.old) (O.failures out.new) }
-    ensures flushed { O.flushes out.new ≡ O.flushes out.old }
-    ensures last { FailsLast result (O.last_call out.new) }
+    ensures { WritesText O.Sink result out.old out.new (outcome (present session.now)) }
 {
     match session.verdict() {
         Verdict::Best(worth) => write_s(out, worth),
@@ -37,10 +34,7 @@ pub fn write_solution<A: Allocator + Copy, O: Sink>(
     out: &mut O,
 ) -> Result<(), Broken>
     requires { O.failures out.old < 2 ^ 64 - 1 }
-    ensures bytes { Writes O.contents result out.old out.new (solution proof (present session.now)) }
-    ensures failed { CountsFailure result (O.failures out.old) (O.failures out.new) }
-    ensures flushed { O.flushes out.new ≡ O.flushes out.old }
-    ensures last { FailsLast result (O.last_call out.new) }
+    ensures { WritesText O.Sink result out.old out.new (solution proof (present session.now)) }
 {
     match session.verdict() {
         Verdict::Best(worth) => write_best(worth, session, proof, out),
@@ -56,10 +50,8 @@ fn write_best<A: Allocator + Copy, O: Sink>(
     out: &mut O,
 ) -> Result<(), Broken>
     requires { O.failures out.old < 2 ^ 64 - 1 }
-    ensures bytes { Writes O.contents result out.old out.new (best_text worth proof (present session.now)) }
-    ensures failed { CountsFailure result (O.failures out.old) (O.failures out.new) }
-    ensures flushed { O.flushes out.new ≡ O.flushes out.old }
-    ensures last { FailsLast result (O.last_call out.new) }
+    ensures { WritesText O.Sink result out.old out.new
+        (best_text worth proof (present session.now)) }
 {
     writes_follow();
     write_s(out, worth)?;
@@ -74,11 +66,8 @@ fn write_breach<A: Allocator + Copy, O: Sink>(
     out: &mut O,
 ) -> Result<(), Broken>
     requires { O.failures out.old < 2 ^ 64 - 1 }
-    ensures bytes { Writes O.contents result out.old out.new
+    ensures { WritesText O.Sink result out.old out.new
         (breach_text shortage (present session.now).cut) }
-    ensures failed { CountsFailure result (O.failures out.old) (O.failures out.new) }
-    ensures flushed { O.flushes out.new ≡ O.flushes out.old }
-    ensures last { FailsLast result (O.last_call out.new) }
 {
     writes_follow();
     write_i(out, shortage)?;
@@ -90,10 +79,7 @@ fn write_flows<O: Sink>(net: &Network, flow: &[i64], out: &mut O) -> Result<(), 
     requires out { O.failures out.old < 2 ^ 64 - 1 }
     requires one_an_arc { length flow.now ≡ length net.now.arcs }
     requires count { length flow.now < 2 ^ 32 - 1 }
-    ensures bytes { Writes O.contents result out.old out.new (flow_lines net.now.arcs flow.now) }
-    ensures failed { CountsFailure result (O.failures out.old) (O.failures out.new) }
-    ensures flushed { O.flushes out.new ≡ O.flushes out.old }
-    ensures last { FailsLast result (O.last_call out.new) }
+    ensures { WritesText O.Sink result out.old out.new (flow_lines net.now.arcs flow.now) }
 {
     for (place, x) in flow.iter().enumerate() {
         let Some(arc) = net.arc(place as u32 + 1) else {
@@ -107,10 +93,7 @@ fn write_flows<O: Sink>(net: &Network, flow: &[i64], out: &mut O) -> Result<(), 
 /// Writes the flow of an arc.
 fn write_arc<O: Sink>(arc: &ArcRow, x: &i64, out: &mut O) -> Result<(), Broken>
     requires { O.failures out.old < 2 ^ 64 - 1 }
-    ensures bytes { Writes O.contents result out.old out.new (flow_line_of arc.now x.now) }
-    ensures failed { CountsFailure result (O.failures out.old) (O.failures out.new) }
-    ensures flushed { O.flushes out.new ≡ O.flushes out.old }
-    ensures last { FailsLast result (O.last_call out.new) }
+    ensures { WritesText O.Sink result out.old out.new (flow_line_of arc.now x.now) }
 {
     write_f(out, arc.tail, arc.head, *x)
 }
@@ -119,11 +102,8 @@ fn write_arc<O: Sink>(arc: &ArcRow, x: &i64, out: &mut O) -> Result<(), Broken>
 fn write_proof<O: Sink>(proof: bool, potentials: &[i64], out: &mut O) -> Result<(), Broken>
     requires out { O.failures out.old < 2 ^ 64 - 1 }
     requires count { length potentials.now < 2 ^ 32 - 1 }
-    ensures bytes { Writes O.contents result out.old out.new
+    ensures { WritesText O.Sink result out.old out.new
         (if proof then potential_lines 1 potentials.now else []) }
-    ensures failed { CountsFailure result (O.failures out.old) (O.failures out.new) }
-    ensures flushed { O.flushes out.new ≡ O.flushes out.old }
-    ensures last { FailsLast result (O.last_call out.new) }
 {
     if proof {
         write_potentials(potentials, out)
@@ -136,10 +116,7 @@ fn write_proof<O: Sink>(proof: bool, potentials: &[i64], out: &mut O) -> Result<
 fn write_potentials<O: Sink>(potentials: &[i64], out: &mut O) -> Result<(), Broken>
     requires out { O.failures out.old < 2 ^ 64 - 1 }
     requires count { length potentials.now < 2 ^ 32 - 1 }
-    ensures bytes { Writes O.contents result out.old out.new (potential_lines 1 potentials.now) }
-    ensures failed { CountsFailure result (O.failures out.old) (O.failures out.new) }
-    ensures flushed { O.flushes out.new ≡ O.flushes out.old }
-    ensures last { FailsLast result (O.last_call out.new) }
+    ensures { WritesText O.Sink result out.old out.new (potential_lines 1 potentials.now) }
 {
     for (place, potential) in potentials.iter().enumerate() {
         write_node(place as u32 + 1, potential, out)?;
@@ -150,10 +127,7 @@ fn write_potentials<O: Sink>(potentials: &[i64], out: &mut O) -> Result<(), Brok
 /// Writes the potential of a node.
 fn write_node<O: Sink>(id: u32, potential: &i64, out: &mut O) -> Result<(), Broken>
     requires { O.failures out.old < 2 ^ 64 - 1 }
-    ensures bytes { Writes O.contents result out.old out.new (potential_line id potential.now) }
-    ensures failed { CountsFailure result (O.failures out.old) (O.failures out.new) }
-    ensures flushed { O.flushes out.new ≡ O.flushes out.old }
-    ensures last { FailsLast result (O.last_call out.new) }
+    ensures { WritesText O.Sink result out.old out.new (potential_line id potential.now) }
 {
     write_v(out, id, *potential)
 }
@@ -162,10 +136,7 @@ fn write_node<O: Sink>(id: u32, potential: &i64, out: &mut O) -> Result<(), Brok
 fn write_cut<O: Sink>(marks: &[bool], out: &mut O) -> Result<(), Broken>
     requires out { O.failures out.old < 2 ^ 64 - 1 }
     requires count { length marks.now < 2 ^ 32 - 1 }
-    ensures bytes { Writes O.contents result out.old out.new (cut_lines 1 marks.now) }
-    ensures failed { CountsFailure result (O.failures out.old) (O.failures out.new) }
-    ensures flushed { O.flushes out.new ≡ O.flushes out.old }
-    ensures last { FailsLast result (O.last_call out.new) }
+    ensures { WritesText O.Sink result out.old out.new (cut_lines 1 marks.now) }
 {
     for (place, mark) in marks.iter().enumerate() {
         write_mark(place as u32 + 1, *mark, out)?;
@@ -176,10 +147,7 @@ fn write_cut<O: Sink>(marks: &[bool], out: &mut O) -> Result<(), Broken>
 /// Writes a node where it is marked.
 fn write_mark<O: Sink>(id: u32, mark: bool, out: &mut O) -> Result<(), Broken>
     requires { O.failures out.old < 2 ^ 64 - 1 }
-    ensures bytes { Writes O.contents result out.old out.new (if mark then cut_line id else []) }
-    ensures failed { CountsFailure result (O.failures out.old) (O.failures out.new) }
-    ensures flushed { O.flushes out.new ≡ O.flushes out.old }
-    ensures last { FailsLast result (O.last_call out.new) }
+    ensures { WritesText O.Sink result out.old out.new (if mark then cut_line id else []) }
 {
     if mark { write_k(out, id) } else { Ok(()) }
 }

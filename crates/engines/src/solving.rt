@@ -1,9 +1,9 @@
 //! Solves a problem, and writes the solution.
-ghost use Rattle.std.specs.Prelude.{◌≡◌, ◌-◌, ◌^◌, ◌<◌, true};
-ghost use Rattle.dimacs_io.specs.Device.{CountsFailure, CountsFlush, EndsBy, Fails, RisesBy, Writes, text_over};
-ghost use Rattle.dimacs_io.specs.declared.device.LastCall.TheVariants as last;
-ghost use Rattle.checker.specs.Check.{flushes_by, last_by, problem_failures, problem_whole, write_failures};
-ghost use Rattle.checker.specs.Reading.{SourceIsRead};
+ghost use Rattle.std.specs.Prelude.{◌≡◌, ◌-◌, ◌^◌, ◌<◌};
+ghost use Rattle.dimacs_io.specs.Calls.{PassesText};
+ghost use Rattle.dimacs_io.specs.Device.{RisesBy, text_over};
+ghost use Rattle.checker.specs.Check.{flushes_by, problem_failures, problem_whole};
+ghost use Rattle.checker.specs.Devices.{UsesSink, UsesSource};
 ghost use Rattle.session.specs.Session.{present};
 ghost use Rattle.engines.specs.Printing.{solution};
 ghost use Rattle.engines.specs.Solve.{SolveOnDevices, end_by};
@@ -27,20 +27,16 @@ pub fn solve<P: Source, O: Sink>(alloc: Global, input: &mut P, out: &mut O, proo
 
     // What is written is the printing of what is settled, and each end but that of memory has its cause.
     ensures solve { SolveOnDevices result proof
-        (text_over P.remaining P.given input.old input.new) (P.most_left input.old - P.most_left input.new)
+        (text_over P.remaining P.given input.old input.new)
+        (P.most_left input.old - P.most_left input.new)
         (O.contents out.old) (O.contents out.new) }
 
-    // What the source gave before stays, and the text was read to its end where it was used.
-    ensures input_read { SourceIsRead (problem_whole result) P.given P.ended input.old input.new }
-
-    // The end tells of each call that failed.
-    ensures input_failed { Fails (problem_failures result) P.failures input.old input.new }
-    ensures out_failed { Fails (write_failures result) O.failures out.old out.new }
-
-    // A call that failed was the last on its device, and one flush passes on what is written.
-    ensures input_last { problem_failures result ≡ 1 → P.last_failed input.new ≡ true }
+    // The text was read to its end where it was used. The end tells of each call that failed, which was
+    // the last on its device, and one flush passes on what is written.
+    ensures input { UsesSource P.Source (problem_whole result) (problem_failures result)
+        input.old input.new }
+    ensures out { UsesSink O.Sink result out.old out.new }
     ensures out_flushed { RisesBy (flushes_by result) (O.flushes out.old) (O.flushes out.new) }
-    ensures out_last { O.last_call out.new ≡ last_by result (O.last_call out.old) }
 {
     let session = match open_text(alloc, alloc, input, 0) {
         Ok(session) => session,
@@ -63,10 +59,7 @@ pub fn solve<P: Source, O: Sink>(alloc: Global, input: &mut P, out: &mut O, proo
 /// Writes the solution of the present moment, and passes it on.
 fn tell_solution<O: Sink>(session: &Session, proof: bool, out: &mut O) -> Result<(), Broken>
     requires { O.failures out.old < 2 ^ 64 - 1 }
-    ensures bytes { Writes O.contents result out.old out.new (solution proof (present session.now)) }
-    ensures failed { CountsFailure result (O.failures out.old) (O.failures out.new) }
-    ensures flushed { CountsFlush result (O.flushes out.old) (O.flushes out.new) }
-    ensures last { EndsBy result last.Flush (O.last_call out.new) }
+    ensures { PassesText O.Sink result out.old out.new (solution proof (present session.now)) }
 {
     write_solution(session, proof, out)?;
     out.flush()

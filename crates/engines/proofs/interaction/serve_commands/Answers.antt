@@ -1,4 +1,4 @@
-use Rattle.std.proofs.Common.{[], ◌++◌, take, true, inl, inr, refl, ◌∙◌, arith, rules}
+use Rattle.std.proofs.Common.{[], ◌++◌, take, inl, inr, refl, ◌∙◌, arith, rules}
 use Rattle.checker.proofs.SourceLemmas.{GivesAndLogs-nil, GivesAndLogs-more, GivesAndLogs-none}
 use Rattle.engines.proofs.RunLemmas.{Stands-begin, Stopped-from_err, Stands-from_ok, failed_from_err, passed_on_from_ok, same_from_ok}
 use Rattle.engines.proofs.interaction.serve_commands.Goals as goal
@@ -31,8 +31,8 @@ pieces-preserved g c =
         Stands-from_ok c.serve_piece.result _ _ _ _ _ _ _ (search rules) (c.serve_piece.ensures.goes_on _ _ _ so_far.2),
       );
       script_failures = search rules;
-      out_failures = same_from_ok c.serve_piece.result _ _ (search rules) c.serve_piece.ensures.failed ∙ c.pieces.invariant.out_failures;
-      passed_on = passed_on_from_ok c.serve_piece.result _ _ (search rules) c.serve_piece.ensures.passed_on c.pieces.invariant.passed_on;
+      out_failures = same_from_ok c.serve_piece.result _ _ (search rules) c.serve_piece.ensures.passed_on.failed ∙ c.pieces.invariant.out_failures;
+      passed_on = passed_on_from_ok c.serve_piece.result _ _ (search rules) c.serve_piece.ensures.passed_on.stays c.pieces.invariant.passed_on;
     }
 
 pub returns-in-Ok-serve_rest-clause-served : goal.returns-in-Ok-serve_rest-clause-served
@@ -55,26 +55,42 @@ pub returns-in-Err-clause-served : goal.returns-in-Err-clause-served
 returns-in-Err-clause-served g c = search rules
 
 pub returns-then-is_err-clause-out_last : goal.returns-then-is_err-clause-out_last
-returns-then-is_err-clause-out_last g c before = failed_from_err c.serve_piece.result _ _ (search rules) c.serve_piece.ensures.passed_on
+returns-then-is_err-clause-out_last g c before = failed_from_err c.serve_piece.result _ _ (search rules) c.serve_piece.ensures.passed_on.stays
 
 -- ---- what was given before stays, and the end was reached where the commands ended
 
-pub returns-then-is_err-clause-script_read : goal.returns-then-is_err-clause-script_read
-returns-then-is_err-clause-script_read g c =
+pub returns-then-is_err-clause-script : goal.returns-then-is_err-clause-script
+returns-then-is_err-clause-script g c =
     let served = returns-then-is_err-clause-served g c in
-    record { grows = (served.0, served.1.log); ends = λ all. absurd cc }
+    record {
+      read = record { grows = (served.0, served.1.log); ends = λ all. absurd cc };
+      failed = search rules;
+      last = λ one. absurd (omega (arith, one));
+    }
 
-pub returns-in-Ok-serve_rest-clause-script_read : goal.returns-in-Ok-serve_rest-clause-script_read
-returns-in-Ok-serve_rest-clause-script_read g c =
+pub returns-in-Ok-serve_rest-clause-script : goal.returns-in-Ok-serve_rest-clause-script
+returns-in-Ok-serve_rest-clause-script g c =
     let served = returns-in-Ok-serve_rest-clause-served g c in
-    record { grows = (served.0, served.1.log); ends = λ all. c.in-Ok-eq0.ensures.ended.1 (omega arith, search rules) }
+    record {
+      read = record { grows = (served.0, served.1.log); ends = λ all. c.in-Ok-eq0.ensures.ended.1 (omega arith, search rules) };
+      failed = search rules;
+      last = λ one. absurd (omega (arith, one));
+    }
 
-pub returns-in-Err-serve_rest-clause-script_read : goal.returns-in-Err-serve_rest-clause-script_read
-returns-in-Err-serve_rest-clause-script_read g c =
+pub returns-in-Err-serve_rest-clause-script : goal.returns-in-Err-serve_rest-clause-script
+returns-in-Err-serve_rest-clause-script g c =
     let served = returns-in-Err-serve_rest-clause-served g c in
-    record { grows = (served.0, served.1.log); ends = λ all. absurd cc }
+    record {
+      read = record { grows = (served.0, served.1.log); ends = λ all. absurd cc };
+      failed = search rules;
+      last = λ one. absurd (omega (arith, one));
+    }
 
-pub returns-in-Err-clause-script_read : goal.returns-in-Err-clause-script_read
-returns-in-Err-clause-script_read g c =
+pub returns-in-Err-clause-script : goal.returns-in-Err-clause-script
+returns-in-Err-clause-script g c =
     let served = returns-in-Err-clause-served g c in
-    record { grows = (served.0, served.1.log); ends = λ all. absurd cc }
+    record {
+      read = record { grows = (served.0, served.1.log); ends = λ all. absurd cc };
+      failed = search rules;
+      last = λ one. c.in-Err.ensures.last;
+    }

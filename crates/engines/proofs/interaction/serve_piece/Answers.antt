@@ -34,7 +34,7 @@ loop-at-preserved g c = record {
       let grown = append_take_add given piece c.loop-at.at c.take-used.result.0 in
       rw grown at (GoesOn-complete (Ok c.in_ok-serve_line.field-0) opening _ _ _ text longer c.loop-at.cutter c.take-used.new.self before _ _ so_far.answered cuts served);
   failures = search rules;
-  passed_on = λ first. c.in_ok-serve_line.ensures.passed_on (c.loop-at.invariant.passed_on first);
+  passed_on = λ first. c.in_ok-serve_line.ensures.passed_on.stays (c.loop-at.invariant.passed_on first);
 }
 
 pub returns-in_err-serve_line-clause-goes_on : goal.returns-in_err-serve_line-clause-goes_on

@@ -8,8 +8,8 @@ abbrev pub invariant-loop-at : goal.invariant-loop-at
 invariant-loop-at g l = record {
   within : l.at ≤ length l.piece;
   stands : (opening : SessionState) (given : List ℕ) (before : Output)
-      → Stands opening given (state_of l.initial.session) l.initial.group l.initial.cutter before (output_of g.O.Sink.contents g.O.Sink.flushes l.initial.out)
-      → Stands opening (given ++ take l.at l.piece) (state_of l.session) l.group l.cutter before (output_of g.O.Sink.contents g.O.Sink.flushes l.out);
+      → Stands opening given (state_of l.initial.session) l.initial.group l.initial.cutter before (output_of g.O.Sink l.initial.out)
+      → Stands opening (given ++ take l.at l.piece) (state_of l.session) l.group l.cutter before (output_of g.O.Sink l.out);
   failures : g.O.Sink.failures l.out ≡ g.O.Sink.failures l.initial.out;
   passed_on : g.O.Sink.last_call l.initial.out ≡ last.Flush → g.O.Sink.last_call l.out ≡ last.Flush;
 }

@@ -1,18 +1,34 @@
-use Rattle.std.proofs.Common.{inl, rules}
-use Rattle.checker.proofs.SourceLemmas.{IsRead-problem, IsRead-whole}
+use Rattle.std.proofs.Common.{inl, inr, arith, refl}
+use Rattle.checker.proofs.SourceLemmas.{IsRead-whole, UsesSource-problem, UsesSource-read}
 use Rattle.engines.proofs.opening.open_text.Goals as goal
 
 pub returns-in-Err-clause-ended : goal.returns-in-Err-clause-ended
-returns-in-Err-clause-ended g c = inl (c.in-Err.error, c.end.ensures, c.in-Err.ensures.known)
+returns-in-Err-clause-ended g c = record {
+  ended = inl (c.in-Err.error, c.end.ensures, c.in-Err.ensures.known);
+  source = rw c.end.ensures (UsesSource-problem g.P.Source c.in-Err.error _ _ c.in-Err.ensures.grows c.in-Err.ensures.failed c.in-Err.ensures.last);
+}
 
 pub returns-clause-ended : goal.returns-clause-ended
-returns-clause-ended g c = search rules
+returns-clause-ended g c = record {
+  ended = inr refl;
+  source = record {
+    read = IsRead-whole _ _ _ _ c.in-Ok.ensures.grows;
+    failed = omega (arith, c.in-Ok.ensures.failed);
+    last = λ one. absurd (omega (arith, one));
+  };
+}
 
-pub returns-clause-failed : goal.returns-clause-failed
-returns-clause-failed g c = search rules
-
-pub returns-in-Err-clause-input_read : goal.returns-in-Err-clause-input_read
-returns-in-Err-clause-input_read g c = rw c.end.ensures (IsRead-problem c.in-Err.error _ _ _ c.in-Err.ensures.grows)
-
-pub returns-clause-input_read : goal.returns-clause-input_read
-returns-clause-input_read g c = IsRead-whole _ _ _ _ c.in-Ok.ensures.grows
+pub returns-in-Ok-open_in-clause-opened : goal.returns-in-Ok-open_in-clause-opened
+returns-in-Ok-open_in-clause-opened g c = record {
+  opened = record {
+    problem = c.in-Ok.problem;
+    problem_read = c.in-Ok.ensures.known;
+    opens = record {
+      past = c.in-Ok-open_in.ensures.past;
+      settled = record { instance_is = c.in-Ok-open_in.ensures.instance; answered = c.in-Ok-open_in.ensures.answered };
+      future = c.in-Ok-open_in.ensures.future;
+      marks = c.in-Ok-open_in.ensures.marks;
+    };
+  };
+  source = UsesSource-read g.P.Source _ _ c.in-Ok.ensures.grows c.in-Ok.ensures.failed;
+}

@@ -17,12 +17,21 @@ loop-place-preserved g c =
       flushes = search rules;
     }
 
-pub returns-in_err-write_mark-clause-bytes : goal.returns-in_err-write_mark-clause-bytes
-returns-in_err-write_mark-clause-bytes g c =
+pub returns-in_err-write_mark : goal.returns-in_err-write_mark
+returns-in_err-write_mark g c =
     let p = err_from_is_err_and c.from_residual.result c.from_residual.ensures.1 in
     let step = cut_lines-step c.args.marks.now c.loop-place.place (omega arith) in
-    rw (p.1) (Wrote-stopped _ _ _ _ _ _ _ c.loop-place.invariant.wrote step c.in_err-write_mark.ensures.bytes)
+    rw (p.1) (record {
+      bytes = Wrote-stopped _ _ _ _ _ _ _ c.loop-place.invariant.wrote step c.in_err-write_mark.ensures.bytes;
+      failed = search rules;
+      flushed = search rules;
+      last = search rules;
+    })
 
-pub returns-clause-bytes : goal.returns-clause-bytes
-returns-clause-bytes g c =
-    Wrote-all _ _ _ _ c.loop-place.invariant.wrote (ap (cut_lines (c.loop-place.place + 1)) (drop_all c.loop-place.place c.args.marks.now (omega arith)))
+pub returns : goal.returns
+returns g c = record {
+  bytes = Wrote-all _ _ _ _ c.loop-place.invariant.wrote (ap (cut_lines (c.loop-place.place + 1)) (drop_all c.loop-place.place c.args.marks.now (omega arith)));
+  failed = search rules;
+  flushed = search rules;
+  last = search rules;
+}

@@ -15,12 +15,21 @@ loop-place-preserved g c =
       flushes = search rules;
     }
 
-pub returns-in_err-write_arc-clause-bytes : goal.returns-in_err-write_arc-clause-bytes
-returns-in_err-write_arc-clause-bytes g c =
+pub returns-in_err-write_arc : goal.returns-in_err-write_arc
+returns-in_err-write_arc g c =
     let p = err_from_is_err_and c.from_residual.result c.from_residual.ensures.1 in
     let step = flow_lines-step c.args.net.now.arcs c.args.flow.now c.loop-place.place _ _ (omega arith) (omega arith) (sym c.in-Some.ensures) in
-    rw (p.1) (Wrote-stopped _ _ _ _ _ _ _ c.loop-place.invariant.wrote step c.in_err-write_arc.ensures.bytes)
+    rw (p.1) (record {
+      bytes = Wrote-stopped _ _ _ _ _ _ _ c.loop-place.invariant.wrote step c.in_err-write_arc.ensures.bytes;
+      failed = search rules;
+      flushed = search rules;
+      last = search rules;
+    })
 
-pub returns-clause-bytes : goal.returns-clause-bytes
-returns-clause-bytes g c =
-    Wrote-all _ _ _ _ c.loop-place.invariant.wrote (flow_lines-all c.args.net.now.arcs c.args.flow.now c.loop-place.place (omega arith))
+pub returns : goal.returns
+returns g c = record {
+  bytes = Wrote-all _ _ _ _ c.loop-place.invariant.wrote (flow_lines-all c.args.net.now.arcs c.args.flow.now c.loop-place.place (omega arith));
+  failed = search rules;
+  flushed = search rules;
+  last = search rules;
+}

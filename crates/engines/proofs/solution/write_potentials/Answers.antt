@@ -17,12 +17,21 @@ loop-place-preserved g c =
       flushes = search rules;
     }
 
-pub returns-in_err-write_node-clause-bytes : goal.returns-in_err-write_node-clause-bytes
-returns-in_err-write_node-clause-bytes g c =
+pub returns-in_err-write_node : goal.returns-in_err-write_node
+returns-in_err-write_node g c =
     let p = err_from_is_err_and c.from_residual.result c.from_residual.ensures.1 in
     let step = potential_lines-step c.args.potentials.now c.loop-place.place (omega arith) in
-    rw (p.1) (Wrote-stopped _ _ _ _ _ _ _ c.loop-place.invariant.wrote step c.in_err-write_node.ensures.bytes)
+    rw (p.1) (record {
+      bytes = Wrote-stopped _ _ _ _ _ _ _ c.loop-place.invariant.wrote step c.in_err-write_node.ensures.bytes;
+      failed = search rules;
+      flushed = search rules;
+      last = search rules;
+    })
 
-pub returns-clause-bytes : goal.returns-clause-bytes
-returns-clause-bytes g c =
-    Wrote-all _ _ _ _ c.loop-place.invariant.wrote (ap (potential_lines (c.loop-place.place + 1)) (drop_all c.loop-place.place c.args.potentials.now (omega arith)))
+pub returns : goal.returns
+returns g c = record {
+  bytes = Wrote-all _ _ _ _ c.loop-place.invariant.wrote (ap (potential_lines (c.loop-place.place + 1)) (drop_all c.loop-place.place c.args.potentials.now (omega arith)));
+  failed = search rules;
+  flushed = search rules;
+  last = search rules;
+}
