@@ -139,7 +139,7 @@ class OnePlaceForEachFact(unittest.TestCase):
 
     def table(self, heading):
         text = (TOP / "docs" / "FORMATS.md").read_text()
-        rows = text[text.index(heading) :].split("\n\n")[0].split("\n")[2:]
+        rows = text[text.index(heading) :].split("\n\n")[0].splitlines()[2:]
         return {int(row.split("|")[1]): row.split("|")[2].strip() for row in rows}
 
     def test_faults(self):
