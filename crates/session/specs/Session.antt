@@ -16,7 +16,7 @@ use Rattle.session.specs.declared.marks.Mark.{Mark}
 use Rattle.flow_solver.specs.declared.part.Part.{Part}
 use Rattle.flow_solver.specs.declared.part.Part.TheVariants.{Arc, Supply, Last, Gone}
 use Rattle.session.specs.Group.{ArePartsOf, valued}
-use Rattle.session.specs.Marks.{AreOn, IsMovedTo, marked, with_mark}
+use Rattle.session.specs.Marks.{AreMarks, AreOn, IsMovedTo, marked, with_mark}
 use Rattle.session.specs.Places.{IsRising, AreWithin, IsDifference, end_of}
 use Rattle.session.specs.Parts.{named, listed, flow_of, instance_swapped, no_row, supply_parts, arc_parts, IsOneEnd}
 use Rattle.session.specs.Record.{Recorded, RecordFits, Differs, swapped}
@@ -117,6 +117,7 @@ pub record IsKept (h : Changes Recorded) (m : Moment) : Type 0 where
 pub record IsHeld (h : Changes Recorded) (m : Moment) (marks : List Mark) : Type 0 where
   pub kept : IsKept h m
   pub marked : AreOn (boards swapped h m) marks
+  pub few : AreMarks marks
 
 -- the moments and the records of such changes at a moment, with the marks
 abbrev pub stack_of : Changes Recorded → Moment → List Mark → Stack

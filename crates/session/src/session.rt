@@ -9,7 +9,7 @@ ghost use Rattle.network.specs.Edited.{edited, edited_all};
 ghost use Rattle.network.specs.Instance.{first};
 ghost use Rattle.flow_solver.specs.Answer.{IsAnswered};
 ghost use Rattle.session.specs.declared.refusal.StepRefusal.TheVariants as refusal;
-ghost use Rattle.session.specs.Marks.{has_mark, has_place, up_to, IsMovedTo};
+ghost use Rattle.session.specs.Marks.{has_mark, has_place, up_to, AreMarks, IsMovedTo};
 ghost use Rattle.session.specs.Parts.{flow_of};
 ghost use Rattle.session.specs.Refusal.{ok_or, RefusesAs};
 ghost use Rattle.session.specs.Session.{kind_in, past_count, places_of, present, present_marked, AreEdited, EditLeads, EditsLead, IsEdited, LeadsBack, LeadsOn, MovesToMark, RecordsEdit, RecordsEdits};
@@ -182,6 +182,7 @@ impl<A: Allocator + Copy> Session<A> {
     pub fn mark(&mut self, name: &Name) -> Result<(), u8>
         ensures answer { result ≡ ok_or refusal.TooManyMarks (has_place self.old.marks name.now) }
         ensures marked { OnOk result (self.new ≡ present_marked self.old name.now) }
+        ensures few { AreMarks self.new.marks }
         ensures kind { kind_in self.new.moments ≡ kind_in self.old.moments }
         ensures refused { OnErr result (self.new ≡ self.old) }
     {

@@ -6,6 +6,7 @@ use Rattle.network.proofs.Following.{frame_all}
 use Rattle.flow_solver.specs.Moment.{Moment}
 use Rattle.session.specs.Record.{Recorded, swapped}
 use Rattle.session.specs.Session.{Stack}
+use Rattle.session.proofs.Apart.{kept_few}
 use Rattle.session.proofs.Applying.{changes_are, was_there, led}
 use Rattle.session.proofs.Keeping.{kept_push, kept_same, present_answered}
 use Rattle.session.proofs.Marking.{on_new}
@@ -34,6 +35,7 @@ invariant_of-self-in-Ok g c =
     record {
       kept = kept_push c.reserve_one.new.self c.push.new.self c.in-Ok.record m d kept fits c.in-Ok.ensures.exact leads did.answered c.push.ensures.past c.push.ensures.future advances;
       marked = rw c.keep_up_to.ensures (on_new (boards swapped c.reserve_one.new.self m) (boards swapped c.push.new.self d) c.self.inside.marks c.steps-past.result.0 advances here);
+      few = rw c.keep_up_to.ensures (kept_few c.self.inside.marks c.steps-past.result.0 c.self.invariant.few);
     }
 
 -- the records of the past stay, and the new one is the last

@@ -5,9 +5,10 @@ use Rattle.history.specs.Boards.{Changes, FitInTurn, all_boards, boards, met}
 use Rattle.flow_solver.specs.Answer.{IsAnswered}
 use Rattle.flow_solver.specs.Moment.{Moment}
 use Rattle.session.specs.declared.marks.Mark.{Mark}
-use Rattle.session.specs.Marks.{AreOn}
+use Rattle.session.specs.Marks.{AreMarks, AreOn}
 use Rattle.session.specs.Record.{Recorded, RecordFits, Differs, swapped}
 use Rattle.session.specs.Session.{IsHeld}
+use Rattle.session.proofs.Apart.{none_at_first}
 use Rattle.session.proofs.session.Session.open_in.Goals as goal
 
 -- so is each of one moment
@@ -31,6 +32,7 @@ held_fresh h m marks past future answered none = record {
         (subst (λ (p : List Recorded). All IsAnswered (m ∷ met swapped p m)) (sym future) (all_one m answered));
   };
   marked = subst (λ (ms : List Mark). AreOn (boards swapped h m) ms) (sym none) (All-nil (λ (mark : Mark). mark.moment < length (all_boards (boards swapped h m))));
+  few = subst AreMarks (sym none) none_at_first;
 }
 
 pub invariant_of-result : goal.invariant_of-result
