@@ -224,7 +224,7 @@ pub pushes-length : (arcs : List ArcRow) (supply : ℕ → ℤ) (n : ℕ) (x y :
 pushes-length arcs supply zero x y same = ap (λ (l : List ℤ). length l) (sym same)
 pushes-length arcs supply (suc n) x y more = more.2.shift.same_length ∙ pushes-length arcs supply n x more.0 more.1
 
-total_positive : (I : MinCost) (x : List ℤ) → pos 0 ≤ℤ total_excess I x
+pub total_positive : (I : MinCost) (x : List ℤ) → pos 0 ≤ℤ total_excess I x
 total_positive I x =
     let none = nodes_sum-zero I.nodes in
     let le = nodes_sum-le I.nodes (λ v. pos 0) (λ v. positive_part (excess I x v)) (λ v b. (part_is (excess I x v)).2) in
@@ -247,21 +247,21 @@ pushes_move I (suc n) x y ends sized more k =
 -- ---- an edit
 
 -- where a flow of the reduced instance has that of arc k
-abbrev place_in : Kind → ℕ → ℕ
+abbrev pub place_in : Kind → ℕ → ℕ
 place_in Max k = k
 place_in Min k = k - 1
 place_in Asn k = k - 1
 
-place_is : (D : Demand) (k : ℕ) → place_in (kind_of D) k ≡ flow_index D k
+pub place_is : (D : Demand) (k : ℕ) → place_in (kind_of D) k ≡ flow_index D k
 place_is (Supplies supplies) k = refl
 place_is (Terminals source sink) k = refl
 place_is (Sides marks) k = refl
 
 -- the edit is of no arc at this place of a flow
-abbrev IsElsewhere : Kind → Edit → ℕ → Type 0
+abbrev pub IsElsewhere : Kind → Edit → ℕ → Type 0
 IsElsewhere kind edit place = 1 ≤ arc_of edit → place ≢ place_in kind (arc_of edit)
 
-abbrev AreElsewhere : Kind → List Edit → ℕ → Type 0
+abbrev pub AreElsewhere : Kind → List Edit → ℕ → Type 0
 AreElsewhere kind edits place = All (λ edit. IsElsewhere kind edit place) edits
 
 counted_from_1 : (arcs : List ArcRow) (j : ℕ) (row : ArcRow) → arc_at arcs j ≡ Some row → 1 ≤ j
@@ -285,7 +285,7 @@ kept_elsewhere J (Close j) potential x start place altered lt other = kept_set J
 set_long : (x start : List ℤ) (j place : ℕ) (z : ℤ) → start ≡ slice_set x j z → place < length x → place < length start
 set_long x start j place z is lt = let same = ap (λ (l : List ℤ). length l) is ∙ length-set x j z in omega (arith, same)
 
-still_there : (J : Instance) (edit : Edit) (potential : ℕ → ℤ) (x start : List ℤ) (place : ℕ) → IsAltered J edit potential x start → place < length x → place < length start
+pub still_there : (J : Instance) (edit : Edit) (potential : ℕ → ℤ) (x start : List ℤ) (place : ℕ) → IsAltered J edit potential x start → place < length x → place < length start
 still_there J (Supply v value) potential x start place altered lt = let same = ap (λ (l : List ℤ). length l) altered in omega (arith, same)
 still_there J (Add tail head low cap cost) potential x start place altered lt =
     let long = ap (λ (l : List ℤ). length l) altered.start_is ∙ length-append x (altered.flow ∷ []) in omega (arith, long)
@@ -296,7 +296,7 @@ still_there J (Close j) potential x start place altered lt = set_long x start _ 
 
 -- ---- edits together
 
-kind_all : (I J : Instance) (edits : List Edit) (potential : ℕ → ℤ) (x start : List ℤ) → AreMade I edits potential x J start → kind_of J.demand ≡ kind_of I.demand
+pub kind_all : (I J : Instance) (edits : List Edit) (potential : ℕ → ℤ) (x start : List ℤ) → AreMade I edits potential x J start → kind_of J.demand ≡ kind_of I.demand
 kind_all I J [] potential x start made = ap (λ (K : Instance). kind_of K.demand) made.0
 kind_all I J (edit ∷ edits) potential x start made =
     kind_all made.0 J edits potential made.1 start made.3 ∙ (follows I edit made.0 made.2.after).frame.kind
@@ -313,9 +313,11 @@ kept_all I J (edit ∷ edits) potential x start place made lt others =
     kept_all made.0 J edits potential made.1 start place made.3 (still_there made.0 edit potential x made.1 place made.2.altered lt) rest
     ∙ kept_elsewhere made.0 edit potential x made.1 place made.2.altered lt here
 
--- at a place that no edit is at, the flow moves by no more than was left to send out and the units of the edits
-edits_move : (I J : Instance) (edits : List Edit) (potential : ℕ → ℤ) (x y : List ℤ) (n place : ℕ) → IsLawful J → AreChanges I J edits potential x y n → length y ≡ length (reduced J).arcs
-    → place < length x → AreElsewhere (kind_of I.demand) edits place → pos (unsigned_abs (number_at y place -ℤ number_at x place)) ≤ℤ (total_excess (reduced I) x +ℤ pos (units_all I edits))
+-- at a place that no edit is at, the flow moves by no more than the units of the edits and what of what was left to send out
+-- is left no more
+pub edits_move : (I J : Instance) (edits : List Edit) (potential : ℕ → ℤ) (x y : List ℤ) (n place : ℕ) → IsLawful J → AreChanges I J edits potential x y n → length y ≡ length (reduced J).arcs
+    → place < length x → AreElsewhere (kind_of I.demand) edits place
+    → (pos (unsigned_abs (number_at y place -ℤ number_at x place)) +ℤ total_excess (reduced J) y) ≤ℤ (total_excess (reduced I) x +ℤ pos (units_all I edits))
 edits_move I J edits potential x y n place lawful change sized lt others =
     let start = change.start in
     let long : length start ≡ length (reduced J).arcs = sym (pushes-length (reduced J).arcs (reduced J).supply n start y change.pushes) ∙ sized in
@@ -324,16 +326,16 @@ edits_move I J edits potential x y n place lawful change sized lt others =
     let same : number_at y place -ℤ number_at start place ≡ number_at y place -ℤ number_at x place = ap (λ (z : ℤ). number_at y place -ℤ z) kept in
     let moves' = rw same at moves in
     let grown = grown_all I J edits potential x start change.made in
-    omega (arith, ints, moves', grown, total_positive (reduced J) y)
+    omega (arith, ints, moves', grown)
 
 -- ---- an arc that no edit names
 
-other_place : (D : Demand) (edit : Edit) (k : ℕ) → 1 ≤ k → arc_of edit ≢ k → IsElsewhere (kind_of D) edit (flow_index D k)
+pub other_place : (D : Demand) (edit : Edit) (k : ℕ) → 1 ≤ k → arc_of edit ≢ k → IsElsewhere (kind_of D) edit (flow_index D k)
 other_place (Supplies supplies) edit k from other there same = other (omega (arith, from, there, same))
 other_place (Terminals source sink) edit k from other there same = other (sym same)
 other_place (Sides marks) edit k from other there same = other (omega (arith, from, there, same))
 
-place_below : (D : Demand) (arcs : List ArcRow) (k : ℕ) → 1 ≤ k → k ≤ length arcs → flow_index D k < length (reduced_arcs D arcs)
+pub place_below : (D : Demand) (arcs : List ArcRow) (k : ℕ) → 1 ≤ k → k ≤ length arcs → flow_index D k < length (reduced_arcs D arcs)
 place_below (Supplies supplies) arcs k from to = omega (arith, from, to)
 place_below (Terminals source sink) arcs k from to = omega (arith, from, to)
 place_below (Sides marks) arcs k from to = omega (arith, from, to)
@@ -347,12 +349,14 @@ moves_within m n edits pushes k before after change left_out =
     let there = place_below m.instance.demand m.instance.arcs k left_out.arc.0 left_out.arc.1 in
     let others = All-weaker (λ edit. arc_of edit ≢ k) (λ edit. IsElsewhere (kind_of m.instance.demand) edit place) (λ edit other. other_place m.instance.demand edit k left_out.arc.0 other) edits left_out.unnamed in
     let moves = edits_move m.instance n.instance edits (at_potential m.potentials) m.flow n.flow pushes place after.lawful change after.one_flow (omega (arith, there, before.one_flow)) others in
-    subst (λ (j : ℕ). pos (unsigned_abs (number_at n.flow j -ℤ number_at m.flow place)) ≤ℤ (total_excess (reduced m.instance) m.flow +ℤ pos (units_all m.instance edits))) (sym same) moves
+    let within : pos (unsigned_abs (number_at n.flow place -ℤ number_at m.flow place)) ≤ℤ (total_excess (reduced m.instance) m.flow +ℤ pos (units_all m.instance edits)) =
+    omega (arith, ints, moves, total_positive (reduced n.instance) n.flow) in
+    subst (λ (j : ℕ). pos (unsigned_abs (number_at n.flow j -ℤ number_at m.flow place)) ≤ℤ (total_excess (reduced m.instance) m.flow +ℤ pos (units_all m.instance edits))) (sym same) within
 
 -- ---- from a plan
 
 -- of a legal flow nothing is left to send out
-none_left : (I : MinCost) (x : List ℤ) → IsLegalFlow I x → total_excess I x ≡ pos 0
+pub none_left : (I : MinCost) (x : List ℤ) → IsLegalFlow I x → total_excess I x ≡ pos 0
 none_left I x legal =
     nodes_sum-same I.nodes (λ v. positive_part (excess I x v)) (λ v. pos 0) (λ v b.
     let even : excess I x v ≡ pos 0 = omega (arith, ints, legal.conserved v b) in ap positive_part even)
@@ -369,7 +373,7 @@ legal_by n (Terminals source sink) arcs room x lawful is legal within =
     (flow_to_reduced n source sink arcs lawful.demand (rows_of lawful) few flow legal.0 legal.1 within'.0.0)
 legal_by n (Sides marks) arcs room x lawful is legal within = assignment_to_reduced (made n (Sides marks) arcs room) marks x (rows_of lawful) legal
 
-verdict_legal : (I : Instance) (x : List ℤ) (set : ℕ → Bool) (v : Verdict) (w : ℤ) → v ≡ Best w → IsVerdict v I x set → IsLawful I → AllWithinBounds (reduced I).arcs x → IsLegalFlow (reduced I) x
+pub verdict_legal : (I : Instance) (x : List ℤ) (set : ℕ → Bool) (v : Verdict) (w : ℤ) → v ≡ Best w → IsVerdict v I x set → IsLawful I → AllWithinBounds (reduced I).arcs x → IsLegalFlow (reduced I) x
 verdict_legal I x set (Best z) w e is lawful within = legal_by I.nodes I.demand I.arcs I.room x lawful is.reduced_is is.best.legal within
 verdict_legal I x set (Infeasible d) w e is lawful within = absurd cc
 
@@ -381,7 +385,7 @@ plans_move m n edits pushes k w before after best change left_out =
     omega (arith, ints, moves, none_left (reduced m.instance) m.flow legal)
 
 -- one edit is a group of one
-as_group : (I J : Instance) (edit : Edit) (potential : ℕ → ℤ) (x y : List ℤ) (n : ℕ) → IsChange I J edit potential x y n → AreChanges I J (edit ∷ []) potential x y n
+pub as_group : (I J : Instance) (edit : Edit) (potential : ℕ → ℤ) (x y : List ℤ) (n : ℕ) → IsChange I J edit potential x y n → AreChanges I J (edit ∷ []) potential x y n
 as_group I J edit potential x y n change = record {
   start = change.start;
   made = (J, change.start, change.made, (refl, refl));

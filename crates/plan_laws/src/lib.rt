@@ -7,4 +7,4 @@ mod stability;
 
 pub use minimum_cut::potentials_show_a_minimum_cut;
 pub use prices::{potentials_are_prices, wider_bounds_never_cost};
-pub use stability::edits_move_little;
+pub use stability::{edits_move_little, many_edits_move_little};

@@ -8,3 +8,4 @@ mod Running
 mod Undoing
 mod Returning
 mod Turning
+mod Nearing

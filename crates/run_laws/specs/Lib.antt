@@ -3,3 +3,4 @@ pub mod Texts
 pub mod Undone
 pub mod Returned
 pub mod Cutting
+pub mod Near

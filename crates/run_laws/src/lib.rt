@@ -3,12 +3,14 @@
 #![tactic(auto)]
 
 mod answers;
+mod near;
 mod returned;
 mod runs;
 mod turns;
 mod undone;
 
 pub use answers::{answers_agree, certified_of_each_best};
+pub use near::runs_move_little;
 pub use returned::back_shows_the_same;
 pub use runs::{
     moments_show_the_same, same_texts_give_the_same_bytes, solve_and_session_agree, solves_agree,

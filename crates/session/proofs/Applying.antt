@@ -3,10 +3,12 @@ use Rattle.std.proofs.Common.{◌≡◌, List, [], ◌∷◌, Option, Some, Resu
 use Rattle.std.specs.Option.{unwrap_or}
 use Rattle.dimacs_text.specs.declared.command.Edit.{Edit}
 use Rattle.network.specs.Edited.{edited_all}
+use Rattle.network.specs.Instance.{at_node}
 use Rattle.network.proofs.EditedAll.{edited_one}
 use Rattle.flow_solver.specs.Moment.{Moment}
 use Rattle.flow_solver.specs.Answer.{IsAnswered}
 use Rattle.flow_solver.specs.TablesView.{TablesView}
+use Rattle.flow_solver.proofs.GroupLemmas.{one_change}
 use Rattle.session.specs.Session.{AreAcceptedEdits, AreEdited, IsEdited, old_moment}
 
 pub was_there : (shown : TablesView) (old : Moment) → shown.before ≡ Some old → old_moment shown ≡ old
@@ -32,4 +34,9 @@ if_ok (Err e) P Q so holds = tt
 
 -- an edit that is made alone
 pub one_edited : (edit : Edit) (old new : Moment) → AreEdited (edit ∷ []) old new → IsEdited edit old new
-one_edited edit old new is = record { instance = sym (edited_one old.instance edit) ∙ is.instance; answered = is.answered }
+one_edited edit old new is = record {
+  instance = sym (edited_one old.instance edit) ∙ is.instance;
+  answered = is.answered;
+  pushes = is.pushes;
+  led = one_change old.instance new.instance edit (at_node old.potentials) old.flow new.flow is.pushes is.led;
+}

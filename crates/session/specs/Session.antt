@@ -9,7 +9,7 @@ use Rattle.network.specs.Edited.{edited, edited_all}
 use Rattle.network.specs.Instance.{Instance, at_node, kind_of}
 use Rattle.flow_solver.specs.Moment.{Moment}
 use Rattle.flow_solver.specs.Answer.{IsAnswered}
-use Rattle.flow_solver.specs.Edit.{AreChanges, IsChange}
+use Rattle.flow_solver.specs.Edit.{AreChanges, ChangeAllTo, ChangesTo, IsChange}
 use Rattle.flow_solver.specs.TablesView.{TablesView, supplies_in}
 use Rattle.history.specs.Boards.{Changes, all_changes, Timeline, all_boards, boards, StandsFor}
 use Rattle.session.specs.declared.marks.Mark.{Mark}
@@ -43,15 +43,19 @@ moment_at s i = slice_index_or (all_boards s.moments) i s.moments.present
 abbrev pub kind_in : Timeline Moment → Kind
 kind_in moments = kind_of moments.present.instance.demand
 
--- an edit was applied: the instance is the edited one, and the moment answers it
+-- an edit was applied: the instance is the edited one, the moment answers it, and so many pushes led there
 pub record IsEdited (edit : Edit) (old new : Moment) : Type 0 where
   pub instance : edited old.instance edit ≡ Ok new.instance
   pub answered : IsAnswered new
+  pub pushes : ℕ
+  pub led : ChangesTo edit old new pushes
 
--- edits were applied together: the instance is the edited one, and the moment answers it
+-- edits were applied together: the instance is the edited one, the moment answers it, and so many pushes led there
 pub record AreEdited (edits : List Edit) (old new : Moment) : Type 0 where
   pub instance : edited_all old.instance edits ≡ Ok new.instance
   pub answered : IsAnswered new
+  pub pushes : ℕ
+  pub led : ChangeAllTo edits old new pushes
 
 -- accepted edits lead from one answered moment to the other
 pub record AreAcceptedEdits (edits : List Edit) (old new : Moment) : Type 0 where

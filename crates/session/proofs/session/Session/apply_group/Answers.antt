@@ -38,6 +38,12 @@ invariant_of-self-in-Ok g c =
       few = rw c.keep_up_to.ensures (kept_few c.self.inside.marks c.steps-past.result.0 c.self.invariant.few);
     }
 
+-- the new moment is led to
+pub returns-in-Ok-clause-edited : goal.returns-in-Ok-clause-edited
+returns-in-Ok-clause-edited g c =
+    let did = c.change_all-pushes.ensures in
+    rw (← c.self.view_is) record { instance = did.instance; answered = did.answered; pushes = c.change_all-pushes.result; led = did.changed }
+
 -- the records of the past stay, and the new one is the last
 pub returns-in-Ok-clause-records : goal.returns-in-Ok-clause-records
 returns-in-Ok-clause-records g c =
