@@ -260,6 +260,16 @@ class Command(unittest.TestCase):
             with self.subTest(words):
                 self.run_it("sweep", self.nodes, self.arcs, *words, status=status)
 
+    def test_sweep_over_a_value_that_is_refused(self):
+        """Nothing is printed then, and the status is not that of no plan."""
+        for words, reason in (
+            (("--cap", "road", "--values", "1,-1"), "the capacity of road would be -1, below 0"),
+            (("--low", "road", "--from", "0", "--to", "3"), "the lower bound of road would be 3, above its capacity, 2"),
+        ):
+            with self.subTest(words):
+                out, errors = self.run_it("sweep", self.nodes, self.arcs, *words, status=3)
+                self.assertEqual((out, errors), ("", f"mcf-plan: {reason}\n"))
+
     def test_what_if(self):
         commands = self.file(
             "commands",

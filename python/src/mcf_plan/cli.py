@@ -26,7 +26,7 @@ from .progress import Progress
 from .questions import add_ranges, add_sweep, run_ranges, run_sweep
 from .rewrite import BeyondLimits, CannotRewrite, Options, Surplus, Unbounded, rewrite, solve
 from .rounding import MOST_DECIMALS, round_problem
-from .session import Session
+from .session import EditRefused, Session
 from .sheets import is_table
 from .signals import Terminated, die_of, hearing
 from .tables import COLUMNS, TableFault, check_output, read_tables, write_plan
@@ -77,7 +77,7 @@ def _run(options: argparse.Namespace) -> int:
         return _say(f"an answer was found wrong: {error}{_kept(error)}", DISAGREE)
     except Refused as error:
         return _say(error.fault.words(), REFUSED)
-    except (TableFault, CannotRewrite) as error:
+    except (TableFault, CannotRewrite, EditRefused) as error:
         return _say(str(error), REFUSED)
     except TimeLimit as error:
         return _say(str(error), TOO_LONG)
