@@ -245,6 +245,12 @@ class Command(unittest.TestCase):
         out, _ = self.run_it("sweep", self.nodes, self.arcs, "--supply", "Kiel", "--values", "1", status=1)
         self.assertIn("no plan", out)
 
+    def test_sweep_over_values_below_0(self):
+        """Those of a demand; argparse alone takes a list of them for an option."""
+        asked = ("sweep", self.nodes, self.arcs, "--supply", "Ulm", "--beside", "Kiel", "--values")
+        out, _ = self.run_it(*asked, "-3,-3.5")
+        self.assertEqual(re.findall(r"^ *(-\S+) +(\S+)", out, re.M), [("-3", "9.5"), ("-3.5", "11.5")])
+
     def test_sweep_refused(self):
         for words, status in (
             ((), 2),

@@ -23,7 +23,7 @@ from .printing import of_system, say, tell, visible
 from .problem import Problem, exact, plain
 from .program import Program, ProgramFailed, Refused, TimeLimit
 from .progress import Progress
-from .questions import add_ranges, add_sweep, run_ranges, run_sweep
+from .questions import add_ranges, add_sweep, joined_values, run_ranges, run_sweep
 from .rewrite import BeyondLimits, CannotRewrite, Options, Surplus, Unbounded, rewrite, solve
 from .rounding import MOST_DECIMALS, round_problem
 from .session import EditRefused, Session
@@ -51,7 +51,7 @@ STATUSES = """status:
 
 def main(arguments: Optional[List[str]] = None) -> int:
     """Runs the command and returns its status. A signal that asks the process to end does so."""
-    options = _parser().parse_args(arguments)
+    options = _parser().parse_args(joined_values(sys.argv[1:] if arguments is None else arguments))
     try:
         with hearing():
             return _run(options)

@@ -4,6 +4,7 @@ from __future__ import annotations
 
 import argparse
 import json
+import re
 import shlex
 import sys
 from decimal import Decimal
@@ -215,12 +216,25 @@ def add_sweep(parser: argparse.ArgumentParser) -> None:
     parser.add_argument("--from", dest="first", metavar="VALUE", type=_value, help="the first value")
     parser.add_argument("--to", dest="last", metavar="VALUE", type=_value, help="the last value")
     parser.add_argument("--step", metavar="VALUE", type=_value, default=Decimal(1), help="from value to value (1)")
-    parser.add_argument(
-        "--values", metavar="V,V,..", type=_values, help="these values in place of a row (--values=-1,2 below 0)"
-    )
+    parser.add_argument("--values", metavar="V,V,..", type=_values, help="these values in place of a row")
     parser.add_argument("--chart", metavar="FILE", help="write a chart (SVG)")
     parser.add_argument("--table", metavar="FILE", help="write the values as a table (.csv, .tsv, .xlsx)")
     parser.add_argument("--json", action="store_true", help="print them as JSON")
+
+
+def joined_values(words: List[str]) -> List[str]:
+    """The words of a command line, `--values` in one word with values that begin with a minus: argparse takes these for
+    an option.
+
+    >>> joined_values(["sweep", "--values", "-20,-25", "--json"])
+    ['sweep', '--values=-20,-25', '--json']
+    """
+    joined: List[str] = []
+    for word in words:
+        if joined and joined[-1] == "--values" and re.match(r"-[\d.]", word):
+            word = f"{joined.pop()}={word}"
+        joined.append(word)
+    return joined
 
 
 def _value(text: str) -> Decimal:
