@@ -183,7 +183,7 @@ class Command(unittest.TestCase):
         out, _ = self.run_it("ranges", self.nodes, self.arcs, "--supplies", "--beside", "Kiel")
         self.assertRegex(out, r"node +supply +one more costs +one less costs\nKiel +\S+ +0 +0\n")
         _, errors = self.run_it("ranges", self.nodes, self.arcs, "--supplies", status=3)
-        self.assertIn("say at which node", errors)
+        self.assertIn("say at which node the supply changes the other way, by `--beside NODE`", errors)
         _, errors = self.run_it("ranges", self.nodes, self.arcs, "--supplies", "--beside", "Rom", status=3)
         self.assertIn("there is no node Rom", errors)
 

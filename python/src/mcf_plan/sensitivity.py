@@ -153,7 +153,10 @@ def supply_prices(
     if residual.has_rest and beside is not None:
         raise Meaningless(f"what is kept or not met takes up each change, so the supply of {beside} can't do so too")
     if not residual.has_rest and beside is None:
-        raise Meaningless("all supplies together have to be 0: say at which node the supply changes the other way")
+        raise Meaningless(
+            "all supplies together have to be 0: say at which node the supply changes the other way, by `--beside NODE` "
+            "(in Python `beside=`)"
+        )
     prices = list(first_prices(plan, residual, residual.rest if beside is None else residual.numbers[beside]))
     if residual.amounts == 1:
         price = residual.price_or_none
