@@ -41,11 +41,20 @@ CASES = (
         "What would help: an arc that leads out, for 3, or 3 less supply and demand.",
     ),
     (
-        "supplies that do not add up",
+        "less supply than demand",
         ["a 2", "b -3"],
         ["a b 0 9"],
         "refuse",
-        "There is no plan: all nodes together supply 2 and demand 3, so 1 is not there.",
+        "There is no plan: all nodes together supply 2 and demand 3, so 1 is not there.\n"
+        'What would help: `--surplus keep` (in Python `surplus="keep"`), by which the rest is not met.',
+    ),
+    (
+        "more supply than demand",
+        ["a 5", "b -3"],
+        ["a b 0 9"],
+        "refuse",
+        "There is no plan: all nodes together supply 5 and demand 3, so 2 are too many.\n"
+        'What would help: `--surplus keep` (in Python `surplus="keep"`), by which the rest stays where it is.',
     ),
     (
         "a lower bound brings too much",

@@ -157,13 +157,19 @@ def _help(infeasible: Infeasible, side: _Side, is_too_much: bool) -> str:
 
 
 def _whole_network(infeasible: Infeasible) -> str:
+    """Where nothing but the balance of supplies and demands is wrong."""
     supplied = total_of(supply for supply in infeasible.problem.nodes.values() if supply > 0)
     demanded = -total_of(supply for supply in infeasible.problem.nodes.values() if supply < 0)
     if supplied > demanded:
         many = f"{plain(supplied - demanded)} {'is' if supplied - demanded == 1 else 'are'} too many"
+        rest = "stays where it is"
     else:
         many = f"{plain(demanded - supplied)} {'is' if demanded - supplied == 1 else 'are'} not there"
-    return f"There is no plan: all nodes together supply {plain(supplied)} and demand {plain(demanded)}, so {many}."
+        rest = "is not met"
+    words = f"There is no plan: all nodes together supply {plain(supplied)} and demand {plain(demanded)}, so {many}."
+    if infeasible.rest_cost is None and infeasible.problem.balance == "equal":
+        words += f'\nWhat would help: `--surplus keep` (in Python `surplus="keep"`), by which the rest {rest}.'
+    return words
 
 
 def _hall(infeasible: Infeasible, is_too_much: bool) -> str:

@@ -341,6 +341,7 @@ class Problem:
         (Decimal('7.5'), {'farm': Decimal('2')})
         >>> print(problem.solve().explain())
         There is no plan: all nodes together supply 7 and demand 5, so 2 are too many.
+        What would help: `--surplus keep` (in Python `surplus="keep"`), by which the rest stays where it is.
         """
         from .rewrite import Options, solve
 
