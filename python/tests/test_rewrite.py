@@ -148,6 +148,11 @@ class Meaning(unittest.TestCase):
         with self.assertRaisesRegex(BeyondLimits, "50,001 nodes"):
             many.solve()
 
+    def test_notes_name_the_capacity_as_it_stands_in_the_text(self):
+        rewriting = rewrite(problem_of({"a": "2.5", "b": "-2.5"}, ["a b 0 inf 4.25"]))
+        self.assertIn("a 1 2 0 1000000000 425\n", rewriting.text)
+        self.assertIn("1 arc without a capacity: 1000000000 is written there", "; ".join(rewriting.notes))
+
     def test_meaningless(self):
         for title, problem, words in (
             ("cost in max", problem_of({}, ["a b 0 5 1"], kind="max", source="a", sink="b"), "has a cost"),

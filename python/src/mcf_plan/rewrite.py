@@ -256,8 +256,8 @@ def _notes_of(rewriting: Rewriting) -> List[str]:
     unlimited = sum(cap is None for cap in figures.caps)
     if unlimited:
         notes.append(
-            f"{_counted(unlimited, 'arc')} without a capacity: {plain(figures.amounts.decimal(lines.room.whole))} "
-            "is written there, which no best flow needs to fill"
+            f"{_counted(unlimited, 'arc')} without a capacity: {lines.room.whole} is written there, which no best flow "
+            "needs to fill"
         )
     split = sum(count > 1 for count, _ in lines.forms)
     if split:
