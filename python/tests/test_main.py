@@ -95,6 +95,18 @@ class Command(unittest.TestCase):
         self.assertIn("<svg", (folder / "plan.svg").read_text())
         self.assertIn("Kiel,Ulm,0,2,1.25,2,2.5,yes", (folder / "plan.csv").read_text())
 
+    def test_files_that_cannot_be_written(self):
+        """What was asked for is not all there, so nothing is printed."""
+        for command, *words in (
+            ("plan", "--table", "nowhere/plan.csv"),
+            ("plan", "--report", "nowhere/plan.html"),
+            ("sweep", "--cap", "road", "--values", "1", "--table", "nowhere/sweep.csv"),
+            ("sweep", "--cap", "road", "--values", "1", "--chart", "nowhere/sweep.svg"),
+        ):
+            with self.subTest(words):
+                out, errors = self.run_it(command, self.nodes, self.arcs, *words, status=4)
+                self.assertEqual((out, errors), ("", f"mcf-plan: {words[-1]}: No such file or directory\n"))
+
     def test_no_plan(self):
         nodes = self.file("more.csv", NODES.replace("5\n", "15\n", 1))
         out, _ = self.run_it("plan", nodes, self.arcs, status=1)

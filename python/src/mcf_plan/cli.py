@@ -399,11 +399,12 @@ def _plan(options: argparse.Namespace) -> int:
     if options.picture:
         files.append((options.picture, svg_picture(result)))
     lift_alarm()
-    sys.stdout.write(out.getvalue())
+    # First the files: where one can't be written, nothing is printed.
     for name, text in files:
         Path(name).write_text(text, encoding="utf-8", errors="backslashreplace")
     if options.table and isinstance(result, Plan):
         write_plan(result, options.table)
+    sys.stdout.write(out.getvalue())
     return 0 if isinstance(result, Plan) else NO_PLAN
 
 

@@ -288,11 +288,7 @@ def run_sweep(options: argparse.Namespace, problem: Problem) -> bool:
             progress.now(f"{len(found):,} of {len(values):,} values")
     lift_alarm()
     worth = "flow" if problem.kind == "max" else "cost"
-    if options.json:
-        print(_json(problem, words, found))
-    else:
-        say(f"{worth} over the {words}", sys.stdout)
-        print_table(_sweep_rows(worth, found), 0, sys.stdout)
+    # First the files: where one can't be written, nothing is printed.
     if options.table:
         rows = [[plain(point.value), *("" if n is None else plain(n) for n in point[1:])] for point in found]
         write_table(options.table, ["value", worth, "short by"], rows, sheet="sweep")
@@ -302,6 +298,11 @@ def run_sweep(options: argparse.Namespace, problem: Problem) -> bool:
         title = f"{worth.capitalize()} over the {words}"
         text = svg_chart(found, title=title, across=words, up=worth, now=now)
         Path(options.chart).write_text(text, encoding="utf-8", errors="backslashreplace")
+    if options.json:
+        print(_json(problem, words, found))
+    else:
+        say(f"{worth} over the {words}", sys.stdout)
+        print_table(_sweep_rows(worth, found), 0, sys.stdout)
     return any(point.cost is not None for point in found)
 
 
