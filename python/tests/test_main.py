@@ -191,6 +191,27 @@ class Command(unittest.TestCase):
             _, errors = self.run_it("ranges", self.nodes, self.arcs, "--only", wrong, status=3)
             self.assertIn(words, errors)
 
+    def test_ranges_of_names_with_blanks(self):
+        nodes = self.file("blanks.csv", "town,supply\nLager Süd,1\nMarkt 1,-1\n")
+        arcs = self.file("streets.csv", "from,to,cost\nLager Süd,Markt 1,2\n")
+        out, _ = self.run_it("ranges", nodes, arcs, "--only", '"Lager Süd" "Markt 1"')
+        self.assertIn("Lager Süd  Markt 1", out)
+        _, errors = self.run_it("ranges", nodes, arcs, "--only", "Lager Süd Markt 1", status=3)
+        self.assertIn("no arc Lager Süd Markt 1; names with blanks stand in quotes, as in '\"Bad Aibling\" Ulm'", errors)
+
+    def test_names_are_looked_up_before_anything_is_solved(self):
+        """A misspelling is told at once: here the program would never answer."""
+        environment, begun = self.slow_program()
+        for words, unknown in (
+            (("ranges", "--only", "nowhere"), "arc nowhere"),
+            (("ranges", "--supplies", "--beside", "Rom"), "node Rom"),
+            (("sweep", "--cap", "nowhere", "--values", "1"), "arc nowhere"),
+        ):
+            with self.subTest(words), mock.patch.dict(os.environ, environment):
+                _, errors = self.run_it(words[0], self.nodes, self.arcs, *words[1:], status=3)
+                self.assertEqual(errors, f"mcf-plan: there is no {unknown}\n")
+                self.assertFalse(begun.exists())
+
     def test_ranges_of_supplies(self):
         out, _ = self.run_it("ranges", self.nodes, self.arcs, "--supplies", "--beside", "Kiel")
         self.assertRegex(out, r"node +supply +one more costs +one less costs\nKiel +\S+ +0 +0\n")

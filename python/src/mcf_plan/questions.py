@@ -51,7 +51,8 @@ def arc_of(problem: Problem, words: str) -> int:
                 return problem.find_arc(parts[0])
             raise
     except KeyError as error:
-        raise ValueError(error.args[0]) from None
+        quoted = "" if len(parts) < 3 else "; names with blanks stand in quotes, as in '\"Bad Aibling\" Ulm'"
+        raise ValueError(f"{error.args[0]}{quoted}") from None
 
 
 def node_of(problem: Problem, name: str) -> str:
@@ -85,6 +86,8 @@ def add_ranges(parser: argparse.ArgumentParser) -> None:
 
 def run_ranges(options: argparse.Namespace, problem: Problem) -> bool:
     """Runs `ranges`; whether there is a plan."""
+    only = None if options.only is None else [arc_of(problem, words) for words in options.only]
+    beside = None if options.beside is None else node_of(problem, options.beside)
     with Session(problem, surplus=options.surplus) as session, Progress() as progress:
 
         def step(done: int, total: int) -> None:
@@ -95,10 +98,8 @@ def run_ranges(options: argparse.Namespace, problem: Problem) -> bool:
         arcs: List[Ranges] = []
         nodes: List[SupplyPrice] = []
         if isinstance(plan, Plan) and options.supplies:
-            beside = None if options.beside is None else node_of(problem, options.beside)
             nodes = supply_prices(session, beside, step=step, plan=plan)
         elif isinstance(plan, Plan):
-            only = None if options.only is None else [arc_of(problem, words) for words in options.only]
             arcs = ranges(session, only, step=step, plan=plan)
     lift_alarm()
     if isinstance(plan, Infeasible):
