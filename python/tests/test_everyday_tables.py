@@ -488,11 +488,11 @@ class Maps(InFolder):
 
     def test_maps(self):
         kiel, berlin, road = self.KIEL, self.BERLIN, self.ROAD
-        ends = [10.1, 54.3], [13.4, 52.5]
+        ends, said = ([10.1, 54.3], [13.4, 52.5]), {"from": "Kiel", "to": "Berlin"}
         area = {"type": "Feature", "geometry": {"type": "Polygon", "coordinates": []}, "properties": {}}
         part = {"type": "Feature", "geometry": {"type": "MultiLineString", "coordinates": []}, "properties": {}}
         for title, features, wanted in (
-            ("names", [kiel, berlin, line([0, 0], [1, 1], **{"from": "Kiel", "to": "Berlin"}, **road)], "cost 12.5"),
+            ("names", [kiel, berlin, line([0, 0], [1, 1], **said, **road)], "cost 12.5"),
             ("ends", [line(*ends, **road), kiel, berlin], "the point where it begins to the point where it ends"),
             ("a way round", [kiel, berlin, line(ends[0], [11, 53], ends[1], **road)], "cost 12.5"),
             (
@@ -514,7 +514,23 @@ class Maps(InFolder):
             (
                 "one without cost",
                 [kiel, berlin, line(*ends, **road), line(*ends, capacity=9)],
-                "feature 4: it has no property 'cost'",
+                "feature 4: it has no property 'cost'; `--default-cost 0` takes 0 where there is none",
+            ),
+            (
+                "ends of some lines",
+                [kiel, berlin, line(*ends, **road), line([0, 0], [1, 1], **said, capacity=9, cost=7)],
+                "cost 12.5[^:]*\n(.*\n)*note: .* each line without 'from' and 'to' leads",
+            ),
+            ("null for ends", [kiel, berlin, line(*ends, **{"from": None, "to": None}, **road)], "cost 12.5"),
+            (
+                "one of both ends",
+                [kiel, berlin, line(*ends, **said, **road), line(*ends, **{"from": "Kiel"}, **road)],
+                "feature 4: it has no property 'to'; a line has both of 'from' and 'to', or neither",
+            ),
+            (
+                "one without capacity",
+                [kiel, berlin, line(*ends, **road), line(*ends, cost=2.5)],
+                "feature 4: it has no property 'capacity'; null is no limit",
             ),
             ("no limit", [kiel, berlin, line(*ends, capacity=None, cost=2.5)], "cost 12.5"),
             ("a place between", [kiel, berlin, point([1, 1], name="Ulm"), line(*ends, **road)], "cost 12.5"),

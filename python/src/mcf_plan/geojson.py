@@ -119,9 +119,38 @@ def _cell(value: Any) -> Any:
 
 
 def _add_ends(arcs: Sheet, lines: Sequence[_Feature], points: Sequence[_Feature]) -> None:
-    """Adds the columns `from` and `to` where no property says them. Raises TableFault where no point is at an end."""
-    if any(match_of(key, ["from", "to"]) for key in arcs.header):
+    """Fills in `from` and `to` of the lines that have neither. Raises TableFault where no point is at an end."""
+    matches = [(place, match_of(key, ["from", "to"])) for place, key in enumerate(arcs.header)]
+    said = [(place, match.what) for place, match in matches if match is not None]
+    keys = [arcs.header[place] for place, _ in said]
+    bare = [row for row, line in enumerate(lines) if all(line.properties.get(key) is None for key in keys)]
+    if not bare or said and sorted(what for _, what in said) != ["from", "to"]:
         return
+    names = _names_by_position(arcs, points)
+    places = {what: place for place, what in said}
+    for what in ("from", "to"):
+        if what not in places:
+            places[what] = len(arcs.header)
+            arcs.header.append(what)
+            arcs.columns.append([""] * len(lines))
+        cells = list(arcs.columns[places[what]])
+        for row in bare:
+            end = lines[row].first if what == "from" else lines[row].last
+            if end not in names:
+                raise TableFault(
+                    f"{arcs.name}, feature {lines[row].number}: it has no property {what!r}, and no point with a name "
+                    f"stands exactly where it {'begins' if what == 'from' else 'ends'}, at {end[0]:g}, {end[1]:g}"
+                )
+            cells[row] = names[end]
+        arcs.columns[places[what]] = cells
+    for row in arcs.missing.keys() & set(bare):
+        arcs.missing[row] -= frozenset(places.values())
+    which = "each line" if len(bare) == len(lines) else "each line without 'from' and 'to'"
+    arcs.notes.append(f"{arcs.name}: {which} leads from the point where it begins to the point where it ends")
+
+
+def _names_by_position(arcs: Sheet, points: Sequence[_Feature]) -> Dict[Point, str]:
+    """The names of the points by where they stand. Raises TableFault where two stand at one place."""
     names: Dict[Point, str] = {}
     for point in points:
         name = _name(point)
@@ -131,16 +160,7 @@ def _add_ends(arcs: Sheet, lines: Sequence[_Feature], points: Sequence[_Feature]
                     f"{arcs.name}: two points, {names[point.first]!r} and {name!r}, stand at one place, so the lines "
                     "need properties 'from' and 'to'"
                 )
-    for what, ends in (("from", [line.first for line in lines]), ("to", [line.last for line in lines])):
-        for line, end in zip(lines, ends):
-            if end not in names:
-                raise TableFault(
-                    f"{arcs.name}, feature {line.number}: it has no property {what!r}, and no point with a name stands "
-                    f"exactly where it {'begins' if what == 'from' else 'ends'}, at {end[0]:g}, {end[1]:g}"
-                )
-        arcs.header.append(what)
-        arcs.columns.append([names[end] for end in ends])
-    arcs.notes.append(f"{arcs.name}: each line leads from the point where it begins to the point where it ends")
+    return names
 
 
 def _name(point: _Feature) -> Optional[str]:

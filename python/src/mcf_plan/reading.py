@@ -27,6 +27,13 @@ from .vocabulary import COLUMNS, DITTO
 
 PLACES = ("x", "y")
 
+LACKING = {
+    **dict.fromkeys(("from", "to"), "; a line has both of 'from' and 'to', or neither"),
+    "capacity": "; null is no limit",
+    "cost": "; `--default-cost 0` takes 0 where there is none",
+}
+"""What to do about a property that a feature of a map lacks."""
+
 
 @dataclass(frozen=True)
 class Reading:
@@ -108,7 +115,8 @@ class Table:
             if sheet.word == "feature":
                 what = next(what for what in by_place.values() if what in lacking)
                 header = sheet.header[self.found.places[what]]
-                raise TableFault(f"{sheet.name}, {sheet.place(row)}: it has no property {header!r}; null is empty")
+                hint = LACKING.get(what, "")
+                raise TableFault(f"{sheet.name}, {sheet.place(row)}: it has no property {header!r}{hint}")
             width = len(sheet.header)
             raise TableFault(
                 f"{sheet.name}, {sheet.place(row)}: {width - len(places)} "
