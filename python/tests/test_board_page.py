@@ -14,6 +14,7 @@ import tempfile
 import threading
 import time
 import unittest
+from decimal import Decimal
 from pathlib import Path
 from random import Random
 from typing import Callable
@@ -208,6 +209,18 @@ class PageTest(unittest.TestCase):
         self.assertEqual(self.worth(), "26.25")
         self.edit("capacity ferry", "")
         self.assertEqual(self.field("capacity ferry").get_property("value"), "")
+
+    def test_lower_bounds_stand_in_place_of_what_one_more_saves(self) -> None:
+        """There is no room for both, and the box says so while it is ticked, as it is where there are such bounds."""
+        problem = towns()
+        problem.arcs[0] = problem.arcs[0]._replace(low=Decimal(1))
+        self.open(problem)
+        words = self.at("#with-low + .in-place")
+        self.assertEqual(words.text, ", in place of what 1 more saves")
+        self.assertFalse(self.at("#arcs th.saves").is_displayed())
+        self.at("#with-low").click()
+        self.assertFalse(words.is_displayed())
+        self.assertTrue(self.at("#arcs th.saves").is_displayed())
 
     def test_refused_edit_is_told(self) -> None:
         self.open(towns())
