@@ -3,7 +3,7 @@
 import io
 import sys
 import unittest
-from typing import List
+from typing import List, Optional
 
 from mcf_plan import Problem, Session
 from mcf_plan.conversation import Conversation
@@ -19,10 +19,10 @@ def roads() -> Problem:
     return problem
 
 
-def answers(*lines: str) -> List[str]:
+def answers(*lines: str, problem: Optional[Problem] = None) -> List[str]:
     """What is said to these lines, each behind its line, and at the end the cost and whether something can be undone."""
     out = io.StringIO()
-    with Session(roads()) as session:
+    with Session(problem or roads()) as session:
         Conversation(session, out).run(io.StringIO("".join(line + "\n" for line in lines)))
         said = out.getvalue().splitlines()
         said.append(f"{session.cost} {session.can_undo}")
@@ -88,6 +88,25 @@ class Groups(unittest.TestCase):
 
 
 class Words(unittest.TestCase):
+    def test_arcs_by_their_ends(self) -> None:
+        """As `ranges --only` takes them, quoted as one word too."""
+        for which in ("#1", "a c", "a to c", '"a c"', '"a to c"'):
+            with self.subTest(which):
+                problem = Problem()
+                problem.add_node("a", 1)
+                problem.add_node("c", -1)
+                problem.add_arc("a", "c", cap=3, cost=1)
+                self.assertEqual(answers(f"cost {which} 2", problem=problem), ["cost 2 (1 more)", "2 True"])
+
+    def test_what_one_more_adds_to_a_greatest_flow(self) -> None:
+        problem = Problem("max", source="a", sink="c")
+        problem.add_arc("a", "c", cap=3, name="pipe")
+        self.assertEqual(answers("saves", problem=problem), ["arc   one more adds", "pipe              1", "3 False"])
+        problem = Problem("max", source="a", sink="c")
+        problem.add_arc("a", "b", cap=0)
+        problem.add_arc("b", "c", cap=0)
+        self.assertIn("no arc: one unit more of capacity adds nothing", answers("saves", problem=problem))
+
     def test_what_is_not_understood(self) -> None:
         for line, reason in (
             ("undo 3", "undo stands alone, and 3 stands behind it"),
@@ -98,6 +117,8 @@ class Words(unittest.TestCase):
             ("cap Cheap 1", "there is no arc Cheap; did you mean cheap?"),
             ("cap road9 1", "there is no arc road9"),
             ("cap a to b 1", "there are several arcs a to b: say which by its number: they are #1, #2"),
+            ('cap "a b" 1', "there are several arcs a to b: say which by its number"),
+            ("cap #3 1", "there is no arc 2: they are numbered from 0 to 1"),
             ("supply a", "supply wants a node and a number; `help` tells more"),
             ("supply a b 1", "one name was expected, and 2 are there; names with blanks stand in quotes"),
             ("add a", "add wants both ends, and then pairs as `capacity 5 cost 2`; `help` tells more"),

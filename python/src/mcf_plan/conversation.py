@@ -14,6 +14,7 @@ from .plan import Infeasible
 from .printing import of_system, print_table, say, tell
 from .problem import ArcKey, plain, total_of
 from .program import TimeLimit
+from .questions import arc_of
 from .rewrite import CannotRewrite
 from .session import EditRefused, Session
 from .tables import write_plan
@@ -234,9 +235,7 @@ class Conversation:
         return f"{what} {plain(session.cost)} ({change[1:] + ' less' if change[0] == '-' else change + ' more'})"
 
     def arc(self, words: List[str]) -> ArcKey:
-        """An arc by its name, `#K`, or its ends."""
-        if len(words) == 1 and words[0].startswith("#") and words[0][1:].isdigit():
-            return int(words[0][1:]) - 1
+        """An arc by its name, `#K`, or its ends, quoted as one word or not. Raises KeyError where it is none."""
         if len(words) == 3 and words[1] == "to":
             return words[0], words[2]
         if len(words) == 2:
@@ -245,7 +244,10 @@ class Conversation:
             raise EditRefused(
                 "an arc is its name, its two ends, or # and its number; names with blanks stand in quotes"
             )
-        return words[0]
+        try:
+            return arc_of(self.session.problem, words[0])
+        except ValueError as error:
+            raise KeyError(str(error)) from None
 
     def add(self, words: List[str]) -> None:
         """Adds an arc."""
@@ -296,15 +298,16 @@ class Conversation:
         self.say(result.explain() if isinstance(result, Infeasible) else "there is a plan")
 
     def saves(self) -> None:
-        """Prints what one unit more saves, arc by arc."""
+        """Prints what one unit more saves, or adds to a greatest flow, arc by arc."""
         from .sensitivity import one_unit_more
 
-        rows = [["arc", "one more saves"]]
+        does = "adds" if self.session.problem.kind == "max" else "saves"
+        rows = [["arc", f"one more {does}"]]
         for arc, amount in zip(self.session.problem.arcs, one_unit_more(self.session)):
             if amount:
                 rows.append([arc.label, plain(amount)])
         if len(rows) == 1:
-            return self.say("no arc: one unit more of capacity saves nothing")
+            return self.say(f"no arc: one unit more of capacity {does} nothing")
         return print_table(rows, 1, self.out)
 
     def mark(self, name: str) -> None:
