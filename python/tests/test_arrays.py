@@ -112,7 +112,7 @@ class Arrays(unittest.TestCase):
             columns[place][0] = entry  # type: ignore[call-overload]
             with self.subTest(words), self.assertRaisesRegex(error, words):
                 solve_arrays(*columns)
-        with self.assertRaisesRegex(ValueError, "heads has 1 entries, and tails has 2"):
+        with self.assertRaisesRegex(ValueError, "heads has 1 entry, and tails has 2"):
             solve_arrays([0, 1], [1], [1, 1], [1, 1], [0, 0])
         with self.assertRaisesRegex(BeyondLimits, "arc 0 costs less than 0, and has no capacity"):
             solve_arrays([0], [1], None, [-1], [1, -1])

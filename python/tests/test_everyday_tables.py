@@ -459,6 +459,28 @@ class Frames(unittest.TestCase):
                 self.assertRegex("\n".join(problem.notes), wanted)
 
     @needs("pandas")
+    def test_messages_say_which_frame(self):
+        import pandas
+
+        nodes = pandas.DataFrame({"name": ["a", "b"], "supply": [1, -1]})
+        arcs = pandas.DataFrame({"from": ["a"], "to": ["b"], "cost": [1.0]})
+        for wrong_nodes, wrong_arcs, wanted in (
+            (nodes.assign(supply=["x", -1]), arcs, "^the frame of nodes, row 0, column 'supply': 'x' stands there"),
+            (nodes, arcs.assign(cost="x"), "^the frame of arcs, row 0, column 'cost': 'x' stands there"),
+            (nodes, arcs.assign(cost=None), r"`--default-cost 0` \(in Python `default_cost=0`\) takes 0"),
+            (arcs, nodes, "^the frame of nodes looks like the table of arcs"),
+        ):
+            with self.subTest(wanted), self.assertRaisesRegex(TableFault, wanted):
+                read_tables(wrong_nodes, wrong_arcs)
+        noted = read_tables(nodes, arcs.rename(columns={"cost": "cost_eur"})).notes
+        self.assertRegex("\n".join(noted), "^the frame of arcs: the column 'cost_eur' is the cost")
+
+    def test_what_is_no_frame(self):
+        for nodes, arcs, which in (({"name": ["a"]}, {}, "nodes"), (None, [1], "arcs")):
+            with self.assertRaisesRegex(TypeError, f"the frame of {which} has to be a DataFrame of pandas, and is of type"):
+                read_tables(nodes, arcs)
+
+    @needs("pandas")
     def test_what_python_says(self):
         import pandas
 

@@ -79,7 +79,9 @@ class ArrayProblem:
         self.supplies = wholes(supplies, "supplies")
         for what in ("heads", "lows", "caps", "costs"):
             if len(getattr(self, what)) != arcs:
-                raise ValueError(f"{what} has {len(getattr(self, what))} entries, and tails has {arcs}")
+                count = len(getattr(self, what))
+                entries = "1 entry" if count == 1 else f"{count} entries"
+                raise ValueError(f"{what} has {entries}, and tails has {arcs}")
         self._check_ranges()
         self._text_caps = self._limited_caps()
         self._text_ends = numbered(self.tails), numbered(self.heads)

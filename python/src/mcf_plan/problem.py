@@ -310,7 +310,7 @@ class Problem:
         """The problem of two frames of pandas, or of one alone (`nodes` None): `tables.read_tables` says which columns
         are taken, and what `options` there are.
 
-        Raises TableFault where a row or a column can't be read.
+        Raises TableFault where a row or a column can't be read, TypeError for what is no frame.
         """
         from .tables import read_tables
 

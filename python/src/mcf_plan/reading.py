@@ -165,7 +165,10 @@ class Table:
             return [ZERO if default is None else default] * len(self)
         found = self._looked_up(what, Coordinates() if what in PLACES else self._reader())
         if default is None and None in found:
-            expected = f"{called(what)} was expected; `--default-cost 0` takes 0 for those that are empty"
+            expected = (
+                f"{called(what)} was expected; `--default-cost 0` (in Python `default_cost=0`) takes 0 for those that are "
+                "empty"
+            )
             raise self.fault(found.index(None), what, expected)
         return [default if number is None else number for number in found]  # type: ignore[misc]
 

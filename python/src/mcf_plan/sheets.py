@@ -192,8 +192,13 @@ def _csv_words(error: str) -> str:
 # ---------------------------------------------------------------- frames
 
 
-def sheet_of_frame(frame: Any) -> Sheet:
-    """The sheet of a pandas DataFrame; its index may have the names of the rows."""
+def sheet_of_frame(frame: Any, name: str) -> Sheet:
+    """The sheet of a pandas DataFrame, by the name that messages call it; its index may have the names of the rows.
+
+    Raises TypeError where it is none.
+    """
+    if not hasattr(frame, "columns") or not hasattr(frame, "iloc"):
+        raise TypeError(f"{name} has to be a DataFrame of pandas, and is of type {type(frame).__name__}")
     header = [str(column).strip() for column in frame.columns]
     columns: List[Sequence[Any]] = [frame.iloc[:, place].tolist() for place in range(len(header))]
     lines = frame.index.tolist()
@@ -201,7 +206,7 @@ def sheet_of_frame(frame: Any) -> Sheet:
     if len(kept) != len(lines):
         columns = [[column[number] for number in kept] for column in columns]
         lines = [lines[number] for number in kept]
-    sheet = Sheet("frame", header, columns, [_row_label(line) for line in lines], "row")
+    sheet = Sheet(name, header, columns, [_row_label(line) for line in lines], "row")
     index_name = frame.index.name
     if getattr(frame.index, "nlevels", 1) > 1:
         for level, name in enumerate(frame.index.names):

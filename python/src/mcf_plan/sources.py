@@ -42,7 +42,7 @@ def find_sheets(nodes: Optional[Source], arcs: Source, encoding: Optional[str]) 
 def _sheet(source: Source, names: Sequence[str], encoding: Optional[str]) -> Sheet:
     """The sheet of one source; of a workbook of several the one that has one of these names."""
     if not isinstance(source, (str, Path)):
-        return sheet_of_frame(source)
+        return sheet_of_frame(source, f"the frame of {'nodes' if names is NODE_SHEETS else 'arcs'}")
     path, name = part_sheet(source)
     check_ending(path)
     if path.suffix.lower() in MAPS:
