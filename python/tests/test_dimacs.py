@@ -51,6 +51,25 @@ class Mistakes(unittest.TestCase):
                 place = f"file, line {line}" if line else "file: There is nothing in it."
                 self.assertTrue(fault.words("file").startswith(place), fault.words("file"))
 
+    def test_what_is_one_is_told_as_one(self):
+        for text, words in (
+            ("p min 2 3\na 1 2 0 5 1\n", "after 1 arc, and the problem line 1 says that there are 3"),
+            ("p min 2 1\n", "after 0 arcs, and the problem line 1 says that there is 1"),
+        ):
+            self.assertIn(words, dimacs.find_fault(text).words())
+
+    def test_answers_that_are_flows_alone(self):
+        """Whoever has flows alone is told how to check them."""
+        problem = "p min 2 2\nn 1 3\nn 2 -3\na 1 2 0 5 1\na 1 2 0 5 2\n"
+        for answer in ("15\n", "f 1 2 3\n", "s 3\nf 1 2 3\nf 1 2 0\n"):
+            with self.subTest(answer):
+                self.assertIn("`mcf-plan check --from", dimacs.find_answer_fault(problem, answer).hint)
+        told = dimacs.find_answer_fault(problem, "s 3\nf 1 2 3\n").words()
+        self.assertIn("ends after 1 f line, and the problem has 2 arcs", told)
+
+    def test_bytes_of_a_packed_file(self):
+        self.assertIn(r"'\u001f\x8b", dimacs.find_fault(b"\x1f\x8b\x08\x00\n").words())
+
     def test_program_tells_the_same_line_and_number(self):
         for name, _, _, _, text in mistakes():
             with self.subTest(name):

@@ -477,7 +477,9 @@ class Frames(unittest.TestCase):
 
     def test_what_is_no_frame(self):
         for nodes, arcs, which in (({"name": ["a"]}, {}, "nodes"), (None, [1], "arcs")):
-            with self.assertRaisesRegex(TypeError, f"the frame of {which} has to be a DataFrame of pandas, and is of type"):
+            with self.assertRaisesRegex(
+                TypeError, f"the frame of {which} has to be a DataFrame of pandas, and is of type"
+            ):
                 read_tables(nodes, arcs)
 
     @needs("pandas")

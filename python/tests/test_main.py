@@ -1,6 +1,7 @@
 """The command mcf-plan, run as a process: what it prints, and its statuses."""
 
 import contextlib
+import gzip
 import io
 import json
 import os
@@ -158,6 +159,10 @@ class Command(unittest.TestCase):
         out, _ = self.run_it("faults", self.file("a.min", "p min 2 1\na 1 2 0 5,5 3\n"), status=3)
         self.assertIn("a.min, line 2, CAP: '5,5' stands where", out)
         self.assertIn("\n    a 1 2 0 5,5 3\n", out)
+        packed = Path(self.folder.name) / "a.min.gz"
+        packed.write_bytes(gzip.compress(b"p min 2 1\n"))
+        out, _ = self.run_it("faults", str(packed), status=3)
+        self.assertEqual(len(out.splitlines()), 1, "a line that is no text is not shown")
         out, _ = self.run_it("faults", self.file("b.min", "p min 2 1\nn 1 5\na 1 2 0 5 3\n"))
         self.assertIn("supplies add up to 5", out)
         out, _ = self.run_it("faults", self.file("c.asn", "p asn 3 1\nn 1\na 1 2 3\n"))
@@ -197,7 +202,9 @@ class Command(unittest.TestCase):
         out, _ = self.run_it("ranges", nodes, arcs, "--only", '"Lager Süd" "Markt 1"')
         self.assertIn("Lager Süd  Markt 1", out)
         _, errors = self.run_it("ranges", nodes, arcs, "--only", "Lager Süd Markt 1", status=3)
-        self.assertIn("no arc Lager Süd Markt 1; names with blanks stand in quotes, as in '\"Bad Aibling\" Ulm'", errors)
+        self.assertIn(
+            "no arc Lager Süd Markt 1; names with blanks stand in quotes, as in '\"Bad Aibling\" Ulm'", errors
+        )
 
     def test_names_are_looked_up_before_anything_is_solved(self):
         """A misspelling is told at once: here the program would never answer."""
@@ -303,7 +310,10 @@ class Command(unittest.TestCase):
         """Nothing is printed then, and the status is not that of no plan."""
         for words, reason in (
             (("--cap", "road", "--values", "1,-1"), "the capacity of road would be -1, below 0"),
-            (("--low", "road", "--from", "0", "--to", "3"), "the lower bound of road would be 3, above its capacity, 2"),
+            (
+                ("--low", "road", "--from", "0", "--to", "3"),
+                "the lower bound of road would be 3, above its capacity, 2",
+            ),
         ):
             with self.subTest(words):
                 out, errors = self.run_it("sweep", self.nodes, self.arcs, *words, status=3)

@@ -13,7 +13,7 @@ from mcf_plan.report import to_json
 ODD = "Ulm\x1b[2J\x9b31m\u202e\udcff\x07"
 """A name that clears the screen, changes the colour by a control of eight bits, turns the direction of writing, has a
 byte that is no UTF-8, and rings."""
-SHOWN = "Ulm\\u001b[2J\\u009b31m\\u202e\\udcff\\u0007"
+SHOWN = "Ulm\\u001b[2J\\u009b31m\\u202e\\xff\\u0007"
 
 
 def odd_problem() -> Problem:

@@ -180,8 +180,8 @@ class ReportTest(unittest.TestCase):
         for graphviz in (None, False):
             picture = report.svg_picture(problem.solve(), graphviz=graphviz)
             xml.fromstring(picture)
-            self.assertIn("Ulm\\u001b\\udcfc", picture)
-        self.assertIn("Ulm\\u001b\\udcfc", report.html_text(problem.solve()))
+            self.assertIn("Ulm\\u001b\\xfc", picture)
+        self.assertIn("Ulm\\u001b\\xfc", report.html_text(problem.solve()))
         alike = Problem()
         alike.add_arc("a\x1b", "a\\u001b", cap=1)
         self.assertEqual(report.svg_picture(alike.solve()).count("<circle"), 2)

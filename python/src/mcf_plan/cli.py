@@ -15,9 +15,10 @@ from typing import Callable, Dict, List, NoReturn, Optional, Tuple
 from . import __version__
 from .conversation import Conversation
 from .deadline import alarm, lift_alarm
-from .dimacs import find_answer_fault, find_fault, parse_problem
+from .dimacs import Fault, find_answer_fault, find_fault, parse_problem
 from .explain import explain
 from .formats import as_str
+from .hints import PACKED
 from .plan import Disagreement, Plan
 from .printing import of_system, say, tell, visible
 from .problem import Problem, exact, plain
@@ -461,15 +462,13 @@ def _faults(options: argparse.Namespace) -> int:
     raw = sys.stdin.buffer.read() if options.problem == "-" else Path(options.problem).read_bytes()
     fault = find_fault(raw)
     if fault is not None:
-        say(fault.words(options.problem), sys.stdout)
-        _show_line(raw, fault.line)
+        _tell_fault(fault, options.problem, raw)
         return REFUSED
     if options.answer:
         answer = Path(options.answer).read_bytes()
         fault = find_answer_fault(raw, answer)
         if fault is not None:
-            say(fault.words(options.answer), sys.stdout)
-            _show_line(answer, fault.line)
+            _tell_fault(fault, options.answer, answer)
             return REFUSED
     print("no fault")
     found = parse_problem(raw)
@@ -487,11 +486,12 @@ def _faults(options: argparse.Namespace) -> int:
     return 0
 
 
-def _show_line(raw: bytes, line: int) -> None:
-    """Prints the line that the fault is on, cut where it is long."""
+def _tell_fault(fault: Fault, name: str, raw: bytes) -> None:
+    """Prints the fault, and the line that it is on, cut where it is long; not that of a packed file, which is no text."""
+    say(fault.words(name), sys.stdout)
     lines = raw.split(b"\n")
-    if 1 <= line <= len(lines):
-        text = as_str(lines[line - 1][:100]).rstrip("\r")
+    if 1 <= fault.line <= len(lines) and fault.hint != PACKED:
+        text = as_str(lines[fault.line - 1][:100]).rstrip("\r")
         print("    " + "\t".join(map(visible, text.split("\t"))))
 
 

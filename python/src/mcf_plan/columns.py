@@ -194,10 +194,10 @@ def _choose(sheet: Sheet, what: str, its: List[Tuple[int, Match]], found: Found)
         )
     elif len(rivals) > 1:
         names = " and ".join(repr(sheet.header[place]) for place in rivals)
-        raise TableFault(
-            f"{sheet.name}: the columns {names} both look like {called(what)}; say `--columns {what}=NAME` for the one "
-            "that counts, or give the table without the others"
-        )
+        choice = f"say `--columns {what}=NAME` for the one that counts, or give the table without the others"
+        if len({folded(sheet.header[place]) for place in rivals}) < len(rivals):
+            choice = "give the table with one of them alone"
+        raise TableFault(f"{sheet.name}: the columns {names} both look like {called(what)}; {choice}")
     place = rivals[0]
     found.places[what] = place
     match = dict(its)[place]

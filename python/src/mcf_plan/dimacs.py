@@ -19,8 +19,19 @@ from .formats import (
     Text,
     as_bytes,
     as_str,
+    counted,
+    written,
 )
-from .hints import count_hint, first_word_hint, kind_hint, long_line_hint, number_hint, range_hint
+from .hints import (
+    FLOWS_ALONE,
+    answer_word_hint,
+    count_hint,
+    first_word_hint,
+    kind_hint,
+    long_line_hint,
+    number_hint,
+    range_hint,
+)
 
 
 @dataclass(frozen=True)
@@ -62,7 +73,7 @@ class Fault:
 def shown(value: str) -> str:
     """A value between quotes, cut where it is long, each character that can't be seen by its number."""
     short = value if len(value) <= 40 else value[:37] + "..."
-    return "'" + "".join(c if c.isprintable() else f"\\u{ord(c):04x}" for c in short) + "'"
+    return "'" + "".join(c if c.isprintable() else written(c) for c in short) + "'"
 
 
 _BLANKS = re.compile(rb"[ \t\r]+")
@@ -327,8 +338,8 @@ class ProblemReader:
         if len(self.arcs) < self.wanted:
             raise self.fail(
                 13,
-                f"the text ends after {len(self.arcs)} arcs, and the problem line {self.problem_line} says "
-                f"that there are {self.wanted}",
+                f"the text ends after {counted(len(self.arcs), 'arc')}, and the problem line {self.problem_line} says "
+                f"that there {'is' if self.wanted == 1 else 'are'} {self.wanted}",
                 hint="Is the file cut off? Else put the right number there.",
             )
 
@@ -405,9 +416,9 @@ class _AnswerReader:
         elif what == "f":
             right = self.first == "s" and (problem is None or flows < len(problem.arcs)) and not potentials
             if not self.first:
-                hint = "The line `s VALUE` comes first."
+                hint = f"The line `s VALUE` comes first. {FLOWS_ALONE}"
             elif problem is not None and flows >= len(problem.arcs):
-                hint = f"The problem has {len(problem.arcs)} arcs, and this flow is one too many."
+                hint = f"The problem has {counted(len(problem.arcs), 'arc')}, and this flow is one too many."
         elif what == "v":
             right = self.first == "s" and (problem is None or flows == len(problem.arcs) and potentials < problem.nodes)
             if not self.first:
@@ -430,12 +441,14 @@ class _AnswerReader:
             return
         what, rest = as_str(words[0]), words[1:]
         if what not in ANSWER_FIELDS:
-            hint = "Is this a problem in place of an answer?" if what in ("p", "n", "a") else ""
+            hint = answer_word_hint(what)
             raise self.fail(2, "s, f, v, i or k, or c for a comment", name="first word", value=what, hint=hint)
         self.order(what)
         names = ANSWER_FIELDS[what]
         if len(rest) != len(names):
-            raise self.fail(3, f"`{' '.join((what, *names))}` was expected, and this line has {len(rest)} fields")
+            raise self.fail(
+                3, f"`{' '.join((what, *names))}` was expected, and this line has {counted(len(rest), 'field')}"
+            )
         answer = self.answer
         if what == "s":
             answer.value = self.number("VALUE", rest[0], _WORTH)
@@ -481,15 +494,15 @@ class _AnswerReader:
             if len(answer.flows) < len(problem.arcs):
                 raise self.fail(
                     40,
-                    f"the text ends after {len(answer.flows)} f lines, and the problem has "
-                    f"{len(problem.arcs)} arcs",
+                    f"the text ends after {counted(len(answer.flows), 'f line')}, and the problem has "
+                    f"{counted(len(problem.arcs), 'arc')}",
                     hint="Is it cut off?",
                 )
             if len(answer.potentials or ()) < problem.nodes:
                 raise self.fail(
                     40,
-                    f"the text ends after {len(answer.potentials or ())} v lines, and the problem has "
-                    f"{problem.nodes} nodes",
+                    f"the text ends after {counted(len(answer.potentials or ()), 'v line')}, and the problem has "
+                    f"{counted(problem.nodes, 'node')}",
                     hint="Make the answer with `mcf solve --proof`; for the answer of another program "
                     "`mcf-plan check --from` works the v lines out.",
                 )

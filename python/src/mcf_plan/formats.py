@@ -19,6 +19,27 @@ def as_str(text: Text) -> str:
     return text if isinstance(text, str) else text.decode("utf-8", "surrogateescape")
 
 
+def written(letter: str) -> str:
+    """A character by its number; a byte that is no UTF-8 by that of the byte.
+
+    >>> written("\\x1b"), written("\\udc8b")
+    ('\\\\u001b', '\\\\x8b')
+    """
+    code = ord(letter)
+    if 0xDC80 <= code <= 0xDCFF:
+        return f"\\x{code - 0xDC00:02x}"
+    return f"\\u{code:04x}" if code < 0x10000 else f"\\U{code:08x}"
+
+
+def counted(count: int, what: str) -> str:
+    """So many of a thing.
+
+    >>> counted(1, "arc"), counted(1200, "arc")
+    ('1 arc', '1,200 arcs')
+    """
+    return f"{count:,} {what}{'' if count == 1 else 's'}"
+
+
 LONGEST_LINE = 1024
 MOST_NODES = 50_000
 MOST_ARCS = 100_000

@@ -8,6 +8,7 @@ from typing import List, Tuple
 from .formats import ARC_FIELDS, MOST_FLOW
 
 PARTED_BY_BLANKS = "Fields are parted by blanks: put blanks where the commas and semicolons are."
+FLOWS_ALONE = "Of flows alone `mcf-plan check --from flows` says whether they are best."
 PACKED = "This is a packed file or a spreadsheet: unpack it, or save it as plain text."
 
 
@@ -176,6 +177,13 @@ def first_word_hint(word: str, line: str, *, is_first: bool) -> str:
     if re.search(r"[,;]", line) and is_first:
         return "A table is read by `mcf-plan plan`, and not as a problem."
     return ""
+
+
+def answer_word_hint(word: str) -> str:
+    """What to do about a line of an answer whose first word is unknown."""
+    if word in ("p", "n", "a"):
+        return "Is this a problem in place of an answer?"
+    return FLOWS_ALONE if re.fullmatch(r"-?\d+", word) else ""
 
 
 def long_line_hint(line: bytes) -> str:

@@ -9,6 +9,7 @@ from __future__ import annotations
 import unicodedata
 from typing import List, TextIO, Union
 
+from .formats import written
 from .plan import Infeasible, Plan
 from .problem import plain
 
@@ -31,9 +32,7 @@ def visible(text: str) -> str:
 
 def _written(letter: str) -> str:
     """A character by its number."""
-    if letter in JOINERS:
-        return letter
-    return f"\\u{ord(letter):04x}" if ord(letter) < 0x10000 else f"\\U{ord(letter):08x}"
+    return letter if letter in JOINERS else written(letter)
 
 
 def say(words: str, out: TextIO) -> None:

@@ -17,7 +17,7 @@ from .deadline import Deadline
 from .dimacs import Answer, parse_answer
 from .errors import BeyondLimits, CannotRewrite, DoesNotFit, Meaningless, Unbounded
 from .figures import Figures
-from .formats import MOST_FLOW, ArcRow
+from .formats import MOST_FLOW, ArcRow, counted
 from .lines import Lines
 from .meaning import Options, Surplus, check_meaning, text_kind
 from .plan import Disagreement, Infeasible, Plan
@@ -239,7 +239,7 @@ def _taken_for(figures: Figures) -> List[str]:
         notes.append(f"amounts go in steps of {step}, by the decimals in the tables: the plan sends multiples of it")
     unlimited = sum(cap is None for cap in figures.caps)
     if unlimited:
-        has = f"{_counted(unlimited, 'arc')} {'has' if unlimited == 1 else 'have'}"
+        has = f"{counted(unlimited, 'arc')} {'has' if unlimited == 1 else 'have'}"
         notes.append(f"{has} no capacity in the tables, and may carry any amount")
     return notes
 
@@ -256,20 +256,16 @@ def _notes_of(rewriting: Rewriting) -> List[str]:
     unlimited = sum(cap is None for cap in figures.caps)
     if unlimited:
         notes.append(
-            f"{_counted(unlimited, 'arc')} without a capacity: {lines.room.whole} is written there, which no best flow "
+            f"{counted(unlimited, 'arc')} without a capacity: {lines.room.whole} is written there, which no best flow "
             "needs to fill"
         )
     split = sum(count > 1 for count, _ in lines.forms)
     if split:
-        notes.append(f"{_counted(split, 'arc')} written as several beside one another, of {MOST_FLOW:,} units each")
+        notes.append(f"{counted(split, 'arc')} written as several beside one another, of {MOST_FLOW:,} units each")
     if lines.moved:
-        notes.append(f"{_counted(len(lines.moved), 'lower bound')} moved into the supplies of the arcs' ends")
+        notes.append(f"{counted(len(lines.moved), 'lower bound')} moved into the supplies of the arcs' ends")
     if lines.helpers:
-        notes.append(f"{_counted(len(lines.helpers), 'node')} with others beside them for their supplies")
+        notes.append(f"{counted(len(lines.helpers), 'node')} with others beside them for their supplies")
     if lines.rest:
         notes.append(f"node {lines.rest} stands for what is kept or not met")
     return notes
-
-
-def _counted(count: int, what: str) -> str:
-    return f"{count:,} {what}{'' if count == 1 else 's'}"

@@ -16,6 +16,7 @@ from typing import TYPE_CHECKING, Any, Collection, Dict, Iterable, List, Mapping
 
 from .cells import TableFault, is_empty, limit_fault, name_of
 from .columns import called, compare_units, find_columns, folded
+from .formats import counted
 from .problem import ONE, WIDE, ZERO, Arc, Number, Problem, exact, plain
 from .reading import Reading, Table, no_column
 from .rounding import round_problem
@@ -196,8 +197,9 @@ def _add_ends(problem: Problem, ends: Iterable[str], nodes: Optional[Sheet]) -> 
         problem.nodes[end] = ZERO
     if nodes is not None and problem.kind != "asn" and alone:
         told = ", ".join(alone[:5]) + (f" and {len(alone) - 5} more" if len(alone) > 5 else "")
-        count = "1 node stands" if len(alone) == 1 else f"{len(alone)} nodes stand"
-        nodes.notes.append(f"{count} in the table of arcs alone, and supply nothing: {told}")
+        stand, supply = ("stands", "supplies") if len(alone) == 1 else ("stand", "supply")
+        count = counted(len(alone), "node")
+        nodes.notes.append(f"{count} {stand} in the table of arcs alone, and {supply} nothing: {told}")
 
 
 def _alike(name: str) -> str:
