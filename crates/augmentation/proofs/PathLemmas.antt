@@ -11,7 +11,7 @@ use Rattle.residual_graph.specs.declared.residual.Way.TheVariants.{Forward, Back
 use Rattle.residual_graph.specs.Residual.{end_at, number_at, start_at}
 use Rattle.shortest_paths.specs.declared.predecessor.Predecessor.{Predecessor}
 use Rattle.shortest_paths.specs.Predecessor.{rank_at}
-use Rattle.shortest_paths.specs.Search.{HavePaths, IsReached}
+use Rattle.shortest_paths.specs.Search.{AreHung, IsReached}
 use Rattle.augmentation.specs.Push.{HasRoom, IsPath, IsTight, IsTightArc, before, hop_to, hops_before, moved, nodes_on, path_to, push_along, root_of, root_to}
 use Rattle.augmentation.proofs.PushLemmas.{AreApart, Avoids, push_along-set, push_elsewhere}
 
@@ -63,11 +63,11 @@ module _ (arcs : List ArcRow) (s : List Predecessor) where
     apart = tt;
   }
 
-  module _ (x : List ℤ) (paths : HavePaths arcs x s) where
+  module _ (hung : AreHung arcs s) where
     -- one hop more, by which the search came to v
     pub onward_more : (t v : ℕ) (hops : List ResidualArc) → 0 < rank_at s v → IsOnward t v hops → IsOnward t (before arcs s v) (hop_to s v ∷ hops)
     onward_more t v hops some is =
-        let came = paths v is.reached some in
+        let came = hung v is.reached some in
         let h = hop_to s v in
         let u = before arcs s v in
         let rest = nodes_on arcs hops v in
@@ -82,13 +82,13 @@ module _ (arcs : List ArcRow) (s : List Predecessor) where
           deep = All-cons (λ w. rank_at s u ≤ rank_at s w) u (nodes_on arcs hops (end_at arcs h.arc h.way)) (omega arith)
               (All-weaker (λ w. rank_at s v ≤ rank_at s w) (λ w. rank_at s u ≤ rank_at s w) (λ w le. omega (arith, le, lower)) (nodes_on arcs hops (end_at arcs h.arc h.way)) deep);
           from = (omega arith, higher, from_higher (rank_at s v) (rank_at s u) hops (omega (arith, lower)) is.from);
-          apart = (came.residual.is_arc, avoids_from h.arc h.way (rank_at s v) hops higher lower is.from, is.apart);
+          apart = (came.is_arc, avoids_from h.arc h.way (rank_at s v) hops higher lower is.from, is.apart);
         }) is.deep is.simple is.leads
 
     pub onward_all : (d t v : ℕ) (hops : List ResidualArc) → rank_at s v ≡ d → IsOnward t v hops → IsOnward t (root_of arcs s d v) (hops_before arcs s d v hops)
     onward_all zero t v hops e is = is
     onward_all (suc d) t v hops e is =
-        let came = paths v is.reached (omega (arith, e)) in
+        let came = hung v is.reached (omega (arith, e)) in
         onward_all d t (before arcs s v) (hop_to s v ∷ hops) (omega (arith, e, came.deeper)) (onward_more t v hops (omega (arith, e)) is)
 
     -- the whole path
@@ -98,19 +98,19 @@ module _ (arcs : List ArcRow) (s : List Predecessor) where
     pub root_depth : (d v : ℕ) → IsReached s v → rank_at s v ≡ d → rank_at s (root_of arcs s d v) ≡ 0
     root_depth zero v reached e = e
     root_depth (suc d) v reached e =
-        let came = paths v reached (omega (arith, e)) in
+        let came = hung v reached (omega (arith, e)) in
         root_depth d (before arcs s v) came.reached (omega (arith, e, came.deeper))
 
     -- one hop back from v
     pub step_back : (v : ℕ) (hops : List ResidualArc) → IsReached s v → 0 < rank_at s v → hops_before arcs s (rank_at s v) v hops ≡ hops_before arcs s (rank_at s (before arcs s v)) (before arcs s v) (hop_to s v ∷ hops)
     step_back v hops reached some =
-        let came = paths v reached some in
+        let came = hung v reached some in
         let deep : rank_at s v ≡ suc (rank_at s (before arcs s v)) = omega (arith, came.deeper) in
         ap (λ (d : ℕ). hops_before arcs s d v hops) deep
 
     pub root_back : (v : ℕ) → IsReached s v → 0 < rank_at s v → root_to arcs s v ≡ root_to arcs s (before arcs s v)
     root_back v reached some =
-        let came = paths v reached some in
+        let came = hung v reached some in
         let deep : rank_at s v ≡ suc (rank_at s (before arcs s v)) = omega (arith, came.deeper) in
         ap (λ (d : ℕ). root_of arcs s d v) deep
 

@@ -2,7 +2,7 @@
 use Rattle.residual_graph.specs.Limits.{entry_limit}
 use Rattle.augmentation.specs.Limits.{left_limit, excess_limit}
 use Rattle.std.proofs.Common.{◌≡◌, ◌≢◌, ℕ, zero, suc, ◌+◌, ◌<◌, ◌≤◌, ℤ, pos, negsuc, neg_ℤ, ◌-ℤ◌, ◌+ℤ◌, ◌≤ℤ◌, List, [], ◌∷◌, length, map, refl, sym, ap, subst, ◌∙◌, inl, inr, arith}
-use Rattle.std.specs.Prelude.{◌<ℤ◌, slice_index_or}
+use Rattle.std.specs.Prelude.{◌<ℤ◌, Bool, false, slice_index_or, true}
 use Rattle.std.specs.List.{AllPairs}
 use Rattle.std.proofs.lemmas.Int.{ints}
 use Rattle.std.proofs.lemmas.Bool.{cases_eq, cases_lt}
@@ -10,11 +10,14 @@ use Rattle.std.proofs.lemmas.List.{get_or_default, get_or_past, length-map}
 use Rattle.std.proofs.lemmas.List.Sums.{sum_by-cons, sum_by-le}
 use Rattle.dimacs_text.specs.declared.problem.ArcRow.{ArcRow}
 use Rattle.shortest_paths.specs.declared.predecessor.Predecessor.{Predecessor}
+use Rattle.residual_graph.specs.Graph.{GraphView}
 use Rattle.residual_graph.specs.Residual.{IsPseudoflow, IsReducedCostOptimal, NoneBelow, number_at}
 use Rattle.shortest_paths.specs.Predecessor.{rank_at}
-use Rattle.shortest_paths.specs.Search.{HasFound, IsReached}
+use Rattle.shortest_paths.specs.Search.{HasFound, IsForest, IsReached}
+use Rattle.shortest_paths.proofs.StepLemmas.{forest_of}
 use Rattle.network.specs.Flow.{net}
-use Rattle.augmentation.specs.Push.{IsExcess, IsPath, IsPush, Pushes, nodes_on, before, hop_to, path_to, root_to, HasRoom, IsTight, IsTightArc, IsTransfer, IsAugmented, ArePushes, push_along, at_node, AreSmall, positive_part, left, lack}
+use Rattle.augmentation.specs.Push.{IsExcess, IsPath, IsPush, Pushes, nodes_on, before, hop_to, path_to, root_to, HasRoom, IsTight, IsTightArc, IsTransfer, IsAugmented, ArePushes, push_along, at_node, AreSmall, one_if, positive_part, left, lack}
+use Rattle.augmentation.specs.Pseudoflow.{IsCertifiedPseudoflow}
 use Rattle.residual_graph.specs.declared.residual.ResidualArc.{ResidualArc}
 use Rattle.augmentation.proofs.TurnedRows.{number_at-neg, left-neg}
 use Rattle.augmentation.proofs.PathLemmas.{IsOnward, hops_tight, path_onward, root_depth}
@@ -221,25 +224,22 @@ ArePushes-more {arcs} {m} {n} {x} {e} {y} {f} {z} {g} first rest =
       balanced = λ v h. rest.balanced v (first.balanced v h);
     }
 
--- ---- a search came to a node in deficit
+-- ---- a node of a forest
 
-module _ (arcs : List ArcRow) (x p e : List ℤ) (s : List Predecessor) (t : ℕ) (certified : IsReducedCostOptimal arcs x p) (found : HasFound arcs x p e s t) where
+module _ (arcs : List ArcRow) (p : List ℤ) (s : List Predecessor) (t : ℕ) (forest : IsForest arcs p s) (reached : IsReached s t) where
   onward : IsOnward arcs s t (root_to arcs s t) (path_to arcs s t)
-  onward = path_onward arcs s x found.search.paths t found.reached
-
-  pub root_in_excess : pos 0 <ℤ number_at e (root_to arcs s t)
-  root_in_excess = found.roots (root_to arcs s t) onward.reached (root_depth arcs s x found.search.paths (rank_at s t) t found.reached refl)
+  onward = path_onward arcs s forest.hung t reached
 
   tight_step : (v : ℕ) → IsReached s v → 0 < rank_at s v → IsTightArc arcs p (hop_to s v).arc (hop_to s v).way × IsReached s (before arcs s v) × (rank_at s v ≡ rank_at s (before arcs s v) + 1)
-  tight_step v reached deep =
-      let came = found.search.paths v reached deep in
-      (omega (arith, ints, found.search.tight v reached deep), came.reached, came.deeper)
+  tight_step v there deep =
+      let by = forest.hung v there deep in
+      (omega (arith, ints, forest.tight v there deep), by.reached, by.deeper)
 
   tight_to_target : IsTight arcs p (path_to arcs s t)
-  tight_to_target = hops_tight arcs s p (IsReached s) tight_step (rank_at s t) t [] found.reached refl tt
+  tight_to_target = hops_tight arcs s p (IsReached s) tight_step (rank_at s t) t [] reached refl tt
 
-  -- flow is pushed along the path
-  module _ (y f : List ℤ) (small : AreSmall e) (sized : length e ≡ length p) (step : IsAugmented arcs s t x e y f) where
+  -- flow is pushed along the path to it
+  module _ (x e y f : List ℤ) (certified : IsReducedCostOptimal arcs x p) (small : AreSmall e) (sized : length e ≡ length p) (step : IsAugmented arcs s t x e y f) where
     abbrev moving : IsMoving (length p) arcs x e
     moving = record { flow = certified.flow; excess_sized = sized; small = small }
 
@@ -247,7 +247,7 @@ module _ (arcs : List ArcRow) (x p e : List ℤ) (s : List Predecessor) (t : ℕ
     room = record { leads = onward.leads; simple = onward.simple; apart = onward.apart; room = step.room }
 
     root_in : root_to arcs s t < length p
-    root_in = omega (arith, onward.reached.0, found.search.sized)
+    root_in = omega (arith, onward.reached.0, forest.sized)
 
     pub one_pushed : ArePushes arcs 1 x e y f
     one_pushed = subst (λ (z : List ℤ). ArePushes arcs 1 x e z f) (sym step.flow) (one_push (length p) arcs x e (path_to arcs s t) (root_to arcs s t) t step.amount f moving room step.at_least_1 root_in step.in_excess step.in_deficit step.transfer)
@@ -261,3 +261,41 @@ module _ (arcs : List ArcRow) (x p e : List ℤ) (s : List Predecessor) (t : ℕ
       potentials = certified.potentials;
       none_below = subst (λ (z : List ℤ). NoneBelow arcs z p) (sym step.flow) (NoneBelow-along arcs p (path_to arcs s t) step.amount x certified.none_below tight_to_target);
     }
+
+-- the path by which a search came to a node in deficit begins in excess
+pub root_in_excess : (arcs : List ArcRow) (x p e : List ℤ) (s : List Predecessor) (t : ℕ) → HasFound arcs x p e s t → pos 0 <ℤ number_at e (root_to arcs s t)
+root_in_excess arcs x p e s t found =
+    let forest = forest_of found.search in
+    found.roots (root_to arcs s t) (onward arcs p s t forest found.reached).reached (root_depth arcs s forest.hung (rank_at s t) t found.reached refl)
+
+-- a push along a path of the forest, or none: what stands then
+pub record IsPushedOn (g : GraphView) (p : List ℤ) (done : Bool) (x e y f : List ℤ) : Type 0 where
+  pub state : IsCertifiedPseudoflow g y p f
+  pub pushed : ArePushes g.rows (one_if done) x e y f
+
+pub pushed_on : (g : GraphView) (x p e : List ℤ) (s : List Predecessor) (t : ℕ) (y f : List ℤ) (done : Bool) → IsForest g.rows p s → IsReached s t → IsCertifiedPseudoflow g x p e
+    → (done ≡ true → IsAugmented g.rows s t x e y f) → (done ≡ false → (y ≡ x) × (f ≡ e)) → IsPushedOn g p done x e y f
+pushed_on g x p e s t y f true forest reached state did not_done =
+    let step = did refl in
+    let moved = moved_on g.rows p s t forest reached x e y f state.certified state.small state.excess_in step in
+    record {
+      state = record {
+        graph = state.graph;
+        certified = certified_after g.rows p s t forest reached x e y f state.certified state.small state.excess_in step;
+        excess_in = moved.excess_sized;
+        small = moved.small;
+      };
+      pushed = one_pushed g.rows p s t forest reached x e y f state.certified state.small state.excess_in step;
+    }
+pushed_on g x p e s t y f false forest reached state did not_done =
+    let same = not_done refl in
+    record {
+      state = subst (λ (z : List ℤ). IsCertifiedPseudoflow g z p f) (sym same.0) (subst (IsCertifiedPseudoflow g x p) (sym same.1) state);
+      pushed = subst (λ (z : List ℤ). ArePushes g.rows 0 x e z f) (sym same.0) (subst (ArePushes g.rows 0 x e x) (sym same.1) (ArePushes-none g.rows x e));
+    }
+
+-- whatever is pushed, the count fits a word
+pub count_fits : {g : GraphView} {x p e y f : List ℤ} {n : ℕ} → IsCertifiedPseudoflow g x p e → ArePushes g.rows n x e y f → n ≤ left_limit
+count_fits {g} {x} {p} {e} {y} {f} {n} state pushed =
+    let small = left-small (length p) e state.small state.excess_in state.certified.flow.few_nodes in
+    omega (arith, small, pushed.count)

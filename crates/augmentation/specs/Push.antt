@@ -2,7 +2,7 @@
 -- (Ahuja, Magnanti, Orlin, "Network Flows": augmenting paths; excess, deficit and pseudoflow).
 use Rattle.network.specs.Flow.{net}
 use Rattle.augmentation.specs.Limits.{excess_limit, supply_limit}
-use Rattle.std.specs.Prelude.{◌≡◌, ◌≢◌, ℕ, zero, suc, ◌+◌, ◌≤◌, ℤ, pos, negsuc, neg_ℤ, ◌-ℤ◌, ◌+ℤ◌, ◌≤ℤ◌, List, [], ◌∷◌, length, slice_set, if◌then◌else◌, ◌==◌}
+use Rattle.std.specs.Prelude.{◌≡◌, ◌≢◌, ℕ, zero, suc, ◌+◌, ◌≤◌, ℤ, pos, negsuc, neg_ℤ, ◌-ℤ◌, ◌+ℤ◌, ◌≤ℤ◌, List, [], ◌∷◌, length, slice_set, if◌then◌else◌, ◌==◌, Bool, true, false}
 use Rattle.std.specs.List.{All, AllPairs, sum_by}
 use Rattle.dimacs_text.specs.declared.problem.ArcRow.{ArcRow}
 use Rattle.residual_graph.specs.declared.residual.ResidualArc.{ResidualArc}
@@ -124,6 +124,11 @@ pub record AreSmall (e : List ℤ) : Type 0 where
 pub record IsTransfer (u w : ℕ) (m : ℤ) (e f : List ℤ) : Type 0 where
   pub same_length : length f ≡ length e
   pub by_node : (v : ℕ) → number_at f v ≡ (number_at e v -ℤ at_node u m v) +ℤ at_node w m v
+
+-- one push, or none
+abbrev pub one_if : Bool → ℕ
+one_if true = 1
+one_if false = 0
 
 -- n pushes lead from a flow x with excesses e to a flow y with excesses f
 pub record ArePushes (arcs : List ArcRow) (n : ℕ) (x e y f : List ℤ) : Type 0 where

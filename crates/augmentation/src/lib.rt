@@ -1,5 +1,5 @@
-//! Flow sent from nodes in excess to nodes in deficit: pushes along the shortest paths that searches found, searches and
-//! pushes in turn until no node in excess reaches one in deficit, the greatest potentials of the flow, and the sets of
+//! Flow sent from nodes in excess to nodes in deficit: pushes along the shortest paths that searches found, a search and
+//! many pushes in turn until no node in excess reaches one in deficit, the greatest potentials of the flow, and the sets of
 //! nodes that residual arcs reach. A flow that another method wants is taken where its potentials certify it.
 //!
 //! A table of nodes has one entry a node, by the node's number, and entry 0 stands for no node; a table of arcs has one
@@ -19,9 +19,11 @@ mod marked;
 mod near;
 mod order;
 mod potentials;
+mod pushes;
 mod rounds;
 mod scratch;
 mod side;
+mod trails;
 mod wanted;
 
 pub use adoption::{Pushed, adopt, push_all};

@@ -1,20 +1,23 @@
 //! Searches and pushes in turn, until no node in excess reaches a node in deficit.
 
-ghost use Rattle.std.specs.Prelude.{◌≡◌, IsTrue, length, MatchOption};
+ghost use Rattle.std.specs.Prelude.{◌≡◌, ◌≤◌, IsTrue, length, MatchOption};
 ghost use Rattle.augmentation.specs.Cut.{IsParted};
 ghost use Rattle.augmentation.specs.Pseudoflow.{IsCertifiedPseudoflow, IsReady};
 ghost use Rattle.augmentation.specs.Push.{ArePushes};
 ghost use Rattle.tracked.specs.Tracked.{IsWritten};
 ghost use Rattle.shortest_paths.specs.Search.{HasFound};
 
-use crate::augment::augment;
 use crate::excess::Excess;
+use crate::pushes::{push_to, push_to_all};
 use crate::scratch::Scratch;
 use residual_graph::Graph;
-use shortest_paths::find_deficit;
+use shortest_paths::search_from_excess;
 use tracked::Tracked;
 
-/// Searches from all nodes in excess for a node in deficit, pushes along the path to it, and again, until no node in excess
+/// A search with so few pushes is worth another look at the arcs that cost nothing.
+const FEW_PUSHES: u64 = 8;
+
+/// Searches from all nodes in excess, pushes to the nodes in deficit that they reach, and again, until no node in excess
 /// reaches a node in deficit; counts the pushes. Where a proposal was right, one look at what is reached is all that it
 /// does.
 #[inline(never)] // a name of its own in the program: `bench/count` counts its calls
@@ -36,8 +39,7 @@ pub fn finish(
     }
     let mut pushes = 0;
     while let Some(target) = search_on(graph, flow, excess, scratch) {
-        push_to(graph, flow, excess, scratch, target);
-        pushes += 1;
+        pushes += push_round(graph, flow, excess, scratch, target);
     }
     pushes
 }
@@ -54,8 +56,8 @@ fn is_parted(graph: &Graph, flow: &[i64], excess: &Excess, scratch: &mut Scratch
     scratch.is_parted(graph, flow, excess)
 }
 
-/// Searches from the nodes in excess for a node in deficit, where there are both; nothing where no node in excess reaches a
-/// node in deficit.
+/// Searches from the nodes in excess, where there are nodes in deficit too, and gives the first one to which it came; nothing
+/// where no node in excess reaches a node in deficit.
 #[inline(never)] // a name of its own in the program: `bench/count` counts its calls
 fn search_on(
     graph: &Graph,
@@ -71,7 +73,7 @@ fn search_on(
     if !excess.has_both() {
         return None;
     }
-    find_deficit(
+    search_from_excess(
         graph,
         flow.entries(),
         excess.entries(),
@@ -81,29 +83,57 @@ fn search_on(
     )
 }
 
-/// Pushes along the path by which a search came to a node in deficit; the potentials end in the range with which a search
-/// begins.
-#[inline(never)] // a name of its own in the program: `bench/count` counts its calls
-fn push_to(
+/// Pushes to the nodes in deficit to which a search came, to this one first; where these pushes were few, looks for other
+/// paths that cost nothing. The potentials end in the range with which a search begins.
+fn push_round(
     graph: &Graph,
     flow: &mut Tracked<i64>,
     excess: &mut Excess,
     scratch: &mut Scratch,
     target: usize,
-)
+) -> u64
     requires state { IsCertifiedPseudoflow graph.now flow.old.entries scratch.old.potentials excess.old }
     requires found { HasFound graph.now.rows flow.old.entries scratch.old.potentials excess.old scratch.old.predecessors target }
     ensures flow_written { IsWritten flow.old flow.new }
     ensures ready { IsReady graph.now flow.new.entries scratch.new.potentials excess.new }
     ensures held { scratch.new.held ≡ scratch.old.held }
-    ensures pushed { ArePushes graph.now.rows 1 flow.old.entries excess.old flow.new.entries excess.new }
+    ensures pushed { ArePushes graph.now.rows result flow.old.entries excess.old flow.new.entries excess.new }
+    ensures some { 1 ≤ result }
 {
-    augment(
-        graph,
-        flow,
-        &mut excess.entries,
-        &scratch.predecessors,
-        target,
-    );
+    push_to(graph, flow, excess, scratch, target);
+    scratch.trails.clear();
+    let mut pushes = 1 + push_to_all(graph, flow, excess, scratch);
+    pushes += push_by_levels(graph, flow, excess, scratch, pushes);
     scratch.bring_in_range(graph, flow.entries());
+    pushes
+}
+
+/// Where a search led to few pushes, pushes along arcs that cost nothing, over as few of them as can be, until they lead to
+/// no node in deficit; counts these pushes.
+fn push_by_levels(
+    graph: &Graph,
+    flow: &mut Tracked<i64>,
+    excess: &mut Excess,
+    scratch: &mut Scratch,
+    before: u64,
+) -> u64
+    requires state { IsCertifiedPseudoflow graph.now flow.old.entries scratch.old.potentials excess.old }
+    ensures flow_written { IsWritten flow.old flow.new }
+    ensures state { IsCertifiedPseudoflow graph.now flow.new.entries scratch.new.potentials excess.new }
+    ensures held { scratch.new.held ≡ scratch.old.held }
+    ensures pushed { ArePushes graph.now.rows result flow.old.entries excess.old flow.new.entries excess.new }
+{
+    if before >= FEW_PUSHES {
+        return 0;
+    }
+    let mut pushes = 0;
+    while scratch.search_levels(graph, flow.entries(), excess) {
+        scratch.trails.begin(graph);
+        let more = push_to_all(graph, flow, excess, scratch);
+        if more == 0 {
+            break;
+        }
+        pushes += more;
+    }
+    pushes
 }

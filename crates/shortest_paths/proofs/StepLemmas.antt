@@ -1,6 +1,6 @@
 -- One step of a search, and what stands at its beginning and at its end.
 use Rattle.std.proofs.Common.{◌≡◌, ◌≢◌, ◌∙◌, ℕ, negsuc, ◌+◌, ◌*◌, ◌/◌, ◌%◌, ◌<◌, ◌≤◌, ◌⊎◌, ℤ, pos, neg_ℤ, ◌-ℤ◌, ◌+ℤ◌, ◌≤ℤ◌, List, length, refl, sym, ap, subst, inl, inr, arith, slice_set}
-use Rattle.std.specs.Prelude.{◌<ℤ◌, Bool, true, false}
+use Rattle.std.specs.Prelude.{◌<ℤ◌, Bool, IfNone, IfSome, MatchOption, None, Option, Some, true, false}
 use Rattle.std.proofs.lemmas.Int.{ints}
 use Rattle.std.proofs.lemmas.Bool.{cases_eq, cases_lt, false≢true}
 use Rattle.std.proofs.lemmas.List.{get_or-set_other, get_or-set_same, get_or_past, length-set}
@@ -17,7 +17,7 @@ use Rattle.residual_graph.proofs.RowLemmas.{cost_of-bounds, end_of-in, start_of-
 use Rattle.shortest_paths.specs.Limits.{label_floor}
 use Rattle.shortest_paths.specs.declared.predecessor.Predecessor.{Predecessor}
 use Rattle.shortest_paths.specs.Predecessor.{AreBounded, IsTracedAt, arc_to, predecessor_at, rank_at, reduced_at, root_node, way_to}
-use Rattle.shortest_paths.specs.Search.{AreLowered, AreOffered, AreRaised, AreServed, AreServedFrom, Crosses, HasFound, HaveJoined, IsAlong, IsFromExcess, IsOpen, IsReached, IsSearch, IsServed, come_from, open_count}
+use Rattle.shortest_paths.specs.Search.{AreLowered, AreOffered, AreRaised, AreServed, AreServedFrom, Crosses, HaveJoined, IsAlong, IsDeficitFound, IsForest, IsOpen, IsReached, IsSearch, IsServed, NoneCrosses, come_from, open_count}
 use Rattle.shortest_paths.proofs.LabelLemmas.{greatest_of}
 use Rattle.shortest_paths.proofs.SearchLemmas.{all_reached, is_there, not_both, one_less, one_reached, open_before, open_in, open_or_reached, same_as_before, search_on, still_reached}
 
@@ -389,28 +389,50 @@ module _ (arcs : List ArcRow) (x p : List ℤ) (t : List Predecessor) (q r : Que
             (omega (arith, ints, here, climbing.at_open v was_open));
       }
 
--- the search from excess goes on, or finds a node in deficit
-module _ (arcs : List ArcRow) (excess : List ℤ) (t : List Predecessor) (v end : ℕ) (node : v < length t) (was_open : IsOpen t v) (from : IsFromExcess excess t) where
-  abbrev come : List Predecessor
+-- the node in deficit that was found, where there is one: else no node in deficit was reached
+abbrev pub IsFirstFound : List ℤ → List Predecessor → Option ℕ → Type 0
+IsFirstFound excess t found = MatchOption found ((v : ℕ) → IsReached t v → pos 0 ≤ℤ number_at excess v) (λ v. IsReached t v × (number_at excess v <ℤ pos 0))
+
+-- the search from excess goes on
+module _ (arcs : List ArcRow) (excess : List ℤ) (t : List Predecessor) (v end : ℕ) (node : v < length t) (was_open : IsOpen t v) where
+  abbrev pub come : List Predecessor
   come = slice_set t v (come_from arcs t end)
 
-  pub roots_after : (u : ℕ) → IsReached come u → rank_at come u ≡ 0 → pos 0 <ℤ number_at excess u
-  roots_after = all_reached t v (come_from arcs t end) node was_open refl (λ u s. s.rank ≡ 0 → pos 0 <ℤ number_at excess u) from.roots (λ none. absurd (omega (arith, none)))
+  pub sources_after : ((u : ℕ) → pos 0 <ℤ number_at excess u → IsReached t u) → (u : ℕ) → pos 0 <ℤ number_at excess u → IsReached come u
+  sources_after sources u high = still_reached t v (come_from arcs t end) node was_open refl u (sources u high)
 
-  pub from_after : pos 0 ≤ℤ number_at excess v → IsFromExcess excess come
-  from_after here = record {
-    sources = λ u high. still_reached t v (come_from arcs t end) node was_open refl u (from.sources u high);
-    roots = roots_after;
-    no_deficit = all_reached t v (come_from arcs t end) node was_open refl (λ u s. pos 0 ≤ℤ number_at excess u) from.no_deficit here;
-  }
+  pub roots_after : ((u : ℕ) → IsReached t u → rank_at t u ≡ 0 → pos 0 <ℤ number_at excess u) → (u : ℕ) → IsReached come u → rank_at come u ≡ 0 → pos 0 <ℤ number_at excess u
+  roots_after roots = all_reached t v (come_from arcs t end) node was_open refl (λ u s. s.rank ≡ 0 → pos 0 <ℤ number_at excess u) roots (λ none. absurd (omega (arith, none)))
 
-  pub found_after : (x q : List ℤ) → IsSearch arcs x q come → number_at excess v <ℤ pos 0 → HasFound arcs x q excess come v
-  found_after x q found deficit = record {
-    search = found;
-    roots = roots_after;
-    reached = (omega (arith, node, length-set t v (come_from arcs t end)), ap (λ (s : Predecessor). s.is_open) (is_there t v (come_from arcs t end) node was_open refl));
-    deficit = deficit;
-  }
+  here_reached : IsReached come v
+  here_reached = (omega (arith, node, length-set t v (come_from arcs t end)), ap (λ (s : Predecessor). s.is_open) (is_there t v (come_from arcs t end) node was_open refl))
+
+  pub found_after : (before after : Option ℕ) → IfSome after (λ u. (before ≡ Some u) ⊎ ((u ≡ v) × (number_at excess u <ℤ pos 0))) → IfNone after ((before ≡ None) × (pos 0 ≤ℤ number_at excess v))
+      → IsFirstFound excess t before → IsFirstFound excess come after
+  found_after before None some none was =
+      let before_none = subst (IsFirstFound excess t) none.0 was in
+      all_reached t v (come_from arcs t end) node was_open refl (λ u s. pos 0 ≤ℤ number_at excess u) before_none none.1
+  found_after before (Some u) some none was = elim some [
+    | inl same ↦ (let found = subst (IsFirstFound excess t) same was in (still_reached t v (come_from arcs t end) node was_open refl u found.0, found.1))
+    | inr here ↦ (subst (IsReached come) (sym here.0) here_reached, here.1)
+  ]
+
+-- a search from excess ends
+pub found_or_exhausted : (arcs : List ArcRow) (x p excess : List ℤ) (t : List Predecessor) (found : Option ℕ) → length t ≡ length excess → IsSearch arcs x p t → NoneCrosses arcs x t
+    → ((v : ℕ) → pos 0 <ℤ number_at excess v → IsReached t v) → ((v : ℕ) → IsReached t v → rank_at t v ≡ 0 → pos 0 <ℤ number_at excess v)
+    → IsFirstFound excess t found → IsDeficitFound arcs x p excess t found
+found_or_exhausted arcs x p excess t None sized searched none sources roots is = record { sized = sized; from = record { sources = sources; roots = roots; no_deficit = is }; none_crosses = none }
+found_or_exhausted arcs x p excess t (Some v) sized searched none sources roots is = record { search = searched; roots = roots; reached = is.0; deficit = is.1 }
+
+-- what a search leaves is a forest, whatever is pushed then
+pub forest_of : {arcs : List ArcRow} {x p : List ℤ} {t : List Predecessor} → IsSearch arcs x p t → IsForest arcs p t
+forest_of search = record {
+  sized = search.sized;
+  hung = λ v reached deep.
+      (let by = search.paths v reached deep in
+      record { is_arc = by.residual.is_arc; ends = by.ends; reached = by.reached; deeper = by.deeper });
+  tight = search.tight;
+}
 
 -- a search begins: each node that it reached is a root
 pub search_first : (arcs : List ArcRow) (x p : List ℤ) (t : List Predecessor) → length t ≡ length p → ((v : ℕ) → rank_at t v ≡ 0) → IsSearch arcs x p t

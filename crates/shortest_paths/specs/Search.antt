@@ -45,6 +45,24 @@ pub record IsSearch (arcs : List ArcRow) (x p : List ℤ) (t : List Predecessor)
   pub paths : HavePaths arcs x t
   pub tight : AreTight arcs p t
 
+-- node v hangs by an arc, in this way along it, on a node that is one hop nearer to the beginning; nothing is said of what
+-- fits along the arc
+pub record IsHung (arcs : List ArcRow) (t : List Predecessor) (v k : ℕ) (way : Way) : Type 0 where
+  pub is_arc : k < length arcs
+  pub ends : end_at arcs k way ≡ v
+  pub reached : IsReached t (start_at arcs k way)
+  pub deeper : rank_at t v ≡ rank_at t (start_at arcs k way) + 1
+
+-- so does each node that was reached, but for the roots
+abbrev pub AreHung : List ArcRow → List Predecessor → Type 0
+AreHung arcs t = (v : ℕ) → IsReached t v → 0 < rank_at t v → IsHung arcs t v (arc_to t v) (way_to t v)
+
+-- a forest of arcs that cost nothing: what a search leaves of its paths once flow was pushed along some of them
+pub record IsForest (arcs : List ArcRow) (p : List ℤ) (t : List Predecessor) : Type 0 where
+  pub sized : length t ≡ length p
+  pub hung : AreHung arcs t
+  pub tight : AreTight arcs p t
+
 -- how a node is come to along the residual arc that leaves at an end
 abbrev pub come_from : List ArcRow → List Predecessor → ℕ → Predecessor
 come_from arcs t end = record { end = end; rank = rank_at t (start_at arcs (end / 2) (end_way end)) + 1; is_open = false }
@@ -103,7 +121,7 @@ pub record IsFromExcess (excess : List ℤ) (t : List Predecessor) : Type 0 wher
   pub roots : (v : ℕ) → IsReached t v → rank_at t v ≡ 0 → pos 0 <ℤ number_at excess v
   pub no_deficit : (v : ℕ) → IsReached t v → pos 0 ≤ℤ number_at excess v
 
--- it came to a node in deficit, from a node in excess
+-- it began at nodes in excess, and came to this node in deficit
 pub record HasFound (arcs : List ArcRow) (x p excess : List ℤ) (t : List Predecessor) (target : ℕ) : Type 0 where
   pub search : IsSearch arcs x p t
   pub roots : (v : ℕ) → IsReached t v → rank_at t v ≡ 0 → pos 0 <ℤ number_at excess v

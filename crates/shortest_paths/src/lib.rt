@@ -1,5 +1,5 @@
-//! Searches in the residual graph of a flow: from the nodes in excess to one in deficit, and for the greatest potentials of
-//! all nodes, with a tree that keeps them from flow to flow.
+//! Searches in the residual graph of a flow: from the nodes in excess to all that they reach, and for the greatest
+//! potentials of all nodes, with a tree that keeps them from flow to flow.
 //!
 //! A table of nodes has one entry a node, by the node's number, and entry 0 stands for no node; a table of arcs has one
 //! entry a row of the graph. Flow and excess are in units of flow; costs, potentials and labels in cost a unit of flow.
@@ -7,6 +7,7 @@
 
 mod forest;
 mod labels;
+mod levels;
 mod links;
 mod predecessor;
 mod rooms;
@@ -14,6 +15,7 @@ mod search;
 mod tree;
 
 pub use labels::search_labels;
+pub use levels::{hang_on, search_levels};
 pub use predecessor::{Predecessor, are_traced, is_traced, reduced_cost};
-pub use search::find_deficit;
+pub use search::search_from_excess;
 pub use tree::Tree;

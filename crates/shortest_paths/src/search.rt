@@ -1,11 +1,11 @@
-//! Dijkstra's algorithm over reduced costs, from the nodes in excess to the nearest one in deficit (Ahuja, Magnanti, Orlin,
+//! Dijkstra's algorithm over reduced costs, from the nodes in excess to all that they reach (Ahuja, Magnanti, Orlin,
 //! "Network Flows": successive shortest paths). The next node comes from a heap, and the arcs that are looked at are those
 //! at the nodes that the search comes to.
 //!
 //! A node waits once a residual arc leads to it from a settled one. Its key is how far it is from the nodes in excess:
 //! potentials of settled nodes are raised by that, so it is the reduced cost of this residual arc.
 
-ghost use Rattle.std.specs.Prelude.{◌≡◌, ℕ, ◌+◌, ◌*◌, ◌/◌, ◌<◌, pos, neg_ℤ, ◌+ℤ◌, ◌≤ℤ◌, ℤ, FitsSigned, List, IsTrue, ◌↔◌, length, slice_set};
+ghost use Rattle.std.specs.Prelude.{◌≡◌, ◌⊎◌, ℕ, ◌+◌, ◌*◌, ◌/◌, ◌<◌, pos, neg_ℤ, ◌+ℤ◌, ◌<ℤ◌, ◌≤ℤ◌, ℤ, FitsSigned, IfNone, IfSome, List, IsTrue, ◌↔◌, length, slice_set};
 ghost use Rattle.std.specs.Int.{w64};
 ghost use Rattle.residual_graph.specs.Limits.{entry_limit, potential_floor};
 ghost use Rattle.residual_graph.specs.Residual.{ArePotentials, IsPseudoflow, IsReducedCostOptimal, number_at, start_at};
@@ -20,7 +20,7 @@ use containers::{Queue, Waiting};
 use residual_graph::Graph;
 
 /// Whether the residual arc that leaves at an end is there, and leads from a node that the search reached to an open one.
-fn crosses(graph: &Graph, flow: &[i64], predecessors: &[Predecessor], end: u32) -> bool
+pub(crate) fn crosses(graph: &Graph, flow: &[i64], predecessors: &[Predecessor], end: u32) -> bool
     requires flow { IsPseudoflow (length predecessors.now) graph.now.rows flow.now }
     requires end { end / 2 < length graph.now.rows }
     ensures { IsTrue result ↔ Crosses graph.now.rows flow.now predecessors.now (end / 2) (end_way end) }
@@ -179,7 +179,7 @@ fn lower_reached(potentials: &mut [i64], predecessors: &[Predecessor], fall: i64
 }
 
 /// Begins a search at the nodes in excess.
-fn begin_in_excess(excess: &[i64], predecessors: &mut [Predecessor])
+pub(crate) fn begin_in_excess(excess: &[i64], predecessors: &mut [Predecessor])
     requires sized { length predecessors.old ≡ length excess.now }
     ensures from { IsFromExcess excess.now predecessors.new }
     ensures flat { (v : ℕ) → rank_at predecessors.new v ≡ 0 }
@@ -192,10 +192,23 @@ fn begin_in_excess(excess: &[i64], predecessors: &mut [Predecessor])
     }
 }
 
-/// Searches from the nodes in excess for a node in deficit, and lowers the potentials of the nodes that it reaches until
-/// the residual arcs of the path to it cost nothing. Nothing where no node in deficit can be reached.
+/// The node in deficit to which a search came first, once it came to this node too.
+fn first_in_deficit(found: Option<usize>, excess: &[i64], node: usize) -> Option<usize>
+    requires node { node < length excess.now }
+    ensures some { IfSome result (λ v. (found ≡ Some v) ⊎ ((v ≡ node) × (number_at excess.now v <ℤ pos 0))) }
+    ensures none { IfNone result ((found ≡ None) × (pos 0 ≤ℤ number_at excess.now node)) }
+{
+    if found.is_none() && excess[node] < 0 {
+        return Some(node);
+    }
+    found
+}
+
+/// Searches from the nodes in excess for all that they reach, and lowers the potentials of these until the residual arcs of
+/// the paths to them cost nothing: so one search serves many pushes. Gives the first node in deficit that it came to, or
+/// nothing where none can be reached.
 #[inline(never)] // a name of its own in the program: `bench/count` counts its calls
-pub fn find_deficit(
+pub fn search_from_excess(
     graph: &Graph,
     flow: &[i64],
     excess: &[i64],
@@ -216,17 +229,15 @@ pub fn find_deficit(
     queue.clear();
     offer_from_all(graph, flow, potentials, predecessors, queue);
     let mut distance = 0;
+    let mut found = None;
     while let Some(node) = queue.take_first() {
         let waiting = queue.entry(node);
         distance = waiting.key;
         raise(potentials, node, waiting);
         come_along(graph, predecessors, node, waiting.end);
-        if excess[node] < 0 {
-            lower_reached(potentials, predecessors, distance);
-            return Some(node);
-        }
+        found = first_in_deficit(found, excess, node);
         offer_from(graph, flow, potentials, predecessors, queue, node);
     }
     lower_reached(potentials, predecessors, distance);
-    None
+    found
 }

@@ -7,9 +7,16 @@ pub returns-clause-in_deficit : goal.returns-clause-in_deficit
 returns-clause-in_deficit c =
     let low = c.requires.small.low c.args.target in
     let high = c.requires.small.high c.bottleneck-root.result.0 in
-    omega (arith, ints, clamps, c.min.ensures.value, low, high, c.requires.some_deficit, c.bottleneck-root.ensures.at_most, c.bottleneck-root.ensures.at_least_1)
+    let root_low = c.requires.small.low c.bottleneck-root.result.0 in
+    omega (arith, ints, clamps, c.min.ensures.value, low, high, root_low, c.requires.some_deficit, c.bottleneck-root.ensures.at_most, c.bottleneck-root.ensures.at_least_0)
 
 pub returns-clause-room : goal.returns-clause-room
 returns-clause-room c =
+    let low = c.requires.small.low c.bottleneck-root.result.0 in
     let high = c.requires.small.high c.bottleneck-root.result.0 in
-    HasRoom-weaker _ _ c.bottleneck-root.result.1 _ _ (omega (arith, ints, clamps, c.min.ensures.value, high, c.requires.some_excess, c.bottleneck-root.ensures.root, c.bottleneck-root.ensures.at_least_1)) c.bottleneck-root.ensures.room
+    HasRoom-weaker _ _ c.bottleneck-root.result.1 _ _ (omega (arith, ints, clamps, c.min.ensures.value, low, high, c.bottleneck-root.ensures.at_least_0)) c.bottleneck-root.ensures.room
+
+pub returns-clause-some : goal.returns-clause-some
+returns-clause-some c = λ paths excess.
+    (let high = c.requires.small.high c.bottleneck-root.result.0 in
+    omega (arith, ints, clamps, c.min.ensures.value, high, excess, c.bottleneck-root.ensures.some paths))

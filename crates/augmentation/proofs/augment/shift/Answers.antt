@@ -29,23 +29,23 @@ hop_back c deep =
     let m = to_z w64 (of_z w64 c.args.amount) in
     let same : m ≡ c.args.amount = to_z-of_z w64 c.args.amount c.ranges.amount in
     let hops = c.loop-node.invariant.hops in
-    let came = c.requires.paths v hops.2.reached deep in
-    let more = onward_more rows s x c.requires.paths c.args.target v hops.0 deep hops.2 in
+    let came = c.requires.hung v hops.2.reached deep in
+    let more = onward_more rows s c.requires.hung c.args.target v hops.0 deep hops.2 in
     let kept : number_at c.loop-node.flow.entries h.arc ≡ number_at x h.arc = ap (λ (y : List ℤ). number_at y h.arc) hops.3 ∙ push_elsewhere hops.0 m x h.arc more.apart.1 in
     let hop_is : c.arc-hop.result ≡ h = c.arc-hop.ensures in
-    let k_in : h.arc < length c.loop-node.flow.entries = omega (arith, c.loop-node.invariant.written.same_length, c.requires.flow.same_length, came.residual.is_arc) in
+    let k_in : h.arc < length c.loop-node.flow.entries = omega (arith, c.loop-node.invariant.written.same_length, c.requires.flow.same_length, came.is_arc) in
     let read : c.get.result ≡ number_at c.loop-node.flow.entries h.arc = c.get.ensures ∙ ap (λ (a : ResidualArc). slice_index_or c.loop-node.flow.entries a.arc c.get.result) hop_is ∙ get_or_default c.loop-node.flow.entries h.arc c.get.result (pos 0) k_in in
     let fits : SFits w64 c.get.result = search rules in
     let path : HasRoom rows x c.args.amount (hops_before rows s (rank_at s (before rows s v)) (before rows s v) (h ∷ hops.0)) =
-    subst (HasRoom rows x c.args.amount) (sym hops.1 ∙ step_back rows s x c.requires.paths v hops.0 hops.2.reached deep) c.requires.room in
+    subst (HasRoom rows x c.args.amount) (sym hops.1 ∙ step_back rows s c.requires.hung v hops.0 hops.2.reached deep) c.requires.room in
     let here = (room_after rows s x c.args.amount (rank_at s (before rows s v)) (before rows s v) (h ∷ hops.0) path).0 in
-    let row = c.requires.flow.rows h.arc came.residual.is_arc in
+    let row = c.requires.flow.rows h.arc came.is_arc in
     record {
       onward = more;
-      is_arc = came.residual.is_arc;
+      is_arc = came.is_arc;
       entry = to_z-of_z w64 c.get.result fits ∙ read;
       within = subst (λ (y : ℤ). IsWithinRow (row_at rows h.arc) (moved h.way y m)) (sym kept)
-          (IsWithin-moved _ (row_at rows h.arc) (number_at x h.arc) m h.way row (c.requires.flow.within h.arc came.residual.is_arc) (omega (arith, ints, same, c.requires.amount)) (omega (arith, ints, same, here)));
+          (IsWithin-moved _ (row_at rows h.arc) (number_at x h.arc) m h.way row (c.requires.flow.within h.arc came.is_arc) (omega (arith, ints, same, c.requires.amount)) (omega (arith, ints, same, here)));
     }
 
 pub shifted-moved-requires : goal.shifted-moved-requires
@@ -73,7 +73,7 @@ loop-node-preserved c =
       written = IsWritten-trans _ _ _ c.loop-node.invariant.written c.set.ensures.written;
       hops = (
         h ∷ hops.0,
-        ap (λ (u : ℕ). hops_before rows s (rank_at s u) u (h ∷ hops.0)) at_node ∙ sym (step_back rows s x c.requires.paths v hops.0 hops.2.reached (omega arith)) ∙ hops.1,
+        ap (λ (u : ℕ). hops_before rows s (rank_at s u) u (h ∷ hops.0)) at_node ∙ sym (step_back rows s c.requires.hung v hops.0 hops.2.reached (omega arith)) ∙ hops.1,
         subst (λ (u : ℕ). IsOnward rows s c.args.target u (h ∷ hops.0)) (sym at_node) back.onward,
         c.set.ensures.entries ∙ (λ i. slice_set c.loop-node.flow.entries (hop_is i).arc (moved_is i)) ∙ push_before rows h hops.0 m x c.loop-node.flow.entries back.onward.apart hops.3,
       );

@@ -16,7 +16,7 @@ loop-target-init c = record {
 pub loop-target-preserved : goal.loop-target-preserved
 loop-target-preserved c =
     let inv = c.loop-target.invariant in
-    let call = c.push_to.ensures in
+    let call = c.push_round-pushes.ensures in
     record {
       flow_written = IsWritten-trans _ _ _ inv.flow_written call.flow_written;
       ready = call.ready;
@@ -27,6 +27,6 @@ loop-target-preserved c =
 pub overflow_add-pushes : goal.overflow_add-pushes
 overflow_add-pushes c =
     let small = left-small (length c.args.scratch.now.potentials) c.args.excess.now c.requires.ready.state.small c.requires.ready.state.excess_in c.requires.ready.state.certified.flow.few_nodes in
-    let count = (ArePushes-more c.loop-target.invariant.pushed c.push_to.ensures.pushed).count in
-    let bound : c.loop-target.pushes + 1 < 2 ^ 64 = omega (arith, small, count) in
+    let count = (ArePushes-more c.loop-target.invariant.pushed c.push_round-pushes.ensures.pushed).count in
+    let bound : c.loop-target.pushes + c.push_round-pushes.result < 2 ^ 64 = omega (arith, small, count) in
     search (rules, bound)

@@ -9,10 +9,10 @@ use Rattle.residual_graph.specs.Walk.{end_way}
 use Rattle.shortest_paths.specs.Limits.{label_floor}
 use Rattle.shortest_paths.specs.declared.predecessor.Predecessor.{Predecessor}
 use Rattle.shortest_paths.specs.Predecessor.{rank_at}
-use Rattle.shortest_paths.specs.Search.{AreLowered, AreServedFrom, HasFound, HaveJoined, IsFromExcess, IsSearch, come_from, open_count}
-use Rattle.shortest_paths.proofs.StepLemmas.{AreAlong, IsClimbing, IsUnderway, along_after, was_waiting, along_first, bounded_climbing, certified_lowered, climbing_after, climbing_first, fewer, found_after, from_after, key_enough, later_along, node_in, none_below_after, of_tables, rank_fits, risen, search_along, search_lowered, underway_after, underway_first}
-use Rattle.shortest_paths.proofs.search.find_deficit.Goals as goal
-use Rattle.shortest_paths.proofs.search.find_deficit.Goals.{After-come_along}
+use Rattle.shortest_paths.specs.Search.{AreServedFrom, HaveJoined, IsReached, IsSearch, come_from, open_count}
+use Rattle.shortest_paths.proofs.StepLemmas.{AreAlong, IsClimbing, IsUnderway, along_after, was_waiting, along_first, bounded_climbing, certified_lowered, climbing_after, climbing_first, fewer, IsFirstFound, found_after, found_or_exhausted, key_enough, later_along, node_in, none_below_after, of_tables, rank_fits, risen, roots_after, search_along, search_lowered, sources_after, underway_after, underway_first}
+use Rattle.shortest_paths.proofs.search.search_from_excess.Goals as goal
+use Rattle.shortest_paths.proofs.search.search_from_excess.Goals.{After-come_along}
 
 pub loop-node-init : goal.loop-node-init
 loop-node-init c =
@@ -24,7 +24,9 @@ loop-node-init c =
       underway = underway_first rows c.args.flow.now c.args.potentials.now t _ _ c.requires.certified sized c.begin_in_excess.ensures.flat as_many c.clear.ensures.none c.offer_from_all.ensures.grown c.offer_from_all.ensures.served;
       along = along_first rows c.args.flow.now c.args.potentials.now t _ _ c.requires.certified sized c.begin_in_excess.ensures.flat as_many c.clear.ensures.none c.offer_from_all.ensures.grown;
       climbing = climbing_first c.args.potentials.now t c.requires.in_range;
-      from = c.begin_in_excess.ensures.from;
+      sources = c.begin_in_excess.ensures.from.sources;
+      roots = c.begin_in_excess.ensures.from.roots;
+      found = c.begin_in_excess.ensures.from.no_deficit;
     }
 
 pub offer_from_all-requires-clause-bounded : goal.offer_from_all-requires-clause-bounded
@@ -101,39 +103,6 @@ is_stepped c =
       word = key_is c.entry-waiting.result key (ap (λ (w : Waiting). w.key) (was_waiting _ _ c.in-Some.node _ taken c.entry-waiting.ensures)) is_enough;
     }
 
-pub lower_reached-requires-clause-bounded : goal.lower_reached-requires-clause-bounded
-lower_reached-requires-clause-bounded c =
-    let stepped = is_stepped (goal.at.lower_reached-requires-clause-bounded c).After-come_along in
-    bounded_climbing _ _ _ stepped.search.sized stepped.climbing
-
-pub lower_reached-requires-clause-fall : goal.lower_reached-requires-clause-fall
-lower_reached-requires-clause-fall c =
-    let stepped = is_stepped (goal.at.lower_reached-requires-clause-fall c).After-come_along in
-    subst (λ (n : ℤ). (pos 0 ≤ℤ n) × (n ≤ℤ pos potential_floor)) (sym stepped.word) stepped.enough
-
-pub returns-then-excess-node-lt0-clause-certified : goal.returns-then-excess-node-lt0-clause-certified
-returns-then-excess-node-lt0-clause-certified c =
-    let s = (goal.at.returns-then-excess-node-lt0-clause-certified c).After-come_along in
-    let stepped = is_stepped s in
-    let lowered : AreLowered c.raise.new.potentials c.lower_reached.new.potentials c.come_along.new.predecessors (key_at c.loop-node.queue.entries c.in-Some.node) = subst (AreLowered c.raise.new.potentials c.lower_reached.new.potentials c.come_along.new.predecessors) stepped.word c.lower_reached.ensures in
-    certified_lowered _ _ _ _ _ stepped.flow stepped.search stepped.none_below stepped.climbing c.lower_reached.new.potentials lowered
-
-pub returns-then-excess-node-lt0-clause-found : goal.returns-then-excess-node-lt0-clause-found
-returns-then-excess-node-lt0-clause-found c =
-    let s = (goal.at.returns-then-excess-node-lt0-clause-found c).After-come_along in
-    let taken = c.in-Some.ensures.first in
-    let along = c.loop-node.invariant.along c.in-Some.node taken.was in
-    let inv = c.loop-node.invariant in
-    let rows = c.args.graph.now.rows in
-    let x = c.args.flow.now in
-    let q = c.lower_reached.new.potentials in
-    let stepped = is_stepped s in
-    let lowered : AreLowered c.raise.new.potentials q c.come_along.new.predecessors (key_at c.loop-node.queue.entries c.in-Some.node) = subst (AreLowered c.raise.new.potentials q c.come_along.new.predecessors) stepped.word c.lower_reached.ensures in
-    let searched = search_lowered _ _ _ _ _ stepped.flow stepped.search stepped.none_below stepped.climbing q lowered in
-    let deficit : number_at c.args.excess.now c.in-Some.node <ℤ pos 0 = search rules in
-    subst (λ (t : List Predecessor). HasFound rows x q c.args.excess.now t c.in-Some.node) (sym (predecessors_are s))
-    (found_after rows c.args.excess.now c.loop-node.predecessors c.in-Some.node _ (node_in _ _ _ _ _ _ _ _ inv.underway taken) (inv.underway.opens c.in-Some.node taken.was) inv.from x q (subst (IsSearch rows x q) (predecessors_are s) searched) deficit)
-
 pub offer_from-requires-clause-bounded : goal.offer_from-requires-clause-bounded
 offer_from-requires-clause-bounded c =
     let stepped = is_stepped (goal.at.offer_from-requires-clause-bounded c).After-come_along in
@@ -154,7 +123,6 @@ loop-node-smaller c =
 
 pub loop-node-preserved : goal.loop-node-preserved
 loop-node-preserved c =
-    let here : pos 0 ≤ℤ number_at c.args.excess.now c.in-Some.node = search rules in
     let s = (goal.at.loop-node-preserved c).After-come_along in
     let taken = c.in-Some.ensures.first in
     let along = c.loop-node.invariant.along c.in-Some.node taken.was in
@@ -168,24 +136,27 @@ loop-node-preserved c =
     let grown = of_tables (λ (p : List ℤ) (t : List Predecessor). HaveJoined rows x p t r queue) (sym (potentials_are s)) (sym (predecessors_are s)) c.offer_from.ensures.grown in
     let served = of_tables (λ (p : List ℤ) (t : List Predecessor). AreServedFrom rows x p t queue v) (sym (potentials_are s)) (sym (predecessors_are s)) c.offer_from.ensures.served in
     let searched = search_along _ _ _ _ _ _ _ _ inv.underway taken along in
+    let node = node_in _ _ _ _ _ _ _ _ inv.underway taken in
+    let was_open = inv.underway.opens v taken.was in
     record {
       underway = subst (IsUnderway rows x c.raise.new.potentials c.come_along.new.predecessors queue) (sym (is_stepped s).word)
           (of_tables (λ (p : List ℤ) (t : List Predecessor). IsUnderway rows x p t queue (key_at c.loop-node.queue.entries v)) (potentials_are s) (predecessors_are s) (underway_after _ _ _ _ _ _ _ _ inv.underway taken _ refl later searched queue grown served));
       along = of_tables (λ (p : List ℤ) (t : List Predecessor). AreAlong rows x p t queue) (potentials_are s) (predecessors_are s) (along_after _ _ _ _ _ _ _ _ inv.underway taken _ refl later searched queue grown served inv.along);
       climbing = subst (IsClimbing c.raise.new.potentials c.come_along.new.predecessors) (sym (is_stepped s).word) (is_stepped s).climbing;
-      from = subst (IsFromExcess c.args.excess.now) (sym (predecessors_are s)) (from_after rows c.args.excess.now c.loop-node.predecessors v _ (node_in _ _ _ _ _ _ _ _ inv.underway taken) (inv.underway.opens v taken.was) inv.from here);
+      sources = subst (λ (t : List Predecessor). (u : ℕ) → pos 0 <ℤ number_at c.args.excess.now u → IsReached t u) (sym (predecessors_are s)) (sources_after rows c.args.excess.now c.loop-node.predecessors v _ node was_open inv.sources);
+      roots = subst (λ (t : List Predecessor). (u : ℕ) → IsReached t u → rank_at t u ≡ 0 → pos 0 <ℤ number_at c.args.excess.now u) (sym (predecessors_are s)) (roots_after rows c.args.excess.now c.loop-node.predecessors v _ node was_open inv.roots);
+      found = subst (λ (t : List Predecessor). IsFirstFound c.args.excess.now t c.first_in_deficit-found.result) (sym (predecessors_are s))
+          (found_after rows c.args.excess.now c.loop-node.predecessors v _ node was_open c.loop-node.found c.first_in_deficit-found.result c.first_in_deficit-found.ensures.some c.first_in_deficit-found.ensures.none inv.found);
     }
 
 pub returns-clause-certified : goal.returns-clause-certified
 returns-clause-certified c =
     let inv = c.loop-node.invariant in
-    certified_lowered _ _ _ _ _ inv.underway.flow inv.underway.search inv.underway.none_below inv.climbing _ c.lower_reached-2.ensures
+    certified_lowered _ _ _ _ _ inv.underway.flow inv.underway.search inv.underway.none_below inv.climbing _ c.lower_reached.ensures
 
 pub returns-clause-found : goal.returns-clause-found
 returns-clause-found c =
     let inv = c.loop-node.invariant in
-    record {
-      sized = omega (arith, inv.underway.search.sized, c.loop-node.auto.potentials, c.requires.excess_in);
-      from = inv.from;
-      none_crosses = λ k way at. c.in_default.ensures.first _ (inv.underway.served k way at).0;
-    }
+    let searched = search_lowered _ _ _ _ _ inv.underway.flow inv.underway.search inv.underway.none_below inv.climbing _ c.lower_reached.ensures in
+    found_or_exhausted _ _ _ _ _ _ (omega (arith, inv.underway.search.sized, c.loop-node.auto.potentials, c.requires.excess_in)) searched
+    (λ k way at. c.in_default.ensures.first _ (inv.underway.served k way at).0) inv.sources inv.roots inv.found
