@@ -1,19 +1,16 @@
 -- What the getters of a parse say of its rows.
-use Rattle.std.proofs.Common.{◌≡◌, ◌==◌, ℕ, ◌<◌, ◌≤◌, ◌^◌, Bool, true, false, List, [], ◌∷◌, drop, length, Option, None, Some, Result, Ok, Err, refl, sym, ap, ap₂, subst, ◌∙◌, ◌⊎◌, inl, inr, arith}
-use Rattle.std.specs.Prelude.{cond, option_map, slice_index, unwrap_or, codes, ◌↔◌, Box, IfOk, IfErr}
+use Rattle.std.proofs.Common.{◌≡◌, ◌==◌, ℕ, ◌<◌, ◌≤◌, ◌^◌, Bool, true, false, List, [], ◌∷◌, drop, length, Option, None, Some, Result, Ok, Err, refl, sym, ap, ap₂, ◌∙◌, arith}
+use Rattle.std.specs.Prelude.{cond, is_some, option_map, slice_index, unwrap_or, codes, ◌↔◌, Box}
 use Rattle.std.specs.Box.{box_value}
 use Rattle.std.specs.Str.Parse.{IsNumeral, ParsesBool, ParsesUnsigned, digits_value, without_leading_plus}
 use Rattle.std.proofs.lemmas.Bool.{false≢true, ne_eqb}
 use Rattle.std.proofs.lemmas.Str.Parse.{digit_from_value}
-use Rattle.clap.specs.Words.{App, Row, Text, ReadsOne, first_of, is_simple, subcommand_of, subcommand_rows}
+use Rattle.clap.specs.Words.{App, Row, Text, ReadsOne, is_simple, subcommand_of, subcommand_rows}
 use Rattle.clap.specs.declared.parser.matches.SubCommand.{SubCommand}
 use Rattle.clap.specs.declared.parser.matches.ArgMatches.TheViews.{out-SubCommand}
 use Rattle.clap.proofs.OnLiterals.{clap_on_literals}
 use Rattle.dimacs_lines.specs.declared.numbers.TheConstants.{DIGIT_LIMIT}
-use Rattle.mcf.specs.declared.command_line.Task.{Task}
-use Rattle.mcf.specs.declared.command_line.Task.TheVariants.{Solve, Session, Check}
-use Rattle.mcf.specs.declared.command_line.Usage.{Usage}
-use Rattle.mcf.specs.Tasks.{IsExtra, IsRefusal, Names, NamesOrNone, command_of, program}
+use Rattle.mcf.specs.Tasks.{IsExtra, program}
 
 pub program_is_simple : is_simple program ≡ true
 unfolding clap_on_literals
@@ -121,71 +118,6 @@ module _ {Z : Type 0} where
       none_of None e = refl
       none_of (Some p) e = absurd cc
 
--- ---- what says no task
-
-some_pair : (a b : Text × List Row) → Some a ≡ Some b → a ≡ b
-some_pair a b e = cc
-
-solve_or_session : codes "session" ≡ codes "solve" → ⊥
-solve_or_session e =
-    let letter : ◌≡◌ {A = ℕ} 101 111 = ap (λ (t : Text). slice_index t 1) e in
-    omega arith
-
-solve_or_check : codes "check" ≡ codes "solve" → ⊥
-solve_or_check e =
-    let letter : ◌≡◌ {A = ℕ} 104 111 = ap (λ (t : Text). slice_index t 1) e in
-    omega arith
-
-session_or_check : codes "session" ≡ codes "check" → ⊥
-session_or_check e =
-    let letter : ◌≡◌ {A = ℕ} 101 104 = ap (λ (t : Text). slice_index t 1) e in
-    omega arith
-
-pub none_names_none : (used : Option (Text × List Row)) (task : Task) → used ≡ None → Names used task → ⊥
-none_names_none used (Solve proof file) none named = absurd cc
-none_names_none used (Session problem extra) none named = absurd cc
-none_names_none used (Check problem answer) none named = absurd cc
-
--- another command says none
-pub other_names_none : (name : Text) (rows : List Row) (task : Task) → (name ≡ codes "solve" → ⊥) → (name ≡ codes "session" → ⊥) → (name ≡ codes "check" → ⊥) → Names (Some (name, rows)) task → ⊥
-other_names_none name rows (Solve proof file) solve session check named = solve (ap (λ (p : Text × List Row). p.0) (some_pair (name, rows) _ named.1))
-other_names_none name rows (Session problem extra) solve session check named = session (ap (λ (p : Text × List Row). p.0) (some_pair (name, rows) _ named.1))
-other_names_none name rows (Check problem answer) solve session check named = check (ap (λ (p : Text × List Row). p.0) (some_pair (name, rows) _ named.1))
-
-module _ (rows : List Row) where
-  pub session_without_problem : (task : Task) → first_of (codes "problem") rows ≡ None → Names (Some (codes "session", rows)) task → ⊥
-  session_without_problem (Solve proof file) none named = solve_or_session (ap (λ (p : Text × List Row). p.0) (some_pair (codes "session", rows) _ named.1))
-  session_without_problem (Session problem extra) none named =
-      let same : rows ≡ named.0 = ap (λ (p : Text × List Row). p.1) (some_pair (codes "session", rows) _ named.1) in
-      let there : first_of (codes "problem") rows ≡ Some problem.now = ap (first_of (codes "problem")) same ∙ named.2 in
-      cc
-  session_without_problem (Check problem answer) none named = session_or_check (ap (λ (p : Text × List Row). p.0) (some_pair (codes "session", rows) _ named.1))
-
-  pub session_without_number : (task : Task) → ((extra : ℕ) → IsExtra (first_of (codes "extra") rows) extra → ⊥) → Names (Some (codes "session", rows)) task → ⊥
-  session_without_number (Solve proof file) none named = solve_or_session (ap (λ (p : Text × List Row). p.0) (some_pair (codes "session", rows) _ named.1))
-  session_without_number (Session problem extra) none named =
-      let same : rows ≡ named.0 = ap (λ (p : Text × List Row). p.1) (some_pair (codes "session", rows) _ named.1) in
-      none extra (subst (λ (said : List Row). IsExtra (first_of (codes "extra") said) extra) (sym same) named.3)
-  session_without_number (Check problem answer) none named = session_or_check (ap (λ (p : Text × List Row). p.0) (some_pair (codes "session", rows) _ named.1))
-
-  pub check_without : (task : Task) → (first_of (codes "problem") rows ≡ None) ⊎ (first_of (codes "answer") rows ≡ None) → Names (Some (codes "check", rows)) task → ⊥
-  check_without (Solve proof file) none named = solve_or_check (ap (λ (p : Text × List Row). p.0) (some_pair (codes "check", rows) _ named.1))
-  check_without (Session problem extra) none named = session_or_check (sym (ap (λ (p : Text × List Row). p.0) (some_pair (codes "check", rows) _ named.1)))
-  check_without (Check problem answer) none named =
-      let same : rows ≡ named.0 = ap (λ (p : Text × List Row). p.1) (some_pair (codes "check", rows) _ named.1) in
-      let first : first_of (codes "problem") rows ≡ Some problem.now = ap (first_of (codes "problem")) same ∙ named.2 in
-      let second : first_of (codes "answer") rows ≡ Some answer.now = ap (first_of (codes "answer")) same ∙ named.3 in
-      elim none [
-        | inl left_out ↦ absurd cc
-        | inr left_out ↦ absurd cc
-      ]
-
--- ---- what a command answers, as what the program does
-
-pub named_by : (used : Option (Text × List Row)) (answer : Result Task Usage) → NamesOrNone used answer → IfOk answer (Names used)
-named_by used (Ok task) is = is
-named_by used (Err usage) is = tt
-
-pub refused_by : (words : List Text) (used : Option (Text × List Row)) (answer : Result Task Usage) → command_of words ≡ used → NamesOrNone used answer → IfErr answer (IsRefusal words)
-refused_by words used (Ok task) same is = tt
-refused_by words used (Err usage) same is = λ took task named. absurd (is task (subst (λ (u : Option (Text × List Row)). Names u task) same named))
+pub none_is_given : (said : Option Text) → said ≡ None → is_some said ≡ true → ⊥
+none_is_given None none given = false≢true given
+none_is_given (Some text) none given = absurd cc

@@ -1,8 +1,8 @@
 -- The commands of the program, and the task that the matches of a command line name.
-use Rattle.std.specs.Prelude.{◌≡◌, ◌↔◌, ◌≤◌, ℕ, pos, true, List, Option, Some, MatchOption, MatchResult, Result, codes, length, option_map}
+use Rattle.std.specs.Prelude.{◌≡◌, ◌↔◌, ◌≤◌, ℕ, pos, true, List, [], Option, Some, MatchOption, codes, length, option_map}
 use Rattle.std.specs.Str.Parse.{IsNumeral, digits_value}
 use Rattle.clap.specs.Simple.{on_top}
-use Rattle.clap.specs.Words.{App, Row, Rule, Text, first_of, kind_of, one_of, new_app, new_rule, subcommand_of, takes, with_rule, with_subcommand}
+use Rattle.clap.specs.Words.{App, HasKind, Row, Rule, Text, fault_of, first_of, kind_of, one_of, new_app, new_rule, subcommand_of, takes, with_rule, with_subcommand}
 use Rattle.clap.specs.declared.builder.ArgAction.TheVariants.{Set, SetTrue}
 use Rattle.clap.specs.declared.builder.value_parser.ValueParser.TheVariants as parser
 use Rattle.clap.specs.declared.error.kind.ErrorKind.TheVariants.{OutOfMemory}
@@ -10,7 +10,7 @@ use Rattle.dimacs_lines.specs.declared.numbers.TheConstants.{DIGIT_LIMIT}
 use Rattle.mcf.specs.declared.command_line.Task.{Task}
 use Rattle.mcf.specs.declared.command_line.Task.TheVariants.{Solve, Session, Check}
 use Rattle.mcf.specs.declared.command_line.Usage.{Usage}
-use Rattle.mcf.specs.declared.command_line.Usage.TheVariants.{Words}
+use Rattle.mcf.specs.declared.command_line.Usage.TheVariants.{Words, NotANumber}
 
 -- `--proof`
 abbrev pub proof_rule : Rule
@@ -65,14 +65,24 @@ Names used (Session problem extra) = (rows : List Row) × (used ≡ Some (codes 
 Names used (Check problem answer) = (rows : List Row) × (used ≡ Some (codes "check", rows))
     × (first_of (codes "problem") rows ≡ Some problem.now) × (first_of (codes "answer") rows ≡ Some answer.now)
 
--- a task that these say, or that they say none
-abbrev pub NamesOrNone : Option (Text × List Row) → Result Task Usage → Type 0
-NamesOrNone used answer = MatchResult answer (Names used) (λ _. (task : Task) → Names used task → ⊥)
+-- the word of `--extra` is no number as in a text
+abbrev pub SaysNoNumber : List Row → Type 0
+SaysNoNumber rows = (extra : ℕ) → IsExtra (first_of (codes "extra") rows) extra → ⊥
+
+-- a session is refused for that
+abbrev pub IsNotANumber : List Row → Usage → Type 0
+IsNotANumber rows usage = (usage ≡ NotANumber) × SaysNoNumber rows
+
+-- `clap` finds no fault in the words
+abbrev pub IsTaken : List Text → Type 0
+IsTaken words = fault_of program words ≡ []
 
 abbrev pub IsWantOfMemory : Usage → Type 0
 IsWantOfMemory (Words error) = kind_of error ≡ OutOfMemory
-IsWantOfMemory _ = ⊥
+IsWantOfMemory NotANumber = ⊥
 
--- words that `clap` takes, and that name a task, are refused only where memory is
+-- words in which `clap` finds a fault are refused by a kind of it; words that it takes only where memory is, or where the
+-- number of `--extra` is none in a text
 abbrev pub IsRefusal : List Text → Usage → Type 0
-IsRefusal words usage = takes program words ≡ true → (task : Task) → Names (command_of words) task → IsWantOfMemory usage
+IsRefusal words (Words error) = HasKind (fault_of program words) error × (takes program words ≡ true → kind_of error ≡ OutOfMemory)
+IsRefusal words NotANumber = IsTaken words × (rows : List Row) × (command_of words ≡ Some (codes "session", rows)) × SaysNoNumber rows

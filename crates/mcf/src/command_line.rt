@@ -52,8 +52,6 @@ impl<'a> Task<'a> {
 pub enum Usage {
     /// As `clap` tells it.
     Words(Error),
-    /// Words without a part that `clap` was told to ask for.
-    Missing,
     /// A number of arcs that is none in a text: with a sign, or with too many digits.
     NotANumber,
 }

@@ -1,7 +1,7 @@
 //! The task that a command line names.
-ghost use Rattle.std.specs.Prelude.{◌≡◌, ℕ, IfOk, IfErr, MatchResult, Some, codes, map, string_bytes};
+ghost use Rattle.std.specs.Prelude.{◌≡◌, true, IfOk, IfErr, MatchResult, Some, codes, is_some, map, string_bytes};
 ghost use Rattle.clap.specs.Words.{first_of, found_of, rows_of};
-ghost use Rattle.mcf.specs.Tasks.{IsExtra, IsRefusal, Names, NamesOrNone, command_of};
+ghost use Rattle.mcf.specs.Tasks.{IsExtra, IsNotANumber, IsRefusal, IsTaken, Names, command_of};
 
 use crate::command_line::{DEFAULT_EXTRA, EXTRA_LIMIT, Task, Usage};
 use crate::commands::program;
@@ -12,17 +12,18 @@ use std::alloc::Global;
 /// Reads the words of a command line, the program's own name first.
 pub fn task<'a>(alloc: Global, words: &'a [String]) -> Result<Task<'a>, Usage>
     ensures named { IfOk result (Names (command_of (map string_bytes words.entry.now))) }
+    ensures taken { IfOk result (λ _. IsTaken (map string_bytes words.entry.now)) }
     ensures refused { IfErr result (IsRefusal (map string_bytes words.entry.now)) }
 {
     let matches = program(alloc)?.try_get_matches_from(words)?;
     let Some((name, found)) = matches.subcommand() else {
-        return Err(Usage::Missing);
+        unreachable!();
     };
     match name {
         "solve" => Ok(solve_task(found)),
         "session" => session_task(found),
-        "check" => check_task(found),
-        _ => Err(Usage::Missing),
+        "check" => Ok(check_task(found)),
+        _ => unreachable!(),
     }
 }
 
@@ -38,20 +39,22 @@ fn solve_task<'a>(found: &ArgMatches<'a>) -> Task<'a>
 
 /// The task of `session`, by its matches.
 fn session_task<'a>(found: &ArgMatches<'a>) -> Result<Task<'a>, Usage>
-    ensures { NamesOrNone (Some (codes "session", rows_of (found_of found.now))) result }
+    requires { is_some (first_of (codes "problem") (rows_of (found_of found.now))) ≡ true }
+    ensures { MatchResult result (Names (Some (codes "session", rows_of (found_of found.now))))
+        (IsNotANumber (rows_of (found_of found.now))) }
 {
-    let Some(problem) = found.get_str("problem") else {
-        return Err(Usage::Missing);
-    };
     let extra = extra(found)?;
-    Ok(Task::Session { problem, extra })
+    Ok(Task::Session {
+        problem: named_file(found, "problem"),
+        extra,
+    })
 }
 
 /// For how many arcs more the word of `--extra` asks for room. It is a number as in a text, where `clap` takes a sign and
 /// any number of zeros too.
 fn extra(found: &ArgMatches<'_>) -> Result<u32, Usage>
     ensures { MatchResult result (IsExtra (first_of (codes "extra") (rows_of (found_of found.now))))
-        (λ _. (extra : ℕ) → IsExtra (first_of (codes "extra") (rows_of (found_of found.now))) extra → ⊥) }
+        (IsNotANumber (rows_of (found_of found.now))) }
 {
     let Some(word) = found.get_str("extra") else {
         return Ok(DEFAULT_EXTRA);
@@ -72,14 +75,24 @@ fn extra(found: &ArgMatches<'_>) -> Result<u32, Usage>
 }
 
 /// The task of `check`, by its matches.
-fn check_task<'a>(found: &ArgMatches<'a>) -> Result<Task<'a>, Usage>
-    ensures { NamesOrNone (Some (codes "check", rows_of (found_of found.now))) result }
+fn check_task<'a>(found: &ArgMatches<'a>) -> Task<'a>
+    requires problem { is_some (first_of (codes "problem") (rows_of (found_of found.now))) ≡ true }
+    requires answer { is_some (first_of (codes "answer") (rows_of (found_of found.now))) ≡ true }
+    ensures { Names (Some (codes "check", rows_of (found_of found.now))) result }
 {
-    let Some(problem) = found.get_str("problem") else {
-        return Err(Usage::Missing);
+    Task::Check {
+        problem: named_file(found, "problem"),
+        answer: named_file(found, "answer"),
+    }
+}
+
+/// The file that an argument names which the command line has to have.
+fn named_file<'a>(found: &ArgMatches<'a>, id: &str) -> &'a str
+    requires { is_some (first_of id.now (rows_of (found_of found.now))) ≡ true }
+    ensures { first_of id.now (rows_of (found_of found.now)) ≡ Some result.now }
+{
+    let Some(file) = found.get_str(id) else {
+        unreachable!();
     };
-    let Some(answer) = found.get_str("answer") else {
-        return Err(Usage::Missing);
-    };
-    Ok(Task::Check { problem, answer })
+    file
 }
