@@ -2,14 +2,14 @@
 ghost use Rattle.std.specs.Prelude.{◌≡◌, ◌-◌, ◌^◌, ◌<◌, ◌↔◌, true, IfOk, IsTrue, length};
 ghost use Rattle.dimacs_io.specs.Calls.{PassesText};
 ghost use Rattle.dimacs_io.specs.Device.{Fails, RisesBy, text_over};
-ghost use Rattle.checker.specs.Reading.{SourceIsRead};
-ghost use Rattle.checker.specs.Check.{CheckOnDevices, NamesEnds, NameEnds, IsRight, Settles, ValidSettles, answer_failures, answer_whole, flow_of_lines, flushes_by, last_by, marks_of, problem_failures, problem_whole, verdict_line, write_failures};
+ghost use Rattle.runs.specs.Devices.{answer_failures, answer_whole, flushes_by, last_by, problem_failures, problem_whole, write_failures};
+ghost use Rattle.runs.specs.Reading.{SourceIsRead};
+ghost use Rattle.checker.specs.Check.{CheckOnDevices, NamesEnds, NameEnds, IsRight, Settles, ValidSettles, flow_of_lines, marks_of, verdict_line};
 
-use crate::end::{End, Text};
-use crate::read::{read_answer, read_problem};
 use dimacs_io::{Broken, Sink, Source, write_all};
 use dimacs_text::{Answer, ArcRow, FlowLine, Problem};
 use network::{build, check_best, check_cut};
+use runs::{End, Text, read_answer, read_problem};
 use std::alloc::{AllocError, Global};
 
 /// Checks an answer text to a flow problem of any kind: writes `valid` or `not valid`, and a line feed.

@@ -1,10 +1,10 @@
 //! Each growth of an edit in a session refused in turn.
 
 use crate::problems::DIAMOND;
-use checker::End;
 use dimacs_io::{Pad, Script};
 use engines::run_session_in;
 use refusing::Refusing;
+use runs::End;
 
 /// More growths than any commands below take.
 const MOST: u64 = 99;

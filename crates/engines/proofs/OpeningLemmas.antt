@@ -1,15 +1,14 @@
 -- What a run that ends without a session has counted.
 use Rattle.std.proofs.Common.{◌≡◌, ℕ, false, arith, List, Option, inl, inr, refl}
 use Rattle.dimacs_lines.specs.declared.fault.TextFault.TheVariants as text_fault
-use Rattle.checker.specs.declared.end.Text.TheVariants as the
-use Rattle.checker.specs.declared.end.End.{End}
-use Rattle.checker.specs.declared.read.ReadError.{ReadError}
-use Rattle.checker.specs.declared.read.ReadError.TheVariants as read_error
+use Rattle.runs.specs.declared.end.Text.TheVariants as the
+use Rattle.runs.specs.declared.end.End.{End}
+use Rattle.runs.specs.declared.read.ReadError.{ReadError}
+use Rattle.runs.specs.declared.read.ReadError.TheVariants as read_error
 use Rattle.dimacs_io.specs.declared.device.LastCall.{LastCall}
 use Rattle.dimacs_io.specs.Device.{RisesBy}
-use Rattle.checker.specs.Check.{flushes_by, last_by, write_failures}
-use Rattle.checker.specs.Devices.{UsesSink}
-use Rattle.checker.specs.Reading.{end_of}
+use Rattle.runs.specs.Devices.{UsesSink, flushes_by, last_by, write_failures}
+use Rattle.runs.specs.Reading.{end_of}
 use Rattle.dimacs_io.specs.declared.device.Sink as sink
 use Rattle.engines.specs.Opening.{IsNotOpened}
 use Rattle.engines.specs.Session.{command_failures, commands_whole}

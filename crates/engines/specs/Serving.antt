@@ -13,10 +13,10 @@ use Rattle.dimacs_lines.specs.Lines.{Line, parts_of, lines_of}
 use Rattle.dimacs_text.specs.Turns.{Turn}
 use Rattle.session.specs.Step.{SessionState}
 use Rattle.session.specs.Turns.{IsPassedAs, gathered_in, turns_by}
-use Rattle.checker.specs.Reading.{SourceGives}
-use Rattle.checker.specs.declared.end.Text.TheVariants as the
-use Rattle.checker.specs.declared.end.End.{End}
-use Rattle.checker.specs.declared.end.End.TheVariants.{Ended, ReadFailed, WriteFailed}
+use Rattle.runs.specs.Reading.{SourceGives}
+use Rattle.runs.specs.declared.end.Text.TheVariants as the
+use Rattle.runs.specs.declared.end.End.{End}
+use Rattle.runs.specs.declared.end.End.TheVariants.{Ended, ReadFailed, WriteFailed}
 use Rattle.engines.specs.Run.{Answers, AnswersTurns, reply_count, turns_in}
 
 -- what a sink says of itself: the bytes that it holds, where it says them, and how many flushes went well

@@ -8,11 +8,11 @@ use Rattle.dimacs_lines.specs.Lines.{Line, parts_of, lines_of}
 use Rattle.dimacs_lines.specs.Stream.{decided}
 use Rattle.dimacs_text.specs.Reading.{ProblemValue, problem_rule, reads}
 use Rattle.session.specs.Step.{SessionState}
-use Rattle.checker.specs.declared.end.Text.TheVariants as the
-use Rattle.checker.specs.declared.end.End.{End}
-use Rattle.checker.specs.declared.end.End.TheVariants.{Solved, Infeasible, Ended, Valid, NotValid, Refused, ReadFailed, WriteFailed, Memory}
-use Rattle.checker.specs.Check.{IsProblemText, problem_failures, problem_whole}
-use Rattle.checker.specs.Devices.{UsesSink, UsesSource}
+use Rattle.runs.specs.declared.end.Text.TheVariants as the
+use Rattle.runs.specs.declared.end.End.{End}
+use Rattle.runs.specs.declared.end.End.TheVariants.{Solved, Infeasible, Ended, Valid, NotValid, Refused, ReadFailed, WriteFailed, Memory}
+use Rattle.runs.specs.Devices.{UsesSink, UsesSource, problem_failures, problem_whole}
+use Rattle.runs.specs.Reading.{IsProblemText}
 use Rattle.engines.specs.Printing.{outcome}
 use Rattle.engines.specs.Run.{Answers, reply_count}
 use Rattle.engines.specs.Opening.{Opens}

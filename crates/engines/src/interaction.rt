@@ -6,8 +6,7 @@ ghost use Rattle.dimacs_io.specs.declared.device.LastCall.{LastCall};
 ghost use Rattle.dimacs_io.specs.declared.device.LastCall.TheVariants as last;
 ghost use Rattle.session.specs.Session.{present};
 ghost use Rattle.session.specs.Step.{state_of};
-ghost use Rattle.checker.specs.Check.{last_by, problem_failures, problem_whole, write_failures};
-ghost use Rattle.checker.specs.Devices.{UsesSink, UsesSource};
+ghost use Rattle.runs.specs.Devices.{UsesSink, UsesSource, last_by, problem_failures, problem_whole, write_failures};
 ghost use Rattle.engines.specs.Printing.{outcome};
 ghost use Rattle.engines.specs.Serving.{LeavesPassedOn, ServesCommands, TakesPiece, TakesRest, output_of, place};
 ghost use Rattle.engines.specs.Session.{FlushesOnDevices, RunsSession, SessionOnDevices, command_failures, commands_whole};
@@ -15,10 +14,10 @@ ghost use Rattle.engines.specs.Session.{FlushesOnDevices, RunsSession, SessionOn
 use crate::opening::open_text;
 use crate::reply::serve_line;
 use crate::solution::write_outcome;
-use checker::{End, Text};
 use dimacs_io::{Broken, Sink, Source};
 use dimacs_lines::ended_lines_stay;
 use dimacs_text::{Group, LineCutter};
+use runs::{End, Text};
 use session::Session;
 use std::alloc::{Allocator, Global};
 

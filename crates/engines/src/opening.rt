@@ -3,8 +3,8 @@ ghost use Rattle.std.specs.Prelude.{◌-◌, ◌^◌, ◌<◌, IfErr, IfOk};
 ghost use Rattle.session.specs.Step.{state_of};
 ghost use Rattle.engines.specs.Opening.{EndsUnopened, OpensOn};
 
-use checker::{End, Text, read_problem};
 use dimacs_io::Source;
+use runs::{End, Text, read_problem};
 use session::Session;
 use std::alloc::{Allocator, Global};
 

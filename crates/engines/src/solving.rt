@@ -2,17 +2,16 @@
 ghost use Rattle.std.specs.Prelude.{◌≡◌, ◌-◌, ◌^◌, ◌<◌};
 ghost use Rattle.dimacs_io.specs.Calls.{PassesText};
 ghost use Rattle.dimacs_io.specs.Device.{RisesBy, text_over};
-ghost use Rattle.checker.specs.Check.{flushes_by, problem_failures, problem_whole};
-ghost use Rattle.checker.specs.Devices.{UsesSink, UsesSource};
+ghost use Rattle.runs.specs.Devices.{UsesSink, UsesSource, flushes_by, problem_failures, problem_whole};
 ghost use Rattle.session.specs.Session.{present};
 ghost use Rattle.engines.specs.Printing.{solution};
 ghost use Rattle.engines.specs.Solve.{SolveOnDevices, end_by};
 
 use crate::opening::open_text;
 use crate::solution::write_solution;
-use checker::End;
 use dimacs_io::{Broken, Sink, Source};
 use flow_solver::Verdict;
+use runs::End;
 use session::Session;
 use std::alloc::Global;
 

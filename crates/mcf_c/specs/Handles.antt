@@ -1,8 +1,8 @@
 -- What stands behind a handle.
 use Rattle.std.specs.Prelude.{◌≡◌, ℕ, ℤ, pos, Bool, IfSome, List, MatchOption, Option, None, Some}
 use Rattle.std.specs.Option.{option_map, unwrap_or}
-use Rattle.calls.specs.declared.status.TheConstants.{CLOSED}
-use Rattle.calls.specs.Library.{given_of}
+use Rattle.c_calls.specs.declared.status.TheConstants.{CLOSED}
+use Rattle.c_calls.specs.Library.{given_of}
 use Rattle.dimacs_lines.specs.Lines.{Line}
 use Rattle.dimacs_text.specs.Group.{Gathered}
 use Rattle.flow_solver.specs.Moment.{Moment}

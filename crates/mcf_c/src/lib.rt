@@ -1,6 +1,6 @@
 //! What C calls, as `mcf.h` says: a flow problem answered at once, or a session of one behind a handle.
 //!
-//! Each call of a session takes it out of its handle, does its work on it by a function of `calls`, and puts it back.
+//! Each call of a session takes it out of its handle, does its work on it by a function of `c_calls`, and puts it back.
 #![tactic(auto)]
 
 ghost use Rattle.std.specs.Prelude.{◌≡◌, ◌≢◌, List, Option, None, pos, length, IfSome};
@@ -9,10 +9,10 @@ ghost use Rattle.network.specs.Instance.{IsBest};
 ghost use Rattle.session.specs.Parts.{flow_of};
 ghost use Rattle.dimacs_lines.specs.Lines.{Line};
 ghost use Rattle.session.specs.Step.{StepBy};
-ghost use Rattle.calls.specs.Arrays.{IsEven, IsFirstFault, IsOpeningBy};
-ghost use Rattle.calls.specs.Answer.{AreListsKept, IsSameRoom, IsSolved, IsTooShort};
-ghost use Rattle.calls.specs.declared.status.TheConstants.{FAULT, OTHER_LENGTH, TOO_SHORT};
-ghost use Rattle.calls.specs.Library.{AreGreatest, CertifyFlow, IsBreachOf, IsChosen, IsFaultOf, IsOpening, IsViewOf, NoneIsLegal, Steps, Took, arc_count, has_cut, has_flow, node_count};
+ghost use Rattle.c_calls.specs.Arrays.{IsEven, IsFirstFault, IsOpeningBy};
+ghost use Rattle.c_calls.specs.Answer.{AreListsKept, IsSameRoom, IsSolved, IsTooShort};
+ghost use Rattle.c_calls.specs.declared.status.TheConstants.{FAULT, OTHER_LENGTH, TOO_SHORT};
+ghost use Rattle.c_calls.specs.Library.{AreGreatest, CertifyFlow, IsBreachOf, IsChosen, IsFaultOf, IsOpening, IsViewOf, NoneIsLegal, Steps, Took, arc_count, has_cut, has_flow, node_count};
 ghost use Rattle.mcf_c.specs.Handles.{AtPresent, Goes, HoldsLines, KeepsLines, given_behind, group_behind, state_behind};
 
 mod handle;
@@ -20,7 +20,7 @@ mod loose;
 mod plan;
 mod pointer;
 
-use calls::{
+use c_calls::{
     Answer, ArrayFault, Arrays, CLOSED, Fault, MEMORY, OPEN, View, give_cut, give_flow,
     give_potentials, look, open_arrays, open_session, solve_text, take_line,
 };
@@ -168,7 +168,7 @@ pub extern "C" fn mcf_undo(alloc: Global, handle: &mut Handle) -> i32
     let Some(mut plan) = handle.take(alloc) else {
         return CLOSED;
     };
-    let number = calls::undo(&mut plan.session);
+    let number = c_calls::undo(&mut plan.session);
     handle.put(plan);
     i32::from(number)
 }
@@ -183,7 +183,7 @@ pub extern "C" fn mcf_redo(alloc: Global, handle: &mut Handle) -> i32
     let Some(mut plan) = handle.take(alloc) else {
         return CLOSED;
     };
-    let number = calls::redo(&mut plan.session);
+    let number = c_calls::redo(&mut plan.session);
     handle.put(plan);
     i32::from(number)
 }

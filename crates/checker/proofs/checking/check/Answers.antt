@@ -1,6 +1,6 @@
 use Rattle.std.proofs.Common.{Ok, Err, ap, length, rules}
 use Rattle.checker.proofs.CheckLemmas.{AreJudged, CheckOnDevices-problem, CheckOnDevices-answer, CheckOnDevices-stopped, ReadsKnown-sized}
-use Rattle.checker.proofs.SourceLemmas.{IsRead-answer, IsRead-no_answer, IsRead-problem, IsRead-whole}
+use Rattle.runs.proofs.SourceLemmas.{IsRead-answer, IsRead-no_answer, IsRead-problem, IsRead-whole}
 use Rattle.checker.proofs.checking.check.Goals as goal
 
 pub returns-in-Err-clause-check : goal.returns-in-Err-clause-check

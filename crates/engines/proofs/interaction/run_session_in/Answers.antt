@@ -1,7 +1,7 @@
 use Rattle.std.proofs.Common.{◌∙◌, ◌+◌, ◌-◌, ℕ, ap, refl}
 use Rattle.dimacs_io.specs.Device.{text_of}
-use Rattle.checker.specs.Check.{write_failures}
-use Rattle.checker.proofs.SourceLemmas.{Gives-over, UsesSource-none, UsesSource-whole}
+use Rattle.runs.specs.Devices.{write_failures}
+use Rattle.runs.proofs.SourceLemmas.{Gives-over, UsesSource-none, UsesSource-whole}
 use Rattle.session.specs.Step.{state_of}
 use Rattle.engines.proofs.OpeningLemmas.{unopened_commands, unopened_sink, unopened_whole}
 use Rattle.engines.proofs.SessionLemmas.{CommandsEnd-over, FlushesOnDevices-commands, FlushesOnDevices-opening, FlushesOnDevices-unopened, SessionOnDevices-unopened, SessionOnDevices-opening, SessionOnDevices-commands}

@@ -1,5 +1,5 @@
 use Rattle.std.proofs.Common.{inl, inr, arith, refl}
-use Rattle.checker.proofs.SourceLemmas.{IsRead-whole, UsesSource-problem, UsesSource-read}
+use Rattle.runs.proofs.SourceLemmas.{IsRead-whole, UsesSource-problem, UsesSource-read}
 use Rattle.engines.proofs.opening.open_text.Goals as goal
 
 pub returns-in-Err-clause-ended : goal.returns-in-Err-clause-ended
