@@ -37,7 +37,7 @@ pub fn solve<P: Source, O: Sink>(alloc: Global, input: &mut P, out: &mut O, proo
     ensures out { UsesSink O.Sink result out.old out.new }
     ensures out_flushed { RisesBy (flushes_by result) (O.flushes out.old) (O.flushes out.new) }
 {
-    let session = match open_text(alloc, alloc, input, 0) {
+    let session = match open_text(alloc, input, 0) {
         Ok(session) => session,
         Err(end) => return end,
     };
