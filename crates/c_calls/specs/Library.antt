@@ -78,6 +78,10 @@ pub record Took (opened : Option (List Line)) (line : Line) (group : Option Gath
   pub asked : asks line ≡ true → (reply : Option Reply) × (number ≡ told_of reply) × TakesLine old opened line reply new group
   pub blank : asks line ≡ false → (number ≡ number_of line_fault.UnknownDesignator) × (new ≡ old) × (group ≡ gathered_in old opened)
 
+-- the same of a group that stands open with any lines
+abbrev pub TakesNext : Option Gathered → Line → Option Gathered → SessionState → ℕ → SessionState → Type 0
+TakesNext before line group old number new = (opened : Option (List Line)) → before ≡ gathered_in old opened → Took opened line group old number new
+
 -- ---- views
 
 abbrev pub is_feasible : Verdict → Bool

@@ -1,14 +1,12 @@
 //! The calls, over a session that is there.
 
-ghost use Rattle.std.specs.Prelude.{◌≡◌, IfErr, IfOk, OnOk, List, Option};
+ghost use Rattle.std.specs.Prelude.{◌≡◌, IfErr, IfOk, OnOk};
 ghost use Rattle.std.specs.Option.{option_map};
-ghost use Rattle.dimacs_lines.specs.Lines.{Line};
 ghost use Rattle.dimacs_text.specs.declared.command.Command.TheVariants.{Redo, Undo};
 ghost use Rattle.session.specs.Reply.{reply_of};
 ghost use Rattle.session.specs.Session.{kind_in};
 ghost use Rattle.session.specs.Step.{StepBy, state_of};
-ghost use Rattle.session.specs.Turns.{gathered_in};
-ghost use Rattle.c_calls.specs.Library.{IsNotOpened, IsOpening, ReadsAs, Steps, Took, told_of};
+ghost use Rattle.c_calls.specs.Library.{IsNotOpened, IsOpening, ReadsAs, Steps, TakesNext, told_of};
 
 use crate::fault::{Fault, tell_refusal};
 use crate::status::MEMORY;
@@ -59,8 +57,8 @@ pub fn open_session(
 /// Takes a line of a command text: it is a step by itself, or it opens the group that C keeps, goes into it or ends it,
 /// which is a step. Answers 0, or the number of the refusal. A blank line is no command, and changes nothing.
 pub fn take_line(session: &mut Session, group: &mut Option<Group>, line: &[u8]) -> u8
-    ensures took { (opened : Option (List Line)) → group.old ≡ gathered_in (state_of session.old) opened
-        → Took opened line.now group.new (state_of session.old) result (state_of session.new) }
+    ensures took { TakesNext group.old line.now group.new
+        (state_of session.old) result (state_of session.new) }
     ensures kind { kind_in session.new.moments ≡ kind_in session.old.moments }
 {
     if line.len() > LINE_LIMIT {

@@ -42,7 +42,8 @@ pub fn run_session<P: Source, C: Source, O: Sink>(
     requires script { C.failures script.old < 2 ^ 64 - 1 }
     requires out { O.failures out.old < 2 ^ 64 - 1 }
 
-    // A run's printing is written, or its beginning at a failed call, and each end but that of memory has its cause.
+    // A run's printing is written, or its beginning at a failed call, and each end but that of
+    // memory has its cause.
     ensures session { SessionOnDevices result extra
         (text_over P.remaining P.given problem.old problem.new)
         (P.most_left problem.old - P.most_left problem.new)
@@ -50,8 +51,9 @@ pub fn run_session<P: Source, C: Source, O: Sink>(
         (C.most_left script.old - C.most_left script.new)
         (O.contents out.old) (O.contents out.new) }
 
-    // Each text was read to its end where it was used. The end tells of each call that failed, which
-    // was the last on its device. One flush passes on what is told of the opening, and one each reply.
+    // Each text was read to its end where it was used. The end tells of each call that failed,
+    // which was the last on its device. One flush passes on what is told of the opening, and one
+    // each reply.
     ensures problem { UsesSource P.Source (problem_whole result) (problem_failures result)
         problem.old problem.new }
     ensures script { UsesSource C.Source (commands_whole result) (command_failures result)

@@ -24,14 +24,15 @@ pub fn solve<P: Source, O: Sink>(alloc: Global, input: &mut P, out: &mut O, proo
     requires input { P.failures input.old < 2 ^ 64 - 1 }
     requires out { O.failures out.old < 2 ^ 64 - 1 }
 
-    // What is written is the printing of what is settled, and each end but that of memory has its cause.
+    // What is written is the printing of what is settled, and each end but that of memory has
+    // its cause.
     ensures solve { SolveOnDevices result proof
         (text_over P.remaining P.given input.old input.new)
         (P.most_left input.old - P.most_left input.new)
         (O.contents out.old) (O.contents out.new) }
 
-    // The text was read to its end where it was used. The end tells of each call that failed, which was
-    // the last on its device, and one flush passes on what is written.
+    // The text was read to its end where it was used. The end tells of each call that failed,
+    // which was the last on its device, and one flush passes on what is written.
     ensures input { UsesSource P.Source (problem_whole result) (problem_failures result)
         input.old input.new }
     ensures out { UsesSink O.Sink result out.old out.new }
