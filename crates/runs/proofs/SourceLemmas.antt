@@ -5,13 +5,16 @@ use Rattle.std.specs.Io.KnownBytes.{Appends, Consumes, IsAtEnd}
 use Rattle.std.proofs.KnownBytes.{Consumes-nil, Consumes-trans}
 use Rattle.dimacs_lines.specs.declared.fault.TextFault.{TextFault}
 use Rattle.dimacs_text.specs.Reading.{ProblemValue}
+use Rattle.dimacs_text.specs.declared.answer.Answer.{Answer}
 use Rattle.dimacs_lines.specs.declared.fault.TextFault.TheVariants as text_fault
 use Rattle.runs.specs.declared.read.ReadError.{ReadError}
 use Rattle.runs.specs.declared.read.ReadError.TheVariants as read_error
-use Rattle.runs.specs.Devices.{UsesSource, answer_whole, problem_failures, problem_whole}
+use Rattle.runs.specs.Devices.{UsesSink, UsesSource, answer_failures, answer_whole, problem_failures, problem_whole}
 use Rattle.runs.specs.declared.end.Text.TheVariants as the
+use Rattle.runs.specs.declared.end.End.TheVariants.{Memory}
 use Rattle.runs.specs.Reading.{CountsRead, FailsLastRead, Gives, GivesAndLogs, IsRead, ReadsKnown, ReadsText, ReadsWhole, end_of, reads_all}
 use Rattle.dimacs_io.specs.Device.{text_of}
+use Rattle.dimacs_io.specs.declared.device.Sink as sink
 use Rattle.dimacs_io.specs.declared.device.Source as source
 use Rattle.std.proofs.Math.Seq.{drop-append_seam}
 
@@ -148,24 +151,6 @@ IsRead-whole whole old new ended read = record { grows = read.grows; ends = λ _
 pub IsRead-none : (whole : Bool) (log : List ℕ) (ended : Bool) → whole ≡ false → IsRead whole log log ended
 IsRead-none whole log ended none = record { grows = ([], sym (append-nil log)); ends = λ all. absurd cc }
 
--- the reading of the problem ended the run
-pub IsRead-problem : (e : ReadError) (old new : List ℕ) (ended : Bool) → IsRead false old new ended → IsRead (problem_whole (end_of the.Problem e)) old new ended
-IsRead-problem (read_error.Text text_fault.Memory) old new ended read = read
-IsRead-problem (read_error.Text (text_fault.Fault number line)) old new ended read = read
-IsRead-problem read_error.Source old new ended read = read
-
--- and nothing was read of the answer
-pub IsRead-no_answer : (e : ReadError) (log : List ℕ) (ended : Bool) → IsRead (answer_whole (end_of the.Problem e)) log log ended
-IsRead-no_answer (read_error.Text text_fault.Memory) log ended = IsRead-none false log ended refl
-IsRead-no_answer (read_error.Text (text_fault.Fault number line)) log ended = IsRead-none false log ended refl
-IsRead-no_answer read_error.Source log ended = IsRead-none false log ended refl
-
--- the reading of the answer ended the run
-pub IsRead-answer : (e : ReadError) (old new : List ℕ) (ended : Bool) → IsRead false old new ended → IsRead (answer_whole (end_of the.Answer e)) old new ended
-IsRead-answer (read_error.Text text_fault.Memory) old new ended read = read
-IsRead-answer (read_error.Text (text_fault.Fault number line)) old new ended read = read
-IsRead-answer read_error.Source old new ended read = read
-
 -- ---- the bytes that were written
 
 pub appended : (held written : List ℕ) (after : Option (List ℕ)) → Appends (Some held) after written → after ≡ Some (held ++ written)
@@ -204,3 +189,45 @@ module _ {S : Type 0} (device : source.Ghosts S) where
   UsesSource-problem (read_error.Text (text_fault.Fault number line)) old new read counts last =
       record { read = read; failed = omega (arith, counts); last = λ one. absurd (omega (arith, one)) }
   UsesSource-problem read_error.Source old new read counts last = record { read = read; failed = counts; last = λ one. last }
+
+  -- and nothing was read of the answer
+  pub UsesSource-no_answer : (e : ReadError) (old : S) → UsesSource device (answer_whole (end_of the.Problem e)) (answer_failures (end_of the.Problem e)) old old
+  UsesSource-no_answer (read_error.Text text_fault.Memory) old = UsesSource-none false 0 old refl refl
+  UsesSource-no_answer (read_error.Text (text_fault.Fault number line)) old = UsesSource-none false 0 old refl refl
+  UsesSource-no_answer read_error.Source old = UsesSource-none false 0 old refl refl
+
+  -- the reading of the answer ended the run
+  pub UsesSource-answer : (e : ReadError) (old new : S) → IsRead false (device.given old) (device.given new) (device.ended new)
+      → CountsRead {X = Answer} (Err e) (device.failures old) (device.failures new) → FailsLastRead {X = Answer} (Err e) (device.last_failed new)
+      → UsesSource device (answer_whole (end_of the.Answer e)) (answer_failures (end_of the.Answer e)) old new
+  UsesSource-answer (read_error.Text text_fault.Memory) old new read counts last =
+      record { read = read; failed = omega (arith, counts); last = λ one. absurd (omega (arith, one)) }
+  UsesSource-answer (read_error.Text (text_fault.Fault number line)) old new read counts last =
+      record { read = read; failed = omega (arith, counts); last = λ one. absurd (omega (arith, one)) }
+  UsesSource-answer read_error.Source old new read counts last = record { read = read; failed = counts; last = λ one. last }
+
+  -- before that the problem was read
+  pub UsesSource-problem_before : (e : ReadError) (old new : S) → UsesSource device true 0 old new
+      → UsesSource device (problem_whole (end_of the.Answer e)) (problem_failures (end_of the.Answer e)) old new
+  UsesSource-problem_before (read_error.Text text_fault.Memory) old new used = UsesSource-whole false 0 old new refl used
+  UsesSource-problem_before (read_error.Text (text_fault.Fault number line)) old new used = used
+  UsesSource-problem_before read_error.Source old new used = used
+
+-- ---- what a run did to a sink
+
+module _ {O : Type 0} (device : sink.Ghosts O) where
+  -- no call was made: memory was refused before
+  pub UsesSink-memory : (out : O) → UsesSink device Memory out out
+  UsesSink-memory out = record { failed = omega arith; last = refl }
+
+  -- or the reading of the problem ended the run
+  pub UsesSink-problem : (e : ReadError) (out : O) → UsesSink device (end_of the.Problem e) out out
+  UsesSink-problem (read_error.Text text_fault.Memory) out = UsesSink-memory out
+  UsesSink-problem (read_error.Text (text_fault.Fault number line)) out = record { failed = omega arith; last = refl }
+  UsesSink-problem read_error.Source out = record { failed = omega arith; last = refl }
+
+  -- or that of the answer
+  pub UsesSink-answer : (e : ReadError) (out : O) → UsesSink device (end_of the.Answer e) out out
+  UsesSink-answer (read_error.Text text_fault.Memory) out = UsesSink-memory out
+  UsesSink-answer (read_error.Text (text_fault.Fault number line)) out = record { failed = omega arith; last = refl }
+  UsesSink-answer read_error.Source out = record { failed = omega arith; last = refl }
