@@ -21,7 +21,7 @@ use Rattle.runs.specs.Reading.{ReadsKnown, ReadsWhole, end_of}
 use Rattle.engines.specs.Printing.{solution}
 use Rattle.engines.specs.Opening.{IsNotOpened}
 use Rattle.engines.specs.Solve.{IsSettled, Solves, Prints, SolveWrites, SolveOnDevices, end_by}
-use Rattle.engines.proofs.PrintingLemmas.{appended}
+use Rattle.runs.proofs.SourceLemmas.{appended}
 
 -- the problem was not read
 problem_end : (e : ReadError) (proof : Bool) (text given : List ℕ) → ReadsWhole (decided problem_rule) reads (Err e) text given → SolveWrites (end_of the.Problem e) proof text given []
