@@ -9,9 +9,9 @@ use Rattle.network.specs.Instance.{first}
 use Rattle.flow_solver.specs.Moment.{Moment}
 use Rattle.flow_solver.specs.Answer.{IsAnswered}
 use Rattle.checker.specs.Check.{CheckWrites, IsRight, Judges}
-use Rattle.checker.specs.declared.end.Text.TheVariants as the
-use Rattle.checker.specs.declared.end.End.{End}
-use Rattle.checker.specs.declared.end.End.TheVariants.{Solved, Infeasible, Ended, Valid, NotValid, Refused, ReadFailed, WriteFailed, Memory}
+use Rattle.runs.specs.declared.end.Text.TheVariants as the
+use Rattle.runs.specs.declared.end.End.{End}
+use Rattle.runs.specs.declared.end.End.TheVariants.{Solved, Infeasible, Ended, Valid, NotValid, Refused, ReadFailed, WriteFailed, Memory}
 use Rattle.engines.specs.Printing.{solution}
 use Rattle.engines.specs.Solve.{Prints}
 use Rattle.answer_laws.specs.Ends.{IsValidOrFailed}

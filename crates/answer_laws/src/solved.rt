@@ -8,7 +8,7 @@ ghost use Rattle.network.specs.Instance.{first};
 ghost use Rattle.flow_solver.specs.Moment.{Moment};
 ghost use Rattle.flow_solver.specs.Answer.{IsAnswered};
 ghost use Rattle.checker.specs.Check.{CheckWrites, IsRight};
-ghost use Rattle.checker.specs.declared.end.End.{End};
+ghost use Rattle.runs.specs.declared.end.End.{End};
 ghost use Rattle.engines.specs.Printing.{solution};
 ghost use Rattle.engines.specs.Solve.{Prints};
 ghost use Rattle.answer_laws.specs.Ends.{IsValidOrFailed};

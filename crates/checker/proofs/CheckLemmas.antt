@@ -7,13 +7,13 @@ use Rattle.dimacs_lines.specs.declared.fault.TextFault.TheVariants as text_fault
 use Rattle.dimacs_lines.specs.Stream.{decided}
 use Rattle.dimacs_text.specs.Reading.{ProblemValue, problem_rule, reads}
 use Rattle.dimacs_text.specs.Answer.{answer_rule, answers}
-use Rattle.checker.specs.declared.end.Text.TheVariants as the
-use Rattle.checker.specs.declared.end.End.TheVariants.{Valid, NotValid, WriteFailed}
-use Rattle.checker.specs.declared.read.ReadError.{ReadError}
-use Rattle.checker.specs.declared.read.ReadError.TheVariants as read_error
-use Rattle.checker.specs.Reading.{ReadsKnown, ReadsWhole, end_of}
-use Rattle.checker.proofs.SourceLemmas.{appended}
-use Rattle.checker.specs.Check.{IsProblemText, Judges, CheckWrites, CheckOnDevices, IsRight, verdict_line}
+use Rattle.runs.specs.declared.end.Text.TheVariants as the
+use Rattle.runs.specs.declared.end.End.TheVariants.{Valid, NotValid, WriteFailed}
+use Rattle.runs.specs.declared.read.ReadError.{ReadError}
+use Rattle.runs.specs.declared.read.ReadError.TheVariants as read_error
+use Rattle.runs.specs.Reading.{IsProblemText, ReadsKnown, ReadsWhole, end_of}
+use Rattle.runs.proofs.SourceLemmas.{appended}
+use Rattle.checker.specs.Check.{Judges, CheckWrites, CheckOnDevices, IsRight, verdict_line}
 
 -- ---- by the size of the problem
 

@@ -1,3 +1,1 @@
-pub mod SourceLemmas
-pub mod ReadLemmas
 pub mod CheckLemmas

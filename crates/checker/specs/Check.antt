@@ -2,8 +2,6 @@
 use Rattle.std.specs.Prelude.{◌≡◌, ℕ, ℤ, ◌-◌, ◌↔◌, IsTrue, Bool, true, false, List, [], ◌∷◌, ◌++◌, length, take, map, replicate, set, Option, None, Some, Ok, Err, IfSome, codes}
 use Rattle.std.specs.List.{AllZip}
 use Rattle.dimacs_io.specs.Device.{IsBeginning}
-use Rattle.dimacs_io.specs.declared.device.LastCall.{LastCall}
-use Rattle.dimacs_io.specs.declared.device.LastCall.TheVariants as last
 use Rattle.dimacs_text.specs.declared.problem.ArcRow.{ArcRow}
 use Rattle.dimacs_text.specs.declared.answer.FlowLine.{FlowLine}
 use Rattle.dimacs_text.specs.declared.answer.Answer.{Answer}
@@ -13,9 +11,10 @@ use Rattle.dimacs_lines.specs.Stream.{decided}
 use Rattle.dimacs_text.specs.Reading.{ProblemValue, problem_rule, reads}
 use Rattle.dimacs_text.specs.Answer.{answer_rule, answers}
 use Rattle.network.specs.Instance.{IsBest, IsBestAnswer, IsCutAnswer, IsLegal, first}
-use Rattle.checker.specs.declared.end.Text.TheVariants as the
-use Rattle.checker.specs.declared.end.End.{End}
-use Rattle.checker.specs.declared.end.End.TheVariants.{Solved, Infeasible, Ended, Valid, NotValid, Refused, ReadFailed, WriteFailed, Memory}
+use Rattle.runs.specs.declared.end.Text.TheVariants as the
+use Rattle.runs.specs.declared.end.End.{End}
+use Rattle.runs.specs.declared.end.End.TheVariants.{Solved, Infeasible, Ended, Valid, NotValid, Refused, ReadFailed, WriteFailed, Memory}
+use Rattle.runs.specs.Reading.{IsAnswerText, IsProblemText}
 
 -- ---- a right answer
 
@@ -56,16 +55,6 @@ verdict_line true = codes "valid\n"
 verdict_line false = codes "not valid\n"
 
 -- ---- what is written, over the texts of the sources and the first bytes of them that were given
-
--- the whole text was given, and it is a problem
-pub record IsProblemText (text given : List ℕ) (problem : ProblemValue) : Type 0 where
-  pub whole : given ≡ text
-  pub problem_is : reads text ≡ Ok problem
-
--- the whole text was given, and it is an answer to the problem
-pub record IsAnswerText (problem : ProblemValue) (text given : List ℕ) (answer : Answer) : Type 0 where
-  pub whole : given ≡ text
-  pub answer_is : answers problem.nodes (length problem.arcs) text ≡ Ok answer
 
 -- the answer that the two texts give is right exactly where the test is true
 pub record Judges (problem_text problem_given answer_text answer_given : List ℕ) (right : Bool) : Type 0 where
@@ -119,54 +108,3 @@ pub record AreSettled (problem_text answer_text : List ℕ) : Type 0 where
 abbrev pub ValidSettles : End → Option (List ℕ) → Option (List ℕ) → Type 0
 ValidSettles end problem_known answer_known =
     IfSome problem_known (λ problem_text. IfSome answer_known (λ answer_text. end ≡ Valid → AreSettled problem_text answer_text))
-
--- ---- which texts were read to their ends
-
--- by how a run ends: the problem, unless a fault of it was found, a read of it failed or memory was refused
-abbrev pub problem_whole : End → Bool
-problem_whole (Refused the.Problem number line) = false
-problem_whole (ReadFailed the.Problem) = false
-problem_whole Memory = false
-problem_whole _ = true
-
--- the answer, where it is judged
-abbrev pub answer_whole : End → Bool
-answer_whole Valid = true
-answer_whole NotValid = true
-answer_whole WriteFailed = true
-answer_whole _ = false
-
--- ---- how many calls failed on each device
-
-abbrev pub problem_failures : End → ℕ
-problem_failures (ReadFailed the.Problem) = 1
-problem_failures _ = 0
-
-abbrev pub answer_failures : End → ℕ
-answer_failures (ReadFailed the.Answer) = 1
-answer_failures _ = 0
-
-abbrev pub write_failures : End → ℕ
-write_failures WriteFailed = 1
-write_failures _ = 0
-
--- ---- how many flushes of the sink went well, of a run that does not answer commands
-
-abbrev pub flushes_by : End → ℕ
-flushes_by Solved = 1
-flushes_by Infeasible = 1
-flushes_by Valid = 1
-flushes_by NotValid = 1
-flushes_by _ = 0
-
--- ---- what the last call on the sink did
-
--- by how a run ends, and what it did before: there was none where a text was not read or memory was refused; else all that was written is
--- passed on, or the last call is the one that failed
-abbrev pub last_by : End → LastCall → LastCall
-last_by WriteFailed before = last.Failure
-last_by (Refused input number line) before = before
-last_by (ReadFailed the.Problem) before = before
-last_by (ReadFailed the.Answer) before = before
-last_by Memory before = before
-last_by _ before = last.Flush

@@ -1,4 +1,1 @@
-pub mod End
-pub mod Reading
 pub mod Check
-pub mod Devices

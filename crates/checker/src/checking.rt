@@ -1,15 +1,14 @@
 //! Checks an answer to a problem, and writes whether it is right.
-ghost use Rattle.std.specs.Prelude.{◌≡◌, ◌-◌, ◌^◌, ◌<◌, ◌↔◌, true, IfOk, IsTrue, length};
+ghost use Rattle.std.specs.Prelude.{◌≡◌, ◌-◌, ◌^◌, ◌<◌, ◌↔◌, IfOk, IsTrue, length};
 ghost use Rattle.dimacs_io.specs.Calls.{PassesText};
-ghost use Rattle.dimacs_io.specs.Device.{Fails, RisesBy, text_over};
-ghost use Rattle.checker.specs.Reading.{SourceIsRead};
-ghost use Rattle.checker.specs.Check.{CheckOnDevices, NamesEnds, NameEnds, IsRight, Settles, ValidSettles, answer_failures, answer_whole, flow_of_lines, flushes_by, last_by, marks_of, problem_failures, problem_whole, verdict_line, write_failures};
+ghost use Rattle.dimacs_io.specs.Device.{RisesBy, text_over};
+ghost use Rattle.runs.specs.Devices.{UsesSink, UsesSource, answer_failures, answer_whole, flushes_by, problem_failures, problem_whole};
+ghost use Rattle.checker.specs.Check.{CheckOnDevices, NamesEnds, NameEnds, IsRight, Settles, ValidSettles, flow_of_lines, marks_of, verdict_line};
 
-use crate::end::{End, Text};
-use crate::read::{read_answer, read_problem};
 use dimacs_io::{Broken, Sink, Source, write_all};
 use dimacs_text::{Answer, ArcRow, FlowLine, Problem};
 use network::{build, check_best, check_cut};
+use runs::{End, Text, read_answer, read_problem};
 use std::alloc::{AllocError, Global};
 
 /// Checks an answer text to a flow problem of any kind: writes `valid` or `not valid`, and a line feed.
@@ -26,7 +25,8 @@ pub fn check<P: Source, A: Source, O: Sink>(
     requires answer { A.failures answer.old < 2 ^ 64 - 1 }
     requires out { O.failures out.old < 2 ^ 64 - 1 }
 
-    // `valid` is written exactly where the answer is right, and each end but that of memory has its cause.
+    // `valid` is written exactly where the answer is right, and each end but that of memory has
+    // its cause.
     ensures check { CheckOnDevices result
         (text_over P.remaining P.given problem.old problem.new)
         (P.most_left problem.old - P.most_left problem.new)
@@ -37,20 +37,14 @@ pub fn check<P: Source, A: Source, O: Sink>(
         (text_over P.remaining P.given problem.old problem.new)
         (text_over A.remaining A.given answer.old answer.new) }
 
-    // What a source gave before stays, and each text was read to its end where it was used.
-    ensures problem_read { SourceIsRead (problem_whole result) P.given P.ended problem.old problem.new }
-    ensures answer_read { SourceIsRead (answer_whole result) A.given A.ended answer.old answer.new }
-
-    // The end tells of each call that failed.
-    ensures problem_failed { Fails (problem_failures result) P.failures problem.old problem.new }
-    ensures answer_failed { Fails (answer_failures result) A.failures answer.old answer.new }
-    ensures out_failed { Fails (write_failures result) O.failures out.old out.new }
-
-    // A call that failed was the last on its device, and one flush passes on what is written.
-    ensures problem_last { problem_failures result ≡ 1 → P.last_failed problem.new ≡ true }
-    ensures answer_last { answer_failures result ≡ 1 → A.last_failed answer.new ≡ true }
+    // Each text was read to its end where it was used. The end tells of each call that failed,
+    // which was the last on its device, and one flush passes on what is written.
+    ensures problem { UsesSource P.Source (problem_whole result) (problem_failures result)
+        problem.old problem.new }
+    ensures answer { UsesSource A.Source (answer_whole result) (answer_failures result)
+        answer.old answer.new }
+    ensures out { UsesSink O.Sink result out.old out.new }
     ensures out_flushed { RisesBy (flushes_by result) (O.flushes out.old) (O.flushes out.new) }
-    ensures out_last { O.last_call out.new ≡ last_by result (O.last_call out.old) }
 {
     let problem = match read_problem(alloc, problem) {
         Ok(problem) => problem,

@@ -4,7 +4,7 @@ ghost use Rattle.std.specs.Io.{ReadsAtMost, WritesAtMost};
 ghost use Rattle.std.specs.Io.KnownBytes.{Keeps, ReadConsumes, WriteAppends};
 ghost use Rattle.dimacs_io.specs.Device.{CountsFailure, CountsFlush, EndsBy, Logs, LowersByCount, ReachesEnd};
 ghost use Rattle.dimacs_io.specs.declared.device.LastCall.TheVariants as last;
-ghost use Rattle.dimacs_io.specs.Testing.{one_less};
+ghost use Rattle.dimacs_io.specs.Testing.{Refuses, given_for, one_less, taken_of};
 
 use crate::device::{Broken, LastCall, Sink, Source};
 use crate::log::{Log, Piece};
@@ -116,7 +116,7 @@ impl Source for Script<'_> {
         ensures last { self.new.last_failed ≡ is_err result }
         ensures ended { ReachesEnd result piece.new self.new.ended }
         ensures fails { IsErr result ↔ (self.old.good_calls ≡ Some 0) }
-        ensures count { IfOk result (λ n. n ≡ min (min self.old.most (length piece.old)) (length self.old.rest)) }
+        ensures count { IfOk result (λ n. n ≡ given_for self.old (length piece.old)) }
         ensures good_calls { self.new.good_calls ≡ one_less self.old.good_calls }
         ensures most { self.new.most ≡ self.old.most }
     {
@@ -212,8 +212,8 @@ impl Sink for Pad {
         ensures failed { CountsFailure result self.old.failures self.new.failures }
         ensures flushed { self.new.flushes ≡ self.old.flushes }
         ensures last { EndsBy result last.Write self.new.last_call }
-        ensures fails { IsErr result ↔ ((self.old.good_calls ≡ Some 0) ⊎ ((length self.old.bytes ≡ 4096) × (0 < length piece.now))) }
-        ensures count { IfOk result (λ n. n ≡ min (min self.old.most (length piece.now)) (4096 - length self.old.bytes)) }
+        ensures fails { IsErr result ↔ Refuses self.old (length piece.now) }
+        ensures count { IfOk result (λ n. n ≡ taken_of self.old (length piece.now)) }
         ensures good_calls { self.new.good_calls ≡ one_less self.old.good_calls }
         ensures most { self.new.most ≡ self.old.most }
     {

@@ -1,11 +1,11 @@
 //! What `solve` and `check` write, and how they end.
 
 use crate::problems::{MAX_TWO_BEST_FLOWS, PIECES, RIGHT_ANSWER, SINGLE_ARC, problem_of, problems};
-use crate::runs::{
+use crate::running::{
     BYTES, Devices, Engine, checked, cut, expect, expect_one_of, expect_start, run, solved, text_of,
 };
-use checker::{End, Text};
 use dimacs_io::Pad;
+use runs::{End, Text};
 use std::alloc::Global;
 use std::process::Abort;
 use std::test::Fail;

@@ -1,9 +1,9 @@
 //! Devices that fail under an engine, at each call in turn.
 
 use crate::problems::{DIAMOND, DIAMOND_SOLVED, RIGHT_ANSWER, SINGLE_ARC, SURPLUS};
-use crate::runs::{BYTES, Devices, Engine, SESSION, expect, run};
+use crate::running::{BYTES, Devices, Engine, SESSION, expect, run};
 use crate::sessions::{DIAMOND_NARROWED, DIAMOND_NARROWED_REPLIES};
-use checker::{End, Text};
+use runs::{End, Text};
 use std::process::Abort;
 
 #[test]

@@ -1,11 +1,11 @@
 //! Groups of edits in a session, from commands to replies.
 
 use crate::problems::DIAMOND;
-use crate::runs::{
+use crate::running::{
     BYTES, Devices, Opening, SESSION, expect, expect_beginning, expect_dialogues, expect_replies,
     run,
 };
-use checker::{End, Text};
+use runs::{End, Text};
 use std::alloc::Global;
 use std::process::Abort;
 use std::test::Fail;

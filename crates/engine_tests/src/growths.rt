@@ -1,10 +1,12 @@
 //! Each growth of an edit in a session refused in turn.
 
 use crate::problems::DIAMOND;
-use checker::End;
 use dimacs_io::{Pad, Script};
-use engines::run_session_in;
+use engines::serve_session;
 use refusing::Refusing;
+use runs::{End, Text, read_problem};
+use session::Session;
+use std::alloc::Allocator;
 
 /// More growths than any commands below take.
 const MOST: u64 = 99;
@@ -54,15 +56,21 @@ fn session(rt: &HostRuntime, commands: &[u8], served: u64, refused: u64) -> (End
     let steps = Refusing::new(rt.alloc());
     steps.plan(served, refused);
     let mut out = Pad::new(4096, None);
-    let end = run_session_in(
-        rt.alloc(),
-        &steps,
-        &mut Script::new(DIAMOND, 4096, None),
-        &mut Script::new(commands, 4096, None),
-        &mut out,
-        1000,
-    );
+    let end = match open(rt, &steps) {
+        Ok(session) => serve_session(session, &mut Script::new(commands, 4096, None), &mut out),
+        Err(end) => end,
+    };
     (end, out, steps.served_left())
+}
+
+/// Opens a session on the diamond, whose steps take their memory from `steps`; or says how a run ends that cannot.
+fn open<A: Allocator + Copy>(rt: &HostRuntime, steps: A) -> Result<Session<A>, End> {
+    match read_problem(rt.alloc(), &mut Script::new(DIAMOND, 4096, None)) {
+        Ok(problem) => {
+            Session::open_in(rt.alloc(), steps, &problem, 1000).map_err(|_| End::Memory)
+        }
+        Err(error) => Err(error.end(Text::Problem)),
+    }
 }
 
 /// How many growths the steps of these commands take.

@@ -1,10 +1,11 @@
 //! Texts at the limits of the program: the most arcs, the most nodes, and a session of 30,000 commands.
 
 use crate::problems::{DIAMOND, RIGHT_ANSWER, SINGLE_ARC};
-use crate::runs::{expect_end, text_of};
-use checker::{End, check};
+use crate::running::{expect_end, text_of};
+use checker::check;
 use dimacs_io::{ReadSource, WriteSink};
 use engines::{run_session, solve};
+use runs::End;
 use std::alloc::Global;
 use std::io::Write;
 use std::process::Abort;

@@ -17,6 +17,6 @@ mod marks;
 #[cfg(test)]
 mod problems;
 #[cfg(test)]
-mod runs;
+mod running;
 #[cfg(test)]
 mod sessions;

@@ -1,6 +1,6 @@
 //! Marks in a session, from commands to replies.
 
-use crate::runs::expect_dialogues;
+use crate::running::expect_dialogues;
 
 /// A problem, commands with marks, and what is written.
 const MARKS: &str = "\

@@ -1,11 +1,11 @@
 //! Sessions, from commands to replies.
 
 use crate::problems::{DIAMOND, EQUAL_ARCS_SAME_BLOCK, PIECES};
-use crate::runs::{
+use crate::running::{
     BYTES, Devices, Opening, SESSION, expect, expect_beginning, expect_dialogues, expect_one_of,
     expect_replies, run, session,
 };
-use checker::{End, Text};
+use runs::{End, Text};
 use std::alloc::Global;
 use std::process::Abort;
 use std::test::Fail;

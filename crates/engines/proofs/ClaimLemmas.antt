@@ -30,8 +30,8 @@ use Rattle.session.specs.Marks.{has_place, marked}
 use Rattle.session.specs.Refusal.{number_of as step_number}
 use Rattle.session.specs.Step.{Reply, Refuses, TellsVerdict, Shows, SessionState, IsApplied, IsRefused, StepBy, StepOfBack, StepOfEdits, StepOfMark, TurnStep}
 use Rattle.checker.specs.Check.{AreSettled, CheckOnDevices, Judges, Settles, ValidSettles, verdict_line}
-use Rattle.checker.specs.declared.end.End.{End}
-use Rattle.checker.specs.declared.end.End.TheVariants.{Solved, Infeasible as NoPlan, Ended, Valid, NotValid}
+use Rattle.runs.specs.declared.end.End.{End}
+use Rattle.runs.specs.declared.end.End.TheVariants.{Solved, Infeasible as NoPlan, Ended, Valid, NotValid}
 use Rattle.engines.specs.Claim.{AreRightMoments, GoesRightly, IsRightMoment, JudgesRightly, Means, RefusedTurnsChangeNothing, ServesRightly, SolvesRightly, UndoRestores, Written, plan_of}
 use Rattle.engines.specs.Printing.{outcome_line}
 use Rattle.engines.specs.Run.{Run, turns_in}

@@ -9,19 +9,19 @@ use Rattle.network.specs.Instance.{first}
 use Rattle.flow_solver.specs.declared.verdict.Verdict.{Verdict}
 use Rattle.flow_solver.specs.declared.verdict.Verdict.TheVariants as verdict
 use Rattle.flow_solver.specs.Moment.{Moment}
-use Rattle.checker.specs.declared.end.Text.TheVariants as the
-use Rattle.checker.specs.declared.end.End.{End}
-use Rattle.checker.specs.declared.end.End.TheVariants.{Memory, WriteFailed}
-use Rattle.checker.specs.declared.read.ReadError.{ReadError}
-use Rattle.checker.specs.declared.read.ReadError.TheVariants as read_error
+use Rattle.runs.specs.declared.end.Text.TheVariants as the
+use Rattle.runs.specs.declared.end.End.{End}
+use Rattle.runs.specs.declared.end.End.TheVariants.{Memory, WriteFailed}
+use Rattle.runs.specs.declared.read.ReadError.{ReadError}
+use Rattle.runs.specs.declared.read.ReadError.TheVariants as read_error
 use Rattle.dimacs_io.specs.declared.device.LastCall.{LastCall}
 use Rattle.dimacs_io.specs.declared.device.LastCall.TheVariants as last
-use Rattle.checker.specs.Check.{flushes_by, last_by, problem_failures, write_failures}
-use Rattle.checker.specs.Reading.{ReadsKnown, ReadsWhole, end_of}
+use Rattle.runs.specs.Devices.{flushes_by, last_by, problem_failures, write_failures}
+use Rattle.runs.specs.Reading.{ReadsKnown, ReadsWhole, end_of}
 use Rattle.engines.specs.Printing.{solution}
 use Rattle.engines.specs.Opening.{IsNotOpened}
 use Rattle.engines.specs.Solve.{IsSettled, Solves, Prints, SolveWrites, SolveOnDevices, end_by}
-use Rattle.engines.proofs.PrintingLemmas.{appended}
+use Rattle.runs.proofs.SourceLemmas.{appended}
 
 -- the problem was not read
 problem_end : (e : ReadError) (proof : Bool) (text given : List ℕ) → ReadsWhole (decided problem_rule) reads (Err e) text given → SolveWrites (end_of the.Problem e) proof text given []

@@ -6,13 +6,12 @@ use Rattle.dimacs_lines.specs.Stream.{decided}
 use Rattle.dimacs_text.specs.Reading.{ProblemValue, problem_rule, reads}
 use Rattle.network.specs.Instance.{first}
 use Rattle.session.specs.Step.{SessionState}
-use Rattle.checker.specs.declared.end.Text.TheVariants as the
-use Rattle.checker.specs.declared.end.End.{End}
-use Rattle.checker.specs.declared.end.End.TheVariants.{Memory}
-use Rattle.checker.specs.declared.read.ReadError.{ReadError}
-use Rattle.checker.specs.Check.{problem_failures, problem_whole}
-use Rattle.checker.specs.Devices.{UsesSource}
-use Rattle.checker.specs.Reading.{ReadsKnown, end_of}
+use Rattle.runs.specs.declared.end.Text.TheVariants as the
+use Rattle.runs.specs.declared.end.End.{End}
+use Rattle.runs.specs.declared.end.End.TheVariants.{Memory}
+use Rattle.runs.specs.declared.read.ReadError.{ReadError}
+use Rattle.runs.specs.Devices.{UsesSource, problem_failures, problem_whole}
+use Rattle.runs.specs.Reading.{ReadsKnown, end_of}
 use Rattle.engines.specs.Solve.{IsSettled}
 
 -- a session on a problem, with room for so many arcs more, begins with an answer to it, with nothing to undo or redo, and without marks

@@ -13,10 +13,11 @@ use Rattle.dimacs_lines.specs.Lines.{Line, parts_of, lines_of}
 use Rattle.dimacs_text.specs.Turns.{Turn}
 use Rattle.session.specs.Step.{SessionState}
 use Rattle.session.specs.Turns.{IsPassedAs, gathered_in, turns_by}
-use Rattle.checker.specs.Reading.{SourceGives}
-use Rattle.checker.specs.declared.end.Text.TheVariants as the
-use Rattle.checker.specs.declared.end.End.{End}
-use Rattle.checker.specs.declared.end.End.TheVariants.{Ended, ReadFailed, WriteFailed}
+use Rattle.runs.specs.Reading.{SourceGives}
+use Rattle.runs.specs.declared.end.Text.TheVariants as the
+use Rattle.runs.specs.declared.end.End.{End}
+use Rattle.runs.specs.declared.end.End.TheVariants.{Ended, ReadFailed, WriteFailed}
+use Rattle.engines.specs.Printing.{outcome}
 use Rattle.engines.specs.Run.{Answers, AnswersTurns, reply_count, turns_in}
 
 -- what a sink says of itself: the bytes that it holds, where it says them, and how many flushes went well
@@ -128,3 +129,24 @@ abbrev pub ServesCommands : {C O : Type 0} → source.Ghosts C → sink.Ghosts O
 ServesCommands script out end opening old new before after =
     (given : List ℕ) × SourceGives script.remaining script.given script.most_left old new given
     × CommandsEnd end opening given (script.remaining new) (output_of out before) (output_of out after)
+
+-- ---- an open session
+
+-- what is told of the present moment was written up to a failed call, not passed on, and no command was read
+pub record StopsTelling {C O : Type 0} (out : sink.Ghosts O) (end : End) (opening : SessionState) (old new : C) (before after : O) : Type 0 where
+  pub failed : end ≡ WriteFailed
+  pub unread : new ≡ old
+  pub appends : AppendsBeginning (out.contents before) (out.contents after) (outcome opening.moments.present)
+  pub flushed : out.flushes after ≡ out.flushes before
+
+-- it was written and passed on, and then the commands that a source gave were served to this end
+pub record TellsAndServes {C O : Type 0} (script : source.Ghosts C) (out : sink.Ghosts O) (end : End) (opening : SessionState) (old new : C) (before after : O) : Type 0 where
+  pub told : O
+  pub appends : Appends (out.contents before) (out.contents told) (outcome opening.moments.present)
+  pub flushed : RisesBy 1 (out.flushes before) (out.flushes told)
+  pub serves : ServesCommands script out end opening old new told after
+
+-- an open session was served to this end
+abbrev pub ServesSession : {C O : Type 0} → source.Ghosts C → sink.Ghosts O → End → SessionState → C → C → O → O → Type 0
+ServesSession script out end opening old new before after =
+    StopsTelling out end opening old new before after ⊎ TellsAndServes script out end opening old new before after

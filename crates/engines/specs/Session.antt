@@ -1,18 +1,15 @@
 -- What a session writes.
-use Rattle.std.specs.Prelude.{◌≡◌, ℕ, Bool, true, false, ◌+◌, ◌-◌, List, [], ◌++◌, take, ◌⊎◌, Option, None, Some, Err, IfSome}
-use Rattle.dimacs_io.specs.Device.{IsBeginning, RisesBy, text_over}
-use Rattle.dimacs_io.specs.declared.device.Sink as sink
-use Rattle.dimacs_io.specs.declared.device.Source as source
+use Rattle.std.specs.Prelude.{◌≡◌, ℕ, Bool, true, false, ◌+◌, List, [], ◌++◌, take, ◌⊎◌, Option, None, Some, Err, IfSome}
+use Rattle.dimacs_io.specs.Device.{IsBeginning, RisesBy}
 use Rattle.dimacs_lines.specs.declared.fault.TextFault.TheVariants.{Fault}
 use Rattle.dimacs_lines.specs.Lines.{Line, parts_of, lines_of}
 use Rattle.dimacs_lines.specs.Stream.{decided}
 use Rattle.dimacs_text.specs.Reading.{ProblemValue, problem_rule, reads}
 use Rattle.session.specs.Step.{SessionState}
-use Rattle.checker.specs.declared.end.Text.TheVariants as the
-use Rattle.checker.specs.declared.end.End.{End}
-use Rattle.checker.specs.declared.end.End.TheVariants.{Solved, Infeasible, Ended, Valid, NotValid, Refused, ReadFailed, WriteFailed, Memory}
-use Rattle.checker.specs.Check.{IsProblemText, problem_failures, problem_whole}
-use Rattle.checker.specs.Devices.{UsesSink, UsesSource}
+use Rattle.runs.specs.declared.end.Text.TheVariants as the
+use Rattle.runs.specs.declared.end.End.{End}
+use Rattle.runs.specs.declared.end.End.TheVariants.{Solved, Infeasible, Ended, Valid, NotValid, Refused, ReadFailed, WriteFailed, Memory}
+use Rattle.runs.specs.Reading.{IsProblemText}
 use Rattle.engines.specs.Printing.{outcome}
 use Rattle.engines.specs.Run.{Answers, reply_count}
 use Rattle.engines.specs.Opening.{Opens}
@@ -87,21 +84,3 @@ commands_whole _ = false
 abbrev pub command_failures : End → ℕ
 command_failures (ReadFailed the.Commands) = 1
 command_failures _ = 0
-
--- ---- what a run of a session did to its devices
-
-pub record RunsSession {P C O : Type 0} (source_of_problem : source.Ghosts P) (source_of_script : source.Ghosts C) (sink_of : sink.Ghosts O)
-    (end : End) (extra : ℕ) (problem_old problem_new : P) (script_old script_new : C) (out_old out_new : O) : Type 0 where
-  pub session : SessionOnDevices end extra
-      (text_over source_of_problem.remaining source_of_problem.given problem_old problem_new)
-      (source_of_problem.most_left problem_old - source_of_problem.most_left problem_new)
-      (text_over source_of_script.remaining source_of_script.given script_old script_new)
-      (source_of_script.most_left script_old - source_of_script.most_left script_new)
-      (sink_of.contents out_old) (sink_of.contents out_new)
-  pub problem : UsesSource source_of_problem (problem_whole end) (problem_failures end) problem_old problem_new
-  pub script : UsesSource source_of_script (commands_whole end) (command_failures end) script_old script_new
-  pub out : UsesSink sink_of end out_old out_new
-  pub out_flushed : FlushesOnDevices end
-      (text_over source_of_script.remaining source_of_script.given script_old script_new)
-      (source_of_script.most_left script_old - source_of_script.most_left script_new)
-      (sink_of.flushes out_old) (sink_of.flushes out_new)

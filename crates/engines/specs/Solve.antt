@@ -9,10 +9,10 @@ use Rattle.flow_solver.specs.declared.verdict.Verdict.{Verdict}
 use Rattle.flow_solver.specs.declared.verdict.Verdict.TheVariants as verdict
 use Rattle.flow_solver.specs.Answer.{IsAnswered}
 use Rattle.flow_solver.specs.Moment.{Moment}
-use Rattle.checker.specs.declared.end.Text.TheVariants as the
-use Rattle.checker.specs.declared.end.End.{End}
-use Rattle.checker.specs.declared.end.End.TheVariants.{Solved, Infeasible, Ended, Valid, NotValid, Refused, ReadFailed, WriteFailed, Memory}
-use Rattle.checker.specs.Check.{IsProblemText}
+use Rattle.runs.specs.declared.end.Text.TheVariants as the
+use Rattle.runs.specs.declared.end.End.{End}
+use Rattle.runs.specs.declared.end.End.TheVariants.{Solved, Infeasible, Ended, Valid, NotValid, Refused, ReadFailed, WriteFailed, Memory}
+use Rattle.runs.specs.Reading.{IsProblemText}
 use Rattle.engines.specs.Printing.{solution}
 
 -- the moment answers the instance

@@ -6,19 +6,18 @@ ghost use Rattle.dimacs_io.specs.declared.device.LastCall.{LastCall};
 ghost use Rattle.dimacs_io.specs.declared.device.LastCall.TheVariants as last;
 ghost use Rattle.session.specs.Session.{present};
 ghost use Rattle.session.specs.Step.{state_of};
-ghost use Rattle.checker.specs.Check.{last_by, problem_failures, problem_whole, write_failures};
-ghost use Rattle.checker.specs.Devices.{UsesSink, UsesSource};
+ghost use Rattle.runs.specs.Devices.{UsesSink, UsesSource, last_by, problem_failures, problem_whole, write_failures};
 ghost use Rattle.engines.specs.Printing.{outcome};
-ghost use Rattle.engines.specs.Serving.{LeavesPassedOn, ServesCommands, TakesPiece, TakesRest, output_of, place};
-ghost use Rattle.engines.specs.Session.{FlushesOnDevices, RunsSession, SessionOnDevices, command_failures, commands_whole};
+ghost use Rattle.engines.specs.Serving.{LeavesPassedOn, ServesCommands, ServesSession, TakesPiece, TakesRest, output_of, place};
+ghost use Rattle.engines.specs.Session.{FlushesOnDevices, SessionOnDevices, command_failures, commands_whole};
 
 use crate::opening::open_text;
 use crate::reply::serve_line;
 use crate::solution::write_outcome;
-use checker::{End, Text};
 use dimacs_io::{Broken, Sink, Source};
 use dimacs_lines::ended_lines_stay;
 use dimacs_text::{Group, LineCutter};
+use runs::{End, Text};
 use session::Session;
 use std::alloc::{Allocator, Global};
 
@@ -43,7 +42,8 @@ pub fn run_session<P: Source, C: Source, O: Sink>(
     requires script { C.failures script.old < 2 ^ 64 - 1 }
     requires out { O.failures out.old < 2 ^ 64 - 1 }
 
-    // A run's printing is written, or its beginning at a failed call, and each end but that of memory has its cause.
+    // A run's printing is written, or its beginning at a failed call, and each end but that of
+    // memory has its cause.
     ensures session { SessionOnDevices result extra
         (text_over P.remaining P.given problem.old problem.new)
         (P.most_left problem.old - P.most_left problem.new)
@@ -51,8 +51,9 @@ pub fn run_session<P: Source, C: Source, O: Sink>(
         (C.most_left script.old - C.most_left script.new)
         (O.contents out.old) (O.contents out.new) }
 
-    // Each text was read to its end where it was used. The end tells of each call that failed, which
-    // was the last on its device. One flush passes on what is told of the opening, and one each reply.
+    // Each text was read to its end where it was used. The end tells of each call that failed,
+    // which was the last on its device. One flush passes on what is told of the opening, and one
+    // each reply.
     ensures problem { UsesSource P.Source (problem_whole result) (problem_failures result)
         problem.old problem.new }
     ensures script { UsesSource C.Source (commands_whole result) (command_failures result)
@@ -63,28 +64,28 @@ pub fn run_session<P: Source, C: Source, O: Sink>(
         (C.most_left script.old - C.most_left script.new)
         (O.flushes out.old) (O.flushes out.new) }
 {
-    run_session_in(alloc, alloc, problem, script, out, extra)
+    match open_text(alloc, problem, extra) {
+        Ok(session) => serve_session(session, script, out),
+        Err(end) => end,
+    }
 }
 
-/// Runs a session as `run_session` does, whose steps take their memory from an allocator of their own.
-pub fn run_session_in<A: Allocator + Copy, P: Source, C: Source, O: Sink>(
-    alloc: Global,
-    steps: A,
-    problem: &mut P,
+/// Runs a session that is open: writes what is told of its present moment, and then the reply to each turn of the command
+/// text, as `run_session` does. It is apart, so that tests can run a session whose steps take their memory elsewhere.
+pub fn serve_session<A: Allocator + Copy, C: Source, O: Sink>(
+    mut session: Session<A>,
     script: &mut C,
     out: &mut O,
-    extra: u32,
 ) -> End
-    requires problem { P.failures problem.old < 2 ^ 64 - 1 }
     requires script { C.failures script.old < 2 ^ 64 - 1 }
     requires out { O.failures out.old < 2 ^ 64 - 1 }
-    ensures { RunsSession P.Source C.Source O.Sink result extra
-        problem.old problem.new script.old script.new out.old out.new }
+    ensures served { ServesSession C.Source O.Sink result (state_of session)
+        script.old script.new out.old out.new }
+    ensures script { UsesSource C.Source (commands_whole result) (command_failures result)
+        script.old script.new }
+    ensures no_problem { problem_failures result ≡ 0 }
+    ensures out { UsesSink O.Sink result out.old out.new }
 {
-    let mut session = match open_text(alloc, steps, problem, extra) {
-        Ok(session) => session,
-        Err(end) => return end,
-    };
     match tell_opening(&session, out) {
         Ok(()) => {
             // While nothing is asked yet.

@@ -2,17 +2,16 @@
 ghost use Rattle.std.specs.Prelude.{◌≡◌, ◌-◌, ◌^◌, ◌<◌};
 ghost use Rattle.dimacs_io.specs.Calls.{PassesText};
 ghost use Rattle.dimacs_io.specs.Device.{RisesBy, text_over};
-ghost use Rattle.checker.specs.Check.{flushes_by, problem_failures, problem_whole};
-ghost use Rattle.checker.specs.Devices.{UsesSink, UsesSource};
+ghost use Rattle.runs.specs.Devices.{UsesSink, UsesSource, flushes_by, problem_failures, problem_whole};
 ghost use Rattle.session.specs.Session.{present};
 ghost use Rattle.engines.specs.Printing.{solution};
 ghost use Rattle.engines.specs.Solve.{SolveOnDevices, end_by};
 
 use crate::opening::open_text;
 use crate::solution::write_solution;
-use checker::End;
 use dimacs_io::{Broken, Sink, Source};
 use flow_solver::Verdict;
+use runs::End;
 use session::Session;
 use std::alloc::Global;
 
@@ -25,20 +24,21 @@ pub fn solve<P: Source, O: Sink>(alloc: Global, input: &mut P, out: &mut O, proo
     requires input { P.failures input.old < 2 ^ 64 - 1 }
     requires out { O.failures out.old < 2 ^ 64 - 1 }
 
-    // What is written is the printing of what is settled, and each end but that of memory has its cause.
+    // What is written is the printing of what is settled, and each end but that of memory has
+    // its cause.
     ensures solve { SolveOnDevices result proof
         (text_over P.remaining P.given input.old input.new)
         (P.most_left input.old - P.most_left input.new)
         (O.contents out.old) (O.contents out.new) }
 
-    // The text was read to its end where it was used. The end tells of each call that failed, which was
-    // the last on its device, and one flush passes on what is written.
+    // The text was read to its end where it was used. The end tells of each call that failed,
+    // which was the last on its device, and one flush passes on what is written.
     ensures input { UsesSource P.Source (problem_whole result) (problem_failures result)
         input.old input.new }
     ensures out { UsesSink O.Sink result out.old out.new }
     ensures out_flushed { RisesBy (flushes_by result) (O.flushes out.old) (O.flushes out.new) }
 {
-    let session = match open_text(alloc, alloc, input, 0) {
+    let session = match open_text(alloc, input, 0) {
         Ok(session) => session,
         Err(end) => return end,
     };

@@ -1,6 +1,6 @@
 //! The devices that a task read, as it left them.
 
-use checker::End;
+use runs::End;
 
 /// The devices of a task's texts. What each has given is what the task read: it was opened for the task.
 #[derive(Drop)]

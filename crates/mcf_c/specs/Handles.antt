@@ -1,8 +1,8 @@
 -- What stands behind a handle.
 use Rattle.std.specs.Prelude.{◌≡◌, ℕ, ℤ, pos, Bool, IfSome, List, MatchOption, Option, None, Some}
 use Rattle.std.specs.Option.{option_map, unwrap_or}
-use Rattle.calls.specs.declared.status.TheConstants.{CLOSED}
-use Rattle.calls.specs.Library.{given_of}
+use Rattle.c_calls.specs.declared.status.TheConstants.{CLOSED}
+use Rattle.c_calls.specs.Library.{given_of}
 use Rattle.dimacs_lines.specs.Lines.{Line}
 use Rattle.dimacs_text.specs.Group.{Gathered}
 use Rattle.flow_solver.specs.Moment.{Moment}
@@ -37,9 +37,12 @@ Goes old status new Step =
     MatchOption (state_behind old) ((status ≡ CLOSED) × (state_behind new ≡ None))
     (λ before. (number : ℕ) × (status ≡ pos number) × (after : SessionState) × (state_behind new ≡ Some after) × Step before number after)
 
--- this holds of the present moment behind a handle, where it is open
+-- this holds of the session behind a handle, where it is open; of its present moment
+abbrev pub AtSession : Handle → (SessionState → Type 0) → Type 0
+AtSession handle Holds = IfSome (state_behind handle) Holds
+
 abbrev pub AtPresent : Handle → (Moment → Type 0) → Type 0
-AtPresent handle Holds = IfSome (state_behind handle) (λ s. Holds s.moments.present)
+AtPresent handle Holds = AtSession handle (λ s. Holds s.moments.present)
 
 -- what is told of a list of the present moment, for a room of this length
 abbrev pub given_behind : Handle → (Moment → Bool) → (Moment → ℕ) → ℕ → ℤ

@@ -1,26 +1,26 @@
 //! What C calls, as `mcf.h` says: a flow problem answered at once, or a session of one behind a handle.
 //!
-//! Each call of a session takes it out of its handle, does its work on it by a function of `calls`, and puts it back.
+//! Each call of a session takes it out of its handle, does its work on it by a function of `c_calls`, and puts it back.
 #![tactic(auto)]
 
-ghost use Rattle.std.specs.Prelude.{◌≡◌, ◌≢◌, List, Option, None, pos, length, IfSome};
+ghost use Rattle.std.specs.Prelude.{◌≡◌, ◌≢◌, List, Option, None, pos, length};
 ghost use Rattle.dimacs_text.specs.declared.command.Command.TheVariants as commands;
 ghost use Rattle.network.specs.Instance.{IsBest};
 ghost use Rattle.session.specs.Parts.{flow_of};
 ghost use Rattle.dimacs_lines.specs.Lines.{Line};
 ghost use Rattle.session.specs.Step.{StepBy};
-ghost use Rattle.calls.specs.Arrays.{IsEven, IsFirstFault, IsOpeningBy};
-ghost use Rattle.calls.specs.Answer.{AreListsKept, IsSameRoom, IsSolved, IsTooShort};
-ghost use Rattle.calls.specs.declared.status.TheConstants.{FAULT, OTHER_LENGTH, TOO_SHORT};
-ghost use Rattle.calls.specs.Library.{AreGreatest, CertifyFlow, IsBreachOf, IsChosen, IsFaultOf, IsOpening, IsViewOf, NoneIsLegal, Steps, Took, arc_count, has_cut, has_flow, node_count};
-ghost use Rattle.mcf_c.specs.Handles.{AtPresent, Goes, HoldsLines, KeepsLines, given_behind, group_behind, state_behind};
+ghost use Rattle.c_calls.specs.Arrays.{IsEven, IsFirstFault, IsOpeningBy};
+ghost use Rattle.c_calls.specs.Answer.{AreListsKept, IsSameRoom, IsSolved, IsTooShort};
+ghost use Rattle.c_calls.specs.declared.status.TheConstants.{FAULT, OTHER_LENGTH, TOO_SHORT};
+ghost use Rattle.c_calls.specs.Library.{AreGreatest, CertifyFlow, IsBreachOf, IsChosen, IsFaultOf, IsOpening, IsViewOf, NoneIsLegal, Steps, Took, arc_count, has_cut, has_flow, node_count};
+ghost use Rattle.mcf_c.specs.Handles.{AtPresent, AtSession, Goes, HoldsLines, KeepsLines, given_behind, group_behind, state_behind};
 
 mod handle;
 mod loose;
 mod plan;
 mod pointer;
 
-use calls::{
+use c_calls::{
     Answer, ArrayFault, Arrays, CLOSED, Fault, MEMORY, OPEN, View, give_cut, give_flow,
     give_potentials, look, open_arrays, open_session, solve_text, take_line,
 };
@@ -59,7 +59,7 @@ pub extern "C" fn mcf_open(
     fault: &mut Fault,
 ) -> i32
     ensures was_closed { result ≡ pos 0 → state_behind handle.old ≡ None }
-    ensures opened { result ≡ pos 0 → IfSome (state_behind handle.new) (IsOpening text.now extra) }
+    ensures opened { result ≡ pos 0 → AtSession handle.new (IsOpening text.now extra) }
     ensures open { result ≡ pos 0 → state_behind handle.new ≢ None }
     ensures no_group { result ≡ pos 0 → group_behind handle.new ≡ None }
     ensures fault { result ≡ FAULT → IsFaultOf text.now fault.new }
@@ -105,13 +105,14 @@ pub extern "C" fn mcf_open_arrays(
     fault: &mut ArrayFault,
 ) -> i32
     ensures was_closed { result ≡ pos 0 → state_behind handle.old ≡ None }
-    ensures opened { result ≡ pos 0 → IfSome (state_behind handle.new) (IsOpeningBy arrays.now extra) }
+    ensures opened { result ≡ pos 0 → AtSession handle.new (IsOpeningBy arrays.now extra) }
     ensures open { result ≡ pos 0 → state_behind handle.new ≢ None }
     ensures no_group { result ≡ pos 0 → group_behind handle.new ≡ None }
     ensures lengths { result ≡ OTHER_LENGTH → IsEven arrays.now → ⊥ }
     ensures fault { result ≡ FAULT → IsEven arrays.now × IsFirstFault arrays.now fault.new }
     ensures in_use { result ≡ OPEN → state_behind handle.old ≢ None }
-    ensures otherwise { result ≢ pos 0 → result ≢ OTHER_LENGTH → result ≢ FAULT → result ≢ OPEN → result ≡ MEMORY }
+    ensures otherwise { result ≢ pos 0 → result ≢ OTHER_LENGTH → result ≢ FAULT → result ≢ OPEN
+        → result ≡ MEMORY }
     ensures no_fault { result ≢ FAULT → fault.new ≡ fault.old }
     ensures refused { result ≢ pos 0 → state_behind handle.new ≡ state_behind handle.old }
     ensures same_group { result ≢ pos 0 → group_behind handle.new ≡ group_behind handle.old }
@@ -168,7 +169,7 @@ pub extern "C" fn mcf_undo(alloc: Global, handle: &mut Handle) -> i32
     let Some(mut plan) = handle.take(alloc) else {
         return CLOSED;
     };
-    let number = calls::undo(&mut plan.session);
+    let number = c_calls::undo(&mut plan.session);
     handle.put(plan);
     i32::from(number)
 }
@@ -183,7 +184,7 @@ pub extern "C" fn mcf_redo(alloc: Global, handle: &mut Handle) -> i32
     let Some(mut plan) = handle.take(alloc) else {
         return CLOSED;
     };
-    let number = calls::redo(&mut plan.session);
+    let number = c_calls::redo(&mut plan.session);
     handle.put(plan);
     i32::from(number)
 }
@@ -191,8 +192,8 @@ pub extern "C" fn mcf_redo(alloc: Global, handle: &mut Handle) -> i32
 /// Tells the verdict of the present moment, its sizes, and how many moments are past and future. Answers 0 or `CLOSED`.
 #[unsafe(no_mangle)]
 pub extern "C" fn mcf_look(alloc: Global, handle: &mut Handle, view: &mut View) -> i32
-    ensures status { IfSome (state_behind handle.old) (λ _. result ≡ pos 0) }
-    ensures shown { IfSome (state_behind handle.old) (λ s. IsViewOf s.moments view.new) }
+    ensures status { AtSession handle.old (λ _. result ≡ pos 0) }
+    ensures shown { AtSession handle.old (λ s. IsViewOf s.moments view.new) }
     ensures closed { state_behind handle.old ≡ None → (result ≡ CLOSED) × (view.new ≡ view.old) }
     ensures unchanged { state_behind handle.new ≡ state_behind handle.old }
     ensures group { group_behind handle.new ≡ group_behind handle.old }

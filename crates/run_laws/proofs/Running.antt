@@ -13,9 +13,9 @@ use Rattle.flow_solver.specs.declared.verdict.Verdict.{Verdict}
 use Rattle.session.specs.declared.refusal.StepRefusal.TheVariants as refusal
 use Rattle.session.specs.Refusal.{number_of}
 use Rattle.session.specs.Step.{Reply, TellsVerdict, Shows, Refuses, SessionState}
-use Rattle.checker.specs.Check.{IsProblemText}
-use Rattle.checker.specs.declared.end.End.{End}
-use Rattle.checker.specs.declared.end.End.TheVariants.{Ended}
+use Rattle.runs.specs.Reading.{IsProblemText}
+use Rattle.runs.specs.declared.end.End.{End}
+use Rattle.runs.specs.declared.end.End.TheVariants.{Ended}
 use Rattle.engines.specs.Opening.{Opens}
 use Rattle.engines.specs.Printing.{reply_text, outcome_line, solution}
 use Rattle.engines.specs.Run.{Run}

@@ -3,7 +3,7 @@ use mir.Val.{SFits}
 use Rattle.std.proofs.Math.Facts.{to_z-of_z}
 use Rattle.std.specs.Option.{IfSome, option_map}
 use Rattle.session.specs.Step.{state_of}
-use Rattle.calls.specs.Library.{IsBreachOf}
+use Rattle.c_calls.specs.Library.{IsBreachOf}
 use Rattle.mcf_c.specs.declared.plan.Plan.{Plan}
 use Rattle.mcf_c.proofs.mcf_cut.Goals as goal
 

@@ -1,6 +1,6 @@
 use Rattle.std.proofs.Common.{Ok, Err, ap, length, rules}
 use Rattle.checker.proofs.CheckLemmas.{AreJudged, CheckOnDevices-problem, CheckOnDevices-answer, CheckOnDevices-stopped, ReadsKnown-sized}
-use Rattle.checker.proofs.SourceLemmas.{IsRead-answer, IsRead-no_answer, IsRead-problem, IsRead-whole}
+use Rattle.runs.proofs.SourceLemmas.{UsesSink-answer, UsesSink-problem, UsesSource-answer, UsesSource-no_answer, UsesSource-problem, UsesSource-problem_before, UsesSource-read}
 use Rattle.checker.proofs.checking.check.Goals as goal
 
 pub returns-in-Err-clause-check : goal.returns-in-Err-clause-check
@@ -21,20 +21,27 @@ returns-clause-check g c =
 pub returns-in-Err-is_right-clause-check : goal.returns-in-Err-is_right-clause-check
 returns-in-Err-is_right-clause-check g c = search rules
 
-pub returns-in-Err-is_right-clause-out_failed : goal.returns-in-Err-is_right-clause-out_failed
-returns-in-Err-is_right-clause-out_failed g c = search rules
+-- ---- what the run did to its devices
 
--- ---- which texts were read to their ends
+pub returns-in-Err-clause-problem : goal.returns-in-Err-clause-problem
+returns-in-Err-clause-problem g c =
+    rw c.end.ensures (UsesSource-problem g.P.Source c.in-Err.error _ _ c.in-Err.ensures.grows c.in-Err.ensures.failed c.in-Err.ensures.last)
 
-pub returns-in-Err-clause-problem_read : goal.returns-in-Err-clause-problem_read
-returns-in-Err-clause-problem_read g c = rw c.end.ensures (IsRead-problem c.in-Err.error _ _ _ c.in-Err.ensures.grows)
+pub returns-in-Err-clause-answer : goal.returns-in-Err-clause-answer
+returns-in-Err-clause-answer g c = rw c.end.ensures (UsesSource-no_answer g.A.Source c.in-Err.error _)
 
-pub returns-in-Err-clause-answer_read : goal.returns-in-Err-clause-answer_read
-returns-in-Err-clause-answer_read g c = rw c.end.ensures (IsRead-no_answer c.in-Err.error _ _)
+pub returns-in-Err-clause-out : goal.returns-in-Err-clause-out
+returns-in-Err-clause-out g c = rw c.end.ensures (UsesSink-problem g.O.Sink c.in-Err.error _)
 
-pub returns-in-Err-read_answer-clause-problem_read : goal.returns-in-Err-read_answer-clause-problem_read
-returns-in-Err-read_answer-clause-problem_read g c = IsRead-whole _ _ _ _ c.in-Ok.ensures.grows
+pub returns-in-Err-read_answer-clause-problem : goal.returns-in-Err-read_answer-clause-problem
+returns-in-Err-read_answer-clause-problem g c =
+    rw c.end-in-Err-read_answer.ensures (UsesSource-problem_before g.P.Source c.in-Err-read_answer.error _ _
+    (UsesSource-read g.P.Source _ _ c.in-Ok.ensures.grows c.in-Ok.ensures.failed))
 
-pub returns-in-Err-read_answer-clause-answer_read : goal.returns-in-Err-read_answer-clause-answer_read
-returns-in-Err-read_answer-clause-answer_read g c =
-    rw c.end-in-Err-read_answer.ensures (IsRead-answer c.in-Err-read_answer.error _ _ _ c.in-Err-read_answer.ensures.grows)
+pub returns-in-Err-read_answer-clause-answer : goal.returns-in-Err-read_answer-clause-answer
+returns-in-Err-read_answer-clause-answer g c =
+    let read = c.in-Err-read_answer.ensures in
+    rw c.end-in-Err-read_answer.ensures (UsesSource-answer g.A.Source c.in-Err-read_answer.error _ _ read.grows read.failed read.last)
+
+pub returns-in-Err-read_answer-clause-out : goal.returns-in-Err-read_answer-clause-out
+returns-in-Err-read_answer-clause-out g c = rw c.end-in-Err-read_answer.ensures (UsesSink-answer g.O.Sink c.in-Err-read_answer.error _)

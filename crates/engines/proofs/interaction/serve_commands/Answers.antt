@@ -1,5 +1,5 @@
 use Rattle.std.proofs.Common.{[], ◌++◌, take, inl, inr, refl, ◌∙◌, arith, rules}
-use Rattle.checker.proofs.SourceLemmas.{GivesAndLogs-nil, GivesAndLogs-more, GivesAndLogs-none}
+use Rattle.runs.proofs.SourceLemmas.{GivesAndLogs-nil, GivesAndLogs-more, GivesAndLogs-none}
 use Rattle.engines.proofs.RunLemmas.{Stands-begin, Stopped-from_err, Stands-from_ok, failed_from_err, passed_on_from_ok, same_from_ok}
 use Rattle.engines.proofs.interaction.serve_commands.Goals as goal
 

@@ -1,5 +1,5 @@
 use Rattle.std.proofs.Common.{inl, inr, arith, refl}
-use Rattle.checker.proofs.SourceLemmas.{IsRead-whole, UsesSource-problem, UsesSource-read}
+use Rattle.runs.proofs.SourceLemmas.{IsRead-whole, UsesSource-problem, UsesSource-read}
 use Rattle.engines.proofs.opening.open_text.Goals as goal
 
 pub returns-in-Err-clause-ended : goal.returns-in-Err-clause-ended
@@ -18,16 +18,16 @@ returns-clause-ended g c = record {
   };
 }
 
-pub returns-in-Ok-open_in-clause-opened : goal.returns-in-Ok-open_in-clause-opened
-returns-in-Ok-open_in-clause-opened g c = record {
+pub returns-in-Ok-open-clause-opened : goal.returns-in-Ok-open-clause-opened
+returns-in-Ok-open-clause-opened g c = record {
   opened = record {
     problem = c.in-Ok.problem;
     problem_read = c.in-Ok.ensures.known;
     opens = record {
-      past = c.in-Ok-open_in.ensures.past;
-      settled = record { instance_is = c.in-Ok-open_in.ensures.instance; answered = c.in-Ok-open_in.ensures.answered };
-      future = c.in-Ok-open_in.ensures.future;
-      marks = c.in-Ok-open_in.ensures.marks;
+      past = c.in-Ok-open.ensures.past;
+      settled = record { instance_is = c.in-Ok-open.ensures.instance; answered = c.in-Ok-open.ensures.answered };
+      future = c.in-Ok-open.ensures.future;
+      marks = c.in-Ok-open.ensures.marks;
     };
   };
   source = UsesSource-read g.P.Source _ _ c.in-Ok.ensures.grows c.in-Ok.ensures.failed;

@@ -1,5 +1,5 @@
 use Rattle.std.proofs.Common.{◌∙◌}
-use Rattle.checker.proofs.SourceLemmas.{UsesSource-whole}
+use Rattle.runs.proofs.SourceLemmas.{UsesSource-whole}
 use Rattle.engines.proofs.OpeningLemmas.{unopened_flushes, unopened_sink}
 use Rattle.engines.proofs.SolveLemmas.{SolveOnDevices-unopened, SolveOnDevices-stopped, SolveOnDevices-solved, no_problem_failed, written_count, written_flushed, written_last}
 use Rattle.engines.proofs.solving.solve.Goals as goal

@@ -1,0 +1,19 @@
+use Rattle.std.proofs.Common.{◌∙◌, rules, w32, sym}
+use mir.Val.{SFits}
+use Rattle.std.proofs.Math.Facts.{to_z-of_z}
+use Rattle.c_calls.proofs.ListLemmas.{certified, given_there}
+use Rattle.c_calls.proofs.lists.give_potentials.Goals as goal
+
+pub returns-clause-certified : goal.returns-clause-certified
+returns-clause-certified c same =
+    let fits : SFits w32 c.give.result = search rules in
+    let zero = sym (to_z-of_z fits) ∙ same in
+    let there = given_there _ _ _ (sym c.give.ensures.status ∙ zero) in
+    let m = c.args.session.now.moments.present in
+    rw (c.give.ensures.copied zero ∙ c.potentials.ensures.value) (certified m c.is_feasible.ensures.answered (sym c.is_feasible.ensures.value ∙ there))
+
+pub returns-clause-greatest : goal.returns-clause-greatest
+returns-clause-greatest c same =
+    let fits : SFits w32 c.give.result = search rules in
+    let zero = sym (to_z-of_z fits) ∙ same in
+    rw (c.give.ensures.copied zero ∙ c.potentials.ensures.value) c.is_feasible.ensures.answered.greatest

@@ -1,7 +1,0 @@
-use Rattle.std.proofs.Common.{◌≡◌, ◌<◌, ℕ, Ok, length}
-use Rattle.calls.specs.Arrays.{row_at, test_row}
-use Rattle.calls.proofs.array_fault.faulty_arc.Given as goal
-
--- no arc so far has a fault
-abbrev pub invariant-loop-place : goal.invariant-loop-place
-invariant-loop-place l = (i : ℕ) → i < l.place → test_row (length l.arrays.supply.now) (row_at l.arrays i) ≡ Ok tt

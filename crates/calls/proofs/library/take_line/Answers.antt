@@ -1,5 +1,0 @@
-use Rattle.std.proofs.Common.{rules}
-use Rattle.calls.proofs.library.take_line.Goals as goal
-
-pub returns-then-is_blank-clause-took : goal.returns-then-is_blank-clause-took
-returns-then-is_blank-clause-took c = search rules

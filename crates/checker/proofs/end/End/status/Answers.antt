@@ -1,5 +1,0 @@
-use Rattle.std.proofs.Common.{rules}
-use Rattle.checker.proofs.end.End.status.Goals as goal
-
-pub returns-in-Infeasible : goal.returns-in-Infeasible
-returns-in-Infeasible c = search rules

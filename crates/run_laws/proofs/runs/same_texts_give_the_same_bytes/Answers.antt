@@ -1,5 +1,0 @@
-use Rattle.run_laws.proofs.Running.{sessions_alike}
-use Rattle.run_laws.proofs.runs.same_texts_give_the_same_bytes.Goals as goal
-
-pub returns : goal.returns
-returns c = sessions_alike

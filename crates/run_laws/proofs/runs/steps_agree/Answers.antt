@@ -1,5 +1,0 @@
-use Rattle.run_laws.proofs.Stepping.{turns_alike}
-use Rattle.run_laws.proofs.runs.steps_agree.Goals as goal
-
-pub returns : goal.returns
-returns c = turns_alike

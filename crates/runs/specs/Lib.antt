@@ -1,0 +1,3 @@
+pub mod End
+pub mod Reading
+pub mod Devices
