@@ -23,6 +23,9 @@ from .residual import Forest, Residual, ResidualArc
 Way = Tuple[int, int]
 """A residual arc between trees as a search sees it: its reduced cost, and the tree that it leads to."""
 
+Heap = List[Tuple[int, ...]]
+"""What is due in a search, the least key first: the next way of a row, as (key, row, at)."""
+
 Places = Tuple[int, int]
 """The places of nodes in the order of a forest, from the first up to before the second."""
 
@@ -184,38 +187,40 @@ def strong_components(leaving: List[List[Way]]) -> List[int]:
     return component
 
 
-def take_way(heap: List[Tuple[int, int, int]], ways: List[List[Way]], known: Dict[int, int]) -> Tuple[int, int]:
-    """Takes the way that is due: the tree that it comes from, and the one that it leads to. The next way of that tree
-    that leads to none of those that are known is due later."""
-    key, tree, at = heap[0]
-    row = ways[tree]
-    reduced, other = row[at]
+def settle_next(heap: Heap, ways: List[List[Way]], settled: Dict[int, int]) -> Optional[int]:
+    """Takes the way that is due, and settles the tree that it leads to, at its key; the first way on from there is due
+    then. None where that tree was settled. The next way of the same row that leads to another tree is due later."""
+    key, number, at = heap[0]
+    row = ways[number]
+    reduced, tree = row[at]
+    is_new = tree not in settled
+    if is_new:
+        settled[tree] = key
     at += 1
-    while at < len(row) and row[at][1] in known:
+    while at < len(row) and row[at][1] in settled:
         at += 1
     if at < len(row):
-        heapreplace(heap, (key - reduced + row[at][0], tree, at))
+        heapreplace(heap, (key - reduced + row[at][0], number, at))
     else:
         heappop(heap)
-    return tree, other
+    if not is_new:
+        return None
+    onward = ways[tree]
+    if onward:
+        heappush(heap, (key + onward[0][0], tree, 0))
+    return tree
 
 
 def ball_around(start: int, ways: List[List[Way]], most: int) -> Ball:
     """The ball of so many trees from which, by `ways`, one is reached, or that it reaches."""
     settled = {start: 0}
-    heap = [(ways[start][0][0], start, 0)] if ways[start] else []
+    heap: Heap = [(ways[start][0][0], start, 0)] if ways[start] else []
     radius = None
     while heap:
-        key = heap[0][0]
         if len(settled) >= most:
-            radius = key
+            radius = heap[0][0]
             break
-        _, other = take_way(heap, ways, settled)
-        if other not in settled:
-            settled[other] = key
-            row = ways[other]
-            if row:
-                heappush(heap, (key + row[0][0], other, 0))
+        settle_next(heap, ways, settled)
     return Ball(array("i", settled), array("q", settled.values()), radius)
 
 
@@ -234,9 +239,9 @@ class Meeting:
         self.settled: Dict[int, int] = {}
         self.seen: Dict[int, int] = {}
         self.hubs: List[Tuple[int, Dict[int, int]]] = []
-        self.heap: List[Tuple[int, int, int]] = []
         # The start is not settled itself: where it is an end too, the shortest circle is wanted.
-        self._go_on(start, 0)
+        self.heap: Heap = [(ways.leaving[start][0][0], start, 0)] if ways.leaving[start] else []
+        self._look_ahead(start, 0)
 
     def run(self, balls: Balls) -> List[Optional[int]]:
         """The distances; None where no way leads there."""
@@ -248,11 +253,9 @@ class Meeting:
             size *= 2
         return self.best
 
-    def _go_on(self, tree: int, distance: int) -> None:
+    def _look_ahead(self, tree: int, distance: int) -> None:
         """Looks at the ways from a tree at this distance."""
         row = self.ways.leaving[tree]
-        if row:
-            heappush(self.heap, (distance + row[0][0], tree, 0))
         if len(row) > MOST_AHEAD:
             self.hubs.append((distance, self.ways.lengths(tree)))
             return
@@ -269,10 +272,9 @@ class Meeting:
             key = heap[0][0]
             if limit is not None and key >= limit:
                 break
-            _, other = take_way(heap, ways, settled)
-            if other not in settled:
-                settled[other] = key
-                self._go_on(other, key)
+            tree = settle_next(heap, ways, settled)
+            if tree is not None:
+                self._look_ahead(tree, key)
 
     def _meet(self, balls: Balls, size: int) -> Optional[int]:
         """Looks where the search meets the balls, and forgets the ends to which the shortest way is known then. Tells
@@ -409,8 +411,8 @@ class Wave:
         self.least = around.least_leaving if is_forward else around.least_entering
         self.onward = around.trees.leaving_to if is_forward else around.trees.entering_from
         self.settled: Dict[int, int] = {self.own: NOWHERE}
-        # After the key: the next way of a row (row, at), or that of a node among those at some places (-1, place, ..).
-        self.heap: List[Tuple[int, ...]] = []
+        # With -1 for the row: the first way of a node, at one of some places, as (key, -1, place, begin, end).
+        self.heap: Heap = []
         begin, end = forest.span[self.own]
         for places in [(self.low, self.high)] if is_below else [(begin, self.low), (self.high, end)]:
             self._add_places(*places)
@@ -426,27 +428,9 @@ class Wave:
 
     def grow(self) -> Optional[int]:
         """Takes the next way; the tree that it settles, or None where it leads to one that is settled."""
-        heap, settled, rows = self.heap, self.settled, self.rows
-        while heap[0][1] < 0:
+        while self.heap[0][1] < 0:
             self._open_places()
-        key, number, at = heap[0]
-        row = rows[number]
-        reduced, other = row[at]
-        at += 1
-        # The next way of the row that leads elsewhere is due later.
-        while at < len(row) and row[at][1] in settled:
-            at += 1
-        if at < len(row):
-            heapreplace(heap, (key - reduced + row[at][0], number, at))
-        else:
-            heappop(heap)
-        if other in settled:
-            return None
-        settled[other] = key
-        ways = rows[other]
-        if ways:
-            heappush(heap, (key + ways[0][0], other, 0))
-        return other
+        return settle_next(self.heap, self.rows, self.settled)
 
     def _open_places(self) -> None:
         """Puts the row of the node whose first way is due in place of the places among which it is."""
