@@ -1,6 +1,7 @@
 """The page of the board in a real browser: Chromium, headless, by selenium; passed over where these are not installed.
 
-BOARD_PICTURES may name a folder: pictures of the page at both widths are kept there, to be looked at.
+BOARD_PICTURES may name a folder: pictures of the page at both widths are kept there, to be looked at. With docs/pictures
+for it, `-k tutorial` makes the picture of docs/PLANNING.md.
 """
 
 import http.server

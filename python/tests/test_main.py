@@ -26,6 +26,9 @@ TOP = Path(__file__).resolve().parents[2]
 COMMAND = str(TOP / "mcf-plan")
 NODES = "town,supply\nKiel,5\nUlm,-3.5\nBonn,-1.5\n"
 ARCS = "from,to,capacity,cost,name\nKiel,Ulm,2,1.25,road\nKiel,Ulm,,4,rail\nKiel,Bonn,9,2,\n"
+TAKEN = """note: amounts go in steps of 0.1, by the decimals in the tables
+note: 1 arc without a capacity may carry any amount
+"""
 
 
 def waited_for(condition, seconds=60):
@@ -106,7 +109,7 @@ class Command(unittest.TestCase):
         ):
             with self.subTest(words):
                 out, errors = self.run_it(command, self.nodes, self.arcs, *words, status=4)
-                self.assertEqual((out, errors), ("", f"mcf-plan: {words[-1]}: No such file or directory\n"))
+                self.assertEqual((out, errors), ("", f"{TAKEN}mcf-plan: {words[-1]}: No such file or directory\n"))
 
     def test_no_plan(self):
         nodes = self.file("more.csv", NODES.replace("5\n", "15\n", 1))
@@ -216,7 +219,7 @@ class Command(unittest.TestCase):
         ):
             with self.subTest(words), mock.patch.dict(os.environ, environment):
                 _, errors = self.run_it(words[0], self.nodes, self.arcs, *words[1:], status=3)
-                self.assertEqual(errors, f"mcf-plan: there is no {unknown}\n")
+                self.assertEqual(errors, f"{TAKEN}mcf-plan: there is no {unknown}\n")
                 self.assertFalse(begun.exists())
 
     def test_ranges_of_supplies(self):
@@ -317,7 +320,7 @@ class Command(unittest.TestCase):
         ):
             with self.subTest(words):
                 out, errors = self.run_it("sweep", self.nodes, self.arcs, *words, status=3)
-                self.assertEqual((out, errors), ("", f"mcf-plan: {reason}\n"))
+                self.assertEqual((out, errors), ("", f"{TAKEN}mcf-plan: {reason}\n"))
 
     def test_what_if(self):
         commands = self.file(
@@ -360,7 +363,7 @@ class Command(unittest.TestCase):
             + "\n",
         )
         out, errors = self.run_it("what-if", self.nodes, self.arcs, "--commands", commands)
-        self.assertEqual(errors, "")
+        self.assertEqual(errors, TAKEN)
         for words in (
             "cost 11.5\nwhat if> cap road 1.5\ncost 12.875 (1.375 more)\nwhat if> undo\ncost 11.5 (1.375 less)\n",
             "no plan: short by 0.5; `why` tells more",
@@ -424,7 +427,7 @@ class Command(unittest.TestCase):
     def test_ctrl_c(self):
         status, errors, took = self.ended_by(signal.SIGINT, *self.slow_program())
         self.assertLess(took, HEARD)
-        self.assertEqual((status, errors), (130, "mcf-plan: interrupted\n"))
+        self.assertEqual((status, errors), (130, f"{TAKEN}mcf-plan: interrupted\n"))
 
     def test_signals_that_end_it_end_mcf_too(self):
         """Whoever ends mcf-plan, be it by SIGKILL, ends the program that works for it."""
@@ -433,7 +436,7 @@ class Command(unittest.TestCase):
                 with self.subTest(number=number, command=words[0]):
                     environment, begun = self.slow_program()
                     status, errors, took = self.ended_by(number, environment, begun, *words)
-                    self.assertEqual((status, errors), (-number, ""))
+                    self.assertEqual((status, errors), (-number, TAKEN))
                     self.assertLess(took, HEARD)
                     self.assertTrue(waited_for(lambda: not is_running(int(begun.read_text()))))
 
@@ -461,9 +464,8 @@ class Command(unittest.TestCase):
                     text=True,
                     check=False,
                 )
-                self.assertEqual(
-                    (done.returncode, done.stdout, done.stderr), (124, "", "mcf-plan: no answer within 0.8 seconds\n")
-                )
+                late = f"{TAKEN}mcf-plan: no answer within 0.8 seconds\n"
+                self.assertEqual((done.returncode, done.stdout, done.stderr), (124, "", late))
 
     def test_time_limit_counts_the_reading(self):
         pipe = str(Path(self.folder.name) / "pipe.csv")
@@ -494,7 +496,7 @@ class Command(unittest.TestCase):
         with socket.create_server(("127.0.0.1", 0)) as taken:
             port = str(taken.getsockname()[1])
             _, errors = self.run_it("board", self.nodes, self.arcs, "--port", port, status=4)
-        self.assertEqual(errors, f"mcf-plan: port {port}: Address already in use\n")
+        self.assertEqual(errors, f"{TAKEN}mcf-plan: port {port}: Address already in use\n")
 
     def test_picture_that_cannot_be_read(self):
         rows = "".join(f"Kiel,Ulm,1,{cost}\n" for cost in range(3001))

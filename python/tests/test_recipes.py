@@ -106,7 +106,9 @@ class Recipes(unittest.TestCase):
 
     def test_the_fewest_vehicles(self) -> None:
         """Each order of the trips, cut where one cannot follow the one before it, is a number of vehicles."""
-        trips = [(row["from"].split(), row["to"].split()) for row in rows("timetable") if row["name"][:4] == "trip"]
+        trips = [
+            (row["from"].split("-"), row["to"].split("-")) for row in rows("timetable") if row["name"][:4] == "trip"
+        ]
         self.assertEqual(len(trips), 4)
         vehicles = min(
             1

@@ -100,8 +100,8 @@ class ReportTest(unittest.TestCase):
         """What was taken for the user, and what it means for the plan; nothing of the text that the program reads."""
         taken = [
             "a.csv: the column 'weight' is left aside",
-            "amounts go in steps of 0.1, by the decimals in the tables: the plan sends multiples of it",
-            "1 arc has no capacity in the tables, and may carry any amount",
+            "amounts go in steps of 0.1, by the decimals in the tables",
+            "1 arc without a capacity may carry any amount",
         ]
         problem = towns()
         problem.notes.append(taken[0])

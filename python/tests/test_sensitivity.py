@@ -8,6 +8,7 @@ import unittest
 from decimal import Decimal
 from pathlib import Path
 from typing import Optional, Tuple
+from unittest import mock
 
 sys.path.insert(0, str(Path(__file__).resolve().parent))
 import drawing  # noqa: E402
@@ -264,6 +265,20 @@ class Sensitivity(unittest.TestCase):
                 self.compare(problem, surplus)
         finally:
             ranging.MANY, around.AT_ONCE, around.MOST_STATES = before
+
+    def test_whole_units(self) -> None:
+        """Where amounts have decimals, what a whole unit saves or costs is solved anew only where it can't go along a way
+        as short as that of the first step."""
+        for ferry, saves, costs, is_anew in (("0", "7", "-9", False), ("0.5", "5", "-7", True)):
+            problem = Problem()
+            problem.add_node("works", "2.5")
+            problem.add_node("shop", "-2.5")
+            for cap, cost in (("1.5", 2), (ferry, 5), (9, 9)):
+                problem.add_arc("works", "shop", cap=cap, cost=cost)
+            with Session(problem) as session, mock.patch.object(session, "beside", side_effect=session.beside) as anew:
+                self.assertEqual(one_unit_more(session)[0], Decimal(saves))
+                self.assertEqual(supply_prices(session, "shop")[0].one_less, Decimal(costs))
+                self.assertEqual(anew.called, is_anew)
 
     def test_large_tree(self) -> None:
         """A network with large trees of free arcs: their ways around found together are those found one by one."""

@@ -14,7 +14,7 @@ from __future__ import annotations
 from heapq import heapify, heappop, heappush, heapreplace
 from typing import Callable, Dict, List, Optional, Sequence, Tuple
 
-from .detours import Around, Crossing, Way, take_way, uncovered
+from .detours import Around, Crossing, Heap, Way, settle_next, uncovered
 
 AT_ONCE = 16
 """So many ways of a row are looked at together; those behind them when the first of them is due."""
@@ -36,7 +36,7 @@ class Home:
     def __init__(self, own: int, ways: List[List[Way]], direct: Callable[[int], int]):
         self.known, self.ends = {own: 0}, {own: -1}
         self._own, self._ways, self._direct = own, ways, direct
-        self._heap = [(ways[own][0][0], own, 0)] if ways[own] else []
+        self._heap: Heap = [(ways[own][0][0], own, 0)] if ways[own] else []
 
     def radius(self) -> Optional[int]:
         """The trees that are not known are so far away, or more; None where no way leads home from them."""
@@ -46,13 +46,10 @@ class Home:
         """Finds more trees, until there are so many, or the wanted one is known."""
         heap, known, ways = self._heap, self.known, self._ways
         while heap and len(known) < most and wanted not in known:
-            key = heap[0][0]
-            tree, other = take_way(heap, ways, known)
-            if other not in known:
-                known[other] = key
+            tree = heap[0][1]
+            other = settle_next(heap, ways, known)
+            if other is not None:
                 self.ends[other] = self._direct(other) if tree == self._own else self.ends[tree]
-                if ways[other]:
-                    heappush(heap, (key + ways[other][0][0], other, 0))
 
 
 class Search:

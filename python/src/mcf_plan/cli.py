@@ -10,7 +10,7 @@ from contextlib import ExitStack
 from decimal import Decimal
 from io import StringIO
 from pathlib import Path
-from typing import Callable, Dict, List, NoReturn, Optional, Tuple
+from typing import Callable, Dict, Iterable, List, NoReturn, Optional, Tuple
 
 from . import __version__
 from .conversation import Conversation
@@ -19,6 +19,7 @@ from .dimacs import Fault, find_answer_fault, find_fault, parse_problem
 from .explain import explain
 from .formats import as_str
 from .hints import PACKED
+from .meaning import amounts_of, taken_for
 from .plan import Disagreement, Plan
 from .printing import of_system, say, tell, visible
 from .problem import Problem, exact, plain
@@ -323,14 +324,20 @@ def _port(text: str) -> int:
 def _read(options: argparse.Namespace) -> Problem:
     """The problem of the tables, or of the text, that the command line names; its notes are told."""
     problem = _read_source(options)
-    _tell_notes(problem)
+    _tell_of(problem)
     return problem
 
 
-def _tell_notes(problem: Problem) -> None:
+def _tell_notes(notes: Iterable[str]) -> None:
     """Prints what was chosen for the user."""
-    for note in problem.notes:
+    for note in notes:
         say(f"note: {note}", sys.stderr)
+
+
+def _tell_of(problem: Problem) -> None:
+    """Prints what was chosen for the user when the problem was read, and how its tables are taken."""
+    _tell_notes(problem.notes)
+    _tell_notes(taken_for(problem, amounts_of(problem)))
 
 
 def _read_source(options: argparse.Namespace) -> Problem:
@@ -384,7 +391,7 @@ def _plan(options: argparse.Namespace) -> int:
         progress.now("reading the tables")
         problem = _read_source(options)
         progress.clear()
-        _tell_notes(problem)
+        _tell_of(problem)
         too_large = not_drawn(problem)
         if options.picture and too_large:
             raise BeyondLimits(f"--picture: {too_large}")
@@ -496,10 +503,10 @@ def _tell_fault(fault: Fault, name: str, raw: bytes) -> None:
 
 
 def _convert(options: argparse.Namespace) -> int:
-    problem = _read(options)
+    problem = _read_source(options)
+    _tell_notes(problem.notes)
     rewriting = rewrite(problem, Options(options.surplus))
-    for note in rewriting.notes:
-        say(f"note: {note}", sys.stderr)
+    _tell_notes(rewriting.notes)
     lift_alarm()
     if options.output:
         Path(options.output).write_text(rewriting.text)

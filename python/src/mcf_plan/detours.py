@@ -23,11 +23,17 @@ from .residual import Forest, Residual, ResidualArc
 Way = Tuple[int, int]
 """A residual arc between trees as a search sees it: its reduced cost, and the tree that it leads to."""
 
+Heap = List[Tuple[int, ...]]
+"""What is due in a search, the least key first: the next way of a row, as (key, row, at)."""
+
 Places = Tuple[int, int]
 """The places of nodes in the order of a forest, from the first up to before the second."""
 
 LEAST_BALL = 24
 """So many trees a ball has at first, where there are as many."""
+
+NOWHERE = 1 << 200
+"""Longer than any way: the length where there is none."""
 
 MOST_AHEAD = 1000
 """A tree with more ways than this is a hub: its ways are not gone through each time that it is settled."""
@@ -181,38 +187,40 @@ def strong_components(leaving: List[List[Way]]) -> List[int]:
     return component
 
 
-def take_way(heap: List[Tuple[int, int, int]], ways: List[List[Way]], known: Dict[int, int]) -> Tuple[int, int]:
-    """Takes the way that is due: the tree that it comes from, and the one that it leads to. The next way of that tree
-    that leads to none of those that are known is due later."""
-    key, tree, at = heap[0]
-    row = ways[tree]
-    reduced, other = row[at]
+def settle_next(heap: Heap, ways: List[List[Way]], settled: Dict[int, int]) -> Optional[int]:
+    """Takes the way that is due, and settles the tree that it leads to, at its key; the first way on from there is due
+    then. None where that tree was settled. The next way of the same row that leads to another tree is due later."""
+    key, number, at = heap[0]
+    row = ways[number]
+    reduced, tree = row[at]
+    is_new = tree not in settled
+    if is_new:
+        settled[tree] = key
     at += 1
-    while at < len(row) and row[at][1] in known:
+    while at < len(row) and row[at][1] in settled:
         at += 1
     if at < len(row):
-        heapreplace(heap, (key - reduced + row[at][0], tree, at))
+        heapreplace(heap, (key - reduced + row[at][0], number, at))
     else:
         heappop(heap)
-    return tree, other
+    if not is_new:
+        return None
+    onward = ways[tree]
+    if onward:
+        heappush(heap, (key + onward[0][0], tree, 0))
+    return tree
 
 
 def ball_around(start: int, ways: List[List[Way]], most: int) -> Ball:
     """The ball of so many trees from which, by `ways`, one is reached, or that it reaches."""
     settled = {start: 0}
-    heap = [(ways[start][0][0], start, 0)] if ways[start] else []
+    heap: Heap = [(ways[start][0][0], start, 0)] if ways[start] else []
     radius = None
     while heap:
-        key = heap[0][0]
         if len(settled) >= most:
-            radius = key
+            radius = heap[0][0]
             break
-        _, other = take_way(heap, ways, settled)
-        if other not in settled:
-            settled[other] = key
-            row = ways[other]
-            if row:
-                heappush(heap, (key + row[0][0], other, 0))
+        settle_next(heap, ways, settled)
     return Ball(array("i", settled), array("q", settled.values()), radius)
 
 
@@ -231,9 +239,9 @@ class Meeting:
         self.settled: Dict[int, int] = {}
         self.seen: Dict[int, int] = {}
         self.hubs: List[Tuple[int, Dict[int, int]]] = []
-        self.heap: List[Tuple[int, int, int]] = []
         # The start is not settled itself: where it is an end too, the shortest circle is wanted.
-        self._go_on(start, 0)
+        self.heap: Heap = [(ways.leaving[start][0][0], start, 0)] if ways.leaving[start] else []
+        self._look_ahead(start, 0)
 
     def run(self, balls: Balls) -> List[Optional[int]]:
         """The distances; None where no way leads there."""
@@ -245,11 +253,9 @@ class Meeting:
             size *= 2
         return self.best
 
-    def _go_on(self, tree: int, distance: int) -> None:
+    def _look_ahead(self, tree: int, distance: int) -> None:
         """Looks at the ways from a tree at this distance."""
         row = self.ways.leaving[tree]
-        if row:
-            heappush(self.heap, (distance + row[0][0], tree, 0))
         if len(row) > MOST_AHEAD:
             self.hubs.append((distance, self.ways.lengths(tree)))
             return
@@ -266,10 +272,9 @@ class Meeting:
             key = heap[0][0]
             if limit is not None and key >= limit:
                 break
-            _, other = take_way(heap, ways, settled)
-            if other not in settled:
-                settled[other] = key
-                self._go_on(other, key)
+            tree = settle_next(heap, ways, settled)
+            if tree is not None:
+                self._look_ahead(tree, key)
 
     def _meet(self, balls: Balls, size: int) -> Optional[int]:
         """Looks where the search meets the balls, and forgets the ends to which the shortest way is known then. Tells
@@ -388,76 +393,71 @@ class Least:
 
 
 class Wave:
-    """A search from a part of a tree, or towards it, through other trees.
+    """A search from a part of a tree, or towards it, through other trees. The part is what is below a free arc, whose
+    lower end is `node`, or what is beside that.
 
-    `rows` are the ways of each node between its tree and others, `least` the first of each by the nodes' places, and
-    `ways` those between trees. Trees are settled in the order of their distance; `own` is never entered.
+    `settled` are the trees that are settled, in the order of their distance, and the own one, which is never entered.
+    The rows of ways are those between trees, and behind them those of each node between its tree and others; `least`
+    has the first of each node by the nodes' places.
     """
 
-    def __init__(self, around: Around, is_forward: bool, parts: Iterable[Places], own: int):
-        self.order = around.trees.forest.order
-        self.rows = around.leaving if is_forward else around.entering
+    __slots__ = ("around", "own", "low", "high", "is_forward", "is_below", "rows", "least", "onward", "settled", "heap")
+
+    def __init__(self, around: Around, node: int, is_forward: bool, is_below: bool):
+        forest = around.trees.forest
+        self.around, self.is_forward, self.is_below = around, is_forward, is_below
+        self.own, self.low, self.high = forest.tree[node], forest.first[node], forest.last[node]
+        self.rows = around.rows_leaving if is_forward else around.rows_entering
         self.least = around.least_leaving if is_forward else around.least_entering
-        self.ways = around.trees.leaving if is_forward else around.trees.entering
-        self.settled: Dict[int, int] = {}
-        self.own = own
-        # After the key: the next way of a tree (tree, at), that of a node (-2, at, node), or of places (-1, place, ..).
-        self.heap: List[Tuple[int, ...]] = []
-        for begin, end in parts:
-            self._add_places(begin, end)
+        self.onward = around.trees.leaving_to if is_forward else around.trees.entering_from
+        self.settled: Dict[int, int] = {self.own: NOWHERE}
+        # With -1 for the row: the first way of a node, at one of some places, as (key, -1, place, begin, end).
+        self.heap: Heap = []
+        begin, end = forest.span[self.own]
+        for places in [(self.low, self.high)] if is_below else [(begin, self.low), (self.high, end)]:
+            self._add_places(*places)
 
     def _add_places(self, begin: int, end: int) -> None:
         found = self.least.between(begin, end)
         if found is not None:
             heappush(self.heap, (found[0], -1, found[1], begin, end))
 
-    def top(self) -> Optional[int]:
-        """No further tree is nearer than this; None where there is none."""
-        return self.heap[0][0] if self.heap else None
+    def top(self) -> int:
+        """No further tree is nearer than this."""
+        return self.heap[0][0] if self.heap else NOWHERE
 
     def grow(self) -> Optional[int]:
         """Takes the next way; the tree that it settles, or None where it leads to one that is settled."""
-        entry = heappop(self.heap)
-        key, kind = entry[0], entry[1]
-        if kind >= 0:
-            row = self.ways[kind]
-        elif kind == -2:
-            row = self.rows[entry[3]]
-        else:
-            return self._grow_from_places(entry)
-        other = self._take(row, entry)
-        if other in self.settled or other == self.own:
-            return None
-        self._settle(other, key)
-        return other
+        while self.heap[0][1] < 0:
+            self._open_places()
+        return settle_next(self.heap, self.rows, self.settled)
 
-    def _grow_from_places(self, entry: Tuple[int, ...]) -> Optional[int]:
-        """The same, where the next way is the first one of a node among those at some places."""
-        key, _, place, begin, end = entry
+    def _open_places(self) -> None:
+        """Puts the row of the node whose first way is due in place of the places among which it is."""
+        key, _, place, begin, end = heappop(self.heap)
         self._add_places(begin, place)
         self._add_places(place + 1, end)
-        node = self.order[place]
-        other = self._take(self.rows[node], (key, -2, 0, node))
-        if other in self.settled or other == self.own:
-            return None
-        self._settle(other, key)
-        return other
+        trees = self.around.trees
+        heappush(self.heap, (key, len(trees.leaving) + trees.forest.order[place], 0))
 
-    def _take(self, row: List[Way], entry: Tuple[int, ...]) -> int:
-        """Where the way of a row leads; the next one that leads elsewhere is due later."""
-        at, settled, own = entry[2], self.settled, self.own
-        reduced, other = row[at]
-        at += 1
-        while at < len(row) and (row[at][1] in settled or row[at][1] == own):
-            at += 1
-        if at < len(row):
-            heappush(self.heap, (entry[0] - reduced + row[at][0], entry[1], at, *entry[3:]))
-        return other
-
-    def _settle(self, tree: int, key: int) -> None:
-        self.settled[tree] = key
-        if self.ways[tree]:
-            heappush(self.heap, (key + self.ways[tree][0][0], tree, 0))
+    def rest(self, tree: int, others: Dict[int, int]) -> int:
+        """The shortest way from a settled tree on to what the search from the other part has settled, or to that part
+        itself."""
+        found = others.get(tree, NOWHERE)
+        ways = self.onward[tree]
+        if ways.keys().isdisjoint(others.keys()):
+            return found
+        for other in ways.keys() & others.keys():
+            found = min(found, ways[other] + others[other])
+        if self.own in ways:
+            trees, first = self.around.trees, self.around.trees.forest.first
+            for arc in trees.crossings[(tree, self.own) if self.is_forward else (self.own, tree)]:
+                if arc.reduced >= found:
+                    break
+                is_below = self.low <= first[arc.head if self.is_forward else arc.tail] < self.high
+                if is_below != self.is_below:
+                    return arc.reduced
+        return found
 
 
 class Around:
@@ -485,6 +485,8 @@ class Around:
                 ways.sort()
         self.least_leaving = self._least(self.leaving)
         self.least_entering = self._least(self.entering)
+        self.rows_leaving = trees.leaving + self.leaving
+        self.rows_entering = trees.entering + self.entering
 
     def _least(self, rows: List[List[Way]]) -> Least:
         return Least([rows[node][0][0] if rows[node] else None for node in self.trees.forest.order])
@@ -506,46 +508,16 @@ class Around:
     def detour(self, node: int, is_out: bool) -> Optional[int]:
         """The shortest way from the part of a tree below a free arc, whose lower end is `node`, to the rest (or back),
         without that arc; None where there is none."""
-        forest = self.trees.forest
-        own = forest.tree[node]
-        begin, end = forest.span[own]
-        low, high = forest.first[node], forest.last[node]
-        below, beside = [(low, high)], [(begin, low), (high, end)]
-        best = self.out_of[node] if is_out else self.into[node]
-        forward = Wave(self, True, below if is_out else beside, own)
-        backward = Wave(self, False, beside if is_out else below, own)
-        while True:
-            ahead, behind = forward.top(), backward.top()
-            if ahead is None or behind is None or best is not None and ahead + behind >= best:
-                return best
+        known = self.out_of[node] if is_out else self.into[node]
+        best = NOWHERE if known is None else known
+        forward, backward = Wave(self, node, True, is_out), Wave(self, node, False, not is_out)
+        while forward.top() + backward.top() < best:
             is_forward = len(forward.settled) <= len(backward.settled)
             wave, other = (forward, backward) if is_forward else (backward, forward)
             tree = wave.grow()
-            if tree is None:
-                continue
-            shortest = self._meet(tree, is_forward, other.settled, is_forward == is_out, node)
-            if shortest is not None and (best is None or wave.settled[tree] + shortest < best):
-                best = wave.settled[tree] + shortest
-
-    def _meet(self, tree: int, is_forward: bool, others: Dict[int, int], is_beside: bool, node: int) -> Optional[int]:
-        """The shortest way from a settled tree on to what the other search has settled, or to the part that it started
-        from: the one beside what is below `node`, or that itself."""
-        forest = self.trees.forest
-        found = others.get(tree)
-        ways = (self.trees.leaving_to if is_forward else self.trees.entering_from)[tree]
-        for other in ways.keys() & others.keys():
-            length = ways[other] + others[other]
-            if found is None or length < found:
-                found = length
-        own = forest.tree[node]
-        low, high = forest.first[node], forest.last[node]
-        for arc in self.trees.crossings.get((tree, own) if is_forward else (own, tree), ()):
-            if found is not None and arc.reduced >= found:
-                break
-            is_below = low <= forest.first[arc.head if is_forward else arc.tail] < high
-            if is_below != is_beside:
-                return arc.reduced
-        return found
+            if tree is not None:
+                best = min(best, wave.settled[tree] + wave.rest(tree, other.settled))
+        return None if best >= NOWHERE else best
 
 
 def uncovered(nexts: Union[List[int], Dict[int, int]], node: int) -> int:

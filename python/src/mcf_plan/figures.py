@@ -7,7 +7,7 @@ from typing import Optional, Tuple
 
 from .errors import BeyondLimits, DoesNotFit
 from .formats import MOST_ARCS, MOST_COST, MOST_FLOW, MOST_NODES
-from .meaning import Options, told
+from .meaning import Options, amounts_of, told
 from .problem import ZERO, Arc, Problem, plain
 from .units import Scale, places_of
 
@@ -48,7 +48,7 @@ class Figures:
         """The numbers in the largest units that make all of them whole. Raises BeyondLimits where a cost is too great
         or too fine."""
         arcs = problem.arcs
-        amounts = Scale.of((arc.low for arc in arcs), (arc.cap for arc in arcs), problem.nodes.values())
+        amounts = amounts_of(problem)
         if options.without_costs:
             return cls(problem, options, amounts, Scale(0))
         rest_cost = options.rest_cost() or ZERO

@@ -5,10 +5,12 @@ from __future__ import annotations
 
 from dataclasses import dataclass
 from decimal import Decimal
-from typing import Optional, Union
+from typing import List, Optional, Union
 
 from .errors import Meaningless
+from .formats import counted
 from .problem import ONE, ZERO, Arc, Problem, exact, plain, total_of
+from .units import Scale
 
 Surplus = Union[str, int, float, Decimal]
 """'refuse', 'keep', or what a unit that is kept or not met costs."""
@@ -103,3 +105,20 @@ def text_kind(problem: Problem, options: Options) -> str:
     ):
         return "asn"
     return "min"
+
+
+def amounts_of(problem: Problem) -> Scale:
+    """The largest unit that makes all amounts whole: bounds and supplies."""
+    arcs = problem.arcs
+    return Scale.of((arc.low for arc in arcs), (arc.cap for arc in arcs), problem.nodes.values())
+
+
+def taken_for(problem: Problem, amounts: Scale) -> List[str]:
+    """What was taken for the planner, and what that means for the plan."""
+    notes = []
+    if amounts.places:
+        notes.append(f"amounts go in steps of {plain(Decimal(10) ** -amounts.places)}, by the decimals in the tables")
+    unlimited = sum(arc.cap is None for arc in problem.arcs)
+    if unlimited:
+        notes.append(f"{counted(unlimited, 'arc')} without a capacity may carry any amount")
+    return notes

@@ -8,6 +8,7 @@ which a unit gets from any node to any other at no reduced cost.
 
 from __future__ import annotations
 
+from copy import copy
 from decimal import Decimal
 from typing import Iterator, List, NamedTuple, Optional, Tuple
 
@@ -74,6 +75,14 @@ class Residual:
         for reduced, room, spare in zip(self.reduced, self.room, self.spare):
             if reduced < 0 and room != 0 or reduced > 0 and spare:
                 raise Disagreement("the plan's prices do not show that it is best")
+
+    def of_whole_units(self) -> Residual:
+        """The part of the network along which a whole unit of the tables can go at once."""
+        least = int(self.amounts)
+        part = copy(self)
+        part.room = [room if room is None or room >= least else 0 for room in self.room]
+        part.spare = [spare if spare >= least else 0 for spare in self.spare]
+        return part
 
     def can_rise(self, arc: int) -> bool:
         """Whether an arc can carry more."""

@@ -19,7 +19,7 @@ from .errors import BeyondLimits, CannotRewrite, DoesNotFit, Meaningless, Unboun
 from .figures import Figures
 from .formats import MOST_FLOW, ArcRow, counted
 from .lines import Lines
-from .meaning import Options, Surplus, check_meaning, text_kind
+from .meaning import Options, Surplus, check_meaning, taken_for, text_kind
 from .plan import Disagreement, Infeasible, Plan
 from .problem import ZERO, Problem, plain
 from .room import find_room
@@ -100,7 +100,7 @@ class Rewriting:
     """A text with the meaning of the tables, and the way back.
 
     `figures` are the numbers of the tables in the text's units, `lines` the lines of the text, whose kind is `kind`.
-    `notes` say in words what was rewritten, to whoever reads the text; what a plan tells of it is in `_taken_for`.
+    `notes` say in words what was rewritten, to whoever reads the text; what a plan tells of it is in `taken_for`.
     """
 
     def __init__(self, problem: Problem, options: Options):
@@ -169,7 +169,7 @@ class Rewriting:
             not_met={} if is_kept else rest,
             rest_cost=self.rest_cost,
             rest_price=rest_price,
-            notes=[*self.problem.notes, *_taken_for(self.figures)],
+            notes=[*self.problem.notes, *taken_for(self.problem, self.figures.amounts)],
         )
 
     def worth(self, reply: str) -> Tuple[Optional[Decimal], Optional[Decimal]]:
@@ -209,7 +209,7 @@ class Rewriting:
             self.figures.amounts.decimal(answer.shortage or 0),
             rest_cost=self.rest_cost,
             rest_in_cut=lines.rest in answer.cut,
-            notes=[*self.problem.notes, *_taken_for(self.figures)],
+            notes=[*self.problem.notes, *taken_for(self.problem, self.figures.amounts)],
         )
 
     def _amounts(self, flows: List[int]) -> List[Decimal]:
@@ -229,19 +229,6 @@ class Rewriting:
             return figures.amounts.decimal(abs(worth))
         cost = worth + sum(low * figures.costs[k] for k, low in self.lines.moved.items())
         return Scale(figures.amounts.places + figures.money.places).decimal(cost)
-
-
-def _taken_for(figures: Figures) -> List[str]:
-    """What was taken for the planner, and what that means for the plan."""
-    notes = []
-    if figures.amounts.places:
-        step = plain(Decimal(10) ** -figures.amounts.places)
-        notes.append(f"amounts go in steps of {step}, by the decimals in the tables: the plan sends multiples of it")
-    unlimited = sum(cap is None for cap in figures.caps)
-    if unlimited:
-        has = f"{counted(unlimited, 'arc')} {'has' if unlimited == 1 else 'have'}"
-        notes.append(f"{has} no capacity in the tables, and may carry any amount")
-    return notes
 
 
 def _notes_of(rewriting: Rewriting) -> List[str]:

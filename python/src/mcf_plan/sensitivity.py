@@ -3,8 +3,9 @@ more or less of a supply costs, and the minimum cut of a maximum flow.
 
 All of it is exact, and found by shortest ways over the residual network of the plan, from the prices that come with it
 and show that it is best; nothing is solved anew. Only where amounts have decimals, a whole unit is more than the least
-step: what it saves or costs is then found by solving anew, of those arcs and nodes where a step saves or costs
-something, through a session of its own beside the one that is asked about.
+step, and no step of it saves more, or costs less, than the first. So if a whole unit can go along a way that is as short
+as that of the first step, each step saves or costs the same. Where none can, what a unit saves or costs is found by
+solving anew, through a session of its own beside the one that is asked about.
 
 >>> from mcf_plan import Problem, Session
 >>> problem = Problem()
@@ -80,7 +81,7 @@ def one_unit_more(session: Session, step: Step = no_step) -> List[Decimal]:
         return _lessened(session, answer, step)
     arcs = list(range(len(problem.arcs)))
     residual = Residual(answer)
-    return _savings(session, residual, arcs, _first_savings(answer, residual, arcs, step), step)
+    return _savings(session, answer, residual, (arcs, _first_savings(answer, residual, arcs, step)), step)
 
 
 def cost_range(session: Session, arc: ArcKey) -> Limits:
@@ -121,7 +122,7 @@ def ranges(
         firsts = [ends.saving(arc) for arc in arcs]
     if problem.kind == "asn":
         return [Ranges(arc, ZERO, *costs, None, None) for arc, costs in zip(arcs, limits)]
-    savings = _savings(session, residual, arcs, firsts, step)
+    savings = _savings(session, plan, residual, (arcs, firsts), step)
     return [
         Ranges(arc, saves, *costs, plan.flows[arc], problem.arcs[arc].cap if first else None)
         for arc, saves, costs, first in zip(arcs, savings, limits, firsts)
@@ -157,11 +158,16 @@ def supply_prices(
             "all supplies together have to be 0: say at which node the supply changes the other way, by `--beside NODE` "
             "(in Python `beside=`)"
         )
-    prices = list(first_prices(plan, residual, residual.rest if beside is None else residual.numbers[beside]))
+    to = residual.rest if beside is None else residual.numbers[beside]
+    firsts = list(first_prices(plan, residual, to))
+    price = residual.price_or_none
+    prices = [SupplyPrice(name, price(more), price(less)) for name, (more, less) in zip(problem.nodes, firsts)]
     if residual.amounts == 1:
-        price = residual.price_or_none
-        return [SupplyPrice(name, price(more), price(less)) for name, (more, less) in zip(problem.nodes, prices)]
-    return _whole_prices(session, beside, prices, step)
+        return prices
+    # Where a supply bounds what is kept or not met, a whole unit may change that bound otherwise than its first step.
+    is_bounded = residual.has_rest and problem.balance == "equal"
+    wholes = [(None, None)] * len(firsts) if is_bounded else first_prices(plan, residual.of_whole_units(), to)
+    return _whole_prices(session, beside, list(zip(prices, firsts, wholes)), step)
 
 
 # ---------------------------------------------------------------- what one unit more saves
@@ -176,23 +182,28 @@ def _first_savings(plan: Plan, residual: Residual, arcs: List[int], step: Step) 
     return [ends.saving(arc) for arc in arcs]
 
 
-def _savings(session: Session, residual: Residual, arcs: List[int], firsts: List[int], step: Step) -> List[Decimal]:
-    """What a whole unit more of capacity saves, or adds, where the least step more saves so much."""
-    is_max = session.problem.kind == "max"
+def _savings(
+    session: Session, plan: Plan, residual: Residual, firsts: Tuple[List[int], List[int]], step: Step
+) -> List[Decimal]:
+    """What a whole unit more of capacity saves, or adds, on some arcs, where the least step more saves so much."""
+    arcs, steps = firsts
+    is_max = plan.problem.kind == "max"
+    found = [Decimal(first) if is_max else residual.price(first) for first in steps]
     if residual.amounts == 1:
-        return [Decimal(first) if is_max else residual.price(first) for first in firsts]
-    found = [ZERO] * len(arcs)
-    asked = [place for place, first in enumerate(firsts) if first]
-    before = session.cost
-    assert before is not None
+        return found
+    asked = [place for place, first in enumerate(steps) if first]
+    wholes = _first_savings(plan, residual.of_whole_units(), [arcs[place] for place in asked], step)
+    asked = [place for place, whole in zip(asked, wholes) if whole != steps[place]]
+    if not asked:
+        return found
     with session.beside() as beside:
         for done, place in enumerate(asked):
             step(done, len(asked))
-            cap = session.problem.arcs[arcs[place]].cap
+            cap = plan.problem.arcs[arcs[place]].cap
             assert cap is not None
             after = beside.set_cap(arcs[place], WIDE.add(cap, Decimal(1)))
             assert after is not None
-            found[place] = WIDE.subtract(after, before) if is_max else WIDE.subtract(before, after)
+            found[place] = WIDE.subtract(after, plan.cost) if is_max else WIDE.subtract(plan.cost, after)
             beside.undo()
     return found
 
@@ -219,23 +230,36 @@ def _lessened(session: Session, answer: Infeasible, step: Step) -> List[Decimal]
 # ---------------------------------------------------------------- what one unit more of supply costs
 
 
+Steps = Tuple[Optional[int], Optional[int]]
+"""What the least step more of a supply costs, and the least step less."""
+
+
 def _whole_prices(
-    session: Session, beside: Optional[str], firsts: List[Tuple[Optional[int], Optional[int]]], step: Step
+    session: Session, beside: Optional[str], told: List[Tuple[SupplyPrice, Steps, Steps]], step: Step
 ) -> List[SupplyPrice]:
-    """What a whole unit more of supply costs, and one less; None where not even the least step has a plan."""
-    problem, before = session.problem, session.cost
-    assert before is not None
-    prices: List[SupplyPrice] = []
+    """What a whole unit more of supply costs, and one less, by the prices that the least steps have, and those that
+    steps have along which a whole unit can go. None where not even the least step has a plan."""
+    asked = [firsts != wholes for _, firsts, wholes in told]
+    prices = [price for price, _, _ in told]
+    if not any(asked):
+        return prices
     with session.beside() as other:
-        for done, (name, first) in enumerate(zip(problem.nodes, firsts)):
-            step(done, len(firsts))
-            found: List[Optional[Decimal]] = []
-            for by, price in zip((Decimal(1), Decimal(-1)), first):
-                after = None if price is None else before
-                if price is not None and name != beside:
-                    what: What = ("supply", name) if beside is None else ("supply", name, beside)
-                    after = set_number(other, what, WIDE.add(problem.nodes[name], by))
-                    other.undo()
-                found.append(None if after is None else WIDE.subtract(after, before))
-            prices.append(SupplyPrice(name, found[0], found[1]))
+        for place in (place for place, is_asked in enumerate(asked) if is_asked and prices[place].node != beside):
+            step(place, len(told))
+            name, *firsts = prices[place]
+            more, less = (
+                None if first is None else _price_anew(other, name, beside, by)
+                for by, first in zip((Decimal(1), Decimal(-1)), firsts)
+            )
+            prices[place] = SupplyPrice(name, more, less)
     return prices
+
+
+def _price_anew(other: Session, name: str, beside: Optional[str], by: Decimal) -> Optional[Decimal]:
+    """What it costs that a supply changes by so much, found by solving anew; None where there is no plan then."""
+    before = other.cost
+    assert before is not None
+    what: What = ("supply", name) if beside is None else ("supply", name, beside)
+    after = set_number(other, what, WIDE.add(other.problem.nodes[name], by))
+    other.undo()
+    return None if after is None else WIDE.subtract(after, before)

@@ -3,7 +3,6 @@
 from __future__ import annotations
 
 import csv
-import io
 import re
 from dataclasses import dataclass, field
 from pathlib import Path
@@ -104,6 +103,17 @@ def _fitted(sheet: Sheet, rows: Sequence[Sequence[Any]]) -> List[Sequence[Any]]:
 # ---------------------------------------------------------------- texts
 
 
+_LINE = re.compile(r"[^\r\n]*(?:\r\n?|\n)|[^\r\n]+")
+
+
+class _Shared(Dict[str, str]):
+    """Texts by themselves: what is looked up is the first one that was alike."""
+
+    def __missing__(self, text: str) -> str:
+        self[text] = text
+        return text
+
+
 def read_text(path: Path, encoding: Optional[str] = None) -> Sheet:
     """The sheet of a text whose fields are parted by commas, semicolons, tabs or upright strokes."""
     text = _decoded(path.read_bytes(), path.name, encoding)
@@ -125,16 +135,18 @@ def read_text(path: Path, encoding: Optional[str] = None) -> Sheet:
     return sheet
 
 
-def _rows(text: str, name: str, delimiter: str) -> Tuple[List[List[str]], List[int]]:
-    """The rows of a text that have a cell, and the lines where they begin."""
-    reader = csv.reader(io.StringIO(text, newline=""), delimiter=delimiter, skipinitialspace=True, strict=True)
-    rows: List[List[str]] = []
+def _rows(text: str, name: str, delimiter: str) -> Tuple[List[Sequence[str]], List[int]]:
+    """The rows of a text that have a cell, and the lines where they begin. Cells that are alike are one in memory."""
+    lines = (found[0] for found in _LINE.finditer(text))
+    reader = csv.reader(lines, delimiter=delimiter, skipinitialspace=True, strict=True)
+    shared = _Shared()
+    rows: List[Sequence[str]] = []
     starts: List[int] = []
     begins = 1
     try:
         for row in reader:
             if any(row):
-                rows.append(row)
+                rows.append(tuple(map(shared.__getitem__, row)))
                 starts.append(begins)
             begins = reader.line_num + 1
     except csv.Error as error:

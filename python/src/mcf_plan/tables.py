@@ -221,8 +221,6 @@ def _read_arcs(problem: Problem, table: Table, tails: Sequence[str], heads: Sequ
     problem.arcs += map(Arc, tails, heads, lows, caps, costs, labels)
     if is_assignment:
         _take_sides(problem)
-    elif not table.has("capacity"):
-        table.sheet.notes.append(f"{table.sheet.name}: there is no column of capacities, so no arc has a limit")
     table.tell_sign()
     _tell_twice(table, problem.arcs, (tails, heads))
 
