@@ -73,7 +73,7 @@ SaysNoNumber rows = (extra : ℕ) → IsExtra (first_of (codes "extra") rows) ex
 abbrev pub IsNotANumber : List Row → Usage → Type 0
 IsNotANumber rows usage = (usage ≡ NotANumber) × SaysNoNumber rows
 
--- `clap` finds no fault in the words
+-- `clap` finds no fault in the words, and no call for help or the version
 abbrev pub IsTaken : List Text → Type 0
 IsTaken words = fault_of program words ≡ []
 
@@ -81,8 +81,8 @@ abbrev pub IsWantOfMemory : Usage → Type 0
 IsWantOfMemory (Words error) = kind_of error ≡ OutOfMemory
 IsWantOfMemory NotANumber = ⊥
 
--- words in which `clap` finds a fault are refused by a kind of it; words that it takes only where memory is, or where the
--- number of `--extra` is none in a text
+-- words are refused by a kind of what `clap` finds, or where memory is; words in which it finds nothing only where
+-- memory is, or where the number of `--extra` is none in a text
 abbrev pub IsRefusal : List Text → Usage → Type 0
 IsRefusal words (Words error) = HasKind (fault_of program words) error × (takes program words ≡ true → kind_of error ≡ OutOfMemory)
 IsRefusal words NotANumber = IsTaken words × (rows : List Row) × (command_of words ≡ Some (codes "session", rows)) × SaysNoNumber rows
