@@ -1,5 +1,5 @@
 //! Checks an answer to a problem, and writes whether it is right.
-ghost use Rattle.std.specs.Prelude.{◌≡◌, ◌-◌, ◌^◌, ◌<◌, ◌↔◌, IfOk, IsTrue, length};
+ghost use Rattle.std.specs.Prelude.{◌≡◌, ◌-◌, ◌^◌, ◌<◌, ◌↔◌, IfOk, IsTrue};
 ghost use Rattle.dimacs_io.specs.Calls.{PassesText};
 ghost use Rattle.dimacs_io.specs.Device.{RisesBy, text_over};
 ghost use Rattle.runs.specs.Devices.{UsesSink, UsesSource, answer_failures, answer_whole, flushes_by, problem_failures, problem_whole};

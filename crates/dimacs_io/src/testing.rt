@@ -1,5 +1,5 @@
 //! Devices in memory, for tests: by choice they are slow, and fail from some call on.
-ghost use Rattle.std.specs.Prelude.{◌≡◌, ℕ, ◌-◌, ◌^◌, ◌≤◌, ◌<◌, ◌↔◌, ◌⊎◌, length, min, [], Some, false, is_err, IsTrue, IsErr, IfOk};
+ghost use Rattle.std.specs.Prelude.{◌≡◌, ◌-◌, ◌^◌, ◌≤◌, ◌<◌, ◌↔◌, length, [], Some, false, is_err, IsTrue, IsErr, IfOk};
 ghost use Rattle.std.specs.Io.{ReadsAtMost, WritesAtMost};
 ghost use Rattle.std.specs.Io.KnownBytes.{Keeps, ReadConsumes, WriteAppends};
 ghost use Rattle.dimacs_io.specs.Device.{CountsFailure, CountsFlush, EndsBy, Logs, LowersByCount, ReachesEnd};
