@@ -171,7 +171,7 @@ class Workbooks(InFolder):
 
     @needs("openpyxl")
     def test_what_is_seen_and_what_is_not(self):
-        import openpyxl
+        import openpyxl.styles
 
         for title, change, wanted in (
             (
@@ -181,7 +181,26 @@ class Workbooks(InFolder):
             ),
             ("a date", lambda sheet: setattr(sheet["C2"], "number_format", "dd/mm/yy"), "'1900-01-08' stands there"),
             ("a currency", lambda sheet: setattr(sheet["D2"], "number_format", '#,##0.00 "days"'), "cost 12.5"),
-            ("a hidden row", lambda sheet: setattr(sheet.row_dimensions[2], "hidden", True), "1 hidden row counts as"),
+            (
+                "a hidden row",
+                lambda sheet: setattr(sheet.row_dimensions[2], "hidden", True),
+                "1 row that is hidden counts",
+            ),
+            (
+                "a hidden column",
+                lambda sheet: setattr(sheet.column_dimensions["C"], "hidden", True),
+                "the column 'capacity' is hidden, and is read as the others are",
+            ),
+            (
+                "a hidden sheet",
+                lambda sheet: setattr(sheet, "sheet_state", "hidden"),
+                "the sheet 'arcs' is hidden, and",
+            ),
+            (
+                "a row that is struck through",
+                lambda sheet: [setattr(cell, "font", openpyxl.styles.Font(strike=True)) for cell in sheet[2]],
+                "1 row that is struck through counts as the others do",
+            ),
             (
                 "cells beside",
                 lambda sheet: sheet.cell(2, 7, "as of May"),

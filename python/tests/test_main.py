@@ -151,7 +151,7 @@ class Command(unittest.TestCase):
         theirs = self.file("theirs.min", "p min 2 1\na 1 2 0 inf 4.0 c a road\nn 1 +3\nn 2 -3\n")
         out, errors = self.run_it("convert", theirs)
         self.assertEqual(out, "p min 2 1\nn 1 3\nn 2 -3\na 1 2 0 1000000000 4\n")
-        self.assertIn("has no limit", errors)
+        self.assertIn("1 arc without a capacity", errors)
         self.run_it("convert", self.nodes, self.arcs, "-o", "ours.min")
         done = subprocess.run(
             [os.environ["MCF"], "solve", self.folder.name + "/ours.min"], capture_output=True, text=True, check=False

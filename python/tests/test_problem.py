@@ -102,7 +102,7 @@ class Spellings(unittest.TestCase):
     def test_notes(self):
         problem = Problem.from_dimacs("p min 2 2\na 1 2 0 -1 3\na 1 2 0 inf 3\n")
         self.assertEqual([arc.cap for arc in problem.arcs], [None, None])
-        self.assertEqual(len(problem.notes), 2)
+        self.assertEqual(problem.notes, ["line 2: the capacity -1 of the arc from 1 to 2 is read as no limit"])
 
     def test_refused(self):
         for text, number, line in (

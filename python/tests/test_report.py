@@ -13,8 +13,9 @@ import xml.etree.ElementTree as xml
 from decimal import Decimal
 from html.parser import HTMLParser
 from pathlib import Path
+from unittest import mock
 
-from mcf_plan import Disagreement, Problem, report
+from mcf_plan import Disagreement, Plan, Problem, report
 
 SPACE = {"svg": "http://www.w3.org/2000/svg"}
 
@@ -259,6 +260,30 @@ class ReportTest(unittest.TestCase):
             for write in (report.html_text, report.svg_picture, report.to_csv, report.to_json):
                 with self.assertRaises(Disagreement):
                     write(result)
+
+
+class Savings(unittest.TestCase):
+    def test_prices_that_bound_it_loosely(self):
+        """The road is full and not too narrow: nothing is saved there, though the prices leave room for 9."""
+        problem = Problem()
+        problem.add_node("works", 5)
+        problem.add_node("shop", -5)
+        problem.add_arc("works", "shop", cap=5, cost=1)
+        problem.add_arc("works", "shop", cost=10)
+        plan = Plan(problem, [Decimal(5), Decimal(0)], Decimal(5), {"works": Decimal(0), "shop": Decimal(10)})
+        plan.verify()
+        self.assertEqual(report.savings(plan), [None, None])
+        with mock.patch.object(report, "EXACT_UP_TO", 1):
+            self.assertEqual(report.savings(plan), [Decimal(9), None])
+
+    def test_first_step(self):
+        """Half a unit saves 7 a unit, the next half only 3."""
+        problem = Problem()
+        problem.add_node("works", "2.5")
+        problem.add_node("shop", "-2.5")
+        for cap, cost in (("1.5", 2), ("0.5", 5), (9, 9)):
+            problem.add_arc("works", "shop", cap=cap, cost=cost)
+        self.assertEqual(report.savings(problem.solve()), [Decimal(7), Decimal(4), None])
 
 
 if __name__ == "__main__":

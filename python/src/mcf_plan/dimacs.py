@@ -102,7 +102,32 @@ def _grouped(number: int) -> str:
     return f"{number:,}"
 
 
-class ProblemReader:
+class _LineReader:
+    """What reads a text line by line: `line` is the number of the line that is read."""
+
+    line: int
+
+    def fail(
+        self, number: int, expected: str, *, name: Optional[str] = None, value: Optional[str] = None, hint: str = ""
+    ) -> _Found:
+        """The fault of the line that is read, to be raised."""
+        return _Found(Fault(number, self.line, name, value, expected, hint))
+
+    def whole(self, name: str, word: bytes, shape: re.Pattern[bytes]) -> int:
+        """The number of a field of this shape; a word of another one is fault 4."""
+        if shape.fullmatch(word):
+            return int(word)
+        value, signed = as_str(word), shape is not _PLAIN
+        raise self.fail(
+            4,
+            "a whole number" if signed else "a whole number, 0 or more",
+            name=name,
+            value=value,
+            hint=number_hint(name, value, signed),
+        )
+
+
+class ProblemReader(_LineReader):
     """Reads a problem text line by line up to its first fault, as the program does."""
 
     def __init__(self) -> None:
@@ -116,25 +141,9 @@ class ProblemReader:
         self.line = 0
         self.problem_line = self.first_arc_line = self.source_line = self.sink_line = 0
 
-    def fail(
-        self, number: int, expected: str, *, name: Optional[str] = None, value: Optional[str] = None, hint: str = ""
-    ) -> _Found:
-        """The fault of the line that is read, to be raised."""
-        return _Found(Fault(number, self.line, name, value, expected, hint))
-
     def number(self, name: str, word: bytes, least: int, most: int) -> int:
         """The number of a field: first its shape (4), then its range (5)."""
-        signed = least < 0
-        if not (_SIGNED if signed else _PLAIN).fullmatch(word):
-            value = as_str(word)
-            raise self.fail(
-                4,
-                "a whole number" if signed else "a whole number, 0 or more",
-                name=name,
-                value=value,
-                hint=number_hint(name, value, signed),
-            )
-        number = int(word)
+        number = self.whole(name, word, _SIGNED if least < 0 else _PLAIN)
         if not least <= number <= most:
             hint = self._node_hint(number) if name in ("ID", "SRC", "DST") else range_hint(name, number)
             raise self.fail(
@@ -369,7 +378,7 @@ def read_with(reader: ProblemReader, text: Text) -> Optional[Fault]:
     return None
 
 
-class _AnswerReader:
+class _AnswerReader(_LineReader):
     """Reads an answer text up to its first fault, as the program does. Without a problem nothing is counted."""
 
     def __init__(self, problem: Optional[DimacsProblem]):
@@ -378,23 +387,8 @@ class _AnswerReader:
         self.first = ""
         self.line = 0
 
-    def fail(
-        self, number: int, expected: str, *, name: Optional[str] = None, value: Optional[str] = None, hint: str = ""
-    ) -> _Found:
-        return _Found(Fault(number, self.line, name, value, expected, hint))
-
     def number(self, name: str, word: bytes, shape: re.Pattern[bytes]) -> int:
-        if not shape.fullmatch(word):
-            value = as_str(word)
-            signed = shape is not _PLAIN
-            raise self.fail(
-                4,
-                "a whole number" if signed else "a whole number, 0 or more",
-                name=name,
-                value=value,
-                hint=number_hint(name, value, signed),
-            )
-        number = int(word)
+        number = self.whole(name, word, shape)
         if name in ("SRC", "DST", "ID") and self.problem is not None and not 1 <= number <= self.problem.nodes:
             raise self.fail(
                 5,

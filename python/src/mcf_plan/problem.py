@@ -410,9 +410,7 @@ class _SpellingReader(ProblemReader):
     def bounds(self, tail: int, head: int, low, cap):  # type: ignore[no-untyped-def]
         if cap is not None and cap < low and cap < 0:
             self.notes.append(
-                f"line {self.line}: the capacity {plain(cap)} of the arc from {tail} to {head} is read as no " f"limit"
+                f"line {self.line}: the capacity {plain(cap)} of the arc from {tail} to {head} is read as no limit"
             )
             return None
-        if cap is None:
-            self.notes.append(f"line {self.line}: the arc from {tail} to {head} has no limit")
         return super().bounds(tail, head, low, cap)

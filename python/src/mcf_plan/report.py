@@ -24,6 +24,8 @@ from .explain import MOST_TOLD, explain
 from .plan import Infeasible, Plan
 from .printing import visible
 from .problem import WIDE, ZERO, Arc, Problem, plain
+from .ranging import Ends
+from .residual import Residual
 from .sensitivity import minimum_cut
 from .tables import PLAN_COLUMNS, plan_rows
 
@@ -37,6 +39,8 @@ GRAPHVIZ_ARCS = 120
 GRAPHVIZ_SECONDS = 20
 MOST_DRAWN = 3000
 """A picture of more arcs can't be read."""
+EXACT_UP_TO = 10_000
+"""What one unit more saves is searched for in plans of so many arcs; the page of the board tells it after each edit."""
 COLUMN_GAP, ROW_GAP, MAP_SIDE = 260, 58, 720
 RADIUS = 8
 # Colours that are told apart without red and green; width, dashes and words say the same.
@@ -86,18 +90,24 @@ class Row(NamedTuple):
 def savings(plan: Plan) -> list[Optional[Decimal]]:
     """What one unit more of capacity saves at most, arc by arc, where that is above 0.
 
-    A full arc whose reduced cost is below 0 saves at most as much with one unit more of capacity: the least cost is
-    convex in a capacity, and the prices of a best plan bound it from below. `sensitivity.one_unit_more` tells it exactly,
-    by searches that a report need not wait for.
+    That is what the least step more saves, which is one unit where all amounts are whole; no further step saves more.
+    Of a plan of more than EXACT_UP_TO arcs it is told by the prices alone, which bound it.
     """
     arcs = plan.problem.arcs
     found: list[Optional[Decimal]] = [None] * len(arcs)
-    if plan.prices is not None and plan.problem.kind == "min":
-        for index, (arc, flow) in enumerate(zip(arcs, plan.flows)):
-            if arc.cap is not None and flow == arc.cap:
-                reduced = plan.reduced_cost(index)
-                if reduced < 0:
-                    found[index] = -reduced
+    if plan.prices is None or plan.problem.kind != "min":
+        return found
+    for index, (arc, flow) in enumerate(zip(arcs, plan.flows)):
+        if arc.cap is not None and flow == arc.cap:
+            reduced = plan.reduced_cost(index)
+            if reduced < 0:
+                found[index] = -reduced
+    bounded = [index for index, bound in enumerate(found) if bound is not None]
+    if bounded and len(arcs) <= EXACT_UP_TO:
+        residual = Residual(plan)
+        ends = Ends(residual, bounded, with_costs=False)
+        for index in bounded:
+            found[index] = residual.price(ends.saving(index)) or None
     return found
 
 

@@ -22,7 +22,7 @@ from .reading import Reading, Table, no_column
 from .rounding import round_problem
 from .sheets import WORKBOOKS, Sheet, part_sheet
 from .sources import Source, find_sheets
-from .vocabulary import ARC_COLUMNS, COLUMNS, NODE_COLUMNS, SUMS
+from .vocabulary import ARC_COLUMNS, COLUMNS, DEMANDING, NODE_COLUMNS, SUMS
 
 if TYPE_CHECKING:
     from .plan import Plan
@@ -173,6 +173,8 @@ def _read_nodes(problem: Problem, table: Table, ends: Collection[str]) -> None:
         for row, demand in enumerate(demands):
             if demand < 0:
                 raise table.fault(row, "demand", "beside a column of supplies a demand is 0 or more")
+    elif problem.kind == "min" and all(supply >= 0 for supply in supplies):
+        _check_signs(table, supplies)
     for name, supply, demand in zip(names, supplies, demands):
         problem.nodes[name] = WIDE.subtract(supply, demand) if demand else supply
     if table.has("x") and table.has("y"):
@@ -181,6 +183,20 @@ def _read_nodes(problem: Problem, table: Table, ends: Collection[str]) -> None:
             if not is_empty(cells[0][row]) and not is_empty(cells[1][row]):
                 problem.places[name] = float(east), float(north)
     table.tell_sign()
+
+
+def _check_signs(table: Table, supplies: Sequence[Decimal]) -> None:
+    """Raises TableFault where a column that is left aside says that a node demands, and no supply is below 0."""
+    sheet, used = table.sheet, set(table.found.places.values())
+    for place in set(range(len(sheet.header))) - used:
+        for row, (cell, supply) in enumerate(zip(sheet.columns[place], supplies)):
+            if supply and isinstance(cell, str) and folded(cell) in DEMANDING:
+                raise table.fault(
+                    row,
+                    "supply",
+                    f"the column {sheet.header[place]!r} says {cell.strip()!r}, and a demand is below 0 here: write - "
+                    "before it, or give demands a column of their own, `demand`",
+                )
 
 
 def _add_ends(problem: Problem, ends: Iterable[str], nodes: Optional[Sheet]) -> None:

@@ -43,11 +43,7 @@ class Scale:
 
     def whole(self, number: Decimal) -> int:
         """The number in small units. Raises DoesNotFit where it is no whole number of them."""
-        product = WIDE.multiply(number, self.units)
-        result = int(product)
-        if result != product:
-            raise DoesNotFit
-        return result
+        return self.wholes((number,))[0]
 
     def wholes(self, numbers: Iterable[Decimal]) -> List[int]:
         """The numbers in small units. Raises DoesNotFit where one is no whole number of them."""

@@ -162,3 +162,13 @@ DITTO = frozenset(('"', "''", "\u2033", "\u3003", "\u201c", "\u201d", "dito", "d
 
 SUMS = frozenset("total totals sum sums summe gesamt insgesamt somme total suma".split())
 """Names of rows that hold sums of the others."""
+
+DEMANDING = frozenset(
+    (
+        "demand sink destination consumer customer buyer receiver "
+        "bedarf senke kunde abnehmer verbraucher empfanger "
+        "demande puits client consommateur destinataire "
+        "demanda sumidero cliente consumidor destinatario "
+    ).split()
+)
+"""What a cell says of a node that demands, in a column that the supplies stand beside."""

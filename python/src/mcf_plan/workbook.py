@@ -13,7 +13,7 @@ import posixpath
 import re
 import zipfile
 from pathlib import Path
-from typing import Any, Dict, Iterator, List, NamedTuple, Sequence, Tuple
+from typing import Any, Dict, FrozenSet, Iterator, List, NamedTuple, Sequence, Set, Tuple
 from xml.etree import ElementTree
 from xml.sax.saxutils import escape, quoteattr
 
@@ -29,15 +29,17 @@ BOOK_TYPE = "application/vnd.openxmlformats-officedocument.spreadsheetml.sheet.m
 DATE_FORMATS = frozenset((*range(14, 23), *range(27, 37), *range(45, 48), *range(50, 59)))
 """The formats of dates and times that every workbook has, by their numbers."""
 PERCENT_FORMATS = frozenset((9, 10))
+MOST_COLUMNS = 16_384
 DAY_0 = datetime.datetime(1899, 12, 30)
 HEAD = '<?xml version="1.0" encoding="UTF-8" standalone="yes"?>\n'
 
 
 class _Tab(NamedTuple):
-    """A sheet of a workbook: its name, and the part of the file that has its cells."""
+    """A sheet of a workbook: its name, the part of the file that has its cells, and whether nobody sees it."""
 
     name: str
     part: str
+    is_hidden: bool
 
 
 def sheet_names(path: Path) -> List[str]:
@@ -57,9 +59,9 @@ def read_sheet(path: Path, name: str) -> Sheet:
         rows, lines = reader.rows(found[0].part)
     title = path.name if len(tabs) == 1 else f"{path.name}, sheet {found[0].name!r}"
     sheet = sheet_of_rows(title, rows, lines)
-    if reader.hidden:
-        count = "1 hidden row counts" if reader.hidden == 1 else f"{reader.hidden} hidden rows count"
-        sheet.notes.append(f"{title}: {count} as the others do")
+    if found[0].is_hidden:
+        sheet.notes.append(f"{path.name}: the sheet {found[0].name!r} is hidden, and counts")
+    sheet.notes += [f"{title}: {words}" for words in reader.unseen(sheet.header)]
     return sheet
 
 
@@ -118,7 +120,7 @@ def _tabs(file: zipfile.ZipFile, path: Path) -> List[_Tab]:
             key = next((value for name, value in sheet.attrib.items() if name.rpartition("}")[2] == "id"), "")
             kind, part = relations.get(key, ("", ""))
             if kind == "worksheet":
-                tabs.append(_Tab(sheet.get("name", ""), part))
+                tabs.append(_Tab(sheet.get("name", ""), part, sheet.get("state", "visible") != "visible"))
     if not tabs:
         raise TableFault(f"{path.name}: there is no sheet with cells")
     return tabs
@@ -132,10 +134,12 @@ class _Reader:
 
     def __init__(self, file: zipfile.ZipFile, path: Path):
         self.file, self.path = file, path
-        self.hidden = 0
+        self.hidden = self.struck = 0
+        self.hidden_columns: Set[int] = set()
         parts = dict(_relations(file).values())
         self.texts = [_text_of(each) for each in self._elements(parts.get("sharedStrings"), "si")]
         self.looks = self._looks(parts.get("styles"))
+        self.struck_styles = self._struck_styles(parts.get("styles"))
 
     def _elements(self, part: Any, name: str) -> Iterator[ElementTree.Element]:
         if part is not None and part in self.file.namelist():
@@ -152,6 +156,28 @@ class _Reader:
             kept.get(int(each.get("numFmtId", "0")), "") for group in self._elements(part, "cellXfs") for each in group
         ]
 
+    def _struck_styles(self, part: Any) -> FrozenSet[str]:
+        """The numbers of the styles whose texts are struck through."""
+        fonts = [font for group in self._elements(part, "fonts") for font in group]
+        struck = {
+            str(number)
+            for number, font in enumerate(fonts)
+            for each in font
+            if _local(each) == "strike" and each.get("val", "1") in ("1", "true")
+        }
+        styles = [style for group in self._elements(part, "cellXfs") for style in group]
+        return frozenset(str(number) for number, style in enumerate(styles) if style.get("fontId") in struck)
+
+    def unseen(self, header: Sequence[str]) -> Iterator[str]:
+        """What of the rows and columns counts, though it is hidden or struck through."""
+        for count, what in ((self.hidden, "hidden"), (self.struck, "struck through")):
+            if count:
+                rows = f"1 row that is {what} counts" if count == 1 else f"{count} rows that are {what} count"
+                yield f"{rows} as the others do"
+        for place, name in enumerate(header):
+            if name and place in self.hidden_columns:
+                yield f"the column {name!r} is hidden, and is read as the others are"
+
     def rows(self, part: str) -> Tuple[List[List[Any]], List[int]]:
         """The rows of a sheet, filled up to the same width, and their numbers."""
         rows: List[Dict[int, Any]] = []
@@ -160,11 +186,15 @@ class _Reader:
         try:
             with self.file.open(part) as raw:
                 for _, element in ElementTree.iterparse(raw):
-                    if _local(element) == "row":
+                    if _local(element) == "col" and element.get("hidden") in ("1", "true"):
+                        first, last = int(element.get("min", "1")), int(element.get("max", "1"))
+                        self.hidden_columns.update(range(first - 1, min(last, MOST_COLUMNS)))
+                    elif _local(element) == "row":
                         cells = {place: cell for place, cell in self._cells(element) if not is_empty(cell)}
                         number = int(element.get("r") or number + 1)
                         if cells:
                             self.hidden += element.get("hidden") in ("1", "true")
+                            self.struck += self._is_struck(element)
                             lines.append(number)
                             rows.append(cells)
                             width = max(width, *cells)
@@ -172,6 +202,10 @@ class _Reader:
         except (ElementTree.ParseError, KeyError, ValueError, IndexError, zipfile.BadZipFile) as error:
             raise TableFault(f"{self.path.name}: the part {part} can't be read: {error}") from None
         return [[cells.get(place, "") for place in range(width + 1)] for cells in rows], lines
+
+    def _is_struck(self, row: ElementTree.Element) -> bool:
+        """Whether all that stands in a row is struck through."""
+        return bool(self.struck_styles) and all(cell.get("s") in self.struck_styles for cell in row if len(cell))
 
     def _cells(self, row: ElementTree.Element) -> Iterator[Tuple[int, Any]]:
         """The cells of a row by their places from 0."""
