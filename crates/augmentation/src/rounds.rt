@@ -123,7 +123,7 @@ fn push_by_levels(
     ensures held { scratch.new.held ≡ scratch.old.held }
     ensures pushed { ArePushes graph.now.rows result flow.old.entries excess.old flow.new.entries excess.new }
 {
-    if before >= FEW_PUSHES {
+    if before >= FEW_PUSHES || !scratch.trails.are_levels_due() {
         return 0;
     }
     let mut pushes = 0;
@@ -135,5 +135,6 @@ fn push_by_levels(
         }
         pushes += more;
     }
+    scratch.trails.note_levels(pushes);
     pushes
 }

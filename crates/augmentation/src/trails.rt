@@ -33,10 +33,16 @@ const UNTRODDEN: Trail = Trail {
     is_closed: false,
 };
 
-/// What walks remember of all nodes.
+/// The most rounds in which levels are not searched, after they led nowhere.
+const MOST_PASSED: u32 = 64;
+
+/// What walks remember of all nodes, and whether levels were worth their search.
 #[derive(Drop)]
 pub(crate) struct Trails {
     trails: Vec<Trail>,
+    /// In how many rounds levels are passed over, and how many of these are left.
+    pause: u32,
+    left: u32,
 }
 
 impl Trails {
@@ -46,7 +52,30 @@ impl Trails {
     /// Memory for the table was refused.
     pub fn new(alloc: Global, entries: usize) -> Result<Trails, AllocError> {
         let trails = vec![in alloc; UNTRODDEN; entries]?;
-        Ok(Trails { trails })
+        Ok(Trails {
+            trails,
+            pause: 0,
+            left: 0,
+        })
+    }
+
+    /// Whether levels are to be searched in this round: seldom, where they led nowhere.
+    pub fn are_levels_due(&mut self) -> bool {
+        if self.left == 0 {
+            return true;
+        }
+        self.left -= 1;
+        false
+    }
+
+    /// Notes how many pushes the levels led to.
+    pub fn note_levels(&mut self, pushes: u64) {
+        self.pause = if pushes > 0 {
+            0
+        } else {
+            self.pause.saturating_mul(2).max(1).min(MOST_PASSED)
+        };
+        self.left = self.pause;
     }
 
     /// Forgets all: each hop stays.

@@ -417,6 +417,12 @@ module _ (arcs : List ArcRow) (excess : List ℤ) (t : List Predecessor) (v end 
     | inr here ↦ (subst (IsReached come) (sym here.0) here_reached, here.1)
   ]
 
+-- a search from excess ends early
+pub found_before_end : (arcs : List ArcRow) (x p excess : List ℤ) (t : List Predecessor) (found : Option ℕ) → IfNone found ⊥ → IsSearch arcs x p t
+    → ((v : ℕ) → IsReached t v → rank_at t v ≡ 0 → pos 0 <ℤ number_at excess v) → IsFirstFound excess t found → IsDeficitFound arcs x p excess t found
+found_before_end arcs x p excess t None some searched roots is = absurd some
+found_before_end arcs x p excess t (Some v) some searched roots is = record { search = searched; roots = roots; reached = is.0; deficit = is.1 }
+
 -- a search from excess ends
 pub found_or_exhausted : (arcs : List ArcRow) (x p excess : List ℤ) (t : List Predecessor) (found : Option ℕ) → length t ≡ length excess → IsSearch arcs x p t → NoneCrosses arcs x t
     → ((v : ℕ) → pos 0 <ℤ number_at excess v → IsReached t v) → ((v : ℕ) → IsReached t v → rank_at t v ≡ 0 → pos 0 <ℤ number_at excess v)

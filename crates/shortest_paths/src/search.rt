@@ -204,9 +204,38 @@ fn first_in_deficit(found: Option<usize>, excess: &[i64], node: usize) -> Option
     found
 }
 
-/// Searches from the nodes in excess for all that they reach, and lowers the potentials of these until the residual arcs of
-/// the paths to them cost nothing: so one search serves many pushes. Gives the first node in deficit that it came to, or
-/// nothing where none can be reached.
+/// How many nodes are in deficit.
+fn count_deficits(excess: &[i64]) -> usize {
+    let mut count: usize = 0;
+    for v in 0..excess.len() {
+        if excess[v] < 0 {
+            count = count.saturating_add(1);
+        }
+    }
+    count
+}
+
+/// How many of the nodes in deficit are left, once the search came to this node.
+fn left_of(lacking: usize, excess: &[i64], node: usize) -> usize
+    requires node { node < length excess.now }
+{
+    if excess[node] < 0 {
+        lacking.saturating_sub(1)
+    } else {
+        lacking
+    }
+}
+
+/// Whether a node in deficit was found, and no other is left.
+fn is_last(found: Option<usize>, lacking: usize) -> bool
+    ensures { IsTrue result → IfNone found ⊥ }
+{
+    found.is_some() && lacking == 0
+}
+
+/// Searches from the nodes in excess for all that they reach, or until no node in deficit is left, and lowers the potentials
+/// of these nodes until the residual arcs of the paths to them cost nothing: so one search serves many pushes. Gives the
+/// first node in deficit that it came to, or nothing where none can be reached.
 #[inline(never)] // a name of its own in the program: `bench/count` counts its calls
 pub fn search_from_excess(
     graph: &Graph,
@@ -230,12 +259,18 @@ pub fn search_from_excess(
     offer_from_all(graph, flow, potentials, predecessors, queue);
     let mut distance = 0;
     let mut found = None;
+    let mut lacking = count_deficits(excess);
     while let Some(node) = queue.take_first() {
         let waiting = queue.entry(node);
         distance = waiting.key;
         raise(potentials, node, waiting);
         come_along(graph, predecessors, node, waiting.end);
         found = first_in_deficit(found, excess, node);
+        lacking = left_of(lacking, excess, node);
+        if is_last(found, lacking) {
+            lower_reached(potentials, predecessors, distance);
+            return found;
+        }
         offer_from(graph, flow, potentials, predecessors, queue, node);
     }
     lower_reached(potentials, predecessors, distance);

@@ -17,6 +17,6 @@ loop-scratch-preserved c =
     record {
       flow_written = IsWritten-trans _ _ _ inv.flow_written call.flow_written;
       state = call.state;
-      held = call.held ∙ ap (λ (v : ScratchView). v.held) c.scratch.view_is ∙ ap (λ (v : ScratchView). v.held) c.search_levels.ensures.same ∙ inv.held;
+      held = call.held ∙ ap (λ (v : ScratchView). v.held) c.scratch-in-loop-scratch.view_is ∙ ap (λ (v : ScratchView). v.held) c.search_levels.ensures.same ∙ inv.held;
       pushed = ArePushes-more inv.pushed call.pushed;
     }

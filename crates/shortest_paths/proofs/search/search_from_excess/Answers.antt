@@ -9,8 +9,8 @@ use Rattle.residual_graph.specs.Walk.{end_way}
 use Rattle.shortest_paths.specs.Limits.{label_floor}
 use Rattle.shortest_paths.specs.declared.predecessor.Predecessor.{Predecessor}
 use Rattle.shortest_paths.specs.Predecessor.{rank_at}
-use Rattle.shortest_paths.specs.Search.{AreServedFrom, HaveJoined, IsReached, IsSearch, come_from, open_count}
-use Rattle.shortest_paths.proofs.StepLemmas.{AreAlong, IsClimbing, IsUnderway, along_after, was_waiting, along_first, bounded_climbing, certified_lowered, climbing_after, climbing_first, fewer, IsFirstFound, found_after, found_or_exhausted, key_enough, later_along, node_in, none_below_after, of_tables, rank_fits, risen, roots_after, search_along, search_lowered, sources_after, underway_after, underway_first}
+use Rattle.shortest_paths.specs.Search.{AreLowered, AreServedFrom, HaveJoined, IsReached, IsSearch, come_from, open_count}
+use Rattle.shortest_paths.proofs.StepLemmas.{AreAlong, IsClimbing, IsUnderway, along_after, was_waiting, along_first, bounded_climbing, certified_lowered, climbing_after, climbing_first, fewer, IsFirstFound, found_after, found_before_end, found_or_exhausted, key_enough, later_along, node_in, none_below_after, of_tables, rank_fits, risen, roots_after, search_along, search_lowered, sources_after, underway_after, underway_first}
 use Rattle.shortest_paths.proofs.search.search_from_excess.Goals as goal
 use Rattle.shortest_paths.proofs.search.search_from_excess.Goals.{After-come_along}
 
@@ -103,6 +103,46 @@ is_stepped c =
       word = key_is c.entry-waiting.result key (ap (λ (w : Waiting). w.key) (was_waiting _ _ c.in-Some.node _ taken c.entry-waiting.ensures)) is_enough;
     }
 
+pub lower_reached-requires-clause-bounded : goal.lower_reached-requires-clause-bounded
+lower_reached-requires-clause-bounded c =
+    let stepped = is_stepped (goal.at.lower_reached-requires-clause-bounded c).After-come_along in
+    bounded_climbing _ _ _ stepped.search.sized stepped.climbing
+
+pub lower_reached-requires-clause-fall : goal.lower_reached-requires-clause-fall
+lower_reached-requires-clause-fall c =
+    let stepped = is_stepped (goal.at.lower_reached-requires-clause-fall c).After-come_along in
+    subst (λ (n : ℤ). (pos 0 ≤ℤ n) × (n ≤ℤ pos potential_floor)) (sym stepped.word) stepped.enough
+
+pub returns-then-is_last-clause-certified : goal.returns-then-is_last-clause-certified
+returns-then-is_last-clause-certified c =
+    let s = (goal.at.returns-then-is_last-clause-certified c).After-come_along in
+    let stepped = is_stepped s in
+    let lowered : AreLowered c.raise.new.potentials c.lower_reached.new.potentials c.come_along.new.predecessors (key_at c.loop-node.queue.entries c.in-Some.node) = subst (AreLowered c.raise.new.potentials c.lower_reached.new.potentials c.come_along.new.predecessors) stepped.word c.lower_reached.ensures in
+    certified_lowered _ _ _ _ _ stepped.flow stepped.search stepped.none_below stepped.climbing c.lower_reached.new.potentials lowered
+
+-- what was found after a step, and where the search began
+roots_stepped : (c : After-come_along) (u : ℕ) → IsReached c.come_along.new.predecessors u → rank_at c.come_along.new.predecessors u ≡ 0 → pos 0 <ℤ number_at c.args.excess.now u
+roots_stepped c =
+    let inv = c.loop-node.invariant in
+    let taken = c.in-Some.ensures.first in
+    let v = c.in-Some.node in
+    subst (λ (t : List Predecessor). (u : ℕ) → IsReached t u → rank_at t u ≡ 0 → pos 0 <ℤ number_at c.args.excess.now u) (sym (predecessors_are c))
+    (roots_after c.args.graph.now.rows c.args.excess.now c.loop-node.predecessors v _ (node_in _ _ _ _ _ _ _ _ inv.underway taken) (inv.underway.opens v taken.was) inv.roots)
+
+pub returns-then-is_last-clause-found : goal.returns-then-is_last-clause-found
+returns-then-is_last-clause-found c =
+    let s = (goal.at.returns-then-is_last-clause-found c).After-come_along in
+    let inv = c.loop-node.invariant in
+    let taken = c.in-Some.ensures.first in
+    let v = c.in-Some.node in
+    let q = c.lower_reached.new.potentials in
+    let stepped = is_stepped s in
+    let lowered : AreLowered c.raise.new.potentials q c.come_along.new.predecessors (key_at c.loop-node.queue.entries c.in-Some.node) = subst (AreLowered c.raise.new.potentials q c.come_along.new.predecessors) stepped.word c.lower_reached.ensures in
+    let searched = search_lowered _ _ _ _ _ stepped.flow stepped.search stepped.none_below stepped.climbing q lowered in
+    let found = subst (λ (t : List Predecessor). IsFirstFound c.args.excess.now t c.first_in_deficit-found.result) (sym (predecessors_are s))
+    (found_after c.args.graph.now.rows c.args.excess.now c.loop-node.predecessors v _ (node_in _ _ _ _ _ _ _ _ inv.underway taken) (inv.underway.opens v taken.was) c.loop-node.found c.first_in_deficit-found.result c.first_in_deficit-found.ensures.some c.first_in_deficit-found.ensures.none inv.found) in
+    found_before_end _ _ _ _ _ c.first_in_deficit-found.result (c.is_last.ensures c.if-is_last.true) searched (roots_stepped s) found
+
 pub offer_from-requires-clause-bounded : goal.offer_from-requires-clause-bounded
 offer_from-requires-clause-bounded c =
     let stepped = is_stepped (goal.at.offer_from-requires-clause-bounded c).After-come_along in
@@ -144,7 +184,7 @@ loop-node-preserved c =
       along = of_tables (λ (p : List ℤ) (t : List Predecessor). AreAlong rows x p t queue) (potentials_are s) (predecessors_are s) (along_after _ _ _ _ _ _ _ _ inv.underway taken _ refl later searched queue grown served inv.along);
       climbing = subst (IsClimbing c.raise.new.potentials c.come_along.new.predecessors) (sym (is_stepped s).word) (is_stepped s).climbing;
       sources = subst (λ (t : List Predecessor). (u : ℕ) → pos 0 <ℤ number_at c.args.excess.now u → IsReached t u) (sym (predecessors_are s)) (sources_after rows c.args.excess.now c.loop-node.predecessors v _ node was_open inv.sources);
-      roots = subst (λ (t : List Predecessor). (u : ℕ) → IsReached t u → rank_at t u ≡ 0 → pos 0 <ℤ number_at c.args.excess.now u) (sym (predecessors_are s)) (roots_after rows c.args.excess.now c.loop-node.predecessors v _ node was_open inv.roots);
+      roots = roots_stepped s;
       found = subst (λ (t : List Predecessor). IsFirstFound c.args.excess.now t c.first_in_deficit-found.result) (sym (predecessors_are s))
           (found_after rows c.args.excess.now c.loop-node.predecessors v _ node was_open c.loop-node.found c.first_in_deficit-found.result c.first_in_deficit-found.ensures.some c.first_in_deficit-found.ensures.none inv.found);
     }
@@ -152,11 +192,11 @@ loop-node-preserved c =
 pub returns-clause-certified : goal.returns-clause-certified
 returns-clause-certified c =
     let inv = c.loop-node.invariant in
-    certified_lowered _ _ _ _ _ inv.underway.flow inv.underway.search inv.underway.none_below inv.climbing _ c.lower_reached.ensures
+    certified_lowered _ _ _ _ _ inv.underway.flow inv.underway.search inv.underway.none_below inv.climbing _ c.lower_reached-2.ensures
 
 pub returns-clause-found : goal.returns-clause-found
 returns-clause-found c =
     let inv = c.loop-node.invariant in
-    let searched = search_lowered _ _ _ _ _ inv.underway.flow inv.underway.search inv.underway.none_below inv.climbing _ c.lower_reached.ensures in
+    let searched = search_lowered _ _ _ _ _ inv.underway.flow inv.underway.search inv.underway.none_below inv.climbing _ c.lower_reached-2.ensures in
     found_or_exhausted _ _ _ _ _ _ (omega (arith, inv.underway.search.sized, c.loop-node.auto.potentials, c.requires.excess_in)) searched
     (λ k way at. c.in_default.ensures.first _ (inv.underway.served k way at).0) inv.sources inv.roots inv.found
