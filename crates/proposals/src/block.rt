@@ -162,7 +162,7 @@ impl Search {
         ensures proposal { proposal.new ≡ proposal.old }
         ensures node { IfSome result (λ v. v < self.old) }
     {
-        self.counts.pushes = self.counts.pushes.saturating_add(1);
+        self.pushes = self.pushes.saturating_add(1);
         let lack = -proposal.excess::<AHEAD>(t);
         let amount = self.walk.room(lack.min(proposal.excess::<AHEAD>(s)));
         proposal.carry::<AHEAD>(s, t, amount);
@@ -213,7 +213,7 @@ impl Search {
         let link = proposal.link(place)?;
         self.records.set_state(link.other as usize, State::Done);
         if amount > 0 {
-            let _full = proposal.draw::<AHEAD>(place, amount);
+            proposal.draw::<AHEAD>(place, amount);
         }
         let back = proposal.link(link.opposite)?;
         Some(back.other as usize)

@@ -43,7 +43,7 @@ pub fn solve_from(proposal: &mut Proposal, search: &mut Search, roots: Roots, mo
     ensures search { search.new ≡ search.old }
 {
     level_potentials(proposal);
-    let _ending = take_turns(proposal, search, &mut Goals::ALL, SOME_PAIRS, TOGETHER);
+    let _done = take_turns(proposal, search, &mut Goals::ALL, SOME_PAIRS, TOGETHER);
     bring_home::<true>(proposal, search, roots.source, roots.sink);
     bring_home::<false>(proposal, search, roots.sink, roots.source);
     add_rest(proposal, roots.source, more);
@@ -92,7 +92,7 @@ fn bring_home<const AHEAD: bool>(
     let lack = seen::<AHEAD>(-PLENTY);
     proposal.set_rest(other, 0);
     proposal.set_rest(root, lack);
-    let _ending = take_turns(proposal, search, &mut Goals::ALL, HOME.pairs, HOME);
+    let _done = take_turns(proposal, search, &mut Goals::ALL, HOME.pairs, HOME);
     let brought = proposal.rest(root).saturating_sub(lack);
     proposal.set_rest(root, at_root);
     proposal.set_rest(other, at_other);

@@ -32,7 +32,7 @@ pub fn scale(proposal: &mut Proposal, search: &mut Search, fuel: Fuel)
             break;
         }
         begin_stage(proposal, least);
-        let _ending = take_turns(proposal, search, &mut Goals::ALL, MOST_PAIRS, fuel);
+        let _done = take_turns(proposal, search, &mut Goals::ALL, MOST_PAIRS, fuel);
         least /= fuel.narrowing;
     }
     begin_stage(proposal, 1);

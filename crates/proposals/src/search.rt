@@ -17,25 +17,6 @@ use two_sided::NO_PLACE;
 /// took up to a tenth longer.
 const BARRED: i64 = 4_200_000_000_000_000_000;
 
-/// What was done.
-#[derive(Clone, Copy, Debug, PartialEq, Eq)]
-pub struct Counts {
-    /// Searches.
-    pub rounds: u64,
-    /// Nodes that searches settled.
-    pub settled: u64,
-    /// Pushes along walks.
-    pub pushes: u64,
-}
-
-impl Counts {
-    const NONE: Counts = Counts {
-        rounds: 0,
-        settled: 0,
-        pushes: 0,
-    };
-}
-
 /// A search, and the walks after it. It is seen as the number of entries that a table of nodes has.
 #[derive(Drop)]
 pub struct Search {
@@ -54,7 +35,10 @@ pub struct Search {
     pub(crate) apart: Vec<i64>,
     /// The key of the node taken out of the heap last.
     last: i64,
-    pub(crate) counts: Counts,
+    /// How many nodes were settled since counting began.
+    settled_nodes: u64,
+    /// How many pushes were made.
+    pub(crate) pushes: u64,
 }
 
 impl Model for Search {
@@ -101,20 +85,21 @@ impl Search {
             free: false,
             apart,
             last: 0,
-            counts: Counts::NONE,
+            settled_nodes: 0,
+            pushes: 0,
         })
     }
 
-    /// What was done since the last start.
-    pub fn counts(&self) -> Counts {
-        self.counts
-    }
-
-    /// Counts from 0 again.
-    pub fn forget_counts(&mut self)
+    /// Counts settled nodes from 0 again.
+    pub fn begin_counting(&mut self)
         ensures { self.new ≡ self.old }
     {
-        self.counts = Counts::NONE;
+        self.settled_nodes = 0;
+    }
+
+    /// How many nodes were settled since counting began.
+    pub fn settled_nodes(&self) -> u64 {
+        self.settled_nodes
     }
 
     /// The most arcs on the path to a node that the search settled.
@@ -136,13 +121,12 @@ impl Search {
         requires { proposal.now ≡ self.old }
         ensures { self.new ≡ self.old }
     {
-        self.counts.rounds = self.counts.rounds.saturating_add(1);
         let goals = self.begin::<AHEAD>(proposal).min(most);
         if goals == 0 {
             return None;
         }
         let mut got: usize = 0;
-        for _ in 0..=2 * self.entries() {
+        for _ in 0..self.entries().saturating_mul(2).saturating_add(1) {
             let Some(u) = self.next::<AHEAD>(proposal) else {
                 break;
             };
@@ -278,7 +262,7 @@ impl Search {
     {
         self.records.set_state(u, State::Done);
         self.settled.add(u);
-        self.counts.settled = self.counts.settled.saturating_add(1);
+        self.settled_nodes = self.settled_nodes.saturating_add(1);
     }
 
     /// Looks at the residual arcs that lead on from a node.

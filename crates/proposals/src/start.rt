@@ -12,9 +12,9 @@ use relaxation::Proposal;
 /// passes.
 const PASSES: usize = 12;
 
-/// Each pass has to lower fewer potentials than the one before, at most so many in sixteen: circles of negative cost go on
+/// Each pass has to lower fewer potentials than the one before, by one in so many at least: circles of negative cost go on
 /// as they began.
-const FEWER: usize = 15;
+const FEWER: usize = 16;
 
 impl Search {
     /// Empties the arcs of negative cost where potentials can be lowered until no arc has a negative reduced cost, as where
@@ -174,7 +174,7 @@ fn lower_in_turn(order: &Nodes, proposal: &mut Proposal) -> bool
         if lowered == 0 {
             return true;
         }
-        if lowered > before / 16 * FEWER {
+        if lowered > before.saturating_sub(before / FEWER) {
             return false;
         }
         before = lowered;

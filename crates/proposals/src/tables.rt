@@ -4,14 +4,14 @@ ghost use Rattle.std.specs.Prelude.{◌≡◌, ◌<◌, ◌^◌, ◌*◌, IfOk, 
 
 use crate::greatest::{Roots, solve_from};
 use crate::search::Search;
-use crate::solving::{Fuel, solve};
+use crate::solving::solve;
 use crate::wanted::{Change, Wanted};
 use containers::{Noted, both};
 use dimacs_text::ArcRow;
 use relaxation::{Arc, Proposal, Ring, Sets};
 use std::alloc::{AllocError, Global};
 use std::marker::Model;
-use two_sided::{Between, Halt, Readings};
+use two_sided::{Between, Readings};
 
 /// What a proposal is to reach.
 #[derive(Clone, Copy, PartialEq, Eq)]
@@ -158,7 +158,7 @@ impl Proposals {
         requires excess { length excess.now ≡ self.old }
         ensures { self.new ≡ self.old }
     {
-        self.search.forget_counts();
+        self.search.begin_counting();
         match aim {
             Aim::LeastCost => solve(
                 &mut self.proposal,
@@ -166,11 +166,10 @@ impl Proposals {
                 &mut self.sets,
                 &mut self.search,
                 excess,
-                Fuel::USUAL,
             ),
             Aim::GreatestFlow => self.solve_greatest(rows, flow),
         }
-        self.settled = self.search.counts().settled / (self.entries() as u64).max(1);
+        self.settled = self.search.settled_nodes() / (self.entries() as u64).max(1);
     }
 
     /// Leads the proposal on to a greatest flow, while the return arc, which is the first one, is closed: what goes back over
@@ -199,9 +198,10 @@ impl Proposals {
     }
 
     /// Leads a flow on to one of least cost, where it is likely that few nodes are out of balance: by searches from
-    /// both sides, and where these take long as from afar. In searches from both sides the return arc is an arc as others are,
-    /// so that a greatest flow is one of least cost; it has room there for a part of what a group may ask of it. Potentials are those of the last call but at the nodes that were noted since, and
-    /// no other node than these is out of balance; where `forget_nodes` was called since, all nodes are looked at.
+    /// both sides, and where these take long as from afar. In searches from both sides the return arc is an arc as
+    /// others are, so that a greatest flow is one of least cost; it has room there for a part of what a group may ask
+    /// of it. Potentials are those of the last call but at the nodes that were noted since, and no other node than
+    /// these is out of balance; where `forget_nodes` was called since, all nodes are looked at.
     #[inline(never)] // a name of its own in the program: `bench/count` counts its calls
     pub fn propose_near(
         &mut self,
@@ -219,9 +219,9 @@ impl Proposals {
     {
         self.fresh = false;
         self.take_over(rows, flow, excess, potentials, unbalanced);
-        let halt = self.push_near(aim);
+        let is_done = self.push_near(aim);
         let lacks_room = aim == Aim::GreatestFlow && self.lacks_room(rows, flow);
-        if halt == Halt::Spent || lacks_room {
+        if !is_done || lacks_room {
             self.standing = Standing::Apart;
             self.solve(rows, flow, excess, aim);
         }
@@ -242,12 +242,12 @@ impl Proposals {
             || link.room::<false>() == 0 && stands > row.low
     }
 
-    /// Pushes by searches from both sides, where what these know is of the same nodes.
-    fn push_near(&mut self, aim: Aim) -> Halt
+    /// Pushes by searches from both sides, where what these know is of the same nodes; says whether they came to an end.
+    fn push_near(&mut self, aim: Aim) -> bool
         ensures { self.new ≡ self.old }
     {
         if self.between.entries() != self.proposal.entries() {
-            return Halt::Spent;
+            return false;
         }
         let settled = match aim {
             Aim::LeastCost => self.settled.max(self.entries() as u64 / NODES_A_READING),

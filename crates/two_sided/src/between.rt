@@ -57,17 +57,6 @@ const MANY: usize = 16;
 /// So many nodes are looked at together where most are in balance.
 const BLOCK: usize = 64;
 
-/// How a run of pushes ended.
-#[derive(Clone, Copy, PartialEq, Eq)]
-pub enum Halt {
-    /// No node is in excess, or none in deficit.
-    Met,
-    /// No node in excess reaches one in deficit.
-    Apart,
-    /// More ends were read than it was to read.
-    Spent,
-}
-
 /// A search from nodes in excess and from nodes in deficit at once, and the path that it finds. It is seen as the number
 /// of entries that a table of nodes has: 0 before the first load, so that a run without one does not touch its room.
 #[derive(Drop)]
@@ -171,15 +160,16 @@ impl Between {
         self.free.renew(proposal, proposal.tail_of(k));
     }
 
-    /// Pushes along shortest paths until one side is empty, the sides do not meet, or the readings are used up, and notes
-    /// the arcs whose flow it moves. Which arcs have room both ways was taken over before, and the nodes out of balance are listed.
+    /// Pushes along shortest paths until one side is empty or the sides do not meet, or else until the readings are used
+    /// up; says whether it came to the former, and notes the arcs whose flow it moves. Which arcs have room both ways was
+    /// taken over before, and the nodes out of balance are listed.
     #[inline(never)] // a name of its own in the program: `bench/count` counts its calls
     pub fn push_between(
         &mut self,
         proposal: &mut Proposal,
         noted: &mut Noted,
         readings: Readings,
-    ) -> Halt
+    ) -> bool
         requires { proposal.old ≡ self.old }
         ensures kept { self.new ≡ self.old }
         ensures proposal { proposal.new ≡ proposal.old }
@@ -187,13 +177,13 @@ impl Between {
         self.ahead.forget_margins();
         self.behind.forget_margins();
         if self.roots() > MANY && !self.push_in_pairs(proposal, noted, readings) {
-            return Halt::Spent;
+            return false;
         }
         let ends = proposal.ends() as u64;
         let mut reads: u64 = 0;
         for _ in 0..u64::MAX {
             if !self.begin(proposal) {
-                return Halt::Met;
+                return true;
             }
             let most = if self.begun() > MANY {
                 readings.of_first
@@ -201,15 +191,15 @@ impl Between {
                 readings.of_few
             };
             if reads > ends.saturating_mul(most) {
-                return Halt::Spent;
+                return false;
             }
             let Some(meeting) = self.search(proposal) else {
-                return Halt::Apart;
+                return true;
             };
             self.push(proposal, noted, meeting);
             reads = reads.saturating_add(self.reads());
         }
-        Halt::Spent
+        false
     }
 
     /// Pushes from one node in excess to one in deficit, until either is in balance, and then from or to the next one; says
@@ -563,7 +553,7 @@ fn draw_along<const AHEAD: bool>(
     ensures free { free.new ≡ free.old }
 {
     for place in path.listed() {
-        let _full = proposal.draw::<AHEAD>(*place, amount);
+        proposal.draw::<AHEAD>(*place, amount);
         free.renew(proposal, *place);
         noted.note(proposal.arc_at(*place));
     }

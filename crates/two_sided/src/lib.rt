@@ -10,5 +10,5 @@ mod front;
 mod late;
 mod length;
 
-pub use between::{Between, Halt, Readings};
+pub use between::{Between, Readings};
 pub use length::{FAR, NO_PLACE};
