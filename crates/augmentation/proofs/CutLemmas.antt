@@ -22,7 +22,7 @@ use Rattle.shortest_paths.specs.Predecessor.{predecessor_at}
 use Rattle.shortest_paths.specs.Search.{IsExhausted, IsReached}
 use Rattle.shortest_paths.proofs.SearchLemmas.{open_or_reached}
 use Rattle.augmentation.specs.Marked.{MarkedView}
-use Rattle.augmentation.specs.Cut.{sum_in, sum_leaving, sum_entering, surplus, shortfall, IsLeastSet, amount, near_at, near_of, far_at, far_of, IsFarIn, IsClosed, HoldsRoots, IsSide, IsParted, IsChosenSet, IsGrown, AreMarkedListed, AreNodesIn, AreTaken, HasNoDeficit, lack}
+use Rattle.augmentation.specs.Cut.{sum_in, sum_leaving, sum_entering, surplus, shortfall, IsLeastSet, amount, near_at, far_at, far_of, IsFarIn, IsClosed, HoldsRoots, IsSide, IsParted, IsChosenSet, IsGrown, AreMarkedListed, AreNodesIn, AreTaken, HasNoDeficit, lack}
 use Rattle.tracked.specs.Marks.{in_set}
 use Rattle.residual_graph.specs.Side.{IsRoot}
 use Rattle.tracked.specs.Touched.{NameChanges}
@@ -414,10 +414,6 @@ IsGrown-trans one two = record {
   no_shorter = omega (arith, one.no_shorter, two.no_shorter);
   same_before = λ j lt. two.same_before j (omega (arith, lt, one.no_shorter)) ∙ one.same_before j lt;
 }
-
-pub near_of-in : (side : Side) (nodes : ℕ) (a : ArcRow) (way : Way) → IsRow nodes a → near_of side a way < nodes
-near_of-in Ahead nodes a way row = start_of-in nodes a way row
-near_of-in Behind nodes a way row = end_of-in nodes a way row
 
 pub far_of-in : (side : Side) (nodes : ℕ) (a : ArcRow) (way : Way) → IsRow nodes a → far_of side a way < nodes
 far_of-in Ahead nodes a way row = end_of-in nodes a way row

@@ -4,7 +4,7 @@ use Rattle.std.specs.Prelude.{◌≢◌, All, Any, slice_set}
 use Rattle.std.specs.List.{AllPairs, sum_by}
 use Rattle.std.proofs.lemmas.Bool.{cases_eq}
 use Rattle.std.proofs.lemmas.Int.{ints}
-use Rattle.std.proofs.lemmas.List.{get_or_default, get_or-replicate, get_or-set_same, get_or-set_other, length-replicate, length-set}
+use Rattle.std.proofs.lemmas.List.{get_or_default, get_or-replicate, get_or-set_same, get_or-set_other, length-replicate}
 use Rattle.std.proofs.lemmas.List.Folds.{sum_by-replicate}
 use Rattle.std.proofs.lemmas.List.Sums.{sum_by-set}
 use Rattle.residual_graph.specs.declared.side.Side.{Side}
@@ -39,16 +39,6 @@ root_listed side listed e places are named v root = by_mark (in_set listed v) re
         let there = named v is in
         record { place = there.0; in_list = omega (arith, there.2); is_there = get_or_default places there.0 0 there.1 there.2 ∙ there.3 ∙ there.4 }
     by_mark false is = absurd (root_unbalanced side (number_at e v) root (are.balanced v is))
-
--- a node whose excess is set is listed
-pub set_listed : (listed : List Bool) (e : List ℤ) (v : ℕ) (z : ℤ) → v < length e → AreUnbalancedListed listed e → AreUnbalancedListed (slice_set listed v true) (slice_set e v z)
-set_listed listed e v z lt are = record {
-  one_a_node = length-set listed v true ∙ are.one_a_node ∙ sym (length-set e v z);
-  balanced = λ u out. (elim (cases_eq u v) [
-    | inl same ↦ absurd (true≢false (sym (subst (λ (w : ℕ). in_set (slice_set listed v true) w ≡ true) (sym same) (get_or-set_same listed v true false (omega (arith, are.one_a_node)))) ∙ out))
-    | inr ne ↦ get_or-set_other e v u z (pos 0) ne ∙ are.balanced u (sym (get_or-set_other listed v u true false ne) ∙ out)
-  ]);
-}
 
 -- of the nodes on a list those out of balance are listed anew
 pub listed_anew : (listed listed' : List Bool) (e : List ℤ) (nodes : List ℕ) → AreUnbalancedListed listed e → ((v : ℕ) → in_set listed v ≡ true → Any (λ p. p ≡ v) nodes) → length listed' ≡ length e → All (IsBalancedOrListed listed' e) nodes → AreUnbalancedListed listed' e

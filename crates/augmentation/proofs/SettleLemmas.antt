@@ -112,19 +112,6 @@ module _ (nodes : ℕ) (arcs : List ArcRow) (x e : List ℤ) (hops : List Residu
       high = by_three (λ v. number_at f v ≤ℤ pos excess_limit) (omega (arith, ints, f_root, state.small.high root, at_least_1)) (omega (arith, ints, f_target, in_deficit)) (λ v same. omega (arith, ints, same, state.small.high v));
     }
 
-    -- a node in excess was in excess, and one in deficit was in deficit
-    pub excess_before : (v : ℕ) → pos 0 <ℤ number_at f v → pos 0 <ℤ number_at e v
-    excess_before = by_three (λ v. pos 0 <ℤ number_at f v → pos 0 <ℤ number_at e v)
-        (λ h. omega (arith, ints, in_excess, at_least_1))
-        (λ h. absurd (omega (arith, ints, h, f_target, in_deficit)))
-        (λ v same h. omega (arith, ints, same, h))
-
-    pub deficit_before : (v : ℕ) → number_at f v <ℤ pos 0 → number_at e v <ℤ pos 0
-    deficit_before = by_three (λ v. number_at f v <ℤ pos 0 → number_at e v <ℤ pos 0)
-        (λ h. absurd (omega (arith, ints, h, f_root, in_excess)))
-        (λ h. omega (arith, ints, in_deficit, at_least_1))
-        (λ v same h. omega (arith, ints, same, h))
-
     left_falls : left f < left e
     left_falls =
         left-less e f root transfer.same_length (omega (arith, root_in, state.excess_sized))

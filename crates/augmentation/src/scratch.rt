@@ -63,7 +63,7 @@ impl Model for Scratch {
 }
 
 impl Scratch {
-    /// Tables for so many entries, and for arcs with `arcs` ends together, two an arc.
+    /// Tables for so many entries and arcs.
     ///
     /// # Errors
     /// Memory for a table was refused.
@@ -76,9 +76,9 @@ impl Scratch {
         let queue = Queue::new(alloc, entries);
         let trails = Trails::new(alloc, entries as usize);
         let potentials = vec![in alloc; 0; entries as usize];
-        let tree = Tree::new(alloc, entries as usize, arcs / 2);
+        let tree = Tree::new(alloc, entries as usize, arcs);
         let marked = Marked::new(alloc, entries as usize);
-        let attempt = Attempt::new(alloc, entries as usize, arcs / 2);
+        let attempt = Attempt::new(alloc, entries as usize, arcs);
         let (((predecessors, trails), (queue, potentials)), (tree, (marked, attempt))) = both(
             both(both(predecessors, trails), both(queue, potentials)),
             both(tree, both(marked, attempt)),

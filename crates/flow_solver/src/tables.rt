@@ -72,7 +72,7 @@ impl Tables {
         let log = Vec::with_capacity(alloc, GROUP_LIMIT)?;
         let graph = Graph::new(alloc, net)?;
         let (flow, balance) = start_balance(alloc, &graph)?;
-        let arcs = 2 * (graph.network().room() as usize + 1);
+        let arcs = graph.network().room() as usize + 1;
         let (potentials, cut, scratch) = start_nodes(alloc, graph.network().nodes(), arcs)?;
         Ok(Tables {
             graph,

@@ -263,7 +263,7 @@ fn graph_of(alloc: Global, text: &[u8]) -> Result<Graph, TextFault> {
 fn scratch_of(rt: &impl Abort, alloc: Global, graph: &Graph) -> Result<Scratch, AllocError> {
     let entries = graph.network().nodes().saturating_add(1);
     assert!(rt; entries as usize <= MOST_ROWS);
-    Scratch::new(alloc, entries, graph.rows().len().saturating_mul(2))
+    Scratch::new(alloc, entries, graph.rows().len())
 }
 
 /// A problem where nothing is pushed yet.
