@@ -86,6 +86,12 @@ class Arrays(unittest.TestCase):
         self.assertEqual((plan.cost, type(plan.flows), plan.flows), (14, list, [2, 2, 2, 0, 4]))
         self.assertEqual(plan.potentials, [-4, -2, -1, 0])
 
+    def test_shown_in_a_line(self) -> None:
+        problem = ArrayProblem([0], [1], [2], [3], [1, -1])
+        plan = solve_arrays([0], [1], [2], [3], [1, -1])
+        self.assertEqual(repr(problem), "<ArrayProblem: 2 nodes, 1 arc>")
+        self.assertEqual(repr(plan), "ArrayPlan(problem=<ArrayProblem: 2 nodes, 1 arc>, cost=3, checked=True)")
+
     @unittest.skipUnless(numpy, "no numpy here: problems in its arrays are not tried")
     def test_numpy(self) -> None:
         for kind in ("int64", "int32", "uint8", "float64", "object"):

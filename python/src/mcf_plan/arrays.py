@@ -14,7 +14,7 @@ not wanted, and results are lists.
 from __future__ import annotations
 
 from array import array
-from dataclasses import dataclass
+from dataclasses import dataclass, field
 from operator import gt, index, mul
 from typing import Any, Callable, List, Optional, Sequence, Union
 
@@ -22,7 +22,7 @@ from .calls import Arrays, pointer_to
 from .deadline import Deadline
 from .dimacs import Answer, DimacsProblem, parse_answer
 from .errors import BeyondLimits
-from .formats import MOST_ARCS, MOST_COST, MOST_FLOW, MOST_NODES
+from .formats import MOST_ARCS, MOST_COST, MOST_FLOW, MOST_NODES, counted
 from .library import Library
 from .plan import Disagreement
 from .program import Program, ProgramFailed
@@ -85,6 +85,9 @@ class ArrayProblem:
         self._check_ranges()
         self._text_caps = self._limited_caps()
         self._text_ends = numbered(self.tails), numbered(self.heads)
+
+    def __repr__(self) -> str:
+        return f"<ArrayProblem: {counted(len(self.supplies), 'node')}, {counted(len(self.tails), 'arc')}>"
 
     def solve(
         self, *, check: bool = True, time_limit: Optional[float] = None, solver: Optional[Program] = None
@@ -206,8 +209,8 @@ class ArrayPlan:
     """
 
     problem: ArrayProblem
-    flows: Any
-    potentials: Any
+    flows: Any = field(repr=False)
+    potentials: Any = field(repr=False)
     cost: int
     checked: bool = False
 
@@ -242,7 +245,7 @@ class ArrayInfeasible:
     however much goes over its border."""
 
     problem: ArrayProblem
-    cut: Any
+    cut: Any = field(repr=False)
     shortage: int
     checked: bool = False
 
