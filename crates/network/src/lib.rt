@@ -24,6 +24,7 @@ pub use edited::{edits_follow, edits_keep_lawful};
 pub use limits::limits_are;
 pub use net::ends_come_once;
 pub use refusal::EditRefusal;
+pub use signs::{reduced_by, reduced_cost};
 pub use start::build;
 use std::marker::Model;
 

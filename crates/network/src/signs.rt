@@ -1,33 +1,48 @@
 //! Reduced costs, and the sign rule that certifies a flow.
-ghost use Rattle.std.specs.Prelude.{◌≡◌, ◌↔◌, ◌^◌, ◌≤◌, All, IsTrue, length, unsigned_abs};
+ghost use Rattle.std.specs.Prelude.{◌≡◌, ◌↔◌, ℕ, ◌^◌, ◌≤◌, ◌+ℤ◌, ◌-ℤ◌, All, FitsSigned, IsTrue, length, unsigned_abs};
+ghost use Rattle.std.specs.Int.{w64};
 ghost use Rattle.std.specs.List.{AllZip};
 ghost use Rattle.network.specs.Flow.{FollowsSign, IsPotential, reduced_cost};
-ghost use Rattle.dimacs_text.specs.Lawful.{IsLawfulRow, IsWithin};
+ghost use Rattle.dimacs_text.specs.Lawful.{IsLawfulRow, IsNode, IsWithin};
 ghost use Rattle.network.specs.Instance.{at_node};
 
 use crate::LEAST_POTENTIAL;
 use dimacs_text::{ArcRow, COST_LIMIT};
 
-/// The reduced cost of an arc.
-fn reduced_cost(arc: &ArcRow, potentials: &[i64]) -> i64
-    requires tail { (1 ≤ arc.now.tail) × (arc.now.tail ≤ length potentials.now) }
-    requires head { (1 ≤ arc.now.head) × (arc.now.head ≤ length potentials.now) }
+/// The reduced cost of an arc or of a residual arc: what a unit costs along it, and the potential of the node that it
+/// leaves, less that of the node that it comes to.
+#[inline(always)]
+pub fn reduced_cost(cost: i64, from: i64, to: i64) -> i64
+    requires sum { FitsSigned w64 (cost +ℤ from) }
+    requires difference { FitsSigned w64 (cost +ℤ from -ℤ to) }
+    ensures { result ≡ cost +ℤ from -ℤ to }
+{
+    cost + from - to
+}
+
+/// The reduced cost of an arc by a table of potentials, in which node v has entry v - 1.
+pub fn reduced_by(arc: &ArcRow, potentials: &[i64]) -> i64
+    requires tail { IsNode (length potentials.now) arc.now.tail }
+    requires head { IsNode (length potentials.now) arc.now.head }
     requires cost { IsWithin COST_LIMIT arc.now.cost }
-    requires range { All IsPotential potentials.now }
+    requires range { (v : ℕ) → IsNode (length potentials.now) v
+        → IsPotential (at_node potentials.now v) }
     ensures { result ≡ reduced_cost (at_node potentials.now) arc.now }
 {
-    arc.cost + potentials[arc.tail as usize - 1] - potentials[arc.head as usize - 1]
+    let tail = potentials[arc.tail as usize - 1];
+    let head = potentials[arc.head as usize - 1];
+    reduced_cost(arc.cost, tail, head)
 }
 
 /// Does an arc of positive reduced cost carry its low, and one of negative reduced cost its cap?
 pub fn follows_sign(arc: &ArcRow, x: i64, potentials: &[i64]) -> bool
-    requires tail { (1 ≤ arc.now.tail) × (arc.now.tail ≤ length potentials.now) }
-    requires head { (1 ≤ arc.now.head) × (arc.now.head ≤ length potentials.now) }
+    requires tail { IsNode (length potentials.now) arc.now.tail }
+    requires head { IsNode (length potentials.now) arc.now.head }
     requires cost { IsWithin COST_LIMIT arc.now.cost }
     requires range { All IsPotential potentials.now }
     ensures { IsTrue result ↔ FollowsSign (at_node potentials.now) arc.now x }
 {
-    let cost = reduced_cost(arc, potentials);
+    let cost = reduced_by(arc, potentials);
     if cost > 0 {
         x == arc.low
     } else if cost < 0 {
